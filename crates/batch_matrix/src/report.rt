@@ -1,0 +1,69 @@
+//! Reports of live phases.
+ghost use Rattle.std.specs.Prelude.{◌≡◌};
+ghost use Rattle.batch_matrix.specs.Matrix.{after_report};
+
+use crate::state::State;
+
+/// What equipment reports of a live phase.
+#[derive(Clone, Copy, Debug, PartialEq, Eq)]
+pub enum Report {
+    Done,
+    Paused,
+    Held,
+    Running,
+    Stopped,
+    Aborted,
+    Fault,
+}
+
+/// What an accepted report makes of its phase.
+#[derive(Clone, Copy, Debug, PartialEq, Eq)]
+pub enum PhaseEnd {
+    /// The phase has ended.
+    Ended,
+    /// The phase is live, in this state.
+    Now(State),
+    /// The phase is live, in the state that it had.
+    Same,
+}
+
+/// What becomes of a live phase in this state, or None where it doesn't accept the report and so stays as it is.
+pub fn after_report(state: State, report: Report) -> Option<PhaseEnd>
+    ensures { result ≡ after_report state report }
+{
+    match report {
+        Report::Done => match state {
+            State::Running
+            | State::Pausing
+            | State::Holding
+            | State::Restarting
+            | State::Stopping
+            | State::Aborting => Some(PhaseEnd::Ended),
+            _ => None,
+        },
+        Report::Paused => match state {
+            State::Pausing => Some(PhaseEnd::Now(State::Paused)),
+            _ => None,
+        },
+        Report::Held => match state {
+            State::Holding => Some(PhaseEnd::Now(State::Held)),
+            _ => None,
+        },
+        Report::Running => match state {
+            State::Restarting => Some(PhaseEnd::Now(State::Running)),
+            _ => None,
+        },
+        Report::Stopped => match state {
+            State::Stopping => Some(PhaseEnd::Ended),
+            _ => None,
+        },
+        Report::Aborted => match state {
+            State::Aborting => Some(PhaseEnd::Ended),
+            _ => None,
+        },
+        Report::Fault => match state {
+            State::Idle | State::Stopped | State::Aborted | State::Complete => None,
+            _ => Some(PhaseEnd::Same),
+        },
+    }
+}

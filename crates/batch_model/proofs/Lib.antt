@@ -1,0 +1,15 @@
+pub mod RowDocuments
+pub mod Rows
+pub mod Loops
+pub mod Advancing
+pub mod Gathering
+pub mod Leading
+pub mod Ordering
+pub mod Refusals
+pub mod Standing
+pub mod Work
+pub mod Rising
+pub mod Changing
+pub mod Lowering
+pub mod Falling
+pub mod Telling

@@ -1,0 +1,13 @@
+pub mod Lists
+pub mod Rest
+pub mod Plant
+pub mod Moves
+pub mod Events
+pub mod Runs
+pub mod Demo
+pub mod ActStates
+pub mod Records
+pub mod Settled
+pub mod Standing
+pub mod Placed
+pub mod Laws
