@@ -6,8 +6,8 @@ use Rattle.batch_model.specs.Lists.{Has}
 use Rattle.batch_recipe.specs.Tree.{Place, is_before}
 use Rattle.batch_model.specs.Moves.{Move, order_of, is_earlier, least}
 
-not_before-head : (i j k : ℕ) (a b c : Bool) → cond (nat_eq i j) a (nat_lt i j) ≡ false → cond (nat_eq j k) b (nat_lt j k) ≡ false
-  → (a ≡ false → b ≡ false → c ≡ false) → cond (nat_eq i k) c (nat_lt i k) ≡ false
+not_before-head : (i j k : ℕ) (a b c : Bool) → elim (nat_eq i j) [ true ↦ a | false ↦ nat_lt i j ] ≡ false → elim (nat_eq j k) [ true ↦ b | false ↦ nat_lt j k ] ≡ false
+  → (a ≡ false → b ≡ false → c ≡ false) → elim (nat_eq i k) [ true ↦ c | false ↦ nat_lt i k ] ≡ false
 not_before-head i j k a b c e f g = grind arith
 
 pub not_before-trans : (p q r : Place) → is_before p q ≡ false → is_before q r ≡ false → is_before p r ≡ false
@@ -18,7 +18,7 @@ not_before-trans (i ∷ p) [] (k ∷ r) e f = absurd cc
 not_before-trans (i ∷ p) (j ∷ q) (k ∷ r) e f =
     not_before-head i j k (is_before p q) (is_before q r) (is_before p r) e f (λ a b. not_before-trans p q r a b)
 
-before-head : (i j : ℕ) (a b : Bool) → cond (nat_eq i j) a (nat_lt i j) ≡ true → (a ≡ true → b ≡ false) → cond (nat_eq j i) b (nat_lt j i) ≡ false
+before-head : (i j : ℕ) (a b : Bool) → elim (nat_eq i j) [ true ↦ a | false ↦ nat_lt i j ] ≡ true → (a ≡ true → b ≡ false) → elim (nat_eq j i) [ true ↦ b | false ↦ nat_lt j i ] ≡ false
 before-head i j a b e g = grind arith
 
 pub before-asym : (p q : Place) → is_before p q ≡ true → is_before q p ≡ false
@@ -31,7 +31,7 @@ pub before-irrefl : (p : Place) → is_before p p ≡ false
 before-irrefl [] = refl
 before-irrefl (i ∷ p) = same i (is_before p p) (before-irrefl p)
   where
-    same : (k : ℕ) (a : Bool) → a ≡ false → cond (nat_eq k k) a (nat_lt k k) ≡ false
+    same : (k : ℕ) (a : Bool) → a ≡ false → elim (nat_eq k k) [ true ↦ a | false ↦ nat_lt k k ] ≡ false
     same k a e = grind arith
 
 pub none_least : (ms : List Move) → least ms ≡ None → ms ≡ []

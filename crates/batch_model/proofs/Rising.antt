@@ -1,5 +1,5 @@
 -- The acts of a rest stand in the order of their places, so no two stand at one place.
-use Rattle.std.proofs.Common.{◌≡◌, refl, sym, ◌∙◌, ap, ℕ, suc, Bool, true, cond, nat_eq, nat_lt, List, [], ◌∷◌, ◌++◌, arith, inl, inr, ◌<◌, ◌≤◌}
+use Rattle.std.proofs.Common.{◌≡◌, refl, sym, ◌∙◌, ap, ℕ, ◌+◌, Bool, true, false, nat_eq, nat_lt, List, [], ◌∷◌, ◌++◌, arith, inl, inr, ◌<◌, ◌≤◌}
 use Rattle.std.proofs.lemmas.List.{append_assoc}
 use Rattle.batch_model.specs.Lists.{Each}
 use Rattle.batch_recipe.specs.Tree.{Place, is_before, Step, Task, runs, follows, Tree, act, seq, par, sel, loop, Trees, no_trees, tree, Choices, otherwise, choice}
@@ -32,14 +32,14 @@ append-nothing : (p : Place) → p ++ [] ≡ p
 append-nothing [] = refl
 append-nothing (i ∷ p) = ap (λ q. i ∷ q) (append-nothing p)
 
-same-head : (k : ℕ) (b : Bool) → b ≡ true → cond (nat_eq k k) b (nat_lt k k) ≡ true
+same-head : (k : ℕ) (b : Bool) → b ≡ true → elim (nat_eq k k) [ true ↦ b | false ↦ nat_lt k k ] ≡ true
 same-head k b e = grind arith
 
 before-below : (p q : Place) (i : ℕ) → is_before p (p ++ i ∷ q) ≡ true
 before-below [] q i = refl
 before-below (k ∷ p) q i = same-head k (is_before p (p ++ i ∷ q)) (before-below p q i)
 
-less-head : (i j : ℕ) (b : Bool) → i < j → cond (nat_eq i j) b (nat_lt i j) ≡ true
+less-head : (i j : ℕ) (b : Bool) → i < j → elim (nat_eq i j) [ true ↦ b | false ↦ nat_lt i j ] ≡ true
 less-head i j b h = grind arith
 
 before-sibling : (p q r : Place) (i j : ℕ) → i < j → is_before (p ++ i ∷ q) (p ++ j ∷ r) ≡ true
@@ -60,7 +60,7 @@ to-from p i a h = (i, h.0, omega arith, h.1 ∙ append_assoc p (i ∷ []) h.0)
 from-under : (p : Place) (i : ℕ) (a : Rest) → IsUnderFrom p i a → IsUnder p a
 from-under p i a h = (h.0 ∷ h.1, h.3)
 
-earlier-from : (p : Place) (i : ℕ) (a : Rest) → IsUnderFrom p (suc i) a → IsUnderFrom p i a
+earlier-from : (p : Place) (i : ℕ) (a : Rest) → IsUnderFrom p (i + 1) a → IsUnderFrom p i a
 earlier-from p i a h = (h.0, h.1, omega (arith, h.2), h.3)
 
 at_place : (s t : Step) (p : Place) → t ≡ s → s.place ≡ p → t.place ≡ p ++ []
@@ -89,21 +89,21 @@ mutual
   pub acts-from_branch : (p : Place) (i : ℕ) (cs : Trees) (r : Rest) (ds : Trees) → ArePlaced p i cs → IsBranch cs r ds → Each (IsUnderFrom p i) (acts r)
   acts-from_branch p i no_trees r ds l h = absurd h
   acts-from_branch p i (tree c cs) r ds l (inl h) = Each-map (IsUnder (child p i)) (IsUnderFrom p i) (to-from p i) (acts r) (acts-under (child p i) c r l.0 h.0)
-  acts-from_branch p i (tree c cs) r ds l (inr h) = Each-map (IsUnderFrom p (suc i)) (IsUnderFrom p i) (earlier-from p i) (acts r) (acts-from_branch p (suc i) cs r ds l.1 h)
+  acts-from_branch p i (tree c cs) r ds l (inr h) = Each-map (IsUnderFrom p (i + 1)) (IsUnderFrom p i) (earlier-from p i) (acts r) (acts-from_branch p (i + 1) cs r ds l.1 h)
 
   pub acts-from_each : (p : Place) (i : ℕ) (cs : Trees) (rs : Rests) → ArePlaced p i cs → AreBranches cs rs → Each (IsUnderFrom p i) (acts_of_each rs)
   acts-from_each p i no_trees no_rests l h = tt
   acts-from_each p i (tree c cs) (rest r rs) l h =
       Each-append (IsUnderFrom p i) (acts r) (acts_of_each rs)
       (Each-map (IsUnder (child p i)) (IsUnderFrom p i) (to-from p i) (acts r) (acts-under (child p i) c r l.0 h.0))
-      (Each-map (IsUnderFrom p (suc i)) (IsUnderFrom p i) (earlier-from p i) (acts_of_each rs) (acts-from_each p (suc i) cs rs l.1 h.1))
+      (Each-map (IsUnderFrom p (i + 1)) (IsUnderFrom p i) (earlier-from p i) (acts_of_each rs) (acts-from_each p (i + 1) cs rs l.1 h.1))
   acts-from_each p i no_trees (rest r rs) l h = absurd h
   acts-from_each p i (tree c cs) no_rests l h = absurd h
 
   pub acts-from_chosen : (p : Place) (i : ℕ) (ch : Choices) (r : Rest) → IsChoicePlaced p i ch → IsChosen ch r → Each (IsUnderFrom p i) (acts r)
   acts-from_chosen p i (otherwise c) r l h = Each-map (IsUnder (child p i)) (IsUnderFrom p i) (to-from p i) (acts r) (acts-under (child p i) c r l h)
   acts-from_chosen p i (choice q c ch) r l (inl h) = Each-map (IsUnder (child p i)) (IsUnderFrom p i) (to-from p i) (acts r) (acts-under (child p i) c r l.0 h)
-  acts-from_chosen p i (choice q c ch) r l (inr h) = Each-map (IsUnderFrom p (suc i)) (IsUnderFrom p i) (earlier-from p i) (acts r) (acts-from_chosen p (suc i) ch r l.1 h)
+  acts-from_chosen p i (choice q c ch) r l (inr h) = Each-map (IsUnderFrom p (i + 1)) (IsUnderFrom p i) (earlier-from p i) (acts r) (acts-from_chosen p (i + 1) ch r l.1 h)
 
 -- an act comes before all that stand below its first child
 before-under : (s t : Step) (p : Place) (b : Rest) → t ≡ s → s.place ≡ p → IsUnder (child p 0) b → is_before t.place (place_of b) ≡ true
@@ -113,7 +113,7 @@ before-under s t p b e f h =
     ∙ before-below p h.0 0
 
 -- what stands in a branch comes before what stands in a later one
-before-later : (p : Place) (i : ℕ) (a b : Rest) → IsUnder (child p i) a → IsUnderFrom p (suc i) b → Before a b
+before-later : (p : Place) (i : ℕ) (a b : Rest) → IsUnder (child p i) a → IsUnderFrom p (i + 1) b → Before a b
 before-later p i a b h k =
     ap (λ q. is_before q (place_of b)) (h.1 ∙ append_assoc p (i ∷ []) h.0)
     ∙ ap (is_before (p ++ i ∷ h.0)) k.3
@@ -141,14 +141,14 @@ mutual
   pub branch-rises : (p : Place) (i : ℕ) (cs : Trees) (r : Rest) (ds : Trees) → ArePlaced p i cs → IsBranch cs r ds → Rises (acts r)
   branch-rises p i no_trees r ds l h = absurd h
   branch-rises p i (tree c cs) r ds l (inl h) = acts-rise (child p i) c r l.0 h.0
-  branch-rises p i (tree c cs) r ds l (inr h) = branch-rises p (suc i) cs r ds l.1 h
+  branch-rises p i (tree c cs) r ds l (inr h) = branch-rises p (i + 1) cs r ds l.1 h
 
   pub each-rises : (p : Place) (i : ℕ) (cs : Trees) (rs : Rests) → ArePlaced p i cs → AreBranches cs rs → Rises (acts_of_each rs)
   each-rises p i no_trees no_rests l h = tt
   each-rises p i (tree c cs) (rest r rs) l h =
-      Rises-append (acts r) (acts_of_each rs) (acts-rise (child p i) c r l.0 h.0) (each-rises p (suc i) cs rs l.1 h.1)
+      Rises-append (acts r) (acts_of_each rs) (acts-rise (child p i) c r l.0 h.0) (each-rises p (i + 1) cs rs l.1 h.1)
       (Each-map (IsUnder (child p i)) (λ a. Each (Before a) (acts_of_each rs))
-        (λ a k. Each-map (IsUnderFrom p (suc i)) (Before a) (λ b m. before-later p i a b k m) (acts_of_each rs) (acts-from_each p (suc i) cs rs l.1 h.1))
+        (λ a k. Each-map (IsUnderFrom p (i + 1)) (Before a) (λ b m. before-later p i a b k m) (acts_of_each rs) (acts-from_each p (i + 1) cs rs l.1 h.1))
         (acts r) (acts-under (child p i) c r l.0 h.0))
   each-rises p i no_trees (rest r rs) l h = absurd h
   each-rises p i (tree c cs) no_rests l h = absurd h
@@ -156,4 +156,4 @@ mutual
   pub chosen-rises : (p : Place) (i : ℕ) (ch : Choices) (r : Rest) → IsChoicePlaced p i ch → IsChosen ch r → Rises (acts r)
   chosen-rises p i (otherwise c) r l h = acts-rise (child p i) c r l h
   chosen-rises p i (choice q c ch) r l (inl h) = acts-rise (child p i) c r l.0 h
-  chosen-rises p i (choice q c ch) r l (inr h) = chosen-rises p (suc i) ch r l.1 h
+  chosen-rises p i (choice q c ch) r l (inr h) = chosen-rises p (i + 1) ch r l.1 h
