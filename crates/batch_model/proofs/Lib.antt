@@ -5,6 +5,7 @@ pub mod Advancing
 pub mod Gathering
 pub mod Leading
 pub mod Ordering
+pub mod Placed
 pub mod Refusals
 pub mod Standing
 pub mod Work

@@ -7,5 +7,5 @@
 mod laws;
 mod limits;
 
-pub use laws::{advances_fully, work_falls};
+pub use laws::{advances_fully, trees_are_placed, work_falls};
 pub use limits::{LAST_NUMBER, MAX_LIVE_BATCHES};
