@@ -1,6 +1,3 @@
-pub mod RowDocuments
-pub mod Rows
-pub mod Loops
 pub mod Advancing
 pub mod Gathering
 pub mod Leading

@@ -11,3 +11,9 @@ pub mod Settled
 pub mod Standing
 pub mod Placed
 pub mod Laws
+pub mod RowDocuments
+pub mod RowParts
+pub mod RowsOfMoves
+pub mod RowsOfCommands
+pub mod RowsOfReports
+pub mod RowsOfActStates
