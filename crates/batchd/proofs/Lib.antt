@@ -1,0 +1,4 @@
+pub mod Situations
+pub mod Reacting
+pub mod Moving
+pub mod Settling
