@@ -1,9 +1,9 @@
 -- `reach` and `advance` leave nothing to be reached, and take and give back nothing.
-use Rattle.std.proofs.Common.{◌≡◌, refl, ℕ, zero, suc, pred, Bool, true, false}
+use Rattle.std.proofs.Common.{◌≡◌, refl, ◌∙◌, ap₂, ◌&&◌, ℕ, zero, suc, pred, Bool, true, false}
 use Rattle.batch_recipe.specs.Conditions.{ValueList, holds}
 use Rattle.batch_recipe.specs.declared.condition.Cond.{Cond}
 use Rattle.batch_recipe.specs.Tree.{Tree, act, skip, seq, par, sel, loop, Trees, no_trees, tree, Choices, otherwise, choice}
-use Rattle.batch_model.specs.Rest.{Rest, ready, asking, open_act, live, freeing, in_seq, in_par, in_loop, done, Rests, no_rests, rest, is_done, all_done, joined, turning, reach, reach_first, reach_each, reach_chosen, turned, advance, advance_each}
+use Rattle.batch_model.specs.Rest.{Rest, ready, asking, open_act, live, freeing, in_seq, in_par, in_loop, done, Rests, no_rests, rest, is_done, all_done, joined, turning, reach, reach_first, reach_each, reach_chosen, turned, advance, advance_each, withdrawn, withdrawn_each}
 use Rattle.batch_model.specs.Settled.{IsAdvanced, AreAdvanced}
 
 joined-advanced : (rs : Rests) → AreAdvanced rs → IsAdvanced (joined rs)
@@ -77,3 +77,37 @@ mutual
   pub advance_each-advanced : (vs : ValueList) (rs : Rests) → AreAdvanced (advance_each vs rs)
   advance_each-advanced vs no_rests = tt
   advance_each-advanced vs (rest r rs) = (advance-advanced vs r, advance_each-advanced vs rs)
+
+-- Withdrawn asks
+
+withdrawn-done : (r : Rest) → is_done (withdrawn r) ≡ is_done r
+withdrawn-done (ready s w k) = refl
+withdrawn-done (asking s w k) = refl
+withdrawn-done (open_act s r) = refl
+withdrawn-done (live s p x) = refl
+withdrawn-done (freeing s k) = refl
+withdrawn-done (in_seq r cs) = refl
+withdrawn-done (in_par rs) = refl
+withdrawn-done (in_loop n c body r) = refl
+withdrawn-done done = refl
+
+withdrawn_each-all_done : (rs : Rests) → all_done (withdrawn_each rs) ≡ all_done rs
+withdrawn_each-all_done no_rests = refl
+withdrawn_each-all_done (rest r rs) = ap₂ (λ a b. a && b) (withdrawn-done r) (withdrawn_each-all_done rs)
+
+mutual
+  -- nor is anything left to be reached once its asks are withdrawn
+  pub withdrawn-advanced : (r : Rest) → IsAdvanced r → IsAdvanced (withdrawn r)
+  withdrawn-advanced (ready s w k) h = tt
+  withdrawn-advanced (asking s w k) h = tt
+  withdrawn-advanced (open_act s r) h = withdrawn-advanced r h
+  withdrawn-advanced (live s p x) h = tt
+  withdrawn-advanced (freeing s k) h = tt
+  withdrawn-advanced (in_seq r cs) h = (withdrawn-done r ∙ h.0, withdrawn-advanced r h.1)
+  withdrawn-advanced (in_par rs) h = (withdrawn_each-all_done rs ∙ h.0, withdrawn_each-advanced rs h.1)
+  withdrawn-advanced (in_loop n c body r) h = (withdrawn-done r ∙ h.0, withdrawn-advanced r h.1)
+  withdrawn-advanced done h = tt
+
+  pub withdrawn_each-advanced : (rs : Rests) → AreAdvanced rs → AreAdvanced (withdrawn_each rs)
+  withdrawn_each-advanced no_rests h = tt
+  withdrawn_each-advanced (rest r rs) h = (withdrawn-advanced r h.0, withdrawn_each-advanced rs h.1)

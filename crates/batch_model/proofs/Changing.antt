@@ -9,18 +9,10 @@ use Rattle.batch_recipe.specs.Tree.{Place, Step}
 use Rattle.batch_model.specs.Rest.{Rest, ready, asking, open_act, live, freeing, in_seq, in_par, in_loop, done, Rests, no_rests, rest, acts, acts_of_each, changed_at, changed_in_each}
 use Rattle.batch_model.specs.Plant.{place_of}
 use Rattle.batch_model.specs.Runs.{toil_left, toil_left_in_each}
+use Rattle.batch_model.proofs.Members.{Has-left, Has-right}
 
-Has-left : {X : Type 0} (xs ys : List X) (x : X) → Has xs x → Has (xs ++ ys) x
-Has-left [] ys x h = absurd h
-Has-left (y ∷ xs) ys x (inl h) = inl h
-Has-left (y ∷ xs) ys x (inr h) = inr (Has-left xs ys x h)
-
-Has-right : {X : Type 0} (xs ys : List X) (x : X) → Has ys x → Has (xs ++ ys) x
-Has-right [] ys x h = h
-Has-right (y ∷ xs) ys x h = inr (Has-right xs ys x h)
-
-same_place : (q p : Place) → bytes_eq q p ≡ true → q ≡ p
-same_place q p e = (bytes_eq-Decides q p).0 e
+pub to_same_place : (q p : Place) → bytes_eq q p ≡ true → q ≡ p
+to_same_place q p e = (bytes_eq-Decides q p).0 e
 
 same_test : (q p : Place) → q ≡ p → bytes_eq q p ≡ true
 same_test q p e = (bytes_eq-Decides q p).1 e
@@ -38,13 +30,13 @@ module _ (x : State) (p : Place) (f : Rest → Rest) where
   mutual
     -- a change that adds no work at its place adds none to the whole
     pub changed_at-toil : (r : Rest) → ((a : Rest) → Has (acts r) a → Eases a) → toil_left x (changed_at p f r) ≤ toil_left x r
-    changed_at-toil (ready s w k) h = eased (ready s w k) (ready s w k) (bytes_eq s.place p) (λ e. h (ready s w k) (inl refl) (same_place s.place p e)) (omega arith)
-    changed_at-toil (asking s w k) h = eased (asking s w k) (asking s w k) (bytes_eq s.place p) (λ e. h (asking s w k) (inl refl) (same_place s.place p e)) (omega arith)
+    changed_at-toil (ready s w k) h = eased (ready s w k) (ready s w k) (bytes_eq s.place p) (λ e. h (ready s w k) (inl refl) (to_same_place s.place p e)) (omega arith)
+    changed_at-toil (asking s w k) h = eased (asking s w k) (asking s w k) (bytes_eq s.place p) (λ e. h (asking s w k) (inl refl) (to_same_place s.place p e)) (omega arith)
     changed_at-toil (open_act s r) h =
-        eased (open_act s r) (open_act s (changed_at p f r)) (bytes_eq s.place p) (λ e. h (open_act s r) (inl refl) (same_place s.place p e))
+        eased (open_act s r) (open_act s (changed_at p f r)) (bytes_eq s.place p) (λ e. h (open_act s r) (inl refl) (to_same_place s.place p e))
         (omega (arith, changed_at-toil r (λ a m. h a (inr m))))
-    changed_at-toil (live s y t) h = eased (live s y t) (live s y t) (bytes_eq s.place p) (λ e. h (live s y t) (inl refl) (same_place s.place p e)) (omega arith)
-    changed_at-toil (freeing s k) h = eased (freeing s k) (freeing s k) (bytes_eq s.place p) (λ e. h (freeing s k) (inl refl) (same_place s.place p e)) (omega arith)
+    changed_at-toil (live s y t) h = eased (live s y t) (live s y t) (bytes_eq s.place p) (λ e. h (live s y t) (inl refl) (to_same_place s.place p e)) (omega arith)
+    changed_at-toil (freeing s k) h = eased (freeing s k) (freeing s k) (bytes_eq s.place p) (λ e. h (freeing s k) (inl refl) (to_same_place s.place p e)) (omega arith)
     changed_at-toil (in_seq r cs) h = omega (arith, changed_at-toil r h)
     changed_at-toil (in_par rs) h = changed_in_each-toil rs h
     changed_at-toil (in_loop n c body r) h = omega (arith, changed_at-toil r h)
@@ -101,7 +93,7 @@ module _ (x : State) (p : Place) (f : Rest → Rest) where
     → toil_left x (changed_at p f (open_act s r)) < toil_left x (open_act s r)
   open_lower s r h below (inl e) = lowered (open_act s r) (open_act s (changed_at p f r)) s.place e (h (open_act s r) (inl refl) e)
   open_lower s r h below (inr m) =
-      lowered_below (open_act s r) (open_act s (changed_at p f r)) (bytes_eq s.place p) (λ e. h (open_act s r) (inl refl) (same_place s.place p e))
+      lowered_below (open_act s r) (open_act s (changed_at p f r)) (bytes_eq s.place p) (λ e. h (open_act s r) (inl refl) (to_same_place s.place p e))
       (omega (arith, below m))
 
   either_lower : (r : Rest) (rs : Rests) → ((a : Rest) → Has (acts r ++ acts_of_each rs) a → Lowers a)

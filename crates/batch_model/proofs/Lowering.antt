@@ -1,23 +1,30 @@
--- Outside Stopping and Aborting each move of an act takes some of that act's work.
-use Rattle.std.proofs.Common.{◌≡◌, refl, sym, ◌∙◌, ap, subst, ℕ, zero, suc, Bool, true, false, Some, None, arith, ◌<◌, ◌≤◌, length}
-use Rattle.std.specs.Prelude.{Option, slice_get, ◌&&◌, ◌||◌}
+-- Each move of an act takes some of that act's work, and leaves what can remain at its node.
+use Rattle.std.proofs.Common.{◌≡◌, refl, sym, ◌∙◌, ap, subst, ℕ, zero, suc, pred, Bool, true, false, Some, None, arith, ◌<◌, ◌≤◌, ◌+◌, ◌-◌, ◌*◌, length}
+use Rattle.std.specs.Prelude.{Option, slice_get, ◌&&◌, ◌||◌, not}
 use Rattle.std.proofs.lemmas.Option.{slice_get_within}
 use Rattle.batch_matrix.specs.declared.state.State.{State}
-use Rattle.batch_matrix.specs.declared.state.State.TheVariants.{Running}
+use Rattle.batch_matrix.specs.declared.state.State.TheVariants.{Idle, Running, Pausing, Paused, Holding, Held, Restarting, Stopping, Stopped, Aborting, Aborted, Complete}
 use Rattle.batch_matrix.specs.declared.command.Command.{Command}
 use Rattle.batch_matrix.specs.declared.command.Command.TheVariants.{Start, Pause, Resume, Hold, Restart, Stop, Abort, Reset}
 use Rattle.batch_matrix.specs.Matrix.{accepts, target}
-use Rattle.batch_recipe.specs.Conditions.{Name, ValueList}
+use Rattle.batch_recipe.specs.Conditions.{Name}
 use Rattle.batch_recipe.specs.Tree.{Step, Task, runs, follows}
 use Rattle.batch_model.specs.Rest.{Rest, ready, asking, open_act, live, freeing, in_seq, in_par, in_loop, done, is_done}
-use Rattle.batch_model.specs.Plant.{Documents, Batch, Plant, place_of, held_in}
-use Rattle.batch_model.specs.Moves.{Move, send, release, begin, start, end, ask, grant, place_of_move, passed_on, is_running, is_stopping, is_stopped, is_quiet, is_empty, handed_values, when, entering, giving_back, is_served, act_move, act_after, freed}
-use Rattle.batch_model.specs.Runs.{toil_left, sends}
-use Rattle.batch_model.proofs.Work.{reach-toil}
+use Rattle.batch_model.specs.Plant.{Documents, Batch, Plant, place_of, in_act, held_in}
+use Rattle.batch_model.specs.Moves.{Move, send, release, begin, start, end, ask, grant, batch_of, place_of_move, passed_on, is_running, is_stopping, is_stopped, is_quiet, is_empty, handed_values, when, entering, giving_back, is_served, act_move, act_after, batch_after, freed}
+use Rattle.batch_model.specs.Runs.{toil, toil_of_work, sends, goes_on, ahead, toil_left}
+use Rattle.batch_model.proofs.Work.{going, going_no_further, reach-toil}
+use Rattle.batch_model.proofs.Keeping.{RemainsAs, sent-remains, released-remains, ended-remains, begun-remains}
 
--- the move m is made at the act a, and takes some of its work
-abbrev pub TakesWork : State → ValueList → Move → Rest → Type 0
-TakesWork x vs m a = (place_of_move m ≡ place_of a) × (toil_left x (act_after vs m a) < toil_left x a)
+-- m is a move of the act a of this batch
+pub record IsMoveOf (b : Batch) (a : Rest) (m : Move) : Type 0 where
+  pub number : batch_of m ≡ b.number
+  pub place : place_of_move m ≡ place_of a
+  pub changes : batch_after m b ≡ in_act (place_of_move m) (act_after b.values m) b
+  pub lowers : toil_left b.state (act_after b.values m a) < toil_left b.state a
+  pub remains : RemainsAs a (act_after b.values m a)
+
+-- States
 
 sends-bound : (x t : State) → sends x t ≤ 1
 sends-bound x t = go (passed_on x)
@@ -47,99 +54,164 @@ sent-once x t c e a =
     , ap (λ o. elim o [ None ↦ 0 | Some d ↦ elim (accepts t d) [ true ↦ 1 | false ↦ 0 ] ]) e ∙ ap (λ b. elim b [ true ↦ 1 | false ↦ 0 ]) a
     )
 
-entering-lowers : (b : Batch) (x : State) (s : Step) (w : Task) (k : ℕ) (m : Move) → entering b s w k ≡ Some m → TakesWork x b.values m (ready s w k)
-entering-lowers b x s w k m e = go (slice_get s.needs k) refl e
-  where
-    begins : (v : Task) → w ≡ v
-      → elim v [ runs y ↦ Some (start b.number s.place y (handed_values b.values y.handed)) | follows name c ↦ Some (begin b.number s.place name) ] ≡ Some m
-      → TakesWork x b.values m (ready s w k)
-    begins (runs y) q h =
-        subst (λ z. TakesWork x b.values m (ready s z k)) (sym q)
-        (let n : start b.number s.place y (handed_values b.values y.handed) ≡ m = cc in
-        subst (λ z. TakesWork x b.values z (ready s (runs y) k)) n (refl, omega (arith, sends-bound x Running)))
-    begins (follows name c) q h =
-        subst (λ z. TakesWork x b.values m (ready s z k)) (sym q)
-        (let n : begin b.number s.place name ≡ m = cc in
-        subst (λ z. TakesWork x b.values z (ready s (follows name c) k)) n (refl, omega (arith, reach-toil x b.values c)))
-    go : (o : Option Name) → slice_get s.needs k ≡ o
-      → elim o
-        [ Some r ↦ Some (ask b.number s.place r)
-        | None ↦ elim w [ runs y ↦ Some (start b.number s.place y (handed_values b.values y.handed)) | follows name c ↦ Some (begin b.number s.place name) ]
-        ] ≡ Some m
-      → TakesWork x b.values m (ready s w k)
-    go (Some r) q h =
-        let n : ask b.number s.place r ≡ m = cc in
-        let lt : k < length s.needs = slice_get_within s.needs k r q in
-        subst (λ z. TakesWork x b.values z (ready s w k)) n (refl, omega arith)
-    go None q h = begins w refl h
+running-goes_on : (x : State) → is_running x ≡ true → goes_on x ≡ true
+running-goes_on Running e = refl
+running-goes_on Idle e = absurd cc
+running-goes_on Pausing e = absurd cc
+running-goes_on Paused e = absurd cc
+running-goes_on Holding e = absurd cc
+running-goes_on Held e = absurd cc
+running-goes_on Restarting e = absurd cc
+running-goes_on Stopping e = absurd cc
+running-goes_on Stopped e = absurd cc
+running-goes_on Aborting e = absurd cc
+running-goes_on Aborted e = absurd cc
+running-goes_on Complete e = absurd cc
 
-giving_back-lowers : (b : Batch) (x : State) (s : Step) (k : ℕ) (m : Move) → giving_back b s k ≡ Some m → TakesWork x b.values m (freeing s k)
-giving_back-lowers b x s zero m e = absurd cc
-giving_back-lowers b x s (suc k) m e = go (slice_get s.needs k) e
+stopping-goes_no_further : (x : State) (quiet : Bool) → (is_stopping x && quiet) ≡ true → goes_on x ≡ false
+stopping-goes_no_further x quiet e = go (is_stopping x) e
   where
-    less : (j : ℕ) → toil_left x (freed s j) < suc j
-    less zero = omega arith
-    less (suc j) = omega arith
-    go : (o : Option Name) → elim o [ None ↦ None | Some r ↦ Some (release b.number s.place r) ] ≡ Some m → TakesWork x b.values m (freeing s (suc k))
-    go None h = absurd cc
-    go (Some r) h =
-        let n : release b.number s.place r ≡ m = cc in
-        subst (λ z. TakesWork x b.values z (freeing s (suc k))) n (refl, less k)
+    go : (t : Bool) → (t && quiet) ≡ true → not (t || is_stopped x) ≡ false
+    go true h = refl
+    go false h = absurd cc
 
-when-is : (t : Bool) (m n : Move) → when t m ≡ Some n → (t ≡ true) × (m ≡ n)
-when-is true m n e = (refl, cc)
-when-is false m n e = absurd cc
+-- Moves
 
-freed-toil : (x : State) (s : Step) (n : ℕ) → toil_left x (freed s n) ≤ n
-freed-toil x s zero = omega arith
-freed-toil x s (suc n) = omega arith
+module _ (b : Batch) where
+  entering-is : (s : Step) (w : Task) (k : ℕ) (m : Move) → is_running b.state ≡ true → entering b s w k ≡ Some m → IsMoveOf b (ready s w k) m
+  entering-is s w k m on e = go (slice_get s.needs k) refl e
+    where
+      ahead-is : (n : ℕ) → ahead b.state n ≡ n
+      ahead-is n = going b.state n (running-goes_on b.state on)
+      begins : (v : Task) → w ≡ v
+        → elim v [ runs y ↦ Some (start b.number s.place y (handed_values b.values y.handed)) | follows name c ↦ Some (begin b.number s.place name) ] ≡ Some m
+        → IsMoveOf b (ready s w k) m
+      begins (runs y) q h =
+          subst (λ z. IsMoveOf b (ready s z k) m) (sym q)
+          (let n : start b.number s.place y (handed_values b.values y.handed) ≡ m = cc in
+          subst (IsMoveOf b (ready s (runs y) k)) n
+          (record
+            { number = refl
+            ; place = refl
+            ; changes = refl
+            ; lowers = omega (arith, sends-bound b.state Running, ahead-is (3 * (length s.needs - k) + 2))
+            ; remains = begun-remains b.values s (runs y) k
+            }))
+      begins (follows name c) q h =
+          subst (λ z. IsMoveOf b (ready s z k) m) (sym q)
+          (let n : begin b.number s.place name ≡ m = cc in
+          subst (IsMoveOf b (ready s (follows name c) k)) n
+          (record
+            { number = refl
+            ; place = refl
+            ; changes = refl
+            ; lowers =
+                omega
+                (arith, reach-toil b.state b.values c, ahead-is (3 * (length s.needs - k) + (2 + toil c)), ahead-is (toil c), ahead-is 1)
+            ; remains = begun-remains b.values s (follows name c) k
+            }))
+      go : (o : Option Name) → slice_get s.needs k ≡ o
+        → elim o
+          [ Some r ↦ Some (ask b.number s.place r)
+          | None ↦ elim w [ runs y ↦ Some (start b.number s.place y (handed_values b.values y.handed)) | follows name c ↦ Some (begin b.number s.place name) ]
+          ] ≡ Some m
+        → IsMoveOf b (ready s w k) m
+      go (Some r) q h =
+          let n : ask b.number s.place r ≡ m = cc in
+          let lt : k < length s.needs = slice_get_within s.needs k r q in
+          subst (IsMoveOf b (ready s w k)) n
+          (record
+            { number = refl
+            ; place = refl
+            ; changes = refl
+            ; lowers =
+                omega
+                (arith, lt, ahead-is (3 * (length s.needs - k) + toil_of_work w), ahead-is (3 * (length s.needs - suc k) + toil_of_work w))
+            ; remains = λ t v i. (i.0, i.1, lt)
+            })
+      go None q h = begins w refl h
 
--- outside Stopping and Aborting, each move of an act takes some of its work
-pub act_move-lowers : (c : Documents) (s : Plant) (b : Batch) (a : Rest) (m : Move) → is_stopping b.state ≡ false → act_move c s b a ≡ Some m
-  → TakesWork b.state b.values m a
-act_move-lowers c s b (ready p w k) m q e = go (is_running b.state) (is_stopping b.state) q e
-  where
-    go : (t u : Bool) → u ≡ false
-      → elim t [ true ↦ entering b p w k | false ↦ elim (u && is_quiet b.rest) [ true ↦ giving_back b p k | false ↦ None ] ] ≡ Some m
-      → TakesWork b.state b.values m (ready p w k)
-    go true u h f = entering-lowers b b.state p w k m f
-    go false true h f = absurd cc
-    go false false h f = absurd cc
-act_move-lowers c s b (asking p w k) m q e = go (slice_get p.needs k) refl e
-  where
-    go : (o : Option Name) → slice_get p.needs k ≡ o
-      → elim o [ None ↦ None | Some r ↦ when (is_served c s r (b.number, p.place)) (grant b.number p.place r) ] ≡ Some m
-      → TakesWork b.state b.values m (asking p w k)
-    go None h f = absurd cc
-    go (Some r) h f =
-        let lt : k < length p.needs = slice_get_within p.needs k r h in
-        let n = when-is (is_served c s r (b.number, p.place)) (grant b.number p.place r) m f in
-        subst (λ z. TakesWork b.state b.values z (asking p w k)) n.1 (refl, omega arith)
-act_move-lowers c s b (open_act p r) m q e = go (is_stopping b.state) (is_stopped b.state) q e
-  where
-    go : (t u : Bool) → t ≡ false
-      → elim (t || u)
-        [ false ↦ when (is_done r) (end b.number p.place)
-        | true ↦ elim (t && is_quiet b.rest && is_empty (held_in r)) [ true ↦ giving_back b p (length p.needs) | false ↦ None ]
-        ] ≡ Some m
-      → TakesWork b.state b.values m (open_act p r)
-    go true u h f = absurd cc
-    go false true h f = absurd cc
-    go false false h f =
-        let n = when-is (is_done r) (end b.number p.place) m f in
-        subst (λ z. TakesWork b.state b.values z (open_act p r)) n.1 (refl, omega (arith, freed-toil b.state p (length p.needs)))
-act_move-lowers c s b (live p y t) m q e = go (passed_on b.state) refl e
-  where
-    go : (o : Option Command) → passed_on b.state ≡ o
-      → elim o [ None ↦ None | Some d ↦ when (accepts t d) (send b.number p.place y d) ] ≡ Some m
-      → TakesWork b.state b.values m (live p y t)
-    go None h f = absurd cc
-    go (Some d) h f =
-        let n = when-is (accepts t d) (send b.number p.place y d) m f in
-        let z = sent-once b.state t d h n.0 in
-        subst (λ k. TakesWork b.state b.values k (live p y t)) n.1 (refl, omega (arith, z.0, z.1))
-act_move-lowers c s b (freeing p k) m q e = giving_back-lowers b b.state p k m e
-act_move-lowers c s b (in_seq r cs) m q e = absurd cc
-act_move-lowers c s b (in_par rs) m q e = absurd cc
-act_move-lowers c s b (in_loop n d body r) m q e = absurd cc
-act_move-lowers c s b done m q e = absurd cc
+  -- an act gives back the last of the k needs that it holds
+  giving_back-is : (s : Step) (k : ℕ) (m : Move) (a : Rest) → place_of a ≡ s.place → (0 < k → (r : Name) → toil_left b.state (act_after b.values (release b.number s.place r) a) < toil_left b.state a)
+    → giving_back b s k ≡ Some m → IsMoveOf b a m
+  giving_back-is s zero m a at lower e = absurd cc
+  giving_back-is s (suc k) m a at lower e = go (slice_get s.needs k) e
+    where
+      go : (o : Option Name) → elim o [ None ↦ None | Some r ↦ Some (release b.number s.place r) ] ≡ Some m → IsMoveOf b a m
+      go None h = absurd cc
+      go (Some r) h =
+          let n : release b.number s.place r ≡ m = cc in
+          subst (IsMoveOf b a) n
+          (record { number = refl; place = sym at; changes = refl; lowers = lower (omega arith) r; remains = released-remains a })
+
+  freed-toil : (s : Step) (n : ℕ) → toil_left b.state (freed s n) ≤ n
+  freed-toil s zero = omega arith
+  freed-toil s (suc n) = omega arith
+
+  when-is : (t : Bool) (m n : Move) → when t m ≡ Some n → (t ≡ true) × (m ≡ n)
+  when-is true m n e = (refl, cc)
+  when-is false m n e = absurd cc
+
+  pub act_move-is : (c : Documents) (s : Plant) (a : Rest) (m : Move) → act_move c s b a ≡ Some m → IsMoveOf b a m
+  act_move-is c s (ready p w k) m e = go (is_running b.state) refl (is_stopping b.state && is_quiet b.rest) refl e
+    where
+      go : (t : Bool) → is_running b.state ≡ t → (u : Bool) → (is_stopping b.state && is_quiet b.rest) ≡ u
+        → elim t [ true ↦ entering b p w k | false ↦ elim u [ true ↦ giving_back b p k | false ↦ None ] ] ≡ Some m
+        → IsMoveOf b (ready p w k) m
+      go true h u f g = entering-is p w k m h g
+      go false h true f g =
+          let none : goes_on b.state ≡ false = stopping-goes_no_further b.state (is_quiet b.rest) f in
+          giving_back-is p k m (ready p w k) refl
+          (λ some r. omega
+            ( arith
+            , some
+            , going_no_further b.state (3 * (length p.needs - k) + toil_of_work w) none
+            , going_no_further b.state (3 * (length p.needs - pred k) + toil_of_work w) none
+            ))
+          g
+      go false h false f g = absurd cc
+  act_move-is c s (asking p w k) m e = go (slice_get p.needs k) refl e
+    where
+      go : (o : Option Name) → slice_get p.needs k ≡ o
+        → elim o [ None ↦ None | Some r ↦ when (is_served c s r (b.number, p.place)) (grant b.number p.place r) ] ≡ Some m
+        → IsMoveOf b (asking p w k) m
+      go None h f = absurd cc
+      go (Some r) h f =
+          let lt : k < length p.needs = slice_get_within p.needs k r h in
+          let n = when-is (is_served c s r (b.number, p.place)) (grant b.number p.place r) m f in
+          subst (IsMoveOf b (asking p w k)) n.1
+          (record { number = refl; place = refl; changes = refl; lowers = omega arith; remains = λ t v i. (i.0, i.1, omega (arith, i.2)) })
+  act_move-is c s (open_act p r) m e = go (is_stopping b.state || is_stopped b.state) refl (is_stopping b.state && is_quiet b.rest && is_empty (held_in r)) e
+    where
+      go : (t : Bool) → (is_stopping b.state || is_stopped b.state) ≡ t → (u : Bool)
+        → elim t [ false ↦ when (is_done r) (end b.number p.place) | true ↦ elim u [ true ↦ giving_back b p (length p.needs) | false ↦ None ] ] ≡ Some m
+        → IsMoveOf b (open_act p r) m
+      go true h true f =
+          giving_back-is p (length p.needs) m (open_act p r) refl (λ some x. omega (arith, some, freed-toil p (pred (length p.needs)))) f
+      go true h false f = absurd cc
+      go false h u f =
+          let n = when-is (is_done r) (end b.number p.place) m f in
+          subst (IsMoveOf b (open_act p r)) n.1
+          (record
+            { number = refl
+            ; place = refl
+            ; changes = refl
+            ; lowers = omega (arith, freed-toil p (length p.needs), going b.state 1 (ap not h))
+            ; remains = ended-remains (open_act p r)
+            })
+  act_move-is c s (live p y t) m e = go (passed_on b.state) refl e
+    where
+      go : (o : Option Command) → passed_on b.state ≡ o
+        → elim o [ None ↦ None | Some d ↦ when (accepts t d) (send b.number p.place y d) ] ≡ Some m
+        → IsMoveOf b (live p y t) m
+      go None h f = absurd cc
+      go (Some d) h f =
+          let n = when-is (accepts t d) (send b.number p.place y d) m f in
+          let z = sent-once b.state t d h n.0 in
+          subst (IsMoveOf b (live p y t)) n.1
+          (record { number = refl; place = refl; changes = refl; lowers = omega (arith, z.0, z.1); remains = sent-remains d (live p y t) })
+  act_move-is c s (freeing p k) m e = giving_back-is p k m (freeing p k) refl (λ some r. omega (arith, some, freed-toil p (pred k))) e
+  act_move-is c s (in_seq r cs) m e = absurd cc
+  act_move-is c s (in_par rs) m e = absurd cc
+  act_move-is c s (in_loop n d body r) m e = absurd cc
+  act_move-is c s done m e = absurd cc

@@ -1,5 +1,5 @@
 -- Places are in order, and the next move is the least that is possible.
-use Rattle.std.proofs.Common.{◌≡◌, refl, ap, subst, ℕ, List, [], ◌∷◌, Bool, true, false, cond, Some, None, arith, nat_eq, nat_lt}
+use Rattle.std.proofs.Common.{◌≡◌, refl, ap, subst, ℕ, List, [], ◌∷◌, Bool, true, false, Some, None, arith, nat_eq, nat_lt}
 use Rattle.std.specs.Prelude.{Option, ◌⊎◌}
 use Rattle.std.proofs.Common.{inl, inr}
 use Rattle.batch_model.specs.Lists.{Has}

@@ -1,5 +1,5 @@
 -- Whatever a rest reaches stands at its node of the expanded tree.
-use Rattle.std.proofs.Common.{◌≡◌, refl, sym, subst, ℕ, zero, suc, pred, Bool, true, false, arith, inl, inr, ◌<◌}
+use Rattle.std.proofs.Common.{◌≡◌, refl, sym, subst, ℕ, zero, suc, pred, Bool, true, false, arith, inl, inr, ◌≤◌}
 use Rattle.batch_recipe.specs.Conditions.{ValueList, holds}
 use Rattle.batch_recipe.specs.declared.condition.Cond.{Cond}
 use Rattle.batch_recipe.specs.Tree.{Tree, act, skip, seq, par, sel, loop, Task, runs, follows, Trees, no_trees, tree, Choices, otherwise, choice}
@@ -27,7 +27,7 @@ joined-IsRestOf cs rs h = go (all_done rs)
     go true = tt
     go false = h
 
-turning-IsRestOf : (n m : ℕ) (c : Cond) (body : Tree) (r : Rest) → m < n → IsRestOf body r → IsRestOf (loop n c body) (turning m c body r)
+turning-IsRestOf : (n m : ℕ) (c : Cond) (body : Tree) (r : Rest) → m ≤ n → IsRestOf body r → IsRestOf (loop n c body) (turning m c body r)
 turning-IsRestOf n m c body r lt h = go (is_done r)
   where
     go : (b : Bool) → IsRestOf (loop n c body) (elim b [ true ↦ done | false ↦ in_loop m c body r ])
@@ -61,74 +61,52 @@ either-IsChosen : (p : Cond) (c : Tree) (ch : Choices) (b : Bool) (q r : Rest) �
 either-IsChosen p c ch true q r h k = inl h
 either-IsChosen p c ch false q r h k = inr k
 
--- every loop has a turn
-abbrev mutual
-  pub HasTurns : Tree → Type 0
-  HasTurns (act s w) = HasTurnsBelow w
-  HasTurns skip = Unit {0}
-  HasTurns (seq cs) = HaveTurns cs
-  HasTurns (par cs) = HaveTurns cs
-  HasTurns (sel ch) = HasTurnsChosen ch
-  HasTurns (loop n c body) = (0 < n) × HasTurns body
-
-  pub HasTurnsBelow : Task → Type 0
-  HasTurnsBelow (runs p) = Unit {0}
-  HasTurnsBelow (follows name c) = HasTurns c
-
-  pub HaveTurns : Trees → Type 0
-  HaveTurns no_trees = Unit {0}
-  HaveTurns (tree c cs) = HasTurns c × HaveTurns cs
-
-  pub HasTurnsChosen : Choices → Type 0
-  HasTurnsChosen (otherwise c) = HasTurns c
-  HasTurnsChosen (choice p c ch) = HasTurns c × HasTurnsChosen ch
-
-pred-below : (n : ℕ) → 0 < n → pred n < n
-pred-below n h = omega arith
+pred-within : (n : ℕ) → pred n ≤ n
+pred-within n = omega arith
 
 mutual
-  pub reach-IsRestOf : (vs : ValueList) (c : Tree) → HasTurns c → IsRestOf c (reach vs c)
-  reach-IsRestOf vs (act s w) t = (refl, refl, omega arith)
-  reach-IsRestOf vs skip t = tt
-  reach-IsRestOf vs (seq cs) t = reach_first-IsRestOf vs cs t
-  reach-IsRestOf vs (par cs) t = joined-IsRestOf cs (reach_each vs cs) (reach_each-AreBranches vs cs t)
-  reach-IsRestOf vs (sel ch) t = reach_chosen-IsChosen vs ch t
-  reach-IsRestOf vs (loop n c body) t = turning-IsRestOf n (pred n) c body (reach vs body) (pred-below n t.0) (reach-IsRestOf vs body t.1)
+  pub reach-IsRestOf : (vs : ValueList) (c : Tree) → IsRestOf c (reach vs c)
+  reach-IsRestOf vs (act s w) = (refl, refl, omega arith)
+  reach-IsRestOf vs skip = tt
+  reach-IsRestOf vs (seq cs) = reach_first-IsRestOf vs cs
+  reach-IsRestOf vs (par cs) = joined-IsRestOf cs (reach_each vs cs) (reach_each-AreBranches vs cs)
+  reach-IsRestOf vs (sel ch) = reach_chosen-IsChosen vs ch
+  reach-IsRestOf vs (loop n c body) = turning-IsRestOf n (pred n) c body (reach vs body) (pred-within n) (reach-IsRestOf vs body)
 
-  pub reach_first-IsRestOf : (vs : ValueList) (cs : Trees) → HaveTurns cs → IsRestOf (seq cs) (reach_first vs cs)
-  reach_first-IsRestOf vs no_trees t = tt
-  reach_first-IsRestOf vs (tree c cs) t = first-IsRestOf c cs (reach vs c) (reach_first vs cs) (reach-IsRestOf vs c t.0) (reach_first-IsRestOf vs cs t.1)
+  pub reach_first-IsRestOf : (vs : ValueList) (cs : Trees) → IsRestOf (seq cs) (reach_first vs cs)
+  reach_first-IsRestOf vs no_trees = tt
+  reach_first-IsRestOf vs (tree c cs) = first-IsRestOf c cs (reach vs c) (reach_first vs cs) (reach-IsRestOf vs c) (reach_first-IsRestOf vs cs)
 
-  pub reach_each-AreBranches : (vs : ValueList) (cs : Trees) → HaveTurns cs → AreBranches cs (reach_each vs cs)
-  reach_each-AreBranches vs no_trees t = tt
-  reach_each-AreBranches vs (tree c cs) t = (reach-IsRestOf vs c t.0, reach_each-AreBranches vs cs t.1)
+  pub reach_each-AreBranches : (vs : ValueList) (cs : Trees) → AreBranches cs (reach_each vs cs)
+  reach_each-AreBranches vs no_trees = tt
+  reach_each-AreBranches vs (tree c cs) = (reach-IsRestOf vs c, reach_each-AreBranches vs cs)
 
-  pub reach_chosen-IsChosen : (vs : ValueList) (ch : Choices) → HasTurnsChosen ch → IsChosen ch (reach_chosen vs ch)
-  reach_chosen-IsChosen vs (otherwise c) t = reach-IsRestOf vs c t
-  reach_chosen-IsChosen vs (choice p c ch) t =
-      either-IsChosen p c ch (holds vs p) (reach vs c) (reach_chosen vs ch) (reach-IsRestOf vs c t.0) (reach_chosen-IsChosen vs ch t.1)
+  pub reach_chosen-IsChosen : (vs : ValueList) (ch : Choices) → IsChosen ch (reach_chosen vs ch)
+  reach_chosen-IsChosen vs (otherwise c) = reach-IsRestOf vs c
+  reach_chosen-IsChosen vs (choice p c ch) =
+      either-IsChosen p c ch (holds vs p) (reach vs c) (reach_chosen vs ch) (reach-IsRestOf vs c) (reach_chosen-IsChosen vs ch)
 
-again-IsRestOf : (vs : ValueList) (n m : ℕ) (c : Cond) (body : Tree) → suc m < n → HasTurns body → (b : Bool)
+again-IsRestOf : (vs : ValueList) (n m : ℕ) (c : Cond) (body : Tree) → suc m ≤ n → (b : Bool)
   → IsRestOf (loop n c body) (elim b [ true ↦ done | false ↦ turning m c body (reach vs body) ])
-again-IsRestOf vs n m c body lt t true = tt
-again-IsRestOf vs n m c body lt t false = turning-IsRestOf n m c body (reach vs body) (omega arith) (reach-IsRestOf vs body t)
+again-IsRestOf vs n m c body lt true = tt
+again-IsRestOf vs n m c body lt false = turning-IsRestOf n m c body (reach vs body) (omega arith) (reach-IsRestOf vs body)
 
-turned-IsRestOf : (vs : ValueList) (n m : ℕ) (c : Cond) (body : Tree) (r : Rest) → m < n → HasTurns body → IsRestOf body r → IsRestOf (loop n c body) (turned vs m c body r)
-turned-IsRestOf vs n zero c body r lt t h = turning-IsRestOf n 0 c body r lt h
-turned-IsRestOf vs n (suc m) c body r lt t h = go (is_done r)
+turned-IsRestOf : (vs : ValueList) (n m : ℕ) (c : Cond) (body : Tree) (r : Rest) → m ≤ n → IsRestOf body r → IsRestOf (loop n c body) (turned vs m c body r)
+turned-IsRestOf vs n zero c body r lt h = turning-IsRestOf n 0 c body r lt h
+turned-IsRestOf vs n (suc m) c body r lt h = go (is_done r)
   where
     go : (b : Bool)
       → IsRestOf (loop n c body) (elim b [ false ↦ in_loop (suc m) c body r | true ↦ elim (holds vs c) [ true ↦ done | false ↦ turning m c body (reach vs body) ] ])
     go false = (lt, refl, refl, h)
-    go true = again-IsRestOf vs n m c body lt t (holds vs c)
+    go true = again-IsRestOf vs n m c body lt (holds vs c)
 
 -- a branch that has gone on remains one of the branches, or gives way to the next
-continued-here : (vs : ValueList) (c : Tree) (cs : Trees) (r : Rest) (ds : Trees) → IsRestOf c r → HaveTurns cs → ds ≡ cs
+continued-here : (vs : ValueList) (c : Tree) (cs : Trees) (r : Rest) (ds : Trees) → IsRestOf c r → ds ≡ cs
   → IsRestOf (seq (tree c cs)) (continued vs r ds)
-continued-here vs c cs r ds h t e = go (is_done r)
+continued-here vs c cs r ds h e = go (is_done r)
   where
     after : IsRestOf (seq cs) (reach_first vs ds)
-    after = subst (λ x. IsRestOf (seq cs) (reach_first vs x)) (sym e) (reach_first-IsRestOf vs cs t)
+    after = subst (λ x. IsRestOf (seq cs) (reach_first vs x)) (sym e) (reach_first-IsRestOf vs cs)
     go : (b : Bool) → IsRestOf (seq (tree c cs)) (elim b [ true ↦ reach_first vs ds | false ↦ in_seq r ds ])
     go true = later c cs (reach_first vs ds) after
     go false = inl (h, e)
@@ -140,36 +118,36 @@ subst₂-loop vs n m c d body b r e f h =
 
 mutual
   -- what remains of a chart still does when it has advanced
-  pub advance-IsRestOf : (vs : ValueList) (c : Tree) (r : Rest) → HasTurns c → IsRestOf c r → IsRestOf c (advance vs r)
-  advance-IsRestOf vs (act s w) (ready u v k) t h = h
-  advance-IsRestOf vs (act s w) (asking u v k) t h = h
-  advance-IsRestOf vs (act s w) (open_act u r) t h = (h.0, advance-IsRestBelow vs w r t h.1)
-  advance-IsRestOf vs (act s w) (live u p x) t h = h
-  advance-IsRestOf vs (act s w) (freeing u k) t h = h
-  advance-IsRestOf vs (seq cs) (in_seq r ds) t h = advance-IsBranch vs cs r ds t h
-  advance-IsRestOf vs (par cs) (in_par rs) t h = joined-IsRestOf cs (advance_each vs rs) (advance-AreBranches vs cs rs t h)
-  advance-IsRestOf vs (sel ch) r t h = advance-IsChosen vs ch r t h
-  advance-IsRestOf vs (loop n c body) (in_loop m d b r) t h =
-      subst₂-loop vs n m c d body b (advance vs r) h.1 h.2 (turned-IsRestOf vs n m c body (advance vs r) h.0 t.1 (advance-IsRestOf vs body r t.1 h.3))
-  advance-IsRestOf vs c done t h = done-IsRestOf c
-  advance-IsRestOf vs _ _ t h = absurd h
+  pub advance-IsRestOf : (vs : ValueList) (c : Tree) (r : Rest) → IsRestOf c r → IsRestOf c (advance vs r)
+  advance-IsRestOf vs (act s w) (ready u v k) h = h
+  advance-IsRestOf vs (act s w) (asking u v k) h = h
+  advance-IsRestOf vs (act s w) (open_act u r) h = (h.0, advance-IsRestBelow vs w r h.1)
+  advance-IsRestOf vs (act s w) (live u p x) h = h
+  advance-IsRestOf vs (act s w) (freeing u k) h = h
+  advance-IsRestOf vs (seq cs) (in_seq r ds) h = advance-IsBranch vs cs r ds h
+  advance-IsRestOf vs (par cs) (in_par rs) h = joined-IsRestOf cs (advance_each vs rs) (advance-AreBranches vs cs rs h)
+  advance-IsRestOf vs (sel ch) r h = advance-IsChosen vs ch r h
+  advance-IsRestOf vs (loop n c body) (in_loop m d b r) h =
+      subst₂-loop vs n m c d body b (advance vs r) h.1 h.2 (turned-IsRestOf vs n m c body (advance vs r) h.0 (advance-IsRestOf vs body r h.3))
+  advance-IsRestOf vs c done h = done-IsRestOf c
+  advance-IsRestOf vs _ _ h = absurd h
 
-  pub advance-IsRestBelow : (vs : ValueList) (w : Task) (r : Rest) → HasTurnsBelow w → IsRestBelow w r → IsRestBelow w (advance vs r)
-  advance-IsRestBelow vs (runs p) r t h = absurd h
-  advance-IsRestBelow vs (follows name c) r t h = advance-IsRestOf vs c r t h
+  pub advance-IsRestBelow : (vs : ValueList) (w : Task) (r : Rest) → IsRestBelow w r → IsRestBelow w (advance vs r)
+  advance-IsRestBelow vs (runs p) r h = absurd h
+  advance-IsRestBelow vs (follows name c) r h = advance-IsRestOf vs c r h
 
-  pub advance-IsBranch : (vs : ValueList) (cs : Trees) (r : Rest) (ds : Trees) → HaveTurns cs → IsBranch cs r ds → IsRestOf (seq cs) (continued vs (advance vs r) ds)
-  advance-IsBranch vs no_trees r ds t h = absurd h
-  advance-IsBranch vs (tree c cs) r ds t (inl h) = continued-here vs c cs (advance vs r) ds (advance-IsRestOf vs c r t.0 h.0) t.1 h.1
-  advance-IsBranch vs (tree c cs) r ds t (inr h) = later c cs (continued vs (advance vs r) ds) (advance-IsBranch vs cs r ds t.1 h)
+  pub advance-IsBranch : (vs : ValueList) (cs : Trees) (r : Rest) (ds : Trees) → IsBranch cs r ds → IsRestOf (seq cs) (continued vs (advance vs r) ds)
+  advance-IsBranch vs no_trees r ds h = absurd h
+  advance-IsBranch vs (tree c cs) r ds (inl h) = continued-here vs c cs (advance vs r) ds (advance-IsRestOf vs c r h.0) h.1
+  advance-IsBranch vs (tree c cs) r ds (inr h) = later c cs (continued vs (advance vs r) ds) (advance-IsBranch vs cs r ds h)
 
-  pub advance-AreBranches : (vs : ValueList) (cs : Trees) (rs : Rests) → HaveTurns cs → AreBranches cs rs → AreBranches cs (advance_each vs rs)
-  advance-AreBranches vs no_trees no_rests t h = tt
-  advance-AreBranches vs (tree c cs) (rest r rs) t h = (advance-IsRestOf vs c r t.0 h.0, advance-AreBranches vs cs rs t.1 h.1)
-  advance-AreBranches vs no_trees (rest r rs) t h = absurd h
-  advance-AreBranches vs (tree c cs) no_rests t h = absurd h
+  pub advance-AreBranches : (vs : ValueList) (cs : Trees) (rs : Rests) → AreBranches cs rs → AreBranches cs (advance_each vs rs)
+  advance-AreBranches vs no_trees no_rests h = tt
+  advance-AreBranches vs (tree c cs) (rest r rs) h = (advance-IsRestOf vs c r h.0, advance-AreBranches vs cs rs h.1)
+  advance-AreBranches vs no_trees (rest r rs) h = absurd h
+  advance-AreBranches vs (tree c cs) no_rests h = absurd h
 
-  pub advance-IsChosen : (vs : ValueList) (ch : Choices) (r : Rest) → HasTurnsChosen ch → IsChosen ch r → IsChosen ch (advance vs r)
-  advance-IsChosen vs (otherwise c) r t h = advance-IsRestOf vs c r t h
-  advance-IsChosen vs (choice p c ch) r t (inl h) = inl (advance-IsRestOf vs c r t.0 h)
-  advance-IsChosen vs (choice p c ch) r t (inr h) = inr (advance-IsChosen vs ch r t.1 h)
+  pub advance-IsChosen : (vs : ValueList) (ch : Choices) (r : Rest) → IsChosen ch r → IsChosen ch (advance vs r)
+  advance-IsChosen vs (otherwise c) r h = advance-IsRestOf vs c r h
+  advance-IsChosen vs (choice p c ch) r (inl h) = inl (advance-IsRestOf vs c r h)
+  advance-IsChosen vs (choice p c ch) r (inr h) = inr (advance-IsChosen vs ch r h)

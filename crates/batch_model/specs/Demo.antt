@@ -1,5 +1,5 @@
 -- The demo cell and its recipe A.
-use Rattle.std.specs.Prelude.{ℕ, List, [], ◌∷◌, Bool, true, false, ◌&&◌, ◌||◌, codes}
+use Rattle.std.specs.Prelude.{ℕ, [], ◌∷◌, Bool, true, false, ◌&&◌, ◌||◌, codes}
 use Rattle.batch_recipe.specs.Conditions.{Name, same_name}
 use Rattle.batch_recipe.specs.Formula.{is_size}
 use Rattle.batch_recipe.specs.Tree.{Phase, Tree, act, runs, follows}

@@ -1,12 +1,12 @@
 -- Runs: the records that a plant's events lead to.
-use Rattle.std.specs.Prelude.{◌≡◌, ◌⊎◌, ℕ, zero, suc, pred, ◌+◌, ◌*◌, ◌-◌, List, [], ◌∷◌, ◌++◌, length, map, sum_by, true, false, Some, None, ⊤}
+use Rattle.std.specs.Prelude.{◌≡◌, ◌⊎◌, ℕ, zero, suc, pred, ◌+◌, ◌*◌, ◌-◌, List, [], ◌∷◌, ◌++◌, length, map, sum_by, Bool, true, false, not, ◌||◌, Some, None, ⊤}
 use Rattle.batch_matrix.specs.declared.state.State.{State}
-use Rattle.batch_matrix.specs.declared.state.State.TheVariants.{Running, Pausing, Holding, Restarting}
+use Rattle.batch_matrix.specs.declared.state.State.TheVariants.{Running, Pausing, Holding, Restarting, Stopping, Aborting}
 use Rattle.batch_matrix.specs.Matrix.{accepts}
 use Rattle.batch_recipe.specs.Tree.{Task, runs, follows, Tree, act, skip, seq, par, sel, loop, Trees, no_trees, tree, Choices, otherwise, choice}
-use Rattle.batch_model.specs.Rest.{Rest, ready, asking, open_act, live, freeing, in_seq, in_par, in_loop, done, Rests, no_rests, rest, acts}
-use Rattle.batch_model.specs.Plant.{Documents, Batch, Plant, opening, held_in, phase_states}
-use Rattle.batch_model.specs.Moves.{Move, next, after, passed_on, is_stopping}
+use Rattle.batch_model.specs.Rest.{Rest, ready, asking, open_act, live, freeing, in_seq, in_par, in_loop, done, Rests, no_rests, rest}
+use Rattle.batch_model.specs.Plant.{Documents, Batch, Plant, opening}
+use Rattle.batch_model.specs.Moves.{Move, next, after, passed_on, is_stopping, is_stopped}
 use Rattle.batch_model.specs.Events.{Event, Reply, created, refused, no_memory, react}
 
 pub data Out : Type 0 where
@@ -29,10 +29,10 @@ Leads c s es (move m ∷ outs) t = (next c s ≡ Some m) × Leads c (after s m) 
 Leads c s [] (reply r ∷ outs) t = ⊥
 Leads c s (e ∷ es) (reply r ∷ outs) t = (u : Plant) × Reacts c s e r u × Leads c u es outs t
 
--- The work left: the most moves that can follow before the next event
+-- The work left: no fewer moves than can follow before the next event
 
 abbrev mutual
-  -- the most moves that a chart can take
+  -- no fewer moves than a chart can take
   pub toil : Tree → ℕ
   toil (act s w) = 3 * length s.needs + toil_of_work w
   toil skip = 0
@@ -57,17 +57,25 @@ abbrev mutual
 abbrev pub sends : State → State → ℕ
 sends x t = elim (passed_on x) [ None ↦ 0 | Some command ↦ elim (accepts t command) [ true ↦ 1 | false ↦ 0 ] ]
 
+-- a batch in this state isn't on its way to Stopped or Aborted, nor there
+abbrev pub goes_on : State → Bool
+goes_on x = not (is_stopping x || is_stopped x)
+
+-- moves that lie ahead of a batch as long as it goes on
+abbrev pub ahead : State → ℕ → ℕ
+ahead x n = elim (goes_on x) [ true ↦ n | false ↦ 0 ]
+
 abbrev mutual
-  -- the most moves that what remains can take while its batch is in this state
+  -- what is held is given back, an ask is granted, a command is sent; and what lies ahead is done
   pub toil_left : State → Rest → ℕ
-  toil_left x (ready s w k) = 3 * (length s.needs - k) + k + toil_of_work w
-  toil_left x (asking s w k) = 3 * (length s.needs - k) + k - 1 + toil_of_work w
-  toil_left x (open_act s r) = length s.needs + 1 + toil_left x r
+  toil_left x (ready s w k) = k + ahead x (3 * (length s.needs - k) + toil_of_work w)
+  toil_left x (asking s w k) = k + 2 + ahead x (3 * (length s.needs - suc k) + toil_of_work w)
+  toil_left x (open_act s r) = length s.needs + toil_left x r + ahead x 1
   toil_left x (live s p t) = length s.needs + sends x t
   toil_left x (freeing s k) = k
-  toil_left x (in_seq r cs) = toil_left x r + toil_of_each cs
+  toil_left x (in_seq r cs) = toil_left x r + ahead x (toil_of_each cs)
   toil_left x (in_par rs) = toil_left_in_each x rs
-  toil_left x (in_loop n c body r) = toil_left x r + n * toil body
+  toil_left x (in_loop n c body r) = toil_left x r + ahead x (n * toil body)
   toil_left x done = 0
 
   pub toil_left_in_each : State → Rests → ℕ
@@ -79,15 +87,12 @@ state_moves_left Restarting = 2
 state_moves_left Running = 1
 state_moves_left Pausing = 1
 state_moves_left Holding = 1
+state_moves_left Stopping = 1
+state_moves_left Aborting = 1
 state_moves_left _ = 0
 
--- a batch on its way to Stopped or Aborted sends, gives back what it holds, and changes its state
 abbrev pub batch_work_left : Batch → ℕ
-batch_work_left b =
-    elim (is_stopping b.state)
-    [ true ↦ 1 + sum_by (sends b.state) (phase_states (acts b.rest)) + length (held_in b.rest)
-    | false ↦ state_moves_left b.state + toil_left b.state b.rest
-    ]
+batch_work_left b = state_moves_left b.state + toil_left b.state b.rest
 
 abbrev pub work_left : Plant → ℕ
 work_left s = sum_by batch_work_left s.batches

@@ -8,7 +8,7 @@ mod laws;
 mod limits;
 mod rows;
 
-pub use laws::{advances_fully, trees_are_placed, work_falls};
+pub use laws::{advances_fully, plants_stand, settlings_end, trees_are_placed, work_falls};
 pub use limits::{LAST_NUMBER, MAX_LIVE_BATCHES};
 pub use rows::{
     abort_after_stop, abort_reset_start, act_states, choices, crossed_branches_without_circle,

@@ -1,0 +1,10 @@
+use Rattle.std.proofs.Common.{arith}
+use Rattle.batch_model.specs.Plant.{opening}
+use Rattle.batch_model.specs.Runs.{work_left}
+use Rattle.batch_model.proofs.Led.{opening-stands, leads-stands}
+use Rattle.batch_model.proofs.Settling.{settling-ends}
+use Rattle.batch_model.proofs.laws.settlings_end.Goals as goal
+
+pub returns : goal.returns
+returns c = λ d placed events outs s h.
+    settling-ends d placed (work_left s) s (leads-stands d placed opening s events outs (opening-stands d) h) (omega arith)
