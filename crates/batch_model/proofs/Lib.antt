@@ -4,7 +4,6 @@ pub mod Leading
 pub mod Ordering
 pub mod Members
 pub mod Placed
-pub mod Refusals
 pub mod Standing
 pub mod Work
 pub mod Rising
