@@ -37,6 +37,18 @@ heat = codes "HEAT"
 abbrev pub drain : Name
 drain = codes "DRAIN"
 
+abbrev pub name_a : Name
+name_a = codes "A"
+
+abbrev pub make : Name
+make = codes "MAKE"
+
+abbrev pub charge : Name
+charge = codes "CHARGE"
+
+abbrev pub cook : Name
+cook = codes "COOK"
+
 -- an output
 abbrev pub x_name : Name
 x_name = codes "X"
@@ -83,33 +95,26 @@ heat_step unit = phase_step heat [] unit heat []
 abbrev pub drain_step : Name → Entry
 drain_step unit = phase_step drain [] unit drain []
 
--- a procedure of one unit procedure MAKE on R1, and of one operation that follows a chart
-abbrev pub making : Name → Name → List Entry → Diagram → Entry
-making name operation steps d =
+-- a procedure of one unit procedure on a unit, and of one operation that follows a chart
+abbrev pub one_operation : Name → Name → Name → Name → List Entry → Diagram → Entry
+one_operation unit name unit_procedure operation steps d =
     chart_act name []
-    (chart_act (codes "MAKE") (r1 ∷ []) (chart_act operation [] steps d ∷ []) (label operation) ∷ [])
-    (label (codes "MAKE"))
+    (chart_act unit_procedure (unit ∷ []) (chart_act operation [] steps d ∷ []) (label operation) ∷ [])
+    (label unit_procedure)
 
--- a procedure of one unit procedure U, and of one operation O that follows a chart
+-- the same with the unit procedure MAKE on R1
+abbrev pub making : Name → Name → List Entry → Diagram → Entry
+making name operation steps d = one_operation r1 name make operation steps d
+
+-- the same with the unit procedure U and the operation O
 abbrev pub plain_on : Name → Name → List Entry → Diagram → Entry
-plain_on unit name steps d =
-    chart_act name []
-    (chart_act (codes "U") (unit ∷ []) (chart_act (codes "O") [] steps d ∷ []) (label (codes "O")) ∷ [])
-    (label (codes "U"))
+plain_on unit name steps d = one_operation unit name (codes "U") (codes "O") steps d
 
 -- Recipes
 
-abbrev pub name_a : Name
-name_a = codes "A"
-
-abbrev pub make : Name
-make = codes "MAKE"
-
-abbrev pub charge : Name
-charge = codes "CHARGE"
-
-abbrev pub cook : Name
-cook = codes "COOK"
+-- A as a document has it, before it is expanded
+abbrev pub procedure_a : Entry
+procedure_a = making name_a charge (add_step r1 ∷ []) (label add)
 
 -- A with an input QTY of 333, at least 0 and at most 500 for a batch, that is handed to ADD
 abbrev pub formula_f : ℕ → Formula

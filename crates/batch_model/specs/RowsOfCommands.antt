@@ -7,12 +7,12 @@ use Rattle.batch_matrix.specs.declared.report.Report.{Report}
 use Rattle.batch_recipe.specs.Tree.{Place}
 use Rattle.batch_model.specs.Demo as demo
 use Rattle.batch_model.specs.Plant.{Plant, Batch}
-use Rattle.batch_model.specs.Moves.{send, state, release, begin, ask, grant}
+use Rattle.batch_model.specs.Moves.{send, state, release, begin, end, ask, grant}
 use Rattle.batch_model.specs.Events.{create, order, remove, created, ordered, removed, reported, refused, full, not_idle, unknown_batch, report_not_expected, moves_pending, new_batch, react}
 use Rattle.batch_model.specs.Runs.{reply, move, run}
 use Rattle.batch_model.specs.ActStates.{state_of}
 use Rattle.batch_model.specs.RowDocuments.{r1, r2, hdr, steam, add, heat, drain, name_a, make, charge, cook, cell, narrow_cell, small_cell}
-use Rattle.batch_model.specs.RowParts.{p0, p00, p0000, p00000, p00001, p000010, p000011, create_a, says, add_done, on, starts, refuses, entered, opened, created_a, opened_a, finished_a, settled_after}
+use Rattle.batch_model.specs.RowParts.{p0, p00, p000, p001, p0000, p00000, p00001, p000010, p000011, create_a, says, add_done, on, starts, refuses, entered, opened, created_a, opened_a, finished_a, settled_after}
 
 -- a phase is done while its batch comes to Held, and the next begins after the restart
 abbrev pub HoldBetweenPhases : Type 0
@@ -28,6 +28,52 @@ HoldBetweenPhases =
     ∷ reply (ordered Restart 1 Restarting)
     ∷ move (state 1 Running)
     ∷ starts 1 p00001 r1 heat
+    ∷ []))
+
+-- a step that lacks a need doesn't ask for it before the batch runs again
+abbrev pub NoAskWhileHeld : Type 0
+NoAskWhileHeld =
+    run cell
+    (create (codes "P") 1000 ∷ order Start 1 ∷ order Hold 1 ∷ says r1 drain Report.Done ∷ says r1 add Report.Held
+    ∷ order Restart 1 ∷ says r1 add Report.Running ∷ [])
+    ≡ (reply (created 1 (codes "P") 1000)
+    ∷ opened 1 (codes "P") r1 (codes "U") (codes "O")
+    (starts 1 p000010 r1 drain
+    ∷ move (ask 1 p00000 hdr)
+    ∷ move (grant 1 p00000 hdr)
+    ∷ starts 1 p00000 r1 add
+    ∷ reply (ordered Hold 1 Holding)
+    ∷ move (send 1 p00000 (on r1 add) Hold)
+    ∷ move (send 1 p000010 (on r1 drain) Hold)
+    ∷ reply (reported r1 drain Report.Done 1 p000010 Holding)
+    ∷ reply (reported r1 add Report.Held 1 p00000 Holding)
+    ∷ move (state 1 Held)
+    ∷ reply (ordered Restart 1 Restarting)
+    ∷ move (send 1 p00000 (on r1 add) Restart)
+    ∷ reply (reported r1 add Report.Running 1 p00000 Restarting)
+    ∷ move (state 1 Running)
+    ∷ move (ask 1 p000011 steam)
+    ∷ move (grant 1 p000011 steam)
+    ∷ starts 1 p000011 r1 heat
+    ∷ []))
+
+-- acts end and give back what they hold while the batch is held, and it is complete once it runs again
+abbrev pub HeldBatchEnds : Type 0
+HeldBatchEnds =
+    run cell (create_a ∷ order Start 1 ∷ order Hold 1 ∷ add_done ∷ order Restart 1 ∷ [])
+    ≡ (created_a 1
+    ∷ opened_a 1
+    (reply (ordered Hold 1 Holding)
+    ∷ move (send 1 p0000 (on r1 add) Hold)
+    ∷ reply (reported r1 add Report.Done 1 p0000 Holding)
+    ∷ move (state 1 Held)
+    ∷ move (end 1 p000)
+    ∷ move (end 1 p00)
+    ∷ move (release 1 p00 r1)
+    ∷ move (end 1 p0)
+    ∷ reply (ordered Restart 1 Restarting)
+    ∷ move (state 1 Running)
+    ∷ move (state 1 Complete)
     ∷ []))
 
 -- the ask of a held batch is granted, and nothing begins before the restart
@@ -77,6 +123,49 @@ StopWithdrawsAsks =
     ∷ move (release 1 p00 r1)
     ∷ move (state 1 Stopped)
     ∷ [])))
+
+-- the ask that was withdrawn doesn't stand in the way of a later one
+abbrev pub WithdrawnAskLetsOthersPass : Type 0
+WithdrawnAskLetsOthersPass =
+    run cell
+    (create_a ∷ create_a ∷ create_a ∷ order Start 1 ∷ order Start 2 ∷ order Start 3 ∷ order Stop 2 ∷ add_done ∷ [])
+    ≡ (created_a 1
+    ∷ created_a 2
+    ∷ created_a 3
+    ∷ opened_a 1
+    (reply (ordered Start 2 Running)
+    ∷ move (begin 2 p0 name_a)
+    ∷ move (ask 2 p00 r1)
+    ∷ reply (ordered Start 3 Running)
+    ∷ move (begin 3 p0 name_a)
+    ∷ move (ask 3 p00 r1)
+    ∷ reply (ordered Stop 2 Stopping)
+    ∷ move (state 2 Stopped)
+    ∷ finished_a 1
+    (move (grant 3 p00 r1)
+    ∷ entered 3 make charge
+    (starts 3 p0000 r1 add
+    ∷ []))))
+
+-- a stop while an act holds two of its three needs: the last that it got is given back first
+abbrev pub StopGivesBackPartOfNeeds : Type 0
+StopGivesBackPartOfNeeds =
+    run cell (create_a ∷ create (codes "J") 1000 ∷ order Start 1 ∷ order Start 2 ∷ order Stop 2 ∷ [])
+    ≡ (created_a 1
+    ∷ reply (created 2 (codes "J") 1000)
+    ∷ opened_a 1
+    (reply (ordered Start 2 Running)
+    ∷ move (begin 2 p0 (codes "J"))
+    ∷ move (ask 2 p001 r2)
+    ∷ move (grant 2 p001 r2)
+    ∷ move (ask 2 p001 hdr)
+    ∷ move (grant 2 p001 hdr)
+    ∷ move (ask 2 p001 r1)
+    ∷ reply (ordered Stop 2 Stopping)
+    ∷ move (release 2 p001 hdr)
+    ∷ move (release 2 p001 r2)
+    ∷ move (state 2 Stopped)
+    ∷ []))
 
 -- an abort while stopping, and a report that no longer fits
 abbrev pub AbortAfterStop : Type 0
@@ -141,6 +230,34 @@ ResumedUnitProcedureIsPaused = ShowsResumed p00 (Some Paused)
 
 abbrev pub NoActBelowPhase : Type 0
 NoActBelowPhase = ShowsResumed p00000 None
+
+-- a hold spreads to a phase that is paused and to one that is not yet, and a restart to both
+abbrev pub HoldWhilePausing : Type 0
+HoldWhilePausing =
+    run cell
+    (create (codes "W") 1000 ∷ order Start 1 ∷ order Pause 1 ∷ says r1 add Report.Paused ∷ order Hold 1 ∷ says r1 add Report.Held
+    ∷ says r1 heat Report.Held ∷ order Restart 1 ∷ says r1 add Report.Running ∷ says r1 heat Report.Running ∷ [])
+    ≡ (reply (created 1 (codes "W") 1000)
+    ∷ opened 1 (codes "W") r1 make cook
+    (starts 1 p00000 r1 add
+    ∷ starts 1 p00001 r1 heat
+    ∷ reply (ordered Pause 1 Pausing)
+    ∷ move (send 1 p00000 (on r1 add) Pause)
+    ∷ move (send 1 p00001 (on r1 heat) Pause)
+    ∷ reply (reported r1 add Report.Paused 1 p00000 Pausing)
+    ∷ reply (ordered Hold 1 Holding)
+    ∷ move (send 1 p00000 (on r1 add) Hold)
+    ∷ move (send 1 p00001 (on r1 heat) Hold)
+    ∷ reply (reported r1 add Report.Held 1 p00000 Holding)
+    ∷ reply (reported r1 heat Report.Held 1 p00001 Holding)
+    ∷ move (state 1 Held)
+    ∷ reply (ordered Restart 1 Restarting)
+    ∷ move (send 1 p00000 (on r1 add) Restart)
+    ∷ move (send 1 p00001 (on r1 heat) Restart)
+    ∷ reply (reported r1 add Report.Running 1 p00000 Restarting)
+    ∷ reply (reported r1 heat Report.Running 1 p00001 Restarting)
+    ∷ move (state 1 Running)
+    ∷ []))
 
 -- Batches that come and go
 

@@ -3,12 +3,16 @@ use Rattle.std.specs.Prelude.{◌≡◌, ℕ, zero, suc, List, [], ◌∷◌, le
 use Rattle.batch_matrix.specs.declared.state.State.TheVariants.{Running, Holding, Held, Restarting, Complete}
 use Rattle.batch_matrix.specs.declared.command.Command.TheVariants.{Start, Hold, Restart}
 use Rattle.batch_matrix.specs.declared.report.Report.{Report}
-use Rattle.batch_model.specs.Demo.{demo}
+use Rattle.batch_model.specs.Demo.{demo, recipe}
 use Rattle.batch_model.specs.Moves.{send, state, release, begin, end, ask, grant}
 use Rattle.batch_model.specs.Events.{create, order, report, created, ordered, reported}
 use Rattle.batch_model.specs.Runs.{Out, reply, move, run}
-use Rattle.batch_model.specs.RowDocuments.{r1, r2, hdr, steam, add, heat, drain, x_name, name_a, make, charge, cell, narrow_cell}
+use Rattle.batch_model.specs.RowDocuments.{r1, r2, hdr, steam, add, heat, drain, x_name, name_a, make, charge, procedure_of, procedure_a, cell, narrow_cell}
 use Rattle.batch_model.specs.RowParts.{p0, p00, p000, p001, p0000, p0010, p00000, p00001, p00002, p00100, p000010, p000011, create_a, says, add_done, on, starts, entered, opened, closed, created_a, opened_a, finished_a}
+
+-- the demo's recipe is what its document expands to
+abbrev pub DemoIsExpanded : Type 0
+DemoIsExpanded = recipe.procedure ≡ procedure_of procedure_a
 
 -- one batch of A from its creation to its completion
 abbrev pub OneBatchToComplete : Type 0

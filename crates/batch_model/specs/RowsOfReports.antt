@@ -1,13 +1,13 @@
 -- Worked rows: reports, values, and refused events.
 use Rattle.std.specs.Prelude.{◌≡◌, ℕ, List, [], ◌∷◌, Option, Some, None, codes}
-use Rattle.batch_matrix.specs.declared.state.State.TheVariants.{Idle, Running, Holding, Held}
-use Rattle.batch_matrix.specs.declared.command.Command.TheVariants.{Start, Pause, Hold, Reset}
+use Rattle.batch_matrix.specs.declared.state.State.TheVariants.{Idle, Running, Holding, Held, Stopping}
+use Rattle.batch_matrix.specs.declared.command.Command.TheVariants.{Start, Pause, Hold, Stop, Reset}
 use Rattle.batch_matrix.specs.declared.report.Report.{Report}
 use Rattle.batch_recipe.specs.Conditions.{Name, ValueList, value_of}
 use Rattle.batch_model.specs.Demo.{demo}
 use Rattle.batch_model.specs.Plant.{batch_at}
 use Rattle.batch_model.specs.Moves.{send, state, start}
-use Rattle.batch_model.specs.Events.{Event, create, order, report, created, reported, refused, unknown_recipe, unknown_batch, command_not_accepted, no_live_phase, bad_output, bad_size, bad_value, full, react}
+use Rattle.batch_model.specs.Events.{Event, create, order, report, created, ordered, reported, refused, unknown_recipe, unknown_batch, command_not_accepted, no_live_phase, bad_output, bad_size, bad_value, full, react}
 use Rattle.batch_model.specs.Runs.{reply, move, run}
 use Rattle.batch_model.specs.RowDocuments.{r1, add, heat, x_name, quantity, name_a, make, charge, cook, cell}
 use Rattle.batch_model.specs.RowParts.{p0000, p00000, p00001, create_a, says, add_done, on, starts, refuses, opened, created_a, opened_a, finished_a, settled_after}
@@ -39,6 +39,17 @@ FaultHoldsTheBatch =
     ∷ reply (reported r1 add Report.Held 1 p00000 Holding)
     ∷ reply (reported r1 heat Report.Held 1 p00001 Holding)
     ∷ move (state 1 Held)
+    ∷ []))
+
+-- a fault of a phase while its batch stops changes nothing
+abbrev pub FaultWhileStopping : Type 0
+FaultWhileStopping =
+    run cell (create_a ∷ order Start 1 ∷ order Stop 1 ∷ says r1 add Report.Fault ∷ [])
+    ≡ (created_a 1
+    ∷ opened_a 1
+    (reply (ordered Stop 1 Stopping)
+    ∷ move (send 1 p0000 (on r1 add) Stop)
+    ∷ reply (reported r1 add Report.Fault 1 p0000 Stopping)
     ∷ []))
 
 -- Outputs

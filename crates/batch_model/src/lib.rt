@@ -12,8 +12,9 @@ pub use laws::{advances_fully, plants_stand, settlings_end, trees_are_placed, wo
 pub use limits::{LAST_NUMBER, MAX_LIVE_BATCHES};
 pub use rows::{
     abort_after_stop, abort_reset_start, act_states, choices, crossed_branches_without_circle,
-    earlier_state_shows, event_while_moves_pend, fault_holds_the_batch, held_ask_is_granted,
-    hold_between_phases, live_batch_limit, one_batch_to_complete, outputs, pause_and_resume,
-    refused_events, release_before_begin, report_twice, scaled_quantity, second_batch_waits,
-    shared_capacity, stop_withdraws_asks, thousand_turns,
+    demo_is_expanded, earlier_state_shows, event_while_moves_pend, fault_holds_the_batch,
+    held_ask_is_granted, hold_between_phases, hold_while_pausing, live_batch_limit,
+    one_batch_to_complete, outputs, pause_and_resume, refused_events, release_before_begin,
+    report_twice, scaled_quantity, second_batch_waits, shared_capacity, stop_withdraws_asks,
+    thousand_turns,
 };

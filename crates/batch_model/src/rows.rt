@@ -1,5 +1,6 @@
 //! Worked rows: what the records of some runs are. The functions are empty: their contracts are the rows.
 ghost use Rattle.batch_model.specs.RowsOfMoves.{
+  DemoIsExpanded,
   OneBatchToComplete,
   SecondBatchWaits,
   CrossedBranchesWithoutCircle,
@@ -17,14 +18,19 @@ ghost use Rattle.batch_model.specs.RowsOfMoves.{
 };
 ghost use Rattle.batch_model.specs.RowsOfCommands.{
   HoldBetweenPhases,
+  NoAskWhileHeld,
+  HeldBatchEnds,
   HeldAskIsGranted,
   StopWithdrawsAsks,
+  WithdrawnAskLetsOthersPass,
+  StopGivesBackPartOfNeeds,
   AbortAfterStop,
   AbortResetStart,
   PauseAndResume,
   ResumedBatchRuns,
   ResumedUnitProcedureIsPaused,
   NoActBelowPhase,
+  HoldWhilePausing,
   RemovedBatchLeavesPlace,
   LastBatchIsCreated,
   NoBatchBeyondLimit,
@@ -36,6 +42,7 @@ ghost use Rattle.batch_model.specs.RowsOfReports.{
   ReportTwice,
   ReportTwiceChangesNothing,
   FaultHoldsTheBatch,
+  FaultWhileStopping,
   OutputRefusals,
   OutputIsKept,
   ResetClearsOutput,
@@ -62,6 +69,11 @@ ghost use Rattle.batch_model.specs.RowsOfActStates.{
   OpenActsShowBatch,
   AskingActIsIdle,
 };
+
+/// The demo's recipe is the tree that its document expands to.
+pub fn demo_is_expanded()
+    ensures { DemoIsExpanded }
+{}
 
 /// One batch of the demo recipe from its creation to its completion.
 pub fn one_batch_to_complete()
@@ -107,7 +119,9 @@ pub fn release_before_begin()
 
 /// A batch is held between two phases.
 pub fn hold_between_phases()
-    ensures { HoldBetweenPhases }
+    ensures next_phase { HoldBetweenPhases }
+    ensures no_ask { NoAskWhileHeld }
+    ensures end_of_batch { HeldBatchEnds }
 {}
 
 /// An ask of a held batch stands, and is granted.
@@ -117,7 +131,9 @@ pub fn held_ask_is_granted()
 
 /// A stop takes the asks of its batch out of their lines.
 pub fn stop_withdraws_asks()
-    ensures { StopWithdrawsAsks }
+    ensures record_lines { StopWithdrawsAsks }
+    ensures others_pass { WithdrawnAskLetsOthersPass }
+    ensures partly_granted { StopGivesBackPartOfNeeds }
 {}
 
 /// A batch that stops is aborted.
@@ -136,6 +152,11 @@ pub fn pause_and_resume()
     ensures batch { ResumedBatchRuns }
     ensures unit_procedure { ResumedUnitProcedureIsPaused }
     ensures below_phase { NoActBelowPhase }
+{}
+
+/// A hold and a restart spread to phases that are paused or about to be.
+pub fn hold_while_pausing()
+    ensures { HoldWhilePausing }
 {}
 
 /// So many batches exist at most, and so many numbers are given.
@@ -160,7 +181,8 @@ pub fn report_twice()
 
 /// A fault takes its batch to Holding.
 pub fn fault_holds_the_batch()
-    ensures { FaultHoldsTheBatch }
+    ensures record_lines { FaultHoldsTheBatch }
+    ensures while_stopping { FaultWhileStopping }
 {}
 
 /// Outputs are set by a report that names declared ones, each once and in range, and are 0 again after a reset.
