@@ -10,6 +10,8 @@ mod reply;
 mod row;
 mod rows;
 mod stage;
+#[cfg(test)]
+mod tests;
 
 ghost use Rattle.std.specs.Prelude.{◌≡◌, ◌++◌, ◌∷◌, [], ◌↔◌, IsTrue, None, IfSome, List, option_map};
 ghost use Rattle.batch_model.specs.Demo.{demo};

@@ -3,7 +3,7 @@ use batch_matrix::State;
 
 /// A move that the engine made by itself, as its record line tells it. Node, resource, unit and
 /// phase go by their numbers.
-#[derive(Clone, Copy)]
+#[derive(Clone, Copy, Debug, PartialEq, Eq)]
 pub enum Line {
     State {
         batch: u64,

@@ -2,7 +2,7 @@
 use batch_matrix::State;
 
 /// Why an event is refused.
-#[derive(Clone, Copy)]
+#[derive(Clone, Copy, Debug, PartialEq, Eq)]
 pub enum Refusal {
     UnknownRecipe,
     UnknownBatch,

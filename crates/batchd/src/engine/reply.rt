@@ -3,7 +3,7 @@ use crate::engine::refusal::Refusal;
 use batch_matrix::State;
 
 /// The answer to an event. Recipe, unit, phase and node go by their numbers.
-#[derive(Clone, Copy)]
+#[derive(Clone, Copy, Debug, PartialEq, Eq)]
 pub enum Reply {
     Created {
         batch: u64,

@@ -40,13 +40,14 @@ impl Row {
     {
         let batch = NUMBER;
         let node = self.node;
+        let resource = UNIT;
         match self.stage {
             Stage::Ready => {
                 if self.held < need_count(node) {
                     Some(Line::Ask {
                         batch,
                         node,
-                        resource: UNIT,
+                        resource,
                     })
                 } else if node == PHASE_STEP {
                     Some(Line::Start {
@@ -62,13 +63,13 @@ impl Row {
             Stage::Asking => Some(Line::Grant {
                 batch,
                 node,
-                resource: UNIT,
+                resource,
             }),
             Stage::Open => Some(Line::End { batch, node }),
             Stage::Freeing => Some(Line::Release {
                 batch,
                 node,
-                resource: UNIT,
+                resource,
             }),
             Stage::Unreached | Stage::Live | Stage::Finished => None,
         }
