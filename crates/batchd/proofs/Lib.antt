@@ -2,3 +2,12 @@ pub mod Situations
 pub mod Reacting
 pub mod Moving
 pub mod Settling
+pub mod SplitLemmas
+pub mod Numbers
+pub mod RecordPlaces
+pub mod WrittenLemmas
+pub mod LineBeginnings
+pub mod Exchanges
+pub mod MovesWritten
+pub mod AnswersWritten
+pub mod ServingLemmas

@@ -1,35 +1,37 @@
 -- Moves end: from each situation the machine comes to rest, and each move lowers the work left.
 use Rattle.std.proofs.Common.{◌≡◌, ◌<◌, refl, sym, subst, ap, ◌∙◌, ℕ, zero, suc, List, [], ◌∷◌, Option, Some, None, option_map, lit<}
 use Rattle.batch_model.specs.Demo.{demo}
-use Rattle.batch_model.specs.Moves.{after, next}
+use Rattle.batch_model.specs.Moves.{Move, after, next}
+use Rattle.batch_model.specs.Plant.{Documents, Plant}
 use Rattle.batch_model.specs.Runs.{work_left}
-use Rattle.batchd.specs.Machine.{Plant, Settles}
 use Rattle.batchd.specs.Rows.{BatchRows, plant_of}
 use Rattle.batchd.specs.RowSteps.{advanced, upcoming_line}
 use Rattle.batchd.specs.Situation.{Situation, created, started, begun, in_line, served, at_operation, at_phase, running, phase_ended, operation_ended, unit_procedure_ended, unit_released, procedure_ended, complete, batch_in, IsReachable, IsReached}
 use Rattle.batchd.specs.Surface.{move_of, plant_after}
+use Rattle.batchd.specs.Transcript.{Settles}
 use Rattle.batchd.specs.declared.engine.line.Line.{Line}
 use Rattle.batchd.proofs.Moving.{moves_next, moves_plant, moves_reached}
 use Rattle.batchd.proofs.Situations.{in_each}
 
 -- moves that can be made until there is none
-pub record CanSettle (old : Plant) : Type 0 where
-  pub lines : List Line
+pub record CanSettle (c : Documents) (old : Plant) : Type 0 where
+  pub moves : List Move
   pub new : Plant
-  pub settles : Settles old lines new
+  pub settles : Settles c old moves new
 
-rests : (old : Plant) → next demo old ≡ None → CanSettle old
-rests old none = record { lines = []; new = old; settles = (none, refl) }
+rests : (old : Plant) → next demo old ≡ None → CanSettle demo old
+rests old none = record { moves = []; new = old; settles = (none, refl) }
 
-goes_on : (old mid : Plant) (line : Line) → next demo old ≡ Some (move_of line) → mid ≡ after old (move_of line) → CanSettle mid → CanSettle old
-goes_on old mid line first is later = record { lines = line ∷ later.lines; new = later.new; settles = (mid, (first, is), later.settles) }
+goes_on : (old mid : Plant) (line : Line) → next demo old ≡ Some (move_of line) → mid ≡ after old (move_of line) → CanSettle demo mid → CanSettle demo old
+goes_on old mid line first is later =
+    record { moves = move_of line ∷ later.moves; new = later.new; settles = (first, subst (λ (p : Plant). Settles demo p later.moves later.new) is later.settles) }
 
 -- where the batch can settle after its next move, it can before
-before : (b : BatchRows) → IsReached b → CanSettle (plant_of (Some (advanced b))) → CanSettle (plant_of (Some b))
+before : (b : BatchRows) → IsReached b → CanSettle demo (plant_of (Some (advanced b))) → CanSettle demo (plant_of (Some b))
 before b h later = with_line (upcoming_line b.state b.rows) (moves_next b h) (moves_plant b h)
   where
     with_line : (line : Option Line) → option_map move_of line ≡ next demo (plant_of (Some b)) → plant_of (Some (advanced b)) ≡ plant_after (plant_of (Some b)) line
-        → CanSettle (plant_of (Some b))
+        → CanSettle demo (plant_of (Some b))
     with_line None first is = rests (plant_of (Some b)) (sym first)
     with_line (Some line) first is = goes_on (plant_of (Some b)) (plant_of (Some (advanced b))) line (sym first) is later
 
@@ -41,7 +43,7 @@ advanced_by (suc n) b = advanced_by n (advanced b)
 abbrev RestsAfter : ℕ → BatchRows → Type 0
 RestsAfter n b = let r = advanced_by n b in upcoming_line r.state r.rows ≡ None
 
-settles_after : (n : ℕ) (b : BatchRows) → IsReached b → RestsAfter n b → CanSettle (plant_of (Some b))
+settles_after : (n : ℕ) (b : BatchRows) → IsReached b → RestsAfter n b → CanSettle demo (plant_of (Some b))
 settles_after zero b h none = rests (plant_of (Some b)) (sym (moves_next b h) ∙ ap (option_map move_of) none)
 settles_after (suc n) b h none = before b h (settles_after n (advanced b) (moves_reached b h) none)
 
@@ -63,7 +65,7 @@ rests-in size procedure_ended = refl
 rests-in size complete = refl
 
 -- the machine comes to rest
-pub settle : (v : Option BatchRows) → IsReachable v → CanSettle (plant_of v)
+pub settle : (v : Option BatchRows) → IsReachable v → CanSettle demo (plant_of v)
 settle None h = rests (plant_of None) refl
 settle (Some b) h = settles_after 6 b h (in_each (RestsAfter 6) rests-in b h)
 

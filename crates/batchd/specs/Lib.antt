@@ -5,4 +5,10 @@ pub mod RowSteps
 pub mod Situation
 pub mod Answering
 pub mod Engine
-pub mod Machine
+pub mod EventLine
+pub mod Reading
+pub mod RecordText
+pub mod Written
+pub mod Transcript
+pub mod WrittenTranscript
+pub mod Serving
