@@ -6,7 +6,7 @@ use Rattle.batch_recipe.specs.Nodes.{Node}
 use Rattle.batch_recipe.specs.Procedure.{procedure_nodes}
 use Rattle.batch_recipe.specs.WellFormed.{are_kinds, has_free_names, is_well_formed}
 use Rattle.batch_recipe.proofs.Diagrams.{diagram_of-label, diagram_of-seq, diagram_of-par, diagram_of-sel, diagram_of-loop}
-use Rattle.batch_recipe.proofs.Examples.{recipe_p, recipe_j, recipe_l}
+use Rattle.batch_recipe.proofs.RowRecipes.{recipe_p, recipe_j, recipe_l}
 
 abbrev places : List Node → List Place
 places = map (λ n. n.place)

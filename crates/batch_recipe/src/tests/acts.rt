@@ -1,7 +1,8 @@
 //! Example acts, and the nodes that they expand to.
+use crate::tests::parts::{above_zero, act, label, labels, step, table};
 use crate::{
-    Act, Acts, Chart, Cond, Level, MAX_NODES, Op, Term, Work, act_named, acts_stand_at_their_nodes,
-    count_nodes, nodes_are_counted, places_rise,
+    Act, Acts, Chart, Level, MAX_NODES, act_named, acts_stand_at_their_nodes, count_nodes,
+    nodes_are_counted, places_rise,
 };
 use batch_text::Name;
 use std::alloc::Global;
@@ -75,19 +76,6 @@ fn count(alloc: Global, procedure: Chart, charge: Chart) -> Result<Option<u16>, 
     Ok(count_nodes(&acts))
 }
 
-fn label(alloc: Global, name: &[u8]) -> Result<Chart, Fail> {
-    Ok(Chart::Label(Name::read(alloc, name)?))
-}
-
-fn labels(alloc: Global, name: &[u8], count: usize) -> Result<Vec<Chart>, Fail> {
-    let mut labels = Vec::new(alloc);
-    for _ in 0..count {
-        let label = label(alloc, name)?;
-        labels.push(label)?;
-    }
-    Ok(labels)
-}
-
 /// ADD, up to 1,000 times.
 fn turns(alloc: Global) -> Result<Chart, Fail> {
     let until = above_zero(alloc)?;
@@ -112,47 +100,10 @@ fn selection(alloc: Global) -> Result<Chart, Fail> {
     Ok(Chart::Sel(choices, Box::new(alloc, last)?))
 }
 
-fn above_zero(alloc: Global) -> Result<Cond, Fail> {
-    Ok(Cond {
-        name: Name::read(alloc, b"X")?,
-        op: Op::Greater,
-        term: Term::Number(0),
-    })
-}
-
-/// An act with a chart and no needs beside its unit.
-fn act(alloc: Global, name: &[u8], unit: Option<Name>, chart: Chart) -> Result<Act, Fail> {
-    Ok(Act {
-        name: Name::read(alloc, name)?,
-        unit,
-        needs: Vec::new(alloc),
-        work: Work::Follows(chart),
-    })
-}
-
-/// A phase step without needs, which runs the phase of its name.
-fn phase(alloc: Global, name: &[u8]) -> Result<Act, Fail> {
-    let work = Work::Runs {
-        phase: Name::read(alloc, name)?,
-        values: Vec::new(alloc),
-    };
-    Ok(Act {
-        name: Name::read(alloc, name)?,
-        unit: None,
-        needs: Vec::new(alloc),
-        work,
-    })
-}
-
 fn phases(alloc: Global) -> Result<Vec<Act>, Fail> {
-    let add = phase(alloc, b"ADD")?;
-    let heat = phase(alloc, b"HEAT")?;
+    let add = step(alloc, b"ADD", b"ADD", Vec::new(alloc))?;
+    let heat = step(alloc, b"HEAT", b"HEAT", Vec::new(alloc))?;
     Ok(vec![in alloc; add, heat]?)
-}
-
-fn table(alloc: Global, name: &[u8], unit: Option<Name>, chart: Chart) -> Result<Vec<Act>, Fail> {
-    let act = act(alloc, name, unit, chart)?;
-    Ok(vec![in alloc; act]?)
 }
 
 /// MAKE on R1, with CHARGE.
