@@ -57,7 +57,7 @@ turned-advanced vs zero c body r h = turning-advanced 0 c body r h
 turned-advanced vs (suc n) c body r h = go (is_done r) refl
   where
     go : (b : Bool) → is_done r ≡ b
-      → IsAdvanced (elim b [ false ↦ in_loop (suc n) c body r | true ↦ elim (holds vs c) [ true ↦ done | false ↦ turning n c body (reach vs body) ] ])
+        → IsAdvanced (elim b [ false ↦ in_loop (suc n) c body r | true ↦ elim (holds vs c) [ true ↦ done | false ↦ turning n c body (reach vs body) ] ])
     go false e = (e, h)
     go true e = either-advanced (holds vs c) done (turning n c body (reach vs body)) tt (turning-advanced n c body (reach vs body) (reach-advanced vs body))
 

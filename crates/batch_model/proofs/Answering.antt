@@ -58,7 +58,7 @@ commanded-number Abort b = refl
 commanded-number Reset b = refl
 
 reported-stands : (c : Documents) (word : Report) (outputs : ValueList) (p : Place) (e : PhaseEnd) (b : Batch) → IsStandingBatch c b
-  → IsStandingBatch c (batch_reported word outputs p e b)
+    → IsStandingBatch c (batch_reported word outputs p e b)
 reported-stands c word outputs p e b k =
     in_act-stands c (record b { values = with_values outputs b.values; state = batch_state_after word b.state }) p (phase_after e)
     (record { known = k.known; stands = k.stands; advanced = k.advanced })
@@ -72,20 +72,20 @@ module _ (c : Documents) (s : Plant) (k : IsStanding c s) where
   Stands a = IsStanding c a.1
 
   in_batch-stands : (n : ℕ) (f : Batch → Batch) (line : Name → List BatchAct) → ((b : Batch) → IsStandingBatch c b → IsStandingBatch c (f b))
-    → ((b : Batch) → (f b).number ≡ b.number) → IsStanding c (record (in_batch n f s) { line = line })
+      → ((b : Batch) → (f b).number ≡ b.number) → IsStanding c (record (in_batch n f s) { line = line })
   in_batch-stands n f line keep same =
-      record
-      { batches = Each-only (IsStandingBatch c) n f s.batches (λ b i e h. keep b h) k.batches
-      ; numbers = AreNumbered-only s.next_number n f s.batches same k.numbers
+      record {
+        batches = Each-only (IsStandingBatch c) n f s.batches (λ b i e h. keep b h) k.batches;
+        numbers = AreNumbered-only s.next_number n f s.batches same k.numbers;
       }
 
   with_batch-stands : (r : Recipe) (size : ℕ) (vs : ValueList) → Has c.recipes r → IsStanding c (with_batch s r size vs)
   with_batch-stands r size vs known =
-      record
-      { batches =
-          Each-append (IsStandingBatch c) s.batches (new_batch s.next_number r size vs ∷ []) k.batches
-          (record { known = known; stands = reach-IsRestOf vs r.procedure; advanced = reach-advanced vs r.procedure }, tt)
-      ; numbers = AreNumbered-new s.next_number s.batches (new_batch s.next_number r size vs) refl k.numbers
+      record {
+        batches =
+            Each-append (IsStandingBatch c) s.batches (new_batch s.next_number r size vs ∷ []) k.batches
+            (record { known = known; stands = reach-IsRestOf vs r.procedure; advanced = reach-advanced vs r.procedure }, tt);
+        numbers = AreNumbered-new s.next_number s.batches (new_batch s.next_number r size vs) refl k.numbers;
       }
 
   creating-stands : (r : Recipe) (size : ℕ) (f : Formula) → Has c.recipes r → Stands (creating s r size f)
@@ -97,10 +97,10 @@ module _ (c : Documents) (s : Plant) (k : IsStanding c s) where
   ordering-stands command b = go (accepts b.state command)
     where
       go : (t : Bool) → Stands
-        (elim t
-        [ false ↦ (refused (command_not_accepted b.state), s)
-        | true ↦ (ordered command b.number (target command), record (in_batch b.number (commanded command) s) { line = lines_under command b.number s.line })
-        ])
+          (elim t [
+            | false ↦ (refused (command_not_accepted b.state), s)
+            | true ↦ (ordered command b.number (target command), record (in_batch b.number (commanded command) s) { line = lines_under command b.number s.line })
+          ])
       go false = k
       go true = in_batch-stands b.number (commanded command) (lines_under command b.number s.line) (commanded-stands c command) (commanded-number command)
 
@@ -109,10 +109,11 @@ module _ (c : Documents) (s : Plant) (k : IsStanding c s) where
     where
       gone : IsStanding c (without_batch b.number s)
       gone =
-          record
-          { batches = Each-filter (IsStandingBatch c) (λ d. not (nat_eq d.number b.number)) s.batches k.batches
-          ; numbers = AreNumbered-filter s.next_number (λ d. not (nat_eq d.number b.number)) s.batches k.numbers
+          record {
+            batches = Each-filter (IsStandingBatch c) (λ d. not (nat_eq d.number b.number)) s.batches k.batches;
+            numbers = AreNumbered-filter s.next_number (λ d. not (nat_eq d.number b.number)) s.batches k.numbers;
           }
+
       go : (x : State) → Stands (elim x [ Idle ↦ (removed b.number, without_batch b.number s) | y ↦ (refused (not_idle y), s) ])
       go Idle = gone
       go Running = k
@@ -131,27 +132,28 @@ module _ (c : Documents) (s : Plant) (k : IsStanding c s) where
   reporting-stands unit name word outputs l = go (after_report l.state word)
     where
       taken : (e : PhaseEnd) (t : Bool) → Stands
-        (elim t
-        [ false ↦ (refused bad_output, s)
-        | true ↦
-            ( reported unit name word l.batch.number l.place (batch_state_after word l.batch.state)
-            , in_batch l.batch.number (batch_reported word outputs l.place e) s
+          (elim t [
+            | false ↦ (refused bad_output, s)
+            | true ↦ (
+              reported unit name word l.batch.number l.place (batch_state_after word l.batch.state),
+              in_batch l.batch.number (batch_reported word outputs l.place e) s,
             )
-        ])
+          ])
       taken e false = k
       taken e true = in_batch-stands l.batch.number (batch_reported word outputs l.place e) s.line (reported-stands c word outputs l.place e) (λ b. refl)
+
       go : (o : Option PhaseEnd) → Stands
-        (elim o
-        [ None ↦ (refused (report_not_expected l.state), s)
-        | Some e ↦
-            elim (are_outputs l.batch.recipe.outputs outputs)
-            [ false ↦ (refused bad_output, s)
-            | true ↦
-                ( reported unit name word l.batch.number l.place (batch_state_after word l.batch.state)
-                , in_batch l.batch.number (batch_reported word outputs l.place e) s
-                )
-            ]
-        ])
+          (elim o [
+            | None ↦ (refused (report_not_expected l.state), s)
+            | Some e ↦
+                elim (are_outputs l.batch.recipe.outputs outputs) [
+                  | false ↦ (refused bad_output, s)
+                  | true ↦ (
+                    reported unit name word l.batch.number l.place (batch_state_after word l.batch.state),
+                    in_batch l.batch.number (batch_reported word outputs l.place e) s,
+                  )
+                ]
+          ])
       go None = k
       go (Some e) = taken e (are_outputs l.batch.recipe.outputs outputs)
 
@@ -161,8 +163,9 @@ module _ (c : Documents) (s : Plant) (k : IsStanding c s) where
       room : (r : Recipe) → Has c.recipes r → (t : Bool) → Stands (elim t [ true ↦ (refused full, s) | false ↦ creating s r size (r.formula size) ])
       room r h true = k
       room r h false = creating-stands r size (r.formula size) h
+
       go : (o : Option Recipe) → find (λ r. same_name r.name name) c.recipes ≡ o
-        → Stands (elim o [ None ↦ (refused unknown_recipe, s) | Some r ↦ elim (is_full c s) [ true ↦ (refused full, s) | false ↦ creating s r size (r.formula size) ] ])
+          → Stands (elim o [ None ↦ (refused unknown_recipe, s) | Some r ↦ elim (is_full c s) [ true ↦ (refused full, s) | false ↦ creating s r size (r.formula size) ] ])
       go None e = k
       go (Some r) e = room r (find-Has (λ d. same_name d.name name) c.recipes r e) (is_full c s)
   judged-stands (order command n) = go (batch_at s n)

@@ -19,6 +19,7 @@ only-this n f b e = go (nat_eq b.number n) (test b.number n e)
   where
     test : (i j : ℕ) → i ≡ j → nat_eq i j ≡ true
     test i j h = grind arith
+
     go : (t : Bool) → t ≡ true → elim t [ true ↦ f b | false ↦ b ] ≡ f b
     go true h = refl
     go false h = absurd cc
@@ -39,7 +40,7 @@ only-number n f b h = go (nat_eq b.number n)
 
 -- what the change keeps holds of all batches after it
 pub Each-only : (P : Batch → Type 0) (n : ℕ) (f : Batch → Batch) (bs : List Batch) → ((b : Batch) → Has bs b → b.number ≡ n → P b → P (f b)) → Each P bs
-  → Each P (map (only n f) bs)
+    → Each P (map (only n f) bs)
 Each-only P n f [] h k = tt
 Each-only P n f (b ∷ bs) h k = (go (nat_eq b.number n) refl, Each-only P n f bs (λ d i. h d (inr i)) k.1)
   where
@@ -48,17 +49,17 @@ Each-only P n f (b ∷ bs) h k = (go (nat_eq b.number n) refl, Each-only P n f b
     go false e = k.0
 
 later-only : (m n : ℕ) (f : Batch → Batch) (bs : List Batch) → ((d : Batch) → (f d).number ≡ d.number) → Each (λ d. m < d.number) bs
-  → Each (λ d. m < d.number) (map (only n f) bs)
+    → Each (λ d. m < d.number) (map (only n f) bs)
 later-only m n f bs h k = Each-only (λ d. m < d.number) n f bs (λ b i e l. subst (λ z. m < z) (sym (h b)) l) k
 
 pub AreNumbered-only : (next n : ℕ) (f : Batch → Batch) (bs : List Batch) → ((d : Batch) → (f d).number ≡ d.number) → AreNumbered next bs
-  → AreNumbered next (map (only n f) bs)
+    → AreNumbered next (map (only n f) bs)
 AreNumbered-only next n f [] h k = tt
-AreNumbered-only next n f (b ∷ bs) h k =
-    ( subst (λ z. z < next) (sym (only-number n f b h)) k.0
-    , subst (λ z. Each (λ d. z < d.number) (map (only n f) bs)) (sym (only-number n f b h)) (later-only b.number n f bs h k.1)
-    , AreNumbered-only next n f bs h k.2
-    )
+AreNumbered-only next n f (b ∷ bs) h k = (
+  subst (λ z. z < next) (sym (only-number n f b h)) k.0,
+  subst (λ z. Each (λ d. z < d.number) (map (only n f) bs)) (sym (only-number n f b h)) (later-only b.number n f bs h k.1),
+  AreNumbered-only next n f bs h k.2,
+)
 
 pub AreNumbered-more : (next : ℕ) (bs : List Batch) → AreNumbered next bs → AreNumbered (suc next) bs
 AreNumbered-more next [] k = tt
@@ -67,11 +68,11 @@ AreNumbered-more next (b ∷ bs) k = (omega (arith, k.0), k.1, AreNumbered-more 
 -- a new batch gets the next number
 pub AreNumbered-new : (next : ℕ) (bs : List Batch) (b : Batch) → b.number ≡ next → AreNumbered next bs → AreNumbered (suc next) (bs ++ b ∷ [])
 AreNumbered-new next [] b e k = (omega (arith, e), tt, tt)
-AreNumbered-new next (d ∷ bs) b e k =
-    ( omega (arith, k.0)
-    , Each-append (λ z. d.number < z.number) bs (b ∷ []) k.1 (omega (arith, k.0, e), tt)
-    , AreNumbered-new next bs b e k.2
-    )
+AreNumbered-new next (d ∷ bs) b e k = (
+  omega (arith, k.0),
+  Each-append (λ z. d.number < z.number) bs (b ∷ []) k.1 (omega (arith, k.0, e), tt),
+  AreNumbered-new next bs b e k.2,
+)
 
 pub AreNumbered-filter : (next : ℕ) (p : Batch → Bool) (bs : List Batch) → AreNumbered next bs → AreNumbered next (filter p bs)
 AreNumbered-filter next p [] k = tt
@@ -97,24 +98,24 @@ others-same n f (b ∷ bs) k = ap₂ (λ x xs. x ∷ xs) (only-other n f b (λ e
 
 -- a change that lowers one batch's share of a sum lowers the sum
 pub sum-falls : (w : Batch → ℕ) (f : Batch → Batch) (next : ℕ) (bs : List Batch) (b : Batch) → AreNumbered next bs → Has bs b → w (f b) < w b
-  → sum_by w (map (only b.number f) bs) < sum_by w bs
+    → sum_by w (map (only b.number f) bs) < sum_by w bs
 sum-falls w f next [] b k i l = absurd i
 sum-falls w f next (d ∷ bs) b k (inl e) l =
     let n = ap (λ z. z.number) e in
-    omega
-    ( arith
-    , sum_by-cons w (only b.number f d) (map (only b.number f) bs)
-    , sum_by-cons w d bs
-    , ap w (only-this b.number f d n ∙ ap f e)
-    , ap (sum_by w) (others-same b.number f bs (subst (λ z. Each (λ x. z < x.number) bs) n k.1))
-    , ap w e
-    , l
+    omega (
+      arith,
+      sum_by-cons w (only b.number f d) (map (only b.number f) bs),
+      sum_by-cons w d bs,
+      ap w (only-this b.number f d n ∙ ap f e),
+      ap (sum_by w) (others-same b.number f bs (subst (λ z. Each (λ x. z < x.number) bs) n k.1)),
+      ap w e,
+      l,
     )
 sum-falls w f next (d ∷ bs) b k (inr i) l =
-    omega
-    ( arith
-    , sum_by-cons w (only b.number f d) (map (only b.number f) bs)
-    , sum_by-cons w d bs
-    , ap w (only-other b.number f d (λ e. omega (arith, e, Each-Has (λ z. d.number < z.number) bs b k.1 i)))
-    , sum-falls w f next bs b k.2 i l
+    omega (
+      arith,
+      sum_by-cons w (only b.number f d) (map (only b.number f) bs),
+      sum_by-cons w d bs,
+      ap w (only-other b.number f d (λ e. omega (arith, e, Each-Has (λ z. d.number < z.number) bs b k.1 i))),
+      sum-falls w f next bs b k.2 i l,
     )

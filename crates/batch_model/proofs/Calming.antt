@@ -33,10 +33,10 @@ module _ (x y : State) (no_more : (n : ℕ) → ahead y n ≤ ahead x n) where
     calmer_each : (rs : Rests) → SendsNoMore (acts_of_each rs) → toil_left_in_each y rs ≤ toil_left_in_each x rs
     calmer_each no_rests h = omega arith
     calmer_each (rest r rs) h =
-        omega
-        ( arith
-        , calmer r (λ s p t i. h s p t (Has-left (acts r) (acts_of_each rs) (live s p t) i))
-        , calmer_each rs (λ s p t i. h s p t (Has-right (acts r) (acts_of_each rs) (live s p t) i))
+        omega (
+          arith,
+          calmer r (λ s p t i. h s p t (Has-left (acts r) (acts_of_each rs) (live s p t) i)),
+          calmer_each rs (λ s p t i. h s p t (Has-right (acts r) (acts_of_each rs) (live s p t) i)),
         )
 
 both-first : (a b : Bool) → (a && b) ≡ true → a ≡ true
@@ -86,38 +86,38 @@ taken true l m e = (refl, cc)
 taken false l m e = absurd cc
 
 state_move-lowers : (n : ℕ) (x : State) (r : Rest) (m : Move)
-  → elim (is_reached x r) [ false ↦ None | true ↦ elim (ends_as x) [ None ↦ None | Some y ↦ Some (state n y) ] ] ≡ Some m → IsStateMove n x r m
+    → elim (is_reached x r) [ false ↦ None | true ↦ elim (ends_as x) [ None ↦ None | Some y ↦ Some (state n y) ] ] ≡ Some m → IsStateMove n x r m
 state_move-lowers n Running r m e =
     (Complete, (taken (is_done r) (state n Complete) m e).1, omega (arith, calmer Running Complete (λ k. omega arith) r (λ s p t h. omega arith)))
-state_move-lowers n Pausing r m e =
-    ( Paused
-    , (taken (is_reached Pausing r) (state n Paused) m e).1
-    , omega (arith, calmer Pausing Paused (λ k. omega arith) r (λ s p t h. omega arith))
-    )
-state_move-lowers n Holding r m e =
-    ( Held
-    , (taken (is_reached Holding r) (state n Held) m e).1
-    , omega (arith, calmer Holding Held (λ k. omega arith) r (λ s p t h. omega arith))
-    )
+state_move-lowers n Pausing r m e = (
+  Paused,
+  (taken (is_reached Pausing r) (state n Paused) m e).1,
+  omega (arith, calmer Pausing Paused (λ k. omega arith) r (λ s p t h. omega arith)),
+)
+state_move-lowers n Holding r m e = (
+  Held,
+  (taken (is_reached Holding r) (state n Held) m e).1,
+  omega (arith, calmer Holding Held (λ k. omega arith) r (λ s p t h. omega arith)),
+)
 state_move-lowers n Restarting r m e =
-    let all = taken (is_reached Restarting r) (state n Running) m e in
-    ( Running
-    , all.1
-    , omega
-      ( arith
-      , calmer Restarting Running (λ k. omega arith) r (λ s p t h. omega (arith, sends-running t (live-all is_running (acts r) all.0 s p t h)))
-      )
+    let all = taken (is_reached Restarting r) (state n Running) m e in (
+      Running,
+      all.1,
+      omega (
+        arith,
+        calmer Restarting Running (λ k. omega arith) r (λ s p t h. omega (arith, sends-running t (live-all is_running (acts r) all.0 s p t h))),
+      ),
     )
-state_move-lowers n Stopping r m e =
-    ( Stopped
-    , (taken (is_reached Stopping r) (state n Stopped) m e).1
-    , omega (arith, calmer Stopping Stopped (λ k. omega arith) r (λ s p t h. omega arith))
-    )
-state_move-lowers n Aborting r m e =
-    ( Aborted
-    , (taken (is_reached Aborting r) (state n Aborted) m e).1
-    , omega (arith, calmer Aborting Aborted (λ k. omega arith) r (λ s p t h. omega arith))
-    )
+state_move-lowers n Stopping r m e = (
+  Stopped,
+  (taken (is_reached Stopping r) (state n Stopped) m e).1,
+  omega (arith, calmer Stopping Stopped (λ k. omega arith) r (λ s p t h. omega arith)),
+)
+state_move-lowers n Aborting r m e = (
+  Aborted,
+  (taken (is_reached Aborting r) (state n Aborted) m e).1,
+  omega (arith, calmer Aborting Aborted (λ k. omega arith) r (λ s p t h. omega arith)),
+)
 state_move-lowers n Idle r m e = absurd cc
 state_move-lowers n Paused r m e = absurd cc
 state_move-lowers n Held r m e = absurd cc

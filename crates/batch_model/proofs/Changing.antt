@@ -23,7 +23,7 @@ module _ (x : State) (p : Place) (f : Rest → Rest) where
   Eases a = place_of a ≡ p → toil_left x (f a) ≤ toil_left x a
 
   eased : (a b : Rest) (t : Bool) → (t ≡ true → toil_left x (f a) ≤ toil_left x a) → toil_left x b ≤ toil_left x a
-    → toil_left x (elim t [ true ↦ f a | false ↦ b ]) ≤ toil_left x a
+      → toil_left x (elim t [ true ↦ f a | false ↦ b ]) ≤ toil_left x a
   eased a b true h k = h refl
   eased a b false h k = k
 
@@ -45,10 +45,10 @@ module _ (x : State) (p : Place) (f : Rest → Rest) where
     pub changed_in_each-toil : (rs : Rests) → ((a : Rest) → Has (acts_of_each rs) a → Eases a) → toil_left_in_each x (changed_in_each p f rs) ≤ toil_left_in_each x rs
     changed_in_each-toil no_rests h = omega arith
     changed_in_each-toil (rest r rs) h =
-        omega
-        ( arith
-        , changed_at-toil r (λ a m. h a (Has-left (acts r) (acts_of_each rs) a m))
-        , changed_in_each-toil rs (λ a m. h a (Has-right (acts r) (acts_of_each rs) a m))
+        omega (
+          arith,
+          changed_at-toil r (λ a m. h a (Has-left (acts r) (acts_of_each rs) a m)),
+          changed_in_each-toil rs (λ a m. h a (Has-right (acts r) (acts_of_each rs) a m)),
         )
 
   -- f takes work from the act a, where a stands at the place
@@ -64,7 +64,7 @@ module _ (x : State) (p : Place) (f : Rest → Rest) where
 
   -- an act above the place, or the act at it
   lowered_below : (a b : Rest) (t : Bool) → (t ≡ true → toil_left x (f a) < toil_left x a) → toil_left x b < toil_left x a
-    → toil_left x (elim t [ true ↦ f a | false ↦ b ]) < toil_left x a
+      → toil_left x (elim t [ true ↦ f a | false ↦ b ]) < toil_left x a
   lowered_below a b true h k = h refl
   lowered_below a b false h k = k
 
@@ -89,18 +89,18 @@ module _ (x : State) (p : Place) (f : Rest → Rest) where
   HasAt-cons z ys (a, inr m, q) = inr (a, m, q)
 
   open_lower : (s : Step) (r : Rest) → ((a : Rest) → Has (acts (open_act s r)) a → Lowers a)
-    → (HasAt (acts r) → toil_left x (changed_at p f r) < toil_left x r) → (s.place ≡ p) ⊎ HasAt (acts r)
-    → toil_left x (changed_at p f (open_act s r)) < toil_left x (open_act s r)
+      → (HasAt (acts r) → toil_left x (changed_at p f r) < toil_left x r) → (s.place ≡ p) ⊎ HasAt (acts r)
+      → toil_left x (changed_at p f (open_act s r)) < toil_left x (open_act s r)
   open_lower s r h below (inl e) = lowered (open_act s r) (open_act s (changed_at p f r)) s.place e (h (open_act s r) (inl refl) e)
   open_lower s r h below (inr m) =
       lowered_below (open_act s r) (open_act s (changed_at p f r)) (bytes_eq s.place p) (λ e. h (open_act s r) (inl refl) (to_same_place s.place p e))
       (omega (arith, below m))
 
   either_lower : (r : Rest) (rs : Rests) → ((a : Rest) → Has (acts r ++ acts_of_each rs) a → Lowers a)
-    → (HasAt (acts r) → toil_left x (changed_at p f r) < toil_left x r)
-    → (HasAt (acts_of_each rs) → toil_left_in_each x (changed_in_each p f rs) < toil_left_in_each x rs)
-    → HasAt (acts r) ⊎ HasAt (acts_of_each rs)
-    → toil_left x (changed_at p f r) + toil_left_in_each x (changed_in_each p f rs) < toil_left x r + toil_left_in_each x rs
+      → (HasAt (acts r) → toil_left x (changed_at p f r) < toil_left x r)
+      → (HasAt (acts_of_each rs) → toil_left_in_each x (changed_in_each p f rs) < toil_left_in_each x rs)
+      → HasAt (acts r) ⊎ HasAt (acts_of_each rs)
+      → toil_left x (changed_at p f r) + toil_left_in_each x (changed_in_each p f rs) < toil_left x r + toil_left_in_each x rs
   either_lower r rs h first others (inl m) =
       omega (arith, first m, changed_in_each-toil rs (λ a q. to-Eases a (h a (Has-right (acts r) (acts_of_each rs) a q))))
   either_lower r rs h first others (inr m) =

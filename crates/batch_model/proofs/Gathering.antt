@@ -94,7 +94,7 @@ module _ {X : Type 0} (g : Rest → List X) (new : (s : Step) (w : Task) → g (
   turned-gathered vs (suc n) c body r = go (is_done r) refl
     where
       go : (b : Bool) → is_done r ≡ b
-        → gathered (elim b [ false ↦ in_loop (suc n) c body r | true ↦ elim (holds vs c) [ true ↦ done | false ↦ turning n c body (reach vs body) ] ]) ≡ gathered r
+          → gathered (elim b [ false ↦ in_loop (suc n) c body r | true ↦ elim (holds vs c) [ true ↦ done | false ↦ turning n c body (reach vs body) ] ]) ≡ gathered r
       go false e = refl
       go true e =
           either-gathered (holds vs c) done (turning n c body (reach vs body)) refl (turning-gathered n c body (reach vs body) ∙ reach-gathered vs body)

@@ -87,7 +87,7 @@ module _ (p : Place) (f : Rest → Rest) where
   KeepsActs as' = (a : Rest) → Has as' a → place_of a ≡ p → RemainsAs a (f a)
 
   here : (q : Place) (s : Step) (w : Task) (a b : Rest) → (q ≡ p → RemainsAs a (f a)) → IsRestOf (act s w) a → IsRestOf (act s w) b
-    → IsRestOf (act s w) (elim (same_place q p) [ true ↦ f a | false ↦ b ])
+      → IsRestOf (act s w) (elim (same_place q p) [ true ↦ f a | false ↦ b ])
   here q s w a b k h g = go (same_place q p) refl
     where
       go : (t : Bool) → same_place q p ≡ t → IsRestOf (act s w) (elim t [ true ↦ f a | false ↦ b ])
@@ -121,10 +121,10 @@ module _ (p : Place) (f : Rest → Rest) where
 
     pub changed_in_each-AreBranches : (cs : Trees) (rs : Rests) → KeepsActs (acts_of_each rs) → AreBranches cs rs → AreBranches cs (changed_in_each p f rs)
     changed_in_each-AreBranches no_trees no_rests keep h = tt
-    changed_in_each-AreBranches (tree c cs) (rest r rs) keep h =
-        ( changed_at-IsRestOf c r (λ a i. keep a (Has-left (acts r) (acts_of_each rs) a i)) h.0
-        , changed_in_each-AreBranches cs rs (λ a i. keep a (Has-right (acts r) (acts_of_each rs) a i)) h.1
-        )
+    changed_in_each-AreBranches (tree c cs) (rest r rs) keep h = (
+      changed_at-IsRestOf c r (λ a i. keep a (Has-left (acts r) (acts_of_each rs) a i)) h.0,
+      changed_in_each-AreBranches cs rs (λ a i. keep a (Has-right (acts r) (acts_of_each rs) a i)) h.1,
+    )
     changed_in_each-AreBranches no_trees (rest r rs) keep h = absurd h
     changed_in_each-AreBranches (tree c cs) no_rests keep h = absurd h
 

@@ -23,3 +23,6 @@ leads-stands c placed s t es (move m ∷ outs) k h =
     leads-stands c placed (after s m) t es outs (possible-stands c s m placed k (next-possible c s m h.0)) h.1
 leads-stands c placed s t [] (reply r ∷ outs) k h = absurd h
 leads-stands c placed s t (e ∷ es) (reply r ∷ outs) k h = leads-stands c placed h.0 t es outs (reacts-stands c s h.0 e r k h.1) h.2
+
+pub led-stands : (c : Documents) → HasPlacedTrees c → (es : List Event) (outs : List Out) (s : Plant) → Leads c opening es outs s → IsStanding c s
+led-stands c placed es outs s h = leads-stands c placed opening s es outs (opening-stands c) h

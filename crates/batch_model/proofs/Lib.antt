@@ -14,6 +14,8 @@ pub mod Calming
 pub mod Batches
 pub mod Falling
 pub mod Moving
+pub mod Deciding
+pub mod Refusing
 pub mod Answering
 pub mod Led
 pub mod Settling

@@ -28,7 +28,7 @@ Has-filter_map f [] y h = absurd h
 Has-filter_map {X = X} {Y = Y} f (z ∷ xs) y h = go (f z) refl h (λ k. Has-filter_map f xs y k)
   where
     go : (o : Option Y) → f z ≡ o → Has (cons_option o (filter_map f xs)) y → (Has (filter_map f xs) y → (x : X) × Has xs x × (f x ≡ Some y))
-      → (x : X) × Has (z ∷ xs) x × (f x ≡ Some y)
+        → (x : X) × Has (z ∷ xs) x × (f x ≡ Some y)
     go None e k more = let m = more k in (m.0, inr m.1, m.2)
     go (Some w) e (inl q) more = (z, inl refl, subst (λ v. f z ≡ Some v) q e)
     go (Some w) e (inr k) more = let m = more k in (m.0, inr m.1, m.2)

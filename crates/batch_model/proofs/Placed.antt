@@ -42,7 +42,7 @@ module _ (acts : Name → Place → Tree) (placed : ArePlacedActs acts) where
   task_of-IsPlacedBelow unit name p (Runs phase values) = tt
 
 pub act_tree-IsPlaced : (acts : Name → Name → Place → Tree) → ((unit : Name) → ArePlacedActs (acts unit)) → (unit : Name) (a : Act) (p : Place)
-  → IsPlaced p (act_tree acts unit a p)
+    → IsPlaced p (act_tree acts unit a p)
 act_tree-IsPlaced acts placed unit a p =
     (refl, task_of-IsPlacedBelow (acts (unit_below unit a.unit)) (placed (unit_below unit a.unit)) (unit_below unit a.unit) a.name p a.work)
 

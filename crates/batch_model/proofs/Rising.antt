@@ -115,10 +115,10 @@ mutual
   pub acts-rise : (p : Place) (c : Tree) (r : Rest) → IsPlaced p c → IsRestOf c r → Rises (acts r)
   acts-rise p (act s w) (ready t v k) l h = (tt, tt)
   acts-rise p (act s w) (asking t v k) l h = (tt, tt)
-  acts-rise p (act s (follows name c)) (open_act t r) l h =
-      ( Each-map (IsUnder (child p 0)) (Before (open_act t r)) (λ b k. before-under s t p b h.0 l.0 k) (acts r) (acts-under (child p 0) c r l.1 h.1)
-      , acts-rise (child p 0) c r l.1 h.1
-      )
+  acts-rise p (act s (follows name c)) (open_act t r) l h = (
+    Each-map (IsUnder (child p 0)) (Before (open_act t r)) (λ b k. before-under s t p b h.0 l.0 k) (acts r) (acts-under (child p 0) c r l.1 h.1),
+    acts-rise (child p 0) c r l.1 h.1,
+  )
   acts-rise p (act s (runs x)) (open_act t r) l h = absurd h.1
   acts-rise p (act s w) (live t x y) l h = (tt, tt)
   acts-rise p (act s w) (freeing t k) l h = (tt, tt)
@@ -139,8 +139,8 @@ mutual
   each-rises p i (tree c cs) (rest r rs) l h =
       Rises-append (acts r) (acts_of_each rs) (acts-rise (child p i) c r l.0 h.0) (each-rises p (i + 1) cs rs l.1 h.1)
       (Each-map (IsUnder (child p i)) (λ a. Each (Before a) (acts_of_each rs))
-        (λ a k. Each-map (IsUnderFrom p (i + 1)) (Before a) (λ b m. before-later p i a b k m) (acts_of_each rs) (acts-from_each p (i + 1) cs rs l.1 h.1))
-        (acts r) (acts-under (child p i) c r l.0 h.0))
+      (λ a k. Each-map (IsUnderFrom p (i + 1)) (Before a) (λ b m. before-later p i a b k m) (acts_of_each rs) (acts-from_each p (i + 1) cs rs l.1 h.1))
+      (acts r) (acts-under (child p i) c r l.0 h.0))
   each-rises p i no_trees (rest r rs) l h = absurd h
   each-rises p i (tree c cs) no_rests l h = absurd h
 

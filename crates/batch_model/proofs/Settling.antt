@@ -6,6 +6,7 @@ use Rattle.batch_model.specs.Moves.{Move, next, after}
 use Rattle.batch_model.specs.Events.{Event, react}
 use Rattle.batch_model.specs.Runs.{Out, move, Leads, work_left, settling, run_from, run}
 use Rattle.batch_model.specs.Standing.{HasPlacedTrees, IsStanding}
+use Rattle.batch_model.specs.Laws.{LeadsToRest}
 use Rattle.batch_model.proofs.Falling.{possible-falls, next-possible}
 use Rattle.batch_model.proofs.Moving.{possible-stands}
 use Rattle.batch_model.proofs.Answering.{react-stands}
@@ -21,7 +22,7 @@ settling-ends c placed zero s k l = go (next c s) refl
 settling-ends c placed (suc n) s k l = go (next c s) refl (λ t h i. settling-ends c placed n t h i)
   where
     go : (o : Option Move) → next c s ≡ o → ((t : Plant) → IsStanding c t → work_left t ≤ n → next c (settling n c t).1 ≡ None)
-      → next c (let r : List Move × Plant = elim o [ None ↦ ([], s) | Some m ↦ (m ∷ (settling n c (after s m)).0, (settling n c (after s m)).1) ] in r.1) ≡ None
+        → next c (let r : List Move × Plant = elim o [ None ↦ ([], s) | Some m ↦ (m ∷ (settling n c (after s m)).0, (settling n c (after s m)).1) ] in r.1) ≡ None
     go None e more = e
     go (Some m) e more =
         let h = next-possible c s m e in
@@ -33,19 +34,21 @@ settling-leads c zero s = refl
 settling-leads c (suc n) s = go (next c s) refl (λ t. settling-leads c n t)
   where
     go : (o : Option Move) → next c s ≡ o → ((t : Plant) → Leads c t [] (map move (settling n c t).0) (settling n c t).1)
-      → (let r : List Move × Plant = elim o [ None ↦ ([], s) | Some m ↦ (m ∷ (settling n c (after s m)).0, (settling n c (after s m)).1) ] in
+        → (let r : List Move × Plant = elim o [ None ↦ ([], s) | Some m ↦ (m ∷ (settling n c (after s m)).0, (settling n c (after s m)).1) ] in
         Leads c s [] (map move r.0) r.1)
     go None e more = refl
     go (Some m) e more = (e, more (after s m))
 
+-- a plant that stands comes to rest
+pub settling-rests : (c : Documents) → HasPlacedTrees c → (s : Plant) → IsStanding c s → (ms : List Move) × LeadsToRest c s [] (map move ms)
+settling-rests c placed s k =
+    let n : ℕ = work_left s in
+    ((settling n c s).0, ((settling n c s).1, settling-leads c n s, settling-ends c placed n s k (omega arith)))
+
 pub leads-along : (c : Documents) (s t u : Plant) (ms : List Move) (es : List Event) (outs : List Out)
-  → Leads c s [] (map move ms) t → Leads c t es outs u → Leads c s es (map move ms ++ outs) u
+    → Leads c s [] (map move ms) t → Leads c t es outs u → Leads c s es (map move ms ++ outs) u
 leads-along c s t u [] es outs h k = subst (λ z. Leads c z es outs u) (sym h) k
 leads-along c s t u (m ∷ ms) es outs h k = (h.0, leads-along c (after s m) t u ms es outs h.1 k)
-
--- a record leads from s to a plant with no next move
-abbrev pub LeadsToRest : Documents → Plant → List Event → List Out → Type 0
-LeadsToRest c s es outs = (t : Plant) × Leads c s es outs t × (next c t ≡ None)
 
 pub run_from-leads : (c : Documents) → HasPlacedTrees c → (s : Plant) (es : List Event) → IsStanding c s → next c s ≡ None → LeadsToRest c s es (run_from c s es)
 run_from-leads c placed s [] k e = (s, refl, e)
@@ -55,10 +58,10 @@ run_from-leads c placed s (d ∷ es) k e =
     let n : ℕ = work_left a.1 in
     let moves = settling-leads c n a.1 in
     let there : IsStanding c (settling n c a.1).1 = leads-stands c placed a.1 (settling n c a.1).1 [] (map move (settling n c a.1).0) stands moves in
-    let more = run_from-leads c placed (settling n c a.1).1 es there (settling-ends c placed n a.1 stands (omega arith)) in
-    ( more.0
-    , (a.1, inl refl, leads-along c a.1 (settling n c a.1).1 more.0 (settling n c a.1).0 es (run_from c (settling n c a.1).1 es) moves more.1)
-    , more.2
+    let more = run_from-leads c placed (settling n c a.1).1 es there (settling-ends c placed n a.1 stands (omega arith)) in (
+      more.0,
+      (a.1, inl refl, leads-along c a.1 (settling n c a.1).1 more.0 (settling n c a.1).0 es (run_from c (settling n c a.1).1 es) moves more.1),
+      more.2,
     )
 
 pub run-leads : (c : Documents) → HasPlacedTrees c → (es : List Event) → LeadsToRest c opening es (run c es)

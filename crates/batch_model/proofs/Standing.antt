@@ -50,7 +50,7 @@ later c cs (in_par rs) h = absurd h
 later c cs (in_loop n d b r) h = absurd h
 
 first-IsRestOf : (c : Tree) (cs : Trees) (r after : Rest) → IsRestOf c r → IsRestOf (seq cs) after
-  → IsRestOf (seq (tree c cs)) (elim (is_done r) [ true ↦ after | false ↦ in_seq r cs ])
+    → IsRestOf (seq (tree c cs)) (elim (is_done r) [ true ↦ after | false ↦ in_seq r cs ])
 first-IsRestOf c cs r after h k = go (is_done r)
   where
     go : (b : Bool) → IsRestOf (seq (tree c cs)) (elim b [ true ↦ after | false ↦ in_seq r cs ])
@@ -87,7 +87,7 @@ mutual
       either-IsChosen p c ch (holds vs p) (reach vs c) (reach_chosen vs ch) (reach-IsRestOf vs c) (reach_chosen-IsChosen vs ch)
 
 again-IsRestOf : (vs : ValueList) (n m : ℕ) (c : Cond) (body : Tree) → suc m ≤ n → (b : Bool)
-  → IsRestOf (loop n c body) (elim b [ true ↦ done | false ↦ turning m c body (reach vs body) ])
+    → IsRestOf (loop n c body) (elim b [ true ↦ done | false ↦ turning m c body (reach vs body) ])
 again-IsRestOf vs n m c body lt true = tt
 again-IsRestOf vs n m c body lt false = turning-IsRestOf n m c body (reach vs body) (omega arith) (reach-IsRestOf vs body)
 
@@ -96,23 +96,24 @@ turned-IsRestOf vs n zero c body r lt h = turning-IsRestOf n 0 c body r lt h
 turned-IsRestOf vs n (suc m) c body r lt h = go (is_done r)
   where
     go : (b : Bool)
-      → IsRestOf (loop n c body) (elim b [ false ↦ in_loop (suc m) c body r | true ↦ elim (holds vs c) [ true ↦ done | false ↦ turning m c body (reach vs body) ] ])
+        → IsRestOf (loop n c body) (elim b [ false ↦ in_loop (suc m) c body r | true ↦ elim (holds vs c) [ true ↦ done | false ↦ turning m c body (reach vs body) ] ])
     go false = (lt, refl, refl, h)
     go true = again-IsRestOf vs n m c body lt (holds vs c)
 
 -- a branch that has gone on remains one of the branches, or gives way to the next
 continued-here : (vs : ValueList) (c : Tree) (cs : Trees) (r : Rest) (ds : Trees) → IsRestOf c r → ds ≡ cs
-  → IsRestOf (seq (tree c cs)) (continued vs r ds)
+    → IsRestOf (seq (tree c cs)) (continued vs r ds)
 continued-here vs c cs r ds h e = go (is_done r)
   where
     after : IsRestOf (seq cs) (reach_first vs ds)
     after = subst (λ x. IsRestOf (seq cs) (reach_first vs x)) (sym e) (reach_first-IsRestOf vs cs)
+
     go : (b : Bool) → IsRestOf (seq (tree c cs)) (elim b [ true ↦ reach_first vs ds | false ↦ in_seq r ds ])
     go true = later c cs (reach_first vs ds) after
     go false = inl (h, e)
 
 subst₂-loop : (vs : ValueList) (n m : ℕ) (c d : Cond) (body b : Tree) (r : Rest) → d ≡ c → b ≡ body
-  → IsRestOf (loop n c body) (turned vs m c body r) → IsRestOf (loop n c body) (turned vs m d b r)
+    → IsRestOf (loop n c body) (turned vs m c body r) → IsRestOf (loop n c body) (turned vs m d b r)
 subst₂-loop vs n m c d body b r e f h =
     subst (λ x. IsRestOf (loop n c body) (turned vs m x b r)) (sym e) (subst (λ x. IsRestOf (loop n c body) (turned vs m c x r)) (sym f) h)
 

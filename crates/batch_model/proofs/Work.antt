@@ -57,7 +57,7 @@ turning-toil x n c body r = go (is_done r)
     go false = omega arith
 
 in_order-toil : (x : State) (r after : Rest) (cs : Trees) → toil_left x after ≤ ahead x (toil_of_each cs)
-  → toil_left x (elim (is_done r) [ true ↦ after | false ↦ in_seq r cs ]) ≤ toil_left x r + ahead x (toil_of_each cs)
+    → toil_left x (elim (is_done r) [ true ↦ after | false ↦ in_seq r cs ]) ≤ toil_left x r + ahead x (toil_of_each cs)
 in_order-toil x r after cs h = go (is_done r)
   where
     go : (b : Bool) → toil_left x (elim b [ true ↦ after | false ↦ in_seq r cs ]) ≤ toil_left x r + ahead x (toil_of_each cs)
@@ -83,11 +83,11 @@ mutual
   pub reach_first-toil : (x : State) (vs : ValueList) (cs : Trees) → toil_left x (reach_first vs cs) ≤ ahead x (toil_of_each cs)
   reach_first-toil x vs no_trees = omega arith
   reach_first-toil x vs (tree c cs) =
-      omega
-      ( arith
-      , in_order-toil x (reach vs c) (reach_first vs cs) cs (reach_first-toil x vs cs)
-      , reach-toil x vs c
-      , ahead-sum x (toil c) (toil_of_each cs)
+      omega (
+        arith,
+        in_order-toil x (reach vs c) (reach_first vs cs) cs (reach_first-toil x vs cs),
+        reach-toil x vs c,
+        ahead-sum x (toil c) (toil_of_each cs),
       )
 
   pub reach_each-toil : (x : State) (vs : ValueList) (cs : Trees) → toil_left_in_each x (reach_each vs cs) ≤ ahead x (toil_of_each cs)
@@ -97,16 +97,16 @@ mutual
   pub reach_chosen-toil : (x : State) (vs : ValueList) (ch : Choices) → toil_left x (reach_chosen vs ch) ≤ ahead x (toil_of_choices ch)
   reach_chosen-toil x vs (otherwise c) = reach-toil x vs c
   reach_chosen-toil x vs (choice p c ch) =
-      omega
-      ( arith
-      , either-toil x (holds vs p) (reach vs c) (reach_chosen vs ch) (ahead x (toil c)) (ahead x (toil_of_choices ch)) (reach-toil x vs c) (reach_chosen-toil x vs ch)
-      , ahead-sum x (toil c) (toil_of_choices ch)
+      omega (
+        arith,
+        either-toil x (holds vs p) (reach vs c) (reach_chosen vs ch) (ahead x (toil c)) (ahead x (toil_of_choices ch)) (reach-toil x vs c) (reach_chosen-toil x vs ch),
+        ahead-sum x (toil c) (toil_of_choices ch),
       )
 
 -- Advancing
 
 again-toil : (x : State) (vs : ValueList) (n : ℕ) (c : Cond) (body : Tree) (b : Bool)
-  → toil_left x (elim b [ true ↦ done | false ↦ turning n c body (reach vs body) ]) ≤ ahead x (suc n * toil body)
+    → toil_left x (elim b [ true ↦ done | false ↦ turning n c body (reach vs body) ]) ≤ ahead x (suc n * toil body)
 again-toil x vs n c body true = omega arith
 again-toil x vs n c body false = omega (arith, turning-toil x n c body (reach vs body), reach-toil x vs body, turn-ahead x n (toil body))
 
@@ -115,7 +115,7 @@ turned-toil x vs zero c body r = turning-toil x 0 c body r
 turned-toil x vs (suc n) c body r = go (is_done r)
   where
     go : (b : Bool)
-      → toil_left x (elim b [ false ↦ in_loop (suc n) c body r | true ↦ elim (holds vs c) [ true ↦ done | false ↦ turning n c body (reach vs body) ] ])
+        → toil_left x (elim b [ false ↦ in_loop (suc n) c body r | true ↦ elim (holds vs c) [ true ↦ done | false ↦ turning n c body (reach vs body) ] ])
         ≤ toil_left x r + ahead x (suc n * toil body)
     go false = omega arith
     go true = omega (arith, again-toil x vs n c body (holds vs c))

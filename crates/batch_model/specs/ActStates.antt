@@ -56,13 +56,13 @@ root = 0 ∷ []
 -- the state of the act at this place, where an act of the tree stands there
 abbrev pub state_in : Batch → Place → Option State
 state_in b p =
-    elim (same_place p root)
-    [ true ↦ Some b.state
-    | false ↦
-        elim (find (λ a. same_place (place_of a) p) (acts b.rest))
-        [ Some a ↦ Some (act_state b.state a)
-        | None ↦ elim (find (λ s. same_place s.place p) (steps b.recipe.procedure)) [ None ↦ None | Some s ↦ Some Idle ]
-        ]
+    elim (same_place p root) [
+      | true ↦ Some b.state
+      | false ↦
+          elim (find (λ a. same_place (place_of a) p) (acts b.rest)) [
+            | Some a ↦ Some (act_state b.state a)
+            | None ↦ elim (find (λ s. same_place s.place p) (steps b.recipe.procedure)) [ None ↦ None | Some s ↦ Some Idle ]
+          ]
     ]
 
 abbrev pub state_of : Plant → ℕ → Place → Option State

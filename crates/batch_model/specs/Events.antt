@@ -108,12 +108,12 @@ lines_under command n line r = elim (ends_asks command) [ false ↦ line r | tru
 
 abbrev pub ordering : Plant → Command → Batch → Answer
 ordering s command b =
-    elim (accepts b.state command)
-    [ false ↦ (refused (command_not_accepted b.state), s)
-    | true ↦
-        ( ordered command b.number (target command)
-        , record (in_batch b.number (commanded command) s) { line = lines_under command b.number s.line }
-        )
+    elim (accepts b.state command) [
+      | false ↦ (refused (command_not_accepted b.state), s)
+      | true ↦ (
+        ordered command b.number (target command),
+        record (in_batch b.number (commanded command) s) { line = lines_under command b.number s.line },
+      )
     ]
 
 -- Removal
@@ -123,9 +123,9 @@ without_batch n s = record s { batches = filter (λ b. not (nat_eq b.number n)) 
 
 abbrev pub removing : Plant → Batch → Answer
 removing s b =
-    elim b.state
-    [ Idle ↦ (removed b.number, without_batch b.number s)
-    | x ↦ (refused (not_idle x), s)
+    elim b.state [
+      | Idle ↦ (removed b.number, without_batch b.number s)
+      | x ↦ (refused (not_idle x), s)
     ]
 
 -- Reports
@@ -174,24 +174,24 @@ batch_reported word outputs p e b =
 
 abbrev pub reporting : Plant → Name → Name → Report → ValueList → LivePhase → Answer
 reporting s unit name word outputs l =
-    elim (after_report l.state word)
-    [ None ↦ (refused (report_not_expected l.state), s)
-    | Some e ↦
-        elim (are_outputs l.batch.recipe.outputs outputs)
-        [ false ↦ (refused bad_output, s)
-        | true ↦
-            ( reported unit name word l.batch.number l.place (batch_state_after word l.batch.state)
-            , in_batch l.batch.number (batch_reported word outputs l.place e) s
+    elim (after_report l.state word) [
+      | None ↦ (refused (report_not_expected l.state), s)
+      | Some e ↦
+          elim (are_outputs l.batch.recipe.outputs outputs) [
+            | false ↦ (refused bad_output, s)
+            | true ↦ (
+              reported unit name word l.batch.number l.place (batch_state_after word l.batch.state),
+              in_batch l.batch.number (batch_reported word outputs l.place e) s,
             )
-        ]
+          ]
     ]
 
 -- the reply to an event while no move is pending, and the plant after it: the first refusal that has a cause, or what was asked for
 abbrev pub judged : Documents → Plant → Event → Answer
 judged c s (create name size) =
-    elim (find (λ r. same_name r.name name) c.recipes)
-    [ None ↦ (refused unknown_recipe, s)
-    | Some r ↦ elim (is_full c s) [ true ↦ (refused full, s) | false ↦ creating s r size (r.formula size) ]
+    elim (find (λ r. same_name r.name name) c.recipes) [
+      | None ↦ (refused unknown_recipe, s)
+      | Some r ↦ elim (is_full c s) [ true ↦ (refused full, s) | false ↦ creating s r size (r.formula size) ]
     ]
 judged c s (order command n) = elim (batch_at s n) [ None ↦ (refused unknown_batch, s) | Some b ↦ ordering s command b ]
 judged c s (remove n) = elim (batch_at s n) [ None ↦ (refused unknown_batch, s) | Some b ↦ removing s b ]

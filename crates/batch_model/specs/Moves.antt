@@ -125,13 +125,13 @@ when false m = None
 -- a ready act that holds all its needs begins, one that lacks a need asks for it
 abbrev pub entering : Batch → Step → Task → ℕ → Option Move
 entering b s w k =
-    elim (slice_get s.needs k)
-    [ Some r ↦ Some (ask b.number s.place r)
-    | None ↦
-        elim w
-        [ runs x ↦ Some (start b.number s.place x (handed_values b.values x.handed))
-        | follows name c ↦ Some (begin b.number s.place name)
-        ]
+    elim (slice_get s.needs k) [
+      | Some r ↦ Some (ask b.number s.place r)
+      | None ↦
+          elim w [
+            | runs x ↦ Some (start b.number s.place x (handed_values b.values x.handed))
+            | follows name c ↦ Some (begin b.number s.place name)
+          ]
     ]
 
 -- the last of the first k needs is given back
@@ -148,35 +148,35 @@ is_served c s r a =
 -- the move that an act of a batch can make: there is at most one
 abbrev pub act_move : Documents → Plant → Batch → Rest → Option Move
 act_move c s b (ready p w k) =
-    elim (is_running b.state)
-    [ true ↦ entering b p w k
-    | false ↦ elim (is_stopping b.state && is_quiet b.rest) [ true ↦ giving_back b p k | false ↦ None ]
+    elim (is_running b.state) [
+      | true ↦ entering b p w k
+      | false ↦ elim (is_stopping b.state && is_quiet b.rest) [ true ↦ giving_back b p k | false ↦ None ]
     ]
 act_move c s b (asking p w k) =
-    elim (slice_get p.needs k)
-    [ None ↦ None
-    | Some r ↦ when (is_served c s r (b.number, p.place)) (grant b.number p.place r)
+    elim (slice_get p.needs k) [
+      | None ↦ None
+      | Some r ↦ when (is_served c s r (b.number, p.place)) (grant b.number p.place r)
     ]
 act_move c s b (open_act p r) =
-    elim (is_stopping b.state || is_stopped b.state)
-    [ false ↦ when (is_done r) (end b.number p.place)
-    | true ↦
-        elim (is_stopping b.state && is_quiet b.rest && is_empty (held_in r))
-        [ true ↦ giving_back b p (length p.needs) | false ↦ None ]
+    elim (is_stopping b.state || is_stopped b.state) [
+      | false ↦ when (is_done r) (end b.number p.place)
+      | true ↦
+          elim (is_stopping b.state && is_quiet b.rest && is_empty (held_in r))
+          [ true ↦ giving_back b p (length p.needs) | false ↦ None ]
     ]
 act_move c s b (live p x t) =
-    elim (passed_on b.state)
-    [ None ↦ None
-    | Some command ↦ when (accepts t command) (send b.number p.place x command)
+    elim (passed_on b.state) [
+      | None ↦ None
+      | Some command ↦ when (accepts t command) (send b.number p.place x command)
     ]
 act_move c s b (freeing p k) = giving_back b p k
 act_move c s b _ = None
 
 abbrev pub state_move : Batch → Option Move
 state_move b =
-    elim (is_reached b.state b.rest)
-    [ false ↦ None
-    | true ↦ elim (ends_as b.state) [ None ↦ None | Some x ↦ Some (state b.number x) ]
+    elim (is_reached b.state b.rest) [
+      | false ↦ None
+      | true ↦ elim (ends_as b.state) [ None ↦ None | Some x ↦ Some (state b.number x) ]
     ]
 
 abbrev pub batch_moves : Documents → Plant → Batch → List Move

@@ -80,9 +80,9 @@ continued vs r cs = elim (is_done r) [ true ↦ reach_first vs cs | false ↦ in
 abbrev pub turned : ValueList → ℕ → Cond → Tree → Rest → Rest
 turned vs zero c body r = elim (is_done r) [ true ↦ done | false ↦ in_loop 0 c body r ]
 turned vs (suc n) c body r =
-    elim (is_done r)
-    [ false ↦ in_loop (suc n) c body r
-    | true ↦ elim (holds vs c) [ true ↦ done | false ↦ turning n c body (reach vs body) ]
+    elim (is_done r) [
+      | false ↦ in_loop (suc n) c body r
+      | true ↦ elim (holds vs c) [ true ↦ done | false ↦ turning n c body (reach vs body) ]
     ]
 
 -- what remains once everything is reached that can be, and finished what is

@@ -101,9 +101,9 @@ work_left s = sum_by batch_work_left s.batches
 abbrev pub settling : ℕ → Documents → Plant → List Move × Plant
 settling zero c s = ([], s)
 settling (suc n) c s =
-    elim (next c s)
-    [ None ↦ ([], s)
-    | Some m ↦ let r = settling n c (after s m) in (m ∷ r.0, r.1)
+    elim (next c s) [
+      | None ↦ ([], s)
+      | Some m ↦ let r = settling n c (after s m) in (m ∷ r.0, r.1)
     ]
 
 -- the record of the events, each followed by all moves that become possible

@@ -1,32 +1,17 @@
 //! Laws of the definitions.
-ghost use Rattle.batch_model.specs.Laws.{AdvancesFully, PlantsStand, SettlingsEnd, TreesArePlaced, WorkFalls};
 
-/// Advancing leaves nothing that could still be reached.
-pub fn advances_fully()
-    ensures { AdvancesFully }
-{
-}
+mod events;
+mod moves;
+mod records;
+mod rests;
+mod runs;
 
-/// Each act of a recipe's expanded tree carries the place at which it stands.
-pub fn trees_are_placed()
-    ensures { TreesArePlaced }
-{
-}
-
-/// Each possible move lowers the work left.
-pub fn work_falls()
-    ensures { WorkFalls }
-{
-}
-
-/// In every plant that is led to, what remains of each batch stands in its recipe's tree.
-pub fn plants_stand()
-    ensures { PlantsStand }
-{
-}
-
-/// A plant that is led to comes to rest after as many moves as the work left, at the latest.
-pub fn settlings_end()
-    ensures { SettlingsEnd }
-{
-}
+pub use events::{refusals_change_nothing, refusals_have_causes};
+pub use moves::{acts_have_one_move, next_is_first, next_is_least, work_falls};
+pub use records::last_line_tells;
+pub use rests::{
+    acts_rise, advances_fully, advances_without_taking, stands_in_its_chart, trees_are_placed,
+};
+pub use runs::{
+    plants_come_to_rest, plants_stand, records_go_on, runs_come_to_rest, settlings_end,
+};

@@ -8,7 +8,12 @@ mod laws;
 mod limits;
 mod rows;
 
-pub use laws::{advances_fully, plants_stand, settlings_end, trees_are_placed, work_falls};
+pub use laws::{
+    acts_have_one_move, acts_rise, advances_fully, advances_without_taking, last_line_tells,
+    next_is_first, next_is_least, plants_come_to_rest, plants_stand, records_go_on,
+    refusals_change_nothing, refusals_have_causes, runs_come_to_rest, settlings_end,
+    stands_in_its_chart, trees_are_placed, work_falls,
+};
 pub use limits::{LAST_NUMBER, MAX_LIVE_BATCHES};
 pub use rows::{
     abort_after_stop, abort_reset_start, act_states, choices, crossed_branches_without_circle,

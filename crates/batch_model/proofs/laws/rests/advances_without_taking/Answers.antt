@@ -1,0 +1,5 @@
+use Rattle.batch_model.proofs.Gathering.{held_in-advance, held_in-reach}
+use Rattle.batch_model.proofs.laws.rests.advances_without_taking.Goals as goal
+
+pub returns : goal.returns
+returns c = record { reached = held_in-reach; advanced = held_in-advance }
