@@ -1,5 +1,5 @@
 -- The nodes of example recipes, by computation.
-use Rattle.std.proofs.Common.{◌≡◌, ℕ, Bool, true, false, List, [], ◌∷◌, length, map, Option, Some, None, Global, codes, sym, ◌∙◌, refl}
+use Rattle.std.proofs.Common.{◌≡◌, true, false, List, [], ◌∷◌, length, map, Option, Some, None, Global, codes, sym, ◌∙◌, refl}
 use Rattle.batch_recipe.specs.Conditions.{Name}
 use Rattle.batch_recipe.specs.Tree.{Place, Tree, act, Task, runs, follows}
 use Rattle.batch_recipe.specs.Nodes.{Node}
