@@ -228,6 +228,16 @@ recipe_pair =
     ∷ [])
     (par (diagrams_of (label (codes "REST") ∷ label make ∷ []))))
 
+-- two unit procedures at once, of one phase each
+abbrev pub recipe_twin : Recipe
+recipe_twin =
+    recipe_with (codes "TWIN") [] []
+    (chart_act (codes "TWIN") []
+    (chart_act (codes "LEFT") (r1 ∷ []) (chart_act charge [] (add_step r1 ∷ []) (label add) ∷ []) (label charge)
+    ∷ chart_act (codes "RIGHT") (r2 ∷ []) (chart_act charge [] (add_step r2 ∷ []) (label add) ∷ []) (label charge)
+    ∷ [])
+    (par (diagrams_of (label (codes "LEFT") ∷ label (codes "RIGHT") ∷ []))))
+
 -- two phases at once on R2, of which the first needs HDR and the second STEAM
 abbrev pub recipe_sides : Recipe
 recipe_sides =
@@ -242,7 +252,7 @@ cell =
     record demo.demo {
       recipes =
           demo.recipe ∷ recipe_f ∷ recipe_s ∷ recipe_w ∷ recipe_t ∷ recipe_p ∷ recipe_q ∷ recipe_l ∷ recipe_j ∷ recipe_k
-          ∷ recipe_both ∷ recipe_pair ∷ recipe_sides ∷ [];
+          ∷ recipe_both ∷ recipe_pair ∷ recipe_twin ∷ recipe_sides ∷ [];
       batch_limit = 4096;
     }
 

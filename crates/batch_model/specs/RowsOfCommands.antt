@@ -2,6 +2,7 @@
 use Rattle.std.specs.Prelude.{◌≡◌, ℕ, zero, suc, List, [], ◌∷◌, Option, Some, None, codes}
 use Rattle.batch_matrix.specs.declared.state.State.{State}
 use Rattle.batch_matrix.specs.declared.state.State.TheVariants.{Idle, Running, Pausing, Paused, Holding, Held, Restarting, Stopping, Stopped, Aborting, Aborted, Complete}
+use Rattle.batch_matrix.specs.declared.command.Command.{Command}
 use Rattle.batch_matrix.specs.declared.command.Command.TheVariants.{Start, Pause, Resume, Hold, Restart, Stop, Abort, Reset}
 use Rattle.batch_matrix.specs.declared.report.Report.{Report}
 use Rattle.batch_recipe.specs.Tree.{Place}
@@ -124,11 +125,11 @@ StopWithdrawsAsks =
     ∷ move (state 1 Stopped)
     ∷ [])))
 
--- the ask that was withdrawn doesn't stand in the way of a later one
-abbrev pub WithdrawnAskLetsOthersPass : Type 0
-WithdrawnAskLetsOthersPass =
+-- after this command the ask that batch 2 had doesn't stand in the way of a later one
+abbrev pub LaterAskPasses : Command → State → State → Type 0
+LaterAskPasses command going gone =
     run cell
-    (create_a ∷ create_a ∷ create_a ∷ order Start 1 ∷ order Start 2 ∷ order Start 3 ∷ order Stop 2 ∷ add_done ∷ [])
+    (create_a ∷ create_a ∷ create_a ∷ order Start 1 ∷ order Start 2 ∷ order Start 3 ∷ order command 2 ∷ add_done ∷ [])
     ≡ (created_a 1
     ∷ created_a 2
     ∷ created_a 3
@@ -139,13 +140,19 @@ WithdrawnAskLetsOthersPass =
     ∷ reply (ordered Start 3 Running)
     ∷ move (begin 3 p0 name_a)
     ∷ move (ask 3 p00 r1)
-    ∷ reply (ordered Stop 2 Stopping)
-    ∷ move (state 2 Stopped)
+    ∷ reply (ordered command 2 going)
+    ∷ move (state 2 gone)
     ∷ finished_a 1
     (move (grant 3 p00 r1)
     ∷ entered 3 make charge
     (starts 3 p0000 r1 add
     ∷ []))))
+
+abbrev pub LaterAskPassesStopped : Type 0
+LaterAskPassesStopped = LaterAskPasses Stop Stopping Stopped
+
+abbrev pub LaterAskPassesAborted : Type 0
+LaterAskPassesAborted = LaterAskPasses Abort Aborting Aborted
 
 -- a stop while an act holds two of its three needs: the last that it got is given back first
 abbrev pub StopGivesBackPartOfNeeds : Type 0

@@ -50,6 +50,26 @@ SecondBatchWaits =
     (starts 2 p0000 r1 add
     ∷ []))))
 
+-- the batch that asked first is granted the unit, and not the one with the lower number
+abbrev pub OlderAskIsGranted : Type 0
+OlderAskIsGranted =
+    run cell (create_a ∷ create_a ∷ create_a ∷ order Start 1 ∷ order Start 3 ∷ order Start 2 ∷ add_done ∷ [])
+    ≡ (created_a 1
+    ∷ created_a 2
+    ∷ created_a 3
+    ∷ opened_a 1
+    (reply (ordered Start 3 Running)
+    ∷ move (begin 3 p0 name_a)
+    ∷ move (ask 3 p00 r1)
+    ∷ reply (ordered Start 2 Running)
+    ∷ move (begin 2 p0 name_a)
+    ∷ move (ask 2 p00 r1)
+    ∷ finished_a 1
+    (move (grant 3 p00 r1)
+    ∷ entered 3 make charge
+    (starts 3 p0000 r1 add
+    ∷ []))))
+
 -- two batches that point at each other and don't wait in a circle
 abbrev pub CrossedBranchesWithoutCircle : Type 0
 CrossedBranchesWithoutCircle =
@@ -250,4 +270,40 @@ ReleaseBeforeEarlierPlace =
     ∷ move (state 2 Running)
     ∷ move (release 2 p00001 steam)
     ∷ starts 2 p00000 r2 add
+    ∷ [])))
+
+-- Batch 2 is granted R1 at 0.0.0 while it is held. When its phase at 0.0.1.0.0 is done during the restart, the begins at and
+-- below 0.0.0 and the ends at 0.0.1.0 and 0.0.1 are all of kind 4, so the earlier places come first.
+abbrev pub BeginBeforeLaterEnd : Type 0
+BeginBeforeLaterEnd =
+    run cell
+    (create_a ∷ create (codes "TWIN") 1000 ∷ order Start 1 ∷ order Start 2 ∷ order Hold 2 ∷ says r2 add Report.Held ∷ add_done
+    ∷ order Restart 2 ∷ says r2 add Report.Done ∷ [])
+    ≡ (created_a 1
+    ∷ reply (created 2 (codes "TWIN") 1000)
+    ∷ opened_a 1
+    (reply (ordered Start 2 Running)
+    ∷ move (begin 2 p0 (codes "TWIN"))
+    ∷ move (ask 2 p000 r1)
+    ∷ move (ask 2 p001 r2)
+    ∷ move (grant 2 p001 r2)
+    ∷ move (begin 2 p001 (codes "RIGHT"))
+    ∷ move (begin 2 p0010 charge)
+    ∷ starts 2 p00100 r2 add
+    ∷ reply (ordered Hold 2 Holding)
+    ∷ move (send 2 p00100 (on r2 add) Hold)
+    ∷ reply (reported r2 add Report.Held 2 p00100 Holding)
+    ∷ move (state 2 Held)
+    ∷ finished_a 1
+    (move (grant 2 p000 r1)
+    ∷ reply (ordered Restart 2 Restarting)
+    ∷ move (send 2 p00100 (on r2 add) Restart)
+    ∷ reply (reported r2 add Report.Done 2 p00100 Restarting)
+    ∷ move (state 2 Running)
+    ∷ move (begin 2 p000 (codes "LEFT"))
+    ∷ move (begin 2 p0000 charge)
+    ∷ starts 2 p00000 r1 add
+    ∷ move (end 2 p0010)
+    ∷ move (end 2 p001)
+    ∷ move (release 2 p001 r2)
     ∷ [])))

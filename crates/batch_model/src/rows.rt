@@ -3,6 +3,7 @@ ghost use Rattle.batch_model.specs.RowsOfMoves.{
   DemoIsExpanded,
   OneBatchToComplete,
   SecondBatchWaits,
+  OlderAskIsGranted,
   CrossedBranchesWithoutCircle,
   SharedCapacity,
   ElseBranchIsTaken,
@@ -15,6 +16,7 @@ ghost use Rattle.batch_model.specs.RowsOfMoves.{
   ThreeTurnsLength,
   ReleaseBeforeBegin,
   ReleaseBeforeEarlierPlace,
+  BeginBeforeLaterEnd,
 };
 ghost use Rattle.batch_model.specs.RowsOfCommands.{
   HoldBetweenPhases,
@@ -22,7 +24,8 @@ ghost use Rattle.batch_model.specs.RowsOfCommands.{
   HeldBatchEnds,
   HeldAskIsGranted,
   StopWithdrawsAsks,
-  WithdrawnAskLetsOthersPass,
+  LaterAskPassesStopped,
+  LaterAskPassesAborted,
   StopGivesBackPartOfNeeds,
   AbortAfterStop,
   AbortResetStart,
@@ -80,9 +83,10 @@ pub fn one_batch_to_complete()
     ensures { OneBatchToComplete }
 {}
 
-/// A second batch waits for the unit.
+/// A second batch waits for the unit, and of two that wait the older ask is granted.
 pub fn second_batch_waits()
-    ensures { SecondBatchWaits }
+    ensures record_lines { SecondBatchWaits }
+    ensures older_ask { OlderAskIsGranted }
 {}
 
 /// Two batches need the same two resources in opposite branches, and neither waits for ever.
@@ -111,10 +115,11 @@ pub fn thousand_turns()
     ensures three_lines { ThreeTurnsLength }
 {}
 
-/// Within a batch the kind of a move comes before its place: state, then release, then begin and end.
+/// Within a batch the kind of a move comes before its place: state, then release, then begin and end by place.
 pub fn release_before_begin()
     ensures first_ends { ReleaseBeforeBegin }
     ensures later_place { ReleaseBeforeEarlierPlace }
+    ensures begin_before_end { BeginBeforeLaterEnd }
 {}
 
 /// A batch is held between two phases.
@@ -132,7 +137,8 @@ pub fn held_ask_is_granted()
 /// A stop takes the asks of its batch out of their lines.
 pub fn stop_withdraws_asks()
     ensures record_lines { StopWithdrawsAsks }
-    ensures others_pass { WithdrawnAskLetsOthersPass }
+    ensures stopped_ask { LaterAskPassesStopped }
+    ensures aborted_ask { LaterAskPassesAborted }
     ensures partly_granted { StopGivesBackPartOfNeeds }
 {}
 
