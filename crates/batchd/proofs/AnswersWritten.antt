@@ -1,5 +1,5 @@
 -- An answer to a line, and as much of it as was written.
-use Rattle.std.proofs.Common.{◌≡◌, ℕ, List, [], ◌∷◌, ◌++◌, Option, Some, None, Result, Ok, Err, OnOk, OnErr, map, flat_map, codes, refl, subst, inl, inr, append-nil}
+use Rattle.std.proofs.Common.{◌≡◌, ℕ, List, [], ◌∷◌, ◌++◌, Option, Some, None, Result, Ok, Err, OnOk, OnErr, map, flat_map, refl, subst, inl, inr, append-nil}
 use Rattle.std.proofs.lemmas.Bool.{false≢true}
 use Rattle.std.specs.Io.KnownBytes.{Appends}
 use Rattle.std.proofs.KnownBytes.{Appends-nil, Appends-trans}
@@ -8,7 +8,7 @@ use Rattle.batch_model.specs.Moves.{Move}
 use Rattle.batch_model.specs.Plant.{Documents, Plant}
 use Rattle.batch_model.specs.Runs.{Out, reply, move, Reacts}
 use Rattle.batchd.specs.Reading.{Reads}
-use Rattle.batchd.specs.RecordText.{line_text, out_text}
+use Rattle.batchd.specs.RecordText.{out_text}
 use Rattle.batchd.specs.Transcript.{Exchange, silence, refusal, handled, Settles, Handles, Answers}
 use Rattle.batchd.specs.Written.{AppendsBeginning, Writes}
 use Rattle.batchd.specs.declared.wire.fault.WireFault.{WireFault}

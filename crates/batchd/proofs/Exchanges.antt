@@ -3,7 +3,7 @@ use Rattle.std.proofs.Common.{◌≡◌, ℕ, refl, sym, subst, inl, inr, List, 
 use Rattle.batch_model.specs.Events.{Event}
 use Rattle.batch_model.specs.Moves.{Move, after}
 use Rattle.batch_model.specs.Plant.{Documents, Plant}
-use Rattle.batch_model.specs.Runs.{Out, reply, move, Leads}
+use Rattle.batch_model.specs.Runs.{Out, move, Leads}
 use Rattle.batchd.specs.EventLine.{event_of_line}
 use Rattle.batchd.specs.Transcript.{Exchange, silence, refusal, followed_by, handled, Settles, Handles, Answers, Transcript}
 use Rattle.batchd.specs.declared.wire.fault.WireFault.{WireFault}

@@ -1,5 +1,5 @@
 -- How serving goes on, byte after byte.
-use Rattle.std.proofs.Common.{◌≡◌, ℕ, suc, ◌+◌, ◌-◌, ◌<◌, ◌≤◌, Bool, false, List, [], ◌∷◌, ◌++◌, Option, Some, None, Result, Ok, Err, MatchResult, IfSome, length, take, drop, refl, sym, ap, ◌∙◌, subst, append_assoc, append-nil, arith, eqb, get_or}
+use Rattle.std.proofs.Common.{◌≡◌, ℕ, ◌+◌, ◌-◌, ◌<◌, ◌≤◌, Bool, false, List, [], ◌∷◌, ◌++◌, Option, Some, None, Result, Ok, Err, MatchResult, IfSome, length, take, drop, refl, sym, ap, ◌∙◌, subst, append_assoc, append-nil, arith, eqb, get_or}
 use Rattle.std.proofs.lemmas.List.{take_more, drop_more, take-append-drop, take_all, length-append, length-take}
 use Rattle.std.proofs.lemmas.List.Elements.{All-nil, All-push}
 use Rattle.std.proofs.lemmas.List.Splits.{slice_split_at, slice_split_none}
@@ -38,7 +38,7 @@ appends_kept (Some x) (Some y) (Some z) text p k = k ∙ p
 
 pub writes_kept : (c : Documents) (first : Plant) (lines : List (List ℕ)) (new : Plant) (before a b : Option (List ℕ))
     → WritesTranscript c first lines new before a → Keeps a b → WritesTranscript c first lines new before b
-writes_kept c first lines new before a b h k = 
+writes_kept c first lines new before a b h k =
     record { said = h.said; transcript = h.transcript; leads = h.leads; appends = appends_kept before a b h.said.text h.appends k }
 
 pub begun : (c : Documents) (first : Plant) (lines : List (List ℕ)) (new : Plant) (before a : Option (List ℕ))
@@ -69,7 +69,13 @@ served_start c first before = record {
 pub served_kept : (c : Documents) (first : Plant) (read : List ℕ) (now : Plant) (kept : List ℕ) (before a b : Option (List ℕ))
     → IsServed c first read now kept before a → Keeps a b → IsServed c first read now kept before b
 served_kept c first read now kept before a b h k = record {
-  whole = h.whole; last = h.last; splits = h.splits; unended = h.unended; keeps = h.keeps; said = h.said; goes_on = h.goes_on;
+  whole = h.whole;
+  last = h.last;
+  splits = h.splits;
+  unended = h.unended;
+  keeps = h.keeps;
+  said = h.said;
+  goes_on = h.goes_on;
   appends = appends_kept before a b h.said.text h.appends k;
 }
 
@@ -113,10 +119,10 @@ served_line c first read now kept before after later said new h a p = record {
   keeps = refl;
   said = followed_by h.said said;
   goes_on = λ lines others last t.
-    let answered : Answers c now (event_of_line h.last) said new = whole_answered c first read now kept before after said new h a in
-    rw (append_assoc h.whole (h.last ∷ []) lines)
-    (subst (λ (x : Exchange). Transcript c first (h.whole ++ h.last ∷ lines) x last) (sym (followed-assoc h.said said others))
-    (h.goes_on (h.last ∷ lines) (followed_by said others) last (said, others, new, answered, t, refl)));
+      let answered : Answers c now (event_of_line h.last) said new = whole_answered c first read now kept before after said new h a in
+      rw (append_assoc h.whole (h.last ∷ []) lines)
+      (subst (λ (x : Exchange). Transcript c first (h.whole ++ h.last ∷ lines) x last) (sym (followed-assoc h.said said others))
+      (h.goes_on (h.last ∷ lines) (followed_by said others) last (said, others, new, answered, t, refl)));
   appends = Appends-trans before after later h.said.text said.text h.appends p;
 }
 
@@ -133,7 +139,7 @@ cut_line : (c : Documents) (first : Plant) (read : List ℕ) (now : Plant) (kept
     → (more : List ℕ) → (n : ℕ) × BeginsTranscript c first (take n (lines_of (read ++ 10 ∷ more))) before later
 cut_line c first read now kept before after later said new h a p more =
     let lines : take (length h.whole + 1) (lines_of (read ++ 10 ∷ more)) ≡ h.whole ++ h.last ∷ [] =
-      rw (line_ends c first read now kept before after h more) (take-append-add h.whole (h.last ∷ lines_of more) 1) in
+    rw (line_ends c first read now kept before after h more) (take-append-add h.whole (h.last ∷ lines_of more) 1) in
     (length h.whole + 1, rw lines (begun_with_line c first read now kept before after later said new h a p))
 
 -- Bytes of a piece
@@ -163,7 +169,7 @@ cut_in_piece c first read piece i now kept before after later said new h e s a p
     regrouped : (read ++ piece) ++ more ≡ (read ++ take i piece) ++ 10 ∷ (drop (i + 1) piece ++ more)
     regrouped =
         let split : piece ≡ take i piece ++ 10 ∷ drop (i + 1) piece =
-          sym (take-append-drop i piece) ∙ ap (λ l. take i piece ++ l) (drop_more piece i 0 h ∙ ap (λ b. b ∷ drop (i + 1) piece) e) in
+        sym (take-append-drop i piece) ∙ ap (λ l. take i piece ++ l) (drop_more piece i 0 h ∙ ap (λ b. b ∷ drop (i + 1) piece) e) in
         ap (λ l. (read ++ l) ++ more) split ∙ ap (λ l. l ++ more) (sym (append_assoc read (take i piece) (10 ∷ drop (i + 1) piece)))
         ∙ append_assoc (read ++ take i piece) (10 ∷ drop (i + 1) piece) more
 
@@ -173,7 +179,7 @@ all_lines : (c : Documents) (first : Plant) (read : List ℕ) (now : Plant) (kep
     (h : IsServed c first read now kept before after) → lines_of read ≡ h.whole ++ h.last ∷ []
 all_lines c first read now kept before after h =
     let split : lines_of read ≡ h.whole ++ lines_of h.last =
-      subst (λ l. lines_of l ≡ h.whole ++ lines_of h.last) (append-nil read) (h.splits [] ∙ ap (λ l. h.whole ++ lines_of l) (append-nil h.last)) in
+    subst (λ l. lines_of l ≡ h.whole ++ lines_of h.last) (append-nil read) (h.splits [] ∙ ap (λ l. h.whole ++ lines_of l) (append-nil h.last)) in
     split ∙ ap (λ l. h.whole ++ l) (slice_split_none is_end h.last h.unended)
 
 front_of : (xs : List (List ℕ)) (x : List ℕ) → take (length (xs ++ x ∷ []) - 1) (xs ++ x ∷ []) ≡ xs
@@ -213,7 +219,7 @@ pub cut_between : (c : Documents) (first : Plant) (read : List ℕ) (now : Plant
     → IsServed c first read now kept before after → IsCutOff c first read before after
 cut_between c first read now kept before after h more =
     let front : take (length h.whole) (lines_of (read ++ more)) ≡ h.whole =
-      ap (take (length h.whole)) (h.splits more) ∙ take-append_seam h.whole (lines_of (h.last ++ more)) in
+    ap (take (length h.whole)) (h.splits more) ∙ take-append_seam h.whole (lines_of (h.last ++ more)) in
     (length h.whole, rw front (begun c first h.whole now before after (writes c first now h.whole h.said before after (so_far c first read now kept before after h) h.appends)))
 
 -- What the reader had

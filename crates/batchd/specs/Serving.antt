@@ -18,7 +18,7 @@ pub record IsServed (c : Documents) (first : Plant) (read : List ℕ) (now : Pla
   -- what was written is the text of a transcript, however it goes on
   pub said : Exchange
   pub goes_on : (lines : List (List ℕ)) (others : Exchange) (new : Plant)
-    → Transcript c now lines others new → Transcript c first (whole ++ lines) (followed_by said others) new
+      → Transcript c now lines others new → Transcript c first (whole ++ lines) (followed_by said others) new
   pub appends : Appends before after said.text
 
 -- a beginning of a transcript of the first lines was written, whatever bytes follow those read

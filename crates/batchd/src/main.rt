@@ -1,24 +1,46 @@
 //! The batch server: event lines from standard input, the record to standard output.
 #![tactic(auto)]
 
+mod command_line;
 mod engine;
+#[cfg(test)]
+mod tests;
 mod transcript;
 mod wire;
 
 use engine::Engine;
-use std::io;
-use std::io::BufWriter;
+use std::io::{BufWriter, ErrorKind};
 use std::process::ExitCode;
+use std::{env, io};
 use transcript::{ServeFault, serve};
 
 /// How often standard input may be read.
 const MAX_READS: u64 = 1_000_000_000;
 
+/// How much of the record waits before it is handed on in the midst of an input.
+const OUTPUT_ROOM: usize = 65_536;
+
 fn main(rt: HostRuntime) -> ExitCode {
+    match env::args(&rt) {
+        Ok(words) => {
+            if !command_line::takes_words(words.count()) {
+                return ExitCode::from(2);
+            }
+        }
+        Err(error) => {
+            let no_memory = error.kind() == ErrorKind::OutOfMemory;
+            return ExitCode::from(if no_memory { 4 } else { 2 });
+        }
+    }
+    serve_demo(rt)
+}
+
+/// Runs the engine over the demo cell and its recipe, and gives the exit status.
+fn serve_demo(rt: HostRuntime) -> ExitCode {
     let alloc = rt.alloc();
     let mut engine = Engine::demo(alloc);
     let mut input = rt.stdin();
-    let Ok(mut output) = BufWriter::new(alloc, io::writer(&rt)) else {
+    let Ok(mut output) = BufWriter::with_capacity(alloc, OUTPUT_ROOM, io::writer(&rt)) else {
         return ExitCode::from(4);
     };
     match serve(alloc, &mut engine, &mut input, &mut output, MAX_READS) {

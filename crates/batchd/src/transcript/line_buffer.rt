@@ -16,7 +16,6 @@ pub struct LineBuffer {
 
 impl Model for LineBuffer {
     ghost use Rattle.std.specs.Prelude.{◌≤◌, ℕ, List, take};
-
     ghost use Rattle.batchd.specs.declared.transcript.line_buffer.TheConstants.{KEPT};
 
     ghost Value = { List ℕ };

@@ -31,22 +31,52 @@ fn write_reply<W: Write>(reply: Reply, writer: &mut W) -> Result<(), WriteFault>
     let mut digits = Buffer::new();
     let mut size_digits = Buffer::new();
     match reply {
-        Reply::Created { batch, recipe, size } => write_pieces(
+        Reply::Created {
+            batch,
+            recipe,
+            size,
+        } => write_pieces(
             writer,
             &[
-                b"created ", digits.format(batch).as_bytes(), b" ", recipe_name(recipe), b" ",
-                size_digits.format(size).as_bytes(), b"\n",
+                b"created ",
+                digits.format(batch).as_bytes(),
+                b" ",
+                recipe_name(recipe),
+                b" ",
+                size_digits.format(size).as_bytes(),
+                b"\n",
             ],
         ),
         Reply::Started { batch, state } => write_pieces(
             writer,
-            &[b"ok start ", digits.format(batch).as_bytes(), b" ", state_text(state), b"\n"],
+            &[
+                b"ok start ",
+                digits.format(batch).as_bytes(),
+                b" ",
+                state_text(state),
+                b"\n",
+            ],
         ),
-        Reply::Done { unit, phase, batch, node, state } => write_pieces(
+        Reply::Done {
+            unit,
+            phase,
+            batch,
+            node,
+            state,
+        } => write_pieces(
             writer,
             &[
-                b"ok report ", resource_name(unit), b" ", phase_name(phase), b" done ",
-                digits.format(batch).as_bytes(), b" ", place_text(node), b" ", state_text(state), b"\n",
+                b"ok report ",
+                resource_name(unit),
+                b" ",
+                phase_name(phase),
+                b" done ",
+                digits.format(batch).as_bytes(),
+                b" ",
+                place_text(node),
+                b" ",
+                state_text(state),
+                b"\n",
             ],
         ),
         Reply::Refused(refusal) => write_refusal(refusal, writer),
@@ -77,29 +107,59 @@ fn write_move<W: Write>(line: Line, writer: &mut W) -> Result<(), WriteFault>
     match line {
         Line::State { batch, state } => write_pieces(
             writer,
-            &[b"state ", digits.format(batch).as_bytes(), b" ", state_text(state), b"\n"],
+            &[
+                b"state ",
+                digits.format(batch).as_bytes(),
+                b" ",
+                state_text(state),
+                b"\n",
+            ],
         ),
-        Line::Release { batch, node, resource } => {
-            write_step(b"release", batch, node, resource_name(resource), writer)
-        }
+        Line::Release {
+            batch,
+            node,
+            resource,
+        } => { write_step(b"release", batch, node, resource_name(resource), writer) }
         Line::Begin { batch, node } => write_step(b"begin", batch, node, node_name(node), writer),
-        Line::Start { batch, node, unit, phase } => write_pieces(
+        Line::Start {
+            batch,
+            node,
+            unit,
+            phase,
+        } => write_pieces(
             writer,
             &[
-                b"start ", digits.format(batch).as_bytes(), b" ", place_text(node), b" ",
-                resource_name(unit), b" ", phase_name(phase), b"\n",
+                b"start ",
+                digits.format(batch).as_bytes(),
+                b" ",
+                place_text(node),
+                b" ",
+                resource_name(unit),
+                b" ",
+                phase_name(phase),
+                b"\n",
             ],
         ),
         Line::End { batch, node } => write_pieces(
             writer,
-            &[b"end ", digits.format(batch).as_bytes(), b" ", place_text(node), b"\n"],
+            &[
+                b"end ",
+                digits.format(batch).as_bytes(),
+                b" ",
+                place_text(node),
+                b"\n",
+            ],
         ),
-        Line::Ask { batch, node, resource } => {
-            write_step(b"ask", batch, node, resource_name(resource), writer)
-        }
-        Line::Grant { batch, node, resource } => {
-            write_step(b"grant", batch, node, resource_name(resource), writer)
-        }
+        Line::Ask {
+            batch,
+            node,
+            resource,
+        } => { write_step(b"ask", batch, node, resource_name(resource), writer) }
+        Line::Grant {
+            batch,
+            node,
+            resource,
+        } => { write_step(b"grant", batch, node, resource_name(resource), writer) }
     }
 }
 
@@ -117,7 +177,16 @@ fn write_step<W: Write>(
     let mut digits = Buffer::new();
     write_pieces(
         writer,
-        &[word, b" ", digits.format(batch).as_bytes(), b" ", place_text(node), b" ", name, b"\n"],
+        &[
+            word,
+            b" ",
+            digits.format(batch).as_bytes(),
+            b" ",
+            place_text(node),
+            b" ",
+            name,
+            b"\n",
+        ],
     )
 }
 

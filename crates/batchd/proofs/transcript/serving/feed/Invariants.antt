@@ -10,6 +10,6 @@ abbrev pub invariant-loop-byte : goal.invariant-loop-byte
 invariant-loop-byte g l = record {
   reached : IsReachable l.engine;
   served : (first : Plant) (before : Option (List ℕ)) (read : List ℕ)
-    → IsServed demo first read (plant_of l.initial.engine) l.initial.line before (g.W.Write.contents l.initial.writer)
-    → IsServed demo first (read ++ take l.byte-index l.piece) (plant_of l.engine) l.line before (g.W.Write.contents l.writer);
+      → IsServed demo first read (plant_of l.initial.engine) l.initial.line before (g.W.Write.contents l.initial.writer)
+      → IsServed demo first (read ++ take l.byte-index l.piece) (plant_of l.engine) l.line before (g.W.Write.contents l.writer);
 }

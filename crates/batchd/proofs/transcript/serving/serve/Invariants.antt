@@ -10,6 +10,6 @@ abbrev pub invariant-loop : goal.invariant-loop
 invariant-loop g l = record {
   reached : IsReachable l.engine;
   served : (read : List ℕ) × Consumes (g.R.Read.remaining l.initial.reader) (g.R.Read.remaining l.reader) read
-    × IsServed demo (plant_of l.initial.engine) read (plant_of l.engine) l.line (g.W.Write.contents l.initial.writer) (g.W.Write.contents l.writer)
-    × (l.counter ≤ length read);
+      × IsServed demo (plant_of l.initial.engine) read (plant_of l.engine) l.line (g.W.Write.contents l.initial.writer) (g.W.Write.contents l.writer)
+      × (l.counter ≤ length read);
 }
