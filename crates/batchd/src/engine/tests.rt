@@ -79,21 +79,46 @@ fn expect(rt: &impl Abort, engine: &mut Engine, event: &Event, reply: Reply, mov
     assert_eq!(rt; engine.next_move(), None);
 }
 
+fn refuse(rt: &impl Abort, engine: &mut Engine, event: &Event, refusal: Refusal) {
+    expect(rt, engine, event, Reply::Refused(refusal), &[]);
+}
+
 #[test]
-fn refusals_around_one_batch(rt: HostRuntime) -> Result<(), Fail> {
+fn refusals_without_a_batch(rt: HostRuntime) -> Result<(), Fail> {
     let alloc = rt.alloc();
-    let start = Event::Start { batch: 1 };
-    let refused = [
-        (Event::Start { batch: 1 }, Refusal::UnknownBatch),
-        (create(alloc, "A", 0)?, Refusal::BadSize),
-        (create(alloc, "A", 1_000_000_001)?, Refusal::BadSize),
-        (create(alloc, "B", 1)?, Refusal::UnknownRecipe),
-        (done(alloc, "R1", "ADD")?, Refusal::NoLivePhase),
-    ];
     let mut engine = Engine::demo(alloc);
-    for (event, refusal) in &refused {
-        expect(&rt, &mut engine, event, Reply::Refused(*refusal), &[]);
-    }
+    refuse(
+        &rt,
+        &mut engine,
+        &Event::Start { batch: 1 },
+        Refusal::UnknownBatch,
+    );
+    refuse(&rt, &mut engine, &create(alloc, "A", 0)?, Refusal::BadSize);
+    refuse(
+        &rt,
+        &mut engine,
+        &create(alloc, "A", 1_000_000_001)?,
+        Refusal::BadSize,
+    );
+    refuse(
+        &rt,
+        &mut engine,
+        &create(alloc, "B", 1)?,
+        Refusal::UnknownRecipe,
+    );
+    refuse(
+        &rt,
+        &mut engine,
+        &done(alloc, "R1", "ADD")?,
+        Refusal::NoLivePhase,
+    );
+    Ok(())
+}
+
+#[test]
+fn refusals_beside_a_batch(rt: HostRuntime) -> Result<(), Fail> {
+    let alloc = rt.alloc();
+    let mut engine = Engine::demo(alloc);
     let event = create(alloc, "A", 1000)?;
     let created = Reply::Created {
         batch: 1,
@@ -101,17 +126,17 @@ fn refusals_around_one_batch(rt: HostRuntime) -> Result<(), Fail> {
         size: 1000,
     };
     expect(&rt, &mut engine, &event, created, &[]);
-    expect(&rt, &mut engine, &event, Reply::Refused(Refusal::Full), &[]);
-    expect(
+    refuse(&rt, &mut engine, &event, Refusal::Full);
+    refuse(
         &rt,
         &mut engine,
         &done(alloc, "R1", "ADD")?,
-        Reply::Refused(Refusal::NoLivePhase),
-        &[],
+        Refusal::NoLivePhase,
     );
+    let start = Event::Start { batch: 1 };
     expect(&rt, &mut engine, &start, STARTED, &AFTER_START);
-    let running = Reply::Refused(Refusal::CommandNotAccepted(State::Running));
-    expect(&rt, &mut engine, &start, running, &[]);
+    let running = Refusal::CommandNotAccepted(State::Running);
+    refuse(&rt, &mut engine, &start, running);
     Ok(())
 }
 
@@ -131,33 +156,25 @@ fn one_batch_to_complete(rt: HostRuntime) -> Result<(), Fail> {
         created,
         &[],
     );
-    expect(
-        &rt,
-        &mut engine,
-        &Event::Start { batch: 1 },
-        STARTED,
-        &AFTER_START,
-    );
-    let no_live_phase = Reply::Refused(Refusal::NoLivePhase);
-    expect(
+    let start = Event::Start { batch: 1 };
+    expect(&rt, &mut engine, &start, STARTED, &AFTER_START);
+    refuse(
         &rt,
         &mut engine,
         &done(alloc, "R2", "ADD")?,
-        no_live_phase,
-        &[],
+        Refusal::NoLivePhase,
     );
-    expect(
+    refuse(
         &rt,
         &mut engine,
         &done(alloc, "R1", "HEAT")?,
-        no_live_phase,
-        &[],
+        Refusal::NoLivePhase,
     );
     let event = done(alloc, "R1", "ADD")?;
     expect(&rt, &mut engine, &event, ENDED, &AFTER_PHASE);
-    expect(&rt, &mut engine, &event, no_live_phase, &[]);
-    let complete = Reply::Refused(Refusal::CommandNotAccepted(State::Complete));
-    expect(&rt, &mut engine, &Event::Start { batch: 1 }, complete, &[]);
+    refuse(&rt, &mut engine, &event, Refusal::NoLivePhase);
+    let complete = Refusal::CommandNotAccepted(State::Complete);
+    refuse(&rt, &mut engine, &start, complete);
     Ok(())
 }
 
@@ -165,13 +182,16 @@ fn one_batch_to_complete(rt: HostRuntime) -> Result<(), Fail> {
 fn event_while_moves_pend(rt: HostRuntime) -> Result<(), Fail> {
     let alloc = rt.alloc();
     let mut engine = Engine::demo(alloc);
+    let event = create(alloc, "A", 1000)?;
+    let report = done(alloc, "R1", "ADD")?;
+    let start = Event::Start { batch: 1 };
+    engine.accept(&event);
+    assert_eq!(rt; engine.accept(&start), STARTED);
     let pending = Reply::Refused(Refusal::MovesPending);
-    engine.accept(&create(alloc, "A", 1000)?);
-    assert_eq!(rt; engine.accept(&Event::Start { batch: 1 }), STARTED);
     for line in &AFTER_START {
-        assert_eq!(rt; engine.accept(&Event::Start { batch: 1 }), pending);
-        assert_eq!(rt; engine.accept(&create(alloc, "A", 0)?), pending);
-        assert_eq!(rt; engine.accept(&done(alloc, "R1", "ADD")?), pending);
+        assert_eq!(rt; engine.accept(&start), pending);
+        assert_eq!(rt; engine.accept(&event), pending);
+        assert_eq!(rt; engine.accept(&report), pending);
         assert_eq!(rt; engine.next_move(), Some(*line));
     }
     assert!(rt; engine.settled());
