@@ -61,10 +61,6 @@ AreNumbered-only next n f (b ∷ bs) h k = (
   AreNumbered-only next n f bs h k.2,
 )
 
-pub AreNumbered-more : (next : ℕ) (bs : List Batch) → AreNumbered next bs → AreNumbered (suc next) bs
-AreNumbered-more next [] k = tt
-AreNumbered-more next (b ∷ bs) k = (omega (arith, k.0), k.1, AreNumbered-more next bs k.2)
-
 -- a new batch gets the next number
 pub AreNumbered-new : (next : ℕ) (bs : List Batch) (b : Batch) → b.number ≡ next → AreNumbered next bs → AreNumbered (suc next) (bs ++ b ∷ [])
 AreNumbered-new next [] b e k = (omega (arith, e), tt, tt)

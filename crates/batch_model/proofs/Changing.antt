@@ -1,20 +1,19 @@
 -- A change of the act at one place keeps what remains standing, and lowers the work left where it lowers that act's.
 use Rattle.std.proofs.Common.{◌≡◌, refl, sym, ◌∙◌, ap, subst, Bool, true, false, List, [], ◌∷◌, ◌++◌, arith, inl, inr, ◌<◌, ◌≤◌, ◌+◌}
-use Rattle.std.specs.Str.{bytes_eq}
 use Rattle.std.specs.Prelude.{◌⊎◌}
 use Rattle.std.proofs.lemmas.Slice.Eq.{bytes_eq-Decides}
 use Rattle.batch_matrix.specs.declared.state.State.{State}
 use Rattle.batch_model.specs.Lists.{Has}
 use Rattle.batch_recipe.specs.Tree.{Place, Step}
-use Rattle.batch_model.specs.Rest.{Rest, ready, asking, open_act, live, freeing, in_seq, in_par, in_loop, done, Rests, no_rests, rest, acts, acts_of_each, changed_at, changed_in_each}
+use Rattle.batch_model.specs.Rest.{same_place, Rest, ready, asking, open_act, live, freeing, in_seq, in_par, in_loop, done, Rests, no_rests, rest, acts, acts_of_each, changed_at, changed_in_each}
 use Rattle.batch_model.specs.Plant.{place_of}
 use Rattle.batch_model.specs.Runs.{toil_left, toil_left_in_each}
 use Rattle.batch_model.proofs.Members.{Has-left, Has-right}
 
-pub to_same_place : (q p : Place) → bytes_eq q p ≡ true → q ≡ p
+pub to_same_place : (q p : Place) → same_place q p ≡ true → q ≡ p
 to_same_place q p e = (bytes_eq-Decides q p).0 e
 
-same_test : (q p : Place) → q ≡ p → bytes_eq q p ≡ true
+same_test : (q p : Place) → q ≡ p → same_place q p ≡ true
 same_test q p e = (bytes_eq-Decides q p).1 e
 
 module _ (x : State) (p : Place) (f : Rest → Rest) where
@@ -30,13 +29,13 @@ module _ (x : State) (p : Place) (f : Rest → Rest) where
   mutual
     -- a change that adds no work at its place adds none to the whole
     pub changed_at-toil : (r : Rest) → ((a : Rest) → Has (acts r) a → Eases a) → toil_left x (changed_at p f r) ≤ toil_left x r
-    changed_at-toil (ready s w k) h = eased (ready s w k) (ready s w k) (bytes_eq s.place p) (λ e. h (ready s w k) (inl refl) (to_same_place s.place p e)) (omega arith)
-    changed_at-toil (asking s w k) h = eased (asking s w k) (asking s w k) (bytes_eq s.place p) (λ e. h (asking s w k) (inl refl) (to_same_place s.place p e)) (omega arith)
+    changed_at-toil (ready s w k) h = eased (ready s w k) (ready s w k) (same_place s.place p) (λ e. h (ready s w k) (inl refl) (to_same_place s.place p e)) (omega arith)
+    changed_at-toil (asking s w k) h = eased (asking s w k) (asking s w k) (same_place s.place p) (λ e. h (asking s w k) (inl refl) (to_same_place s.place p e)) (omega arith)
     changed_at-toil (open_act s r) h =
-        eased (open_act s r) (open_act s (changed_at p f r)) (bytes_eq s.place p) (λ e. h (open_act s r) (inl refl) (to_same_place s.place p e))
+        eased (open_act s r) (open_act s (changed_at p f r)) (same_place s.place p) (λ e. h (open_act s r) (inl refl) (to_same_place s.place p e))
         (omega (arith, changed_at-toil r (λ a m. h a (inr m))))
-    changed_at-toil (live s y t) h = eased (live s y t) (live s y t) (bytes_eq s.place p) (λ e. h (live s y t) (inl refl) (to_same_place s.place p e)) (omega arith)
-    changed_at-toil (freeing s k) h = eased (freeing s k) (freeing s k) (bytes_eq s.place p) (λ e. h (freeing s k) (inl refl) (to_same_place s.place p e)) (omega arith)
+    changed_at-toil (live s y t) h = eased (live s y t) (live s y t) (same_place s.place p) (λ e. h (live s y t) (inl refl) (to_same_place s.place p e)) (omega arith)
+    changed_at-toil (freeing s k) h = eased (freeing s k) (freeing s k) (same_place s.place p) (λ e. h (freeing s k) (inl refl) (to_same_place s.place p e)) (omega arith)
     changed_at-toil (in_seq r cs) h = omega (arith, changed_at-toil r h)
     changed_at-toil (in_par rs) h = changed_in_each-toil rs h
     changed_at-toil (in_loop n c body r) h = omega (arith, changed_at-toil r h)
@@ -59,7 +58,7 @@ module _ (x : State) (p : Place) (f : Rest → Rest) where
   to-Eases a h e = let l : toil_left x (f a) < toil_left x a = h e in omega arith
 
   -- the act at the place itself
-  lowered : (a b : Rest) (q : Place) → q ≡ p → toil_left x (f a) < toil_left x a → toil_left x (elim (bytes_eq q p) [ true ↦ f a | false ↦ b ]) < toil_left x a
+  lowered : (a b : Rest) (q : Place) → q ≡ p → toil_left x (f a) < toil_left x a → toil_left x (elim (same_place q p) [ true ↦ f a | false ↦ b ]) < toil_left x a
   lowered a b q e h = subst (λ t. toil_left x (elim t [ true ↦ f a | false ↦ b ]) < toil_left x a) (sym (same_test q p e)) h
 
   -- an act above the place, or the act at it
@@ -93,7 +92,7 @@ module _ (x : State) (p : Place) (f : Rest → Rest) where
       → toil_left x (changed_at p f (open_act s r)) < toil_left x (open_act s r)
   open_lower s r h below (inl e) = lowered (open_act s r) (open_act s (changed_at p f r)) s.place e (h (open_act s r) (inl refl) e)
   open_lower s r h below (inr m) =
-      lowered_below (open_act s r) (open_act s (changed_at p f r)) (bytes_eq s.place p) (λ e. h (open_act s r) (inl refl) (to_same_place s.place p e))
+      lowered_below (open_act s r) (open_act s (changed_at p f r)) (same_place s.place p) (λ e. h (open_act s r) (inl refl) (to_same_place s.place p e))
       (omega (arith, below m))
 
   either_lower : (r : Rest) (rs : Rests) → ((a : Rest) → Has (acts r ++ acts_of_each rs) a → Lowers a)

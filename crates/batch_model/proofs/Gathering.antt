@@ -6,7 +6,7 @@ use Rattle.batch_recipe.specs.Conditions.{ValueList, holds}
 use Rattle.batch_recipe.specs.declared.condition.Cond.{Cond}
 use Rattle.batch_recipe.specs.Tree.{Step, Tree, act, skip, seq, par, sel, loop, Task, Trees, no_trees, tree, Choices, otherwise, choice}
 use Rattle.batch_model.specs.Rest.{Rest, ready, asking, open_act, live, freeing, in_seq, in_par, in_loop, done, Rests, no_rests, rest, is_done, all_done, joined, turning, reach, reach_first, reach_each, reach_chosen, turned, advance, advance_each, acts, acts_of_each}
-use Rattle.batch_model.specs.Plant.{held_by, held_in}
+use Rattle.batch_model.specs.Plant.{held_by, held_in, phase_states}
 
 pub no-acts_of_done : (r : Rest) → is_done r ≡ true → acts r ≡ []
 no-acts_of_done done e = refl
@@ -128,3 +128,30 @@ held_in-reach = reach-gathered held_by (λ s w. refl) (λ s q r. refl)
 -- advancing takes and gives back no resource
 pub held_in-advance : (vs : ValueList) (r : Rest) → held_in (advance vs r) ≡ held_in r
 held_in-advance = advance-gathered held_by (λ s w. refl) (λ s q r. refl)
+
+phase_states-cons : (a : Rest) (xs : List Rest) → phase_states (a ∷ xs) ≡ phase_states (a ∷ []) ++ phase_states xs
+phase_states-cons (ready s w k) xs = refl
+phase_states-cons (asking s w k) xs = refl
+phase_states-cons (open_act s r) xs = refl
+phase_states-cons (live s p x) xs = refl
+phase_states-cons (freeing s k) xs = refl
+phase_states-cons (in_seq r cs) xs = refl
+phase_states-cons (in_par rs) xs = refl
+phase_states-cons (in_loop n c body r) xs = refl
+phase_states-cons done xs = refl
+
+phase_states-gathered : (xs : List Rest) → flat_map (λ a. phase_states (a ∷ [])) xs ≡ phase_states xs
+phase_states-gathered [] = refl
+phase_states-gathered (a ∷ xs) = ap (λ ys. phase_states (a ∷ []) ++ ys) (phase_states-gathered xs) ∙ sym (phase_states-cons a xs)
+
+-- a chart that has just been reached runs no phase
+pub phase_states-reach : (vs : ValueList) (c : Tree) → phase_states (acts (reach vs c)) ≡ []
+phase_states-reach vs c =
+    sym (phase_states-gathered (acts (reach vs c))) ∙ reach-gathered (λ a. phase_states (a ∷ [])) (λ s w. refl) (λ s q r. refl) vs c
+
+-- advancing changes the states of no phase
+pub phase_states-advance : (vs : ValueList) (r : Rest) → phase_states (acts (advance vs r)) ≡ phase_states (acts r)
+phase_states-advance vs r =
+    sym (phase_states-gathered (acts (advance vs r)))
+    ∙ advance-gathered (λ a. phase_states (a ∷ [])) (λ s w. refl) (λ s q r. refl) vs r
+    ∙ phase_states-gathered (acts r)

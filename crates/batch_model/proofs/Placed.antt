@@ -1,5 +1,5 @@
 -- Each act of an expanded recipe carries the place at which it stands.
-use Rattle.std.proofs.Common.{refl, ℕ, ◌+◌, List, [], ◌∷◌, Some, None}
+use Rattle.std.proofs.Common.{◌≡◌, refl, sym, subst, ℕ, ◌+◌, List, [], ◌∷◌, Some, None}
 use Rattle.std.specs.Prelude.{Option}
 use Rattle.batch_recipe.specs.Conditions.{Name}
 use Rattle.batch_recipe.specs.Diagram as chart
@@ -13,6 +13,11 @@ use Rattle.batch_recipe.specs.declared.act.Work.{Work}
 use Rattle.batch_recipe.specs.declared.act.Work.TheVariants.{Follows, Runs}
 use Rattle.batch_recipe.specs.declared.acts.Acts.{Acts}
 use Rattle.batch_recipe.specs.declared.acts.Level.TheVariants.{UnitProcedures}
+use Rattle.batch_model.specs.Lists.{Each}
+use Rattle.batch_model.specs.Plant.{Documents}
+use Rattle.batch_model.specs.Demo.{demo}
+use Rattle.batch_model.specs.Standing.{HasPlacedTrees}
+use Rattle.batch_model.proofs.Members.{Each-map}
 use Rattle.batch_model.specs.Placed.{IsPlaced, IsPlacedBelow, ArePlaced, IsChoicePlaced}
 
 -- whatever the label names is placed
@@ -59,3 +64,12 @@ pub procedure_tree-IsPlaced : (acts : Acts) → IsPlaced (0 ∷ []) (procedure_t
 procedure_tree-IsPlaced acts =
     let tables = tables_from acts (Some UnitProcedures) in
     act_tree-IsPlaced (named_tree tables) (named_tree-IsPlaced tables) [] acts.procedure (0 ∷ [])
+
+-- documents whose recipes have the expanded trees of acts have placed trees
+pub expanded-HasPlacedTrees : (c : Documents) → Each (λ r. (recipe_acts : Acts) × (r.procedure ≡ procedure_tree recipe_acts)) c.recipes → HasPlacedTrees c
+expanded-HasPlacedTrees c h =
+    Each-map (λ r. (recipe_acts : Acts) × (r.procedure ≡ procedure_tree recipe_acts)) (λ r. IsPlaced (0 ∷ []) r.procedure)
+    (λ r e. subst (IsPlaced (0 ∷ [])) (sym e.1) (procedure_tree-IsPlaced e.0)) c.recipes h
+
+pub demo-HasPlacedTrees : HasPlacedTrees demo
+demo-HasPlacedTrees = ((refl, (refl, (refl, (refl, tt)))), tt)

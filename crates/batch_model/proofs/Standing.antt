@@ -34,10 +34,7 @@ turning-IsRestOf n m c body r lt h = go (is_done r)
     go true = tt
     go false = (lt, refl, refl, h)
 
--- among the branches cs, r is one with ds after it, or none is left
-IsSeqRest : Trees → Rest → Type 0
-IsSeqRest cs r = IsRestOf (seq cs) r
-
+-- what remains of later branches remains of all
 later : (c : Tree) (cs : Trees) (r : Rest) → IsRestOf (seq cs) r → IsRestOf (seq (tree c cs)) r
 later c cs done h = tt
 later c cs (in_seq r ds) h = inr h

@@ -4,12 +4,13 @@ use Rattle.batch_recipe.specs.Conditions.{Name, ValueList}
 use Rattle.batch_recipe.specs.Procedure.{procedure_tree}
 use Rattle.batch_recipe.specs.Tree.{Place, Tree}
 use Rattle.batch_recipe.specs.declared.acts.Acts.{Acts}
-use Rattle.batch_model.specs.Lists.{Has}
+use Rattle.batch_model.specs.Lists.{Has, Each}
 use Rattle.batch_model.specs.Rest.{Rest, acts, reach, advance, withdrawn}
-use Rattle.batch_model.specs.Plant.{Documents, Plant, opening, place_of, held_in}
+use Rattle.batch_model.specs.Plant.{Documents, Plant, opening, place_of, held_in, phase_states}
 use Rattle.batch_model.specs.Moves.{Move, batch_of, place_of_move, is_earlier, possible, next, after}
 use Rattle.batch_model.specs.Events.{Event, create, Reply, refused, Refusal, full, moves_pending, no_memory}
 use Rattle.batch_model.specs.Runs.{Out, reply, move, Reacts, Leads, work_left, settling, run}
+use Rattle.batch_model.specs.Demo.{demo}
 use Rattle.batch_model.specs.Records.{holders_after, holders_told, waiters_after, waiters_told, active_after, active_told, state_after, state_told}
 use Rattle.batch_model.specs.Settled.{IsAdvanced}
 use Rattle.batch_model.specs.Standing.{IsRestOf, HasPlacedTrees, IsStanding}
@@ -21,6 +22,14 @@ use Rattle.batch_model.specs.declared.limits.TheConstants.{LAST_NUMBER}
 -- each act of a recipe's expanded tree carries the place at which it stands
 abbrev pub TreesArePlaced : Type 0
 TreesArePlaced = (recipe_acts : Acts) → IsPlaced (0 ∷ []) (procedure_tree recipe_acts)
+
+-- and so do the trees of documents whose recipes are expanded from acts
+abbrev pub DocumentsArePlaced : Type 0
+DocumentsArePlaced =
+    (c : Documents) → Each (λ r. (recipe_acts : Acts) × (r.procedure ≡ procedure_tree recipe_acts)) c.recipes → HasPlacedTrees c
+
+abbrev pub DemoIsPlaced : Type 0
+DemoIsPlaced = HasPlacedTrees demo
 
 -- nothing is left to be reached of a chart that has just been reached, nor of a rest that has advanced
 abbrev pub ReachesFully : Type 0
@@ -45,6 +54,13 @@ ReachingHoldsNothing = (vs : ValueList) (chart : Tree) → held_in (reach vs cha
 
 abbrev pub AdvancingHoldsTheSame : Type 0
 AdvancingHoldsTheSame = (vs : ValueList) (r : Rest) → held_in (advance vs r) ≡ held_in r
+
+-- what has just been reached runs no phase, and advancing changes the states of none
+abbrev pub ReachingRunsNoPhase : Type 0
+ReachingRunsNoPhase = (vs : ValueList) (chart : Tree) → phase_states (acts (reach vs chart)) ≡ []
+
+abbrev pub AdvancingRunsTheSamePhases : Type 0
+AdvancingRunsTheSamePhases = (vs : ValueList) (r : Rest) → phase_states (acts (advance vs r)) ≡ phase_states (acts r)
 
 -- the acts of a rest are in the order of their places, and one stands at a place
 abbrev pub ActsRise : Type 0

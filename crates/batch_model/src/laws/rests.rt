@@ -1,9 +1,11 @@
 //! What remains of a recipe.
-ghost use Rattle.batch_model.specs.Laws.{ActsRise, AdvancesFully, AdvancingHoldsTheSame, AdvancingStands, OneActAPlace, ReachesFully, ReachingHoldsNothing, ReachingStands, TreesArePlaced, WithdrawingStands};
+ghost use Rattle.batch_model.specs.Laws.{ActsRise, AdvancesFully, AdvancingHoldsTheSame, AdvancingRunsTheSamePhases, AdvancingStands, DemoIsPlaced, DocumentsArePlaced, OneActAPlace, ReachesFully, ReachingHoldsNothing, ReachingRunsNoPhase, ReachingStands, TreesArePlaced, WithdrawingStands};
 
-/// Each act of a recipe's expanded tree carries the place at which it stands.
+/// Each act of a recipe's expanded tree carries the place at which it stands, so the documents that recipes make have placed trees.
 pub fn trees_are_placed()
-    ensures { TreesArePlaced }
+    ensures tree { TreesArePlaced }
+    ensures documents { DocumentsArePlaced }
+    ensures demo { DemoIsPlaced }
 {}
 
 /// Reaching and advancing leave nothing that could still be reached.
@@ -19,10 +21,12 @@ pub fn stands_in_its_chart()
     ensures withdrawn { WithdrawingStands }
 {}
 
-/// What has just been reached holds nothing, and advancing takes and gives back nothing.
+/// What has just been reached holds nothing and runs no phase, and advancing leaves what is held and the phases as they are.
 pub fn advances_without_taking()
     ensures reached { ReachingHoldsNothing }
     ensures advanced { AdvancingHoldsTheSame }
+    ensures reached_phases { ReachingRunsNoPhase }
+    ensures advanced_phases { AdvancingRunsTheSamePhases }
 {}
 
 /// The acts of what remains are in the order of their places, and one stands at a place.
