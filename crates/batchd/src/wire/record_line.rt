@@ -5,6 +5,7 @@ ghost use Rattle.batchd.specs.RecordText.{place_text as place_words};
 ghost use Rattle.batchd.specs.Recipe.{place_at};
 ghost use Rattle.batchd.specs.Surface.{out_of, reply_of, move_of};
 ghost use Rattle.batchd.specs.declared.engine.reply.Reply.TheVariants as replies;
+ghost use Rattle.batchd.specs.declared.engine.line.Line.TheVariants as lines;
 ghost use Rattle.batchd.specs.Written.{Writes};
 
 use crate::engine::{Line, Out, Refusal, Reply};
@@ -28,59 +29,77 @@ pub fn write_out<W: Write>(out: &Out, writer: &mut W) -> Result<(), WriteFault>
 fn write_reply<W: Write>(reply: Reply, writer: &mut W) -> Result<(), WriteFault>
     ensures { Writes (W.contents writer.old) (W.contents writer.new) result (line_text (reply_words (reply_of reply))) }
 {
-    let mut digits = Buffer::new();
-    let mut size_digits = Buffer::new();
     match reply {
         Reply::Created {
             batch,
             recipe,
             size,
-        } => write_pieces(
-            writer,
-            &[
-                b"created ",
-                digits.format(batch).as_bytes(),
-                b" ",
-                recipe_name(recipe),
-                b" ",
-                size_digits.format(size).as_bytes(),
-                b"\n",
-            ],
-        ),
-        Reply::Started { batch, state } => write_pieces(
-            writer,
-            &[
-                b"ok start ",
-                digits.format(batch).as_bytes(),
-                b" ",
-                state_text(state),
-                b"\n",
-            ],
-        ),
+        } => write_created(batch, recipe, size, writer),
+        Reply::Started { batch, state } => { write_state(b"ok start", batch, state, writer) }
         Reply::Done {
             unit,
             phase,
             batch,
             node,
             state,
-        } => write_pieces(
-            writer,
-            &[
-                b"ok report ",
-                resource_name(unit),
-                b" ",
-                phase_name(phase),
-                b" done ",
-                digits.format(batch).as_bytes(),
-                b" ",
-                place_text(node),
-                b" ",
-                state_text(state),
-                b"\n",
-            ],
-        ),
+        } => { write_done(unit, phase, batch, node, state, writer) }
         Reply::Refused(refusal) => write_refusal(refusal, writer),
     }
+}
+
+fn write_created<W: Write>(
+    batch: u64,
+    recipe: u16,
+    size: u64,
+    writer: &mut W,
+) -> Result<(), WriteFault>
+    ensures { Writes (W.contents writer.old) (W.contents writer.new) result
+        (line_text (reply_words (reply_of (replies.Created batch recipe size)))) }
+{
+    let mut batch_digits = Buffer::new();
+    let mut size_digits = Buffer::new();
+    write_pieces(
+        writer,
+        &[
+            b"created ",
+            batch_digits.format(batch).as_bytes(),
+            b" ",
+            recipe_name(recipe),
+            b" ",
+            size_digits.format(size).as_bytes(),
+            b"\n",
+        ],
+    )
+}
+
+fn write_done<W: Write>(
+    unit: u16,
+    phase: u16,
+    batch: u64,
+    node: u16,
+    state: State,
+    writer: &mut W,
+) -> Result<(), WriteFault>
+    ensures { Writes (W.contents writer.old) (W.contents writer.new) result
+        (line_text (reply_words (reply_of (replies.Done unit phase batch node state)))) }
+{
+    let mut digits = Buffer::new();
+    write_pieces(
+        writer,
+        &[
+            b"ok report ",
+            resource_name(unit),
+            b" ",
+            phase_name(phase),
+            b" done ",
+            digits.format(batch).as_bytes(),
+            b" ",
+            place_text(node),
+            b" ",
+            state_text(state),
+            b"\n",
+        ],
+    )
 }
 
 fn write_refusal<W: Write>(refusal: Refusal, writer: &mut W) -> Result<(), WriteFault>
@@ -103,18 +122,8 @@ fn write_refusal<W: Write>(refusal: Refusal, writer: &mut W) -> Result<(), Write
 fn write_move<W: Write>(line: Line, writer: &mut W) -> Result<(), WriteFault>
     ensures { Writes (W.contents writer.old) (W.contents writer.new) result (line_text (move_words (move_of line))) }
 {
-    let mut digits = Buffer::new();
     match line {
-        Line::State { batch, state } => write_pieces(
-            writer,
-            &[
-                b"state ",
-                digits.format(batch).as_bytes(),
-                b" ",
-                state_text(state),
-                b"\n",
-            ],
-        ),
+        Line::State { batch, state } => write_state(b"state", batch, state, writer),
         Line::Release {
             batch,
             node,
@@ -126,30 +135,8 @@ fn write_move<W: Write>(line: Line, writer: &mut W) -> Result<(), WriteFault>
             node,
             unit,
             phase,
-        } => write_pieces(
-            writer,
-            &[
-                b"start ",
-                digits.format(batch).as_bytes(),
-                b" ",
-                place_text(node),
-                b" ",
-                resource_name(unit),
-                b" ",
-                phase_name(phase),
-                b"\n",
-            ],
-        ),
-        Line::End { batch, node } => write_pieces(
-            writer,
-            &[
-                b"end ",
-                digits.format(batch).as_bytes(),
-                b" ",
-                place_text(node),
-                b"\n",
-            ],
-        ),
+        } => { write_phase_start(batch, node, unit, phase, writer) }
+        Line::End { batch, node } => write_end(batch, node, writer),
         Line::Ask {
             batch,
             node,
@@ -161,6 +148,73 @@ fn write_move<W: Write>(line: Line, writer: &mut W) -> Result<(), WriteFault>
             resource,
         } => { write_step(b"grant", batch, node, resource_name(resource), writer) }
     }
+}
+
+/// Writes a batch's state, after the words that say how it came.
+fn write_state<W: Write>(
+    words: &'static [u8],
+    batch: u64,
+    state: State,
+    writer: &mut W,
+) -> Result<(), WriteFault>
+    ensures { Writes (W.contents writer.old) (W.contents writer.new) result
+        (line_text (words.now ∷ decimal batch ∷ state_text state ∷ [])) }
+{
+    let mut digits = Buffer::new();
+    write_pieces(
+        writer,
+        &[
+            words,
+            b" ",
+            digits.format(batch).as_bytes(),
+            b" ",
+            state_text(state),
+            b"\n",
+        ],
+    )
+}
+
+fn write_phase_start<W: Write>(
+    batch: u64,
+    node: u16,
+    unit: u16,
+    phase: u16,
+    writer: &mut W,
+) -> Result<(), WriteFault>
+    ensures { Writes (W.contents writer.old) (W.contents writer.new) result
+        (line_text (move_words (move_of (lines.Start batch node unit phase)))) }
+{
+    let mut digits = Buffer::new();
+    write_pieces(
+        writer,
+        &[
+            b"start ",
+            digits.format(batch).as_bytes(),
+            b" ",
+            place_text(node),
+            b" ",
+            resource_name(unit),
+            b" ",
+            phase_name(phase),
+            b"\n",
+        ],
+    )
+}
+
+fn write_end<W: Write>(batch: u64, node: u16, writer: &mut W) -> Result<(), WriteFault>
+    ensures { Writes (W.contents writer.old) (W.contents writer.new) result (line_text (move_words (move_of (lines.End batch node)))) }
+{
+    let mut digits = Buffer::new();
+    write_pieces(
+        writer,
+        &[
+            b"end ",
+            digits.format(batch).as_bytes(),
+            b" ",
+            place_text(node),
+            b"\n",
+        ],
+    )
 }
 
 /// Writes what a move tells of a step: the word, the batch, the step's place and a name.
