@@ -12,3 +12,4 @@ pub mod Written
 pub mod Transcript
 pub mod WrittenTranscript
 pub mod Serving
+pub mod RowsOfText

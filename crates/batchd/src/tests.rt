@@ -1,6 +1,7 @@
 use crate::command_line::takes_words;
 use crate::engine::{Engine, Event, Out, Refusal, Reply};
 use crate::transcript::{ServeFault, serve};
+use crate::wire::rows::record_lines;
 use crate::wire::{MAX_LINE_LEN, WireFault, WriteFault, read_event, write_all, write_out};
 use batch_matrix::State;
 use std::alloc::Global;
@@ -340,6 +341,7 @@ fn one_line_each_way(rt: HostRuntime) -> Result<(), Fail> {
     assert!(rt; matches!(read_event(alloc, b"  "), Ok(None)));
     assert!(rt; matches!(read_event(alloc, b"stop 7"), Err(WireFault::UnknownWord)));
 
+    record_lines();
     let out = Out::Reply(Reply::Refused(Refusal::CommandNotAccepted(State::Complete)));
     let mut record = Vec::new(alloc);
     assert_eq!(rt; write_out(&out, &mut record), Ok(()));

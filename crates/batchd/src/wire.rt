@@ -3,6 +3,8 @@ mod demo_names;
 mod event_line;
 mod fault;
 mod record_line;
+#[cfg(test)]
+pub mod rows;
 mod words;
 mod writing;
 

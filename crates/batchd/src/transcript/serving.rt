@@ -17,6 +17,9 @@ use crate::wire::WriteFault;
 use std::alloc::Global;
 use std::io::{Read, Write};
 
+/// How many bytes one call of the reader may give.
+const PIECE_LEN: usize = 65_536;
+
 /// Answers the lines that the reader gives, until its bytes end.
 ///
 /// Each line is read and given to the machine, the reply is written, and then each move. What is
@@ -45,7 +48,7 @@ pub fn serve<R: Read, W: Write>(
         (n : ℕ) × BeginsTranscript demo (plant_of engine.old) (take n (lines_of input)) (W.contents writer.old) (W.contents writer.new)) }
 {
     let mut line = LineBuffer::new();
-    let mut piece = [0u8; 65536];
+    let mut piece = [0u8; PIECE_LEN];
     for _ in 0..max_reads {
         let count = match reader.read(&mut piece) {
             Ok(count) => count,
