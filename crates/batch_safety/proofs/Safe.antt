@@ -1,0 +1,82 @@
+-- Every record is safe after each of its lines.
+use Rattle.std.proofs.Common.{◌≡◌, refl, sym, ◌∙◌, ap, subst, subst₂, zero-le, ℕ, List, [], ◌∷◌, ◌++◌, append-nil, append_assoc}
+use Rattle.batch_recipe.specs.Conditions.{ValueList}
+use Rattle.batch_recipe.specs.Tree.{Phase, Place}
+use Rattle.batch_model.specs.Plant.{Documents, Plant, opening}
+use Rattle.batch_model.specs.Moves.{start, after}
+use Rattle.batch_model.specs.Events.{Event, Reply}
+use Rattle.batch_model.specs.Runs.{Out, move, reply, Leads}
+use Rattle.batch_model.specs.Records.{StartsIdle, IsSafeNow}
+use Rattle.batch_safety.specs.Cleared.{Ranking, IsCleared}
+use Rattle.batch_safety.specs.Headline.{CanOnlyBeSafe}
+use Rattle.batch_safety.proofs.Invariant.{IsKept}
+use Rattle.batch_safety.proofs.Safety.{safe-now}
+use Rattle.batch_safety.proofs.Starting.{starts-nothing}
+use Rattle.batch_safety.proofs.Moving.{move-step}
+use Rattle.batch_safety.proofs.Reports.{reply-step}
+
+pub kept-at_first : (d : Documents) (rank : Ranking) → IsKept d rank [] opening
+kept-at_first d rank =
+    record {
+      sound = λ b h. absurd h;
+      numbers = tt;
+      held = λ q. (refl, λ a h. h, λ a h. h, tt);
+      within = λ q. zero-le;
+      lines = λ q. refl;
+      asked = λ q a h. absurd h;
+      active = λ x h. absurd h;
+      listed = λ q a h. absurd h;
+      shown = λ a x h. absurd h;
+      states = λ b h. absurd h;
+    }
+
+no_line : (before : List Out) (o : Out) → ◌≡◌ {A = List Out} [] (before ++ o ∷ []) → ⊥
+no_line [] o e = cc
+no_line (p ∷ before) o e = cc
+
+starts-at_first : (d : Documents) → StartsIdle d []
+starts-at_first d before n p x vs e = absurd (no_line before (move (start n p x vs)) e)
+
+-- a record leads from a plant so far to a plant, and so does each front of it
+same_first : (o p : Out) (xs ys : List Out) → o ∷ xs ≡ p ∷ ys → (o ≡ p) × (xs ≡ ys)
+same_first o p xs ys e = (cc, cc)
+
+reply_no_start : (r : Reply) (n : ℕ) (p : Place) (x : Phase) (vs : ValueList) → reply r ≡ move (start n p x vs) → ⊥
+reply_no_start r n p x vs e = cc
+
+no_front : (o : Out) (xs : List Out) → ◌≡◌ {A = List Out} (o ∷ xs) [] → ⊥
+no_front o xs e = cc
+
+module _ (d : Documents) (rank : Ranking) (cleared : IsCleared d rank) where
+  safe-along : (told : List Out) (s : Plant) → IsKept d rank told s → StartsIdle d told → (es : List Event) (outs : List Out) (t : Plant) → Leads d s es outs t
+      → (front more : List Out) → front ++ more ≡ outs → IsSafeNow d (told ++ front)
+  safe-along told s k st es outs t l [] more e = subst (IsSafeNow d) (sym (append-nil told)) (safe-now d rank told s k st)
+  safe-along told s k st [] [] t l (o ∷ front) more e = absurd (no_front o (front ++ more) e)
+  safe-along told s k st (v ∷ es) [] t l (o ∷ front) more e = absurd l
+  safe-along told s k st es (move m ∷ outs) t l (o ∷ front) more e =
+      let q = same_first o (move m) (front ++ more) outs e in
+      let step = move-step d rank told s k m l.0 in
+      subst (IsSafeNow d) (append_assoc told (move m ∷ []) front ∙ ap (λ z. told ++ z ∷ front) (sym q.0))
+      (safe-along (told ++ move m ∷ []) (after s m) step.0 step.1 es outs t l.1 front more q.1)
+  safe-along told s k st [] (reply r ∷ outs) t l (o ∷ front) more e = absurd l
+  safe-along told s k st (v ∷ es) (reply r ∷ outs) t l (o ∷ front) more e =
+      let q = same_first o (reply r) (front ++ more) outs e in
+      subst (IsSafeNow d) (append_assoc told (reply r ∷ []) front ∙ ap (λ z. told ++ z ∷ front) (sym q.0))
+      (safe-along (told ++ reply r ∷ []) l.0 (reply-step d rank cleared told s k v r l.0 l.1)
+      (starts-nothing d told (reply r) (λ n p x vs f. reply_no_start r n p x vs f)) es outs t l.2 front more q.1)
+
+pub safe : CanOnlyBeSafe
+safe d rank cleared es outs t l front more e = safe-along d rank cleared [] opening (kept-at_first d rank) (starts-at_first d) es outs t l front more e
+
+-- what is kept is kept along the whole record
+pub kept-along : (d : Documents) (rank : Ranking) → IsCleared d rank → (told : List Out) (s : Plant) → IsKept d rank told s → (es : List Event) (outs : List Out) (t : Plant) → Leads d s es outs t
+    → IsKept d rank (told ++ outs) t
+kept-along d rank cleared told s k [] [] t l = subst₂ (λ y z. IsKept d rank y z) (sym (append-nil told)) l k
+kept-along d rank cleared told s k (v ∷ es) [] t l = absurd l
+kept-along d rank cleared told s k es (move m ∷ outs) t l =
+    subst (λ z. IsKept d rank z t) (append_assoc told (move m ∷ []) outs)
+    (kept-along d rank cleared (told ++ move m ∷ []) (after s m) (move-step d rank told s k m l.0).0 es outs t l.1)
+kept-along d rank cleared told s k [] (reply r ∷ outs) t l = absurd l
+kept-along d rank cleared told s k (v ∷ es) (reply r ∷ outs) t l =
+    subst (λ z. IsKept d rank z t) (append_assoc told (reply r ∷ []) outs)
+    (kept-along d rank cleared (told ++ reply r ∷ []) l.0 (reply-step d rank cleared told s k v r l.0 l.1) es outs t l.2)

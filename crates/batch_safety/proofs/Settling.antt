@@ -1,0 +1,199 @@
+-- Where no move is possible: what is awaited is held to its capacity, and chains are short.
+use Rattle.std.proofs.Common.{◌≡◌, ⊎_elim, refl, sym, ◌∙◌, ap, ap₂, subst, ℕ, suc, ◌≤◌, ◌<◌, arith, List, [], ◌∷◌, ◌++◌, Bool, true, false, not, ◌&&◌, filter, filter_map, take, slice_get, Option, Some, None, inl, inr, length, bytes_eq, nat_lt}
+use Rattle.std.specs.List.{cons_option}
+use Rattle.batch_model.specs.Lists.{Has}
+use Rattle.batch_recipe.specs.Conditions.{Name}
+use Rattle.batch_recipe.specs.Tree.{Place, Step, Task}
+use Rattle.batch_model.specs.Rest.{Rest, ready, asking, open_act, live, freeing, in_seq, in_par, in_loop, done, Rests, no_rests, rest, acts, acts_of_each}
+use Rattle.batch_model.specs.Plant.{Documents, Batch, BatchAct, Plant, is_same_act, holders}
+use Rattle.batch_model.specs.Moves.{Move, grant, act_move, state_move, batch_moves, possible, least, next, is_earlier, is_served, when}
+use Rattle.batch_model.specs.Runs.{Out}
+use Rattle.batch_model.specs.Records.{scene_of, Waiting, IsWaiting, Link, IsLink, IsChain, StandsUnder}
+use Rattle.batch_safety.specs.Facts.{awaiting, performing, held_at, awaited_at, facts, facts_of_each, entries, holders_among}
+use Rattle.batch_safety.specs.Cleared.{Ranking}
+use Rattle.batch_safety.proofs.Members.{Has-split, Has-left, Has-right, flat_map-Has}
+use Rattle.batch_safety.proofs.Ranking.{held-awaiting, awaited-awaiting, lone-awaiting}
+use Rattle.batch_safety.proofs.Entries.{act_self, name_self, name_same, filter-Has, length-filter_lt}
+use Rattle.batch_safety.proofs.Batches.{holders-entries}
+use Rattle.batch_safety.proofs.Invariant.{IsKept}
+use Rattle.batch_safety.proofs.Safety.{entry-of, points-rise}
+
+-- No move
+
+none_least : (ms : List Move) → least ms ≡ None → ms ≡ []
+none_least [] e = refl
+none_least (m ∷ ms) e = absurd (go (least ms) e)
+  where
+    pick : (t : Bool) (l : Move) → ◌≡◌ {A = Option Move} (elim t [ true ↦ Some l | false ↦ Some m ]) None → ⊥
+    pick true l h = cc
+    pick false l h = cc
+
+    go : (o : Option Move) → ◌≡◌ {A = Option Move} (elim o [ None ↦ Some m | Some l ↦ elim (is_earlier l m) [ true ↦ Some l | false ↦ Some m ] ]) None → ⊥
+    go None h = cc
+    go (Some l) h = pick (is_earlier l m) l h
+
+filter_map-Has : {X Y : Type 0} (h : X → Option Y) (xs : List X) (x : X) (y : Y) → Has xs x → h x ≡ Some y → Has (filter_map h xs) y
+filter_map-Has h [] x y m e = absurd m
+filter_map-Has {X = X} {Y = Y} h (z ∷ xs) x y (inl q) e = go (h z) (ap h q ∙ e)
+  where
+    go : (o : Option Y) → o ≡ Some y → Has (cons_option o (filter_map h xs)) y
+    go None f = absurd cc
+    go (Some w) f = inl cc
+filter_map-Has {X = X} {Y = Y} h (z ∷ xs) x y (inr m) e = go (h z) (filter_map-Has h xs x y m e)
+  where
+    go : (o : Option Y) → Has (filter_map h xs) y → Has (cons_option o (filter_map h xs)) y
+    go None f = f
+    go (Some w) f = inr f
+
+-- no act of a settled plant has a move
+pub no_act_move : (d : Documents) (s : Plant) → next d s ≡ None → (b : Batch) → Has s.batches b → (a : Rest) → Has (acts b.rest) a → (m : Move) → act_move d s b a ≡ Some m → ⊥
+no_act_move d s e b i a j m f =
+    let here : Has (filter_map (act_move d s b) (acts b.rest)) m = filter_map-Has (act_move d s b) (acts b.rest) a m j f in
+    subst (λ ms. Has ms m) (none_least (possible d s) e) (flat_map-Has (batch_moves d s) s.batches b m i (go (state_move b) here))
+  where
+    go : (o : Option Move) → Has (filter_map (act_move d s b) (acts b.rest)) m
+        → Has (elim o [ None ↦ filter_map (act_move d s b) (acts b.rest) | Some l ↦ l ∷ filter_map (act_move d s b) (acts b.rest) ]) m
+    go None h = h
+    go (Some l) h = inr h
+
+-- The act that asks
+
+abbrev pub AskingAct : List Rest → Place → Name → Type 0
+AskingAct as' q x = (p : Step) × (w : Task) × (n : ℕ) × Has as' (asking p w n) × (p.place ≡ q) × (slice_get p.needs n ≡ Some x)
+
+asking-left : (xs ys : List Rest) (q : Place) (x : Name) → AskingAct xs q x → AskingAct (xs ++ ys) q x
+asking-left xs ys q x h = (h.0, h.1, h.2, Has-left xs ys (asking h.0 h.1 h.2) h.3, h.4, h.5)
+
+asking-right : (xs ys : List Rest) (q : Place) (x : Name) → AskingAct ys q x → AskingAct (xs ++ ys) q x
+asking-right xs ys q x h = (h.0, h.1, h.2, Has-right xs ys (asking h.0 h.1 h.2) h.3, h.4, h.5)
+
+awaited-place : (p : Place) (o : Option Name) (q : Place) (x : Name) → Has (awaited_at p o) (q, awaiting x) → p ≡ q
+awaited-place p None q x h = absurd h
+awaited-place p (Some r) q x (inl e) = ap (λ z. z.0) e
+awaited-place p (Some r) q x (inr h) = absurd h
+
+mutual
+  pub awaiting-act : (r : Rest) (q : Place) (x : Name) → Has (facts r) (q, awaiting x) → AskingAct (acts r) q x
+  awaiting-act (ready s w k) q x h = absurd (held-awaiting s.place (take k s.needs) q x h)
+  awaiting-act (asking s w k) q x h =
+      ⊎_elim (λ m. absurd (held-awaiting s.place (take k s.needs) q x m))
+      (λ m. (s, w, k, inl refl, awaited-place s.place (slice_get s.needs k) q x m, awaited-awaiting s.place (slice_get s.needs k) q x m))
+      (Has-split (held_at s.place (take k s.needs)) (awaited_at s.place (slice_get s.needs k)) (q, awaiting x) h)
+  awaiting-act (open_act s r) q x h =
+      ⊎_elim (λ m. absurd (held-awaiting s.place s.needs q x m)) (λ m. let k = awaiting-act r q x m in (k.0, k.1, k.2, inr k.3, k.4, k.5))
+      (Has-split (held_at s.place s.needs) (facts r) (q, awaiting x) h)
+  awaiting-act (live s y t) q x h =
+      absurd (⊎_elim (held-awaiting s.place s.needs q x) (lone-awaiting s.place y q x) (Has-split (held_at s.place s.needs) ((s.place, performing y) ∷ []) (q, awaiting x) h))
+  awaiting-act (freeing s k) q x h = absurd (held-awaiting s.place (take k s.needs) q x h)
+  awaiting-act (in_seq r cs) q x h = awaiting-act r q x h
+  awaiting-act (in_par rs) q x h = awaiting-act_of_each rs q x h
+  awaiting-act (in_loop n c body r) q x h = awaiting-act r q x h
+  awaiting-act done q x h = absurd h
+
+  awaiting-act_of_each : (rs : Rests) (q : Place) (x : Name) → Has (facts_of_each rs) (q, awaiting x) → AskingAct (acts_of_each rs) q x
+  awaiting-act_of_each no_rests q x h = absurd h
+  awaiting-act_of_each (rest r rs) q x h =
+      ⊎_elim (λ m. asking-left (acts r) (acts_of_each rs) q x (awaiting-act r q x m)) (λ m. asking-right (acts r) (acts_of_each rs) q x (awaiting-act_of_each rs q x m))
+      (Has-split (facts r) (facts_of_each rs) (q, awaiting x) h)
+
+below : (m n : ℕ) → nat_lt m n ≡ false → n ≤ m
+below m n e = grind arith
+
+and-head : (t v : Bool) → v ≡ true → (t && v) ≡ false → t ≡ false
+and-head true v e f = absurd (let c : ◌≡◌ {A = Bool} true false = sym e ∙ f in cc)
+and-head false v e f = refl
+
+abbrev first : List BatchAct → BatchAct → Bool
+first line a = elim line [ [] ↦ false | x ∷ xs ↦ is_same_act x a ]
+
+-- an act that asks and isn't granted isn't served
+unserved : (d : Documents) (s : Plant) (b : Batch) (p : Step) (w : Task) (n : ℕ) (q : Name) → slice_get p.needs n ≡ Some q → ((m : Move) → act_move d s b (asking p w n) ≡ Some m → ⊥)
+    → is_served d s q (b.number, p.place) ≡ false
+unserved d s b p w n q e no_move = go (slice_get p.needs n) e no_move
+  where
+    same_name : (x y : Name) → ◌≡◌ {A = Option Name} (Some x) (Some y) → x ≡ y
+    same_name x y g = cc
+
+    serve : (t : Bool) → ((m : Move) → when t (grant b.number p.place q) ≡ Some m → ⊥) → t ≡ false
+    serve true f = absurd (f (grant b.number p.place q) refl)
+    serve false f = refl
+
+    go : (o : Option Name) → o ≡ Some q
+        → ((m : Move) → ◌≡◌ {A = Option Move} (elim o [ None ↦ None | Some r ↦ when (is_served d s r (b.number, p.place)) (grant b.number p.place r) ]) (Some m) → ⊥)
+        → is_served d s q (b.number, p.place) ≡ false
+    go None f h = absurd cc
+    go (Some r) f h = serve (is_served d s q (b.number, p.place)) (λ m g. h m (subst (λ z. when (is_served d s z (b.number, p.place)) (grant b.number p.place z) ≡ Some m) (sym (same_name r q f)) g))
+
+module _ (d : Documents) (rank : Ranking) (outs : List Out) (s : Plant) (k : IsKept d rank outs s) where
+  -- the first in a line of a settled plant isn't served
+  first-unserved : next d s ≡ None → (q : Name) (a : BatchAct) (more : List BatchAct) → s.line q ≡ a ∷ more → d.capacity q ≤ length (holders s q)
+  first-unserved e q a more f =
+      let b = entry-of s.batches a (awaiting q) (k.asked q a (subst (λ z. Has z a) (sym f) (inl refl))) in
+      let w = awaiting-act b.0.rest a.1 q b.3 in
+      let here : (b.0.number, w.0.place) ≡ a = ap₂ (λ i j. let z : BatchAct = (i, j) in z) b.2 w.4 in
+      below (length (holders s q)) (d.capacity q)
+      (and-head (nat_lt (length (holders s q)) (d.capacity q)) (first (s.line q) (b.0.number, w.0.place))
+      (subst (λ z. first z (b.0.number, w.0.place) ≡ true) (sym f) (subst (λ z. is_same_act a z ≡ true) (sym here) (act_self a)))
+      (unserved d s b.0 w.0 w.1 w.2 q w.5 (no_act_move d s e b.0 b.1 (asking w.0 w.1 w.2) w.3)))
+
+  -- what is waited for in a settled plant is held to its capacity
+  pub held-to_capacity : next d s ≡ None → (w : Waiting) → IsWaiting (scene_of s) w → length (holders s w.resource) ≡ d.capacity w.resource
+  held-to_capacity e w h =
+      let at_most : length (holders s w.resource) ≤ d.capacity w.resource = subst (λ z. length z ≤ d.capacity w.resource) (sym (holders-entries s w.resource)) (k.within w.resource) in
+      let at_least : d.capacity w.resource ≤ length (holders s w.resource) = go (s.line w.resource) refl h in
+      omega arith
+    where
+      go : (line : List BatchAct) → s.line w.resource ≡ line → Has line w.act → d.capacity w.resource ≤ length (holders s w.resource)
+      go [] f g = absurd g
+      go (a ∷ more) f g = first-unserved e w.resource a more f
+
+  points-on : (l m : Link) → IsLink (scene_of s) l → IsLink (scene_of s) m → StandsUnder l.holder m.waiting → suc (rank l.waiting.resource) < suc (rank m.waiting.resource)
+  points-on l m h g u =
+      points-rise d rank outs s k l.waiting m.waiting
+      (subst (λ z. Has z m.waiting.act) (sym (k.lines m.waiting.resource)) g.0) (
+        l.holder.1,
+        (k.held l.waiting.resource).2 (m.waiting.act.0, l.holder.1)
+            (subst (λ z. Has (holders_among l.waiting.resource (entries s.batches)) (z, l.holder.1)) (sym u.0) (subst (λ z. Has z l.holder) (holders-entries s l.waiting.resource) h.1)),
+        u.1,
+      )
+
+  first-link : (l : Link) (ls : List Link) → IsChain (scene_of s) (l ∷ ls) → IsLink (scene_of s) l
+  first-link l [] h = h
+  first-link l (m ∷ ls) h = h.0
+
+  -- every later resource of a chain has a higher rank
+  chain-rises : (l : Link) (ls : List Link) → IsChain (scene_of s) (l ∷ ls) → (m : Link) → Has ls m → rank l.waiting.resource < rank m.waiting.resource
+  chain-rises l [] h m i = absurd i
+  chain-rises l (n ∷ ls) h m (inl e) =
+      subst (λ z. rank l.waiting.resource < rank z.waiting.resource) e
+      (let r : suc (rank l.waiting.resource) < suc (rank n.waiting.resource) = points-on l n h.0 (first-link n ls h.2) h.1 in omega arith)
+  chain-rises l (n ∷ ls) h m (inr i) =
+      let r : suc (rank l.waiting.resource) < suc (rank n.waiting.resource) = points-on l n h.0 (first-link n ls h.2) h.1 in
+      let t : rank n.waiting.resource < rank m.waiting.resource = chain-rises n ls h.2 m i in
+      omega arith
+
+  rest-chain : (l : Link) (ls : List Link) → IsChain (scene_of s) (l ∷ ls) → IsChain (scene_of s) ls
+  rest-chain l [] h = tt
+  rest-chain l (m ∷ ls) h = h.2
+
+  -- so a chain has no more waiting steps than there are resources
+  pub short-chain : (ls : List Link) (resources : List Name) → IsChain (scene_of s) ls → ((l : Link) → Has ls l → Has resources l.waiting.resource) → length ls ≤ length resources
+  short-chain [] resources h f = omega arith
+  short-chain (l ∷ ls) resources h f =
+      let others : List Name = filter (λ r. not (bytes_eq r l.waiting.resource)) resources in
+      let fewer : length others < length resources
+      = length-filter_lt (λ r. not (bytes_eq r l.waiting.resource)) resources l.waiting.resource (f l (inl refl)) (ap not (name_self l.waiting.resource)) in
+      let less : length ls ≤ length others
+      = short-chain ls others (rest-chain l ls h)
+      (λ m i. filter-Has (λ r. not (bytes_eq r l.waiting.resource)) resources m.waiting.resource (f m (inr i))
+      (ap not (differs m.waiting.resource l.waiting.resource (λ e.
+      (let r : rank l.waiting.resource < rank m.waiting.resource = chain-rises l ls h m i in
+      let t : rank m.waiting.resource ≡ rank l.waiting.resource = ap rank e in absurd (omega arith)))))) in
+      omega arith
+    where
+      differs : (x y : Name) → (x ≡ y → ⊥) → bytes_eq x y ≡ false
+      differs x y no_e = go (bytes_eq x y) refl
+        where
+          go : (t : Bool) → bytes_eq x y ≡ t → t ≡ false
+          go true e = absurd (no_e (name_same x y e))
+          go false e = refl

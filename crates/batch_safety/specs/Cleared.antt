@@ -1,0 +1,118 @@
+-- What a set of documents must meet so that its batches can run safely.
+use Rattle.std.specs.Prelude.{◌≡◌, ℕ, suc, ◌<◌, List, [], ◌∷◌, ◌++◌, IsTrue, ⊤}
+use Rattle.batch_model.specs.Lists.{Has, Each}
+use Rattle.batch_recipe.specs.Conditions.{Name}
+use Rattle.batch_recipe.specs.Tree.{Place, Phase, Task, runs, follows, Tree, act, skip, seq, par, sel, loop, Trees, no_trees, tree, Choices, otherwise, choice}
+use Rattle.batch_recipe.specs.Nodes.{child}
+use Rattle.batch_model.specs.Placed.{IsPlaced}
+use Rattle.batch_model.specs.Plant.{Documents, Recipe}
+
+-- The ranks of what is asked for
+
+abbrev pub Ranking : Type 0
+Ranking = Name → ℕ
+
+-- the ranks of the names rise strictly, from above low
+abbrev pub Rises : Ranking → ℕ → List Name → Type 0
+Rises rank low [] = ⊤
+Rises rank low (r ∷ rs) = (low < rank r) × Rises rank (rank r) rs
+
+-- the rank of the last of the names, or low where there are none
+abbrev pub last_rank : Ranking → ℕ → List Name → ℕ
+last_rank rank low [] = low
+last_rank rank low (r ∷ rs) = last_rank rank (rank r) rs
+
+abbrev mutual
+  -- along every path down, the needs have strictly rising ranks, from above low
+  pub RisesDown : Ranking → ℕ → Tree → Type 0
+  RisesDown rank low (act s w) = Rises rank low s.needs × RisesBelow rank (last_rank rank low s.needs) w
+  RisesDown rank low skip = ⊤
+  RisesDown rank low (seq cs) = RiseDown rank low cs
+  RisesDown rank low (par cs) = RiseDown rank low cs
+  RisesDown rank low (sel ch) = ChoicesRiseDown rank low ch
+  RisesDown rank low (loop n c body) = RisesDown rank low body
+
+  pub RisesBelow : Ranking → ℕ → Task → Type 0
+  RisesBelow rank low (runs x) = ⊤
+  RisesBelow rank low (follows name c) = RisesDown rank low c
+
+  pub RiseDown : Ranking → ℕ → Trees → Type 0
+  RiseDown rank low no_trees = ⊤
+  RiseDown rank low (tree c cs) = RisesDown rank low c × RiseDown rank low cs
+
+  pub ChoicesRiseDown : Ranking → ℕ → Choices → Type 0
+  ChoicesRiseDown rank low (otherwise c) = RisesDown rank low c
+  ChoicesRiseDown rank low (choice d c ch) = RisesDown rank low c × ChoicesRiseDown rank low ch
+
+-- The phases
+
+abbrev mutual
+  -- the phases that a chart runs somewhere
+  pub phases : Tree → List Phase
+  phases (act s w) = phases_below w
+  phases skip = []
+  phases (seq cs) = phases_of_each cs
+  phases (par cs) = phases_of_each cs
+  phases (sel ch) = phases_of_choices ch
+  phases (loop n c body) = phases body
+
+  pub phases_below : Task → List Phase
+  phases_below (runs x) = x ∷ []
+  phases_below (follows name c) = phases c
+
+  pub phases_of_each : Trees → List Phase
+  phases_of_each no_trees = []
+  phases_of_each (tree c cs) = phases c ++ phases_of_each cs
+
+  pub phases_of_choices : Choices → List Phase
+  phases_of_choices (otherwise c) = phases c
+  phases_of_choices (choice d c ch) = phases c ++ phases_of_choices ch
+
+abbrev pub IsOffered : Documents → Phase → Type 0
+IsOffered d x = IsTrue (d.offers x.unit x.name)
+
+abbrev pub IsSamePhase : Phase → Phase → Type 0
+IsSamePhase x y = (x.unit ≡ y.unit) × (x.name ≡ y.name)
+
+-- no phase of one chart is a phase of the other on a unit that is needed above
+abbrev pub AreApart : List Name → List Phase → List Phase → Type 0
+AreApart above xs ys = (x y : Phase) → Has xs x → Has ys y → Has above x.unit → IsSamePhase x y → ⊥
+
+abbrev mutual
+  -- each phase runs on a unit that an act above it needs, and no two branches of one `par` run the same phase
+  -- of a unit that is needed above; `above` has the needs of all acts above the chart
+  pub RunsInUnits : List Name → Tree → Type 0
+  RunsInUnits above (act s w) = RunsInUnitsBelow s.needs above w
+  RunsInUnits above skip = ⊤
+  RunsInUnits above (seq cs) = RunInUnits above cs
+  RunsInUnits above (par cs) = RunSideBySide above cs
+  RunsInUnits above (sel ch) = ChoicesRunInUnits above ch
+  RunsInUnits above (loop n c body) = RunsInUnits above body
+
+  pub RunsInUnitsBelow : List Name → List Name → Task → Type 0
+  RunsInUnitsBelow needs above (runs x) = Has above x.unit
+  RunsInUnitsBelow needs above (follows name c) = RunsInUnits (needs ++ above) c
+
+  pub RunInUnits : List Name → Trees → Type 0
+  RunInUnits above no_trees = ⊤
+  RunInUnits above (tree c cs) = RunsInUnits above c × RunInUnits above cs
+
+  pub RunSideBySide : List Name → Trees → Type 0
+  RunSideBySide above no_trees = ⊤
+  RunSideBySide above (tree c cs) =
+      RunsInUnits above c × AreApart above (phases c) (phases_of_each cs) × RunSideBySide above cs
+
+  pub ChoicesRunInUnits : List Name → Choices → Type 0
+  ChoicesRunInUnits above (otherwise c) = RunsInUnits above c
+  ChoicesRunInUnits above (choice d c ch) = RunsInUnits above c × ChoicesRunInUnits above ch
+
+pub record IsClearedRecipe (d : Documents) (rank : Ranking) (r : Recipe) : Type 0 where
+  pub placed : IsPlaced (0 ∷ []) r.procedure
+  pub rising : RisesDown (λ q. suc (rank q)) 0 r.procedure
+  pub in_units : RunsInUnits [] r.procedure
+  pub offered : Each (IsOffered d) (phases r.procedure)
+  pub single : Each (λ x. d.capacity x.unit ≡ 1) (phases r.procedure)
+
+-- the documents are cleared by a ranking of the resources
+pub record IsCleared (d : Documents) (rank : Ranking) : Type 0 where
+  pub recipes : Each (IsClearedRecipe d rank) d.recipes

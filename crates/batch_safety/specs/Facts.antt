@@ -1,0 +1,65 @@
+-- What stands in a plant: who holds, awaits and performs what.
+use Rattle.std.specs.Prelude.{ℕ, List, [], ◌∷◌, ◌++◌, take, map, flat_map, Option, Some, None, slice_get, true, false}
+use Rattle.std.specs.Str.{bytes_eq}
+use Rattle.batch_recipe.specs.Conditions.{Name}
+use Rattle.batch_recipe.specs.Tree.{Place, Phase}
+use Rattle.batch_model.specs.Rest.{Rest, ready, asking, open_act, live, freeing, in_seq, in_par, in_loop, done, Rests, no_rests, rest}
+use Rattle.batch_model.specs.Plant.{Batch, BatchAct}
+
+pub data Fact : Type 0 where
+  -- a share of the resource is held
+  holding : Name → Fact
+  -- the next share of the resource is asked for
+  awaiting : Name → Fact
+  -- the phase is live
+  performing : Phase → Fact
+
+-- a fact and the place of its act
+abbrev pub Standing : Type 0
+Standing = Place × Fact
+
+abbrev pub held_at : Place → List Name → List Standing
+held_at p names = map (λ r. (p, holding r)) names
+
+abbrev pub awaited_at : Place → Option Name → List Standing
+awaited_at p None = []
+awaited_at p (Some r) = (p, awaiting r) ∷ []
+
+-- the facts of the acts of a rest
+abbrev mutual
+  pub facts : Rest → List Standing
+  facts (ready s w k) = held_at s.place (take k s.needs)
+  facts (asking s w k) = held_at s.place (take k s.needs) ++ awaited_at s.place (slice_get s.needs k)
+  facts (open_act s r) = held_at s.place s.needs ++ facts r
+  facts (live s x t) = held_at s.place s.needs ++ (s.place, performing x) ∷ []
+  facts (freeing s k) = held_at s.place (take k s.needs)
+  facts (in_seq r cs) = facts r
+  facts (in_par rs) = facts_of_each rs
+  facts (in_loop n c body r) = facts r
+  facts done = []
+
+  pub facts_of_each : Rests → List Standing
+  facts_of_each no_rests = []
+  facts_of_each (rest r rs) = facts r ++ facts_of_each rs
+
+-- a fact and its act
+abbrev pub Entry : Type 0
+Entry = BatchAct × Fact
+
+abbrev pub entry : ℕ → Standing → Entry
+entry n e = ((n, e.0), e.1)
+
+abbrev pub entries_of : Batch → List Entry
+entries_of b = map (entry b.number) (facts b.rest)
+
+abbrev pub entries : List Batch → List Entry
+entries bs = flat_map entries_of bs
+
+-- the acts that hold a resource
+abbrev pub holder_of : Name → Entry → List BatchAct
+holder_of q (a, holding r) = elim (bytes_eq q r) [ true ↦ a ∷ [] | false ↦ [] ]
+holder_of q (a, awaiting r) = []
+holder_of q (a, performing x) = []
+
+abbrev pub holders_among : Name → List Entry → List BatchAct
+holders_among q es = flat_map (holder_of q) es
