@@ -20,3 +20,4 @@ pub mod Answering
 pub mod Led
 pub mod Settling
 pub mod Telling
+pub mod Parts

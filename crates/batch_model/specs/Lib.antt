@@ -11,9 +11,11 @@ pub mod Settled
 pub mod Standing
 pub mod Placed
 pub mod Laws
+pub mod Cleared
 pub mod RowDocuments
 pub mod RowParts
 pub mod RowsOfMoves
 pub mod RowsOfCommands
 pub mod RowsOfReports
 pub mod RowsOfActStates
+pub mod RowsOfClearance

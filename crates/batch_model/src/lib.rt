@@ -4,17 +4,22 @@
 //! Nothing runs here. The functions are empty: their contracts are laws of the definitions.
 #![tactic(auto)]
 
+mod clearance;
 mod laws;
 mod limits;
 mod rows;
 
+pub use clearance::{
+    crossed_branches_are_cleared, else_branch_has_the_circle, every_turn_runs_a_phase,
+    opposite_orders, parts_are_nodes, same_phase_in_parallel, same_resource_twice,
+};
 pub use laws::{
     acts_have_one_move, acts_rise, advances_fully, advances_without_taking, last_line_tells,
     next_is_first, next_is_least, plants_come_to_rest, plants_stand, records_go_on,
     refusals_change_nothing, refusals_have_causes, runs_come_to_rest, settlings_end,
     stands_in_its_chart, trees_are_placed, work_falls,
 };
-pub use limits::{LAST_NUMBER, MAX_LIVE_BATCHES};
+pub use limits::{LAST_NUMBER, MAX_LIVE_BATCHES, MAX_RECIPES};
 pub use rows::{
     abort_after_stop, abort_reset_start, act_states, choices, crossed_branches_without_circle,
     demo_is_expanded, earlier_state_shows, event_while_moves_pend, fault_holds_the_batch,
