@@ -13,7 +13,7 @@ use Rattle.batch_model.specs.Settled.{IsAdvanced, AreAdvanced}
 use Rattle.batch_recipe.specs.Nodes.{child}
 use Rattle.batch_safety.specs.Stands.{StandsAt, StandsBelow, StandsAmong, StandSideBySide, StandsChosen}
 use Rattle.batch_model.specs.Placed.{IsPlaced, IsPlacedBelow, ArePlaced, IsChoicePlaced}
-use Rattle.batch_safety.proofs.Members.{Has-split, Has-left, Has-right}
+use Rattle.batch_model.proofs.Members.{Has-split, Has-left, Has-right}
 use Rattle.batch_safety.proofs.Placing.{IsUnderChild, under_child, acts-under, acts-below, acts-side_by_side, children_apart, not_above_itself}
 use Rattle.batch_safety.proofs.Framing.{at_or_above}
 

@@ -12,8 +12,10 @@ use Rattle.batch_model.specs.Runs.{Out}
 use Rattle.batch_model.specs.Records.{without, holders_after, holders_told, waiters_after, waiters_told, Active, active_after, active_told, state_after, state_told}
 use Rattle.batch_safety.specs.Facts.{Fact, holding, awaiting, performing, Standing, held_at, facts, Entry, entry, entries, holders_among}
 use Rattle.batch_safety.specs.Stands.{StandsAt}
-use Rattle.batch_safety.specs.Cleared.{Ranking, IsClearedRecipe}
-use Rattle.batch_safety.proofs.Members.{Has-split, Has-left, Has-right, Has-map}
+use Rattle.batch_model.specs.Cleared.{Ranking}
+use Rattle.batch_safety.specs.ClearedDown.{IsClearedDown}
+use Rattle.batch_model.proofs.Members.{Has-split, Has-left, Has-right}
+use Rattle.batch_safety.proofs.Members.{Has-map}
 use Rattle.batch_safety.proofs.Ranking.{holding-performing, holding-awaiting}
 use Rattle.batch_safety.proofs.Standing.{KeepsNodes, changed-StandsAt, advance-StandsAt}
 use Rattle.batch_safety.proofs.Reaching.{advance-facts}
@@ -270,7 +272,7 @@ pub change-sound : (d : Documents) (rank : Ranking) (b : Batch) (a : Rest) (g : 
     → IsFitting (g b).state (facts (g b).rest) → IsSound d rank (g b)
 change-sound d rank b a g f vs s j c fits =
     record {
-      cleared = subst (IsClearedRecipe d rank) (sym c.recipe) s.cleared;
+      cleared = subst (IsClearedDown d rank) (sym c.recipe) s.cleared;
       stands =
           subst₂ (λ r t. StandsAt r.procedure t) (sym c.recipe) (sym c.goes_on)
           (advance-StandsAt vs b.recipe.procedure (changed_at (place_of a) f b.rest) (changed-StandsAt (place_of a) f c.keeps b.recipe.procedure b.rest s.stands));

@@ -15,8 +15,10 @@ use Rattle.batch_model.specs.Events.{Refusal, created, ordered, removed, refused
 use Rattle.batch_model.specs.Runs.{Out, reply}
 use Rattle.batch_model.specs.Records.{holders_after, waiters_after, Active, active_after, ends_phase, state_after}
 use Rattle.batch_safety.specs.Facts.{holding, awaiting, performing, Standing, facts, Entry, entry, entries_of, entries, holder_of, holders_among}
-use Rattle.batch_safety.specs.Cleared.{Ranking, IsClearedRecipe}
-use Rattle.batch_safety.proofs.Members.{Has-split, map-Has}
+use Rattle.batch_model.specs.Cleared.{Ranking}
+use Rattle.batch_safety.specs.ClearedDown.{IsClearedDown}
+use Rattle.batch_model.proofs.Members.{Has-split}
+use Rattle.batch_safety.proofs.Members.{map-Has}
 use Rattle.batch_safety.proofs.Standing.{reach-StandsAt, withdrawn-StandsAt}
 use Rattle.batch_safety.proofs.Reaching.{reach-facts, is_kept, withdrawn-facts}
 use Rattle.batch_safety.proofs.Advancing.{reach-advanced}
@@ -78,7 +80,7 @@ numbered-new next (b ∷ bs) n h e = (
   numbered-new next bs n h.2 e,
 )
 
-pub kept-created : (d : Documents) (rank : Ranking) (outs : List Out) (s : Plant) (r : Recipe) (name : Name) (size : ℕ) (vs : ValueList) → IsClearedRecipe d rank r → IsKept d rank outs s
+pub kept-created : (d : Documents) (rank : Ranking) (outs : List Out) (s : Plant) (r : Recipe) (name : Name) (size : ℕ) (vs : ValueList) → IsClearedDown d rank r → IsKept d rank outs s
     → IsKept d rank (outs ++ reply (created s.next_number name size) ∷ []) (with_batch s r size vs)
 kept-created d rank outs s r name size vs cleared k =
     let o : Out = reply (created s.next_number name size) in

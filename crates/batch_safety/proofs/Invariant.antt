@@ -11,7 +11,8 @@ use Rattle.batch_model.specs.Runs.{Out}
 use Rattle.batch_model.specs.Records.{holders_told, waiters_told, Active, active_told, state_told, IsAtRest}
 use Rattle.batch_safety.specs.Facts.{awaiting, performing, Standing, facts, entries, holders_among}
 use Rattle.batch_safety.specs.Stands.{StandsAt}
-use Rattle.batch_safety.specs.Cleared.{Ranking, IsClearedRecipe}
+use Rattle.batch_model.specs.Cleared.{Ranking}
+use Rattle.batch_safety.specs.ClearedDown.{IsClearedDown}
 use Rattle.batch_model.specs.Settled.{IsAdvanced}
 use Rattle.batch_safety.proofs.Bounding.{IsBounded}
 use Rattle.batch_safety.proofs.Entries.{Agrees}
@@ -37,7 +38,7 @@ IsFitting Restarting es = Unit {0}
 
 -- a batch of a cleared recipe, whose rest stands at the recipe's tree
 pub record IsSound (d : Documents) (rank : Ranking) (b : Batch) : Type 0 where
-  pub cleared : IsClearedRecipe d rank b.recipe
+  pub cleared : IsClearedDown d rank b.recipe
   pub stands : StandsAt b.recipe.procedure b.rest
   pub fits : IsFitting b.state (facts b.rest)
   pub advanced : IsAdvanced b.rest

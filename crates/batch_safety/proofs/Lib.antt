@@ -23,5 +23,5 @@ pub mod Safe
 pub mod Telling
 pub mod Settling
 pub mod Working
-pub mod Example
 pub mod Ways
+pub mod Clearing

@@ -14,8 +14,8 @@ use Rattle.batch_model.specs.Runs.{Out, move}
 use Rattle.batch_model.specs.Records.{StartsIdle}
 use Rattle.batch_safety.specs.Facts.{holding, awaiting, performing, Standing, held_at, awaited_at, facts, Entry, entries, holders_among}
 use Rattle.batch_safety.specs.Stands.{StandsAt, StandsBelow}
-use Rattle.batch_safety.specs.Cleared.{Ranking}
-use Rattle.batch_safety.proofs.Members.{Has-right}
+use Rattle.batch_model.specs.Cleared.{Ranking}
+use Rattle.batch_model.proofs.Members.{Has-right}
 use Rattle.batch_safety.proofs.Standing.{KeepsNodes, reach-StandsAt}
 use Rattle.batch_safety.proofs.Reaching.{reach-facts, done-facts}
 use Rattle.batch_safety.proofs.Ranking.{rises-next}

@@ -11,8 +11,8 @@ use Rattle.batch_model.specs.Plant.{Documents, Batch, Plant, held_in}
 use Rattle.batch_model.specs.Moves.{Move, state, is_quiet, is_empty, is_reached, is_earlier, act_move, state_move, batch_moves, possible, least, next, batch_after}
 use Rattle.batch_model.specs.Runs.{Out, move}
 use Rattle.batch_safety.specs.Facts.{Standing, facts}
-use Rattle.batch_safety.specs.Cleared.{Ranking}
-use Rattle.batch_safety.proofs.Members.{Has-flat_map}
+use Rattle.batch_model.specs.Cleared.{Ranking}
+use Rattle.batch_model.proofs.Members.{Has-flat_map}
 use Rattle.batch_safety.proofs.Reaching.{done-facts}
 use Rattle.batch_safety.proofs.Entries.{nat_self, nat_differs}
 use Rattle.batch_safety.proofs.Invariant.{IsFitting, IsSound, IsKept}

@@ -10,7 +10,8 @@ use Rattle.batch_model.specs.Records.{IsAtOrAbove}
 use Rattle.batch_safety.specs.Facts.{holding, performing, Standing, held_at, awaited_at, facts, facts_of_each}
 use Rattle.batch_safety.specs.Stands.{StandsAt, StandsBelow, StandsAmong, StandSideBySide, StandsChosen}
 use Rattle.batch_model.specs.Placed.{IsPlaced, IsPlacedBelow, ArePlaced, IsChoicePlaced}
-use Rattle.batch_safety.proofs.Members.{Has-split, Has-map}
+use Rattle.batch_model.proofs.Members.{Has-split}
+use Rattle.batch_safety.proofs.Members.{Has-map}
 
 -- at or below child i of p
 abbrev pub IsUnderChild : Place → ℕ → Place → Type 0

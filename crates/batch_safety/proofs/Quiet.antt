@@ -9,7 +9,8 @@ use Rattle.batch_model.specs.Rest.{Rest, ready, asking, open_act, live, freeing,
 use Rattle.batch_model.specs.Plant.{held_by, held_in, phase_states}
 use Rattle.batch_model.specs.Moves.{is_quiet, is_empty, is_stopping}
 use Rattle.batch_safety.specs.Facts.{holding, awaiting, performing, Standing, held_at, awaited_at, facts, facts_of_each}
-use Rattle.batch_safety.proofs.Members.{Has-split, Has-left, Has-right, flat_map-Has}
+use Rattle.batch_model.proofs.Members.{Has-split, Has-left, Has-right}
+use Rattle.batch_safety.proofs.Members.{flat_map-Has}
 use Rattle.batch_safety.proofs.Ranking.{held-holding, held-performing, awaited-holding, awaited-performing, lone-holding}
 use Rattle.batch_safety.proofs.Units.{lone-performing}
 use Rattle.batch_safety.proofs.Invariant.{IsFitting, NothingAwaited, no_members}

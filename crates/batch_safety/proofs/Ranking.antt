@@ -9,8 +9,10 @@ use Rattle.batch_model.specs.Records.{IsAtOrAbove}
 use Rattle.batch_safety.specs.Facts.{Fact, holding, awaiting, performing, Standing, held_at, awaited_at, facts, facts_of_each}
 use Rattle.batch_safety.specs.Stands.{StandsAt, StandsBelow, StandsAmong, StandSideBySide, StandsChosen}
 use Rattle.batch_model.specs.Placed.{IsPlaced, IsPlacedBelow, ArePlaced, IsChoicePlaced}
-use Rattle.batch_safety.specs.Cleared.{Ranking, Rises, last_rank, RisesDown, RisesBelow, RiseDown, ChoicesRiseDown}
-use Rattle.batch_safety.proofs.Members.{Has-split, Has-map}
+use Rattle.batch_model.specs.Cleared.{Ranking}
+use Rattle.batch_safety.specs.ClearedDown.{Rises, last_rank, RisesDown, RisesBelow, RiseDown, ChoicesRiseDown}
+use Rattle.batch_model.proofs.Members.{Has-split}
+use Rattle.batch_safety.proofs.Members.{Has-map}
 use Rattle.batch_safety.proofs.Placing.{IsUnderChild, IsUnderLater, under_child, facts-under, facts-side_by_side, children_apart}
 
 -- a resource that the fact is about has a rank above low

@@ -17,8 +17,9 @@ use Rattle.batch_model.specs.Events.{Event, create, order, remove, report, Reply
 use Rattle.batch_model.specs.Runs.{Out, reply, Reacts}
 use Rattle.batch_model.specs.Records.{Active, active_after, ends_phase}
 use Rattle.batch_safety.specs.Facts.{Standing, held_at, facts}
-use Rattle.batch_safety.specs.Cleared.{Ranking, IsClearedRecipe, IsCleared}
-use Rattle.batch_safety.proofs.Members.{Each-Has}
+use Rattle.batch_model.specs.Cleared.{Ranking}
+use Rattle.batch_safety.specs.ClearedDown.{IsClearedDown, AreClearedDown}
+use Rattle.batch_model.proofs.Members.{Each-Has}
 use Rattle.batch_safety.proofs.Standing.{KeepsNodes}
 use Rattle.batch_safety.proofs.Bounding.{ended-bounded}
 use Rattle.batch_safety.proofs.Invariant.{IsFitting, IsKept}
@@ -286,7 +287,7 @@ module _ (d : Documents) (rank : Ranking) (outs : List Out) (s : Plant) (k : IsK
   reported-step Same q =
       kept-reported Same (λ r. r) (record { number = refl; recipe = refl; goes_on = refl; keeps = λ u w r h. h; bounds = λ h. h }) refl (same-word t word q)
 
-module _ (d : Documents) (rank : Ranking) (cleared : IsCleared d rank) (outs : List Out) (s : Plant) (k : IsKept d rank outs s) where
+module _ (d : Documents) (rank : Ranking) (cleared : AreClearedDown d rank) (outs : List Out) (s : Plant) (k : IsKept d rank outs s) where
   reporting-step : (unit name : Name) (word : Report) (outputs : ValueList) (b : Batch) → Has s.batches b → (l : LivePhase) → IsFound b (acts b.rest) l
       → Answered d rank outs (reporting s unit name word outputs l)
   reporting-step unit name word outputs b i l h = go (after_report l.state word) refl
@@ -323,7 +324,7 @@ module _ (d : Documents) (rank : Ranking) (cleared : IsCleared d rank) (outs : L
   creating-step : (r : Recipe) (size : ℕ) → Has d.recipes r → (f : Formula) → Answered d rank outs (creating s r size f)
   creating-step r size h size_out_of_range = kept-refused d rank outs s bad_size k
   creating-step r size h (value_out_of_range name) = kept-refused d rank outs s (bad_value name) k
-  creating-step r size h (scaled vs) = kept-created d rank outs s r r.name size vs (Each-Has (IsClearedRecipe d rank) d.recipes r cleared.recipes h) k
+  creating-step r size h (scaled vs) = kept-created d rank outs s r r.name size vs (Each-Has (IsClearedDown d rank) d.recipes r cleared.recipes h) k
 
   judged-step : (e : Event) → Answered d rank outs (judged d s e)
   judged-step (create name size) = go (find (λ r. bytes_eq r.name name) d.recipes) refl

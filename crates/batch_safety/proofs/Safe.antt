@@ -6,9 +6,9 @@ use Rattle.batch_model.specs.Plant.{Documents, Plant, opening}
 use Rattle.batch_model.specs.Moves.{start, after}
 use Rattle.batch_model.specs.Events.{Event, Reply}
 use Rattle.batch_model.specs.Runs.{Out, move, reply, Leads}
-use Rattle.batch_model.specs.Records.{StartsIdle, IsSafeNow}
-use Rattle.batch_safety.specs.Cleared.{Ranking, IsCleared}
-use Rattle.batch_safety.specs.Headline.{CanOnlyBeSafe}
+use Rattle.batch_model.specs.Records.{StartsIdle, IsSafeNow, IsSafe}
+use Rattle.batch_model.specs.Cleared.{Ranking}
+use Rattle.batch_safety.specs.ClearedDown.{AreClearedDown}
 use Rattle.batch_safety.proofs.Invariant.{IsKept}
 use Rattle.batch_safety.proofs.Safety.{safe-now}
 use Rattle.batch_safety.proofs.Starting.{starts-nothing}
@@ -47,7 +47,7 @@ reply_no_start r n p x vs e = cc
 no_front : (o : Out) (xs : List Out) → ◌≡◌ {A = List Out} (o ∷ xs) [] → ⊥
 no_front o xs e = cc
 
-module _ (d : Documents) (rank : Ranking) (cleared : IsCleared d rank) where
+module _ (d : Documents) (rank : Ranking) (cleared : AreClearedDown d rank) where
   safe-along : (told : List Out) (s : Plant) → IsKept d rank told s → StartsIdle d told → (es : List Event) (outs : List Out) (t : Plant) → Leads d s es outs t
       → (front more : List Out) → front ++ more ≡ outs → IsSafeNow d (told ++ front)
   safe-along told s k st es outs t l [] more e = subst (IsSafeNow d) (sym (append-nil told)) (safe-now d rank told s k st)
@@ -65,11 +65,11 @@ module _ (d : Documents) (rank : Ranking) (cleared : IsCleared d rank) where
       (safe-along (told ++ reply r ∷ []) l.0 (reply-step d rank cleared told s k v r l.0 l.1)
       (starts-nothing d told (reply r) (λ n p x vs f. reply_no_start r n p x vs f)) es outs t l.2 front more q.1)
 
-pub safe : CanOnlyBeSafe
+pub safe : (d : Documents) (rank : Ranking) → AreClearedDown d rank → (es : List Event) (outs : List Out) (t : Plant) → Leads d opening es outs t → IsSafe d outs
 safe d rank cleared es outs t l front more e = safe-along d rank cleared [] opening (kept-at_first d rank) (starts-at_first d) es outs t l front more e
 
 -- what is kept is kept along the whole record
-pub kept-along : (d : Documents) (rank : Ranking) → IsCleared d rank → (told : List Out) (s : Plant) → IsKept d rank told s → (es : List Event) (outs : List Out) (t : Plant) → Leads d s es outs t
+pub kept-along : (d : Documents) (rank : Ranking) → AreClearedDown d rank → (told : List Out) (s : Plant) → IsKept d rank told s → (es : List Event) (outs : List Out) (t : Plant) → Leads d s es outs t
     → IsKept d rank (told ++ outs) t
 kept-along d rank cleared told s k [] [] t l = subst₂ (λ y z. IsKept d rank y z) (sym (append-nil told)) l k
 kept-along d rank cleared told s k (v ∷ es) [] t l = absurd l

@@ -7,8 +7,9 @@ use Rattle.batch_model.specs.Plant.{Documents, Batch, BatchAct, Plant}
 use Rattle.batch_model.specs.Runs.{Out}
 use Rattle.batch_model.specs.Records.{holders_told, waiters_told, state_told, IsAtRest, scene_told, Waiting, IsWaiting, IsAtOrAbove, PointsTo, PointAlong, HasCapacity, HoldsUnits, StartsIdle, HasNoCircle, RestsEmpty, IsSafeNow}
 use Rattle.batch_safety.specs.Facts.{Fact, holding, awaiting, performing, Standing, facts, entry, entries_of, entries}
-use Rattle.batch_safety.specs.Cleared.{Ranking}
-use Rattle.batch_safety.proofs.Members.{Has-map, map-Has, Has-flat_map, flat_map-Has, Has-Each}
+use Rattle.batch_model.specs.Cleared.{Ranking}
+use Rattle.batch_model.proofs.Members.{Has-flat_map}
+use Rattle.batch_safety.proofs.Members.{Has-map, map-Has, flat_map-Has, Has-Each}
 use Rattle.batch_safety.proofs.Ranking.{rank-rises}
 use Rattle.batch_safety.proofs.Units.{unit-held}
 use Rattle.batch_safety.proofs.Entries.{Has-holders, holders-Has}

@@ -10,8 +10,9 @@ use Rattle.batch_model.specs.Moves.{Move, grant, act_move, state_move, batch_mov
 use Rattle.batch_model.specs.Runs.{Out}
 use Rattle.batch_model.specs.Records.{scene_of, Waiting, IsWaiting, Link, IsLink, IsChain, StandsUnder}
 use Rattle.batch_safety.specs.Facts.{awaiting, performing, held_at, awaited_at, facts, facts_of_each, entries, holders_among}
-use Rattle.batch_safety.specs.Cleared.{Ranking}
-use Rattle.batch_safety.proofs.Members.{Has-split, Has-left, Has-right, flat_map-Has}
+use Rattle.batch_model.specs.Cleared.{Ranking}
+use Rattle.batch_model.proofs.Members.{Has-split, Has-left, Has-right}
+use Rattle.batch_safety.proofs.Members.{flat_map-Has}
 use Rattle.batch_safety.proofs.Ranking.{held-awaiting, awaited-awaiting, lone-awaiting}
 use Rattle.batch_safety.proofs.Entries.{act_self, name_self, name_same, filter-Has, length-filter_lt}
 use Rattle.batch_safety.proofs.Batches.{holders-entries}

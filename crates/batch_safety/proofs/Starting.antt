@@ -9,8 +9,10 @@ use Rattle.batch_model.specs.Moves.{start}
 use Rattle.batch_model.specs.Runs.{Out, move}
 use Rattle.batch_model.specs.Records.{active_told, StartsIdle, IsOnUnit}
 use Rattle.batch_safety.specs.Facts.{holding, awaiting, performing, Standing, facts, entry, entries_of, entries, holder_of, holders_among}
-use Rattle.batch_safety.specs.Cleared.{Ranking, phases, IsOffered}
-use Rattle.batch_safety.proofs.Members.{Each-Has, Has-Each}
+use Rattle.batch_model.specs.Cleared.{Ranking, phases}
+use Rattle.batch_safety.specs.ClearedDown.{IsOfferedPhase}
+use Rattle.batch_model.proofs.Members.{Each-Has}
+use Rattle.batch_safety.proofs.Members.{Has-Each}
 use Rattle.batch_safety.proofs.Units.{share, shares, performed-phase, unit-held, twice-held}
 use Rattle.batch_safety.proofs.Entries.{holders-append, holders-Has, nat_same}
 use Rattle.batch_safety.proofs.Batches.{same-batch}
@@ -137,7 +139,7 @@ starts-idle d rank outs s t n p x vs k l here stay before n' p' x' vs' e =
     (subst (λ z. IsTrue (d.offers x.unit x.name) × Each (λ a. IsOnUnit x.unit x.name a → ⊥) (active_told z)) q.0 (
       (let b = entry-of t.batches (n, p) (performing x) here in
           let sound : IsSound d rank b.0 = l.sound b.0 b.1 in
-          Each-Has (IsOffered d) (phases b.0.recipe.procedure) x sound.cleared.offered (performed-phase b.0.recipe.procedure b.0.rest sound.stands p x b.3)),
+          Each-Has (IsOfferedPhase d) (phases b.0.recipe.procedure) x sound.cleared.offered (performed-phase b.0.recipe.procedure b.0.rest sound.stands p x b.3)),
       Has-Each (λ a. IsOnUnit x.unit x.name a → ⊥) (active_told outs)
           (λ a h i. (let m = stay a.act a.phase (k.active a h) in
           phase-alone d rank (outs ++ move (start n p x vs) ∷ []) t l (n, p) a.act x a.phase here m.0 (sym i.0, sym i.1) (λ w. m.1 (sym w)))),

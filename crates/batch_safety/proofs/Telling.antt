@@ -5,11 +5,13 @@ use Rattle.batch_model.specs.Lists.{Has}
 use Rattle.batch_recipe.specs.Tree.{Place, Step, Phase}
 use Rattle.batch_model.specs.Rest.{Rest, ready, asking, open_act, live, freeing, in_seq, in_par, in_loop, done, Rests, no_rests, rest, acts, acts_of_each}
 use Rattle.batch_model.specs.Plant.{Documents, Plant, opening}
-use Rattle.batch_model.specs.Runs.{Out}
+use Rattle.batch_model.specs.Events.{Event}
+use Rattle.batch_model.specs.Runs.{Out, Leads}
+use Rattle.batch_safety.specs.ClearedDown.{AreClearedDown}
 use Rattle.batch_safety.specs.Facts.{performing, Standing, held_at, awaited_at, facts, facts_of_each, entries, awaiting}
-use Rattle.batch_safety.specs.Cleared.{Ranking}
-use Rattle.batch_safety.specs.Telling.{IsTold, TellsThePlant}
-use Rattle.batch_safety.proofs.Members.{Has-split, Has-left, Has-right}
+use Rattle.batch_model.specs.Cleared.{Ranking}
+use Rattle.batch_safety.specs.Telling.{IsTold}
+use Rattle.batch_model.proofs.Members.{Has-split, Has-left, Has-right}
 use Rattle.batch_safety.proofs.Ranking.{held-performing, awaited-performing}
 use Rattle.batch_safety.proofs.Units.{lone-performing}
 use Rattle.batch_safety.proofs.Batches.{holders-entries}
@@ -104,5 +106,5 @@ told d rank outs s k =
       states = k.states;
     }
 
-pub tells_the_plant : TellsThePlant
+pub tells_the_plant : (d : Documents) (rank : Ranking) → AreClearedDown d rank → (es : List Event) (outs : List Out) (t : Plant) → Leads d opening es outs t → IsTold outs t
 tells_the_plant d rank cleared es outs t l = told d rank outs t (kept-along d rank cleared [] opening (kept-at_first d rank) es outs t l)

@@ -10,8 +10,10 @@ use Rattle.batch_model.specs.Records.{IsAtOrAbove}
 use Rattle.batch_safety.specs.Facts.{Fact, holding, awaiting, performing, Standing, held_at, awaited_at, facts, facts_of_each}
 use Rattle.batch_safety.specs.Stands.{StandsAt, StandsBelow, StandsAmong, StandSideBySide, StandsChosen}
 use Rattle.batch_model.specs.Placed.{IsPlaced, IsPlacedBelow, ArePlaced, IsChoicePlaced}
-use Rattle.batch_safety.specs.Cleared.{phases, phases_below, phases_of_each, phases_of_choices, IsSamePhase, RunsInUnits, RunsInUnitsBelow, RunInUnits, RunSideBySide, ChoicesRunInUnits}
-use Rattle.batch_safety.proofs.Members.{Has-split, Has-left, Has-right, map-Has}
+use Rattle.batch_model.specs.Cleared.{phases, phases_within, phases_of_each, phases_of_choices}
+use Rattle.batch_safety.specs.ClearedDown.{IsSamePhase, RunsInUnits, RunsInUnitsBelow, RunInUnits, RunSideBySide, ChoicesRunInUnits}
+use Rattle.batch_model.proofs.Members.{Has-split, Has-left, Has-right}
+use Rattle.batch_safety.proofs.Members.{map-Has}
 use Rattle.batch_safety.proofs.Placing.{IsUnderChild, under, facts-below, not_above_itself}
 use Rattle.batch_safety.proofs.Ranking.{held-performing, awaited-performing}
 
@@ -42,7 +44,7 @@ mutual
   performed-phase (act s w) (asking u v n) h q x k = absurd (asking-performing u.place (take n u.needs) (slice_get u.needs n) q x k)
   performed-phase (act s w) (open_act u r) h q x k = performed-below w r h.1 q x (open-performing u.place u.needs r q x k)
   performed-phase (act s w) (live u y t) h q x k =
-      subst (λ z. Has (phases_below z) x) (sym h.1) (inl ((live-performing u.place u.needs y q x k).1))
+      subst (λ z. Has (phases_within z) x) (sym h.1) (inl ((live-performing u.place u.needs y q x k).1))
   performed-phase (act s w) (freeing u n) h q x k = absurd (held-performing u.place (take n u.needs) q x k)
   performed-phase (seq cs) (in_seq r ds) h q x k = performed-among cs r ds h q x k
   performed-phase (par cs) (in_par r) h q x k = performed-side_by_side cs r h q x k
@@ -51,7 +53,7 @@ mutual
   performed-phase c done h q x k = absurd k
   performed-phase _ _ h q x k = absurd h
 
-  pub performed-below : (w : Task) (r : Rest) → StandsBelow w r → (q : Place) (x : Phase) → Has (facts r) (q, performing x) → Has (phases_below w) x
+  pub performed-below : (w : Task) (r : Rest) → StandsBelow w r → (q : Place) (x : Phase) → Has (facts r) (q, performing x) → Has (phases_within w) x
   performed-below (runs y) r h q x k = absurd h
   performed-below (follows name c) r h q x k = performed-phase c r h q x k
 

@@ -8,16 +8,18 @@ use Rattle.batch_recipe.specs.Tree.{Place, Step, Phase, Tree, act, seq, par, sel
 use Rattle.batch_model.specs.Rest.{Rest, ready, asking, open_act, live, freeing, in_seq, in_par, in_loop, done, Rests, no_rests, rest, acts, acts_of_each, is_done, all_done}
 use Rattle.batch_model.specs.Plant.{Documents, Batch, BatchAct, Plant, opening, place_of}
 use Rattle.batch_model.specs.Moves.{Move, begin, start, end, ask, release, handed_values, entering, giving_back, when, is_running, is_stopping, is_stopped, is_quiet, is_empty, act_move, next}
-use Rattle.batch_model.specs.Runs.{Out}
+use Rattle.batch_model.specs.Events.{Event}
+use Rattle.batch_model.specs.Runs.{Out, Leads}
+use Rattle.batch_safety.specs.ClearedDown.{AreClearedDown}
 use Rattle.batch_model.specs.Records.{scene_of, Waiting, IsWaiting, IsAtOrAbove, Link, IsLink, IsChain, StandsUnder}
 use Rattle.batch_model.specs.Settled.{IsAdvanced, AreAdvanced}
 use Rattle.batch_recipe.specs.Nodes.{child}
 use Rattle.batch_safety.specs.Facts.{Fact, holding, awaiting, performing, Standing, held_at, awaited_at, facts, facts_of_each, entries}
 use Rattle.batch_safety.specs.Stands.{StandsAt, StandsBelow, StandsAmong, StandSideBySide, StandsChosen}
 use Rattle.batch_model.specs.Placed.{IsPlaced, IsPlacedBelow, ArePlaced, IsChoicePlaced}
-use Rattle.batch_safety.specs.Cleared.{Ranking}
-use Rattle.batch_safety.specs.Settlement.{IsHalting, IsAtWork, WaitsForSomething, NobodyWaitsInVain}
-use Rattle.batch_safety.proofs.Members.{Has-split, Has-left, Has-right, Each-Has}
+use Rattle.batch_model.specs.Cleared.{Ranking}
+use Rattle.batch_safety.specs.Settlement.{IsHalting, IsAtWork, WaitsForSomething}
+use Rattle.batch_model.proofs.Members.{Has-split, Has-left, Has-right, Each-Has}
 use Rattle.batch_safety.proofs.Placing.{acts-below, under}
 use Rattle.batch_safety.proofs.Framing.{at_or_above}
 use Rattle.batch_safety.proofs.Bounding.{IsBounded, AreBounded}
@@ -388,6 +390,7 @@ module _ (d : Documents) (rank : Ranking) (outs : List Out) (s : Plant) (k : IsK
             (Has-holders l.waiting.resource (entries s.batches) l.holder (subst (λ z. Has z l.holder) (holders-entries s l.waiting.resource) ((last-link ls l h).1))) none;
       }
 
-pub nobody_waits_in_vain : NobodyWaitsInVain
+pub nobody_waits_in_vain : (d : Documents) (rank : Ranking) → AreClearedDown d rank → (es : List Event) (outs : List Out) (t : Plant) → Leads d opening es outs t
+    → next d t ≡ None → WaitsForSomething d t
 nobody_waits_in_vain d rank cleared es outs t l settled =
     waits_for_something d rank outs t (kept-along d rank cleared [] opening (kept-at_first d rank) es outs t l) settled

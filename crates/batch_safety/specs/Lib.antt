@@ -1,7 +1,10 @@
 pub mod Facts
 pub mod Stands
-pub mod Cleared
+pub mod ClearedDown
+pub mod Procedures
+pub mod Premises
 pub mod Headline
 pub mod Telling
 pub mod Settlement
 pub mod Ways
+pub mod Example

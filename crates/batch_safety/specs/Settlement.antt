@@ -11,7 +11,8 @@ use Rattle.batch_model.specs.Moves.{next}
 use Rattle.batch_model.specs.Events.{Event}
 use Rattle.batch_model.specs.Runs.{Out, Leads}
 use Rattle.batch_model.specs.Records.{scene_of, Waiting, IsWaiting, IsAtOrAbove, Link, IsChain, StandsUnder}
-use Rattle.batch_safety.specs.Cleared.{Ranking, IsCleared}
+use Rattle.batch_model.specs.Cleared.{Cell, Ranking, IsCleared}
+use Rattle.batch_safety.specs.Premises.{AreDocuments}
 
 -- the batch isn't simply running
 abbrev pub IsHalting : State → Type 0
@@ -40,6 +41,6 @@ pub record WaitsForSomething (d : Documents) (s : Plant) : Type 0 where
 
 abbrev pub NobodyWaitsInVain : Type 0
 NobodyWaitsInVain =
-    (documents : Documents) (rank : Ranking) → IsCleared documents rank
+    (cell : Cell) (documents : Documents) (rank : Ranking) → AreDocuments cell documents → IsCleared cell documents rank
     → (events : List Event) (record_so_far : List Out) (plant : Plant) → Leads documents opening events record_so_far plant
     → next documents plant ≡ None → WaitsForSomething documents plant

@@ -9,7 +9,8 @@ use Rattle.batch_model.specs.Plant.{Documents, Batch, BatchAct, Plant, opening, 
 use Rattle.batch_model.specs.Events.{Event}
 use Rattle.batch_model.specs.Runs.{Out, Leads}
 use Rattle.batch_model.specs.Records.{holders_told, waiters_told, active_told, state_told}
-use Rattle.batch_safety.specs.Cleared.{Ranking, IsCleared}
+use Rattle.batch_model.specs.Cleared.{Cell, Ranking, IsCleared}
+use Rattle.batch_safety.specs.Premises.{AreDocuments}
 
 abbrev pub HaveSame : {X : Type 0} → List X → List X → Type 0
 HaveSame {X = X} xs ys = ((x : X) → Has xs x → Has ys x) × ((x : X) → Has ys x → Has xs x)
@@ -35,6 +36,6 @@ pub record IsTold (outs : List Out) (s : Plant) : Type 0 where
 
 abbrev pub TellsThePlant : Type 0
 TellsThePlant =
-    (documents : Documents) (rank : Ranking) → IsCleared documents rank
+    (cell : Cell) (documents : Documents) (rank : Ranking) → AreDocuments cell documents → IsCleared cell documents rank
     → (events : List Event) (record_so_far : List Out) (plant : Plant) → Leads documents opening events record_so_far plant
     → IsTold record_so_far plant

@@ -3,12 +3,13 @@
 //! Nothing runs here. The functions are empty: their contracts are laws of the definitions.
 #![tactic(auto)]
 
+ghost use Rattle.batch_safety.specs.Example.{PremisesCanBeMet};
 ghost use Rattle.batch_safety.specs.Headline.{CanOnlyBeSafe};
 ghost use Rattle.batch_safety.specs.Settlement.{NobodyWaitsInVain};
 ghost use Rattle.batch_safety.specs.Telling.{TellsThePlant};
 ghost use Rattle.batch_safety.specs.Ways.{WaysRise};
 
-/// Ranks rise along the way from the root to each act exactly where they rise on the way down, as the rules of clearance say.
+/// Ranks rise along the path of each node, as the rules of clearance say, exactly where they rise on the way down.
 pub fn ways_rise()
     ensures { WaysRise }
 {
@@ -30,5 +31,11 @@ pub fn nobody_waits_in_vain()
 /// Every record that a cleared set of documents leads to is safe after each of its lines.
 pub fn records_are_safe()
     ensures { CanOnlyBeSafe }
+{
+}
+
+/// There are documents that meet the premises of these laws.
+pub fn premises_can_be_met()
+    ensures { PremisesCanBeMet }
 {
 }

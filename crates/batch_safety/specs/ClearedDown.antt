@@ -1,4 +1,4 @@
--- What a set of documents must meet so that its batches can run safely.
+-- Clearance, by recursion down the trees, as the proofs use it.
 use Rattle.std.specs.Prelude.{◌≡◌, ℕ, suc, ◌<◌, List, [], ◌∷◌, ◌++◌, IsTrue, ⊤}
 use Rattle.batch_model.specs.Lists.{Has, Each}
 use Rattle.batch_recipe.specs.Conditions.{Name}
@@ -6,11 +6,9 @@ use Rattle.batch_recipe.specs.Tree.{Place, Phase, Task, runs, follows, Tree, act
 use Rattle.batch_recipe.specs.Nodes.{child}
 use Rattle.batch_model.specs.Placed.{IsPlaced}
 use Rattle.batch_model.specs.Plant.{Documents, Recipe}
+use Rattle.batch_model.specs.Cleared.{Ranking, phases, phases_of_each}
 
 -- The ranks of what is asked for
-
-abbrev pub Ranking : Type 0
-Ranking = Name → ℕ
 
 -- the ranks of the names rise strictly, from above low
 abbrev pub Rises : Ranking → ℕ → List Name → Type 0
@@ -46,30 +44,8 @@ abbrev mutual
 
 -- The phases
 
-abbrev mutual
-  -- the phases that a chart runs somewhere
-  pub phases : Tree → List Phase
-  phases (act s w) = phases_below w
-  phases skip = []
-  phases (seq cs) = phases_of_each cs
-  phases (par cs) = phases_of_each cs
-  phases (sel ch) = phases_of_choices ch
-  phases (loop n c body) = phases body
-
-  pub phases_below : Task → List Phase
-  phases_below (runs x) = x ∷ []
-  phases_below (follows name c) = phases c
-
-  pub phases_of_each : Trees → List Phase
-  phases_of_each no_trees = []
-  phases_of_each (tree c cs) = phases c ++ phases_of_each cs
-
-  pub phases_of_choices : Choices → List Phase
-  phases_of_choices (otherwise c) = phases c
-  phases_of_choices (choice d c ch) = phases c ++ phases_of_choices ch
-
-abbrev pub IsOffered : Documents → Phase → Type 0
-IsOffered d x = IsTrue (d.offers x.unit x.name)
+abbrev pub IsOfferedPhase : Documents → Phase → Type 0
+IsOfferedPhase d x = IsTrue (d.offers x.unit x.name)
 
 abbrev pub IsSamePhase : Phase → Phase → Type 0
 IsSamePhase x y = (x.unit ≡ y.unit) × (x.name ≡ y.name)
@@ -106,13 +82,12 @@ abbrev mutual
   ChoicesRunInUnits above (otherwise c) = RunsInUnits above c
   ChoicesRunInUnits above (choice d c ch) = RunsInUnits above c × ChoicesRunInUnits above ch
 
-pub record IsClearedRecipe (d : Documents) (rank : Ranking) (r : Recipe) : Type 0 where
+pub record IsClearedDown (d : Documents) (rank : Ranking) (r : Recipe) : Type 0 where
   pub placed : IsPlaced (0 ∷ []) r.procedure
   pub rising : RisesDown (λ q. suc (rank q)) 0 r.procedure
   pub in_units : RunsInUnits [] r.procedure
-  pub offered : Each (IsOffered d) (phases r.procedure)
+  pub offered : Each (IsOfferedPhase d) (phases r.procedure)
   pub single : Each (λ x. d.capacity x.unit ≡ 1) (phases r.procedure)
 
--- the documents are cleared by a ranking of the resources
-pub record IsCleared (d : Documents) (rank : Ranking) : Type 0 where
-  pub recipes : Each (IsClearedRecipe d rank) d.recipes
+pub record AreClearedDown (d : Documents) (rank : Ranking) : Type 0 where
+  pub recipes : Each (IsClearedDown d rank) d.recipes
