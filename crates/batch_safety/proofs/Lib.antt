@@ -25,3 +25,4 @@ pub mod Settling
 pub mod Working
 pub mod Ways
 pub mod Clearing
+pub mod Levels

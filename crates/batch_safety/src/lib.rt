@@ -5,6 +5,7 @@
 
 ghost use Rattle.batch_safety.specs.Example.{PremisesCanBeMet};
 ghost use Rattle.batch_safety.specs.Headline.{CanOnlyBeSafe};
+ghost use Rattle.batch_safety.specs.Procedures.{TreesAreProcedures};
 ghost use Rattle.batch_safety.specs.Settlement.{NobodyWaitsInVain};
 ghost use Rattle.batch_safety.specs.Telling.{TellsThePlant};
 ghost use Rattle.batch_safety.specs.Ways.{WaysRise};
@@ -31,6 +32,12 @@ pub fn nobody_waits_in_vain()
 /// Every record that a cleared set of documents leads to is safe after each of its lines.
 pub fn records_are_safe()
     ensures { CanOnlyBeSafe }
+{
+}
+
+/// The expanded tree of every recipe has the levels of a procedure: each phase runs on the unit of its unit procedure.
+pub fn trees_have_units()
+    ensures { TreesAreProcedures }
 {
 }
 
