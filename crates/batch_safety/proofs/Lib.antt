@@ -26,3 +26,4 @@ pub mod Working
 pub mod Ways
 pub mod Clearing
 pub mod Levels
+pub mod Awaiting

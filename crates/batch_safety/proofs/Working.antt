@@ -2,15 +2,19 @@
 use Rattle.std.proofs.Common.{◌+◌, ◌≡◌, ◌⊎◌, ⊎_elim, refl, sym, ◌∙◌, ap, subst, ℕ, zero, suc, ◌≤◌, ◌<◌, arith, List, [], ◌∷◌, ◌++◌, Bool, true, false, ◌&&◌, ◌||◌, take, slice_get, Option, Some, None, inl, inr, length}
 use Rattle.batch_matrix.specs.declared.state.State.{State}
 use Rattle.batch_matrix.specs.declared.state.State.TheVariants.{Idle, Running, Pausing, Paused, Holding, Held, Restarting, Stopping, Stopped, Aborting, Aborted, Complete}
-use Rattle.batch_model.specs.Lists.{Has}
+use Rattle.batch_model.specs.Lists.{Has, Each}
 use Rattle.batch_recipe.specs.Conditions.{Name}
 use Rattle.batch_recipe.specs.Tree.{Place, Step, Phase, Tree, act, seq, par, sel, loop, Task, runs, follows, Trees, no_trees, tree, Choices, otherwise, choice}
 use Rattle.batch_model.specs.Rest.{Rest, ready, asking, open_act, live, freeing, in_seq, in_par, in_loop, done, Rests, no_rests, rest, acts, acts_of_each, is_done, all_done}
-use Rattle.batch_model.specs.Plant.{Documents, Batch, BatchAct, Plant, opening, place_of}
+use Rattle.batch_model.specs.Plant.{Recipe, Documents, Batch, BatchAct, Plant, opening, place_of}
 use Rattle.batch_model.specs.Moves.{Move, begin, start, end, ask, release, handed_values, entering, giving_back, when, is_running, is_stopping, is_stopped, is_quiet, is_empty, act_move, next}
-use Rattle.batch_model.specs.Events.{Event}
-use Rattle.batch_model.specs.Runs.{Out, Leads}
-use Rattle.batch_safety.specs.ClearedDown.{AreClearedDown}
+use Rattle.batch_model.specs.Runs.{Out}
+use Rattle.batch_model.specs.Cleared.{Cell, is_procedure, IsClearedRecipe, IsCleared}
+use Rattle.batch_model.specs.Standing.{IsStandingBatch, IsStanding}
+use Rattle.batch_model.proofs.Led.{opening-stands, leads-stands}
+use Rattle.batch_safety.specs.Procedures.{IsProcedure}
+use Rattle.batch_safety.proofs.Awaiting.{among-Has, awaited-known}
+use Rattle.batch_safety.proofs.Clearing.{cleared-down}
 use Rattle.batch_model.specs.Records.{scene_of, Waiting, IsWaiting, IsAtOrAbove, Link, IsLink, IsChain, StandsUnder}
 use Rattle.batch_model.specs.Settled.{IsAdvanced, AreAdvanced}
 use Rattle.batch_recipe.specs.Nodes.{child}
@@ -18,8 +22,8 @@ use Rattle.batch_safety.specs.Facts.{Fact, holding, awaiting, performing, Standi
 use Rattle.batch_safety.specs.Stands.{StandsAt, StandsBelow, StandsAmong, StandSideBySide, StandsChosen}
 use Rattle.batch_model.specs.Placed.{IsPlaced, IsPlacedBelow, ArePlaced, IsChoicePlaced}
 use Rattle.batch_model.specs.Cleared.{Ranking}
-use Rattle.batch_safety.specs.Settlement.{IsHalting, IsAtWork, WaitsForSomething}
-use Rattle.batch_model.proofs.Members.{Has-split, Has-left, Has-right, Each-Has}
+use Rattle.batch_safety.specs.Settlement.{IsHalting, IsAtWork, NobodyWaitsInVain}
+use Rattle.batch_model.proofs.Members.{Has-split, Has-left, Has-right, Each-Has, Each-map}
 use Rattle.batch_safety.proofs.Placing.{acts-below, under}
 use Rattle.batch_safety.proofs.Framing.{at_or_above}
 use Rattle.batch_safety.proofs.Bounding.{IsBounded, AreBounded}
@@ -380,17 +384,37 @@ module _ (d : Documents) (rank : Ranking) (outs : List Out) (s : Plant) (k : IsK
   last-link (m ∷ []) l h = h.2
   last-link (m ∷ n ∷ ls) l h = last-link (n ∷ ls) l h.2
 
-  pub waits_for_something : WaitsForSomething d s
-  waits_for_something =
-      record {
-        held = held-to_capacity d rank outs s k settled;
-        short = λ resources ls h e. short-chain d rank outs s k ls resources h (λ l i. Each-Has (λ m. Has resources m.waiting.resource) ls l e i);
-        ends = λ ls l h none.
-            holder-at_work l.holder l.waiting.resource
-            (Has-holders l.waiting.resource (entries s.batches) l.holder (subst (λ z. Has z l.holder) (holders-entries s l.waiting.resource) ((last-link ls l h).1))) none;
-      }
+  pub ends-at_work : (ls : List Link) (l : Link) → IsChain (scene_of s) (ls ++ l ∷ []) → ((v : Waiting) → IsWaiting (scene_of s) v → StandsUnder l.holder v → ⊥) → IsAtWork s l.holder
+  ends-at_work ls l h none =
+      holder-at_work l.holder l.waiting.resource
+      (Has-holders l.waiting.resource (entries s.batches) l.holder (subst (λ z. Has z l.holder) (holders-entries s l.waiting.resource) ((last-link ls l h).1))) none
 
-pub nobody_waits_in_vain : (d : Documents) (rank : Ranking) → AreClearedDown d rank → (es : List Event) (outs : List Out) (t : Plant) → Leads d opening es outs t
-    → next d t ≡ None → WaitsForSomething d t
-nobody_waits_in_vain d rank cleared es outs t l settled =
-    waits_for_something d rank outs t (kept-along d rank cleared [] opening (kept-at_first d rank) es outs t l) settled
+-- each resource that is waited for in a plant that is led to is one of the cell's
+waiting-known : (cell : Cell) (d : Documents) (rank : Ranking) (outs : List Out) (s : Plant) → IsCleared cell d rank → IsStanding d s → IsKept d rank outs s
+    → (w : Waiting) → IsWaiting (scene_of s) w → Has cell.resources w.resource
+waiting-known cell d rank outs s cleared stands k w h =
+    let e = entry-of s.batches w.act (awaiting w.resource) (k.asked w.resource w.act h) in
+    let b : IsStandingBatch d e.0 = Each-Has (IsStandingBatch d) s.batches e.0 stands.batches e.1 in
+    among-Has cell.resources w.resource
+    (awaited-known cell d rank is_procedure (0 ∷ []) [] e.0.recipe.procedure e.0.rest
+    (Each-Has (IsClearedRecipe cell d rank) d.recipes e.0.recipe cleared.recipes b.known) b.stands w.act.1 w.resource e.3)
+
+each-waits : (s : Plant) (ls : List Link) → IsChain (scene_of s) ls → (l : Link) → Has ls l → IsWaiting (scene_of s) l.waiting
+each-waits s [] h l i = absurd i
+each-waits s (m ∷ []) h l (inl e) = subst (λ z. IsWaiting (scene_of s) z.waiting) e h.0
+each-waits s (m ∷ []) h l (inr i) = absurd i
+each-waits s (m ∷ n ∷ ls) h l (inl e) = subst (λ z. IsWaiting (scene_of s) z.waiting) e h.0.0
+each-waits s (m ∷ n ∷ ls) h l (inr i) = each-waits s (n ∷ ls) h.2 l i
+
+placed-trees : (rs : List Recipe) → Each (λ r. IsProcedure r.procedure) rs → Each (λ r. IsPlaced (0 ∷ []) r.procedure) rs
+placed-trees rs h = Each-map (λ r. IsProcedure r.procedure) (λ r. IsPlaced (0 ∷ []) r.procedure) (λ r p. p.placed) rs h
+
+pub nobody_waits_in_vain : NobodyWaitsInVain
+nobody_waits_in_vain cell d rank kept cleared es outs t l settled =
+    let k : IsKept d rank outs t = kept-along d rank (cleared-down cell d rank kept cleared) [] opening (kept-at_first d rank) es outs t l in
+    let stands : IsStanding d t = leads-stands d (placed-trees d.recipes kept.procedures) opening t es outs (opening-stands d) l in
+    record {
+      held = held-to_capacity d rank outs t k settled;
+      short = λ ls h. short-chain d rank outs t k ls cell.resources h (λ m i. waiting-known cell d rank outs t cleared stands k m.waiting (each-waits t ls h m i));
+      ends = ends-at_work d rank outs t k settled;
+    }

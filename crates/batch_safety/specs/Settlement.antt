@@ -31,11 +31,11 @@ IsAtWork s h =
     (b : Batch) × Has s.batches b × (b.number ≡ h.0)
     × (IsHalting b.state ⊎ ((p : Step) × (x : Phase) × (t : State) × Has (acts b.rest) (live p x t) × IsAtOrAbove h.1 p.place))
 
-pub record WaitsForSomething (d : Documents) (s : Plant) : Type 0 where
+pub record WaitsForSomething (cell : Cell) (d : Documents) (s : Plant) : Type 0 where
   -- what is waited for is held to its capacity
   pub held : (w : Waiting) → IsWaiting (scene_of s) w → length (holders s w.resource) ≡ d.capacity w.resource
   -- a chain has no more waiting steps than there are resources
-  pub short : (resources : List Name) (ls : List Link) → IsChain (scene_of s) ls → Each (λ l. Has resources l.waiting.resource) ls → length ls ≤ length resources
+  pub short : (ls : List Link) → IsChain (scene_of s) ls → length ls ≤ length cell.resources
   -- where a chain can't be continued, its last holder is at work
   pub ends : (ls : List Link) (l : Link) → IsChain (scene_of s) (ls ++ l ∷ []) → ((v : Waiting) → IsWaiting (scene_of s) v → StandsUnder l.holder v → ⊥) → IsAtWork s l.holder
 
@@ -43,4 +43,4 @@ abbrev pub NobodyWaitsInVain : Type 0
 NobodyWaitsInVain =
     (cell : Cell) (documents : Documents) (rank : Ranking) → AreDocuments cell documents → IsCleared cell documents rank
     → (events : List Event) (record_so_far : List Out) (plant : Plant) → Leads documents opening events record_so_far plant
-    → next documents plant ≡ None → WaitsForSomething documents plant
+    → next documents plant ≡ None → WaitsForSomething cell documents plant
