@@ -69,9 +69,9 @@ holders-entries s q = batches-holders q s.batches
 -- Batches with numbers of their own
 
 -- the numbers differ and are below next
-abbrev pub AreNumbered : ℕ → List Batch → Type 0
-AreNumbered next [] = Unit {0}
-AreNumbered next (b ∷ bs) = (b.number < next) × ((c : Batch) → Has bs c → c.number ≡ b.number → ⊥) × AreNumbered next bs
+abbrev pub NumbersDiffer : ℕ → List Batch → Type 0
+NumbersDiffer next [] = Unit {0}
+NumbersDiffer next (b ∷ bs) = (b.number < next) × ((c : Batch) → Has bs c → c.number ≡ b.number → ⊥) × NumbersDiffer next bs
 
 -- g changes batch n alone
 abbrev pub only : ℕ → (Batch → Batch) → Batch → Batch
@@ -95,13 +95,13 @@ others-same : (n : ℕ) (g : Batch → Batch) (bs : List Batch) → ((c : Batch)
 others-same n g [] d = refl
 others-same n g (b ∷ bs) d = ap₂ (λ x xs. x ∷ xs) (only-miss n g b (d b (inl refl))) (others-same n g bs (λ c h. d c (inr h)))
 
-pub below-next : (next : ℕ) (bs : List Batch) (b : Batch) → AreNumbered next bs → Has bs b → b.number < next
+pub below-next : (next : ℕ) (bs : List Batch) (b : Batch) → NumbersDiffer next bs → Has bs b → b.number < next
 below-next next [] b h k = absurd k
 below-next next (c ∷ bs) b h (inl e) = subst (λ z. z.number < next) e h.0
 below-next next (c ∷ bs) b h (inr k) = below-next next bs b h.2 k
 
 -- batches of one number are one
-pub same-batch : (next : ℕ) (bs : List Batch) (b c : Batch) → AreNumbered next bs → Has bs b → Has bs c → b.number ≡ c.number → b ≡ c
+pub same-batch : (next : ℕ) (bs : List Batch) (b c : Batch) → NumbersDiffer next bs → Has bs b → Has bs c → b.number ≡ c.number → b ≡ c
 same-batch next [] b c h i j e = absurd i
 same-batch next (d ∷ bs) b c h (inl p) (inl q) e = sym p ∙ q
 same-batch next (d ∷ bs) b c h (inl p) (inr j) e = absurd (h.1 c j (sym e ∙ sym (ap (λ z. z.number) p)))
@@ -109,7 +109,7 @@ same-batch next (d ∷ bs) b c h (inr i) (inl q) e = absurd (h.1 b i (e ∙ sym 
 same-batch next (d ∷ bs) b c h (inr i) (inr j) e = same-batch next bs b c h.2 i j e
 
 -- after the change of b there are the changed b and the others
-pub Has-only : (next : ℕ) (bs : List Batch) (b : Batch) (g : Batch → Batch) (c : Batch) → AreNumbered next bs → Has bs b → Has (map (only b.number g) bs) c
+pub Has-only : (next : ℕ) (bs : List Batch) (b : Batch) (g : Batch → Batch) (c : Batch) → NumbersDiffer next bs → Has bs b → Has (map (only b.number g) bs) c
     → (c ≡ g b) ⊎ (Has bs c × (c.number ≡ b.number → ⊥))
 Has-only next bs b g c h i k =
     let m = Has-map (only b.number g) bs c k in go m.0 m.1 m.2 (nat_eq m.0.number b.number) refl
@@ -123,28 +123,6 @@ Has-only next bs b g c h i k =
         let u : ◌≡◌ {A = Bool} true false = sym t ∙ f in absurd cc) in
         let q : d ≡ c = sym (only-miss b.number g d apart) ∙ e in
         inr (subst (Has bs) q j, subst (λ z. z.number ≡ b.number → ⊥) q apart)
-
-pub numbered-only : (next : ℕ) (bs : List Batch) (b : Batch) (g : Batch → Batch) → AreNumbered next bs → (g b).number ≡ b.number → Has bs b → AreNumbered next (map (only b.number g) bs)
-numbered-only next [] b g h e k = absurd k
-numbered-only next (c ∷ bs) b g h e (inl p) =
-    let c-b : c.number ≡ b.number = ap (λ z. z.number) p in
-    let first : only b.number g c ≡ g b = only-hit b.number g c c-b ∙ ap g p in
-    let others : map (only b.number g) bs ≡ bs = others-same b.number g bs (λ d j q. h.1 d j (q ∙ sym c-b)) in (
-      subst (λ z. z.number < next) (sym first) (subst (λ z. z < next) (c-b ∙ sym e) h.0),
-      subst (λ z. (d : Batch) → Has z d → d.number ≡ (only b.number g c).number → ⊥) (sym others)
-          (λ d j q. h.1 d j (q ∙ ap (λ z. z.number) first ∙ e ∙ sym c-b)),
-      subst (AreNumbered next) (sym others) h.2,
-    )
-numbered-only next (c ∷ bs) b g h e (inr k) =
-    let apart : c.number ≡ b.number → ⊥ = λ q. h.1 b k (sym q) in
-    let first : only b.number g c ≡ c = only-miss b.number g c apart in (
-      subst (λ z. z.number < next) (sym first) h.0,
-      λ d j q. ⊎_elim
-          (λ m. apart (sym (q ∙ ap (λ z. z.number) first) ∙ ap (λ z. z.number) m ∙ e))
-          (λ m. h.1 d m.0 (q ∙ ap (λ z. z.number) first))
-          (Has-only next bs b g d h.2 k j),
-      numbered-only next bs b g h.2 e k,
-    )
 
 -- no entry is of the act
 abbrev pub AreOthers : BatchAct → List Entry → Type 0
@@ -192,7 +170,7 @@ plant-frame-here b bs a d f =
       others-append (n, place_of a) (map (entry n) f.1) (entries bs) (elsewhere-others n (place_of a) f.1 f.5) (numbers-others (n, place_of a) bs d),
     )
 
-pub plant-frame : (next : ℕ) (bs : List Batch) (b : Batch) (a : Rest) → AreNumbered next bs → Has bs b → Frame b.rest a → PlantFrame bs b a
+pub plant-frame : (next : ℕ) (bs : List Batch) (b : Batch) (a : Rest) → NumbersDiffer next bs → Has bs b → Frame b.rest a → PlantFrame bs b a
 plant-frame next [] b a h k f = absurd k
 plant-frame next (c ∷ bs) b a h (inl e) f = subst (λ z. PlantFrame (c ∷ bs) z a) e (plant-frame-here c bs a h.1 (subst (λ z. Frame z.rest a) (sym e) f))
 plant-frame next (c ∷ bs) b a h (inr k) f =

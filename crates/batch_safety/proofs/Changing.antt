@@ -11,21 +11,18 @@ use Rattle.batch_model.specs.Plant.{Documents, Batch, BatchAct, Plant, place_of}
 use Rattle.batch_model.specs.Runs.{Out}
 use Rattle.batch_model.specs.Records.{without, holders_after, holders_told, waiters_after, waiters_told, Active, active_after, active_told, state_after, state_told}
 use Rattle.batch_safety.specs.Facts.{Fact, holding, awaiting, performing, Standing, held_at, facts, Entry, entry, entries, holders_among}
-use Rattle.batch_safety.specs.Stands.{StandsAt}
 use Rattle.batch_model.specs.Cleared.{Ranking}
 use Rattle.batch_safety.specs.ClearedDown.{IsClearedDown}
 use Rattle.batch_model.proofs.Members.{Has-split, Has-left, Has-right}
 use Rattle.batch_safety.proofs.Members.{Has-map}
 use Rattle.batch_safety.proofs.Ranking.{holding-performing, holding-awaiting}
-use Rattle.batch_safety.proofs.Standing.{KeepsNodes, changed-StandsAt, advance-StandsAt}
 use Rattle.batch_safety.proofs.Reaching.{advance-facts}
 use Rattle.batch_safety.proofs.Framing.{Frame}
-use Rattle.batch_model.specs.Settled.{IsAdvanced}
-use Rattle.batch_safety.proofs.Advancing.{advance-advanced}
-use Rattle.batch_safety.proofs.Bounding.{IsBounded, advance-bounded, changed-bounded, are-one}
 use Rattle.batch_safety.proofs.Entries.{Agrees, Has-holders, holders-append, agrees-more, agrees-less, length-frame, Has-frame, frame-front, frame-middle, frame-back, name_self}
-use Rattle.batch_safety.proofs.Batches.{AreNumbered, only, Has-only, numbered-only, plant-frame, AreOthers}
+use Rattle.batch_safety.proofs.Batches.{NumbersDiffer, only, Has-only, plant-frame, AreOthers}
 use Rattle.batch_safety.proofs.Invariant.{IsFitting, IsSound, IsKept}
+use Rattle.batch_model.specs.Standing.{IsStanding}
+use Rattle.batch_safety.proofs.Invariant.{numbers-of}
 
 pub told-holders : (outs : List Out) (o : Out) (q : Name) → holders_told (outs ++ o ∷ []) q ≡ holders_after q (holders_told outs q) o
 told-holders outs o q = fold-append (holders_after q) [] outs (o ∷ [])
@@ -43,7 +40,7 @@ told-state outs o n = fold-append (state_after n) None outs (o ∷ [])
 abbrev pub changed_plant : Plant → ℕ → (Batch → Batch) → (Name → List BatchAct) → Plant
 changed_plant s n g line = record s { batches = map (only n g) s.batches; line = line }
 
-module _ (d : Documents) (rank : Ranking) (outs : List Out) (s : Plant) (k : IsKept d rank outs s) (b : Batch) (i : Has s.batches b)
+module _ (d : Documents) (rank : Ranking) (outs : List Out) (s : Plant) (sd : IsStanding d s) (k : IsKept d rank outs s) (b : Batch) (i : Has s.batches b)
   where
     -- what is left to show when one batch changes and one line is told of it
     pub kept-after :
@@ -62,8 +59,7 @@ module _ (d : Documents) (rank : Ranking) (outs : List Out) (s : Plant) (k : IsK
         → IsKept d rank (outs ++ o ∷ []) (changed_plant s b.number g line)
     kept-after o g line num sound others own held within lines asked active listed shown =
         record {
-          sound = λ c h. ⊎_elim (λ e. subst (IsSound d rank) (sym e) sound) (λ m. k.sound c m.0) (Has-only s.next_number s.batches b g c k.numbers i h);
-          numbers = numbered-only s.next_number s.batches b g k.numbers num i;
+          sound = λ c h. ⊎_elim (λ e. subst (IsSound d rank) (sym e) sound) (λ m. k.sound c m.0) (Has-only s.next_number s.batches b g c (numbers-of d s sd) i h);
           held = λ q. subst (λ z. Agrees z (holders_among q (entries (map (only b.number g) s.batches)))) (sym (told-holders outs o q)) (held q);
           within = within;
           lines = λ q. told-waiters outs o q ∙ ap (λ z. waiters_after q z o) (k.lines q) ∙ lines q;
@@ -80,7 +76,7 @@ module _ (d : Documents) (rank : Ranking) (outs : List Out) (s : Plant) (k : IsK
               ∙ ap (λ z. state_after b.number z o) (k.states b i)
               ∙ own ∙ ap (λ z. Some z.state) (sym e))
               (λ m. told-state outs o c.number ∙ others c.number (state_told outs c.number) m.1 ∙ k.states c m.0)
-              (Has-only s.next_number s.batches b g c k.numbers i h);
+              (Has-only s.next_number s.batches b g c (numbers-of d s sd) i h);
         }
 
 -- Entries that change at one act: the holdings H of the act stay, and T becomes U
@@ -262,31 +258,13 @@ pub record IsChange (b : Batch) (a : Rest) (g : Batch → Batch) (f : Rest → R
   pub number : (g b).number ≡ b.number
   pub recipe : (g b).recipe ≡ b.recipe
   pub goes_on : (g b).rest ≡ advance vs (changed_at (place_of a) f b.rest)
-  pub keeps : KeepsNodes f
-  pub bounds : IsBounded a → IsBounded (f a)
 
 pub change-facts : (b : Batch) (a : Rest) (g : Batch → Batch) (f : Rest → Rest) (vs : ValueList) → IsChange b a g f vs → facts (g b).rest ≡ facts (changed_at (place_of a) f b.rest)
 change-facts b a g f vs c = ap facts c.goes_on ∙ advance-facts vs (changed_at (place_of a) f b.rest)
 
-pub change-sound : (d : Documents) (rank : Ranking) (b : Batch) (a : Rest) (g : Batch → Batch) (f : Rest → Rest) (vs : ValueList) → IsSound d rank b → Has (acts b.rest) a → IsChange b a g f vs
+pub change-sound : (d : Documents) (rank : Ranking) (b : Batch) (a : Rest) (g : Batch → Batch) (f : Rest → Rest) (vs : ValueList) → IsSound d rank b → IsChange b a g f vs
     → IsFitting (g b).state (facts (g b).rest) → IsSound d rank (g b)
-change-sound d rank b a g f vs s j c fits =
-    record {
-      cleared = subst (IsClearedDown d rank) (sym c.recipe) s.cleared;
-      stands =
-          subst₂ (λ r t. StandsAt r.procedure t) (sym c.recipe) (sym c.goes_on)
-          (advance-StandsAt vs b.recipe.procedure (changed_at (place_of a) f b.rest) (changed-StandsAt (place_of a) f c.keeps b.recipe.procedure b.rest s.stands));
-      fits = fits;
-      advanced = subst IsAdvanced (sym c.goes_on) (advance-advanced vs (changed_at (place_of a) f b.rest));
-      bounded =
-          subst IsBounded (sym c.goes_on)
-          (advance-bounded vs (changed_at (place_of a) f b.rest)
-          (changed-bounded (place_of a) f b.rest
-          (λ z i e h.
-          (let one : a ≡ z = are-one (0 ∷ []) b.recipe.procedure b.rest s.cleared.placed s.stands a z j i (sym e) in
-          subst (λ w. IsBounded (f w)) one (c.bounds (subst IsBounded (sym one) h))))
-          s.bounded));
-    }
+change-sound d rank b a g f vs s c fits = record { cleared = subst (IsClearedDown d rank) (sym c.recipe) s.cleared; fits = fits }
 
 -- the facts of the act before and after
 pub record Becomes (a : Rest) (f : Rest → Rest) (names : List Name) (t u : Tail) : Type 0 where
@@ -294,7 +272,7 @@ pub record Becomes (a : Rest) (f : Rest → Rest) (names : List Name) (t u : Tai
   pub is : facts (f a) ≡ held_at (place_of a) names ++ tail_at (place_of a) u
 
 pub apart : (next : ℕ) (bs : List Batch) (b : Batch) (a : Rest) (g : Batch → Batch) (f : Rest → Rest) (vs : ValueList) (names : List Name) (t u : Tail)
-    → AreNumbered next bs → Has bs b → Frame b.rest a → IsChange b a g f vs → Becomes a f names t u
+    → NumbersDiffer next bs → Has bs b → Frame b.rest a → IsChange b a g f vs → Becomes a f names t u
     → IsApart b.number (place_of a) names t u (entries bs) (entries (map (only b.number g) bs))
 apart next bs b a g f vs names t u h i fr c e =
     let p = plant-frame next bs b a h i fr in

@@ -19,18 +19,17 @@ use Rattle.batch_model.specs.Cleared.{Ranking}
 use Rattle.batch_safety.specs.ClearedDown.{IsClearedDown}
 use Rattle.batch_model.proofs.Members.{Has-split}
 use Rattle.batch_safety.proofs.Members.{map-Has}
-use Rattle.batch_safety.proofs.Standing.{reach-StandsAt, withdrawn-StandsAt}
 use Rattle.batch_safety.proofs.Reaching.{reach-facts, is_kept, withdrawn-facts}
-use Rattle.batch_safety.proofs.Advancing.{reach-advanced}
-use Rattle.batch_safety.proofs.Bounding.{reach-bounded, withdrawn-advanced, withdrawn-bounded}
 use Rattle.batch_safety.proofs.Entries.{Agrees, Has-filter, filter-Has, nat_same, nat_self, nat_differs, holders-append}
-use Rattle.batch_safety.proofs.Batches.{AreNumbered, Has-only, below-next, only, only-hit, only-miss, same-batch}
+use Rattle.batch_safety.proofs.Batches.{NumbersDiffer, Has-only, below-next, only, only-hit, only-miss, same-batch}
 use Rattle.batch_safety.proofs.Invariant.{IsFitting, NothingAwaited, IsSound, IsKept}
 use Rattle.batch_safety.proofs.Safety.{entry-of, of-entry}
 use Rattle.batch_safety.proofs.Changing.{changed_plant, kept-after, told-holders, told-waiters, told-active, told-state}
 use Rattle.batch_safety.proofs.Keeping.{kept-quiet}
 use Rattle.batch_safety.proofs.Moving.{tells-other, tells-own}
 use Rattle.std.proofs.lemmas.List.{append-nil}
+use Rattle.batch_model.specs.Standing.{IsStanding}
+use Rattle.batch_safety.proofs.Invariant.{numbers-of}
 
 -- Answers: the record with the reply, and the plant
 
@@ -51,7 +50,6 @@ kept-refused d rank outs s x k =
     let o : Out = reply (refused x) in
     record {
       sound = k.sound;
-      numbers = k.numbers;
       held = λ q. subst (λ z. Agrees z (holders_among q (entries s.batches))) (sym (told-holders outs o q)) (k.held q);
       within = k.within;
       lines = λ q. told-waiters outs o q ∙ k.lines q;
@@ -68,21 +66,9 @@ entries-append : (bs cs : List Batch) → entries (bs ++ cs) ≡ entries bs ++ e
 entries-append [] cs = refl
 entries-append (b ∷ bs) cs = ap (λ z. entries_of b ++ z) (entries-append bs cs) ∙ sym (Rattle.std.proofs.Common.append_assoc (entries_of b) (entries bs) (entries cs))
 
-numbered-more : (next : ℕ) (bs : List Batch) → AreNumbered next bs → AreNumbered (suc next) bs
-numbered-more next [] h = tt
-numbered-more next (b ∷ bs) h = (let l : b.number < next = h.0 in omega arith, h.1, numbered-more next bs h.2)
-
-numbered-new : (next : ℕ) (bs : List Batch) (n : Batch) → AreNumbered next bs → n.number ≡ next → AreNumbered (suc next) (bs ++ n ∷ [])
-numbered-new next [] n h e = (omega arith, λ c k. absurd k, tt)
-numbered-new next (b ∷ bs) n h e = (
-  (let l : b.number < next = h.0 in omega arith),
-  λ c k q. ⊎_elim (λ m. h.1 c m q) (λ m. ⊎_elim (λ w. (let l : b.number < next = h.0 in let v : n.number ≡ c.number = ap (λ z. z.number) w in absurd (omega arith))) (λ w. w) m) (Has-split bs (n ∷ []) c k),
-  numbered-new next bs n h.2 e,
-)
-
-pub kept-created : (d : Documents) (rank : Ranking) (outs : List Out) (s : Plant) (r : Recipe) (name : Name) (size : ℕ) (vs : ValueList) → IsClearedDown d rank r → IsKept d rank outs s
+pub kept-created : (d : Documents) (rank : Ranking) (outs : List Out) (s : Plant) (r : Recipe) (name : Name) (size : ℕ) (vs : ValueList) → IsClearedDown d rank r → IsStanding d s → IsKept d rank outs s
     → IsKept d rank (outs ++ reply (created s.next_number name size) ∷ []) (with_batch s r size vs)
-kept-created d rank outs s r name size vs cleared k =
+kept-created d rank outs s r name size vs cleared sd k =
     let o : Out = reply (created s.next_number name size) in
     let n : Batch = new_batch s.next_number r size vs in
     let none : facts n.rest ≡ [] = reach-facts vs r.procedure in
@@ -90,9 +76,8 @@ kept-created d rank outs s r name size vs cleared k =
     = entries-append s.batches (n ∷ []) ∙ ap (λ z. entries s.batches ++ (map (entry s.next_number) z ++ [])) none ∙ append-nil (entries s.batches) in
     record {
       sound = λ c h. ⊎_elim (k.sound c)
-          (λ m. ⊎_elim (λ e. subst (IsSound d rank) e (record { cleared = cleared; stands = reach-StandsAt vs r.procedure; fits = none; advanced = reach-advanced vs r.procedure; bounded = reach-bounded vs r.procedure })) (λ e. absurd e) m)
+          (λ m. ⊎_elim (λ e. subst (IsSound d rank) e (record { cleared = cleared; fits = none })) (λ e. absurd e) m)
           (Has-split s.batches (n ∷ []) c h);
-      numbers = numbered-new s.next_number s.batches n k.numbers refl;
       held = λ q. subst₂ Agrees (sym (told-holders outs o q)) (ap (holders_among q) (sym same)) (k.held q);
       within = λ q. subst (λ z. length (holders_among q z) ≤ d.capacity q) (sym same) (k.within q);
       lines = λ q. told-waiters outs o q ∙ k.lines q;
@@ -103,7 +88,7 @@ kept-created d rank outs s r name size vs cleared k =
       states = λ c h. told-state outs o c.number
           ∙ ⊎_elim
           (λ m. tells-other s.next_number c.number (Some Idle) (Rattle.batch_model.specs.Records.state_told outs c.number)
-          (λ e. (let l : c.number < s.next_number = below-next s.next_number s.batches c k.numbers m in absurd (omega arith))) ∙ k.states c m)
+          (λ e. (let l : c.number < s.next_number = below-next s.next_number s.batches c (numbers-of d s sd) m in absurd (omega arith))) ∙ k.states c m)
           (λ m. ⊎_elim
           (λ e. subst (λ z. elim (nat_eq s.next_number z.number) [ true ↦ Some Idle | false ↦ Rattle.batch_model.specs.Records.state_told outs z.number ] ≡ Some z.state) e
           (tells-own s.next_number (Some Idle) (Rattle.batch_model.specs.Records.state_told outs s.next_number)))
@@ -122,25 +107,16 @@ entries-without n (b ∷ bs) h = go (nat_eq b.number n) refl (entries-without n 
     go true e f = f ∙ ap (λ z. map (entry b.number) z ++ entries bs) (sym (h b (inl refl) (nat_same b.number n e)))
     go false e f = ap (λ z. entries_of b ++ z) f
 
-numbered-filter : (next : ℕ) (p : Batch → Bool) (bs : List Batch) → AreNumbered next bs → AreNumbered next (filter p bs)
-numbered-filter next p [] h = tt
-numbered-filter next p (b ∷ bs) h = go (p b) (numbered-filter next p bs h.2)
-  where
-    go : (t : Bool) → AreNumbered next (filter p bs) → AreNumbered next (cond t (b ∷ filter p bs) (filter p bs))
-    go true m = (h.0, λ c w. h.1 c ((Has-filter p bs c w).0), m)
-    go false m = m
-
-kept-removed : (d : Documents) (rank : Ranking) (outs : List Out) (s : Plant) (b : Batch) → Has s.batches b → b.state ≡ Idle → IsKept d rank outs s
+kept-removed : (d : Documents) (rank : Ranking) (outs : List Out) (s : Plant) (b : Batch) → Has s.batches b → b.state ≡ Idle → IsStanding d s → IsKept d rank outs s
     → IsKept d rank (outs ++ reply (removed b.number) ∷ []) (without_batch b.number s)
-kept-removed d rank outs s b i idle k =
+kept-removed d rank outs s b i idle sd k =
     let o : Out = reply (removed b.number) in
     let left : Batch → Bool = λ c. not (nat_eq c.number b.number) in
     let none : facts b.rest ≡ [] = subst (λ z. IsFitting z (facts b.rest)) idle (k.sound b i).fits in
     let same : entries (filter left s.batches) ≡ entries s.batches
-    = entries-without b.number s.batches (λ c h e. subst (λ z. facts z.rest ≡ []) (sym (same-batch s.next_number s.batches c b k.numbers h i e)) none) in
+    = entries-without b.number s.batches (λ c h e. subst (λ z. facts z.rest ≡ []) (sym (same-batch s.next_number s.batches c b (numbers-of d s sd) h i e)) none) in
     record {
       sound = λ c h. k.sound c ((Has-filter left s.batches c h).0);
-      numbers = numbered-filter s.next_number left s.batches k.numbers;
       held = λ q. subst₂ Agrees (sym (told-holders outs o q)) (ap (holders_among q) (sym same)) (k.held q);
       within = λ q. subst (λ z. length (holders_among q z) ≤ d.capacity q) (sym same) (k.within q);
       lines = λ q. told-waiters outs o q ∙ k.lines q;
@@ -188,7 +164,7 @@ holders-only q n g (c ∷ bs) f =
     ∙ ap₂ (λ xs ys. xs ++ ys) (f c (inl refl)) (holders-only q n g bs (λ e h. f e (inr h)))
     ∙ sym (holders-append q (entries_of c) (entries bs))
 
-module _ (d : Documents) (rank : Ranking) (outs : List Out) (s : Plant) (k : IsKept d rank outs s) (b : Batch) (i : Has s.batches b) where
+module _ (d : Documents) (rank : Ranking) (outs : List Out) (s : Plant) (sd : IsStanding d s) (k : IsKept d rank outs s) (b : Batch) (i : Has s.batches b) where
   sound-b : IsSound d rank b
   sound-b = k.sound b i
 
@@ -196,16 +172,16 @@ module _ (d : Documents) (rank : Ranking) (outs : List Out) (s : Plant) (k : IsK
   kept-commanded : (c : Command) → ((es : List Standing) → IsFitting (target c) es) → ((q : Name) (ws : List BatchAct) → waiters_after q ws (reply (ordered c b.number (target c))) ≡ ws)
       → IsKept d rank (outs ++ reply (ordered c b.number (target c)) ∷ []) (changed_plant s b.number (λ z. record z { state = target c }) s.line)
   kept-commanded c fits wait =
-      kept-quiet d rank outs s k b i (reply (ordered c b.number (target c))) (λ z. record z { state = target c }) refl
-      (record { cleared = sound-b.cleared; stands = sound-b.stands; fits = fits (facts b.rest); advanced = sound-b.advanced; bounded = sound-b.bounded }) refl
+      kept-quiet d rank outs s sd k b i (reply (ordered c b.number (target c))) (λ z. record z { state = target c }) refl
+      (record { cleared = sound-b.cleared; fits = fits (facts b.rest) }) refl
       (order-others c b.number (target c), order-own c b.number (target c) b.state) (λ q hs. refl) wait (λ xs. refl)
 
   kept-reset : accepts b.state Reset ≡ true → IsKept d rank (outs ++ reply (ordered Reset b.number Idle) ∷ []) (changed_plant s b.number reset s.line)
   kept-reset e =
       let none : facts b.rest ≡ [] = reset-nothing b.state (facts b.rest) e sound-b.fits in
       let vs : ValueList = with_outputs_zero b.recipe.outputs b.values in
-      kept-quiet d rank outs s k b i (reply (ordered Reset b.number Idle)) reset refl
-      (record { cleared = sound-b.cleared; stands = reach-StandsAt vs b.recipe.procedure; fits = reach-facts vs b.recipe.procedure; advanced = reach-advanced vs b.recipe.procedure; bounded = reach-bounded vs b.recipe.procedure })
+      kept-quiet d rank outs s sd k b i (reply (ordered Reset b.number Idle)) reset refl
+      (record { cleared = sound-b.cleared; fits = reach-facts vs b.recipe.procedure })
       (reach-facts vs b.recipe.procedure ∙ sym none)
       (order-others Reset b.number Idle, order-own Reset b.number Idle b.state) (λ q hs. refl) (λ q ws. refl) (λ xs. refl)
 
@@ -219,13 +195,10 @@ module _ (d : Documents) (rank : Ranking) (outs : List Out) (s : Plant) (k : IsK
       let g : Batch → Batch = stopped c in
       let E' : List Entry = entries (map (only n g) s.batches) in
       let same : (q : Name) → holders_among q E' ≡ holders_among q (entries s.batches) = λ q. holders-only q n g s.batches (λ e h. one q e h (nat_eq e.number n) refl) in
-      kept-after d rank outs s k b i o g (λ q. filter (λ a. not (nat_eq a.0 n)) (s.line q)) refl
+      kept-after d rank outs s sd k b i o g (λ q. filter (λ a. not (nat_eq a.0 n)) (s.line q)) refl
       (record {
         cleared = sound-b.cleared;
-        stands = withdrawn-StandsAt b.recipe.procedure b.rest sound-b.stands;
         fits = fits (facts (withdrawn b.rest)) (λ p r h. not_kept p r (subst (λ z. Has z (p, awaiting r)) (withdrawn-facts b.rest) h));
-        advanced = withdrawn-advanced b.rest sound-b.advanced;
-        bounded = withdrawn-bounded b.rest sound-b.bounded;
       })
       (order-others c n (target c)) (order-own c n (target c) b.state)
       (λ q. subst (Agrees (Rattle.batch_model.specs.Records.holders_told outs q)) (sym (same q)) (k.held q))
@@ -261,7 +234,7 @@ module _ (d : Documents) (rank : Ranking) (outs : List Out) (s : Plant) (k : IsK
           (λ m. filter-Has (λ z. not (nat_eq z.0 b.number)) (s.line q) a
           (k.listed q a (subst (λ z. Has (entries s.batches) ((z, a.1), awaiting q)) e.2 (of-entry s.batches e.0 a.1 (awaiting q) m.0 e.3)))
           (is_other a.0 b.number (λ w. m.1 (e.2 ∙ w))))
-          (Has-only s.next_number s.batches b (stopped c) e.0 k.numbers i e.1)
+          (Has-only s.next_number s.batches b (stopped c) e.0 (numbers-of d s sd) i e.1)
 
       ran : (a : BatchAct) (x : Phase) → (e : Batch) × Has (map (only b.number (stopped c)) s.batches) e × (e.number ≡ a.0) × Has (facts e.rest) (a.1, performing x)
           → Has (Rattle.batch_model.specs.Records.active_told outs) (record { act = a; phase = x })
@@ -272,7 +245,7 @@ module _ (d : Documents) (rank : Ranking) (outs : List Out) (s : Plant) (k : IsK
           (of-entry s.batches b a.1 (performing x) i
           ((Has-filter is_kept (facts b.rest) (a.1, performing x) (subst (λ z. Has z (a.1, performing x)) (ap (λ z. facts z.rest) m ∙ withdrawn-facts b.rest) e.3)).0))))
           (λ m. k.shown a x (subst (λ z. Has (entries s.batches) ((z, a.1), performing x)) e.2 (of-entry s.batches e.0 a.1 (performing x) m.0 e.3)))
-          (Has-only s.next_number s.batches b (stopped c) e.0 k.numbers i e.1)
+          (Has-only s.next_number s.batches b (stopped c) e.0 (numbers-of d s sd) i e.1)
 
       stays_other : (e : Batch) → Has s.batches e → (e.number ≡ b.number → ⊥) → Has (map (only b.number (stopped c)) s.batches) e
       stays_other e h d' = subst (Has (map (only b.number (stopped c)) s.batches)) (only-miss b.number (stopped c) e d') (map-Has (only b.number (stopped c)) s.batches e h)
@@ -292,7 +265,7 @@ module _ (d : Documents) (rank : Ranking) (outs : List Out) (s : Plant) (k : IsK
           go : (e : Batch) → Has s.batches e → e.number ≡ a.0 → Has (facts e.rest) (a.1, performing x) → (t : Bool) → nat_eq e.number b.number ≡ t
               → Has (entries (map (only b.number (stopped c)) s.batches)) (a, performing x)
           go e j w m true v =
-              let q : e ≡ b = same-batch s.next_number s.batches e b k.numbers j i (nat_same e.number b.number v) in
+              let q : e ≡ b = same-batch s.next_number s.batches e b (numbers-of d s sd) j i (nat_same e.number b.number v) in
               subst (λ z. Has (entries (map (only b.number (stopped c)) s.batches)) ((z, a.1), performing x)) (ap (λ z. z.number) (sym q) ∙ w)
               (of-entry (map (only b.number (stopped c)) s.batches) (stopped c b) a.1 (performing x) stays_this
               (subst (λ z. Has z (a.1, performing x)) (sym (withdrawn-facts b.rest)) (filter-Has is_kept (facts b.rest) (a.1, performing x) (subst (λ z. Has (facts z.rest) (a.1, performing x)) q m) refl)))
@@ -330,7 +303,7 @@ module _ (d : Documents) (rank : Ranking) (outs : List Out) (s : Plant) (k : IsK
   removing-step = go b.state refl
     where
       go : (x : State) → b.state ≡ x → Answered d rank outs (elim x [ Idle ↦ (removed b.number, without_batch b.number s) | y ↦ (refused (not_idle y), s) ])
-      go Idle e = kept-removed d rank outs s b i e k
+      go Idle e = kept-removed d rank outs s b i e sd k
       go Running e = kept-refused d rank outs s (not_idle Running) k
       go Pausing e = kept-refused d rank outs s (not_idle Pausing) k
       go Paused e = kept-refused d rank outs s (not_idle Paused) k

@@ -9,7 +9,7 @@ use Rattle.batch_model.specs.Plant.{place_of}
 use Rattle.batch_recipe.specs.Nodes.{child}
 use Rattle.batch_model.specs.Records.{IsAtOrAbove}
 use Rattle.batch_safety.specs.Facts.{Standing, held_at, facts, facts_of_each}
-use Rattle.batch_safety.specs.Stands.{StandsAt, StandsBelow, StandsAmong, StandSideBySide, StandsChosen}
+use Rattle.batch_model.specs.Standing.{IsRestOf, IsRestBelow, IsBranch, AreBranches, IsChosen}
 use Rattle.batch_model.specs.Placed.{IsPlaced, IsPlacedBelow, ArePlaced, IsChoicePlaced}
 use Rattle.batch_model.specs.Cleared.{Ranking}
 use Rattle.batch_safety.specs.ClearedDown.{Rises, last_rank, RisesDown, RisesBelow, RiseDown, ChoicesRiseDown}
@@ -102,7 +102,7 @@ pub at_or_above : (p q : Place) → p ≡ q → IsAtOrAbove p q
 at_or_above p q e = ([], append-nil p ∙ e)
 
 mutual
-  pub frame : (p : Place) (c : Tree) (r : Rest) → IsPlaced p c → StandsAt c r → (a : Rest) → Has (acts r) a → Frame r a
+  pub frame : (p : Place) (c : Tree) (r : Rest) → IsPlaced p c → IsRestOf c r → (a : Rest) → Has (acts r) a → Frame r a
   frame p (act s w) (ready u v n) pl h a (inl e) = frame-self (ready u v n) (λ f. hit u.place (f (ready u v n)) (ready u v n)) a e
   frame p (act s w) (ready u v n) pl h a (inr e) = absurd e
   frame p (act s w) (asking u v n) pl h a (inl e) = frame-self (asking u v n) (λ f. hit u.place (f (asking u v n)) (asking u v n)) a e
@@ -122,20 +122,20 @@ mutual
   frame p (seq cs) (in_seq r ds) pl h a e = frame-among p 0 cs r ds pl h a e
   frame p (par cs) (in_par rs) pl h a e = frame-side_by_side p 0 cs rs pl h a e
   frame p (sel ch) r pl h a e = frame-chosen p 0 ch r pl h a e
-  frame p (loop n c body) (in_loop m d b r) pl h a e = frame (child p 0) body r pl h.1 a e
+  frame p (loop n c body) (in_loop m d b r) pl h a e = frame (child p 0) body r pl h.3 a e
   frame p c done pl h a e = absurd e
   frame p _ _ pl h a e = absurd h
 
-  pub frame-below : (p : Place) (w : Task) (r : Rest) → IsPlacedBelow p w → StandsBelow w r → (a : Rest) → Has (acts r) a → Frame r a
+  pub frame-below : (p : Place) (w : Task) (r : Rest) → IsPlacedBelow p w → IsRestBelow w r → (a : Rest) → Has (acts r) a → Frame r a
   frame-below p (runs x) r pl h a e = absurd h
   frame-below p (follows name c) r pl h a e = frame (child p 0) c r pl h a e
 
-  pub frame-among : (p : Place) (i : ℕ) (cs : Trees) (r : Rest) (ds : Trees) → ArePlaced p i cs → StandsAmong cs r ds → (a : Rest) → Has (acts r) a → Frame r a
+  pub frame-among : (p : Place) (i : ℕ) (cs : Trees) (r : Rest) (ds : Trees) → ArePlaced p i cs → IsBranch cs r ds → (a : Rest) → Has (acts r) a → Frame r a
   frame-among p i no_trees r ds pl h a e = absurd h
   frame-among p i (tree c cs) r ds pl (inl h) a e = frame (child p i) c r pl.0 h.0 a e
   frame-among p i (tree c cs) r ds pl (inr h) a e = frame-among p (i + 1) cs r ds pl.1 h a e
 
-  pub frame-side_by_side : (p : Place) (i : ℕ) (cs : Trees) (rs : Rests) → ArePlaced p i cs → StandSideBySide cs rs → (a : Rest) → Has (acts_of_each rs) a → FrameOfEach rs a
+  pub frame-side_by_side : (p : Place) (i : ℕ) (cs : Trees) (rs : Rests) → ArePlaced p i cs → AreBranches cs rs → (a : Rest) → Has (acts_of_each rs) a → FrameOfEach rs a
   frame-side_by_side p i no_trees no_rests pl h a e = absurd e
   frame-side_by_side p i (tree c cs) (rest r more) pl h a e =
       ⊎_elim
@@ -161,7 +161,7 @@ mutual
   frame-side_by_side p i no_trees (rest r more) pl h a e = absurd h
   frame-side_by_side p i (tree c cs) no_rests pl h a e = absurd h
 
-  pub frame-chosen : (p : Place) (i : ℕ) (ch : Choices) (r : Rest) → IsChoicePlaced p i ch → StandsChosen ch r → (a : Rest) → Has (acts r) a → Frame r a
+  pub frame-chosen : (p : Place) (i : ℕ) (ch : Choices) (r : Rest) → IsChoicePlaced p i ch → IsChosen ch r → (a : Rest) → Has (acts r) a → Frame r a
   frame-chosen p i (otherwise c) r pl h a e = frame (child p i) c r pl h a e
   frame-chosen p i (choice d c ch) r pl (inl h) a e = frame (child p i) c r pl.0 h a e
   frame-chosen p i (choice d c ch) r pl (inr h) a e = frame-chosen p (i + 1) ch r pl.1 h a e
@@ -183,7 +183,7 @@ needs-here rank low s r a h e q = subst (NeedsRise rank) q (low, subst (Rises ra
 
 mutual
   -- the needs of each act have strictly rising ranks
-  pub needs-rise : (rank : Ranking) (low : ℕ) (c : Tree) (r : Rest) → RisesDown rank low c → StandsAt c r → (a : Rest) → Has (acts r) a → NeedsRise rank a
+  pub needs-rise : (rank : Ranking) (low : ℕ) (c : Tree) (r : Rest) → RisesDown rank low c → IsRestOf c r → (a : Rest) → Has (acts r) a → NeedsRise rank a
   needs-rise rank low (act s w) (ready u v n) rs h a (inl e) = needs-here rank low s (ready u v n) a rs.0 (ap (λ z. z.needs) h.0) e
   needs-rise rank low (act s w) (ready u v n) rs h a (inr e) = absurd e
   needs-rise rank low (act s w) (asking u v n) rs h a (inl e) = needs-here rank low s (asking u v n) a rs.0 (ap (λ z. z.needs) h.0) e
@@ -192,32 +192,32 @@ mutual
   needs-rise rank low (act s w) (open_act u r) rs h a (inr e) = needs-rise_below rank (last_rank rank low s.needs) w r rs.1 h.1 a e
   needs-rise rank low (act s w) (live u x t) rs h a (inl e) = needs-here rank low s (live u x t) a rs.0 (ap (λ z. z.needs) h.0) e
   needs-rise rank low (act s w) (live u x t) rs h a (inr e) = absurd e
-  needs-rise rank low (act s w) (freeing u n) rs h a (inl e) = needs-here rank low s (freeing u n) a rs.0 (ap (λ z. z.needs) h) e
+  needs-rise rank low (act s w) (freeing u n) rs h a (inl e) = needs-here rank low s (freeing u n) a rs.0 (ap (λ z. z.needs) h.0) e
   needs-rise rank low (act s w) (freeing u n) rs h a (inr e) = absurd e
   needs-rise rank low (seq cs) (in_seq r ds) rs h a e = needs-rise_among rank low cs r ds rs h a e
   needs-rise rank low (par cs) (in_par r) rs h a e = needs-rise_side_by_side rank low cs r rs h a e
   needs-rise rank low (sel ch) r rs h a e = needs-rise_chosen rank low ch r rs h a e
-  needs-rise rank low (loop n c body) (in_loop m d b r) rs h a e = needs-rise rank low body r rs h.1 a e
+  needs-rise rank low (loop n c body) (in_loop m d b r) rs h a e = needs-rise rank low body r rs h.3 a e
   needs-rise rank low c done rs h a e = absurd e
   needs-rise rank low _ _ rs h a e = absurd h
 
-  pub needs-rise_below : (rank : Ranking) (low : ℕ) (w : Task) (r : Rest) → RisesBelow rank low w → StandsBelow w r → (a : Rest) → Has (acts r) a → NeedsRise rank a
+  pub needs-rise_below : (rank : Ranking) (low : ℕ) (w : Task) (r : Rest) → RisesBelow rank low w → IsRestBelow w r → (a : Rest) → Has (acts r) a → NeedsRise rank a
   needs-rise_below rank low (runs x) r rs h a e = absurd h
   needs-rise_below rank low (follows name c) r rs h a e = needs-rise rank low c r rs h a e
 
-  pub needs-rise_among : (rank : Ranking) (low : ℕ) (cs : Trees) (r : Rest) (ds : Trees) → RiseDown rank low cs → StandsAmong cs r ds → (a : Rest) → Has (acts r) a → NeedsRise rank a
+  pub needs-rise_among : (rank : Ranking) (low : ℕ) (cs : Trees) (r : Rest) (ds : Trees) → RiseDown rank low cs → IsBranch cs r ds → (a : Rest) → Has (acts r) a → NeedsRise rank a
   needs-rise_among rank low no_trees r ds rs h a e = absurd h
   needs-rise_among rank low (tree c cs) r ds rs (inl h) a e = needs-rise rank low c r rs.0 h.0 a e
   needs-rise_among rank low (tree c cs) r ds rs (inr h) a e = needs-rise_among rank low cs r ds rs.1 h a e
 
-  pub needs-rise_side_by_side : (rank : Ranking) (low : ℕ) (cs : Trees) (r : Rests) → RiseDown rank low cs → StandSideBySide cs r → (a : Rest) → Has (acts_of_each r) a → NeedsRise rank a
+  pub needs-rise_side_by_side : (rank : Ranking) (low : ℕ) (cs : Trees) (r : Rests) → RiseDown rank low cs → AreBranches cs r → (a : Rest) → Has (acts_of_each r) a → NeedsRise rank a
   needs-rise_side_by_side rank low no_trees no_rests rs h a e = absurd e
   needs-rise_side_by_side rank low (tree c cs) (rest r more) rs h a e =
       ⊎_elim (needs-rise rank low c r rs.0 h.0 a) (needs-rise_side_by_side rank low cs more rs.1 h.1 a) (Has-split (acts r) (acts_of_each more) a e)
   needs-rise_side_by_side rank low no_trees (rest r more) rs h a e = absurd h
   needs-rise_side_by_side rank low (tree c cs) no_rests rs h a e = absurd h
 
-  pub needs-rise_chosen : (rank : Ranking) (low : ℕ) (ch : Choices) (r : Rest) → ChoicesRiseDown rank low ch → StandsChosen ch r → (a : Rest) → Has (acts r) a → NeedsRise rank a
+  pub needs-rise_chosen : (rank : Ranking) (low : ℕ) (ch : Choices) (r : Rest) → ChoicesRiseDown rank low ch → IsChosen ch r → (a : Rest) → Has (acts r) a → NeedsRise rank a
   needs-rise_chosen rank low (otherwise c) r rs h a e = needs-rise rank low c r rs h a e
   needs-rise_chosen rank low (choice d c ch) r rs (inl h) a e = needs-rise rank low c r rs.0 h a e
   needs-rise_chosen rank low (choice d c ch) r rs (inr h) a e = needs-rise_chosen rank low ch r rs.1 h a e

@@ -1,8 +1,8 @@
 -- The one fact that every event and every move keeps.
-use Rattle.std.proofs.Common.{◌≡◌, refl, subst, ◌≤◌, List, [], ◌∷◌, true, Some, inl, length}
+use Rattle.std.proofs.Common.{◌≡◌, refl, subst, ℕ, ◌<◌, ◌≤◌, arith, List, [], ◌∷◌, true, Some, inl, length}
 use Rattle.batch_matrix.specs.declared.state.State.{State}
 use Rattle.batch_matrix.specs.declared.state.State.TheVariants.{Idle, Running, Pausing, Paused, Holding, Held, Restarting, Stopping, Stopped, Aborting, Aborted, Complete}
-use Rattle.batch_model.specs.Lists.{Has}
+use Rattle.batch_model.specs.Lists.{Has, Each}
 use Rattle.batch_recipe.specs.Conditions.{Name}
 use Rattle.batch_recipe.specs.Tree.{Place, Phase}
 use Rattle.batch_model.specs.Plant.{Documents, Batch, BatchAct, Plant}
@@ -10,13 +10,12 @@ use Rattle.batch_model.specs.Moves.{is_running}
 use Rattle.batch_model.specs.Runs.{Out}
 use Rattle.batch_model.specs.Records.{holders_told, waiters_told, Active, active_told, state_told, IsAtRest}
 use Rattle.batch_safety.specs.Facts.{awaiting, performing, Standing, facts, entries, holders_among}
-use Rattle.batch_safety.specs.Stands.{StandsAt}
 use Rattle.batch_model.specs.Cleared.{Ranking}
 use Rattle.batch_safety.specs.ClearedDown.{IsClearedDown}
-use Rattle.batch_model.specs.Settled.{IsAdvanced}
-use Rattle.batch_safety.proofs.Bounding.{IsBounded}
 use Rattle.batch_safety.proofs.Entries.{Agrees}
-use Rattle.batch_safety.proofs.Batches.{AreNumbered}
+use Rattle.batch_safety.proofs.Batches.{NumbersDiffer}
+use Rattle.batch_model.specs.Standing.{IsStandingBatch, AreNumbered, IsStanding}
+use Rattle.batch_model.proofs.Members.{Each-Has}
 
 abbrev pub NothingAwaited : List Standing → Type 0
 NothingAwaited es = (p : Place) (r : Name) → Has es (p, awaiting r) → ⊥
@@ -36,18 +35,14 @@ IsFitting Holding es = Unit {0}
 IsFitting Held es = Unit {0}
 IsFitting Restarting es = Unit {0}
 
--- a batch of a cleared recipe, whose rest stands at the recipe's tree
+-- a batch of a cleared recipe, whose facts fit its state
 pub record IsSound (d : Documents) (rank : Ranking) (b : Batch) : Type 0 where
   pub cleared : IsClearedDown d rank b.recipe
-  pub stands : StandsAt b.recipe.procedure b.rest
   pub fits : IsFitting b.state (facts b.rest)
-  pub advanced : IsAdvanced b.rest
-  pub bounded : IsBounded b.rest
 
 -- the record so far tells the plant's facts, and these are in order
 pub record IsKept (d : Documents) (rank : Ranking) (outs : List Out) (s : Plant) : Type 0 where
   pub sound : (b : Batch) → Has s.batches b → IsSound d rank b
-  pub numbers : AreNumbered s.next_number s.batches
   pub held : (q : Name) → Agrees (holders_told outs q) (holders_among q (entries s.batches))
   pub within : (q : Name) → length (holders_among q (entries s.batches)) ≤ d.capacity q
   pub lines : (q : Name) → waiters_told outs q ≡ s.line q
@@ -56,6 +51,22 @@ pub record IsKept (d : Documents) (rank : Ranking) (outs : List Out) (s : Plant)
   pub listed : (q : Name) (a : BatchAct) → Has (entries s.batches) (a, awaiting q) → Has (s.line q) a
   pub shown : (a : BatchAct) (x : Phase) → Has (entries s.batches) (a, performing x) → Has (active_told outs) (record { act = a; phase = x })
   pub states : (b : Batch) → Has s.batches b → state_told outs b.number ≡ Some b.state
+
+-- of a plant that stands
+
+pub standing-of : (d : Documents) (s : Plant) → IsStanding d s → (b : Batch) → Has s.batches b → IsStandingBatch d b
+standing-of d s sd b i = Each-Has (IsStandingBatch d) s.batches b sd.batches i
+
+differ : (next : ℕ) (bs : List Batch) → AreNumbered next bs → NumbersDiffer next bs
+differ next [] h = tt
+differ next (b ∷ bs) h = (
+  h.0,
+  λ c k e. (let l : b.number < c.number = Each-Has (λ c. b.number < c.number) bs c h.1 k in absurd (omega arith)),
+  differ next bs h.2,
+)
+
+pub numbers-of : (d : Documents) (s : Plant) → IsStanding d s → NumbersDiffer s.next_number s.batches
+numbers-of d s sd = differ s.next_number s.batches sd.numbers
 
 pub no_members : (es : List Standing) → ((e : Standing) → Has es e → ⊥) → es ≡ []
 no_members [] h = refl

@@ -17,16 +17,18 @@ use Rattle.batch_model.proofs.Members.{Has-split, Has-left, Has-right}
 use Rattle.batch_safety.proofs.Ranking.{same_awaiting, holding-awaiting, holding-performing, awaiting-performing}
 use Rattle.batch_safety.proofs.Framing.{Frame, frame}
 use Rattle.batch_safety.proofs.Entries.{Agrees, Has-filter, filter-Has, differs, without-Has, name_self, name_same, nat_same, Has-without, act_self}
-use Rattle.batch_safety.proofs.Batches.{AreNumbered, only, same-batch}
+use Rattle.batch_safety.proofs.Batches.{NumbersDiffer, only, same-batch}
 use Rattle.batch_safety.proofs.Invariant.{IsFitting, IsSound, IsKept, fit-fewer, fit-awaited, fit-running}
 use Rattle.batch_safety.proofs.Changing.{changed_plant, kept-after, Tail, nothing, also, tail_at, IsApart, stays, comes, others-stay, same-holders, agrees-released, agrees-granted, tail-no_holder, IsChange, change-sound, Becomes, apart, fewer-facts, back_again, not_awaiting, not_performing}
+use Rattle.batch_model.specs.Standing.{IsStandingBatch, IsStanding}
+use Rattle.batch_safety.proofs.Invariant.{standing-of, numbers-of}
 
 entries-only : (n : ℕ) (g : Batch → Batch) (bs : List Batch) → ((c : Batch) → Has bs c → entries_of (only n g c) ≡ entries_of c) → entries (map (only n g) bs) ≡ entries bs
 entries-only n g [] f = refl
 entries-only n g (c ∷ bs) f = ap₂ (λ xs ys. xs ++ ys) (f c (inl refl)) (entries-only n g bs (λ e h. f e (inr h)))
 
 -- a change of the batch that changes no facts
-entries-same : (next : ℕ) (bs : List Batch) (b : Batch) (g : Batch → Batch) → AreNumbered next bs → Has bs b → (g b).number ≡ b.number → facts (g b).rest ≡ facts b.rest
+entries-same : (next : ℕ) (bs : List Batch) (b : Batch) (g : Batch → Batch) → NumbersDiffer next bs → Has bs b → (g b).number ≡ b.number → facts (g b).rest ≡ facts b.rest
     → entries (map (only b.number g) bs) ≡ entries bs
 entries-same next bs b g h i e f = entries-only b.number g bs (λ c j. go c j (nat_eq c.number b.number) refl)
   where
@@ -73,14 +75,14 @@ tail-asked n p r q a (inr e) = absurd e
 abbrev pub TellsState : Out → ℕ → State → State → Type 0
 TellsState o n was is = ((m : ℕ) (old : Option State) → (m ≡ n → ⊥) → state_after m old o ≡ old) × (state_after n (Some was) o ≡ Some is)
 
-module _ (d : Documents) (rank : Ranking) (outs : List Out) (s : Plant) (k : IsKept d rank outs s) (b : Batch) (i : Has s.batches b) where
+module _ (d : Documents) (rank : Ranking) (outs : List Out) (s : Plant) (sd : IsStanding d s) (k : IsKept d rank outs s) (b : Batch) (i : Has s.batches b) where
   -- no facts change
   pub kept-quiet : (o : Out) (g : Batch → Batch) → (g b).number ≡ b.number → IsSound d rank (g b) → facts (g b).rest ≡ facts b.rest → TellsState o b.number b.state (g b).state
       → ((q : Name) (hs : List BatchAct) → holders_after q hs o ≡ hs) → ((q : Name) (ws : List BatchAct) → waiters_after q ws o ≡ ws) → ((xs : List Active) → active_after xs o ≡ xs)
       → IsKept d rank (outs ++ o ∷ []) (changed_plant s b.number g s.line)
   kept-quiet o g num sound same tells hold wait act =
-      let e : entries (map (only b.number g) s.batches) ≡ entries s.batches = entries-same s.next_number s.batches b g k.numbers i num same in
-      kept-after d rank outs s k b i o g s.line num sound tells.0 tells.1
+      let e : entries (map (only b.number g) s.batches) ≡ entries s.batches = entries-same s.next_number s.batches b g (numbers-of d s sd) i num same in
+      kept-after d rank outs s sd k b i o g s.line num sound tells.0 tells.1
       (λ q. subst₂ Agrees (sym (hold q (holders_told outs q))) (ap (holders_among q) (sym e)) (k.held q))
       (λ q. subst (λ z. length (holders_among q z) ≤ d.capacity q) (sym e) (k.within q))
       (λ q. wait q (s.line q))
@@ -91,7 +93,7 @@ module _ (d : Documents) (rank : Ranking) (outs : List Out) (s : Plant) (k : IsK
 
   module _ (a : Rest) (j : Has (acts b.rest) a) (g : Batch → Batch) (f : Rest → Rest) (vs : ValueList) (c : IsChange b a g f vs) where
     pub act_frame : Frame b.rest a
-    act_frame = let sound : IsSound d rank b = k.sound b i in frame (0 ∷ []) b.recipe.procedure b.rest sound.cleared.placed sound.stands a j
+    act_frame = let sound : IsSound d rank b = k.sound b i in let here : IsStandingBatch d b = standing-of d s sd b i in frame (0 ∷ []) b.recipe.procedure b.rest sound.cleared.placed here.stands a j
 
     abbrev pub entries_after : List Entry
     entries_after = entries (map (only b.number g) s.batches)
@@ -106,7 +108,7 @@ module _ (d : Documents) (rank : Ranking) (outs : List Out) (s : Plant) (k : IsK
     ApartHere names t u = IsApart n p names t u (entries s.batches) entries_after
 
     pub apart-here : (names : List Name) (t u : Tail) → Becomes a f names t u → IsApart n p names t u (entries s.batches) entries_after
-    apart-here names t u e = apart s.next_number s.batches b a g f vs names t u k.numbers i act_frame c e
+    apart-here names t u e = apart s.next_number s.batches b a g f vs names t u (numbers-of d s sd) i act_frame c e
 
     fits-fewer : (names : List Name) (t : Tail) → Becomes a f names t nothing → IsFitting b.state (facts (g b).rest)
     fits-fewer names t e =
@@ -121,8 +123,8 @@ module _ (d : Documents) (rank : Ranking) (outs : List Out) (s : Plant) (k : IsK
     kept-started names x hs e running same =
         let ap' = apart-here names nothing (also (performing x)) e in
         let E : List Entry = entries s.batches in
-        kept-after d rank outs s k b i (move (start n p x hs)) g s.line c.number
-        (change-sound d rank b a g f vs (k.sound b i) j c (fit-running (g b).state (facts (g b).rest) (subst (λ z. is_running z ≡ true) (sym same) running)))
+        kept-after d rank outs s sd k b i (move (start n p x hs)) g s.line c.number
+        (change-sound d rank b a g f vs (k.sound b i) c (fit-running (g b).state (facts (g b).rest) (subst (λ z. is_running z ≡ true) (sym same) running)))
         (λ m old q. refl) (ap Some (sym same))
         (λ q. subst (Agrees (holders_told outs q)) (sym (same-holders n p names nothing (also (performing x)) E entries_after ap' q refl refl)) (k.held q))
         (λ q. subst (λ z. length z ≤ d.capacity q) (sym (same-holders n p names nothing (also (performing x)) E entries_after ap' q refl refl)) (k.within q))
@@ -146,8 +148,8 @@ module _ (d : Documents) (rank : Ranking) (outs : List Out) (s : Plant) (k : IsK
     kept-finished names x unit name word st e ends same tells =
         let ap' = apart-here names (also (performing x)) nothing e in
         let E : List Entry = entries s.batches in
-        kept-after d rank outs s k b i (reply (reported unit name word n p st)) g s.line c.number
-        (change-sound d rank b a g f vs (k.sound b i) j c (subst (λ z. IsFitting z (facts (g b).rest)) (sym same) (fits-fewer names (also (performing x)) e)))
+        kept-after d rank outs s sd k b i (reply (reported unit name word n p st)) g s.line c.number
+        (change-sound d rank b a g f vs (k.sound b i) c (subst (λ z. IsFitting z (facts (g b).rest)) (sym same) (fits-fewer names (also (performing x)) e)))
         tells.0 tells.1
         (λ q. subst (Agrees (holders_told outs q)) (sym (same-holders n p names (also (performing x)) nothing E entries_after ap' q refl refl)) (k.held q))
         (λ q. subst (λ z. length z ≤ d.capacity q) (sym (same-holders n p names (also (performing x)) nothing E entries_after ap' q refl refl)) (k.within q))
@@ -193,8 +195,8 @@ module _ (d : Documents) (rank : Ranking) (outs : List Out) (s : Plant) (k : IsK
     kept-asked names r e running same =
         let ap' = apart-here names nothing (also (awaiting r)) e in
         let E : List Entry = entries s.batches in
-        kept-after d rank outs s k b i (move (ask n p r)) g (line_after (ask n p r) s.line) c.number
-        (change-sound d rank b a g f vs (k.sound b i) j c (fit-running (g b).state (facts (g b).rest) (subst (λ z. is_running z ≡ true) (sym same) running)))
+        kept-after d rank outs s sd k b i (move (ask n p r)) g (line_after (ask n p r) s.line) c.number
+        (change-sound d rank b a g f vs (k.sound b i) c (fit-running (g b).state (facts (g b).rest) (subst (λ z. is_running z ≡ true) (sym same) running)))
         (λ m old q. refl) (ap Some (sym same))
         (λ q. subst (Agrees (holders_told outs q)) (sym (same-holders n p names nothing (also (awaiting r)) E entries_after ap' q refl refl)) (k.held q))
         (λ q. subst (λ z. length z ≤ d.capacity q) (sym (same-holders n p names nothing (also (awaiting r)) E entries_after ap' q refl refl)) (k.within q))
@@ -238,8 +240,8 @@ module _ (d : Documents) (rank : Ranking) (outs : List Out) (s : Plant) (k : IsK
         → IsKept d rank (outs ++ move (grant n p r) ∷ []) (changed_plant s n g (line_after (grant n p r) s.line))
     kept-granted names r e free asks lacks same =
         let ap' = apart-here names (also (awaiting r)) (also (holding r)) e in
-        kept-after d rank outs s k b i (move (grant n p r)) g (line_after (grant n p r) s.line) c.number
-        (change-sound d rank b a g f vs (k.sound b i) j c
+        kept-after d rank outs s sd k b i (move (grant n p r)) g (line_after (grant n p r) s.line) c.number
+        (change-sound d rank b a g f vs (k.sound b i) c
         (subst (λ z. IsFitting z (facts (g b).rest)) (sym same) (fit-awaited b.state (facts b.rest) (facts (g b).rest) p r asks (k.sound b i).fits)))
         (λ m old q. refl) (ap Some (sym same))
         (λ q. hold q ap' (bytes_eq q r) refl)
@@ -296,8 +298,8 @@ module _ (d : Documents) (rank : Ranking) (outs : List Out) (s : Plant) (k : IsK
         → IsKept d rank (outs ++ move (release n p r) ∷ []) (changed_plant s n g s.line)
     kept-released names r e lacks same =
         let ap' = apart-here names (also (holding r)) nothing e in
-        kept-after d rank outs s k b i (move (release n p r)) g s.line c.number
-        (change-sound d rank b a g f vs (k.sound b i) j c (subst (λ z. IsFitting z (facts (g b).rest)) (sym same) (fits-fewer names (also (holding r)) e)))
+        kept-after d rank outs s sd k b i (move (release n p r)) g s.line c.number
+        (change-sound d rank b a g f vs (k.sound b i) c (subst (λ z. IsFitting z (facts (g b).rest)) (sym same) (fits-fewer names (also (holding r)) e)))
         (λ m old q. refl) (ap Some (sym same))
         (λ q. hold q ap' (bytes_eq q r) refl)
         (λ q. room q ap' (bytes_eq q r) refl)

@@ -1,11 +1,9 @@
 pub mod Members
-pub mod Standing
 pub mod Reaching
 pub mod Placing
 pub mod Ranking
 pub mod Units
 pub mod Framing
-pub mod Advancing
 pub mod Bounding
 pub mod Entries
 pub mod Batches

@@ -13,14 +13,11 @@ use Rattle.batch_model.specs.Moves.{Move, send, release, begin, start, end, ask,
 use Rattle.batch_model.specs.Runs.{Out, move}
 use Rattle.batch_model.specs.Records.{StartsIdle}
 use Rattle.batch_safety.specs.Facts.{holding, awaiting, performing, Standing, held_at, awaited_at, facts, Entry, entries, holders_among}
-use Rattle.batch_safety.specs.Stands.{StandsAt, StandsBelow}
 use Rattle.batch_model.specs.Cleared.{Ranking}
 use Rattle.batch_model.proofs.Members.{Has-right}
-use Rattle.batch_safety.proofs.Standing.{KeepsNodes, reach-StandsAt}
 use Rattle.batch_safety.proofs.Reaching.{reach-facts, done-facts}
 use Rattle.batch_safety.proofs.Ranking.{rises-next}
 use Rattle.batch_safety.proofs.Framing.{Frame, frame, needs_of, NeedsRise, needs-rise}
-use Rattle.batch_safety.proofs.Bounding.{IsBounded, sent-bounded, begun-bounded, ended-bounded, granted-bounded, released-bounded}
 use Rattle.batch_safety.proofs.Entries.{frame-middle}
 use Rattle.batch_safety.proofs.Batches.{holders-entries}
 use Rattle.batch_safety.proofs.Invariant.{IsFitting, IsSound, IsKept}
@@ -28,6 +25,8 @@ use Rattle.batch_safety.proofs.Quiet.{quiet-performs_nothing, holding-nothing, n
 use Rattle.batch_safety.proofs.Starting.{starts-nothing, starts-idle}
 use Rattle.batch_safety.proofs.Changing.{nothing, also, IsApart, stays, comes, IsChange, change-facts, change-sound, Becomes, not_performing}
 use Rattle.batch_safety.proofs.Keeping.{kept-quiet, kept-started, kept-asked, kept-granted, kept-released, act_frame, apart-here}
+use Rattle.batch_model.specs.Standing.{IsStandingBatch, IsStanding}
+use Rattle.batch_safety.proofs.Invariant.{standing-of}
 
 -- Lists of needs
 
@@ -56,79 +55,6 @@ pub freed-facts : (s : Step) (k : ℕ) → facts (freed s k) ≡ held_at s.place
 freed-facts s zero = refl
 freed-facts s (suc k) = refl
 
--- Changes that leave acts at their nodes
-
-freed-stands : (s t : Step) (w : Task) (k : ℕ) → t ≡ s → StandsAt (act s w) (freed t k)
-freed-stands s t w zero e = tt
-freed-stands s t w (suc k) e = e
-
-pub sent-keeps : (c : Command) → KeepsNodes (sent c)
-sent-keeps c s w (live t x u) h = h
-sent-keeps c s w (ready t v k) h = h
-sent-keeps c s w (asking t v k) h = h
-sent-keeps c s w (open_act t r) h = h
-sent-keeps c s w (freeing t k) h = h
-sent-keeps c s w (in_seq r cs) h = h
-sent-keeps c s w (in_par rs) h = h
-sent-keeps c s w (in_loop n d b r) h = h
-sent-keeps c s w done h = h
-
-pub released-keeps : KeepsNodes released
-released-keeps s w (live t x u) h = h
-released-keeps s w (ready t v k) h = h
-released-keeps s w (asking t v k) h = h
-released-keeps s w (open_act t r) h = freed-stands s t w (pred (length t.needs)) h.0
-released-keeps s w (freeing t k) h = freed-stands s t w (pred k) h
-released-keeps s w (in_seq r cs) h = h
-released-keeps s w (in_par rs) h = h
-released-keeps s w (in_loop n d b r) h = h
-released-keeps s w done h = h
-
-pub ended-keeps : KeepsNodes ended
-ended-keeps s w (live t x u) h = freed-stands s t w (length t.needs) h.0
-ended-keeps s w (ready t v k) h = h
-ended-keeps s w (asking t v k) h = h
-ended-keeps s w (open_act t r) h = freed-stands s t w (length t.needs) h.0
-ended-keeps s w (freeing t k) h = h
-ended-keeps s w (in_seq r cs) h = h
-ended-keeps s w (in_par rs) h = h
-ended-keeps s w (in_loop n d b r) h = h
-ended-keeps s w done h = h
-
-asked-keeps : KeepsNodes asked
-asked-keeps s w (live t x u) h = h
-asked-keeps s w (ready t v k) h = h
-asked-keeps s w (asking t v k) h = h
-asked-keeps s w (open_act t r) h = h
-asked-keeps s w (freeing t k) h = h
-asked-keeps s w (in_seq r cs) h = h
-asked-keeps s w (in_par rs) h = h
-asked-keeps s w (in_loop n d b r) h = h
-asked-keeps s w done h = h
-
-granted-keeps : KeepsNodes granted
-granted-keeps s w (live t x u) h = h
-granted-keeps s w (ready t v k) h = h
-granted-keeps s w (asking t v k) h = h
-granted-keeps s w (open_act t r) h = h
-granted-keeps s w (freeing t k) h = h
-granted-keeps s w (in_seq r cs) h = h
-granted-keeps s w (in_par rs) h = h
-granted-keeps s w (in_loop n d b r) h = h
-granted-keeps s w done h = h
-
-begun-keeps : (vs : ValueList) → KeepsNodes (begun vs)
-begun-keeps vs s w (live t x u) h = h
-begun-keeps vs s w (ready t (runs x) k) h = (h.0, sym h.1)
-begun-keeps vs s w (ready t (follows name c) k) h = (h.0, subst (λ z. StandsBelow z (reach vs c)) h.1 (reach-StandsAt vs c))
-begun-keeps vs s w (asking t v k) h = h
-begun-keeps vs s w (open_act t r) h = h
-begun-keeps vs s w (freeing t k) h = h
-begun-keeps vs s w (in_seq r cs) h = h
-begun-keeps vs s w (in_par rs) h = h
-begun-keeps vs s w (in_loop n d b r) h = h
-begun-keeps vs s w done h = h
-
 both : (a b : Bool) → (a && b) ≡ true → (a ≡ true) × (b ≡ true)
 both true true e = (refl, refl)
 both true false e = absurd cc
@@ -144,50 +70,51 @@ some_move m l e = cc
 no_move : (l : Move) → ◌≡◌ {A = Option Move} None (Some l) → ⊥
 no_move l e = cc
 
-module _ (d : Documents) (rank : Ranking) (outs : List Out) (s : Plant) (k : IsKept d rank outs s) (b : Batch) (i : Has s.batches b) where
+module _ (d : Documents) (rank : Ranking) (outs : List Out) (s : Plant) (sd : IsStanding d s) (k : IsKept d rank outs s) (b : Batch) (i : Has s.batches b) where
   fine : IsSound d rank b
   fine = k.sound b i
 
+  here : IsStandingBatch d b
+  here = standing-of d s sd b i
+
   -- the change that a move makes to its batch
-  change : (a : Rest) (m : Move) (f : Rest → Rest) → batch_after m b ≡ in_act (place_of a) f b → KeepsNodes f → (IsBounded a → IsBounded (f a)) → IsChange b a (batch_after m) f b.values
-  change a m f e keeps bounds =
+  change : (a : Rest) (m : Move) (f : Rest → Rest) → batch_after m b ≡ in_act (place_of a) f b → IsChange b a (batch_after m) f b.values
+  change a m f e =
       record {
         number = ap (λ z. z.number) e;
         recipe = ap (λ z. z.recipe) e;
         goes_on = ap (λ z. z.rest) e;
-        keeps = keeps;
-        bounds = bounds;
       }
 
   step-quiet : (a : Rest) → Has (acts b.rest) a → (g : Batch → Batch) (f : Rest → Rest) → IsChange b a g f b.values → facts (f a) ≡ facts a → (g b).state ≡ b.state
       → facts (g b).rest ≡ facts b.rest
   step-quiet a j g f c e same =
-      let fr : Frame b.rest a = act_frame d rank outs s k b i a j g f b.values c in
+      let fr : Frame b.rest a = act_frame d rank outs s sd k b i a j g f b.values c in
       change-facts b a g f b.values c ∙ fr.3 f ∙ ap (λ z. fr.0 ++ (z ++ fr.1)) e ∙ sym fr.2
 
   sound-quiet : (a : Rest) → Has (acts b.rest) a → (g : Batch → Batch) (f : Rest → Rest) → IsChange b a g f b.values → facts (f a) ≡ facts a → (g b).state ≡ b.state → IsSound d rank (g b)
   sound-quiet a j g f c e same =
-      change-sound d rank b a g f b.values fine j c
+      change-sound d rank b a g f b.values fine c
       (subst (λ z. IsFitting z (facts (g b).rest)) (sym same) (subst (IsFitting b.state) (sym (step-quiet a j g f c e same)) fine.fits))
 
   -- the facts of an act are facts of its batch
   own-fact : (a : Rest) → Has (acts b.rest) a → (e : Standing) → Has (facts a) e → Has (facts b.rest) e
   own-fact a j e h =
-      let fr : Frame b.rest a = frame (0 ∷ []) b.recipe.procedure b.rest fine.cleared.placed fine.stands a j in
+      let fr : Frame b.rest a = frame (0 ∷ []) b.recipe.procedure b.rest fine.cleared.placed here.stands a j in
       subst (λ z. Has z e) (sym fr.2) (frame-middle fr.0 (facts a) fr.1 e h)
 
   -- the first k needs of an act lack the next
   lacks-next : (a : Rest) → Has (acts b.rest) a → (n : ℕ) (r : Name) → slice_get (needs_of a) n ≡ Some r → Has (take n (needs_of a)) r → ⊥
   lacks-next a j n r e h =
-      let low : NeedsRise (λ q. suc (rank q)) a = needs-rise (λ q. suc (rank q)) 0 b.recipe.procedure b.rest fine.cleared.rising fine.stands a j in
+      let low : NeedsRise (λ q. suc (rank q)) a = needs-rise (λ q. suc (rank q)) 0 b.recipe.procedure b.rest fine.cleared.rising here.stands a j in
       let no_rise : suc (rank r) < suc (rank r) = rises-next (λ q. suc (rank q)) low.0 n (needs_of a) r r low.1 h e in
       absurd (omega arith)
 
   step-send : (p : Step) (x : Phase) (t : State) (c : Command) → Has (acts b.rest) (live p x t) → Stepped d rank outs s (send b.number p.place x c)
   step-send p x t c j =
       let m : Move = send b.number p.place x c in
-      let ch = change (live p x t) m (sent c) refl (sent-keeps c) (sent-bounded c (live p x t)) in (
-        kept-quiet d rank outs s k b i (move m) (batch_after m) refl (sound-quiet (live p x t) j (batch_after m) (sent c) ch refl refl)
+      let ch = change (live p x t) m (sent c) refl in (
+        kept-quiet d rank outs s sd k b i (move m) (batch_after m) refl (sound-quiet (live p x t) j (batch_after m) (sent c) ch refl refl)
             (step-quiet (live p x t) j (batch_after m) (sent c) ch refl refl) (λ n old q. refl, refl) (λ q hs. refl) (λ q ws. refl) (λ xs. refl),
         starts-nothing d outs (move m) (λ n q y vs e. cc),
       )
@@ -196,10 +123,10 @@ module _ (d : Documents) (rank : Ranking) (outs : List Out) (s : Plant) (k : IsK
   step-begin p name c n j e =
       let m : Move = begin b.number p.place name in
       let a : Rest = ready p (follows name c) n in
-      let ch = change a m (begun b.values) refl (begun-keeps b.values) (begun-bounded b.values a) in
+      let ch = change a m (begun b.values) refl in
       let same : facts (begun b.values a) ≡ facts a
       = ap (λ z. held_at p.place p.needs ++ z) (reach-facts b.values c) ∙ append-nil (held_at p.place p.needs) ∙ ap (held_at p.place) (sym (take-whole n p.needs e)) in (
-        kept-quiet d rank outs s k b i (move m) (batch_after m) refl (sound-quiet a j (batch_after m) (begun b.values) ch same refl)
+        kept-quiet d rank outs s sd k b i (move m) (batch_after m) refl (sound-quiet a j (batch_after m) (begun b.values) ch same refl)
             (step-quiet a j (batch_after m) (begun b.values) ch same refl) (λ n old q. refl, refl) (λ q hs. refl) (λ q ws. refl) (λ xs. refl),
         starts-nothing d outs (move m) (λ n q y vs e. cc),
       )
@@ -208,29 +135,29 @@ module _ (d : Documents) (rank : Ranking) (outs : List Out) (s : Plant) (k : IsK
   step-end p r j e =
       let m : Move = end b.number p.place in
       let a : Rest = open_act p r in
-      let ch = change a m ended refl ended-keeps (ended-bounded a) in
+      let ch = change a m ended refl in
       let same : facts (ended a) ≡ facts a
       = freed-facts p (length p.needs) ∙ ap (held_at p.place) (take-length p.needs) ∙ sym (append-nil (held_at p.place p.needs)) ∙ ap (λ z. held_at p.place p.needs ++ z) (sym (done-facts r e)) in (
-        kept-quiet d rank outs s k b i (move m) (batch_after m) refl (sound-quiet a j (batch_after m) ended ch same refl)
+        kept-quiet d rank outs s sd k b i (move m) (batch_after m) refl (sound-quiet a j (batch_after m) ended ch same refl)
             (step-quiet a j (batch_after m) ended ch same refl) (λ n old q. refl, refl) (λ q hs. refl) (λ q ws. refl) (λ xs. refl),
         starts-nothing d outs (move m) (λ n q y vs e. cc),
       )
 
   step-start : (p : Step) (x : Phase) (n : ℕ) (vs : ValueList) → Has (acts b.rest) (ready p (runs x) n) → slice_get p.needs n ≡ None → is_running b.state ≡ true
-      → Stepped d rank outs s (start b.number p.place x vs)
-  step-start p x n vs j e running =
+      → IsStanding d (after s (start b.number p.place x vs)) → Stepped d rank outs s (start b.number p.place x vs)
+  step-start p x n vs j e running td =
       let m : Move = start b.number p.place x vs in
       let a : Rest = ready p (runs x) n in
-      let ch = change a m (begun b.values) refl (begun-keeps b.values) (begun-bounded b.values a) in
+      let ch = change a m (begun b.values) refl in
       let becomes : Becomes a (begun b.values) p.needs nothing (also (performing x))
       = record { was = ap (held_at p.place) (take-whole n p.needs e) ∙ sym (append-nil (held_at p.place p.needs)); is = refl } in
-      let kept : IsKept d rank (outs ++ move m ∷ []) (after s m) = kept-started d rank outs s k b i a j (batch_after m) (begun b.values) b.values ch p.needs x vs becomes running refl in
+      let kept : IsKept d rank (outs ++ move m ∷ []) (after s m) = kept-started d rank outs s sd k b i a j (batch_after m) (begun b.values) b.values ch p.needs x vs becomes running refl in
       let E : List Entry = entries s.batches in
       let E' : List Entry = entries (after s m).batches in
       let ap' : IsApart b.number p.place p.needs nothing (also (performing x)) E E'
-      = apart-here d rank outs s k b i a j (batch_after m) (begun b.values) b.values ch p.needs nothing (also (performing x)) becomes in (
+      = apart-here d rank outs s sd k b i a j (batch_after m) (begun b.values) b.values ch p.needs nothing (also (performing x)) becomes in (
         kept,
-        starts-idle d rank outs s (after s m) b.number p.place x vs k kept
+        starts-idle d rank outs s (after s m) b.number p.place x vs sd k td kept
             (comes b.number p.place p.needs nothing (also (performing x)) E E' ap' ((b.number, p.place), performing x) (inl refl))
             (λ c y h. (
               ⊎_elim (λ z. z) (λ z. absurd z) (stays b.number p.place p.needs nothing (also (performing x)) E E' ap' (c, performing y) h),
@@ -243,8 +170,8 @@ module _ (d : Documents) (rank : Ranking) (outs : List Out) (s : Plant) (k : IsK
   step-ask p w n r j e running =
       let m : Move = ask b.number p.place r in
       let a : Rest = ready p w n in
-      let ch = change a m asked refl asked-keeps (λ h. (r, e)) in (
-        kept-asked d rank outs s k b i a j (batch_after m) asked b.values ch (take n p.needs) r
+      let ch = change a m asked refl in (
+        kept-asked d rank outs s sd k b i a j (batch_after m) asked b.values ch (take n p.needs) r
             (record { was = sym (append-nil (held_at p.place (take n p.needs))); is = ap (λ z. held_at p.place (take n p.needs) ++ awaited_at p.place z) e }) running refl,
         starts-nothing d outs (move m) (λ n q y vs e. cc),
       )
@@ -254,11 +181,11 @@ module _ (d : Documents) (rank : Ranking) (outs : List Out) (s : Plant) (k : IsK
   step-grant p w n r j e served =
       let m : Move = grant b.number p.place r in
       let a : Rest = asking p w n in
-      let ch = change a m granted refl granted-keeps (granted-bounded a) in
+      let ch = change a m granted refl in
       let was : facts a ≡ held_at p.place (take n p.needs) ++ (p.place, awaiting r) ∷ [] = ap (λ z. held_at p.place (take n p.needs) ++ awaited_at p.place z) e in
       let room : nat_lt (length (holders s r)) (d.capacity r) ≡ true = (both (nat_lt (length (holders s r)) (d.capacity r)) _ served).0 in
       let same : length (holders s r) ≡ length (holders_among r (entries s.batches)) = ap (λ z. length z) (holders-entries s r) in (
-        kept-granted d rank outs s k b i a j (batch_after m) granted b.values ch (take n p.needs) r
+        kept-granted d rank outs s sd k b i a j (batch_after m) granted b.values ch (take n p.needs) r
             (record { was = was; is = held-next p.place n p.needs r e })
             (let free : length (holders s r) < d.capacity r = grind arith in omega arith)
             (own-fact a j (p.place, awaiting r) (subst (λ z. Has z (p.place, awaiting r)) (sym was) (Has-right (held_at p.place (take n p.needs)) ((p.place, awaiting r) ∷ []) (p.place, awaiting r) (inl refl))))
@@ -272,8 +199,8 @@ module _ (d : Documents) (rank : Ranking) (outs : List Out) (s : Plant) (k : IsK
       → Stepped d rank outs s (release b.number (place_of a) r)
   step-release a j n r e was is =
       let m : Move = release b.number (place_of a) r in
-      let ch = change a m released refl released-keeps (released-bounded a) in (
-        kept-released d rank outs s k b i a j (batch_after m) released b.values ch (take n (needs_of a)) r
+      let ch = change a m released refl in (
+        kept-released d rank outs s sd k b i a j (batch_after m) released b.values ch (take n (needs_of a)) r
             (record { was = was ∙ held-next (place_of a) n (needs_of a) r e; is = is ∙ sym (append-nil (held_at (place_of a) (take n (needs_of a)))) })
             (lacks-next a j n r e) refl,
         starts-nothing d outs (move m) (λ n q y vs e. cc),
@@ -292,8 +219,8 @@ module _ (d : Documents) (rank : Ranking) (outs : List Out) (s : Plant) (k : IsK
           subst (Stepped d rank outs s) (ap (λ z. release b.number z r) at ∙ some_move (release b.number p.place r) m f)
           (step-release a j l r (ap (λ z. slice_get z l) needs ∙ q) (was l r refl q) (is l refl))
 
-  step-ready : (p : Step) (w : Task) (n : ℕ) (m : Move) → Has (acts b.rest) (ready p w n) → act_move d s b (ready p w n) ≡ Some m → Stepped d rank outs s m
-  step-ready p w n m j e = go (is_running b.state) refl e
+  step-ready : (p : Step) (w : Task) (n : ℕ) (m : Move) → Has (acts b.rest) (ready p w n) → act_move d s b (ready p w n) ≡ Some m → IsStanding d (after s m) → Stepped d rank outs s m
+  step-ready p w n m j e td = go (is_running b.state) refl e
     where
       enter : (o : Option Name) → slice_get p.needs n ≡ o → is_running b.state ≡ true → (v : Task) → w ≡ v
           → ◌≡◌ {A = Option Move}
@@ -305,8 +232,9 @@ module _ (d : Documents) (rank : Ranking) (outs : List Out) (s : Plant) (k : IsK
           → Stepped d rank outs s m
       enter (Some r) q run v u f = subst (Stepped d rank outs s) (some_move (ask b.number p.place r) m f) (step-ask p w n r j q run)
       enter None q run (runs x) u f =
-          subst (Stepped d rank outs s) (some_move (start b.number p.place x (handed_values b.values x.handed)) m f)
-          (step-start p x n (handed_values b.values x.handed) (subst (λ z. Has (acts b.rest) (ready p z n)) u j) q run)
+          let made : start b.number p.place x (handed_values b.values x.handed) ≡ m = some_move (start b.number p.place x (handed_values b.values x.handed)) m f in
+          subst (Stepped d rank outs s) made
+          (step-start p x n (handed_values b.values x.handed) (subst (λ z. Has (acts b.rest) (ready p z n)) u j) q run (subst (λ z. IsStanding d (after s z)) (sym made) td))
       enter None q run (follows name c) u f =
           subst (Stepped d rank outs s) (some_move (begin b.number p.place name) m f) (step-begin p name c n (subst (λ z. Has (acts b.rest) (ready p z n)) u j) q)
 
@@ -385,13 +313,13 @@ module _ (d : Documents) (rank : Ranking) (outs : List Out) (s : Plant) (k : IsK
       given_back (freeing p n) j p n m refl refl (λ l r q g. ap (λ z. held_at p.place (take z p.needs)) q)
       (λ l q. freed-facts p (pred n) ∙ ap (λ z. held_at p.place (take (pred z) p.needs)) q) e
 
-  pub act-step : (a : Rest) (m : Move) → Has (acts b.rest) a → act_move d s b a ≡ Some m → Stepped d rank outs s m
-  act-step (ready p w n) m j e = step-ready p w n m j e
-  act-step (asking p w n) m j e = step-asking p w n m j e
-  act-step (open_act p r) m j e = step-open p r m j e
-  act-step (live p x t) m j e = step-live p x t m j e
-  act-step (freeing p n) m j e = step-freeing p n m j e
-  act-step (in_seq r cs) m j e = absurd (no_move m e)
-  act-step (in_par rs) m j e = absurd (no_move m e)
-  act-step (in_loop n c body r) m j e = absurd (no_move m e)
-  act-step done m j e = absurd (no_move m e)
+  pub act-step : (a : Rest) (m : Move) → Has (acts b.rest) a → act_move d s b a ≡ Some m → IsStanding d (after s m) → Stepped d rank outs s m
+  act-step (ready p w n) m j e td = step-ready p w n m j e td
+  act-step (asking p w n) m j e td = step-asking p w n m j e
+  act-step (open_act p r) m j e td = step-open p r m j e
+  act-step (live p x t) m j e td = step-live p x t m j e
+  act-step (freeing p n) m j e td = step-freeing p n m j e
+  act-step (in_seq r cs) m j e td = absurd (no_move m e)
+  act-step (in_par rs) m j e td = absurd (no_move m e)
+  act-step (in_loop n c body r) m j e td = absurd (no_move m e)
+  act-step done m j e td = absurd (no_move m e)

@@ -8,7 +8,7 @@ use Rattle.batch_model.specs.Lists.{Has}
 use Rattle.batch_recipe.specs.Tree.{Place}
 use Rattle.batch_model.specs.Rest.{Rest, acts}
 use Rattle.batch_model.specs.Plant.{Documents, Batch, Plant, held_in}
-use Rattle.batch_model.specs.Moves.{Move, state, is_quiet, is_empty, is_reached, is_earlier, act_move, state_move, batch_moves, possible, least, next, batch_after}
+use Rattle.batch_model.specs.Moves.{after, Move, state, is_quiet, is_empty, is_reached, is_earlier, act_move, state_move, batch_moves, possible, least, next, batch_after}
 use Rattle.batch_model.specs.Runs.{Out, move}
 use Rattle.batch_safety.specs.Facts.{Standing, facts}
 use Rattle.batch_model.specs.Cleared.{Ranking}
@@ -20,6 +20,8 @@ use Rattle.batch_safety.proofs.Quiet.{quiet-performs_nothing, holding-nothing, n
 use Rattle.batch_safety.proofs.Starting.{starts-nothing}
 use Rattle.batch_safety.proofs.Keeping.{kept-quiet}
 use Rattle.batch_safety.proofs.MoveSteps.{Stepped, act-step}
+use Rattle.batch_model.specs.Standing.{IsStandingBatch, IsStanding}
+use Rattle.batch_safety.proofs.Invariant.{standing-of}
 
 -- A line that tells the state of one batch
 
@@ -93,15 +95,15 @@ least-Has (m ∷ ms) x e = go (least ms) refl (least-Has ms) e
     go None p f q = inl (some_move m x q)
     go (Some l) p f q = pick l (is_earlier l m) (f l p) q
 
-module _ (d : Documents) (rank : Ranking) (outs : List Out) (s : Plant) (k : IsKept d rank outs s) where
+module _ (d : Documents) (rank : Ranking) (outs : List Out) (s : Plant) (sd : IsStanding d s) (k : IsKept d rank outs s) where
   state-step : (b : Batch) → Has s.batches b → (m : Move) → state_move b ≡ Some m → Stepped d rank outs s m
   state-step b i m e = go (is_reached b.state b.rest) refl e
     where
       made : (x : State) → is_reached b.state b.rest ≡ true → ends_as b.state ≡ Some x → Stepped d rank outs s (state b.number x)
       made x r q =
-          let sound : IsSound d rank b = k.sound b i in (
-            kept-quiet d rank outs s k b i (move (state b.number x)) (batch_after (state b.number x)) refl
-                (record { cleared = sound.cleared; stands = sound.stands; fits = fit-reached b.state x b.rest r q sound.fits; advanced = sound.advanced; bounded = sound.bounded })
+          let sound : IsSound d rank b = k.sound b i in let here : IsStandingBatch d b = standing-of d s sd b i in (
+            kept-quiet d rank outs s sd k b i (move (state b.number x)) (batch_after (state b.number x)) refl
+                (record { cleared = sound.cleared; fits = fit-reached b.state x b.rest r q sound.fits })
                 refl (λ n old w. tells-other b.number n (Some x) old w, tells-own b.number (Some x) (Some b.state)) (λ q hs. refl) (λ q ws. refl) (λ xs. refl),
             starts-nothing d outs (move (state b.number x)) (λ n q y vs e. cc),
           )
@@ -115,11 +117,11 @@ module _ (d : Documents) (rank : Ranking) (outs : List Out) (s : Plant) (k : IsK
       go false r f = absurd (no_move m f)
       go true r f = ends (ends_as b.state) refl r f
 
-  batch-step : (b : Batch) → Has s.batches b → (m : Move) → Has (batch_moves d s b) m → Stepped d rank outs s m
-  batch-step b i m h = go (state_move b) refl h
+  batch-step : (b : Batch) → Has s.batches b → (m : Move) → Has (batch_moves d s b) m → IsStanding d (after s m) → Stepped d rank outs s m
+  batch-step b i m h td = go (state_move b) refl h
     where
       of_act : Has (filter_map (act_move d s b) (acts b.rest)) m → Stepped d rank outs s m
-      of_act j = let a = Has-filter_map (act_move d s b) (acts b.rest) m j in act-step d rank outs s k b i a.0 m a.1 a.2
+      of_act j = let a = Has-filter_map (act_move d s b) (acts b.rest) m j in act-step d rank outs s sd k b i a.0 m a.1 a.2 td
 
       go : (o : Option Move) → state_move b ≡ o
           → Has (elim o [ None ↦ filter_map (act_move d s b) (acts b.rest) | Some l ↦ l ∷ filter_map (act_move d s b) (acts b.rest) ]) m → Stepped d rank outs s m
@@ -127,7 +129,7 @@ module _ (d : Documents) (rank : Ranking) (outs : List Out) (s : Plant) (k : IsK
       go (Some l) e (inl q) = subst (Stepped d rank outs s) q (state-step b i l e)
       go (Some l) e (inr j) = of_act j
 
-  pub move-step : (m : Move) → next d s ≡ Some m → Stepped d rank outs s m
-  move-step m e =
+  pub move-step : (m : Move) → next d s ≡ Some m → IsStanding d (after s m) → Stepped d rank outs s m
+  move-step m e td =
       let b = Has-flat_map (batch_moves d s) s.batches m (least-Has (possible d s) m e) in
-      batch-step b.0 b.1 m b.2
+      batch-step b.0 b.1 m b.2 td

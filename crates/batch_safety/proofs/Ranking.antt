@@ -7,7 +7,7 @@ use Rattle.batch_model.specs.Rest.{Rest, ready, asking, open_act, live, freeing,
 use Rattle.batch_recipe.specs.Nodes.{child}
 use Rattle.batch_model.specs.Records.{IsAtOrAbove}
 use Rattle.batch_safety.specs.Facts.{Fact, holding, awaiting, performing, Standing, held_at, awaited_at, facts, facts_of_each}
-use Rattle.batch_safety.specs.Stands.{StandsAt, StandsBelow, StandsAmong, StandSideBySide, StandsChosen}
+use Rattle.batch_model.specs.Standing.{IsRestOf, IsRestBelow, IsBranch, AreBranches, IsChosen}
 use Rattle.batch_model.specs.Placed.{IsPlaced, IsPlacedBelow, ArePlaced, IsChoicePlaced}
 use Rattle.batch_model.specs.Cleared.{Ranking}
 use Rattle.batch_safety.specs.ClearedDown.{Rises, last_rank, RisesDown, RisesBelow, RiseDown, ChoicesRiseDown}
@@ -116,7 +116,7 @@ lone-awaiting p y q x (inr h) = h
 
 -- every resource that a rest holds or awaits has a rank above the bound of its chart
 mutual
-  pub awaited-above : (rank : Ranking) (low : ℕ) (c : Tree) (r : Rest) → RisesDown rank low c → StandsAt c r → (q : Place) (x : Name) → Has (facts r) (q, awaiting x) → low < rank x
+  pub awaited-above : (rank : Ranking) (low : ℕ) (c : Tree) (r : Rest) → RisesDown rank low c → IsRestOf c r → (q : Place) (x : Name) → Has (facts r) (q, awaiting x) → low < rank x
   awaited-above rank low (act s w) (ready u v n) rs h q x k = absurd (held-awaiting u.place (take n u.needs) q x k)
   awaited-above rank low (act s w) (asking u v n) rs h q x k =
       rises-above rank low s.needs x rs.0
@@ -137,34 +137,34 @@ mutual
   awaited-above rank low (seq cs) (in_seq r ds) rs h q x k = awaited-above_among rank low cs r ds rs h q x k
   awaited-above rank low (par cs) (in_par r) rs h q x k = awaited-above_side_by_side rank low cs r rs h q x k
   awaited-above rank low (sel ch) r rs h q x k = awaited-above_chosen rank low ch r rs h q x k
-  awaited-above rank low (loop n c body) (in_loop m d b r) rs h q x k = awaited-above rank low body r rs h.1 q x k
+  awaited-above rank low (loop n c body) (in_loop m d b r) rs h q x k = awaited-above rank low body r rs h.3 q x k
   awaited-above rank low c done rs h q x k = absurd k
   awaited-above rank low _ _ rs h q x k = absurd h
 
-  pub awaited-above_below : (rank : Ranking) (low : ℕ) (w : Task) (r : Rest) → RisesBelow rank low w → StandsBelow w r → (q : Place) (x : Name) → Has (facts r) (q, awaiting x) → low < rank x
+  pub awaited-above_below : (rank : Ranking) (low : ℕ) (w : Task) (r : Rest) → RisesBelow rank low w → IsRestBelow w r → (q : Place) (x : Name) → Has (facts r) (q, awaiting x) → low < rank x
   awaited-above_below rank low (runs y) r rs h q x k = absurd h
   awaited-above_below rank low (follows name c) r rs h q x k = awaited-above rank low c r rs h q x k
 
-  pub awaited-above_among : (rank : Ranking) (low : ℕ) (cs : Trees) (r : Rest) (ds : Trees) → RiseDown rank low cs → StandsAmong cs r ds → (q : Place) (x : Name) → Has (facts r) (q, awaiting x) → low < rank x
+  pub awaited-above_among : (rank : Ranking) (low : ℕ) (cs : Trees) (r : Rest) (ds : Trees) → RiseDown rank low cs → IsBranch cs r ds → (q : Place) (x : Name) → Has (facts r) (q, awaiting x) → low < rank x
   awaited-above_among rank low no_trees r ds rs h q x k = absurd h
   awaited-above_among rank low (tree c cs) r ds rs (inl h) q x k = awaited-above rank low c r rs.0 h.0 q x k
   awaited-above_among rank low (tree c cs) r ds rs (inr h) q x k = awaited-above_among rank low cs r ds rs.1 h q x k
 
-  pub awaited-above_side_by_side : (rank : Ranking) (low : ℕ) (cs : Trees) (r : Rests) → RiseDown rank low cs → StandSideBySide cs r → (q : Place) (x : Name) → Has (facts_of_each r) (q, awaiting x) → low < rank x
+  pub awaited-above_side_by_side : (rank : Ranking) (low : ℕ) (cs : Trees) (r : Rests) → RiseDown rank low cs → AreBranches cs r → (q : Place) (x : Name) → Has (facts_of_each r) (q, awaiting x) → low < rank x
   awaited-above_side_by_side rank low no_trees no_rests rs h q x k = absurd k
   awaited-above_side_by_side rank low (tree c cs) (rest r more) rs h q x k =
       ⊎_elim (awaited-above rank low c r rs.0 h.0 q x) (awaited-above_side_by_side rank low cs more rs.1 h.1 q x) (Has-split (facts r) (facts_of_each more) (q, awaiting x) k)
   awaited-above_side_by_side rank low no_trees (rest r more) rs h q x k = absurd h
   awaited-above_side_by_side rank low (tree c cs) no_rests rs h q x k = absurd h
 
-  pub awaited-above_chosen : (rank : Ranking) (low : ℕ) (ch : Choices) (r : Rest) → ChoicesRiseDown rank low ch → StandsChosen ch r → (q : Place) (x : Name) → Has (facts r) (q, awaiting x) → low < rank x
+  pub awaited-above_chosen : (rank : Ranking) (low : ℕ) (ch : Choices) (r : Rest) → ChoicesRiseDown rank low ch → IsChosen ch r → (q : Place) (x : Name) → Has (facts r) (q, awaiting x) → low < rank x
   awaited-above_chosen rank low (otherwise c) r rs h q x k = awaited-above rank low c r rs h q x k
   awaited-above_chosen rank low (choice d c ch) r rs (inl h) q x k = awaited-above rank low c r rs.0 h q x k
   awaited-above_chosen rank low (choice d c ch) r rs (inr h) q x k = awaited-above_chosen rank low ch r rs.1 h q x k
 
 mutual
   -- what is awaited at or below a holder's place has a higher rank than what is held there
-  pub rank-rises : (rank : Ranking) (low : ℕ) (p : Place) (c : Tree) (r : Rest) → IsPlaced p c → RisesDown rank low c → StandsAt c r
+  pub rank-rises : (rank : Ranking) (low : ℕ) (p : Place) (c : Tree) (r : Rest) → IsPlaced p c → RisesDown rank low c → IsRestOf c r
       → (qh qw : Place) (x y : Name) → Has (facts r) (qh, holding x) → Has (facts r) (qw, awaiting y) → IsAtOrAbove qh qw → rank x < rank y
   rank-rises rank low p (act s w) (ready u v n) pl rs h qh qw x y hk wk ab = absurd (held-awaiting u.place (take n u.needs) qw y wk)
   rank-rises rank low p (act s w) (asking u v n) pl rs h qh qw x y hk wk ab =
@@ -190,22 +190,22 @@ mutual
   rank-rises rank low p (seq cs) (in_seq r ds) pl rs h qh qw x y hk wk ab = rank-rises_among rank low p 0 cs r ds pl rs h qh qw x y hk wk ab
   rank-rises rank low p (par cs) (in_par r) pl rs h qh qw x y hk wk ab = rank-rises_side_by_side rank low p 0 cs r pl rs h qh qw x y hk wk ab
   rank-rises rank low p (sel ch) r pl rs h qh qw x y hk wk ab = rank-rises_chosen rank low p 0 ch r pl rs h qh qw x y hk wk ab
-  rank-rises rank low p (loop n c body) (in_loop m d b r) pl rs h qh qw x y hk wk ab = rank-rises rank low (child p 0) body r pl rs h.1 qh qw x y hk wk ab
+  rank-rises rank low p (loop n c body) (in_loop m d b r) pl rs h qh qw x y hk wk ab = rank-rises rank low (child p 0) body r pl rs h.3 qh qw x y hk wk ab
   rank-rises rank low p c done pl rs h qh qw x y hk wk ab = absurd hk
   rank-rises rank low p _ _ pl rs h qh qw x y hk wk ab = absurd h
 
-  pub rank-rises_below : (rank : Ranking) (low : ℕ) (p : Place) (w : Task) (r : Rest) → IsPlacedBelow p w → RisesBelow rank low w → StandsBelow w r
+  pub rank-rises_below : (rank : Ranking) (low : ℕ) (p : Place) (w : Task) (r : Rest) → IsPlacedBelow p w → RisesBelow rank low w → IsRestBelow w r
       → (qh qw : Place) (x y : Name) → Has (facts r) (qh, holding x) → Has (facts r) (qw, awaiting y) → IsAtOrAbove qh qw → rank x < rank y
   rank-rises_below rank low p (runs z) r pl rs h qh qw x y hk wk ab = absurd h
   rank-rises_below rank low p (follows name c) r pl rs h qh qw x y hk wk ab = rank-rises rank low (child p 0) c r pl rs h qh qw x y hk wk ab
 
-  pub rank-rises_among : (rank : Ranking) (low : ℕ) (p : Place) (i : ℕ) (cs : Trees) (r : Rest) (ds : Trees) → ArePlaced p i cs → RiseDown rank low cs → StandsAmong cs r ds
+  pub rank-rises_among : (rank : Ranking) (low : ℕ) (p : Place) (i : ℕ) (cs : Trees) (r : Rest) (ds : Trees) → ArePlaced p i cs → RiseDown rank low cs → IsBranch cs r ds
       → (qh qw : Place) (x y : Name) → Has (facts r) (qh, holding x) → Has (facts r) (qw, awaiting y) → IsAtOrAbove qh qw → rank x < rank y
   rank-rises_among rank low p i no_trees r ds pl rs h qh qw x y hk wk ab = absurd h
   rank-rises_among rank low p i (tree c cs) r ds pl rs (inl h) qh qw x y hk wk ab = rank-rises rank low (child p i) c r pl.0 rs.0 h.0 qh qw x y hk wk ab
   rank-rises_among rank low p i (tree c cs) r ds pl rs (inr h) qh qw x y hk wk ab = rank-rises_among rank low p (i + 1) cs r ds pl.1 rs.1 h qh qw x y hk wk ab
 
-  pub rank-rises_side_by_side : (rank : Ranking) (low : ℕ) (p : Place) (i : ℕ) (cs : Trees) (r : Rests) → ArePlaced p i cs → RiseDown rank low cs → StandSideBySide cs r
+  pub rank-rises_side_by_side : (rank : Ranking) (low : ℕ) (p : Place) (i : ℕ) (cs : Trees) (r : Rests) → ArePlaced p i cs → RiseDown rank low cs → AreBranches cs r
       → (qh qw : Place) (x y : Name) → Has (facts_of_each r) (qh, holding x) → Has (facts_of_each r) (qw, awaiting y) → IsAtOrAbove qh qw → rank x < rank y
   rank-rises_side_by_side rank low p i no_trees no_rests pl rs h qh qw x y hk wk ab = absurd hk
   rank-rises_side_by_side rank low p i (tree c cs) (rest r more) pl rs h qh qw x y hk wk ab =
@@ -224,7 +224,7 @@ mutual
   rank-rises_side_by_side rank low p i no_trees (rest r more) pl rs h qh qw x y hk wk ab = absurd h
   rank-rises_side_by_side rank low p i (tree c cs) no_rests pl rs h qh qw x y hk wk ab = absurd h
 
-  pub rank-rises_chosen : (rank : Ranking) (low : ℕ) (p : Place) (i : ℕ) (ch : Choices) (r : Rest) → IsChoicePlaced p i ch → ChoicesRiseDown rank low ch → StandsChosen ch r
+  pub rank-rises_chosen : (rank : Ranking) (low : ℕ) (p : Place) (i : ℕ) (ch : Choices) (r : Rest) → IsChoicePlaced p i ch → ChoicesRiseDown rank low ch → IsChosen ch r
       → (qh qw : Place) (x y : Name) → Has (facts r) (qh, holding x) → Has (facts r) (qw, awaiting y) → IsAtOrAbove qh qw → rank x < rank y
   rank-rises_chosen rank low p i (otherwise c) r pl rs h qh qw x y hk wk ab = rank-rises rank low (child p i) c r pl rs h qh qw x y hk wk ab
   rank-rises_chosen rank low p i (choice d c ch) r pl rs (inl h) qh qw x y hk wk ab = rank-rises rank low (child p i) c r pl.0 rs.0 h qh qw x y hk wk ab

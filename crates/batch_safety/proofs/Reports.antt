@@ -20,15 +20,14 @@ use Rattle.batch_safety.specs.Facts.{Standing, held_at, facts}
 use Rattle.batch_model.specs.Cleared.{Ranking}
 use Rattle.batch_safety.specs.ClearedDown.{IsClearedDown, AreClearedDown}
 use Rattle.batch_model.proofs.Members.{Each-Has}
-use Rattle.batch_safety.proofs.Standing.{KeepsNodes}
-use Rattle.batch_safety.proofs.Bounding.{ended-bounded}
 use Rattle.batch_safety.proofs.Invariant.{IsFitting, IsKept}
 use Rattle.batch_safety.proofs.Changing.{changed_plant, IsChange, change-facts, change-sound}
 use Rattle.batch_safety.proofs.Keeping.{kept-quiet, kept-finished, act_frame, TellsState}
-use Rattle.batch_safety.proofs.MoveSteps.{ended-keeps, freed-facts, take-length}
+use Rattle.batch_safety.proofs.MoveSteps.{freed-facts, take-length}
 use Rattle.batch_safety.proofs.Events.{Answered, find-Has, kept-refused, kept-created, ordering-step, removing-step}
 use Rattle.batch_safety.proofs.Moving.{tells-other, tells-own}
 use Rattle.std.proofs.lemmas.List.{append-nil}
+use Rattle.batch_model.specs.Standing.{IsStanding}
 
 -- Reports
 
@@ -233,17 +232,6 @@ live_phase-found (b ∷ bs) unit name l e = go (live_in b unit name (acts b.rest
     go (Some y) q f h = (b, inl refl, live_in-found b unit name (acts b.rest) l (q ∙ f))
     go None q f h = let m = h f in (m.0, inr m.1, m.2)
 
-now-keeps : (y : State) → KeepsNodes (now y)
-now-keeps y s w (live t x u) h = h
-now-keeps y s w (ready t v k) h = h
-now-keeps y s w (asking t v k) h = h
-now-keeps y s w (open_act t r) h = h
-now-keeps y s w (freeing t k) h = h
-now-keeps y s w (in_seq r cs) h = h
-now-keeps y s w (in_par rs) h = h
-now-keeps y s w (in_loop n d b r) h = h
-now-keeps y s w done h = h
-
 not_ending : (word : Report) (unit name : Name) (n : ℕ) (p : Place) (x : State) (xs : List Active) → ends_phase word ≡ false → active_after xs (reply (reported unit name word n p x)) ≡ xs
 not_ending word unit name n p x xs e = go (ends_phase word) e
   where
@@ -251,7 +239,7 @@ not_ending word unit name n p x xs e = go (ends_phase word) e
     go true q = absurd cc
     go false q = refl
 
-module _ (d : Documents) (rank : Ranking) (outs : List Out) (s : Plant) (k : IsKept d rank outs s) (b : Batch) (i : Has s.batches b)
+module _ (d : Documents) (rank : Ranking) (outs : List Out) (s : Plant) (sd : IsStanding d s) (k : IsKept d rank outs s) (b : Batch) (i : Has s.batches b)
     (unit name : Name) (word : Report) (outputs : ValueList) (p : Step) (x : Phase) (t : State) (j : Has (acts b.rest) (live p x t)) where
   abbrev then_state : State
   then_state = batch_state_after word b.state
@@ -265,11 +253,11 @@ module _ (d : Documents) (rank : Ranking) (outs : List Out) (s : Plant) (k : IsK
       → IsKept d rank (outs ++ reply (reported unit name word b.number p.place then_state) ∷ []) (changed_plant s b.number (batch_reported word outputs p.place e) s.line)
   kept-reported e f c same ends =
       let g : Batch → Batch = batch_reported word outputs p.place e in
-      let fr = act_frame d rank outs s k b i (live p x t) j g f (with_values outputs b.values) c in
+      let fr = act_frame d rank outs s sd k b i (live p x t) j g f (with_values outputs b.values) c in
       let quiet : facts (g b).rest ≡ facts b.rest
       = change-facts b (live p x t) g f (with_values outputs b.values) c ∙ fr.3 f ∙ ap (λ z. fr.0 ++ (z ++ fr.1)) same ∙ sym fr.2 in
-      kept-quiet d rank outs s k b i (reply (reported unit name word b.number p.place then_state)) g refl
-      (change-sound d rank b (live p x t) g f (with_values outputs b.values) (k.sound b i) j c
+      kept-quiet d rank outs s sd k b i (reply (reported unit name word b.number p.place then_state)) g refl
+      (change-sound d rank b (live p x t) g f (with_values outputs b.values) (k.sound b i) c
       (fit-reported word b.state (facts (g b).rest) (subst (IsFitting b.state) (sym quiet) (k.sound b i).fits)))
       quiet tells (λ q hs. refl) (λ q ws. refl) (λ xs. not_ending word unit name b.number p.place then_state xs ends)
 
@@ -277,17 +265,17 @@ module _ (d : Documents) (rank : Ranking) (outs : List Out) (s : Plant) (k : IsK
       → IsKept d rank (outs ++ reply (reported unit name word b.number p.place then_state) ∷ []) (changed_plant s b.number (batch_reported word outputs p.place e) s.line)
   reported-step Ended q =
       let ends : ends_phase word ≡ true = ended-word t word q in
-      kept-finished d rank outs s k b i (live p x t) j (batch_reported word outputs p.place Ended) ended (with_values outputs b.values)
-      (record { number = refl; recipe = refl; goes_on = refl; keeps = ended-keeps; bounds = ended-bounded (live p x t) })
+      kept-finished d rank outs s sd k b i (live p x t) j (batch_reported word outputs p.place Ended) ended (with_values outputs b.values)
+      (record { number = refl; recipe = refl; goes_on = refl })
       p.needs x unit name word then_state
       (record { was = refl; is = freed-facts p (length p.needs) ∙ ap (held_at p.place) (take-length p.needs) ∙ sym (append-nil (held_at p.place p.needs)) })
       ends (ended-state word b.state ends) tells
   reported-step (Now y) q =
-      kept-reported (Now y) (now y) (record { number = refl; recipe = refl; goes_on = refl; keeps = now-keeps y; bounds = λ h. tt }) refl (now-word t y word q)
+      kept-reported (Now y) (now y) (record { number = refl; recipe = refl; goes_on = refl }) refl (now-word t y word q)
   reported-step Same q =
-      kept-reported Same (λ r. r) (record { number = refl; recipe = refl; goes_on = refl; keeps = λ u w r h. h; bounds = λ h. h }) refl (same-word t word q)
+      kept-reported Same (λ r. r) (record { number = refl; recipe = refl; goes_on = refl }) refl (same-word t word q)
 
-module _ (d : Documents) (rank : Ranking) (cleared : AreClearedDown d rank) (outs : List Out) (s : Plant) (k : IsKept d rank outs s) where
+module _ (d : Documents) (rank : Ranking) (cleared : AreClearedDown d rank) (outs : List Out) (s : Plant) (sd : IsStanding d s) (k : IsKept d rank outs s) where
   reporting-step : (unit name : Name) (word : Report) (outputs : ValueList) (b : Batch) → Has s.batches b → (l : LivePhase) → IsFound b (acts b.rest) l
       → Answered d rank outs (reporting s unit name word outputs l)
   reporting-step unit name word outputs b i l h = go (after_report l.state word) refl
@@ -297,7 +285,7 @@ module _ (d : Documents) (rank : Ranking) (cleared : AreClearedDown d rank) (out
       at_place e q =
           subst (λ z. Answered d rank outs (reported unit name word z.number l.place (batch_state_after word z.state), in_batch z.number (batch_reported word outputs l.place e) s)) (sym h.4)
           (subst (λ z. Answered d rank outs (reported unit name word b.number z (batch_state_after word b.state), in_batch b.number (batch_reported word outputs z e) s)) h.3
-          (reported-step d rank outs s k b i unit name word outputs h.0 h.1 l.state h.2 e q))
+          (reported-step d rank outs s sd k b i unit name word outputs h.0 h.1 l.state h.2 e q))
 
       outs_of : (e : PhaseEnd) → after_report l.state word ≡ Some e → (t : Bool)
           → Answered d rank outs
@@ -324,7 +312,7 @@ module _ (d : Documents) (rank : Ranking) (cleared : AreClearedDown d rank) (out
   creating-step : (r : Recipe) (size : ℕ) → Has d.recipes r → (f : Formula) → Answered d rank outs (creating s r size f)
   creating-step r size h size_out_of_range = kept-refused d rank outs s bad_size k
   creating-step r size h (value_out_of_range name) = kept-refused d rank outs s (bad_value name) k
-  creating-step r size h (scaled vs) = kept-created d rank outs s r r.name size vs (Each-Has (IsClearedDown d rank) d.recipes r cleared.recipes h) k
+  creating-step r size h (scaled vs) = kept-created d rank outs s r r.name size vs (Each-Has (IsClearedDown d rank) d.recipes r cleared.recipes h) sd k
 
   judged-step : (e : Event) → Answered d rank outs (judged d s e)
   judged-step (create name size) = go (find (λ r. bytes_eq r.name name) d.recipes) refl
@@ -341,12 +329,12 @@ module _ (d : Documents) (rank : Ranking) (cleared : AreClearedDown d rank) (out
     where
       go : (o : Option Batch) → batch_at s n ≡ o → Answered d rank outs (elim o [ None ↦ (refused unknown_batch, s) | Some b ↦ ordering s command b ])
       go None q = kept-refused d rank outs s unknown_batch k
-      go (Some b) q = ordering-step d rank outs s k b ((find-Has (λ b. nat_eq b.number n) s.batches b q).0) command
+      go (Some b) q = ordering-step d rank outs s sd k b ((find-Has (λ b. nat_eq b.number n) s.batches b q).0) command
   judged-step (remove n) = go (batch_at s n) refl
     where
       go : (o : Option Batch) → batch_at s n ≡ o → Answered d rank outs (elim o [ None ↦ (refused unknown_batch, s) | Some b ↦ removing s b ])
       go None q = kept-refused d rank outs s unknown_batch k
-      go (Some b) q = removing-step d rank outs s k b ((find-Has (λ b. nat_eq b.number n) s.batches b q).0)
+      go (Some b) q = removing-step d rank outs s sd k b ((find-Has (λ b. nat_eq b.number n) s.batches b q).0)
   judged-step (report unit name word outputs) = go (live_phase s.batches unit name) refl
     where
       go : (o : Option LivePhase) → live_phase s.batches unit name ≡ o

@@ -1,14 +1,20 @@
 -- Every record is safe after each of its lines.
-use Rattle.std.proofs.Common.{◌≡◌, refl, sym, ◌∙◌, ap, subst, subst₂, zero-le, ℕ, List, [], ◌∷◌, ◌++◌, append-nil, append_assoc}
+use Rattle.std.proofs.Common.{Some, ◌≡◌, refl, sym, ◌∙◌, ap, subst, subst₂, zero-le, ℕ, List, [], ◌∷◌, ◌++◌, append-nil, append_assoc}
 use Rattle.batch_recipe.specs.Conditions.{ValueList}
 use Rattle.batch_recipe.specs.Tree.{Phase, Place}
 use Rattle.batch_model.specs.Plant.{Documents, Plant, opening}
-use Rattle.batch_model.specs.Moves.{start, after}
+use Rattle.batch_model.specs.Moves.{Move, start, next, after}
 use Rattle.batch_model.specs.Events.{Event, Reply}
+use Rattle.batch_model.specs.Placed.{IsPlaced}
+use Rattle.batch_model.specs.Standing.{HasPlacedTrees, IsStanding}
+use Rattle.batch_model.proofs.Members.{Each-map}
+use Rattle.batch_model.proofs.Falling.{next-possible}
+use Rattle.batch_model.proofs.Moving.{possible-stands}
+use Rattle.batch_model.proofs.Led.{opening-stands, reacts-stands}
 use Rattle.batch_model.specs.Runs.{Out, move, reply, Leads}
 use Rattle.batch_model.specs.Records.{StartsIdle, IsSafeNow, IsSafe}
 use Rattle.batch_model.specs.Cleared.{Ranking}
-use Rattle.batch_safety.specs.ClearedDown.{AreClearedDown}
+use Rattle.batch_safety.specs.ClearedDown.{IsClearedDown, AreClearedDown}
 use Rattle.batch_safety.proofs.Invariant.{IsKept}
 use Rattle.batch_safety.proofs.Safety.{safe-now}
 use Rattle.batch_safety.proofs.Starting.{starts-nothing}
@@ -19,7 +25,6 @@ pub kept-at_first : (d : Documents) (rank : Ranking) → IsKept d rank [] openin
 kept-at_first d rank =
     record {
       sound = λ b h. absurd h;
-      numbers = tt;
       held = λ q. (refl, λ a h. h, λ a h. h, tt);
       within = λ q. zero-le;
       lines = λ q. refl;
@@ -47,36 +52,43 @@ reply_no_start r n p x vs e = cc
 no_front : (o : Out) (xs : List Out) → ◌≡◌ {A = List Out} (o ∷ xs) [] → ⊥
 no_front o xs e = cc
 
+pub placed-trees : (d : Documents) (rank : Ranking) → AreClearedDown d rank → HasPlacedTrees d
+placed-trees d rank cleared = Each-map (IsClearedDown d rank) (λ r. IsPlaced (0 ∷ []) r.procedure) (λ r k. k.placed) d.recipes cleared.recipes
+
 module _ (d : Documents) (rank : Ranking) (cleared : AreClearedDown d rank) where
-  safe-along : (told : List Out) (s : Plant) → IsKept d rank told s → StartsIdle d told → (es : List Event) (outs : List Out) (t : Plant) → Leads d s es outs t
+  moved-stands : (s : Plant) (m : Move) → IsStanding d s → next d s ≡ Some m → IsStanding d (after s m)
+  moved-stands s m sd e = possible-stands d s m (placed-trees d rank cleared) sd (next-possible d s m e)
+
+  safe-along : (told : List Out) (s : Plant) → IsStanding d s → IsKept d rank told s → StartsIdle d told → (es : List Event) (outs : List Out) (t : Plant) → Leads d s es outs t
       → (front more : List Out) → front ++ more ≡ outs → IsSafeNow d (told ++ front)
-  safe-along told s k st es outs t l [] more e = subst (IsSafeNow d) (sym (append-nil told)) (safe-now d rank told s k st)
-  safe-along told s k st [] [] t l (o ∷ front) more e = absurd (no_front o (front ++ more) e)
-  safe-along told s k st (v ∷ es) [] t l (o ∷ front) more e = absurd l
-  safe-along told s k st es (move m ∷ outs) t l (o ∷ front) more e =
+  safe-along told s sd k st es outs t l [] more e = subst (IsSafeNow d) (sym (append-nil told)) (safe-now d rank told s sd k st)
+  safe-along told s sd k st [] [] t l (o ∷ front) more e = absurd (no_front o (front ++ more) e)
+  safe-along told s sd k st (v ∷ es) [] t l (o ∷ front) more e = absurd l
+  safe-along told s sd k st es (move m ∷ outs) t l (o ∷ front) more e =
       let q = same_first o (move m) (front ++ more) outs e in
-      let step = move-step d rank told s k m l.0 in
+      let td = moved-stands s m sd l.0 in
+      let step = move-step d rank told s sd k m l.0 td in
       subst (IsSafeNow d) (append_assoc told (move m ∷ []) front ∙ ap (λ z. told ++ z ∷ front) (sym q.0))
-      (safe-along (told ++ move m ∷ []) (after s m) step.0 step.1 es outs t l.1 front more q.1)
-  safe-along told s k st [] (reply r ∷ outs) t l (o ∷ front) more e = absurd l
-  safe-along told s k st (v ∷ es) (reply r ∷ outs) t l (o ∷ front) more e =
+      (safe-along (told ++ move m ∷ []) (after s m) td step.0 step.1 es outs t l.1 front more q.1)
+  safe-along told s sd k st [] (reply r ∷ outs) t l (o ∷ front) more e = absurd l
+  safe-along told s sd k st (v ∷ es) (reply r ∷ outs) t l (o ∷ front) more e =
       let q = same_first o (reply r) (front ++ more) outs e in
       subst (IsSafeNow d) (append_assoc told (reply r ∷ []) front ∙ ap (λ z. told ++ z ∷ front) (sym q.0))
-      (safe-along (told ++ reply r ∷ []) l.0 (reply-step d rank cleared told s k v r l.0 l.1)
+      (safe-along (told ++ reply r ∷ []) l.0 (reacts-stands d s l.0 v r sd l.1) (reply-step d rank cleared told s sd k v r l.0 l.1)
       (starts-nothing d told (reply r) (λ n p x vs f. reply_no_start r n p x vs f)) es outs t l.2 front more q.1)
 
 pub safe : (d : Documents) (rank : Ranking) → AreClearedDown d rank → (es : List Event) (outs : List Out) (t : Plant) → Leads d opening es outs t → IsSafe d outs
-safe d rank cleared es outs t l front more e = safe-along d rank cleared [] opening (kept-at_first d rank) (starts-at_first d) es outs t l front more e
+safe d rank cleared es outs t l front more e = safe-along d rank cleared [] opening (opening-stands d) (kept-at_first d rank) (starts-at_first d) es outs t l front more e
 
 -- what is kept is kept along the whole record
-pub kept-along : (d : Documents) (rank : Ranking) → AreClearedDown d rank → (told : List Out) (s : Plant) → IsKept d rank told s → (es : List Event) (outs : List Out) (t : Plant) → Leads d s es outs t
+pub kept-along : (d : Documents) (rank : Ranking) → AreClearedDown d rank → (told : List Out) (s : Plant) → IsStanding d s → IsKept d rank told s → (es : List Event) (outs : List Out) (t : Plant) → Leads d s es outs t
     → IsKept d rank (told ++ outs) t
-kept-along d rank cleared told s k [] [] t l = subst₂ (λ y z. IsKept d rank y z) (sym (append-nil told)) l k
-kept-along d rank cleared told s k (v ∷ es) [] t l = absurd l
-kept-along d rank cleared told s k es (move m ∷ outs) t l =
+kept-along d rank cleared told s sd k [] [] t l = subst₂ (λ y z. IsKept d rank y z) (sym (append-nil told)) l k
+kept-along d rank cleared told s sd k (v ∷ es) [] t l = absurd l
+kept-along d rank cleared told s sd k es (move m ∷ outs) t l =
     subst (λ z. IsKept d rank z t) (append_assoc told (move m ∷ []) outs)
-    (kept-along d rank cleared (told ++ move m ∷ []) (after s m) (move-step d rank told s k m l.0).0 es outs t l.1)
-kept-along d rank cleared told s k [] (reply r ∷ outs) t l = absurd l
-kept-along d rank cleared told s k (v ∷ es) (reply r ∷ outs) t l =
+    (let td = moved-stands d rank cleared s m sd l.0 in kept-along d rank cleared (told ++ move m ∷ []) (after s m) td (move-step d rank told s sd k m l.0 td).0 es outs t l.1)
+kept-along d rank cleared told s sd k [] (reply r ∷ outs) t l = absurd l
+kept-along d rank cleared told s sd k (v ∷ es) (reply r ∷ outs) t l =
     subst (λ z. IsKept d rank z t) (append_assoc told (reply r ∷ []) outs)
-    (kept-along d rank cleared (told ++ reply r ∷ []) l.0 (reply-step d rank cleared told s k v r l.0 l.1) es outs t l.2)
+    (kept-along d rank cleared (told ++ reply r ∷ []) l.0 (reacts-stands d s l.0 v r sd l.1) (reply-step d rank cleared told s sd k v r l.0 l.1) es outs t l.2)

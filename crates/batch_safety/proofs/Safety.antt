@@ -15,6 +15,8 @@ use Rattle.batch_safety.proofs.Units.{unit-held}
 use Rattle.batch_safety.proofs.Entries.{Has-holders, holders-Has}
 use Rattle.batch_safety.proofs.Batches.{same-batch}
 use Rattle.batch_safety.proofs.Invariant.{IsSound, IsKept, at_rest-nothing}
+use Rattle.batch_model.specs.Standing.{IsStandingBatch, IsStanding}
+use Rattle.batch_safety.proofs.Invariant.{standing-of, numbers-of}
 
 -- an entry is a fact of a batch
 pub entry-of : (bs : List Batch) (a : BatchAct) (f : Fact) → Has (entries bs) (a, f) → (b : Batch) × Has bs b × (b.number ≡ a.0) × Has (facts b.rest) (a.1, f)
@@ -30,15 +32,15 @@ entry-of bs a f h =
 pub of-entry : (bs : List Batch) (b : Batch) (p : Place) (f : Fact) → Has bs b → Has (facts b.rest) (p, f) → Has (entries bs) ((b.number, p), f)
 of-entry bs b p f h k = flat_map-Has entries_of bs b ((b.number, p), f) h (map-Has (entry b.number) (facts b.rest) (p, f) k)
 
-module _ (d : Documents) (rank : Ranking) (outs : List Out) (s : Plant) (k : IsKept d rank outs s) where
+module _ (d : Documents) (rank : Ranking) (outs : List Out) (s : Plant) (sd : IsStanding d s) (k : IsKept d rank outs s) where
   within-capacity : HasCapacity d outs
   within-capacity r = subst (λ z. z ≤ d.capacity r) (sym (k.held r).0) (k.within r)
 
   holds-units : HoldsUnits outs
   holds-units a h =
       let e = entry-of s.batches a.act (performing a.phase) (k.active a h) in
-      let sound : IsSound d rank e.0 = k.sound e.0 e.1 in
-      go e.0 e.1 e.2 (unit-held [] (0 ∷ []) e.0.recipe.procedure e.0.rest sound.cleared.placed sound.cleared.in_units sound.stands a.act.1 a.phase e.3)
+      let sound : IsSound d rank e.0 = k.sound e.0 e.1 in let here : IsStandingBatch d e.0 = standing-of d s sd e.0 e.1 in
+      go e.0 e.1 e.2 (unit-held [] (0 ∷ []) e.0.recipe.procedure e.0.rest sound.cleared.placed sound.cleared.in_units here.stands a.act.1 a.phase e.3)
     where
       go : (b : Batch) → Has s.batches b → b.number ≡ a.act.0
           → ⊥ ⊎ ((p : Place) × Has (facts b.rest) (p, holding a.phase.unit) × IsAtOrAbove p a.act.1 × (p ≡ a.act.1 → ⊥))
@@ -61,9 +63,9 @@ module _ (d : Documents) (rank : Ranking) (outs : List Out) (s : Plant) (k : IsK
   points-rise w v h p =
       let asks = entry-of s.batches v.act (awaiting v.resource) (k.asked v.resource v.act (subst (λ z. Has z v.act) (k.lines v.resource) h)) in
       let holds = entry-of s.batches (v.act.0, p.0) (holding w.resource) (Has-holders w.resource (entries s.batches) (v.act.0, p.0) ((k.held w.resource).1 (v.act.0, p.0) p.1)) in
-      let same : holds.0 ≡ asks.0 = same-batch s.next_number s.batches holds.0 asks.0 k.numbers holds.1 asks.1 (holds.2 ∙ sym asks.2) in
-      let sound : IsSound d rank asks.0 = k.sound asks.0 asks.1 in
-      rank-rises (λ q. suc (rank q)) 0 (0 ∷ []) asks.0.recipe.procedure asks.0.rest sound.cleared.placed sound.cleared.rising sound.stands p.0 v.act.1 w.resource v.resource
+      let same : holds.0 ≡ asks.0 = same-batch s.next_number s.batches holds.0 asks.0 (numbers-of d s sd) holds.1 asks.1 (holds.2 ∙ sym asks.2) in
+      let sound : IsSound d rank asks.0 = k.sound asks.0 asks.1 in let here : IsStandingBatch d asks.0 = standing-of d s sd asks.0 asks.1 in
+      rank-rises (λ q. suc (rank q)) 0 (0 ∷ []) asks.0.recipe.procedure asks.0.rest sound.cleared.placed sound.cleared.rising here.stands p.0 v.act.1 w.resource v.resource
       (subst (λ z. Has (facts z.rest) (p.0, holding w.resource)) same holds.3) asks.3 p.2
 
   along-rises : (w : Waiting) (ws : List Waiting) (last : Waiting) → Each (IsWaiting (scene_told outs)) ws → IsWaiting (scene_told outs) last

@@ -18,6 +18,7 @@ use Rattle.batch_safety.proofs.Entries.{act_self, name_self, name_same, filter-H
 use Rattle.batch_safety.proofs.Batches.{holders-entries}
 use Rattle.batch_safety.proofs.Invariant.{IsKept}
 use Rattle.batch_safety.proofs.Safety.{entry-of, points-rise}
+use Rattle.batch_model.specs.Standing.{IsStanding}
 
 -- No move
 
@@ -125,7 +126,7 @@ unserved d s b p w n q e no_move = go (slice_get p.needs n) e no_move
     go None f h = absurd cc
     go (Some r) f h = serve (is_served d s q (b.number, p.place)) (λ m g. h m (subst (λ z. when (is_served d s z (b.number, p.place)) (grant b.number p.place z) ≡ Some m) (sym (same_name r q f)) g))
 
-module _ (d : Documents) (rank : Ranking) (outs : List Out) (s : Plant) (k : IsKept d rank outs s) where
+module _ (d : Documents) (rank : Ranking) (outs : List Out) (s : Plant) (sd : IsStanding d s) (k : IsKept d rank outs s) where
   -- the first in a line of a settled plant isn't served
   first-unserved : next d s ≡ None → (q : Name) (a : BatchAct) (more : List BatchAct) → s.line q ≡ a ∷ more → d.capacity q ≤ length (holders s q)
   first-unserved e q a more f =
@@ -150,7 +151,7 @@ module _ (d : Documents) (rank : Ranking) (outs : List Out) (s : Plant) (k : IsK
 
   points-on : (l m : Link) → IsLink (scene_of s) l → IsLink (scene_of s) m → StandsUnder l.holder m.waiting → suc (rank l.waiting.resource) < suc (rank m.waiting.resource)
   points-on l m h g u =
-      points-rise d rank outs s k l.waiting m.waiting
+      points-rise d rank outs s sd k l.waiting m.waiting
       (subst (λ z. Has z m.waiting.act) (sym (k.lines m.waiting.resource)) g.0) (
         l.holder.1,
         (k.held l.waiting.resource).2 (m.waiting.act.0, l.holder.1)

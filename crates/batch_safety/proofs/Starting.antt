@@ -18,6 +18,8 @@ use Rattle.batch_safety.proofs.Entries.{holders-append, holders-Has, nat_same}
 use Rattle.batch_safety.proofs.Batches.{same-batch}
 use Rattle.batch_safety.proofs.Invariant.{IsSound, IsKept}
 use Rattle.batch_safety.proofs.Safety.{entry-of, of-entry}
+use Rattle.batch_model.specs.Standing.{IsStandingBatch, IsStanding}
+use Rattle.batch_safety.proofs.Invariant.{standing-of, numbers-of}
 
 snoc-nil : {X : Type 0} (ys : List X) (x y z : X) → x ∷ [] ≡ y ∷ (ys ++ z ∷ []) → ⊥
 snoc-nil [] x y z e = (let t : ◌≡◌ {A = List _} [] (z ∷ []) = cc in absurd cc)
@@ -71,9 +73,9 @@ alone (x ∷ []) a b l (inr h) k = absurd h
 alone (x ∷ y ∷ xs) a b l h k = absurd (omega arith)
 
 -- two live phases of one unit and name are one step
-pub phase-alone : (d : Documents) (rank : Ranking) (outs : List Out) (s : Plant) → IsKept d rank outs s → (a b : BatchAct) (x y : Phase)
+pub phase-alone : (d : Documents) (rank : Ranking) (outs : List Out) (s : Plant) → IsStanding d s → IsKept d rank outs s → (a b : BatchAct) (x y : Phase)
     → Has (entries s.batches) (a, performing x) → Has (entries s.batches) (b, performing y) → (x.unit ≡ y.unit) × (x.name ≡ y.name) → (a ≡ b → ⊥) → ⊥
-phase-alone d rank outs s k a b x y hx hy same apart = go e f (nat_eq e.0.number f.0.number) refl
+phase-alone d rank outs s sd k a b x y hx hy same apart = go e f (nat_eq e.0.number f.0.number) refl
   where
     e : (c : Batch) × Has s.batches c × (c.number ≡ a.0) × Has (facts c.rest) (a.1, performing x)
     e = entry-of s.batches a (performing x) hx
@@ -83,28 +85,28 @@ phase-alone d rank outs s k a b x y hx hy same apart = go e f (nat_eq e.0.number
 
     one : (c : Batch) → Has s.batches c → (p : Place) (z : Phase) → Has (facts c.rest) (p, performing z) → length (holders_among z.unit (entries s.batches)) ≤ 1
     one c i p z h =
-        let sound : IsSound d rank c = k.sound c i in
+        let sound : IsSound d rank c = k.sound c i in let stood : IsStandingBatch d c = standing-of d s sd c i in
         subst (λ n. length (holders_among z.unit (entries s.batches)) ≤ n)
-        (Each-Has (λ w. d.capacity w.unit ≡ 1) (phases c.recipe.procedure) z sound.cleared.single (performed-phase c.recipe.procedure c.rest sound.stands p z h))
+        (Each-Has (λ w. d.capacity w.unit ≡ 1) (phases c.recipe.procedure) z sound.cleared.single (performed-phase c.recipe.procedure c.rest stood.stands p z h))
         (k.within z.unit)
 
     holder : (c : Batch) → Has s.batches c → (p : Place) (z : Phase) → Has (facts c.rest) (p, performing z) → (q : Place) × Has (holders_among z.unit (entries s.batches)) (c.number, q)
     holder c i p z h =
-        let sound : IsSound d rank c = k.sound c i in
+        let sound : IsSound d rank c = k.sound c i in let stood : IsStandingBatch d c = standing-of d s sd c i in
         ⊎_elim (λ m. absurd m) (λ m. (m.0, holders-Has z.unit (entries s.batches) (c.number, m.0) (of-entry s.batches c m.0 (holding z.unit) i m.1)))
-        (unit-held [] (0 ∷ []) c.recipe.procedure c.rest sound.cleared.placed sound.cleared.in_units sound.stands p z h)
+        (unit-held [] (0 ∷ []) c.recipe.procedure c.rest sound.cleared.placed sound.cleared.in_units stood.stands p z h)
 
     go : (e : (c : Batch) × Has s.batches c × (c.number ≡ a.0) × Has (facts c.rest) (a.1, performing x))
         → (f : (c : Batch) × Has s.batches c × (c.number ≡ b.0) × Has (facts c.rest) (b.1, performing y))
         → (t : Bool) → nat_eq e.0.number f.0.number ≡ t → ⊥
     go e f true q =
         let n : e.0.number ≡ f.0.number = nat_same e.0.number f.0.number q in
-        let c : e.0 ≡ f.0 = same-batch s.next_number s.batches e.0 f.0 k.numbers e.1 f.1 n in
-        let sound : IsSound d rank e.0 = k.sound e.0 e.1 in
+        let c : e.0 ≡ f.0 = same-batch s.next_number s.batches e.0 f.0 (numbers-of d s sd) e.1 f.1 n in
+        let sound : IsSound d rank e.0 = k.sound e.0 e.1 in let stood : IsStandingBatch d e.0 = standing-of d s sd e.0 e.1 in
         let here : Has (facts e.0.rest) (b.1, performing y) = subst (λ z. Has (facts z.rest) (b.1, performing y)) (sym c) f.3 in
         let places : a.1 ≡ b.1 → ⊥ = λ w. apart (ap₂ (λ u v. let z : BatchAct = (u, v) in z) (sym e.2 ∙ n ∙ f.2) w) in
         let two : 2 ≤ shares x.unit (facts e.0.rest)
-        = twice-held [] (0 ∷ []) e.0.recipe.procedure e.0.rest sound.cleared.placed sound.cleared.in_units sound.stands a.1 b.1 x y same places e.3 here in
+        = twice-held [] (0 ∷ []) e.0.recipe.procedure e.0.rest sound.cleared.placed sound.cleared.in_units stood.stands a.1 b.1 x y same places e.3 here in
         let all : shares x.unit (facts e.0.rest) ≤ length (holders_among x.unit (entries s.batches)) = batch-shares x.unit s.batches e.0 e.1 in
         let l : length (holders_among x.unit (entries s.batches)) ≤ 1 = one e.0 e.1 a.1 x e.3 in
         absurd (omega arith)
@@ -128,19 +130,19 @@ same_start n n' p p' x x' vs vs' e = cc
 
 -- after its start a phase is the only one of its unit and name that is active, so it was idle before
 pub starts-idle : (d : Documents) (rank : Ranking) (outs : List Out) (s t : Plant) (n : ℕ) (p : Place) (x : Phase) (vs : ValueList)
-    → IsKept d rank outs s → IsKept d rank (outs ++ move (start n p x vs) ∷ []) t
+    → IsStanding d s → IsKept d rank outs s → IsStanding d t → IsKept d rank (outs ++ move (start n p x vs) ∷ []) t
     → Has (entries t.batches) ((n, p), performing x)
     → ((a : BatchAct) (y : Phase) → Has (entries s.batches) (a, performing y) → Has (entries t.batches) (a, performing y) × (a ≡ (n, p) → ⊥))
     → StartsIdle d (outs ++ move (start n p x vs) ∷ [])
-starts-idle d rank outs s t n p x vs k l here stay before n' p' x' vs' e =
+starts-idle d rank outs s t n p x vs sd k td l here stay before n' p' x' vs' e =
     let q = same-last outs before (move (start n p x vs)) (move (start n' p' x' vs')) e in
     let xx : x ≡ x' = same_start n n' p p' x x' vs vs' q.1 in
     subst (λ z. IsTrue (d.offers z.unit z.name) × Each (λ a. IsOnUnit z.unit z.name a → ⊥) (active_told before)) xx
     (subst (λ z. IsTrue (d.offers x.unit x.name) × Each (λ a. IsOnUnit x.unit x.name a → ⊥) (active_told z)) q.0 (
       (let b = entry-of t.batches (n, p) (performing x) here in
-          let sound : IsSound d rank b.0 = l.sound b.0 b.1 in
-          Each-Has (IsOfferedPhase d) (phases b.0.recipe.procedure) x sound.cleared.offered (performed-phase b.0.recipe.procedure b.0.rest sound.stands p x b.3)),
+          let sound : IsSound d rank b.0 = l.sound b.0 b.1 in let stood : IsStandingBatch d b.0 = standing-of d t td b.0 b.1 in
+          Each-Has (IsOfferedPhase d) (phases b.0.recipe.procedure) x sound.cleared.offered (performed-phase b.0.recipe.procedure b.0.rest stood.stands p x b.3)),
       Has-Each (λ a. IsOnUnit x.unit x.name a → ⊥) (active_told outs)
           (λ a h i. (let m = stay a.act a.phase (k.active a h) in
-          phase-alone d rank (outs ++ move (start n p x vs) ∷ []) t l (n, p) a.act x a.phase here m.0 (sym i.0, sym i.1) (λ w. m.1 (sym w)))),
+          phase-alone d rank (outs ++ move (start n p x vs) ∷ []) t td l (n, p) a.act x a.phase here m.0 (sym i.0, sym i.1) (λ w. m.1 (sym w)))),
     ))

@@ -6,6 +6,7 @@ use Rattle.batch_recipe.specs.Tree.{Place, Step, Phase}
 use Rattle.batch_model.specs.Rest.{Rest, ready, asking, open_act, live, freeing, in_seq, in_par, in_loop, done, Rests, no_rests, rest, acts, acts_of_each}
 use Rattle.batch_model.specs.Plant.{Documents, Plant, opening}
 use Rattle.batch_model.specs.Events.{Event}
+use Rattle.batch_model.proofs.Led.{opening-stands}
 use Rattle.batch_model.specs.Runs.{Out, Leads}
 use Rattle.batch_safety.specs.ClearedDown.{AreClearedDown}
 use Rattle.batch_safety.specs.Facts.{performing, Standing, held_at, awaited_at, facts, facts_of_each, entries, awaiting}
@@ -107,4 +108,4 @@ told d rank outs s k =
     }
 
 pub tells_the_plant : (d : Documents) (rank : Ranking) → AreClearedDown d rank → (es : List Event) (outs : List Out) (t : Plant) → Leads d opening es outs t → IsTold outs t
-tells_the_plant d rank cleared es outs t l = told d rank outs t (kept-along d rank cleared [] opening (kept-at_first d rank) es outs t l)
+tells_the_plant d rank cleared es outs t l = told d rank outs t (kept-along d rank cleared [] opening (opening-stands d) (kept-at_first d rank) es outs t l)

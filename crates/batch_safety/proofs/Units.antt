@@ -8,7 +8,7 @@ use Rattle.batch_model.specs.Rest.{Rest, ready, asking, open_act, live, freeing,
 use Rattle.batch_recipe.specs.Nodes.{child}
 use Rattle.batch_model.specs.Records.{IsAtOrAbove}
 use Rattle.batch_safety.specs.Facts.{Fact, holding, awaiting, performing, Standing, held_at, awaited_at, facts, facts_of_each}
-use Rattle.batch_safety.specs.Stands.{StandsAt, StandsBelow, StandsAmong, StandSideBySide, StandsChosen}
+use Rattle.batch_model.specs.Standing.{IsRestOf, IsRestBelow, IsBranch, AreBranches, IsChosen}
 use Rattle.batch_model.specs.Placed.{IsPlaced, IsPlacedBelow, ArePlaced, IsChoicePlaced}
 use Rattle.batch_model.specs.Cleared.{phases, phases_within, phases_of_each, phases_of_choices}
 use Rattle.batch_safety.specs.ClearedDown.{IsSamePhase, RunsInUnits, RunsInUnitsBelow, RunInUnits, RunSideBySide, ChoicesRunInUnits}
@@ -39,7 +39,7 @@ open-performing p names r q x k =
 
 mutual
   -- a live phase is one of the chart's
-  pub performed-phase : (c : Tree) (r : Rest) → StandsAt c r → (q : Place) (x : Phase) → Has (facts r) (q, performing x) → Has (phases c) x
+  pub performed-phase : (c : Tree) (r : Rest) → IsRestOf c r → (q : Place) (x : Phase) → Has (facts r) (q, performing x) → Has (phases c) x
   performed-phase (act s w) (ready u v n) h q x k = absurd (held-performing u.place (take n u.needs) q x k)
   performed-phase (act s w) (asking u v n) h q x k = absurd (asking-performing u.place (take n u.needs) (slice_get u.needs n) q x k)
   performed-phase (act s w) (open_act u r) h q x k = performed-below w r h.1 q x (open-performing u.place u.needs r q x k)
@@ -49,20 +49,20 @@ mutual
   performed-phase (seq cs) (in_seq r ds) h q x k = performed-among cs r ds h q x k
   performed-phase (par cs) (in_par r) h q x k = performed-side_by_side cs r h q x k
   performed-phase (sel ch) r h q x k = performed-chosen ch r h q x k
-  performed-phase (loop n c body) (in_loop m d b r) h q x k = performed-phase body r h.1 q x k
+  performed-phase (loop n c body) (in_loop m d b r) h q x k = performed-phase body r h.3 q x k
   performed-phase c done h q x k = absurd k
   performed-phase _ _ h q x k = absurd h
 
-  pub performed-below : (w : Task) (r : Rest) → StandsBelow w r → (q : Place) (x : Phase) → Has (facts r) (q, performing x) → Has (phases_within w) x
+  pub performed-below : (w : Task) (r : Rest) → IsRestBelow w r → (q : Place) (x : Phase) → Has (facts r) (q, performing x) → Has (phases_within w) x
   performed-below (runs y) r h q x k = absurd h
   performed-below (follows name c) r h q x k = performed-phase c r h q x k
 
-  pub performed-among : (cs : Trees) (r : Rest) (ds : Trees) → StandsAmong cs r ds → (q : Place) (x : Phase) → Has (facts r) (q, performing x) → Has (phases_of_each cs) x
+  pub performed-among : (cs : Trees) (r : Rest) (ds : Trees) → IsBranch cs r ds → (q : Place) (x : Phase) → Has (facts r) (q, performing x) → Has (phases_of_each cs) x
   performed-among no_trees r ds h q x k = absurd h
   performed-among (tree c cs) r ds (inl h) q x k = Has-left (phases c) (phases_of_each cs) x (performed-phase c r h.0 q x k)
   performed-among (tree c cs) r ds (inr h) q x k = Has-right (phases c) (phases_of_each cs) x (performed-among cs r ds h q x k)
 
-  pub performed-side_by_side : (cs : Trees) (r : Rests) → StandSideBySide cs r → (q : Place) (x : Phase) → Has (facts_of_each r) (q, performing x) → Has (phases_of_each cs) x
+  pub performed-side_by_side : (cs : Trees) (r : Rests) → AreBranches cs r → (q : Place) (x : Phase) → Has (facts_of_each r) (q, performing x) → Has (phases_of_each cs) x
   performed-side_by_side no_trees no_rests h q x k = absurd k
   performed-side_by_side (tree c cs) (rest r more) h q x k =
       ⊎_elim (λ m. Has-left (phases c) (phases_of_each cs) x (performed-phase c r h.0 q x m)) (λ m. Has-right (phases c) (phases_of_each cs) x (performed-side_by_side cs more h.1 q x m))
@@ -70,7 +70,7 @@ mutual
   performed-side_by_side no_trees (rest r more) h q x k = absurd h
   performed-side_by_side (tree c cs) no_rests h q x k = absurd h
 
-  pub performed-chosen : (ch : Choices) (r : Rest) → StandsChosen ch r → (q : Place) (x : Phase) → Has (facts r) (q, performing x) → Has (phases_of_choices ch) x
+  pub performed-chosen : (ch : Choices) (r : Rest) → IsChosen ch r → (q : Place) (x : Phase) → Has (facts r) (q, performing x) → Has (phases_of_choices ch) x
   performed-chosen (otherwise c) r h q x k = performed-phase c r h q x k
   performed-chosen (choice d c ch) r (inl h) q x k = Has-left (phases c) (phases_of_choices ch) x (performed-phase c r h q x k)
   performed-chosen (choice d c ch) r (inr h) q x k = Has-right (phases c) (phases_of_choices ch) x (performed-chosen ch r h q x k)
@@ -94,7 +94,7 @@ in_branch f (inr b) = inr (f b)
 
 mutual
   -- the unit of a live phase is needed above the chart, or held above the phase
-  pub unit-held : (above : List Name) (p : Place) (c : Tree) (r : Rest) → IsPlaced p c → RunsInUnits above c → StandsAt c r
+  pub unit-held : (above : List Name) (p : Place) (c : Tree) (r : Rest) → IsPlaced p c → RunsInUnits above c → IsRestOf c r
       → (q : Place) (x : Phase) → Has (facts r) (q, performing x) → Has above x.unit ⊎ IsHeldAbove (facts r) x.unit q
   unit-held above p (act s w) (ready u v n) pl iu h q x k = absurd (held-performing u.place (take n u.needs) q x k)
   unit-held above p (act s w) (asking u v n) pl iu h q x k = absurd (asking-performing u.place (take n u.needs) (slice_get u.needs n) q x k)
@@ -121,22 +121,22 @@ mutual
   unit-held above p (seq cs) (in_seq r ds) pl iu h q x k = unit-held_among above p 0 cs r ds pl iu h q x k
   unit-held above p (par cs) (in_par r) pl iu h q x k = unit-held_side_by_side above p 0 cs r pl iu h q x k
   unit-held above p (sel ch) r pl iu h q x k = unit-held_chosen above p 0 ch r pl iu h q x k
-  unit-held above p (loop n c body) (in_loop m d b r) pl iu h q x k = unit-held above (child p 0) body r pl iu h.1 q x k
+  unit-held above p (loop n c body) (in_loop m d b r) pl iu h q x k = unit-held above (child p 0) body r pl iu h.3 q x k
   unit-held above p c done pl iu h q x k = absurd k
   unit-held above p _ _ pl iu h q x k = absurd h
 
-  pub unit-held_below : (needs above : List Name) (p : Place) (w : Task) (r : Rest) → IsPlacedBelow p w → RunsInUnitsBelow needs above w → StandsBelow w r
+  pub unit-held_below : (needs above : List Name) (p : Place) (w : Task) (r : Rest) → IsPlacedBelow p w → RunsInUnitsBelow needs above w → IsRestBelow w r
       → (q : Place) (x : Phase) → Has (facts r) (q, performing x) → Has (needs ++ above) x.unit ⊎ IsHeldAbove (facts r) x.unit q
   unit-held_below needs above p (runs y) r pl iu h q x k = absurd h
   unit-held_below needs above p (follows name c) r pl iu h q x k = unit-held (needs ++ above) (child p 0) c r pl iu h q x k
 
-  pub unit-held_among : (above : List Name) (p : Place) (i : ℕ) (cs : Trees) (r : Rest) (ds : Trees) → ArePlaced p i cs → RunInUnits above cs → StandsAmong cs r ds
+  pub unit-held_among : (above : List Name) (p : Place) (i : ℕ) (cs : Trees) (r : Rest) (ds : Trees) → ArePlaced p i cs → RunInUnits above cs → IsBranch cs r ds
       → (q : Place) (x : Phase) → Has (facts r) (q, performing x) → Has above x.unit ⊎ IsHeldAbove (facts r) x.unit q
   unit-held_among above p i no_trees r ds pl iu h q x k = absurd h
   unit-held_among above p i (tree c cs) r ds pl iu (inl h) q x k = unit-held above (child p i) c r pl.0 iu.0 h.0 q x k
   unit-held_among above p i (tree c cs) r ds pl iu (inr h) q x k = unit-held_among above p (i + 1) cs r ds pl.1 iu.1 h q x k
 
-  pub unit-held_side_by_side : (above : List Name) (p : Place) (i : ℕ) (cs : Trees) (r : Rests) → ArePlaced p i cs → RunSideBySide above cs → StandSideBySide cs r
+  pub unit-held_side_by_side : (above : List Name) (p : Place) (i : ℕ) (cs : Trees) (r : Rests) → ArePlaced p i cs → RunSideBySide above cs → AreBranches cs r
       → (q : Place) (x : Phase) → Has (facts_of_each r) (q, performing x) → Has above x.unit ⊎ IsHeldAbove (facts_of_each r) x.unit q
   unit-held_side_by_side above p i no_trees no_rests pl iu h q x k = absurd k
   unit-held_side_by_side above p i (tree c cs) (rest r more) pl iu h q x k =
@@ -147,7 +147,7 @@ mutual
   unit-held_side_by_side above p i no_trees (rest r more) pl iu h q x k = absurd h
   unit-held_side_by_side above p i (tree c cs) no_rests pl iu h q x k = absurd h
 
-  pub unit-held_chosen : (above : List Name) (p : Place) (i : ℕ) (ch : Choices) (r : Rest) → IsChoicePlaced p i ch → ChoicesRunInUnits above ch → StandsChosen ch r
+  pub unit-held_chosen : (above : List Name) (p : Place) (i : ℕ) (ch : Choices) (r : Rest) → IsChoicePlaced p i ch → ChoicesRunInUnits above ch → IsChosen ch r
       → (q : Place) (x : Phase) → Has (facts r) (q, performing x) → Has above x.unit ⊎ IsHeldAbove (facts r) x.unit q
   unit-held_chosen above p i (otherwise c) r pl iu h q x k = unit-held above (child p i) c r pl iu h q x k
   unit-held_chosen above p i (choice d c ch) r pl iu (inl h) q x k = unit-held above (child p i) c r pl.0 iu.0 h q x k
@@ -182,7 +182,7 @@ Has-shares u q (e ∷ es) (inr k) = let h : 1 ≤ shares u es = Has-shares u q e
 
 mutual
   -- a phase that is live at two places of a batch has two shares of its unit
-  pub twice-held : (above : List Name) (p : Place) (c : Tree) (r : Rest) → IsPlaced p c → RunsInUnits above c → StandsAt c r
+  pub twice-held : (above : List Name) (p : Place) (c : Tree) (r : Rest) → IsPlaced p c → RunsInUnits above c → IsRestOf c r
       → (q o : Place) (x y : Phase) → IsSamePhase x y → (q ≡ o → ⊥) → Has (facts r) (q, performing x) → Has (facts r) (o, performing y) → 2 ≤ shares x.unit (facts r)
   twice-held above p (act s w) (ready u v n) pl iu h q o x y e d k m = absurd (held-performing u.place (take n u.needs) q x k)
   twice-held above p (act s w) (asking u v n) pl iu h q o x y e d k m = absurd (asking-performing u.place (take n u.needs) (slice_get u.needs n) q x k)
@@ -197,22 +197,22 @@ mutual
   twice-held above p (seq cs) (in_seq r ds) pl iu h q o x y e d k m = twice-held_among above p 0 cs r ds pl iu h q o x y e d k m
   twice-held above p (par cs) (in_par r) pl iu h q o x y e d k m = twice-held_side_by_side above p 0 cs r pl iu h q o x y e d k m
   twice-held above p (sel ch) r pl iu h q o x y e d k m = twice-held_chosen above p 0 ch r pl iu h q o x y e d k m
-  twice-held above p (loop n c body) (in_loop i j b r) pl iu h q o x y e d k m = twice-held above (child p 0) body r pl iu h.1 q o x y e d k m
+  twice-held above p (loop n c body) (in_loop i j b r) pl iu h q o x y e d k m = twice-held above (child p 0) body r pl iu h.3 q o x y e d k m
   twice-held above p c done pl iu h q o x y e d k m = absurd k
   twice-held above p _ _ pl iu h q o x y e d k m = absurd h
 
-  pub twice-held_below : (needs above : List Name) (p : Place) (w : Task) (r : Rest) → IsPlacedBelow p w → RunsInUnitsBelow needs above w → StandsBelow w r
+  pub twice-held_below : (needs above : List Name) (p : Place) (w : Task) (r : Rest) → IsPlacedBelow p w → RunsInUnitsBelow needs above w → IsRestBelow w r
       → (q o : Place) (x y : Phase) → IsSamePhase x y → (q ≡ o → ⊥) → Has (facts r) (q, performing x) → Has (facts r) (o, performing y) → 2 ≤ shares x.unit (facts r)
   twice-held_below needs above p (runs z) r pl iu h q o x y e d k m = absurd h
   twice-held_below needs above p (follows name c) r pl iu h q o x y e d k m = twice-held (needs ++ above) (child p 0) c r pl iu h q o x y e d k m
 
-  pub twice-held_among : (above : List Name) (p : Place) (i : ℕ) (cs : Trees) (r : Rest) (ds : Trees) → ArePlaced p i cs → RunInUnits above cs → StandsAmong cs r ds
+  pub twice-held_among : (above : List Name) (p : Place) (i : ℕ) (cs : Trees) (r : Rest) (ds : Trees) → ArePlaced p i cs → RunInUnits above cs → IsBranch cs r ds
       → (q o : Place) (x y : Phase) → IsSamePhase x y → (q ≡ o → ⊥) → Has (facts r) (q, performing x) → Has (facts r) (o, performing y) → 2 ≤ shares x.unit (facts r)
   twice-held_among above p i no_trees r ds pl iu h q o x y e d k m = absurd h
   twice-held_among above p i (tree c cs) r ds pl iu (inl h) q o x y e d k m = twice-held above (child p i) c r pl.0 iu.0 h.0 q o x y e d k m
   twice-held_among above p i (tree c cs) r ds pl iu (inr h) q o x y e d k m = twice-held_among above p (i + 1) cs r ds pl.1 iu.1 h q o x y e d k m
 
-  pub twice-held_side_by_side : (above : List Name) (p : Place) (i : ℕ) (cs : Trees) (r : Rests) → ArePlaced p i cs → RunSideBySide above cs → StandSideBySide cs r
+  pub twice-held_side_by_side : (above : List Name) (p : Place) (i : ℕ) (cs : Trees) (r : Rests) → ArePlaced p i cs → RunSideBySide above cs → AreBranches cs r
       → (q o : Place) (x y : Phase) → IsSamePhase x y → (q ≡ o → ⊥) → Has (facts_of_each r) (q, performing x) → Has (facts_of_each r) (o, performing y) → 2 ≤ shares x.unit (facts_of_each r)
   twice-held_side_by_side above p i no_trees no_rests pl iu h q o x y e d k m = absurd k
   twice-held_side_by_side above p i (tree c cs) (rest r more) pl iu h q o x y e d k m =
@@ -241,7 +241,7 @@ mutual
   twice-held_side_by_side above p i no_trees (rest r more) pl iu h q o x y e d k m = absurd h
   twice-held_side_by_side above p i (tree c cs) no_rests pl iu h q o x y e d k m = absurd h
 
-  pub twice-held_chosen : (above : List Name) (p : Place) (i : ℕ) (ch : Choices) (r : Rest) → IsChoicePlaced p i ch → ChoicesRunInUnits above ch → StandsChosen ch r
+  pub twice-held_chosen : (above : List Name) (p : Place) (i : ℕ) (ch : Choices) (r : Rest) → IsChoicePlaced p i ch → ChoicesRunInUnits above ch → IsChosen ch r
       → (q o : Place) (x y : Phase) → IsSamePhase x y → (q ≡ o → ⊥) → Has (facts r) (q, performing x) → Has (facts r) (o, performing y) → 2 ≤ shares x.unit (facts r)
   twice-held_chosen above p i (otherwise c) r pl iu h q o x y e d k m = twice-held above (child p i) c r pl iu h q o x y e d k m
   twice-held_chosen above p i (choice b c ch) r pl iu (inl h) q o x y e d k m = twice-held above (child p i) c r pl.0 iu.0 h q o x y e d k m

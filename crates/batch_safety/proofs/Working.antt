@@ -19,20 +19,21 @@ use Rattle.batch_model.specs.Records.{scene_of, Waiting, IsWaiting, IsAtOrAbove,
 use Rattle.batch_model.specs.Settled.{IsAdvanced, AreAdvanced}
 use Rattle.batch_recipe.specs.Nodes.{child}
 use Rattle.batch_safety.specs.Facts.{Fact, holding, awaiting, performing, Standing, held_at, awaited_at, facts, facts_of_each, entries}
-use Rattle.batch_safety.specs.Stands.{StandsAt, StandsBelow, StandsAmong, StandSideBySide, StandsChosen}
+use Rattle.batch_model.specs.Standing.{IsRestOf, IsRestBelow, IsBranch, AreBranches, IsChosen}
 use Rattle.batch_model.specs.Placed.{IsPlaced, IsPlacedBelow, ArePlaced, IsChoicePlaced}
 use Rattle.batch_model.specs.Cleared.{Ranking}
 use Rattle.batch_safety.specs.Settlement.{IsHalting, IsAtWork, NobodyWaitsInVain}
 use Rattle.batch_model.proofs.Members.{Has-split, Has-left, Has-right, Each-Has, Each-map}
 use Rattle.batch_safety.proofs.Placing.{acts-below, under}
 use Rattle.batch_safety.proofs.Framing.{at_or_above}
-use Rattle.batch_safety.proofs.Bounding.{IsBounded, AreBounded}
+use Rattle.batch_safety.proofs.Bounding.{IsBounded, AreBounded, rest-bounded}
 use Rattle.batch_safety.proofs.Entries.{Has-holders}
 use Rattle.batch_safety.proofs.Batches.{holders-entries}
 use Rattle.batch_safety.proofs.Invariant.{IsFitting, IsSound, IsKept}
 use Rattle.batch_safety.proofs.Safety.{entry-of, of-entry}
 use Rattle.batch_safety.proofs.Safe.{kept-at_first, kept-along}
 use Rattle.batch_safety.proofs.Settling.{no_act_move, held-to_capacity, short-chain}
+use Rattle.batch_safety.proofs.Invariant.{standing-of}
 
 -- Acts below an open act
 
@@ -66,7 +67,7 @@ mutual
       (Has-split (acts r) (acts_of_each rs) (open_act s q) e)
 
 mutual
-  place-inside : (p : Place) (c : Tree) (r : Rest) → IsPlaced p c → StandsAt c r → (s : Step) (q x : Rest) → Has (acts r) (open_act s q) → Has (acts q) x → IsAtOrAbove s.place (place_of x)
+  place-inside : (p : Place) (c : Tree) (r : Rest) → IsPlaced p c → IsRestOf c r → (s : Step) (q x : Rest) → Has (acts r) (open_act s q) → Has (acts q) x → IsAtOrAbove s.place (place_of x)
   place-inside p (act a w) (ready u v n) pl h s q x (inl e) i = absurd cc
   place-inside p (act a w) (ready u v n) pl h s q x (inr e) i = absurd e
   place-inside p (act a w) (asking u v n) pl h s q x (inl e) i = absurd cc
@@ -82,20 +83,20 @@ mutual
   place-inside p (seq cs) (in_seq r ds) pl h s q x e i = place-inside_among p 0 cs r ds pl h s q x e i
   place-inside p (par cs) (in_par rs) pl h s q x e i = place-inside_side_by_side p 0 cs rs pl h s q x e i
   place-inside p (sel ch) r pl h s q x e i = place-inside_chosen p 0 ch r pl h s q x e i
-  place-inside p (loop n c body) (in_loop m d b r) pl h s q x e i = place-inside (child p 0) body r pl h.1 s q x e i
+  place-inside p (loop n c body) (in_loop m d b r) pl h s q x e i = place-inside (child p 0) body r pl h.3 s q x e i
   place-inside p c done pl h s q x e i = absurd e
   place-inside p _ _ pl h s q x e i = absurd h
 
-  place-inside_below : (p : Place) (w : Task) (r : Rest) → IsPlacedBelow p w → StandsBelow w r → (s : Step) (q x : Rest) → Has (acts r) (open_act s q) → Has (acts q) x → IsAtOrAbove s.place (place_of x)
+  place-inside_below : (p : Place) (w : Task) (r : Rest) → IsPlacedBelow p w → IsRestBelow w r → (s : Step) (q x : Rest) → Has (acts r) (open_act s q) → Has (acts q) x → IsAtOrAbove s.place (place_of x)
   place-inside_below p (runs y) r pl h s q x e i = absurd h
   place-inside_below p (follows name c) r pl h s q x e i = place-inside (child p 0) c r pl h s q x e i
 
-  place-inside_among : (p : Place) (i : ℕ) (cs : Trees) (r : Rest) (ds : Trees) → ArePlaced p i cs → StandsAmong cs r ds → (s : Step) (q x : Rest) → Has (acts r) (open_act s q) → Has (acts q) x → IsAtOrAbove s.place (place_of x)
+  place-inside_among : (p : Place) (i : ℕ) (cs : Trees) (r : Rest) (ds : Trees) → ArePlaced p i cs → IsBranch cs r ds → (s : Step) (q x : Rest) → Has (acts r) (open_act s q) → Has (acts q) x → IsAtOrAbove s.place (place_of x)
   place-inside_among p i no_trees r ds pl h s q x e j = absurd h
   place-inside_among p i (tree c cs) r ds pl (inl h) s q x e j = place-inside (child p i) c r pl.0 h.0 s q x e j
   place-inside_among p i (tree c cs) r ds pl (inr h) s q x e j = place-inside_among p (i + 1) cs r ds pl.1 h s q x e j
 
-  place-inside_side_by_side : (p : Place) (i : ℕ) (cs : Trees) (rs : Rests) → ArePlaced p i cs → StandSideBySide cs rs → (s : Step) (q x : Rest) → Has (acts_of_each rs) (open_act s q) → Has (acts q) x → IsAtOrAbove s.place (place_of x)
+  place-inside_side_by_side : (p : Place) (i : ℕ) (cs : Trees) (rs : Rests) → ArePlaced p i cs → AreBranches cs rs → (s : Step) (q x : Rest) → Has (acts_of_each rs) (open_act s q) → Has (acts q) x → IsAtOrAbove s.place (place_of x)
   place-inside_side_by_side p i no_trees no_rests pl h s q x e j = absurd e
   place-inside_side_by_side p i (tree c cs) (rest r more) pl h s q x e j =
       ⊎_elim (λ m. place-inside (child p i) c r pl.0 h.0 s q x m j) (λ m. place-inside_side_by_side p (i + 1) cs more pl.1 h.1 s q x m j)
@@ -103,7 +104,7 @@ mutual
   place-inside_side_by_side p i no_trees (rest r more) pl h s q x e j = absurd h
   place-inside_side_by_side p i (tree c cs) no_rests pl h s q x e j = absurd h
 
-  place-inside_chosen : (p : Place) (i : ℕ) (ch : Choices) (r : Rest) → IsChoicePlaced p i ch → StandsChosen ch r → (s : Step) (q x : Rest) → Has (acts r) (open_act s q) → Has (acts q) x → IsAtOrAbove s.place (place_of x)
+  place-inside_chosen : (p : Place) (i : ℕ) (ch : Choices) (r : Rest) → IsChoicePlaced p i ch → IsChosen ch r → (s : Step) (q x : Rest) → Has (acts r) (open_act s q) → Has (acts q) x → IsAtOrAbove s.place (place_of x)
   place-inside_chosen p i (otherwise c) r pl h s q x e j = place-inside (child p i) c r pl h s q x e j
   place-inside_chosen p i (choice d c ch) r pl (inl h) s q x e j = place-inside (child p i) c r pl.0 h s q x e j
   place-inside_chosen p i (choice d c ch) r pl (inr h) s q x e j = place-inside_chosen p (i + 1) ch r pl.1 h s q x e j
@@ -322,13 +323,13 @@ module _ (d : Documents) (s : Plant) (b : Batch) (run : b.state ≡ Running) whe
 abbrev LiveUnder : Batch → Place → Type 0
 LiveUnder b q = (p : Step) × (x : Phase) × (t : State) × Has (acts b.rest) (live p x t) × IsAtOrAbove q p.place
 
-module _ (d : Documents) (rank : Ranking) (outs : List Out) (s : Plant) (k : IsKept d rank outs s) (settled : next d s ≡ None) where
+module _ (d : Documents) (rank : Ranking) (outs : List Out) (s : Plant) (sd : IsStanding d s) (k : IsKept d rank outs s) (settled : next d s ≡ None) where
   -- an act that asks stands in line
   asks-in_line : (b : Batch) → Has s.batches b → (h : BatchAct) → b.number ≡ h.0 → (p : Step) (w : Task) (n : ℕ) → Has (acts b.rest) (asking p w n) → IsAtOrAbove h.1 p.place
       → ((v : Waiting) → IsWaiting (scene_of s) v → StandsUnder h v → ⊥) → ⊥
   asks-in_line b i h num p w n j at none =
-      let sound : IsSound d rank b = k.sound b i in
-      let fine = fine-act b.rest sound.advanced sound.bounded (asking p w n) j in
+      let sound : IsSound d rank b = k.sound b i in let here : IsStandingBatch d b = standing-of d s sd b i in
+      let fine = fine-act b.rest here.advanced (rest-bounded b.recipe.procedure b.rest here.stands) (asking p w n) j in
       let r : Name = fine.2.0 in
       none (record { act = (b.number, p.place); resource = r })
       (k.listed r (b.number, p.place) (of-entry s.batches b p.place (awaiting r) i (asking-awaits b.rest p w n r j fine.2.1)))
@@ -341,24 +342,24 @@ module _ (d : Documents) (rank : Ranking) (outs : List Out) (s : Plant) (k : IsK
   runs-on b i run h num (asking p w n) j at none = absurd (asks-in_line b i h num p w n j (at_or_above h.1 p.place (sym at)) none)
   runs-on b i run h num (live p x t) j at none = (p, x, t, j, at_or_above h.1 p.place (sym at))
   runs-on b i run h num (freeing p n) j at none =
-      let sound : IsSound d rank b = k.sound b i in
-      absurd (freeing-moves d s b p n (fine-act b.rest sound.advanced sound.bounded (freeing p n) j).2 (no_act_move d s settled b i (freeing p n) j))
+      let sound : IsSound d rank b = k.sound b i in let here : IsStandingBatch d b = standing-of d s sd b i in
+      absurd (freeing-moves d s b p n (fine-act b.rest here.advanced (rest-bounded b.recipe.procedure b.rest here.stands) (freeing p n) j).2 (no_act_move d s settled b i (freeing p n) j))
   runs-on b i run h num (open_act p r) j at none =
-      let sound : IsSound d rank b = k.sound b i in
-      let fine = fine-act b.rest sound.advanced sound.bounded (open_act p r) j in
+      let sound : IsSound d rank b = k.sound b i in let here : IsStandingBatch d b = standing-of d s sd b i in
+      let fine = fine-act b.rest here.advanced (rest-bounded b.recipe.procedure b.rest here.stands) (open_act p r) j in
       let inside : (a : Rest) → Has (acts r) a → Has (acts b.rest) a = λ a m. acts-inside b.rest p r a j m in
       let under : (a : Rest) → Has (acts r) a → IsAtOrAbove h.1 (place_of a)
-      = λ a m. subst (λ z. IsAtOrAbove z (place_of a)) at (place-inside (0 ∷ []) b.recipe.procedure b.rest sound.cleared.placed sound.stands p r a j m) in
+      = λ a m. subst (λ z. IsAtOrAbove z (place_of a)) at (place-inside (0 ∷ []) b.recipe.procedure b.rest sound.cleared.placed here.stands p r a j m) in
       go r under inside (open-works d s b run p r (no_act_move d s settled b i (open_act p r) j) (is_done r) refl
       (λ e. stuck-works d s b run r fine.1 fine.2 (λ a m. no_act_move d s settled b i a (inside a m)) e))
     where
       go : (r : Rest) → ((a : Rest) → Has (acts r) a → IsAtOrAbove h.1 (place_of a)) → ((a : Rest) → Has (acts r) a → Has (acts b.rest) a) → IsWorking (acts r) → LiveUnder b h.1
       go r under inside (inl w) = (w.0, w.1, w.2, inside (live w.0 w.1 w.2) w.3, under (live w.0 w.1 w.2) w.3)
       go r under inside (inr w) = absurd (asks-in_line b i h num w.0 w.1 w.2 (inside (asking w.0 w.1 w.2) w.3) (under (asking w.0 w.1 w.2) w.3) none)
-  runs-on b i run h num (in_seq r cs) j at none = absurd ((let sound : IsSound d rank b = k.sound b i in fine-act b.rest sound.advanced sound.bounded (in_seq r cs) j).0)
-  runs-on b i run h num (in_par rs) j at none = absurd ((let sound : IsSound d rank b = k.sound b i in fine-act b.rest sound.advanced sound.bounded (in_par rs) j).0)
-  runs-on b i run h num (in_loop n c body r) j at none = absurd ((let sound : IsSound d rank b = k.sound b i in fine-act b.rest sound.advanced sound.bounded (in_loop n c body r) j).0)
-  runs-on b i run h num done j at none = absurd ((let sound : IsSound d rank b = k.sound b i in fine-act b.rest sound.advanced sound.bounded done j).0)
+  runs-on b i run h num (in_seq r cs) j at none = absurd ((let sound : IsSound d rank b = k.sound b i in let here : IsStandingBatch d b = standing-of d s sd b i in fine-act b.rest here.advanced (rest-bounded b.recipe.procedure b.rest here.stands) (in_seq r cs) j).0)
+  runs-on b i run h num (in_par rs) j at none = absurd ((let sound : IsSound d rank b = k.sound b i in let here : IsStandingBatch d b = standing-of d s sd b i in fine-act b.rest here.advanced (rest-bounded b.recipe.procedure b.rest here.stands) (in_par rs) j).0)
+  runs-on b i run h num (in_loop n c body r) j at none = absurd ((let sound : IsSound d rank b = k.sound b i in let here : IsStandingBatch d b = standing-of d s sd b i in fine-act b.rest here.advanced (rest-bounded b.recipe.procedure b.rest here.stands) (in_loop n c body r) j).0)
+  runs-on b i run h num done j at none = absurd ((let sound : IsSound d rank b = k.sound b i in let here : IsStandingBatch d b = standing-of d s sd b i in fine-act b.rest here.advanced (rest-bounded b.recipe.procedure b.rest here.stands) done j).0)
 
   holder-at_work : (h : BatchAct) (r : Name) → Has (entries s.batches) (h, holding r) → ((v : Waiting) → IsWaiting (scene_of s) v → StandsUnder h v → ⊥) → IsAtWork s h
   holder-at_work h r e none =
@@ -411,10 +412,10 @@ placed-trees rs h = Each-map (λ r. IsProcedure r.procedure) (λ r. IsPlaced (0 
 
 pub nobody_waits_in_vain : NobodyWaitsInVain
 nobody_waits_in_vain cell d rank kept cleared es outs t l settled =
-    let k : IsKept d rank outs t = kept-along d rank (cleared-down cell d rank kept cleared) [] opening (kept-at_first d rank) es outs t l in
+    let k : IsKept d rank outs t = kept-along d rank (cleared-down cell d rank kept cleared) [] opening (opening-stands d) (kept-at_first d rank) es outs t l in
     let stands : IsStanding d t = leads-stands d (placed-trees d.recipes kept.procedures) opening t es outs (opening-stands d) l in
     record {
-      held = held-to_capacity d rank outs t k settled;
-      short = λ ls h. short-chain d rank outs t k ls cell.resources h (λ m i. waiting-known cell d rank outs t cleared stands k m.waiting (each-waits t ls h m i));
-      ends = ends-at_work d rank outs t k settled;
+      held = held-to_capacity d rank outs t stands k settled;
+      short = λ ls h. short-chain d rank outs t stands k ls cell.resources h (λ m i. waiting-known cell d rank outs t cleared stands k m.waiting (each-waits t ls h m i));
+      ends = ends-at_work d rank outs t stands k settled;
     }

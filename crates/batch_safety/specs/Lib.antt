@@ -1,5 +1,4 @@
 pub mod Facts
-pub mod Stands
 pub mod ClearedDown
 pub mod Procedures
 pub mod Premises
