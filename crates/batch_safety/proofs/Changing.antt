@@ -6,7 +6,7 @@ use Rattle.batch_matrix.specs.declared.state.State.{State}
 use Rattle.batch_model.specs.Lists.{Has}
 use Rattle.batch_recipe.specs.Conditions.{Name, ValueList}
 use Rattle.batch_recipe.specs.Tree.{Place, Phase}
-use Rattle.batch_model.specs.Rest.{Rest, acts, advance, changed_at}
+use Rattle.batch_model.specs.Rest.{Rest, advance, changed_at}
 use Rattle.batch_model.specs.Plant.{Documents, Batch, BatchAct, Plant, place_of}
 use Rattle.batch_model.specs.Runs.{Out}
 use Rattle.batch_model.specs.Records.{without, holders_after, holders_told, waiters_after, waiters_told, Active, active_after, active_told, state_after, state_told}

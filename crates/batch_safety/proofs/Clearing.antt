@@ -1,19 +1,19 @@
 -- Clearance over all nodes makes clearance on the way down.
-use Rattle.std.proofs.Common.{◌≡◌, ◌⊎◌, refl, sym, ◌∙◌, ap, subst, ℕ, suc, ◌+◌, ◌<◌, arith, List, [], ◌∷◌, ◌++◌, map, Bool, true, false, IsTrue, inl, inr, bytes_eq}
+use Rattle.std.proofs.Common.{◌≡◌, refl, sym, ◌∙◌, ap, subst, ℕ, ◌+◌, ◌<◌, arith, List, [], ◌∷◌, ◌++◌, Bool, true, false, IsTrue, inl, inr, bytes_eq}
 use Rattle.std.proofs.lemmas.Slice.Eq.{bytes_eq-Decides}
 use Rattle.batch_recipe.specs.Conditions.{Name, same_name}
-use Rattle.batch_recipe.specs.Nodes.{Node, child, nodes}
+use Rattle.batch_recipe.specs.Nodes.{Node, child}
 use Rattle.batch_recipe.specs.Tree.{Place, Phase, Task, runs, follows, Tree, act, skip, seq, par, sel, loop, Trees, no_trees, tree, Choices, otherwise, choice}
 use Rattle.batch_recipe.specs.WellFormed.{is_among}
 use Rattle.batch_model.specs.Lists.{Has, Each}
 use Rattle.batch_model.specs.Plant.{Recipe, Documents}
 use Rattle.batch_model.specs.Cleared.{Cell, Ranking, Level, is_procedure, in_procedure, in_unit_procedure, in_operation, below, Part, parts, parts_within, parts_of_each, parts_of_choices, procedure_parts, phases, phases_within, phases_of_each, phases_of_choices, RunApart, BranchesRunApart, RiseStrictly, BeginsWithUnit, IsClear, IsClearedRecipe, IsCleared}
-use Rattle.batch_model.proofs.Members.{Has-left, Has-right, Has-split, Each-Has, Each-map, Each-append}
+use Rattle.batch_model.proofs.Members.{Has-right, Has-split, Each-Has, Each-map, Each-append}
 use Rattle.batch_model.proofs.Parts.{parts-nodes}
-use Rattle.batch_safety.specs.Procedures.{AllowsPar, IsOfLevel, IsActOf, AreOfLevel, AreChoicesOf, HasLevels, IsProcedure}
+use Rattle.batch_safety.specs.Procedures.{IsOfLevel, IsActOf, AreOfLevel, AreChoicesOf, HasLevels, IsProcedure}
 use Rattle.batch_safety.specs.Premises.{AreDocuments}
 use Rattle.batch_safety.specs.ClearedDown.{RunsInUnits, RunsInUnitsBelow, RunInUnits, RunSideBySide, ChoicesRunInUnits, AreApart, IsOfferedPhase, IsClearedDown, AreClearedDown}
-use Rattle.batch_safety.proofs.Members.{Has-Each, Each-left, Each-right, Each-image}
+use Rattle.batch_safety.proofs.Members.{Each-left, Each-right, Each-image}
 use Rattle.batch_safety.proofs.Ways.{paths-down}
 
 -- Phases run on the unit of their unit procedure
@@ -152,9 +152,9 @@ module _ (cell : Cell) (d : Documents) (rank : Ranking) where
     in-unit_procedure_each unit p asked above i no_trees k h c = tt
     in-unit_procedure_each unit p asked above i (tree t ts) k h c = (
       in-unit_procedure unit (child p i) asked above t k h.0
-        (Each-left Clear (parts in_unit_procedure (child p i) asked t) (parts_of_each in_unit_procedure p asked (i + 1) ts) c),
+          (Each-left Clear (parts in_unit_procedure (child p i) asked t) (parts_of_each in_unit_procedure p asked (i + 1) ts) c),
       in-unit_procedure_each unit p asked above (i + 1) ts k h.1
-        (Each-right Clear (parts in_unit_procedure (child p i) asked t) (parts_of_each in_unit_procedure p asked (i + 1) ts) c),
+          (Each-right Clear (parts in_unit_procedure (child p i) asked t) (parts_of_each in_unit_procedure p asked (i + 1) ts) c),
     )
 
     in-unit_procedure_choices : (unit : Name) (p : Place) (asked above : List Name) (i : ℕ) (cs : Choices) → Has above unit → AreChoicesOf in_unit_procedure unit cs
@@ -162,9 +162,9 @@ module _ (cell : Cell) (d : Documents) (rank : Ranking) where
     in-unit_procedure_choices unit p asked above i (otherwise t) k h c = in-unit_procedure unit (child p i) asked above t k h c
     in-unit_procedure_choices unit p asked above i (choice q t cs) k h c = (
       in-unit_procedure unit (child p i) asked above t k h.0
-        (Each-left Clear (parts in_unit_procedure (child p i) asked t) (parts_of_choices in_unit_procedure p asked (i + 1) cs) c),
+          (Each-left Clear (parts in_unit_procedure (child p i) asked t) (parts_of_choices in_unit_procedure p asked (i + 1) cs) c),
       in-unit_procedure_choices unit p asked above (i + 1) cs k h.1
-        (Each-right Clear (parts in_unit_procedure (child p i) asked t) (parts_of_choices in_unit_procedure p asked (i + 1) cs) c),
+          (Each-right Clear (parts in_unit_procedure (child p i) asked t) (parts_of_choices in_unit_procedure p asked (i + 1) cs) c),
     )
 
   -- In a procedure: the unit of each phase is asked for below what the procedure needs, so it isn't among that
@@ -246,8 +246,7 @@ module _ (cell : Cell) (d : Documents) (rank : Ranking) where
         → Each Clear (parts_of_each in_procedure p asked i ts) → RunSideBySide above ts
     in-procedure_branches unit p asked above i no_trees k h c = tt
     in-procedure_branches unit p asked above i (tree t ts) k h c =
-        let here = Each-left Clear (parts in_procedure (child p i) asked t) (parts_of_each in_procedure p asked (i + 1) ts) c in
-        (
+        let here = Each-left Clear (parts in_procedure (child p i) asked t) (parts_of_each in_procedure p asked (i + 1) ts) c in (
           in-procedure unit (child p i) asked above t k h.0 here,
           branches-elsewhere asked above (phases t) (phases_of_each ts) k (elsewhere unit (child p i) asked t h.0 here),
           in-procedure_branches unit p asked above (i + 1) ts k h.1 (Each-right Clear (parts in_procedure (child p i) asked t) (parts_of_each in_procedure p asked (i + 1) ts) c),

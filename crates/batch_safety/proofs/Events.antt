@@ -10,7 +10,6 @@ use Rattle.batch_recipe.specs.Conditions.{Name, ValueList}
 use Rattle.batch_recipe.specs.Tree.{Place, Phase}
 use Rattle.batch_model.specs.Rest.{withdrawn}
 use Rattle.batch_model.specs.Plant.{Recipe, Documents, Batch, BatchAct, Plant, in_batch}
-use Rattle.batch_model.specs.Moves.{next}
 use Rattle.batch_model.specs.Events.{Refusal, created, ordered, removed, refused, command_not_accepted, not_idle, Answer, new_batch, with_batch, with_outputs_zero, reset, stopped, commanded, lines_under, ordering, without_batch, removing}
 use Rattle.batch_model.specs.Runs.{Out, reply}
 use Rattle.batch_model.specs.Records.{holders_after, waiters_after, Active, active_after, ends_phase, state_after}
@@ -21,7 +20,7 @@ use Rattle.batch_model.proofs.Members.{Has-split}
 use Rattle.batch_safety.proofs.Members.{map-Has}
 use Rattle.batch_safety.proofs.Reaching.{reach-facts, is_kept, withdrawn-facts}
 use Rattle.batch_safety.proofs.Entries.{Agrees, Has-filter, filter-Has, nat_same, nat_self, nat_differs, holders-append}
-use Rattle.batch_safety.proofs.Batches.{NumbersDiffer, Has-only, below-next, only, only-hit, only-miss, same-batch}
+use Rattle.batch_safety.proofs.Batches.{Has-only, below-next, only, only-hit, only-miss, same-batch}
 use Rattle.batch_safety.proofs.Invariant.{IsFitting, NothingAwaited, IsSound, IsKept}
 use Rattle.batch_safety.proofs.Safety.{entry-of, of-entry}
 use Rattle.batch_safety.proofs.Changing.{changed_plant, kept-after, told-holders, told-waiters, told-active, told-state}

@@ -7,18 +7,17 @@ use Rattle.batch_recipe.specs.Diagram.{Diagram, Diagrams, Cases, diagram_of}
 use Rattle.batch_recipe.specs.Tree.{Place, Tree, skip}
 use Rattle.batch_recipe.specs.Nodes.{child}
 use Rattle.batch_recipe.specs.Expanding.{expanded, expanded_each, expanded_cases, unit_below, asked_by, task_of, act_named, act_tree, named_tree}
-use Rattle.batch_recipe.specs.Procedure.{tables_from, procedure_tree}
-use Rattle.batch_recipe.specs.WellFormed.{has_unit, has_chart, has_no_par, follows_no_par, is_work, act_names, are_kinds, is_well_formed}
+use Rattle.batch_recipe.specs.Procedure.{tables_from}
+use Rattle.batch_recipe.specs.WellFormed.{has_unit, has_chart, has_no_par, follows_no_par, is_work, act_names}
 use Rattle.batch_recipe.specs.declared.act.Act.{Act}
 use Rattle.batch_recipe.specs.declared.act.Work.{Work}
 use Rattle.batch_recipe.specs.declared.act.Work.TheVariants.{Follows, Runs}
-use Rattle.batch_recipe.specs.declared.acts.Acts.{Acts}
 use Rattle.batch_recipe.specs.declared.acts.Level.TheVariants.{UnitProcedures}
 use Rattle.batch_model.specs.Lists.{Has}
 use Rattle.batch_model.specs.Cleared.{Level, in_procedure, in_unit_procedure, in_operation}
 use Rattle.batch_model.proofs.Members.{find-Has}
 use Rattle.batch_model.proofs.Placed.{procedure_tree-IsPlaced}
-use Rattle.batch_safety.specs.Procedures.{AllowsPar, IsOfLevel, IsActOf, AreOfLevel, AreChoicesOf, HasLevels, IsProcedure, TreesAreProcedures}
+use Rattle.batch_safety.specs.Procedures.{AllowsPar, IsOfLevel, IsActOf, AreOfLevel, AreChoicesOf, HasLevels, TreesAreProcedures}
 
 both : (a b : Bool) → (a && b) ≡ true → (a ≡ true) × (b ≡ true)
 both true b e = (refl, e)
@@ -154,6 +153,6 @@ trees_are_procedures acts values kinds formed =
           procedure-level (named_tree (tables_from acts (Some UnitProcedures)))
           (unit_procedures-level acts.phases.items kind.1 acts.operations.items kind.0 acts.unit_procedures.items unit_kind.0
           (λ u h. (both (is_work (act_names acts.operations.items) values u) (follows_no_par u)
-            (list_all-Has (λ u. is_work (act_names acts.operations.items) values u && follows_no_par u) acts.unit_procedures.items unit_work.0 u h)).1))
+          (list_all-Has (λ u. is_work (act_names acts.operations.items) values u && follows_no_par u) acts.unit_procedures.items unit_work.0 u h)).1))
           acts.procedure (0 ∷ []) acts.procedure.unit acts.procedure.work procedure_kind.0;
     }

@@ -1,18 +1,18 @@
 -- The next move keeps what is kept.
-use Rattle.std.proofs.Common.{◌≡◌, refl, sym, ◌∙◌, ap, subst, ℕ, List, [], ◌∷◌, Bool, true, false, ◌&&◌, Option, Some, None, inl, inr, nat_eq, filter_map}
+use Rattle.std.proofs.Common.{◌≡◌, refl, sym, subst, ℕ, List, [], ◌∷◌, Bool, true, false, ◌&&◌, Option, Some, None, inl, inr, nat_eq, filter_map}
 use Rattle.batch_matrix.specs.declared.state.State.{State}
 use Rattle.batch_matrix.specs.declared.state.State.TheVariants.{Idle, Running, Pausing, Paused, Holding, Held, Restarting, Stopping, Stopped, Aborting, Aborted, Complete}
-use Rattle.std.specs.List.{cons_option}
 use Rattle.batch_matrix.specs.Matrix.{ends_as}
 use Rattle.batch_model.specs.Lists.{Has}
 use Rattle.batch_recipe.specs.Tree.{Place}
 use Rattle.batch_model.specs.Rest.{Rest, acts}
 use Rattle.batch_model.specs.Plant.{Documents, Batch, Plant, held_in}
-use Rattle.batch_model.specs.Moves.{after, Move, state, is_quiet, is_empty, is_reached, is_earlier, act_move, state_move, batch_moves, possible, least, next, batch_after}
+use Rattle.batch_model.specs.Moves.{after, Move, state, is_quiet, is_empty, is_reached, act_move, state_move, batch_moves, next, batch_after}
 use Rattle.batch_model.specs.Runs.{Out, move}
 use Rattle.batch_safety.specs.Facts.{Standing, facts}
 use Rattle.batch_model.specs.Cleared.{Ranking}
-use Rattle.batch_model.proofs.Members.{Has-flat_map}
+use Rattle.batch_model.proofs.Falling.{next-possible}
+use Rattle.batch_model.proofs.Members.{Has-filter_map, Has-flat_map}
 use Rattle.batch_safety.proofs.Reaching.{done-facts}
 use Rattle.batch_safety.proofs.Entries.{nat_self, nat_differs}
 use Rattle.batch_safety.proofs.Invariant.{IsFitting, IsSound, IsKept}
@@ -73,28 +73,6 @@ some_move m l e = cc
 no_move : (l : Move) → ◌≡◌ {A = Option Move} None (Some l) → ⊥
 no_move l e = cc
 
-Has-filter_map : {X Y : Type 0} (h : X → Option Y) (xs : List X) (y : Y) → Has (filter_map h xs) y → (x : X) × Has xs x × (h x ≡ Some y)
-Has-filter_map {X = X} {Y = Y} h [] y m = absurd m
-Has-filter_map {X = X} {Y = Y} h (x ∷ xs) y m = go (h x) refl m (Has-filter_map h xs y)
-  where
-    go : (o : Option Y) → h x ≡ o → Has (cons_option o (filter_map h xs)) y → (Has (filter_map h xs) y → (z : X) × Has xs z × (h z ≡ Some y)) → (z : X) × Has (x ∷ xs) z × (h z ≡ Some y)
-    go None e m f = let k = f m in (k.0, inr k.1, k.2)
-    go (Some w) e (inl q) f = (x, inl refl, e ∙ ap Some q)
-    go (Some w) e (inr n) f = let k = f n in (k.0, inr k.1, k.2)
-
-least-Has : (ms : List Move) (x : Move) → least ms ≡ Some x → Has ms x
-least-Has [] x e = absurd (no_move x e)
-least-Has (m ∷ ms) x e = go (least ms) refl (least-Has ms) e
-  where
-    pick : (l : Move) (t : Bool) → Has ms l → ◌≡◌ {A = Option Move} (elim t [ true ↦ Some l | false ↦ Some m ]) (Some x) → Has (m ∷ ms) x
-    pick l true h q = inr (subst (Has ms) (some_move l x q) h)
-    pick l false h q = inl (some_move m x q)
-
-    go : (o : Option Move) → least ms ≡ o → ((l : Move) → least ms ≡ Some l → Has ms l)
-        → ◌≡◌ {A = Option Move} (elim o [ None ↦ Some m | Some l ↦ elim (is_earlier l m) [ true ↦ Some l | false ↦ Some m ] ]) (Some x) → Has (m ∷ ms) x
-    go None p f q = inl (some_move m x q)
-    go (Some l) p f q = pick l (is_earlier l m) (f l p) q
-
 module _ (d : Documents) (rank : Ranking) (outs : List Out) (s : Plant) (sd : IsStanding d s) (k : IsKept d rank outs s) where
   state-step : (b : Batch) → Has s.batches b → (m : Move) → state_move b ≡ Some m → Stepped d rank outs s m
   state-step b i m e = go (is_reached b.state b.rest) refl e
@@ -131,5 +109,5 @@ module _ (d : Documents) (rank : Ranking) (outs : List Out) (s : Plant) (sd : Is
 
   pub move-step : (m : Move) → next d s ≡ Some m → IsStanding d (after s m) → Stepped d rank outs s m
   move-step m e td =
-      let b = Has-flat_map (batch_moves d s) s.batches m (least-Has (possible d s) m e) in
+      let b = Has-flat_map (batch_moves d s) s.batches m (next-possible d s m e) in
       batch-step b.0 b.1 m b.2 td

@@ -2,8 +2,7 @@
 use Rattle.std.specs.Prelude.{◌≡◌, ◌⊎◌, ◌≤◌, List, [], ◌∷◌, ◌++◌, length, None, ⊤}
 use Rattle.batch_matrix.specs.declared.state.State.{State}
 use Rattle.batch_matrix.specs.declared.state.State.TheVariants.{Pausing, Paused, Holding, Held, Restarting, Stopping, Aborting}
-use Rattle.batch_model.specs.Lists.{Has, Each}
-use Rattle.batch_recipe.specs.Conditions.{Name}
+use Rattle.batch_model.specs.Lists.{Has}
 use Rattle.batch_recipe.specs.Tree.{Step, Phase}
 use Rattle.batch_model.specs.Rest.{live, acts}
 use Rattle.batch_model.specs.Plant.{Documents, Batch, BatchAct, Plant, opening, holders}
