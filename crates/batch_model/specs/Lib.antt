@@ -12,6 +12,7 @@ pub mod Standing
 pub mod Placed
 pub mod Laws
 pub mod Cleared
+pub mod Recipes
 pub mod RowDocuments
 pub mod RowParts
 pub mod RowsOfMoves

@@ -4,11 +4,11 @@ use Rattle.std.specs.List.{list_all}
 use Rattle.batch_recipe.specs.Conditions.{Name}
 use Rattle.batch_recipe.specs.Diagram as chart
 use Rattle.batch_recipe.specs.Diagram.{Diagram, Diagrams, Cases, diagram_of}
-use Rattle.batch_recipe.specs.Tree.{Place, Tree, skip}
+use Rattle.batch_recipe.specs.Tree.{Place, Tree, act, skip}
 use Rattle.batch_recipe.specs.Nodes.{child}
 use Rattle.batch_recipe.specs.Expanding.{expanded, expanded_each, expanded_cases, unit_below, asked_by, task_of, act_named, act_tree, named_tree}
 use Rattle.batch_recipe.specs.Procedure.{tables_from}
-use Rattle.batch_recipe.specs.WellFormed.{has_unit, has_chart, has_no_par, follows_no_par, is_work, act_names}
+use Rattle.batch_recipe.specs.WellFormed.{has_unit, has_chart, has_no_par, follows_no_par, is_work, act_names, value_names}
 use Rattle.batch_recipe.specs.declared.act.Act.{Act}
 use Rattle.batch_recipe.specs.declared.act.Work.{Work}
 use Rattle.batch_recipe.specs.declared.act.Work.TheVariants.{Follows, Runs}
@@ -17,7 +17,7 @@ use Rattle.batch_model.specs.Lists.{Has}
 use Rattle.batch_model.specs.Cleared.{Level, in_procedure, in_unit_procedure, in_operation}
 use Rattle.batch_model.proofs.Members.{find-Has}
 use Rattle.batch_model.proofs.Placed.{procedure_tree-IsPlaced}
-use Rattle.batch_safety.specs.Procedures.{AllowsPar, IsOfLevel, IsActOf, AreOfLevel, AreChoicesOf, HasLevels, TreesAreProcedures}
+use Rattle.batch_safety.specs.Procedures.{AllowsPar, IsOfLevel, IsActOf, AreOfLevel, AreChoicesOf, HasLevels, IsProcedure, TreesAreProcedures, RecipesAreProcedures}
 
 both : (a b : Bool) → (a && b) ≡ true → (a ≡ true) × (b ≡ true)
 both true b e = (refl, e)
@@ -100,7 +100,7 @@ unit_procedure-level acts named above unit name p (Some own) needs (Follows c) e
 unit_procedure-level acts named above unit name p (Some own) needs (Runs phase values) e n = absurd cc
 
 procedure-level : (acts : Name → Name → Place → Tree) → ((unit name : Name) (p : Place) → IsOfLevel in_procedure [] (acts unit name p)) → (a : Act) (p : Place) (o : Option Name) (w : Work)
-    → (not (some_unit o) && some_chart w) ≡ true → HasLevels (Rattle.batch_recipe.specs.Tree.act (record { place = p; needs = asked_by o a.needs.items }) (task_of (acts (unit_below [] o)) (unit_below [] o) a.name p w))
+    → (not (some_unit o) && some_chart w) ≡ true → HasLevels (act (record { place = p; needs = asked_by o a.needs.items }) (task_of (acts (unit_below [] o)) (unit_below [] o) a.name p w))
 procedure-level acts named a p None (Follows c) e = expanded-level in_procedure [] (acts []) (named []) (child p 0) (diagram_of c) (λ q. tt)
 procedure-level acts named a p None (Runs phase values) e = absurd cc
 procedure-level acts named a p (Some own) w e = absurd cc
@@ -156,3 +156,8 @@ trees_are_procedures acts values kinds formed =
           (list_all-Has (λ u. is_work (act_names acts.operations.items) values u && follows_no_par u) acts.unit_procedures.items unit_work.0 u h)).1))
           acts.procedure (0 ∷ []) acts.procedure.unit acts.procedure.work procedure_kind.0;
     }
+
+pub recipes_are_procedures : RecipesAreProcedures
+recipes_are_procedures [] = tt
+recipes_are_procedures (r ∷ documents) =
+    (trees_are_procedures r.acts (value_names r.inputs.items r.parameters.items r.outputs.items) r.kinds r.well_formed, recipes_are_procedures documents)

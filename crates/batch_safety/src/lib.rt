@@ -1,39 +1,42 @@
-//! The machine is safe: laws over its definitions. What cleared recipes can lead to stands in `specs/`.
+//! The machine is safe: what a cleared set of recipes can lead to, as laws over the definitions of batch_model.
 //!
-//! Nothing runs here. The functions are empty: their contracts are laws of the definitions.
+//! Nothing runs here. The functions are empty: their contracts are the laws.
 #![tactic(auto)]
 
 ghost use Rattle.batch_safety.specs.Example.{PremisesCanBeMet};
 ghost use Rattle.batch_safety.specs.Headline.{CanOnlyBeSafe};
-ghost use Rattle.batch_safety.specs.Procedures.{TreesAreProcedures};
+ghost use Rattle.batch_safety.specs.Procedures.{RecipesAreProcedures, TreesAreProcedures};
 ghost use Rattle.batch_safety.specs.Settlement.{NobodyWaitsInVain};
 ghost use Rattle.batch_safety.specs.Telling.{TellsThePlant};
 ghost use Rattle.batch_safety.specs.Ways.{WaysRise};
+
+/// Every record that a cleared set of recipes leads to is safe after each of its lines, whatever the events and however far
+/// the moves that they make possible have been made.
+pub fn records_are_safe()
+    ensures { CanOnlyBeSafe }
+{}
+
+/// Where no move is possible, each step in line waits for a resource that is held to its capacity, no chain has more waiting
+/// steps than the cell has resources, and where a chain can't be continued its last holder is at work.
+pub fn nobody_waits_in_vain()
+    ensures { NobodyWaitsInVain }
+{}
+
+/// Such a record tells just who holds, asks for and runs what in the plant that it leads to, and the state of each batch.
+pub fn records_tell_the_plant()
+    ensures { TellsThePlant }
+{}
 
 /// Ranks rise along the path of each node, as the rules of clearance say, exactly where they rise on the way down.
 pub fn ways_rise()
     ensures { WaysRise }
 {}
 
-/// Such a record tells just who holds, asks for and runs what in the plant that it leads to.
-pub fn records_tell_the_plant()
-    ensures { TellsThePlant }
-{}
-
-/// Where no move is possible, each step in line waits for a resource that is held to its capacity, and every chain
-/// of waiting steps ends in work.
-pub fn nobody_waits_in_vain()
-    ensures { NobodyWaitsInVain }
-{}
-
-/// Every record that a cleared set of documents leads to is safe after each of its lines.
-pub fn records_are_safe()
-    ensures { CanOnlyBeSafe }
-{}
-
-/// The expanded tree of every recipe has the levels of a procedure: each phase runs on the unit of its unit procedure.
+/// The expanded tree of every recipe has the levels of a procedure: each phase runs on the unit of its unit procedure, which
+/// that asks for first.
 pub fn trees_have_units()
-    ensures { TreesAreProcedures }
+    ensures trees { TreesAreProcedures }
+    ensures recipes { RecipesAreProcedures }
 {}
 
 /// There are documents that meet the premises of these laws.
