@@ -1,7 +1,7 @@
 -- Worked rows: which recipes are cleared.
-use Rattle.std.specs.Prelude.{ℕ, List, [], ◌∷◌, true, false, codes}
-use Rattle.batch_recipe.specs.Conditions.{Name, same_name}
-use Rattle.batch_recipe.specs.Diagram.{Diagram, label, skip, par, loop, diagrams_of}
+use Rattle.std.specs.Prelude.{List, [], ◌∷◌, true, false, codes}
+use Rattle.batch_recipe.specs.Conditions.{same_name}
+use Rattle.batch_recipe.specs.Diagram.{label, skip, par, loop, diagrams_of}
 use Rattle.batch_model.specs.Plant.{Recipe, Documents}
 use Rattle.batch_model.specs.RowDocuments.{r1, r2, hdr, steam, add, make, charge, Entry, phase_step, chart_act, recipe_with, recipe_with_x, add_step, making, x_above_0, recipe_p, recipe_q, recipe_j, cell, narrow_cell}
 use Rattle.batch_model.specs.Cleared.{Cell, Ranking, IsCleared, CanBeCleared}

@@ -17,7 +17,7 @@ use Rattle.batch_model.specs.Lists.{Has}
 use Rattle.batch_model.specs.Cleared.{Level, in_procedure, in_unit_procedure, in_operation}
 use Rattle.batch_model.proofs.Members.{find-Has}
 use Rattle.batch_model.proofs.Placed.{procedure_tree-IsPlaced}
-use Rattle.batch_safety.specs.Procedures.{AllowsPar, IsOfLevel, IsActOf, AreOfLevel, AreChoicesOf, HasLevels, IsProcedure, TreesAreProcedures, RecipesAreProcedures}
+use Rattle.batch_safety.specs.Procedures.{AllowsPar, IsOfLevel, IsActOf, AreOfLevel, AreChoicesOf, HasLevels, TreesAreProcedures, RecipesAreProcedures}
 
 both : (a b : Bool) → (a && b) ≡ true → (a ≡ true) × (b ≡ true)
 both true b e = (refl, e)
