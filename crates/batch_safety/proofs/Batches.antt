@@ -7,7 +7,7 @@ use Rattle.batch_recipe.specs.Conditions.{Name}
 use Rattle.batch_recipe.specs.Tree.{Place}
 use Rattle.batch_model.specs.Rest.{Rest, ready, asking, open_act, live, freeing, in_seq, in_par, in_loop, done, Rests, no_rests, rest, acts, acts_of_each, changed_at}
 use Rattle.batch_model.specs.Plant.{Batch, BatchAct, Plant, place_of, held_by, holders}
-use Rattle.batch_safety.specs.Facts.{performing, Standing, held_at, awaited_at, facts, facts_of_each, Entry, entry, entries_of, entries, holders_among}
+use Rattle.batch_safety.proofs.Facts.{performing, Standing, held_at, awaited_at, facts, facts_of_each, Entry, entry, entries_of, entries, holders_among}
 use Rattle.batch_model.proofs.Members.{Has-split, Has-flat_map}
 use Rattle.batch_safety.proofs.Members.{Has-map}
 use Rattle.batch_safety.proofs.Framing.{Frame, regroup}

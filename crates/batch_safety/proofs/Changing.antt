@@ -10,9 +10,9 @@ use Rattle.batch_model.specs.Rest.{Rest, advance, changed_at}
 use Rattle.batch_model.specs.Plant.{Documents, Batch, BatchAct, Plant, place_of}
 use Rattle.batch_model.specs.Runs.{Out}
 use Rattle.batch_model.specs.Records.{without, holders_after, holders_told, waiters_after, waiters_told, Active, active_after, active_told, state_after, state_told}
-use Rattle.batch_safety.specs.Facts.{Fact, holding, awaiting, performing, Standing, held_at, facts, Entry, entry, entries, holders_among}
+use Rattle.batch_safety.proofs.Facts.{Fact, holding, awaiting, performing, Standing, held_at, facts, Entry, entry, entries, holders_among}
 use Rattle.batch_model.specs.Cleared.{Ranking}
-use Rattle.batch_safety.specs.ClearedDown.{IsClearedDown}
+use Rattle.batch_safety.proofs.ClearedDown.{IsClearedDown}
 use Rattle.batch_model.proofs.Members.{Has-split, Has-left, Has-right}
 use Rattle.batch_safety.proofs.Members.{Has-map}
 use Rattle.batch_safety.proofs.Ranking.{holding-performing, holding-awaiting}

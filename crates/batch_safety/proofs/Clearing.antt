@@ -12,7 +12,7 @@ use Rattle.batch_model.proofs.Members.{Has-right, Has-split, Each-Has, Each-map,
 use Rattle.batch_model.proofs.Parts.{parts-nodes}
 use Rattle.batch_safety.specs.Procedures.{IsOfLevel, IsActOf, AreOfLevel, AreChoicesOf, HasLevels, IsProcedure}
 use Rattle.batch_safety.specs.Premises.{AreDocuments}
-use Rattle.batch_safety.specs.ClearedDown.{RunsInUnits, RunsInUnitsBelow, RunInUnits, RunSideBySide, ChoicesRunInUnits, AreApart, IsOfferedPhase, IsClearedDown, AreClearedDown}
+use Rattle.batch_safety.proofs.ClearedDown.{RunsInUnits, RunsInUnitsBelow, RunInUnits, RunSideBySide, ChoicesRunInUnits, AreApart, IsOfferedPhase, IsClearedDown, AreClearedDown}
 use Rattle.batch_safety.proofs.Members.{Each-left, Each-right, Each-image}
 use Rattle.batch_safety.proofs.Ways.{paths-down}
 

@@ -7,7 +7,7 @@ use Rattle.batch_model.specs.Lists.{Has}
 use Rattle.batch_recipe.specs.Conditions.{Name}
 use Rattle.batch_model.specs.Plant.{BatchAct, is_same_act}
 use Rattle.batch_model.specs.Records.{without}
-use Rattle.batch_safety.specs.Facts.{holding, awaiting, performing, Entry, holder_of, holders_among}
+use Rattle.batch_safety.proofs.Facts.{holding, awaiting, performing, Entry, holder_of, holders_among}
 use Rattle.batch_model.proofs.Members.{Has-split, Has-left, Has-right}
 
 pub nat_same : (m n : ℕ) → nat_eq m n ≡ true → m ≡ n

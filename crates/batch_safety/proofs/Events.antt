@@ -13,9 +13,9 @@ use Rattle.batch_model.specs.Plant.{Recipe, Documents, Batch, BatchAct, Plant, i
 use Rattle.batch_model.specs.Events.{Refusal, created, ordered, removed, refused, command_not_accepted, not_idle, Answer, new_batch, with_batch, with_outputs_zero, reset, stopped, commanded, lines_under, ordering, without_batch, removing}
 use Rattle.batch_model.specs.Runs.{Out, reply}
 use Rattle.batch_model.specs.Records.{holders_after, waiters_after, Active, active_after, ends_phase, state_after}
-use Rattle.batch_safety.specs.Facts.{holding, awaiting, performing, Standing, facts, Entry, entry, entries_of, entries, holder_of, holders_among}
+use Rattle.batch_safety.proofs.Facts.{holding, awaiting, performing, Standing, facts, Entry, entry, entries_of, entries, holder_of, holders_among}
 use Rattle.batch_model.specs.Cleared.{Ranking}
-use Rattle.batch_safety.specs.ClearedDown.{IsClearedDown}
+use Rattle.batch_safety.proofs.ClearedDown.{IsClearedDown}
 use Rattle.batch_model.proofs.Members.{Has-split}
 use Rattle.batch_safety.proofs.Members.{map-Has}
 use Rattle.batch_safety.proofs.Reaching.{reach-facts, is_kept, withdrawn-facts}

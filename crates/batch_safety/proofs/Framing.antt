@@ -8,11 +8,11 @@ use Rattle.batch_model.specs.Rest.{Rest, ready, asking, open_act, live, freeing,
 use Rattle.batch_model.specs.Plant.{place_of}
 use Rattle.batch_recipe.specs.Nodes.{child}
 use Rattle.batch_model.specs.Records.{IsAtOrAbove}
-use Rattle.batch_safety.specs.Facts.{Standing, held_at, facts, facts_of_each}
+use Rattle.batch_safety.proofs.Facts.{Standing, held_at, facts, facts_of_each}
 use Rattle.batch_model.specs.Standing.{IsRestOf, IsRestBelow, IsBranch, AreBranches, IsChosen}
 use Rattle.batch_model.specs.Placed.{IsPlaced, IsPlacedBelow, ArePlaced, IsChoicePlaced}
 use Rattle.batch_model.specs.Cleared.{Ranking}
-use Rattle.batch_safety.specs.ClearedDown.{Rises, last_rank, RisesDown, RisesBelow, RiseDown, ChoicesRiseDown}
+use Rattle.batch_safety.specs.Ways.{Rises, last_rank, RisesDown, RisesBelow, RiseDown, ChoicesRiseDown}
 use Rattle.batch_model.proofs.Members.{Has-split, Has-left, Has-right}
 use Rattle.batch_safety.proofs.Placing.{IsUnderChild, IsUnderLater, under_child, facts-under, facts-side_by_side, acts-under, acts-below, acts-side_by_side, children_apart, not_above_itself, held-place}
 

@@ -9,9 +9,9 @@ use Rattle.batch_model.specs.Plant.{Documents, Batch, BatchAct, Plant}
 use Rattle.batch_model.specs.Moves.{is_running}
 use Rattle.batch_model.specs.Runs.{Out}
 use Rattle.batch_model.specs.Records.{holders_told, waiters_told, Active, active_told, state_told, IsAtRest}
-use Rattle.batch_safety.specs.Facts.{awaiting, performing, Standing, facts, entries, holders_among}
+use Rattle.batch_safety.proofs.Facts.{awaiting, performing, Standing, facts, entries, holders_among}
 use Rattle.batch_model.specs.Cleared.{Ranking}
-use Rattle.batch_safety.specs.ClearedDown.{IsClearedDown}
+use Rattle.batch_safety.proofs.ClearedDown.{IsClearedDown}
 use Rattle.batch_safety.proofs.Entries.{Agrees}
 use Rattle.batch_safety.proofs.Batches.{NumbersDiffer}
 use Rattle.batch_model.specs.Standing.{IsStandingBatch, AreNumbered, IsStanding}

@@ -11,7 +11,7 @@ use Rattle.batch_model.specs.Moves.{start, ask, grant, release, line_after, is_r
 use Rattle.batch_model.specs.Events.{reported}
 use Rattle.batch_model.specs.Runs.{Out, move, reply}
 use Rattle.batch_model.specs.Records.{without, holders_after, holders_told, waiters_after, Active, active_after, active_told, state_after, ends_phase}
-use Rattle.batch_safety.specs.Facts.{holding, awaiting, performing, held_at, facts, Entry, entry, entries_of, entries, holders_among}
+use Rattle.batch_safety.proofs.Facts.{holding, awaiting, performing, held_at, facts, Entry, entry, entries_of, entries, holders_among}
 use Rattle.batch_model.specs.Cleared.{Ranking}
 use Rattle.batch_model.proofs.Members.{Has-split, Has-left, Has-right}
 use Rattle.batch_safety.proofs.Ranking.{same_awaiting, holding-awaiting, holding-performing, awaiting-performing}

@@ -1,3 +1,5 @@
+pub mod Facts
+pub mod ClearedDown
 pub mod Members
 pub mod Reaching
 pub mod Placing

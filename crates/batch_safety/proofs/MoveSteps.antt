@@ -12,7 +12,7 @@ use Rattle.batch_model.specs.Plant.{Documents, Batch, Plant, in_act, place_of, h
 use Rattle.batch_model.specs.Moves.{Move, send, release, begin, start, end, ask, grant, is_running, is_stopping, is_stopped, is_quiet, is_empty, passed_on, entering, giving_back, when, is_served, act_move, freed, sent, released, begun, ended, asked, granted, batch_after, after, handed_values}
 use Rattle.batch_model.specs.Runs.{Out, move}
 use Rattle.batch_model.specs.Records.{StartsIdle}
-use Rattle.batch_safety.specs.Facts.{holding, awaiting, performing, Standing, held_at, awaited_at, facts, Entry, entries, holders_among}
+use Rattle.batch_safety.proofs.Facts.{holding, awaiting, performing, Standing, held_at, awaited_at, facts, Entry, entries, holders_among}
 use Rattle.batch_model.specs.Cleared.{Ranking}
 use Rattle.batch_model.proofs.Members.{Has-right}
 use Rattle.batch_safety.proofs.Reaching.{reach-facts, done-facts}

@@ -9,7 +9,7 @@ use Rattle.batch_model.specs.Rest.{Rest, acts}
 use Rattle.batch_model.specs.Plant.{Documents, Batch, Plant, held_in}
 use Rattle.batch_model.specs.Moves.{after, Move, state, is_quiet, is_empty, is_reached, act_move, state_move, batch_moves, next, batch_after}
 use Rattle.batch_model.specs.Runs.{Out, move}
-use Rattle.batch_safety.specs.Facts.{Standing, facts}
+use Rattle.batch_safety.proofs.Facts.{Standing, facts}
 use Rattle.batch_model.specs.Cleared.{Ranking}
 use Rattle.batch_model.proofs.Falling.{next-possible}
 use Rattle.batch_model.proofs.Members.{Has-filter_map, Has-flat_map}
@@ -47,7 +47,7 @@ both false b e = absurd cc
 same_some : (x y : State) → ◌≡◌ {A = Option State} (Some x) (Some y) → x ≡ y
 same_some x y e = cc
 
-nothing_left : (r : Rest) → (is_quiet r && is_empty (held_in r)) ≡ true → ((p : Place) (x : _) → Has (facts r) (p, Rattle.batch_safety.specs.Facts.awaiting x) → ⊥) → facts r ≡ []
+nothing_left : (r : Rest) → (is_quiet r && is_empty (held_in r)) ≡ true → ((p : Place) (x : _) → Has (facts r) (p, Rattle.batch_safety.proofs.Facts.awaiting x) → ⊥) → facts r ≡ []
 nothing_left r e h =
     let q = both (is_quiet r) (is_empty (held_in r)) e in
     no_facts (facts r) h (quiet-performs_nothing r q.0) (holding-nothing r q.1)

@@ -7,7 +7,7 @@ use Rattle.batch_model.specs.Rest.{Rest, ready, asking, open_act, live, freeing,
 use Rattle.batch_model.specs.Plant.{place_of}
 use Rattle.batch_recipe.specs.Nodes.{child}
 use Rattle.batch_model.specs.Records.{IsAtOrAbove}
-use Rattle.batch_safety.specs.Facts.{holding, performing, Standing, held_at, awaited_at, facts, facts_of_each}
+use Rattle.batch_safety.proofs.Facts.{holding, performing, Standing, held_at, awaited_at, facts, facts_of_each}
 use Rattle.batch_model.specs.Standing.{IsRestOf, IsRestBelow, IsBranch, AreBranches, IsChosen}
 use Rattle.batch_model.specs.Placed.{IsPlaced, IsPlacedBelow, ArePlaced, IsChoicePlaced}
 use Rattle.batch_model.proofs.Members.{Has-split}

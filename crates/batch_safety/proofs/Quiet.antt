@@ -8,7 +8,7 @@ use Rattle.batch_recipe.specs.Tree.{Place, Step, Phase}
 use Rattle.batch_model.specs.Rest.{Rest, ready, asking, open_act, live, freeing, in_seq, in_par, in_loop, done, Rests, no_rests, rest, acts, acts_of_each}
 use Rattle.batch_model.specs.Plant.{held_by, held_in, phase_states}
 use Rattle.batch_model.specs.Moves.{is_quiet, is_empty, is_stopping}
-use Rattle.batch_safety.specs.Facts.{holding, awaiting, performing, Standing, held_at, awaited_at, facts, facts_of_each}
+use Rattle.batch_safety.proofs.Facts.{holding, awaiting, performing, Standing, held_at, awaited_at, facts, facts_of_each}
 use Rattle.batch_model.proofs.Members.{Has-split, Has-left, Has-right}
 use Rattle.batch_safety.proofs.Members.{flat_map-Has}
 use Rattle.batch_safety.proofs.Ranking.{held-holding, held-performing, awaited-holding, awaited-performing, lone-holding}

@@ -5,7 +5,7 @@ use Rattle.batch_recipe.specs.Conditions.{Name, ValueList, holds}
 use Rattle.batch_recipe.specs.declared.condition.Cond.{Cond}
 use Rattle.batch_recipe.specs.Tree.{Place, Tree, act, skip, seq, par, sel, loop, Trees, no_trees, tree, Choices, otherwise, choice}
 use Rattle.batch_model.specs.Rest.{Rest, ready, asking, open_act, live, freeing, in_seq, in_par, in_loop, done, Rests, no_rests, rest, is_done, all_done, joined, turning, reach, reach_first, reach_each, reach_chosen, turned, advance, advance_each, withdrawn, withdrawn_each}
-use Rattle.batch_safety.specs.Facts.{holding, awaiting, performing, Standing, held_at, awaited_at, facts, facts_of_each}
+use Rattle.batch_safety.proofs.Facts.{holding, awaiting, performing, Standing, held_at, awaited_at, facts, facts_of_each}
 
 pub done-facts : (r : Rest) → is_done r ≡ true → facts r ≡ []
 done-facts done e = refl

@@ -16,9 +16,9 @@ use Rattle.batch_model.specs.Moves.{Move, ended, next}
 use Rattle.batch_model.specs.Events.{Event, create, order, remove, report, Reply, reported, refused, unknown_recipe, unknown_batch, no_live_phase, report_not_expected, bad_output, bad_size, bad_value, full, moves_pending, no_memory, is_full, creating, with_values, ordering, removing, LivePhase, live_in, live_phase, are_outputs, now, batch_state_after, batch_reported, reporting, judged, react}
 use Rattle.batch_model.specs.Runs.{Out, reply, Reacts}
 use Rattle.batch_model.specs.Records.{Active, active_after, ends_phase}
-use Rattle.batch_safety.specs.Facts.{Standing, held_at, facts}
+use Rattle.batch_safety.proofs.Facts.{Standing, held_at, facts}
 use Rattle.batch_model.specs.Cleared.{Ranking}
-use Rattle.batch_safety.specs.ClearedDown.{IsClearedDown, AreClearedDown}
+use Rattle.batch_safety.proofs.ClearedDown.{IsClearedDown, AreClearedDown}
 use Rattle.batch_model.proofs.Members.{Each-Has}
 use Rattle.batch_safety.proofs.Invariant.{IsFitting, IsKept}
 use Rattle.batch_safety.proofs.Changing.{changed_plant, IsChange, change-facts, change-sound}

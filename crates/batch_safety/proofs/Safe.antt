@@ -14,7 +14,7 @@ use Rattle.batch_model.proofs.Led.{opening-stands, reacts-stands}
 use Rattle.batch_model.specs.Runs.{Out, move, reply, Leads}
 use Rattle.batch_model.specs.Records.{StartsIdle, IsSafeNow, IsSafe}
 use Rattle.batch_model.specs.Cleared.{Ranking}
-use Rattle.batch_safety.specs.ClearedDown.{IsClearedDown, AreClearedDown}
+use Rattle.batch_safety.proofs.ClearedDown.{IsClearedDown, AreClearedDown}
 use Rattle.batch_safety.proofs.Invariant.{IsKept}
 use Rattle.batch_safety.proofs.Safety.{safe-now}
 use Rattle.batch_safety.proofs.Starting.{starts-nothing}

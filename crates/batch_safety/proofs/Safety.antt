@@ -6,7 +6,7 @@ use Rattle.batch_recipe.specs.Tree.{Place}
 use Rattle.batch_model.specs.Plant.{Documents, Batch, BatchAct, Plant}
 use Rattle.batch_model.specs.Runs.{Out}
 use Rattle.batch_model.specs.Records.{holders_told, waiters_told, state_told, IsAtRest, scene_told, Waiting, IsWaiting, IsAtOrAbove, PointsTo, PointAlong, HasCapacity, HoldsUnits, StartsIdle, HasNoCircle, RestsEmpty, IsSafeNow}
-use Rattle.batch_safety.specs.Facts.{Fact, holding, awaiting, performing, Standing, facts, entry, entries_of, entries}
+use Rattle.batch_safety.proofs.Facts.{Fact, holding, awaiting, performing, Standing, facts, entry, entries_of, entries}
 use Rattle.batch_model.specs.Cleared.{Ranking}
 use Rattle.batch_model.proofs.Members.{Has-flat_map}
 use Rattle.batch_safety.proofs.Members.{Has-map, map-Has, flat_map-Has, Has-Each}

@@ -9,7 +9,7 @@ use Rattle.batch_model.specs.Plant.{Documents, Batch, BatchAct, Plant, is_same_a
 use Rattle.batch_model.specs.Moves.{Move, grant, act_move, state_move, batch_moves, possible, least, next, is_earlier, is_served, when}
 use Rattle.batch_model.specs.Runs.{Out}
 use Rattle.batch_model.specs.Records.{scene_of, Waiting, IsWaiting, Link, IsLink, IsChain, StandsUnder}
-use Rattle.batch_safety.specs.Facts.{awaiting, performing, held_at, awaited_at, facts, facts_of_each, entries, holders_among}
+use Rattle.batch_safety.proofs.Facts.{awaiting, performing, held_at, awaited_at, facts, facts_of_each, entries, holders_among}
 use Rattle.batch_model.specs.Cleared.{Ranking}
 use Rattle.batch_model.proofs.Members.{Has-split, Has-left, Has-right}
 use Rattle.batch_safety.proofs.Members.{flat_map-Has}

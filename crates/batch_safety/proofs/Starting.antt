@@ -8,9 +8,9 @@ use Rattle.batch_model.specs.Plant.{Documents, Batch, BatchAct, Plant}
 use Rattle.batch_model.specs.Moves.{start}
 use Rattle.batch_model.specs.Runs.{Out, move}
 use Rattle.batch_model.specs.Records.{active_told, StartsIdle, IsOnUnit}
-use Rattle.batch_safety.specs.Facts.{holding, awaiting, performing, Standing, facts, entry, entries_of, entries, holder_of, holders_among}
+use Rattle.batch_safety.proofs.Facts.{holding, awaiting, performing, Standing, facts, entry, entries_of, entries, holder_of, holders_among}
 use Rattle.batch_model.specs.Cleared.{Ranking, phases}
-use Rattle.batch_safety.specs.ClearedDown.{IsOfferedPhase}
+use Rattle.batch_safety.proofs.ClearedDown.{IsOfferedPhase}
 use Rattle.batch_model.proofs.Members.{Each-Has}
 use Rattle.batch_safety.proofs.Members.{Has-Each}
 use Rattle.batch_safety.proofs.Units.{share, shares, performed-phase, unit-held, twice-held}

@@ -8,8 +8,8 @@ use Rattle.batch_model.specs.Plant.{Documents, Plant, opening}
 use Rattle.batch_model.specs.Events.{Event}
 use Rattle.batch_model.proofs.Led.{opening-stands}
 use Rattle.batch_model.specs.Runs.{Out, Leads}
-use Rattle.batch_safety.specs.ClearedDown.{AreClearedDown}
-use Rattle.batch_safety.specs.Facts.{performing, Standing, held_at, awaited_at, facts, facts_of_each, entries, awaiting}
+use Rattle.batch_safety.proofs.ClearedDown.{AreClearedDown}
+use Rattle.batch_safety.proofs.Facts.{performing, Standing, held_at, awaited_at, facts, facts_of_each, entries, awaiting}
 use Rattle.batch_model.specs.Cleared.{Ranking}
 use Rattle.batch_safety.specs.Telling.{IsTold}
 use Rattle.batch_model.proofs.Members.{Has-split, Has-left, Has-right}

@@ -5,8 +5,7 @@ use Rattle.batch_recipe.specs.Conditions.{Name}
 use Rattle.batch_recipe.specs.Nodes.{Node, child, nodes, nodes_within, nodes_of_each, nodes_of_choices}
 use Rattle.batch_recipe.specs.Tree.{Place, Task, runs, follows, Tree, act, skip, seq, par, sel, loop, Trees, no_trees, tree, Choices, otherwise, choice}
 use Rattle.batch_model.specs.Cleared.{Ranking, RiseStrictly}
-use Rattle.batch_safety.specs.ClearedDown.{Rises, last_rank, RisesDown, RisesBelow, RiseDown, ChoicesRiseDown}
-use Rattle.batch_safety.specs.Ways.{WaysRise}
+use Rattle.batch_safety.specs.Ways.{Rises, last_rank, RisesDown, RisesBelow, RiseDown, ChoicesRiseDown, WaysRise}
 use Rattle.batch_model.proofs.Members.{Each-append, Each-map}
 use Rattle.batch_safety.proofs.Members.{Each-left, Each-right}
 

@@ -1,5 +1,3 @@
-pub mod Facts
-pub mod ClearedDown
 pub mod Procedures
 pub mod Premises
 pub mod Headline

@@ -6,42 +6,7 @@ use Rattle.batch_recipe.specs.Tree.{Phase, Task, runs, follows, Tree, act, skip,
 use Rattle.batch_model.specs.Placed.{IsPlaced}
 use Rattle.batch_model.specs.Plant.{Documents, Recipe}
 use Rattle.batch_model.specs.Cleared.{Ranking, phases, phases_of_each}
-
--- The ranks of what is asked for
-
--- the ranks of the names rise strictly, from above low
-abbrev pub Rises : Ranking → ℕ → List Name → Type 0
-Rises rank low [] = ⊤
-Rises rank low (r ∷ rs) = (low < rank r) × Rises rank (rank r) rs
-
--- the rank of the last of the names, or low where there are none
-abbrev pub last_rank : Ranking → ℕ → List Name → ℕ
-last_rank rank low [] = low
-last_rank rank low (r ∷ rs) = last_rank rank (rank r) rs
-
-abbrev mutual
-  -- along every path down, the needs have strictly rising ranks, from above low
-  pub RisesDown : Ranking → ℕ → Tree → Type 0
-  RisesDown rank low (act s w) = Rises rank low s.needs × RisesBelow rank (last_rank rank low s.needs) w
-  RisesDown rank low skip = ⊤
-  RisesDown rank low (seq cs) = RiseDown rank low cs
-  RisesDown rank low (par cs) = RiseDown rank low cs
-  RisesDown rank low (sel ch) = ChoicesRiseDown rank low ch
-  RisesDown rank low (loop n c body) = RisesDown rank low body
-
-  pub RisesBelow : Ranking → ℕ → Task → Type 0
-  RisesBelow rank low (runs x) = ⊤
-  RisesBelow rank low (follows name c) = RisesDown rank low c
-
-  pub RiseDown : Ranking → ℕ → Trees → Type 0
-  RiseDown rank low no_trees = ⊤
-  RiseDown rank low (tree c cs) = RisesDown rank low c × RiseDown rank low cs
-
-  pub ChoicesRiseDown : Ranking → ℕ → Choices → Type 0
-  ChoicesRiseDown rank low (otherwise c) = RisesDown rank low c
-  ChoicesRiseDown rank low (choice d c ch) = RisesDown rank low c × ChoicesRiseDown rank low ch
-
--- The phases
+use Rattle.batch_safety.specs.Ways.{RisesDown}
 
 abbrev pub IsOfferedPhase : Documents → Phase → Type 0
 IsOfferedPhase d x = IsTrue (d.offers x.unit x.name)
