@@ -1,5 +1,5 @@
 -- Clearance, by recursion down the trees, as the proofs use it.
-use Rattle.std.specs.Prelude.{◌≡◌, ℕ, suc, ◌<◌, List, [], ◌∷◌, ◌++◌, IsTrue, ⊤}
+use Rattle.std.specs.Prelude.{◌≡◌, suc, List, [], ◌∷◌, ◌++◌, IsTrue, ⊤}
 use Rattle.batch_model.specs.Lists.{Has, Each}
 use Rattle.batch_recipe.specs.Conditions.{Name}
 use Rattle.batch_recipe.specs.Tree.{Phase, Task, runs, follows, Tree, act, skip, seq, par, sel, loop, Trees, no_trees, tree, Choices, otherwise, choice}
