@@ -1,0 +1,3 @@
+pub mod Resources
+pub mod Positions
+pub mod OfferedPhases

@@ -1,0 +1,2 @@
+pub mod Equipment
+pub mod LookUps

@@ -1,0 +1,14 @@
+//! The process cell: its units, equipment modules and shared resources, and what is looked up in them.
+#![tactic(auto)]
+
+mod cell;
+mod look_ups;
+mod module;
+mod phases;
+mod shared;
+mod unit;
+
+pub use cell::{Cell, MAX_MODULES, MAX_SHARED, MAX_UNITS};
+pub use module::{MAX_PHASES, Module};
+pub use shared::{MAX_CAPACITY, Shared};
+pub use unit::Unit;

@@ -1,0 +1,18 @@
+//! Shared resources.
+ghost use Rattle.std.specs.Prelude.{◌<◌, ◌≤◌};
+ghost use Rattle.batch_cell.specs.declared.shared.TheConstants.{MAX_CAPACITY};
+
+use batch_text::Name;
+
+/// The greatest capacity of a shared resource.
+pub const MAX_CAPACITY: u32 = 1000;
+
+/// A shared resource, which stands outside the units.
+#[derive(Debug, Drop)]
+pub struct Shared {
+    pub name: Name,
+    /// How many steps may hold the resource at once.
+    pub capacity: u32,
+    ghost some: { 0 < capacity },
+    ghost few: { capacity ≤ MAX_CAPACITY },
+}
