@@ -1,0 +1,72 @@
+-- The items of an array, one for one with the values that they say.
+use Rattle.std.proofs.Common.{◌≡◌, ℕ, ◌+◌, ◌<◌, List, [], ◌∷◌, ◌++◌, map, length, take, get_or, Some, None, refl, zero, suc, arith}
+use Rattle.std.proofs.lemmas.List.{take_more}
+use Rattle.toml.specs.Data.{Data, Members, Items, no_items, item, as_table}
+use Rattle.toml.specs.View.{view, items_view}
+use Rattle.toml.specs.declared.value.Value.{Value}
+use Rattle.batch_reader.specs.Entries.{AllItems, IsTableOf, HasTables, items_at}
+
+-- one more item, and the value that it says
+AllItems-push : {X : Type 0} (R : Data → X → Type 0) (vs : List Value) (xs : List X) (v : Value) (x : X)
+    → AllItems R (items_view vs) xs → R (view v) x → AllItems R (items_view (vs ++ v ∷ [])) (xs ++ x ∷ [])
+AllItems-push R [] [] v x h here = (here, tt)
+AllItems-push R [] (y ∷ ys) v x h here = absurd h
+AllItems-push R (w ∷ vs) [] v x h here = absurd h
+AllItems-push R (w ∷ vs) (y ∷ ys) v x h here = (h.0, AllItems-push R vs ys v x h.1 here)
+
+-- one more turn of a loop over the items
+pub AllItems-turn : {X : Type 0} (R : Data → X → Type 0) (vs : List Value) (xs : List X) (i : ℕ) (d : Value) (x : X)
+    → i < length vs → AllItems R (items_view (take i vs)) xs → R (view (get_or vs i d)) x
+    → AllItems R (items_view (take (i + 1) vs)) (xs ++ x ∷ [])
+AllItems-turn R vs xs i d x below h here =
+    rw (take_more vs i d below) (AllItems-push R (take i vs) xs (get_or vs i d) x h here)
+
+-- an item that says nothing
+pub AllItems_refused : {X : Type 0} (R : Data → X → Type 0) (vs : List Value) (i : ℕ) (d : Value)
+    → i < length vs → ((x : X) → R (view (get_or vs i d)) x → ⊥) → (xs : List X) → AllItems R (items_view vs) xs → ⊥
+AllItems_refused R [] i d below none xs h = omega arith
+AllItems_refused R (v ∷ vs) i d below none [] h = h
+AllItems_refused R (v ∷ vs) zero d below none (x ∷ xs) h = none x h.0
+AllItems_refused R (v ∷ vs) (suc i) d below none (x ∷ xs) h = AllItems_refused R vs i d (omega arith) none xs h.1
+
+-- where an item says one thing at most, as far as f sees it, so do all items
+pub AllItems_same : {X Y : Type 0} (R : Data → X → Type 0) (f : X → Y) → ((d : Data) (x y : X) → R d x → R d y → f x ≡ f y)
+    → (items : Items) (xs ys : List X) → AllItems R items xs → AllItems R items ys → map f xs ≡ map f ys
+AllItems_same R f one no_items [] [] h k = refl
+AllItems_same R f one no_items [] (y ∷ ys) h k = absurd k
+AllItems_same R f one no_items (x ∷ xs) ys h k = absurd h
+AllItems_same R f one (item d ds) [] ys h k = absurd h
+AllItems_same R f one (item d ds) (x ∷ xs) [] h k = absurd k
+AllItems_same R f one (item d ds) (x ∷ xs) (y ∷ ys) h k =
+    let first : f x ≡ f y = one d x y h.0 k.0 in
+    let rest : map f xs ≡ map f ys = AllItems_same R f one ds xs ys h.1 k.1 in
+    cc (first, rest)
+
+-- where an item of the array says nothing, the tables stand for no values
+pub HasTables_refused : {X : Type 0} (R : Members → X → Type 0) (key : List ℕ) (ms : Members) (vs : List Value) (i : ℕ) (d : Value)
+    → items_at key ms ≡ Some (items_view vs) → i < length vs → ((x : X) → IsTableOf R (view (get_or vs i d)) x → ⊥)
+    → (values : List X) → HasTables R key ms values → ⊥
+HasTables_refused {X} R key ms vs i d found below none values h =
+    let same : h.items ≡ items_view vs = cc (h.found, found) in
+    AllItems_refused (IsTableOf R) vs i d below none values (rw same at h.tables)
+
+-- an item that is no table stands for nothing
+pub IsTableOf_none : {X : Type 0} (R : Members → X → Type 0) (d : Data) → None ≡ as_table d → (x : X) → IsTableOf R d x → ⊥
+IsTableOf_none R d none x h = cc (none, h.is_table)
+
+-- a table that stands for nothing
+pub IsTableOf_refused : {X : Type 0} (R : Members → X → Type 0) (d : Data) (ms : Members) → Some ms ≡ as_table d
+    → ((x : X) → R ms x → ⊥) → (x : X) → IsTableOf R d x → ⊥
+IsTableOf_refused R d ms is_table none x h =
+    let same : h.members ≡ ms = cc (is_table, h.is_table) in
+    none x (rw same at h.stands_for)
+
+-- where a table stands for one value at most, as far as f sees it, so do the tables of an array
+pub HasTables_same : {X Y : Type 0} (R : Members → X → Type 0) (f : X → Y) → ((ms : Members) (x y : X) → R ms x → R ms y → f x ≡ f y)
+    → (key : List ℕ) (ms : Members) (xs ys : List X) → HasTables R key ms xs → HasTables R key ms ys → map f xs ≡ map f ys
+HasTables_same R f one key ms xs ys h k =
+    let same : h.items ≡ k.items = cc (h.found, k.found) in
+    AllItems_same (IsTableOf R) f (λ d x y a b.
+    let table : a.members ≡ b.members = cc (a.is_table, b.is_table) in
+    one b.members x y (rw table at a.stands_for) b.stands_for)
+    k.items xs ys (rw same at h.tables) k.tables

@@ -1,0 +1,5 @@
+pub mod Keys
+pub mod Items
+pub mod Distinct
+pub mod CellNames
+pub mod OneCell

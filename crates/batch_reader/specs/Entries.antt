@@ -1,0 +1,57 @@
+-- What the entries of a table say.
+use Rattle.std.specs.Prelude.{◌≡◌, ℕ, ◌≤◌, pos, Bool, true, ◌&&◌, ⊤, List, [], ◌∷◌, Option, Some, option_and_then, nat_eq}
+use Rattle.std.specs.Cmp.Lexicographic.{pointwise}
+use Rattle.std.specs.List.{list_any}
+use Rattle.std.specs.Option.{option_map_or}
+use Rattle.toml.specs.Data.{Data, Items, no_items, item, Members, no_members, member, get_member, as_str, as_integer, as_array, as_table}
+use Rattle.batch_text.specs.NameText.{IsName}
+
+-- each key of the table is one of these
+abbrev pub has_only_keys : List (List ℕ) → Members → Bool
+has_only_keys known no_members = true
+has_only_keys known (member key d ms) = list_any (λ word. pointwise nat_eq word key) known && has_only_keys known ms
+
+-- the value is a text, which is the name
+pub record IsNameItem (d : Data) (name : List ℕ) : Type 0 where
+  pub text : as_str d ≡ Some name
+  pub valid : IsName name
+
+-- the key has a text, which is the name
+pub record HasName (key : List ℕ) (ms : Members) (name : List ℕ) : Type 0 where
+  pub text : option_and_then as_str (get_member key ms) ≡ Some name
+  pub valid : IsName name
+
+-- the key has the number, which is in range
+pub record HasNumber (key : List ℕ) (ms : Members) (low high number : ℕ) : Type 0 where
+  pub integer : option_and_then as_integer (get_member key ms) ≡ Some (pos number)
+  pub at_least : low ≤ number
+  pub at_most : number ≤ high
+
+-- the items say the values, one for one and in order
+abbrev pub AllItems : {X : Type 0} → (Data → X → Type 0) → Items → List X → Type 0
+AllItems R no_items [] = ⊤
+AllItems R no_items (x ∷ xs) = ⊥
+AllItems R (item d ds) [] = ⊥
+AllItems R (item d ds) (x ∷ xs) = R d x × AllItems R ds xs
+
+-- the key has a list of texts, which are the names
+pub record HasNames (key : List ℕ) (ms : Members) (names : List (List ℕ)) : Type 0 where
+  pub items : Items
+  pub found : option_and_then as_array (get_member key ms) ≡ Some items
+  pub listed : AllItems IsNameItem items names
+
+-- the items of the array at a key, none where the key is missing
+abbrev pub items_at : List ℕ → Members → Option Items
+items_at key ms = option_map_or as_array (get_member key ms) (Some no_items)
+
+-- the item is a table that stands for x
+pub record IsTableOf {X : Type 0} (R : Members → X → Type 0) (d : Data) (x : X) : Type 0 where
+  pub members : Members
+  pub is_table : as_table d ≡ Some members
+  pub stands_for : R members x
+
+-- the tables at the key stand for the values, one for one and in order
+pub record HasTables {X : Type 0} (R : Members → X → Type 0) (key : List ℕ) (ms : Members) (values : List X) : Type 0 where
+  pub items : Items
+  pub found : items_at key ms ≡ Some items
+  pub tables : AllItems (IsTableOf R) items values

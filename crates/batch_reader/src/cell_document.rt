@@ -1,0 +1,72 @@
+//! Cell documents.
+ghost use Rattle.std.specs.Prelude.{◌≡◌, ◌≢◌, IfOk, IfErr, IsErrOf, IsSome, IsUtf8};
+ghost use Rattle.toml.specs.Parse.{parse_document};
+ghost use Rattle.toml.specs.View.{table_view};
+ghost use Rattle.batch_cell.specs.declared.cell.Cell.{Cell};
+ghost use Rattle.batch_reader.specs.CellDocument.{IsCellTable, IsCellDocument};
+
+use crate::entries::{has_only_keys, name_at};
+use crate::equipment::{Indexes, index_equipment};
+use crate::fault::{DocFault, EntryFault, Spot, TableFault, TableKind};
+use crate::tables::tables_at;
+use batch_cell::{Cell, Module, Shared, Unit};
+use std::alloc::Global;
+use toml::Table;
+
+/// The longest document, in bytes.
+pub const MAX_DOCUMENT_LEN: usize = 1_048_576;
+
+const TOP: Spot = Spot {
+    kind: TableKind::Cell,
+    entry: 0,
+};
+
+/// Reads a cell document.
+pub fn read_cell(alloc: Global, bytes: &[u8]) -> Result<Cell, DocFault>
+    ensures ok { IfOk result (IsCellDocument bytes.now) }
+    ensures not_toml { IsErrOf result DocFault.NotToml → ¬ (IsUtf8 bytes.now × IsSome (parse_document bytes.now)) }
+    ensures refused { IfErr result (λ fault. fault ≢ DocFault.Memory
+        → (cell : Cell) → ¬ (IsCellDocument bytes.now cell)) }
+{
+    if bytes.len() > MAX_DOCUMENT_LEN {
+        return Err(DocFault::Entry(TOP, EntryFault::OutOfLimit));
+    }
+    let table = match toml::table_from_slice(alloc, bytes) {
+        Ok(table) => table,
+        Err(error) => {
+            return Err(if error.is_memory() {
+                DocFault::Memory
+            } else {
+                DocFault::NotToml
+            });
+        }
+    };
+    match cell_from_table(alloc, &table) {
+        Ok(cell) => Ok(cell),
+        Err(TableFault::Entry(spot, fault)) => Err(DocFault::Entry(spot, fault)),
+        Err(TableFault::Memory) => Err(DocFault::Memory),
+    }
+}
+
+fn cell_from_table(alloc: Global, table: &Table) -> Result<Cell, TableFault>
+    ensures ok { IfOk result (IsCellTable (table_view table.now)) }
+    ensures refused { IfErr result (λ fault. fault ≢ TableFault.Memory
+        → (cell : Cell) → ¬ (IsCellTable (table_view table.now) cell)) }
+{
+    if !has_only_keys(table, &["cell", "unit", "module", "shared"]) {
+        return Err(TableFault::Entry(TOP, EntryFault::UnknownKey));
+    }
+    let name = name_at(alloc, table, "cell", TOP)?;
+    let units = tables_at::<Unit>(alloc, table, "unit", TableKind::Unit)?;
+    let modules = tables_at::<Module>(alloc, table, "module", TableKind::Module)?;
+    let shared = tables_at::<Shared>(alloc, table, "shared", TableKind::Shared)?;
+    let Indexes { names, offered } = index_equipment(alloc, &units, &modules, &shared)?;
+    Ok(Cell {
+        name,
+        units,
+        modules,
+        shared,
+        names,
+        offered,
+    })
+}

@@ -1,0 +1,91 @@
+//! The tables of a cell document.
+ghost use Rattle.std.specs.Prelude.{◌≡◌, ◌≢◌, None, codes, IfOk, IfErr, IsSome};
+ghost use Rattle.toml.specs.Data.{get_member};
+ghost use Rattle.toml.specs.View.{table_view};
+ghost use Rattle.batch_cell.specs.declared.module.Module.{Module};
+ghost use Rattle.batch_reader.specs.CellDocument.{IsUnitTable, IsModuleTable, IsSharedTable};
+
+use crate::entries::{has_only_keys, member, name_at, names_at, number_at};
+use crate::fault::{EntryFault, Spot, TableFault};
+use crate::tables::FromTable;
+use batch_cell::{MAX_CAPACITY, MAX_PHASES, Module, Shared, Unit};
+use std::alloc::Global;
+use toml::Table;
+
+impl FromTable for Unit {
+    ghost stands_for = { IsUnitTable };
+
+    fn from_table(alloc: Global, table: &Table, spot: Spot) -> Result<Unit, TableFault> {
+        if !has_only_keys(table, &["name"]) {
+            return Err(TableFault::Entry(spot, EntryFault::UnknownKey));
+        }
+        let name = name_at(alloc, table, "name", spot)?;
+        Ok(Unit { name })
+    }
+}
+
+impl FromTable for Module {
+    ghost stands_for = { IsModuleTable };
+
+    fn from_table(alloc: Global, table: &Table, spot: Spot) -> Result<Module, TableFault> {
+        match member(table, "unit") {
+            Some(_) => unit_module(alloc, table, spot),
+            None => free_module(alloc, table, spot),
+        }
+    }
+}
+
+fn free_module(alloc: Global, table: &Table, spot: Spot) -> Result<Module, TableFault>
+    requires { get_member (codes "unit") (table_view table.now) ≡ None }
+    ensures ok { IfOk result (IsModuleTable (table_view table.now)) }
+    ensures refused { IfErr result (λ fault. fault ≢ TableFault.Memory
+        → (m : Module) → ¬ (IsModuleTable (table_view table.now) m)) }
+{
+    if !has_only_keys(table, &["name"]) {
+        return Err(TableFault::Entry(spot, EntryFault::UnknownKey));
+    }
+    let name = name_at(alloc, table, "name", spot)?;
+    Ok(Module {
+        name,
+        unit: None,
+        phases: Vec::new(alloc),
+    })
+}
+
+fn unit_module(alloc: Global, table: &Table, spot: Spot) -> Result<Module, TableFault>
+    requires { IsSome (get_member (codes "unit") (table_view table.now)) }
+    ensures ok { IfOk result (IsModuleTable (table_view table.now)) }
+    ensures refused { IfErr result (λ fault. fault ≢ TableFault.Memory
+        → (m : Module) → ¬ (IsModuleTable (table_view table.now) m)) }
+{
+    if !has_only_keys(table, &["name", "unit", "phases"]) {
+        return Err(TableFault::Entry(spot, EntryFault::UnknownKey));
+    }
+    let name = name_at(alloc, table, "name", spot)?;
+    let unit = name_at(alloc, table, "unit", spot)?;
+    let phases = names_at(alloc, table, "phases", spot)?;
+    if phases.is_empty() || phases.len() > MAX_PHASES {
+        return Err(TableFault::Entry(spot, EntryFault::OutOfLimit));
+    }
+    Ok(Module {
+        name,
+        unit: Some(unit),
+        phases,
+    })
+}
+
+impl FromTable for Shared {
+    ghost stands_for = { IsSharedTable };
+
+    fn from_table(alloc: Global, table: &Table, spot: Spot) -> Result<Shared, TableFault> {
+        if !has_only_keys(table, &["name", "capacity"]) {
+            return Err(TableFault::Entry(spot, EntryFault::UnknownKey));
+        }
+        let name = name_at(alloc, table, "name", spot)?;
+        let capacity = number_at(table, "capacity", 1, u64::from(MAX_CAPACITY), spot)?;
+        Ok(Shared {
+            name,
+            capacity: capacity as u32,
+        })
+    }
+}

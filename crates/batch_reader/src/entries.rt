@@ -1,0 +1,126 @@
+//! The entries of a table.
+ghost use Rattle.std.specs.Prelude.{◌≡◌, ◌≢◌, ◌≤◌, ℕ, List, Some, None, map, option_map, nat_eq, IfOk, IfErr};
+ghost use Rattle.std.specs.Cmp.Lexicographic.{pointwise};
+ghost use Rattle.std.specs.List.{list_any};
+ghost use Rattle.toml.specs.Data.{get_member};
+ghost use Rattle.toml.specs.View.{view, items_view, table_view};
+ghost use Rattle.batch_reader.specs.Entries.{HasName, HasNumber, HasNames, AllItems, IsNameItem, has_only_keys};
+
+use crate::fault::{EntryFault, Spot, TableFault};
+use batch_text::{Name, TextFault};
+use std::alloc::Global;
+use toml::{Table, Value};
+
+/// The value at a key.
+pub(crate) fn member<'a>(table: &'a Table, key: &str) -> Option<&'a Value>
+    ensures { option_map (λ value. view value.now) result ≡ get_member key.now (table_view table.now) }
+{
+    table.get(key)
+}
+
+/// Whether the table has no key but these.
+pub(crate) fn has_only_keys(table: &Table, known: &[&str]) -> bool
+    ensures { result ≡ has_only_keys (map (λ key. key.now) known.now) (table_view table.now) }
+{
+    table.keys().all(|key| is_one_of(key.as_str(), known))
+}
+
+fn is_one_of(key: &str, known: &[&str]) -> bool
+    ensures { result ≡ list_any (λ word. pointwise nat_eq word key.now) (map (λ word. word.now) known.now) }
+{
+    known.iter().any(|word| *word == key)
+}
+
+/// The name that a value is.
+fn name_of(alloc: Global, value: &Value, spot: Spot) -> Result<Name, TableFault>
+    ensures ok { IfOk result (IsNameItem (view value.now)) }
+    ensures refused { IfErr result (λ fault. fault ≢ TableFault.Memory
+        → (name : List ℕ) → ¬ (IsNameItem (view value.now) name)) }
+{
+    let Some(text) = value.as_str() else {
+        return Err(TableFault::Entry(spot, EntryFault::WrongKind));
+    };
+    match Name::read(alloc, text.as_bytes()) {
+        Ok(name) => Ok(name),
+        Err(TextFault::Memory) => Err(TableFault::Memory),
+        Err(_) => Err(TableFault::Entry(spot, EntryFault::WrongKind)),
+    }
+}
+
+/// The name at a key.
+pub(crate) fn name_at(
+    alloc: Global,
+    table: &Table,
+    key: &str,
+    spot: Spot,
+) -> Result<Name, TableFault>
+    ensures ok { IfOk result (HasName key.now (table_view table.now)) }
+    ensures refused { IfErr result (λ fault. fault ≢ TableFault.Memory
+        → (name : List ℕ) → ¬ (HasName key.now (table_view table.now) name)) }
+{
+    let Some(value) = member(table, key) else {
+        return Err(TableFault::Entry(spot, EntryFault::MissingKey));
+    };
+    name_of(alloc, value, spot)
+}
+
+/// The number at a key, from `low` to `high`.
+pub(crate) fn number_at(
+    table: &Table,
+    key: &str,
+    low: u64,
+    high: u64,
+    spot: Spot,
+) -> Result<u64, TableFault>
+    ensures ok { IfOk result (HasNumber key.now (table_view table.now) low high) }
+    ensures refused { IfErr result (λ fault. (number : ℕ) → ¬ (HasNumber key.now (table_view table.now) low high number)) }
+{
+    let Some(value) = member(table, key) else {
+        return Err(TableFault::Entry(spot, EntryFault::MissingKey));
+    };
+    let Some(integer) = value.as_integer() else {
+        return Err(TableFault::Entry(spot, EntryFault::WrongKind));
+    };
+    if integer < 0 {
+        return Err(TableFault::Entry(spot, EntryFault::OutOfLimit));
+    }
+    let number = integer as u64;
+    if number < low || number > high {
+        return Err(TableFault::Entry(spot, EntryFault::OutOfLimit));
+    }
+    Ok(number)
+}
+
+/// The names in the list at a key.
+pub(crate) fn names_at(
+    alloc: Global,
+    table: &Table,
+    key: &str,
+    spot: Spot,
+) -> Result<Vec<Name>, TableFault>
+    ensures ok { IfOk result (λ names. HasNames key.now (table_view table.now) names.items) }
+    ensures refused { IfErr result (λ fault. fault ≢ TableFault.Memory
+        → (names : List (List ℕ)) → ¬ (HasNames key.now (table_view table.now) names)) }
+{
+    let Some(value) = member(table, key) else {
+        return Err(TableFault::Entry(spot, EntryFault::MissingKey));
+    };
+    let Some(values) = value.as_array() else {
+        return Err(TableFault::Entry(spot, EntryFault::WrongKind));
+    };
+    names_of(alloc, values.as_slice(), spot)
+}
+
+/// The names that some values are, in order.
+fn names_of(alloc: Global, values: &[Value], spot: Spot) -> Result<Vec<Name>, TableFault>
+    ensures ok { IfOk result (λ names. AllItems IsNameItem (items_view values.now) names.items) }
+    ensures refused { IfErr result (λ fault. fault ≢ TableFault.Memory
+        → (names : List (List ℕ)) → ¬ (AllItems IsNameItem (items_view values.now) names)) }
+{
+    let mut names = Vec::new(alloc);
+    for value in values {
+        let name = name_of(alloc, value, spot)?;
+        names.push(name)?;
+    }
+    Ok(names)
+}

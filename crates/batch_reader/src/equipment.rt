@@ -1,0 +1,64 @@
+//! The conditions on a cell's equipment, and the indexes over it.
+ghost use Rattle.std.specs.Prelude.{◌≡◌, ◌≢◌, ◌≤◌, map, IfOk, IfErr, OnOk};
+ghost use Rattle.indexmap.specs.IndexSet.{keys};
+ghost use Rattle.batch_cell.specs.Equipment.{offered_phases, resource_names};
+ghost use Rattle.batch_reader.specs.CellDocument.{IsSoundEquipment};
+
+use crate::fault::{EntryFault, Spot, TableFault, TableKind};
+use crate::offered::offered_phases;
+use crate::resources::{check_names, check_units, resource_names};
+use batch_cell::{MAX_MODULES, MAX_SHARED, MAX_UNITS, Module, Shared, Unit};
+use batch_text::Name;
+use indexmap::IndexSet;
+use std::alloc::Global;
+
+/// The indexes of a cell.
+#[derive(Drop)]
+pub(crate) struct Indexes {
+    /// The names of the resources, in order of their numbers.
+    pub(crate) names: IndexSet<Name>,
+    /// For each unit the phases that it offers.
+    pub(crate) offered: Vec<IndexSet<Name>>,
+}
+
+/// The indexes over equipment whose counts and names are as they must be.
+pub(crate) fn index_equipment(
+    alloc: Global,
+    units: &[Unit],
+    modules: &[Module],
+    shared: &[Shared],
+) -> Result<Indexes, TableFault>
+    ensures sound { OnOk result (IsSoundEquipment units.now modules.now shared.now) }
+    ensures names { IfOk result (λ indexes. indexes.names.keys ≡ resource_names units.now modules.now shared.now) }
+    ensures offered { IfOk result (λ indexes. map keys indexes.offered.items ≡ offered_phases units.now modules.now) }
+    ensures refused { IfErr result (λ fault. fault ≢ TableFault.Memory
+        → ¬ (IsSoundEquipment units.now modules.now shared.now)) }
+{
+    check_count(units.len(), 1, MAX_UNITS, TableKind::Unit)?;
+    check_count(modules.len(), 0, MAX_MODULES, TableKind::Module)?;
+    check_count(shared.len(), 0, MAX_SHARED, TableKind::Shared)?;
+    check_names(alloc, units, modules, shared)?;
+    check_units(units, modules)?;
+    let names = resource_names(alloc, units, modules, shared)?;
+    let offered = offered_phases(alloc, units, modules)?;
+    Ok(Indexes { names, offered })
+}
+
+/// Tests how many tables of a kind there are.
+pub(crate) fn check_count(
+    count: usize,
+    least: usize,
+    most: usize,
+    kind: TableKind,
+) -> Result<(), TableFault>
+    ensures ok { OnOk result ((least ≤ count) × (count ≤ most)) }
+    ensures refused { IfErr result (λ fault. ¬ ((least ≤ count) × (count ≤ most))) }
+{
+    if count < least {
+        return Err(TableFault::Entry(Spot { kind, entry: 0 }, EntryFault::OutOfLimit));
+    }
+    if count > most {
+        return Err(TableFault::Entry(Spot { kind, entry: most }, EntryFault::OutOfLimit));
+    }
+    Ok(())
+}

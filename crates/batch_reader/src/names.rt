@@ -1,0 +1,76 @@
+//! Names that have to differ.
+ghost use Rattle.std.specs.Prelude.{◌≡◌, ◌≢◌, ℕ, List, [], ◌∷◌, ◌++◌, map, nat_eq, OnOk, IfErr};
+ghost use Rattle.std.specs.Cmp.Lexicographic.{pointwise};
+ghost use Rattle.std.specs.List.{IsDistinct};
+
+use crate::fault::{EntryFault, Spot, TableFault, TableKind};
+use batch_text::Name;
+use indexmap::IndexSet;
+use std::alloc::Global;
+
+/// What a table of a document declares.
+pub(crate) trait Named {
+    ghost name_of: { Self → List ℕ };
+
+    fn name(&self) -> &Name
+        ensures { result.now ≡ name_of self.now };
+}
+
+/// Adds a name, of the table at the spot, to those that are declared.
+pub(crate) fn add_name(
+    alloc: Global,
+    names: &mut IndexSet<Name>,
+    name: &Name,
+    spot: Spot,
+) -> Result<(), TableFault>
+    ensures ok { OnOk result (names.new.keys ≡ names.old.keys ++ name.now ∷ []) }
+    ensures distinct { OnOk result (IsDistinct (pointwise nat_eq) names.new.keys) }
+    ensures refused { IfErr result (λ fault. fault ≢ TableFault.Memory
+        → ¬ (IsDistinct (pointwise nat_eq) (names.old.keys ++ name.now ∷ []))) }
+{
+    let Ok(copy) = name.copy(alloc) else {
+        return Err(TableFault::Memory);
+    };
+    if !names.insert(copy)? {
+        return Err(TableFault::Entry(spot, EntryFault::Duplicate));
+    }
+    Ok(())
+}
+
+/// Adds the names of all tables of a kind.
+pub(crate) fn add_names<T: Named>(
+    alloc: Global,
+    names: &mut IndexSet<Name>,
+    items: &[T],
+    kind: TableKind,
+) -> Result<(), TableFault>
+    requires { IsDistinct (pointwise nat_eq) names.old.keys }
+    ensures ok { OnOk result (names.new.keys ≡ names.old.keys ++ map T.name_of items.now) }
+    ensures distinct { OnOk result (IsDistinct (pointwise nat_eq) names.new.keys) }
+    ensures refused { IfErr result (λ fault. fault ≢ TableFault.Memory
+        → ¬ (IsDistinct (pointwise nat_eq) (names.old.keys ++ map T.name_of items.now))) }
+{
+    for (entry, item) in items.iter().enumerate() {
+        add_name(alloc, names, item.name(), Spot { kind, entry })?;
+    }
+    Ok(())
+}
+
+/// Adds names that all stand in the table at the spot.
+pub(crate) fn add_list(
+    alloc: Global,
+    names: &mut IndexSet<Name>,
+    list: &[Name],
+    spot: Spot,
+) -> Result<(), TableFault>
+    requires { IsDistinct (pointwise nat_eq) names.old.keys }
+    ensures ok { OnOk result (names.new.keys ≡ names.old.keys ++ list.now) }
+    ensures distinct { OnOk result (IsDistinct (pointwise nat_eq) names.new.keys) }
+    ensures refused { IfErr result (λ fault. fault ≢ TableFault.Memory
+        → ¬ (IsDistinct (pointwise nat_eq) (names.old.keys ++ list.now))) }
+{
+    for name in list {
+        add_name(alloc, names, name, spot)?;
+    }
+    Ok(())
+}

@@ -1,0 +1,126 @@
+//! The names that a cell declares.
+ghost use Rattle.std.specs.Prelude.{◌≡◌, ◌≢◌, ◌++◌, map, filter, nat_eq, OnOk, IfOk, IfErr};
+ghost use Rattle.std.specs.Cmp.Lexicographic.{pointwise};
+ghost use Rattle.std.specs.List.{IsDistinct, list_any};
+ghost use Rattle.batch_cell.specs.Equipment.{IsDeclaredOnce, HasDeclaredUnits, is_free, has_declared_unit, resource_names, unit_names};
+
+use crate::fault::{EntryFault, Spot, TableFault, TableKind};
+use crate::names::{Named, add_name, add_names};
+use batch_cell::{Module, Shared, Unit};
+use batch_text::Name;
+use indexmap::IndexSet;
+use std::alloc::Global;
+
+impl Named for Unit {
+    ghost name_of = { λ unit. unit.name };
+
+    fn name(&self) -> &Name {
+        &self.name
+    }
+}
+
+impl Named for Module {
+    ghost name_of = { λ m. m.name };
+
+    fn name(&self) -> &Name {
+        &self.name
+    }
+}
+
+impl Named for Shared {
+    ghost name_of = { λ shared. shared.name };
+
+    fn name(&self) -> &Name {
+        &self.name
+    }
+}
+
+/// Tests that all names differ.
+pub(crate) fn check_names(
+    alloc: Global,
+    units: &[Unit],
+    modules: &[Module],
+    shared: &[Shared],
+) -> Result<(), TableFault>
+    ensures ok { OnOk result (IsDeclaredOnce units.now modules.now shared.now) }
+    ensures refused { IfErr result (λ fault. fault ≢ TableFault.Memory → ¬ (IsDeclaredOnce units.now modules.now shared.now)) }
+{
+    let mut names = IndexSet::new(alloc);
+    add_names(alloc, &mut names, units, TableKind::Unit)?;
+    add_names(alloc, &mut names, modules, TableKind::Module)?;
+    add_names(alloc, &mut names, shared, TableKind::Shared)?;
+    Ok(())
+}
+
+/// The names of the resources, in order of their numbers.
+pub(crate) fn resource_names(
+    alloc: Global,
+    units: &[Unit],
+    modules: &[Module],
+    shared: &[Shared],
+) -> Result<IndexSet<Name>, TableFault>
+    ensures ok { IfOk result (λ names. names.keys ≡ resource_names units.now modules.now shared.now) }
+    ensures refused { IfErr result (λ fault. fault ≢ TableFault.Memory
+        → ¬ (IsDistinct (pointwise nat_eq) (resource_names units.now modules.now shared.now))) }
+{
+    let mut names = IndexSet::new(alloc);
+    add_names(alloc, &mut names, units, TableKind::Unit)?;
+    add_free_modules(alloc, &mut names, modules)?;
+    add_names(alloc, &mut names, shared, TableKind::Shared)?;
+    Ok(names)
+}
+
+fn add_free_modules(
+    alloc: Global,
+    names: &mut IndexSet<Name>,
+    modules: &[Module],
+) -> Result<(), TableFault>
+    requires { IsDistinct (pointwise nat_eq) names.old.keys }
+    ensures ok { OnOk result (names.new.keys ≡ names.old.keys ++ map (λ m. m.name) (filter is_free modules.now)) }
+    ensures distinct { OnOk result (IsDistinct (pointwise nat_eq) names.new.keys) }
+    ensures refused { IfErr result (λ fault. fault ≢ TableFault.Memory
+        → ¬ (IsDistinct (pointwise nat_eq) (names.old.keys ++ map (λ m. m.name) (filter is_free modules.now)))) }
+{
+    for (entry, module) in modules.iter().enumerate() {
+        if module.unit.is_none() {
+            let spot = Spot {
+                kind: TableKind::Module,
+                entry,
+            };
+            add_name(alloc, names, &module.name, spot)?;
+        }
+    }
+    Ok(())
+}
+
+/// Tests that each module is free or belongs to one of the units.
+pub(crate) fn check_units(units: &[Unit], modules: &[Module]) -> Result<(), TableFault>
+    ensures ok { OnOk result (HasDeclaredUnits units.now modules.now) }
+    ensures refused { IfErr result (λ fault. ¬ (HasDeclaredUnits units.now modules.now)) }
+{
+    for (entry, module) in modules.iter().enumerate() {
+        if !has_declared_unit(units, module) {
+            let spot = Spot {
+                kind: TableKind::Module,
+                entry,
+            };
+            return Err(TableFault::Entry(spot, EntryFault::Undeclared));
+        }
+    }
+    Ok(())
+}
+
+fn has_declared_unit(units: &[Unit], module: &Module) -> bool
+    ensures { result ≡ has_declared_unit (unit_names units.now) «module».now }
+{
+    match &module.unit {
+        None => true,
+        Some(own) => is_unit(own, units),
+    }
+}
+
+fn is_unit(name: &Name, units: &[Unit]) -> bool
+    ensures { result ≡ list_any (pointwise nat_eq name.now) (unit_names units.now) }
+{
+    units.iter().any(|unit| *name == unit.name)
+}

@@ -1,0 +1,66 @@
+//! The tables of an array.
+ghost use Rattle.std.specs.Prelude.{◌≡◌, ◌≢◌, List, Some, None, IfOk, IfErr};
+ghost use Rattle.toml.specs.Data.{Members};
+ghost use Rattle.toml.specs.View.{table_view, items_view};
+ghost use Rattle.batch_reader.specs.Entries.{HasTables, items_at};
+
+use crate::entries::member;
+use crate::fault::{EntryFault, Spot, TableFault, TableKind};
+use std::alloc::Global;
+use toml::{Table, Value};
+
+/// A value that a table of a document stands for.
+pub(crate) trait FromTable: Drop {
+    // the table stands for the value
+    ghost stands_for: { Members → Self → Type 0 };
+
+    /// Reads the table that stands at the spot.
+    fn from_table(alloc: Global, table: &Table, spot: Spot) -> Result<Self, TableFault>
+        ensures ok { IfOk result (stands_for (table_view table.now)) }
+        ensures refused { IfErr result (λ fault. fault ≢ TableFault.Memory
+            → (value : Self) → ¬ (stands_for (table_view table.now) value)) };
+}
+
+/// The items of the array at a key, none where the key is missing.
+pub(crate) fn items_at<'a>(
+    table: &'a Table,
+    key: &str,
+    spot: Spot,
+) -> Result<&'a [Value], TableFault>
+    ensures ok { IfOk result (λ values. items_at key.now (table_view table.now) ≡ Some (items_view values.now)) }
+    ensures refused { IfErr result (λ fault. items_at key.now (table_view table.now) ≡ None) }
+{
+    let Some(value) = member(table, key) else {
+        return Ok(&[]);
+    };
+    match value.as_array() {
+        Some(values) => Ok(values.as_slice()),
+        None => Err(TableFault::Entry(spot, EntryFault::WrongKind)),
+    }
+}
+
+/// What the tables of the array at a key stand for, in order.
+pub(crate) fn tables_at<T: FromTable>(
+    alloc: Global,
+    table: &Table,
+    key: &str,
+    kind: TableKind,
+) -> Result<Vec<T>, TableFault>
+    ensures ok { IfOk result (λ values. HasTables T.stands_for key.now (table_view table.now) values.items) }
+    ensures refused { IfErr result (λ fault. fault ≢ TableFault.Memory
+        → (values : List T) → ¬ (HasTables T.stands_for key.now (table_view table.now) values)) }
+{
+    let mut values = Vec::new(alloc);
+    for (entry, item) in items_at(table, key, Spot { kind, entry: 0 })?
+        .iter()
+        .enumerate()
+    {
+        let spot = Spot { kind, entry };
+        let Some(inner) = item.as_table() else {
+            return Err(TableFault::Entry(spot, EntryFault::WrongKind));
+        };
+        let value = T::from_table(alloc, inner, spot)?;
+        values.push(value)?;
+    }
+    Ok(values)
+}
