@@ -3,11 +3,17 @@
 
 mod cell_document;
 mod cell_tables;
+#[cfg(test)]
+mod cell_tests;
 mod entries;
 mod equipment;
 mod fault;
+#[cfg(test)]
+mod limit_tests;
 mod names;
 mod offered;
+#[cfg(test)]
+mod refusal_tests;
 mod resources;
 mod tables;
 

@@ -1,0 +1,126 @@
+//! Cell documents at their limits, and one past them.
+use crate::cell_tests::DEMO;
+use crate::{DocFault, EntryFault, MAX_DOCUMENT_LEN, Spot, TableKind, read_cell};
+use std::alloc::{AllocError, Global};
+use std::test::Fail;
+
+const HEAD: &str = "cell = \"C\"\n[[unit]]\nname = \"U\"\n";
+
+/// The text, and then `count` pieces with a number each.
+fn numbered(
+    alloc: Global,
+    head: &str,
+    before: &str,
+    count: usize,
+    after: &str,
+) -> Result<String, AllocError> {
+    let mut text = String::from_str(alloc, head)?;
+    for number in 0..count {
+        let piece = format!(in alloc; "{before}{number}{after}")?;
+        text.push_str(piece.as_str())?;
+    }
+    Ok(text)
+}
+
+fn takes(alloc: Global, text: &str) -> bool {
+    read_cell(alloc, text.as_bytes()).is_ok()
+}
+
+fn refuses(alloc: Global, text: &str, kind: TableKind, entry: usize) -> bool {
+    let wanted = DocFault::Entry(Spot { kind, entry }, EntryFault::OutOfLimit);
+    read_cell(alloc, text.as_bytes()).err() == Some(wanted)
+}
+
+#[test]
+fn numbers_of_tables(rt: HostRuntime) -> Result<(), Fail> {
+    let alloc = rt.alloc();
+    assert!(rt; refuses(rt.alloc(), "cell = \"C\"\n", TableKind::Unit, 0));
+    assert!(rt; refuses(rt.alloc(), "cell = \"C\"\nunit = []\n", TableKind::Unit, 0));
+    let cases = [
+        (
+            "cell = \"C\"\n",
+            "[[unit]]\nname = \"U",
+            64,
+            "\"\n",
+            TableKind::Unit,
+        ),
+        (
+            HEAD,
+            "[[module]]\nname = \"M",
+            256,
+            "\"\n",
+            TableKind::Module,
+        ),
+        (
+            HEAD,
+            "[[shared]]\ncapacity = 1\nname = \"S",
+            64,
+            "\"\n",
+            TableKind::Shared,
+        ),
+    ];
+    for (head, before, most, after, kind) in cases {
+        assert!(rt;
+            takes(
+                rt.alloc(),
+                numbered(alloc, head, before, most, after)?.as_str()
+            )
+        );
+        assert!(rt;
+            refuses(
+                rt.alloc(),
+                numbered(alloc, head, before, most + 1, after)?.as_str(),
+                kind,
+                most
+            )
+        );
+    }
+    Ok(())
+}
+
+#[test]
+fn numbers_of_phases(rt: HostRuntime) -> Result<(), Fail> {
+    let alloc = rt.alloc();
+    let head = format!(in alloc; "{HEAD}[[module]]\nname = \"M\"\nunit = \"U\"\nphases = [")?;
+    for count in [1, 32] {
+        let mut text = numbered(alloc, head.as_str(), "\"P", count, "\", ")?;
+        text.push_str("]\n")?;
+        assert!(rt; takes(rt.alloc(), text.as_str()));
+    }
+    for count in [0, 33] {
+        let mut text = numbered(alloc, head.as_str(), "\"P", count, "\", ")?;
+        text.push_str("]\n")?;
+        assert!(rt; refuses(rt.alloc(), text.as_str(), TableKind::Module, 0));
+    }
+    Ok(())
+}
+
+#[test]
+fn capacities(rt: HostRuntime) -> Result<(), Fail> {
+    let alloc = rt.alloc();
+    let head = format!(in alloc;
+        "{HEAD}[[shared]]\nname = \"HDR\"\ncapacity = 1\n[[shared]]\nname = \"STEAM\"\ncapacity = "
+    )?;
+    for capacity in ["1", "1000"] {
+        let text = format!(in alloc; "{head}{capacity}\n")?;
+        assert!(rt; takes(rt.alloc(), text.as_str()));
+    }
+    for capacity in ["0", "1001", "-1"] {
+        let text = format!(in alloc; "{head}{capacity}\n")?;
+        assert!(rt; refuses(rt.alloc(), text.as_str(), TableKind::Shared, 1));
+    }
+    Ok(())
+}
+
+#[test]
+fn lengths_of_documents(rt: HostRuntime) -> Result<(), Fail> {
+    let mut text = format!(in rt.alloc(); "{DEMO}#")?;
+    for _ in text.len()..MAX_DOCUMENT_LEN {
+        text.push('#')?;
+    }
+    assert_eq!(rt; text.len(), 1_048_576);
+    assert!(rt; takes(rt.alloc(), text.as_str()));
+    text.push('#')?;
+    assert!(rt; refuses(rt.alloc(), text.as_str(), TableKind::Cell, 0));
+    Ok(())
+}

@@ -1,0 +1,229 @@
+//! Cell documents that are refused, each for one fault.
+use crate::cell_tests::DEMO;
+use crate::{DocFault, EntryFault, Spot, TableKind, read_cell};
+use std::alloc::Global;
+use std::test::Fail;
+
+const HEAD: &str = "cell = \"C\"\n[[unit]]\nname = \"U\"\n";
+
+fn refuses(alloc: Global, text: &str, kind: TableKind, entry: usize, fault: EntryFault) -> bool {
+    let wanted = DocFault::Entry(Spot { kind, entry }, fault);
+    read_cell(alloc, text.as_bytes()).err() == Some(wanted)
+}
+
+/// Whether each text, below a cell of one unit, is refused.
+fn refuses_below_head(
+    alloc: Global,
+    cases: &[(&str, TableKind, usize)],
+    fault: EntryFault,
+) -> Result<bool, Fail> {
+    for (text, kind, entry) in cases {
+        let whole = format!(in alloc; "{HEAD}{text}")?;
+        if !refuses(alloc, whole.as_str(), *kind, *entry, fault) {
+            return Ok(false);
+        }
+    }
+    Ok(true)
+}
+
+#[test]
+fn not_toml(rt: HostRuntime) {
+    let cases: [&[u8]; 3] = [b"\xff\xff", b"cell = ", b"cell = \"C\"\ncell = \"C\"\n"];
+    for bytes in cases {
+        assert!(rt; read_cell(rt.alloc(), bytes).err() == Some(DocFault::NotToml));
+    }
+}
+
+#[test]
+fn missing_keys(rt: HostRuntime) -> Result<(), Fail> {
+    assert!(rt; refuses(rt.alloc(), "", TableKind::Cell, 0, EntryFault::MissingKey));
+    assert!(rt;
+        refuses(
+            rt.alloc(),
+            "cell = \"C\"\n[[unit]]\n",
+            TableKind::Unit,
+            0,
+            EntryFault::MissingKey
+        )
+    );
+    let cases = [
+        ("[[unit]]\n", TableKind::Unit, 1),
+        ("[[module]]\n", TableKind::Module, 0),
+        (
+            "[[module]]\nunit = \"U\"\nphases = [\"A\"]\n",
+            TableKind::Module,
+            0,
+        ),
+        (
+            "[[module]]\nname = \"M\"\nunit = \"U\"\n",
+            TableKind::Module,
+            0,
+        ),
+        ("[[shared]]\ncapacity = 1\n", TableKind::Shared, 0),
+        ("[[shared]]\nname = \"S\"\n", TableKind::Shared, 0),
+    ];
+    assert!(rt; refuses_below_head(rt.alloc(), &cases, EntryFault::MissingKey)?);
+    Ok(())
+}
+
+#[test]
+fn wrong_kinds_and_bad_names(rt: HostRuntime) -> Result<(), Fail> {
+    assert!(rt;
+        refuses(
+            rt.alloc(),
+            "cell = 5\n",
+            TableKind::Cell,
+            0,
+            EntryFault::WrongKind
+        )
+    );
+    assert!(rt;
+        refuses(
+            rt.alloc(),
+            "cell = \"C\"\nunit = 5\n",
+            TableKind::Unit,
+            0,
+            EntryFault::WrongKind
+        )
+    );
+    assert!(rt;
+        refuses(
+            rt.alloc(),
+            "cell = \"C\"\nunit = [{ name = \"U\" }, 5]\n",
+            TableKind::Unit,
+            1,
+            EntryFault::WrongKind
+        )
+    );
+    let cases = [
+        ("[[unit]]\nname = \"2U\"\n", TableKind::Unit, 1),
+        (
+            "[[unit]]\nname = \"abcdefghijklmnopqrstuvwxyzabcdefg\"\n",
+            TableKind::Unit,
+            1,
+        ),
+        ("[[module]]\nname = \"M\"\nunit = 0\n", TableKind::Module, 0),
+        (
+            "[[module]]\nname = \"M\"\nunit = \"U\"\nphases = \"A\"\n",
+            TableKind::Module,
+            0,
+        ),
+        (
+            "[[module]]\nname = \"M\"\nunit = \"U\"\nphases = [1]\n",
+            TableKind::Module,
+            0,
+        ),
+        (
+            "[[module]]\nname = \"M\"\nunit = \"U\"\nphases = [\"\"]\n",
+            TableKind::Module,
+            0,
+        ),
+        (
+            "[[shared]]\nname = \"S\"\ncapacity = \"1\"\n",
+            TableKind::Shared,
+            0,
+        ),
+        (
+            "[shared]\nname = \"S\"\ncapacity = 1\n",
+            TableKind::Shared,
+            0,
+        ),
+    ];
+    assert!(rt; refuses_below_head(rt.alloc(), &cases, EntryFault::WrongKind)?);
+    Ok(())
+}
+
+#[test]
+fn unknown_keys(rt: HostRuntime) -> Result<(), Fail> {
+    assert!(rt;
+        refuses(
+            rt.alloc(),
+            "cell = \"C\"\nsize = 1\n",
+            TableKind::Cell,
+            0,
+            EntryFault::UnknownKey
+        )
+    );
+    let cases = [
+        ("[[unit]]\nname = \"V\"\nsize = 1\n", TableKind::Unit, 1),
+        (
+            "[[module]]\nname = \"M\"\nphases = []\n",
+            TableKind::Module,
+            0,
+        ),
+        (
+            "[[module]]\nname = \"M\"\nunit = \"U\"\nphases = [\"A\"]\nsize = 1\n",
+            TableKind::Module,
+            0,
+        ),
+        (
+            "[[shared]]\nname = \"S\"\ncapacity = 1\nsize = 1\n",
+            TableKind::Shared,
+            0,
+        ),
+    ];
+    assert!(rt; refuses_below_head(rt.alloc(), &cases, EntryFault::UnknownKey)?);
+    Ok(())
+}
+
+#[test]
+fn undeclared_units(rt: HostRuntime) -> Result<(), Fail> {
+    let cases = [
+        (
+            "[[module]]\nname = \"M\"\n[[module]]\nname = \"N\"\nunit = \"V\"\nphases = [\"A\"]\n",
+            TableKind::Module,
+            1,
+        ),
+        (
+            "[[module]]\nname = \"M\"\nunit = \"S\"\nphases = [\"A\"]\n[[shared]]\nname = \"S\"\ncapacity = 1\n",
+            TableKind::Module,
+            0,
+        ),
+    ];
+    assert!(rt; refuses_below_head(rt.alloc(), &cases, EntryFault::Undeclared)?);
+    Ok(())
+}
+
+#[test]
+fn duplicates(rt: HostRuntime) -> Result<(), Fail> {
+    let more = format!(in rt.alloc(); "{DEMO}[[shared]]\nname = \"HDR\"\ncapacity = 1\n")?;
+    assert!(rt;
+        refuses(
+            rt.alloc(),
+            more.as_str(),
+            TableKind::Shared,
+            2,
+            EntryFault::Duplicate
+        )
+    );
+    let cases = [
+        (
+            "[[unit]]\nname = \"V\"\n[[unit]]\nname = \"U\"\n",
+            TableKind::Unit,
+            2,
+        ),
+        ("[[module]]\nname = \"U\"\n", TableKind::Module, 0),
+        (
+            "[[module]]\nname = \"M\"\nunit = \"U\"\nphases = [\"A\"]\n[[module]]\nname = \"M\"\n",
+            TableKind::Module,
+            1,
+        ),
+        (
+            "[[module]]\nname = \"M\"\nunit = \"U\"\nphases = [\"A\"]\n[[shared]]\nname = \"M\"\ncapacity = 1\n",
+            TableKind::Shared,
+            0,
+        ),
+        (
+            "[[module]]\nname = \"M\"\nunit = \"U\"\nphases = [\"A\", \"B\", \"A\"]\n",
+            TableKind::Module,
+            0,
+        ),
+        (
+            "[[module]]\nname = \"M\"\nunit = \"U\"\nphases = [\"A\"]\n[[module]]\nname = \"N\"\nunit = \"U\"\nphases = [\"B\", \"A\"]\n",
+            TableKind::Module,
+            1,
+        ),
+    ];
+    assert!(rt; refuses_below_head(rt.alloc(), &cases, EntryFault::Duplicate)?);
+    Ok(())
+}
