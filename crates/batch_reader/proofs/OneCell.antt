@@ -10,6 +10,7 @@ use Rattle.toml.specs.Data.{Data, Members, get_member}
 use Rattle.batch_cell.specs.Equipment.{unit_names, declared_names, has_declared_unit, phases_for, unit_phases, IsDeclaredOnce, HasDeclaredUnits, OffersPhasesOnce}
 use Rattle.batch_cell.specs.declared.unit.Unit.{Unit}
 use Rattle.batch_cell.specs.declared.module.Module.{Module}
+use Rattle.batch_cell.specs.declared.module.TheConstants.{MAX_PHASES}
 use Rattle.batch_cell.specs.declared.shared.Shared.{Shared}
 use Rattle.batch_cell.specs.declared.cell.Cell.{Cell}
 use Rattle.batch_reader.proofs.Items.{AllItems_same, HasTables_same}
@@ -140,7 +141,7 @@ pub refused_phases : (ms : Members) → IsSome (get_member (codes "unit") ms) �
 refused_phases ms some none m h = none m.phases.items (module_of_unit ms m some h).phases
 
 pub refused_phase_count : (ms : Members) (names : List (List ℕ)) → IsSome (get_member (codes "unit") ms) → HasNames (codes "phases") ms names
-    → ((0 < length names) × (length names ≤ 32) → ⊥) → (m : Module) → IsModuleTable ms m → ⊥
+    → ((0 < length names) × (length names ≤ MAX_PHASES) → ⊥) → (m : Module) → IsModuleTable ms m → ⊥
 refused_phase_count ms names some has count m h =
     let own : IsUnitModuleTable ms m = module_of_unit ms m some h in
     let same : m.phases.items ≡ names = HasNames_unique _ ms m.phases.items names own.phases has in

@@ -1,5 +1,6 @@
 use Rattle.std.proofs.Common.{◌≡◌, ◌<◌, length, arith, rules}
 use Rattle.std.proofs.lemmas.Result.{err_from_is_err_and}
+use Rattle.batch_cell.specs.declared.module.TheConstants.{MAX_PHASES}
 use Rattle.batch_reader.proofs.OneCell.{refused_phases, refused_phase_count}
 use Rattle.batch_reader.proofs.cell_tables.unit_module.Goals as goal
 use Rattle.batch_reader.proofs.cell_tables.unit_module.Goals.{then-is_empty-via-then-is_empty, then-is_empty-via-else-is_empty+then-len-gt-MAX_PHASES}
@@ -13,5 +14,5 @@ pub returns-then-is_empty-clause-refused : goal.returns-then-is_empty-clause-ref
 returns-then-is_empty-clause-refused c = λ _. refused_phase_count _ _ c.requires c.in_ok-phases.ensures.ok (λ counts.
     elim c.then-is_empty.branch [
       | then-is_empty-via-then-is_empty w ↦ (let none : length c.in_ok-phases.phases.items ≡ 0 = search rules in omega (arith, counts.0))
-      | then-is_empty-via-else-is_empty+then-len-gt-MAX_PHASES w ↦ (let many : 32 < length c.in_ok-phases.phases.items = search rules in omega (arith, counts.1))
+      | then-is_empty-via-else-is_empty+then-len-gt-MAX_PHASES w ↦ (let many : MAX_PHASES < length c.in_ok-phases.phases.items = search rules in omega (arith, counts.1))
     ])
