@@ -1,5 +1,6 @@
 //! Why a document is refused.
-ghost use Rattle.std.specs.Prelude.{◌≡◌};
+ghost use Rattle.std.specs.Prelude.{◌≡◌, Some};
+ghost use Rattle.batch_reader.specs.Words.{table_word, spot_text};
 ghost use Rattle.batch_reader.specs.declared.fault.TableFault.TheVariants.{Memory};
 
 use std::alloc::{AllocError, AllocFailed};
@@ -16,6 +17,8 @@ pub enum TableKind {
 }
 
 impl fmt::Display for TableKind {
+    ghost output = { λ kind. Some (table_word kind) };
+
     fn fmt<W: fmt::Write>(&self, f: &mut fmt::Formatter<W>) -> fmt::Result {
         f.write_str(match self {
             TableKind::Cell => "cell",
@@ -34,6 +37,8 @@ pub struct Spot {
 }
 
 impl fmt::Display for Spot {
+    ghost output = { λ spot. Some (spot_text spot) };
+
     fn fmt<W: fmt::Write>(&self, f: &mut fmt::Formatter<W>) -> fmt::Result {
         let Spot { kind, entry } = *self;
         write!(f, "{kind} {entry}")

@@ -1,0 +1,16 @@
+-- The words for the tables of documents, as refusals print them.
+use Rattle.std.specs.Prelude.{ℕ, List, ◌++◌, codes}
+use Rattle.std.specs.Fmt.{decimal}
+use Rattle.batch_reader.specs.declared.fault.Spot.{Spot}
+use Rattle.batch_reader.specs.declared.fault.TableKind.{TableKind}
+use Rattle.batch_reader.specs.declared.fault.TableKind.TheVariants.{Cell, Unit, Module, Shared}
+
+abbrev pub table_word : TableKind → List ℕ
+table_word Cell = codes "cell"
+table_word Unit = codes "unit"
+table_word Module = codes "module"
+table_word Shared = codes "shared"
+
+-- the table's word and its number
+abbrev pub spot_text : Spot → List ℕ
+spot_text spot = table_word spot.kind ++ codes " " ++ decimal spot.entry
