@@ -1,0 +1,77 @@
+-- Names and numbers, byte by byte.
+use Rattle.std.proofs.Common.{◌≡◌, ℕ, ◌+◌, ◌-◌, ◌<◌, ◌≤◌, List, [], ◌∷◌, ◌++◌, length, true, get_or, take, drop, ap, ◌∙◌, arith, length-append, length-take, length-drop}
+use Rattle.std.specs.Prelude.{slice_range, slice_index}
+use Rattle.std.specs.Char.{is_ascii_alphabetic, is_ascii_digit}
+use Rattle.std.specs.List.{list_all}
+use Rattle.std.proofs.lemmas.List.{take_more, get_or-drop}
+use Rattle.std.proofs.lemmas.List.Folds.{list_all-append}
+use Rattle.std.proofs.lemmas.Bool.Decides.{nat_tests}
+use Rattle.batch_text.specs.NameText.{is_name_byte, IsName}
+use Rattle.batch_text.specs.NumberText.{IsNumber}
+
+-- a name by its first byte and the others
+pub record IsNameFrom (b : ℕ) (bs : List ℕ) : Type 0 where
+  pub letter : is_ascii_alphabetic b ≡ true
+  pub others : list_all is_name_byte bs ≡ true
+  pub short : length bs < 32
+
+pub no_name : IsName [] → ⊥
+no_name name = let never = name.spelled in absurd cc
+
+pub name_from : (b : ℕ) (bs : List ℕ) → IsName (b ∷ bs) → IsNameFrom b bs
+name_from b bs name = record {
+  letter = grind (arith, name.spelled);
+  others = grind (arith, name.spelled);
+  short = omega (arith, name.short);
+}
+
+pub name_of_letter : (b : ℕ) → is_ascii_alphabetic b ≡ true → IsName (b ∷ [])
+name_of_letter b letter = record { spelled = grind (arith, nat_tests); short = omega arith }
+
+pub name_more : (bytes : List ℕ) (b : ℕ) → IsName bytes → is_name_byte b ≡ true → length bytes < 32 → IsName (bytes ++ b ∷ [])
+name_more [] b name byte room = absurd (no_name name)
+name_more (x ∷ xs) b name byte room =
+    let parts = name_from x xs name in
+    record { spelled = rw (list_all-append is_name_byte (x ∷ xs) (b ∷ [])) (grind (arith, name.spelled)); short = omega (arith, length-append xs (b ∷ [])) }
+
+pub number_first : (b : ℕ) (bs : List ℕ) → IsNumber (b ∷ bs) → (is_ascii_digit b ≡ true) × (list_all is_ascii_digit bs ≡ true)
+number_first b bs number = (grind (arith, number.digits), grind (arith, number.digits))
+
+pub number_of_digit : (b : ℕ) → is_ascii_digit b ≡ true → IsNumber (b ∷ [])
+number_of_digit b digit = record { some = omega arith; digits = grind (arith, digit); short = omega arith }
+
+pub number_more : (bytes : List ℕ) (b : ℕ) → IsNumber bytes → is_ascii_digit b ≡ true → length bytes < 19 → IsNumber (bytes ++ b ∷ [])
+number_more bytes b number byte room = record {
+  some = omega (arith, length-append bytes (b ∷ []));
+  digits = rw (list_all-append is_ascii_digit bytes (b ∷ [])) (grind (arith, number.digits));
+  short = omega (arith, length-append bytes (b ∷ []));
+}
+
+-- ---- tokens as ranges of the text
+
+range_length : (text : List ℕ) (start place : ℕ) → place ≤ length text → length (slice_range text start place) ≤ place - start
+range_length text start place h = omega (arith, length-take (place - start) (drop start text))
+
+pub begun_name : (text : List ℕ) (start place : ℕ) → place ≤ length text → IsName (slice_range text start place) → start ≤ place
+begun_name text start place h name = omega (arith, range_length text start place h, name_some (slice_range text start place) name)
+  where
+    name_some : (bytes : List ℕ) → IsName bytes → 0 < length bytes
+    name_some [] name = absurd (no_name name)
+    name_some (b ∷ bs) name = omega arith
+
+pub begun_number : (text : List ℕ) (start place : ℕ) → place ≤ length text → IsNumber (slice_range text start place) → start ≤ place
+begun_number text start place h number = omega (arith, range_length text start place h, number.some)
+
+-- the token with the byte at the place
+pub one_more : (text : List ℕ) (start place : ℕ) → start ≤ place → place < length text → slice_range text start (place + 1) ≡ slice_range text start place ++ slice_index text place ∷ []
+one_more text start place begun inside =
+    let longer : place + 1 - start ≡ (place - start) + 1 = omega arith in
+    let at : start + (place - start) ≡ place = omega arith in
+    let room : place - start < length (drop start text) = omega (arith, length-drop start text) in
+    ap (λ n. take n (drop start text)) longer ∙ take_more (drop start text) (place - start) 0 room
+    ∙ ap (λ x. take (place - start) (drop start text) ++ x ∷ []) (get_or-drop start text (place - start) 0 ∙ ap (λ n. get_or text n 0) at)
+
+pub just_one : (text : List ℕ) (place : ℕ) → place < length text → slice_range text place (place + 1) ≡ slice_index text place ∷ []
+just_one text place inside =
+    let none : place - place ≡ 0 = omega arith in
+    one_more text place place (omega arith) inside ∙ ap (λ n. take n (drop place text) ++ slice_index text place ∷ []) none

@@ -1,0 +1,13 @@
+//! Forms that are being read.
+
+use batch_recipe::{Chart, Cond};
+
+/// A form that is being read, with what has been read of it.
+#[derive(Drop)]
+pub enum Frame {
+    Seq(Vec<Chart>),
+    Par(Vec<Chart>),
+    Case(Vec<(Cond, Chart)>, Cond),
+    Else(Vec<(Cond, Chart)>),
+    Loop(u64, Cond),
+}
