@@ -14,10 +14,12 @@ mod state;
 mod steps;
 #[cfg(test)]
 mod tests;
+mod tokens;
 mod want;
 mod word;
 mod words;
 
 pub use fault::ChartFault;
 pub use laws::{a_chart_has_its_pars, a_chart_is_well_formed, a_text_has_one_chart};
-pub use reading::read_chart;
+pub(crate) use reading::{ReadChart, read_chart_and_par};
+pub use reading::{MAX_CHART_LEN, read_chart};

@@ -20,6 +20,7 @@ mod tables;
 
 pub use cell_document::{MAX_DOCUMENT_LEN, read_cell};
 pub use charts::{
-    ChartFault, a_chart_has_its_pars, a_chart_is_well_formed, a_text_has_one_chart, read_chart,
+    ChartFault, MAX_CHART_LEN, a_chart_has_its_pars, a_chart_is_well_formed, a_text_has_one_chart,
+    read_chart,
 };
 pub use fault::{DocFault, EntryFault, Spot, TableKind};

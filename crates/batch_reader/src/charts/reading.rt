@@ -13,6 +13,9 @@ use crate::charts::want::Want;
 use batch_recipe::Chart;
 use std::alloc::Global;
 
+/// The longest chart text of a document, in bytes. The reader itself takes any length.
+pub const MAX_CHART_LEN: usize = 16_384;
+
 /// The chart of a text, and where its first `par` opens.
 #[derive(Drop)]
 pub(crate) struct ReadChart {

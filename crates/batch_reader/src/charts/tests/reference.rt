@@ -174,6 +174,7 @@ fn comparison(
 }
 
 /// The branches of a `seq` or a `par`, from behind the parenthesis.
+#[cycle(reference)]
 fn branches(
     alloc: Global,
     text: &[u8],
@@ -198,6 +199,7 @@ fn branches(
 }
 
 /// The cases of a `sel`, from behind the parenthesis.
+#[cycle(reference)]
 fn cases(
     alloc: Global,
     text: &[u8],
@@ -226,6 +228,7 @@ fn cases(
 }
 
 /// A `loop`, from behind the parenthesis.
+#[cycle(reference)]
 fn turns(
     alloc: Global,
     text: &[u8],
@@ -244,6 +247,7 @@ fn turns(
 }
 
 /// A chart that nests at most `depth` deep, and where it ends.
+#[cycle(reference)]
 pub fn chart(
     alloc: Global,
     text: &[u8],
