@@ -20,3 +20,4 @@ pub mod RowsOfCommands
 pub mod RowsOfReports
 pub mod RowsOfActStates
 pub mod RowsOfClearance
+pub mod Documents

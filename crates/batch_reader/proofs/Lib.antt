@@ -3,14 +3,3 @@ pub mod Items
 pub mod Distinct
 pub mod CellNames
 pub mod OneCell
-pub mod ChartBytes
-pub mod ChartTexts
-pub mod ChartNumbers
-pub mod ChartWords
-pub mod ChartFrames
-pub mod ChartTokens
-pub mod ChartComplete
-pub mod ChartSound
-pub mod ChartFront
-pub mod ChartForms
-pub mod ChartRead

@@ -1,8 +1,3 @@
 pub mod Entries
 pub mod Words
 pub mod CellDocument
-pub mod ChartGrammar
-pub mod ChartAnswer
-pub mod ChartForm
-pub mod ChartMachine
-pub mod ChartView

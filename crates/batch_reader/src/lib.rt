@@ -5,7 +5,6 @@ mod cell_document;
 mod cell_tables;
 #[cfg(test)]
 mod cell_tests;
-mod charts;
 mod entries;
 mod equipment;
 mod fault;
@@ -18,9 +17,6 @@ mod refusal_tests;
 mod resources;
 mod tables;
 
+pub use batch_grammar::{ChartFault, MAX_CHART_LEN, read_chart};
 pub use cell_document::{MAX_DOCUMENT_LEN, read_cell};
-pub use charts::{
-    ChartFault, MAX_CHART_LEN, a_chart_has_its_pars, a_chart_is_well_formed, a_text_has_one_chart,
-    read_chart,
-};
 pub use fault::{DocFault, EntryFault, Spot, TableKind};

@@ -1,0 +1,11 @@
+pub mod ChartBytes
+pub mod ChartTexts
+pub mod ChartNumbers
+pub mod ChartWords
+pub mod ChartFrames
+pub mod ChartTokens
+pub mod ChartComplete
+pub mod ChartSound
+pub mod ChartFront
+pub mod ChartForms
+pub mod ChartRead

@@ -1,0 +1,5 @@
+pub mod ChartGrammar
+pub mod ChartAnswer
+pub mod ChartForm
+pub mod ChartMachine
+pub mod ChartView

@@ -1,0 +1,63 @@
+//! What is noted of a text beside its chart.
+ghost use Rattle.std.specs.Prelude.{◌≡◌, Option};
+ghost use Rattle.batch_grammar.specs.ChartMachine.{first_or, no_firsts, noted, number_offsets, sign_offsets};
+ghost use Rattle.batch_grammar.specs.ChartView.{want_view};
+
+use crate::want::Want;
+use batch_recipe::MAX_VALUE;
+
+/// The most turns of a loop.
+const MAX_TURNS: u64 = 1_000;
+
+/// The first of each kind of offset.
+#[derive(Clone, Copy)]
+pub struct Firsts {
+    /// Where the first number out of range begins.
+    pub outside: Option<usize>,
+    /// Where the first `par` opens.
+    pub par: Option<usize>,
+}
+
+impl Firsts {
+    pub fn none() -> Firsts
+        ensures { result ≡ no_firsts }
+    {
+        Firsts {
+            outside: None,
+            par: None,
+        }
+    }
+
+    /// With the number that begins at the offset.
+    pub fn with_number(self, want: &Want, number: u64, offset: usize) -> Firsts
+        ensures { result ≡ noted self (number_offsets (want_view want.now) number offset) }
+    {
+        let is_within = match want {
+            Want::Turns => 1 <= number && number <= MAX_TURNS,
+            Want::Operand(_, _, _) => number <= MAX_VALUE,
+            _ => true,
+        };
+        if is_within {
+            return self;
+        }
+        Firsts {
+            outside: self.outside.or(Some(offset)),
+            par: self.par,
+        }
+    }
+
+    /// With the sign at the offset.
+    pub fn with_sign(self, want: &Want, offset: usize) -> Firsts
+        ensures { result ≡ noted self (sign_offsets (want_view want.now) offset) }
+    {
+        match want {
+            Want::OpenPar => {
+                Firsts {
+                    outside: self.outside,
+                    par: self.par.or(Some(offset)),
+                }
+            }
+            _ => self,
+        }
+    }
+}

@@ -1,0 +1,75 @@
+//! The ends of forms.
+ghost use Rattle.std.specs.Prelude.{◌≡◌, ◌∷◌, [], ◌++◌, IfOk};
+ghost use Rattle.batch_recipe.specs.Diagram as chart;
+ghost use Rattle.batch_recipe.specs.Diagram.{cases_of, diagram_of, diagrams_of};
+ghost use Rattle.batch_grammar.specs.ChartMachine.{close_par, take_close};
+ghost use Rattle.batch_grammar.specs.ChartView.{Gives, after_view, cases_view, diagrams_view, frames_view};
+
+use crate::fault::Stop;
+use crate::frame::Frame;
+use crate::stack::popped;
+use crate::want::Want;
+use batch_recipe::{Chart, Cond};
+use std::alloc::{AllocError, Global};
+
+/// The end of a `seq`.
+#[tactic(auto, using(crate::proofs::ChartFrames::diagrams_view_last, crate::proofs::ChartFrames::diagram_of_seq))]
+fn close_seq(mut charts: Vec<Chart>, last: Chart) -> Result<Chart, AllocError>
+    ensures { IfOk result (λ whole. diagram_of whole ≡ chart.seq (diagrams_of (diagrams_view charts.items ++ diagram_of last ∷ []))) }
+{
+    charts.push(last)?;
+    Ok(Chart::Seq(charts))
+}
+
+/// The end of a `par`, which has two branches or more.
+#[tactic(auto, using(crate::proofs::ChartFrames::diagrams_view_last, crate::proofs::ChartFrames::diagram_of_par))]
+fn close_par(
+    mut charts: Vec<Chart>,
+    last: Chart,
+    stack: Vec<Frame>,
+) -> Result<(Want, Vec<Frame>), Stop>
+    ensures { Gives after_view result (close_par (diagrams_view charts.items) (diagram_of last) (frames_view stack.items)) }
+{
+    if charts.is_empty() {
+        return Err(Stop::NotAChart);
+    }
+    charts.push(last)?;
+    Ok((Want::AfterChart(Chart::Par(charts)), stack))
+}
+
+/// The end of a `sel`.
+#[tactic(auto, using(crate::proofs::ChartFrames::diagram_of_sel))]
+fn close_sel(alloc: Global, cases: Vec<(Cond, Chart)>, last: Chart) -> Result<Chart, AllocError>
+    ensures { IfOk result (λ whole. diagram_of whole ≡ chart.sel (cases_of (cases_view cases.items) (diagram_of last))) }
+{
+    Ok(Chart::Sel(cases, Box::new(alloc, last)?))
+}
+
+/// The end of a `loop`.
+#[tactic(auto, using(crate::proofs::ChartFrames::diagram_of_loop))]
+fn close_loop(alloc: Global, turns: u64, condition: Cond, body: Chart) -> Result<Chart, AllocError>
+    ensures { IfOk result (λ whole. diagram_of whole ≡ chart.loop turns condition (diagram_of body)) }
+{
+    Ok(Chart::Loop(turns, condition, Box::new(alloc, body)?))
+}
+
+/// A closing parenthesis after a chart.
+pub fn take_close(alloc: Global, last: Chart, stack: Vec<Frame>) -> Result<(Want, Vec<Frame>), Stop>
+    ensures { Gives after_view result (take_close (diagram_of last) (frames_view stack.items)) }
+{
+    let Some((frame, stack)) = popped(stack) else {
+        return Err(Stop::NotAChart);
+    };
+    match frame {
+        Frame::Seq(charts) => Ok((Want::AfterChart(close_seq(charts, last)?), stack)),
+        Frame::Par(charts) => close_par(charts, last, stack),
+        Frame::Else(cases) => Ok((Want::AfterChart(close_sel(alloc, cases, last)?), stack)),
+        Frame::Loop(turns, condition) => {
+            Ok((
+                Want::AfterChart(close_loop(alloc, turns, condition, last)?),
+                stack,
+            ))
+        }
+        Frame::Case(_, _) => Err(Stop::NotAChart),
+    }
+}

@@ -1,0 +1,43 @@
+//! What a whole number or an operator changes in what is wanted.
+ghost use Rattle.std.specs.Prelude.{◌≡◌};
+ghost use Rattle.batch_text.specs.NumberText.{number_of, IsNumber};
+ghost use Rattle.batch_grammar.specs.ChartMachine.{take_number, take_operator};
+ghost use Rattle.batch_grammar.specs.ChartView.{Gives, want_view};
+
+use crate::fault::Stop;
+use crate::want::Want;
+use batch_recipe::{Cond, Op, Term};
+use batch_text::read_number;
+
+/// The number that the digits write, whatever it is.
+#[tactic(auto, using(crate::proofs::ChartNumbers::number_fits))]
+pub fn number_of(digits: &[u8]) -> u64
+    requires { IsNumber digits.now }
+    ensures { result ≡ number_of digits.now }
+{
+    read_number(digits, u64::MAX).unwrap()
+}
+
+/// A number.
+pub fn take_number(want: Want, number: u64) -> Result<Want, Stop>
+    ensures { Gives want_view result (take_number (want_view want) number) }
+{
+    match want {
+        Want::Turns => Ok(Want::AfterTurns(number)),
+        Want::Operand(test, name, op) => {
+            let term = Term::Number(number);
+            Ok(Want::AfterCond(test, Cond { name, op, term }))
+        }
+        _ => Err(Stop::NotAChart),
+    }
+}
+
+/// An operator.
+pub fn take_operator(want: Want, op: Op) -> Result<Want, Stop>
+    ensures { Gives want_view result (take_operator (want_view want) op) }
+{
+    match want {
+        Want::Operator(test, name) => Ok(Want::Operand(test, name, op)),
+        _ => Err(Stop::NotAChart),
+    }
+}

@@ -1,0 +1,67 @@
+//! The reader of charts.
+ghost use Rattle.std.specs.Prelude.{◌≡◌, ℕ, IfOk, Err};
+ghost use Rattle.batch_recipe.specs.Diagram.{diagram_of};
+ghost use Rattle.batch_grammar.specs.ChartAnswer.{HasFaultAt, IsOutsideAt, IsRead};
+ghost use Rattle.batch_grammar.specs.ChartGrammar.{IsChart};
+
+use crate::fault::{ChartFault, Stop};
+use crate::firsts::Firsts;
+use crate::lexeme::Lexeme;
+use crate::state::State;
+use crate::steps::{finish, step};
+use crate::want::Want;
+use batch_recipe::Chart;
+use std::alloc::Global;
+
+/// The longest chart text of a document, in bytes. The reader itself takes any length.
+pub const MAX_CHART_LEN: usize = 16_384;
+
+/// The chart of a text, and where its first `par` opens.
+#[derive(Drop)]
+pub struct ReadChart {
+    pub chart: Chart,
+    pub first_par: Option<usize>,
+}
+
+/// Reads the chart of a text, as [`read_chart`] does, and tells where its first `par` opens.
+pub fn read_chart_and_par(alloc: Global, text: &[u8]) -> Result<ReadChart, ChartFault>
+    ensures found { IfOk result (λ read. IsRead text.now (diagram_of read.chart) read.first_par) }
+    ensures no_chart { (n : ℕ) → result ≡ Err (ChartFault.NotAChart n) → HasFaultAt text.now n }
+    ensures out_of_range { (n : ℕ) → result ≡ Err (ChartFault.OutOfRange n) → IsOutsideAt text.now n }
+{
+    let mut state = State {
+        lexeme: Lexeme::Nothing,
+        want: Want::Chart,
+        stack: Vec::new(alloc),
+        firsts: Firsts::none(),
+    };
+    for place in 0..text.len() {
+        state = match step(alloc, text, state, place) {
+            Ok(next) => next,
+            Err(Stop::NotAChart) => return Err(ChartFault::NotAChart(place)),
+            Err(Stop::Memory) => return Err(ChartFault::Memory),
+        };
+    }
+    let (chart, firsts) = match finish(alloc, text, state) {
+        Ok(found) => found,
+        Err(Stop::NotAChart) => return Err(ChartFault::NotAChart(text.len())),
+        Err(Stop::Memory) => return Err(ChartFault::Memory),
+    };
+    match firsts.outside {
+        None => Ok(ReadChart {
+            chart,
+            first_par: firsts.par,
+        }),
+        Some(offset) => Err(ChartFault::OutOfRange(offset)),
+    }
+}
+
+/// Reads the chart of a text.
+pub fn read_chart(alloc: Global, text: &[u8]) -> Result<Chart, ChartFault>
+    ensures found { IfOk result (λ chart. IsChart text.now (diagram_of chart)) }
+    ensures no_chart { (n : ℕ) → result ≡ Err (ChartFault.NotAChart n) → HasFaultAt text.now n }
+    ensures out_of_range { (n : ℕ) → result ≡ Err (ChartFault.OutOfRange n) → IsOutsideAt text.now n }
+{
+    let read = read_chart_and_par(alloc, text)?;
+    Ok(read.chart)
+}

@@ -1,0 +1,110 @@
+//! What a sign changes in what is wanted.
+ghost use Rattle.std.specs.Prelude.{◌≡◌, ◌∷◌, ◌==◌, true, false, Some, MatchResult};
+ghost use Rattle.batch_recipe.specs.Diagram.{diagram_of};
+ghost use Rattle.batch_grammar.specs.ChartMachine.{a_chart, take_comma, take_sign};
+ghost use Rattle.batch_grammar.specs.ChartView.{Gives, after_view, frame_view, frames_view, want_view};
+
+use crate::fault::Stop;
+use crate::forms::take_close;
+use crate::frame::Frame;
+use crate::stack::{popped, pushed};
+use crate::want::{Test, Want};
+use batch_recipe::Chart;
+use std::alloc::Global;
+
+/// The byte is the sign.
+fn expect(byte: u8, sign: u8) -> Result<(), Stop>
+    ensures { MatchResult result (λ _. (byte == sign) ≡ true) (λ e. (e ≡ Stop.NotAChart) × ((byte == sign) ≡ false)) }
+{
+    if byte == sign {
+        Ok(())
+    } else {
+        Err(Stop::NotAChart)
+    }
+}
+
+/// A chart begins inside the frame.
+fn inside(stack: Vec<Frame>, frame: Frame) -> Result<(Want, Vec<Frame>), Stop>
+    ensures { Gives after_view result (Some (a_chart, frame_view frame ∷ frames_view stack.items)) }
+{
+    Ok((Want::Chart, pushed(stack, frame)?))
+}
+
+/// A comma after a chart.
+#[tactic(auto, using(crate::proofs::ChartFrames::diagrams_view_last, crate::proofs::ChartFrames::cases_view_last))]
+fn take_comma(chart: Chart, stack: Vec<Frame>) -> Result<(Want, Vec<Frame>), Stop>
+    ensures { Gives after_view result (take_comma (diagram_of chart) (frames_view stack.items)) }
+{
+    let Some((frame, stack)) = popped(stack) else {
+        return Err(Stop::NotAChart);
+    };
+    match frame {
+        Frame::Seq(mut charts) => {
+            charts.push(chart)?;
+            inside(stack, Frame::Seq(charts))
+        }
+        Frame::Par(mut charts) => {
+            charts.push(chart)?;
+            inside(stack, Frame::Par(charts))
+        }
+        Frame::Case(mut cases, condition) => {
+            cases.push((condition, chart))?;
+            Ok((Want::Name(Test::Sel(cases)), stack))
+        }
+        Frame::Else(_) | Frame::Loop(_, _) => Err(Stop::NotAChart),
+    }
+}
+
+/// A parenthesis, a comma or a colon.
+pub fn take_sign(
+    alloc: Global,
+    want: Want,
+    byte: u8,
+    stack: Vec<Frame>,
+) -> Result<(Want, Vec<Frame>), Stop>
+    ensures { Gives after_view result (take_sign (want_view want) byte (frames_view stack.items)) }
+{
+    match want {
+        Want::OpenSeq => {
+            expect(byte, b'(')?;
+            inside(stack, Frame::Seq(Vec::new(alloc)))
+        }
+        Want::OpenPar => {
+            expect(byte, b'(')?;
+            inside(stack, Frame::Par(Vec::new(alloc)))
+        }
+        Want::OpenSel => {
+            expect(byte, b'(')?;
+            Ok((Want::Name(Test::Sel(Vec::new(alloc))), stack))
+        }
+        Want::OpenLoop => {
+            expect(byte, b'(')?;
+            Ok((Want::Turns, stack))
+        }
+        Want::AfterTurns(turns) => {
+            expect(byte, b',')?;
+            Ok((Want::Name(Test::Loop(turns)), stack))
+        }
+        Want::AfterCond(test, condition) => match test {
+            Test::Sel(cases) => {
+                expect(byte, b':')?;
+                inside(stack, Frame::Case(cases, condition))
+            }
+            Test::Loop(turns) => {
+                expect(byte, b',')?;
+                inside(stack, Frame::Loop(turns, condition))
+            }
+        },
+        Want::AfterElse(cases) => {
+            expect(byte, b':')?;
+            inside(stack, Frame::Else(cases))
+        }
+        Want::AfterChart(chart) => match byte {
+            b',' => take_comma(chart, stack),
+            b')' => take_close(alloc, chart, stack),
+            _ => Err(Stop::NotAChart),
+        },
+        Want::Chart | Want::Turns | Want::Name(_) | Want::Operator(_, _) | Want::Operand(_, _, _) =>
+            { Err(Stop::NotAChart) }
+    }
+}

@@ -1,0 +1,182 @@
+//! Charts, faults and their offsets; expected values are those of the chart grammar.
+
+mod against;
+mod reference;
+
+use crate::fault::ChartFault;
+use crate::reading::{read_chart, read_chart_and_par};
+use std::alloc::{AllocError, Global};
+use std::test::Fail;
+
+fn fault(alloc: Global, text: &str) -> Option<ChartFault> {
+    read_chart(alloc, text.as_bytes()).err()
+}
+
+fn first_par(alloc: Global, text: &str) -> Option<usize> {
+    match read_chart_and_par(alloc, text.as_bytes()) {
+        Ok(read) => read.first_par,
+        Err(_) => None,
+    }
+}
+
+/// So many times `seq(`, then `a`, then as many times `)`.
+fn nested(alloc: Global, depth: usize) -> Result<String, AllocError> {
+    let mut text = String::new(alloc);
+    for _ in 0..depth {
+        text.push_str("seq(")?;
+    }
+    text.push_str("a")?;
+    for _ in 0..depth {
+        text.push_str(")")?;
+    }
+    Ok(text)
+}
+
+#[test]
+fn charts_are_taken(rt: HostRuntime) -> Result<(), Fail> {
+    let alloc = rt.alloc();
+    for text in [
+        "a",
+        " skip\t\r\n",
+        "skipx",
+        "seqs",
+        "loop1",
+        "el",
+        "els",
+        "par-1",
+        "abcdefghijklmnopqrstuvwxyzabcdef",
+        "seq(a)",
+        "par(a, b)",
+        "seq ( a , skip,par(b,c) )",
+        "sel(X = 1: a, else: b)",
+        "sel(X<1:a,Y>=Z:skip,else:b)",
+        "loop(1000, X > 0, a)",
+        "loop(1, X > 1000000000000, a)",
+        "loop(007,X/=0000000000000000001,a)",
+        "sel(X <= 3: loop(1, A = B, c), else: seq(d))",
+    ] {
+        assert_eq!(rt; fault(alloc, text), None, "{text}");
+    }
+    let deep = nested(alloc, 32)?;
+    assert_eq!(rt; fault(alloc, deep.as_str()), None);
+    Ok(())
+}
+
+#[test]
+fn no_charts_are_told_at_their_byte(rt: HostRuntime) -> Result<(), Fail> {
+    let alloc = rt.alloc();
+    for (text, place) in [
+        (" ", 1),
+        ("par(a)", 5),
+        ("sel(X = 1: a)", 12),
+        ("loop(1001, X > 0, a", 19),
+        ("skip(", 4),
+        ("seq", 3),
+        ("par", 3),
+        ("sel", 3),
+        ("loop", 4),
+        ("else", 4),
+        ("else)", 4),
+        ("sel)", 3),
+        ("seq(a)b", 6),
+        ("seq(a", 5),
+        ("1", 0),
+        ("a b", 2),
+        ("seq1(", 4),
+        ("sel(else: a)", 8),
+        ("sel(X =< 1: a, else: b)", 7),
+        ("sel(X / 1: a", 7),
+        ("sel(X = 12345678901234567890: a", 27),
+        ("abcdefghijklmnopqrstuvwxyzabcdefg", 32),
+        ("loop(X, X > 0, a)", 5),
+        ("sel(X = 1: a, X = 2: b)", 22),
+        ("sel(X = seq: a", 11),
+        ("sel(X < = 1: a", 8),
+        ("loop(1 2", 7),
+    ] {
+        assert_eq!(rt;
+            fault(alloc, text),
+            Some(ChartFault::NotAChart(place)),
+            "{text}"
+        );
+    }
+    let deep = nested(alloc, 33)?;
+    assert_eq!(rt;
+        fault(alloc, deep.as_str()),
+        Some(ChartFault::NotAChart(131))
+    );
+    Ok(())
+}
+
+#[test]
+fn numbers_out_of_range_are_told_at_their_first_digit(rt: HostRuntime) -> Result<(), Fail> {
+    let alloc = rt.alloc();
+    for (text, place) in [
+        ("loop(0,X > 0,a)", 5),
+        ("loop(1001, X > 0, a)", 5),
+        ("loop(1, X > 1000000000001, a)", 12),
+        ("loop( 0, X > 1000000000001, a)", 6),
+        ("seq(a, sel(X = 9999999999999999999: b, else: c))", 15),
+    ] {
+        assert_eq!(rt;
+            fault(alloc, text),
+            Some(ChartFault::OutOfRange(place)),
+            "{text}"
+        );
+    }
+    Ok(())
+}
+
+#[test]
+fn fronts_of_a_chart(rt: HostRuntime) -> Result<(), Fail> {
+    let alloc = rt.alloc();
+    let text = "seq(a,par(b,c))".as_bytes();
+    for length in 0..=text.len() {
+        let front = text.get(..length).ok_or("a front")?;
+        let fault = read_chart(alloc, front).err();
+        if length == 1 || length == 2 || length == 15 {
+            assert_eq!(rt; fault, None, "{length}");
+        } else {
+            assert_eq!(rt; fault, Some(ChartFault::NotAChart(length)), "{length}");
+        }
+    }
+    Ok(())
+}
+
+#[test]
+fn chart_offsets(rt: HostRuntime) -> Result<(), Fail> {
+    let alloc = rt.alloc();
+    for (text, place) in [("seq(a,par(b,c)", 14), ("seq()", 4), ("", 0)] {
+        assert_eq!(rt;
+            fault(alloc, text),
+            Some(ChartFault::NotAChart(place)),
+            "{text}"
+        );
+    }
+    let close = read_chart(alloc, b"seq(a,par(b,c))".as_slice())
+        .ok()
+        .ok_or("a chart")?;
+    let wide = read_chart(alloc, b"seq( a , par( b , c ) )".as_slice())
+        .ok()
+        .ok_or("a chart")?;
+    assert_eq!(rt;
+        format!(in alloc; "{close:?}")?,
+        format!(in alloc; "{wide:?}")?
+    );
+    Ok(())
+}
+
+#[test]
+fn the_first_par_is_told_at_its_parenthesis(rt: HostRuntime) -> Result<(), Fail> {
+    let alloc = rt.alloc();
+    for (text, place) in [
+        ("seq(a, b)", None),
+        ("para", None),
+        ("par(a,b)", Some(3)),
+        ("seq(a, par (b, par(c, d)), par(e, f))", Some(11)),
+        ("sel(X = 1: a, else: par(b, c))", Some(23)),
+    ] {
+        assert_eq!(rt; first_par(alloc, text), place, "{text}");
+    }
+    Ok(())
+}

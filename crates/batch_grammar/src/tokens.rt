@@ -1,0 +1,96 @@
+//! How a token goes on and ends.
+ghost use Rattle.std.specs.Prelude.{◌≡◌, ◌+◌, ◌<◌, ◌≤◌, ℕ, List, length, slice_index, MatchResult};
+ghost use Rattle.batch_text.specs.NameText.{IsName};
+ghost use Rattle.batch_text.specs.NumberText.{IsNumber};
+ghost use Rattle.batch_grammar.specs.ChartMachine.{end_number, end_token, go_on, take_operator, take_word, with_want, IsGood};
+ghost use Rattle.batch_grammar.specs.ChartView.{Gives, frames_view, lexeme_view, state_view, want_view};
+
+use crate::fault::Stop;
+use crate::lexeme::Lexeme;
+use crate::numbers::{number_of, take_number, take_operator};
+use crate::state::State;
+use crate::words::take_word;
+use batch_recipe::Op;
+use batch_text::{MAX_DIGITS, MAX_NAME_LEN};
+use std::alloc::Global;
+
+/// A word or a number goes on with the byte at the place, where it may be longer.
+fn longer(token: &[u8], most: usize, state: State) -> Result<State, Stop>
+    ensures { MatchResult result (λ next. (length token.now < most) × (next ≡ state)) (λ stop. (stop ≡ Stop.NotAChart) × (most ≤ length token.now)) }
+{
+    if token.len() < most {
+        Ok(state)
+    } else {
+        Err(Stop::NotAChart)
+    }
+}
+
+/// The token is an operator of two bytes.
+pub fn end_operator(state: State, op: Op) -> Result<State, Stop>
+    ensures { (text : List ℕ) (before place : ℕ) → Gives (state_view text place) result (with_want (state_view text before state) (take_operator (want_view state.want) op)) }
+{
+    let want = take_operator(state.want, op)?;
+    Ok(State::between(want, state.stack, state.firsts))
+}
+
+/// The token goes on with the byte at the place.
+#[tactic(auto, using(crate::proofs::ChartTexts::begun_name, crate::proofs::ChartTexts::begun_number, crate::proofs::ChartTexts::one_more))]
+pub fn go_on(text: &[u8], state: State, place: usize) -> Result<State, Stop>
+    requires inside { place < length text.now }
+    requires good { IsGood (lexeme_view text.now place state.lexeme) }
+    ensures { Gives (state_view text.now (place + 1)) result
+        (go_on (lexeme_view text.now place state.lexeme) (slice_index text.now place) (state_view text.now place state)) }
+{
+    match state.lexeme {
+        Lexeme::Nothing => Err(Stop::NotAChart),
+        Lexeme::Letters(start) => longer(&text[start..place], MAX_NAME_LEN, state),
+        Lexeme::Digits(start) => longer(&text[start..place], MAX_DIGITS, state),
+        Lexeme::Less => end_operator(state, Op::AtMost),
+        Lexeme::More => end_operator(state, Op::AtLeast),
+        Lexeme::Slash => end_operator(state, Op::NotEqual),
+    }
+}
+
+/// The number, before the byte at the place.
+#[tactic(auto, unfolding(crate::specs::ChartMachine::end_number))]
+fn end_number(digits: &[u8], state: State, place: usize) -> Result<State, Stop>
+    requires number { IsNumber digits.now }
+    requires room { length digits.now ≤ place }
+    ensures { (text : List ℕ) (before after : ℕ) → Gives (state_view text after) result (end_number place digits.now (state_view text before state)) }
+{
+    let number = number_of(digits);
+    let firsts = state
+        .firsts
+        .with_number(&state.want, number, place - digits.len());
+    let want = take_number(state.want, number)?;
+    Ok(State::between(want, state.stack, firsts))
+}
+
+/// The word ends.
+#[tactic(auto, using(crate::proofs::ChartFrames::frames_view_length))]
+fn end_word(alloc: Global, word: &[u8], state: State) -> Result<State, Stop>
+    requires { IsName word.now }
+    ensures { (text : List ℕ) (before after : ℕ) → Gives (state_view text after) result
+        (with_want (state_view text before state) (take_word (want_view state.want) word.now (length (frames_view state.stack.items)))) }
+{
+    let want = take_word(alloc, state.want, word, state.stack.len())?;
+    Ok(State::between(want, state.stack, state.firsts))
+}
+
+/// The token ends before the byte at the place.
+#[tactic(auto, using(crate::proofs::ChartTexts::begun_name, crate::proofs::ChartTexts::begun_number))]
+pub fn end_token(alloc: Global, text: &[u8], state: State, place: usize) -> Result<State, Stop>
+    requires inside { place ≤ length text.now }
+    requires good { IsGood (lexeme_view text.now place state.lexeme) }
+    ensures { Gives (state_view text.now place) result
+        (end_token place (lexeme_view text.now place state.lexeme) (state_view text.now place state)) }
+{
+    match state.lexeme {
+        Lexeme::Nothing => Ok(state),
+        Lexeme::Letters(start) => end_word(alloc, &text[start..place], state),
+        Lexeme::Digits(start) => end_number(&text[start..place], state, place),
+        Lexeme::Less => end_operator(state, Op::Less),
+        Lexeme::More => end_operator(state, Op::Greater),
+        Lexeme::Slash => Err(Stop::NotAChart),
+    }
+}

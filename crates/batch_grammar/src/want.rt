@@ -1,0 +1,52 @@
+//! What has to come next.
+ghost use Rattle.std.specs.Prelude.{◌≡◌};
+ghost use Rattle.batch_grammar.specs.ChartMachine.{takes_number, takes_operator, takes_word};
+ghost use Rattle.batch_grammar.specs.ChartView.{want_view};
+
+use batch_recipe::{Chart, Cond, Op};
+use batch_text::Name;
+
+/// The form whose condition is being read.
+#[derive(Drop)]
+pub enum Test {
+    Sel(Vec<(Cond, Chart)>),
+    Loop(u64),
+}
+
+/// What the next token has to be.
+#[derive(Drop)]
+pub enum Want {
+    Chart,
+    OpenSeq,
+    OpenPar,
+    OpenSel,
+    OpenLoop,
+    Turns,
+    AfterTurns(u64),
+    Name(Test),
+    Operator(Test, Name),
+    Operand(Test, Name, Op),
+    AfterCond(Test, Cond),
+    AfterElse(Vec<(Cond, Chart)>),
+    AfterChart(Chart),
+}
+
+impl Want {
+    pub fn takes_word(&self) -> bool
+        ensures { result ≡ takes_word (want_view self.now) }
+    {
+        matches!(self, Want::Chart | Want::Name(_) | Want::Operand(_, _, _))
+    }
+
+    pub fn takes_number(&self) -> bool
+        ensures { result ≡ takes_number (want_view self.now) }
+    {
+        matches!(self, Want::Turns | Want::Operand(_, _, _))
+    }
+
+    pub fn takes_operator(&self) -> bool
+        ensures { result ≡ takes_operator (want_view self.now) }
+    {
+        matches!(self, Want::Operator(_, _))
+    }
+}

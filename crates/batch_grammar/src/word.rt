@@ -1,0 +1,54 @@
+//! The words of chart texts.
+ghost use Rattle.std.specs.Prelude.{◌≡◌, ◌≢◌, IfOk, IsOkUnless};
+ghost use Rattle.batch_text.specs.NameText.{IsName};
+ghost use Rattle.batch_grammar.specs.ChartMachine.{word_of};
+
+use crate::fault::Stop;
+use batch_text::{Name, TextFault};
+use std::alloc::Global;
+
+/// What a word is: one of the six words with a meaning, or a name.
+#[derive(Clone, Copy, Debug, PartialEq, Eq)]
+pub enum Word {
+    Name,
+    Skip,
+    Seq,
+    Par,
+    Sel,
+    Loop,
+    Else,
+}
+
+/// What the word is.
+pub fn word_of(word: &[u8]) -> Word
+    ensures { result ≡ word_of word.now }
+{
+    if word == b"skip".as_slice() {
+        Word::Skip
+    } else if word == b"seq".as_slice() {
+        Word::Seq
+    } else if word == b"par".as_slice() {
+        Word::Par
+    } else if word == b"sel".as_slice() {
+        Word::Sel
+    } else if word == b"loop".as_slice() {
+        Word::Loop
+    } else if word == b"else".as_slice() {
+        Word::Else
+    } else {
+        Word::Name
+    }
+}
+
+/// The name that the word is.
+pub fn name_of(alloc: Global, word: &[u8]) -> Result<Name, Stop>
+    requires { IsName word.now }
+    ensures value { IfOk result (λ name. name ≡ word.now) }
+    ensures only_memory { IsOkUnless result Stop.Memory }
+{
+    match Name::read(alloc, word) {
+        Ok(name) => Ok(name),
+        Err(TextFault::Memory) => Err(Stop::Memory),
+        Err(_) => unreachable!(),
+    }
+}
