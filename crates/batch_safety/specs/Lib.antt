@@ -5,3 +5,4 @@ pub mod Telling
 pub mod Settlement
 pub mod Ways
 pub mod Example
+pub mod Sets

@@ -6,6 +6,7 @@
 ghost use Rattle.batch_safety.specs.Example.{PremisesCanBeMet};
 ghost use Rattle.batch_safety.specs.Headline.{CanOnlyBeSafe};
 ghost use Rattle.batch_safety.specs.Procedures.{RecipesAreProcedures, TreesAreProcedures};
+ghost use Rattle.batch_safety.specs.Sets.{ClearedSetsRunSafely, SetsAreDocuments};
 ghost use Rattle.batch_safety.specs.Settlement.{NobodyWaitsInVain};
 ghost use Rattle.batch_safety.specs.Telling.{TellsThePlant};
 ghost use Rattle.batch_safety.specs.Ways.{WaysRise};
@@ -42,4 +43,14 @@ pub fn trees_have_units()
 /// There are documents that meet the premises of these laws.
 pub fn premises_can_be_met()
     ensures { PremisesCanBeMet }
+{}
+
+/// What these laws ask of documents beside clearance holds of every cell and of all recipes, since their types keep it.
+pub fn sets_are_documents()
+    ensures { SetsAreDocuments }
+{}
+
+/// So recipes that clearance accepts for a cell run safely.
+pub fn cleared_sets_run_safely()
+    ensures { ClearedSetsRunSafely }
 {}

@@ -1,0 +1,24 @@
+-- The laws for the documents of a cell and recipes.
+use Rattle.batch_model.specs.Documents.{cell_of, documents_of}
+use Rattle.batch_safety.specs.Premises.{AreDocuments}
+use Rattle.batch_safety.specs.Sets.{SetsAreDocuments, ClearedSetsRunSafely}
+use Rattle.batch_safety.proofs.Clearing.{cleared-down}
+use Rattle.batch_safety.proofs.Exclusive.{unit_is_exclusive}
+use Rattle.batch_safety.proofs.Levels.{recipes_are_procedures}
+use Rattle.batch_safety.proofs.Safe.{safe}
+use Rattle.batch_safety.proofs.Telling.{tells_the_plant}
+use Rattle.batch_safety.proofs.Working.{nobody_waits_in_vain}
+
+pub sets_are_documents : SetsAreDocuments
+sets_are_documents c recipes = record { exclusive = unit_is_exclusive c; procedures = recipes_are_procedures recipes }
+
+pub cleared_sets_run_safely : ClearedSetsRunSafely
+cleared_sets_run_safely c recipes (rank, cleared) =
+    let cell = cell_of c in
+    let documents = documents_of c recipes in
+    let kept : AreDocuments cell documents = sets_are_documents c recipes in
+    record {
+      safe = safe documents rank (cleared-down cell documents rank kept cleared);
+      told = tells_the_plant documents rank (cleared-down cell documents rank kept cleared);
+      settled = nobody_waits_in_vain cell documents rank kept cleared;
+    }

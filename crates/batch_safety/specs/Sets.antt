@@ -1,0 +1,30 @@
+-- Sets of recipes for a cell, as they are read from documents, and what clearance promises of them.
+use Rattle.std.specs.Prelude.{◌≡◌, List, None}
+use Rattle.batch_cell.specs.declared.cell.Cell as equipment
+use Rattle.batch_recipe.specs.declared.recipe.Recipe as document
+use Rattle.batch_model.specs.Plant.{Plant, opening}
+use Rattle.batch_model.specs.Moves.{next}
+use Rattle.batch_model.specs.Events.{Event}
+use Rattle.batch_model.specs.Runs.{Out, Leads}
+use Rattle.batch_model.specs.Records.{IsSafe}
+use Rattle.batch_model.specs.Cleared.{CanBeCleared}
+use Rattle.batch_model.specs.Documents.{cell_of, documents_of}
+use Rattle.batch_safety.specs.Premises.{AreDocuments}
+use Rattle.batch_safety.specs.Settlement.{WaitsForSomething}
+use Rattle.batch_safety.specs.Telling.{IsTold}
+
+-- whatever the cell and the recipes, what the laws ask beside clearance holds of them
+abbrev pub SetsAreDocuments : Type 0
+SetsAreDocuments = (c : equipment.Cell) (recipes : List document.Recipe) → AreDocuments (cell_of c) (documents_of c recipes)
+
+-- what is promised of every record that the recipes lead to in the cell
+pub record RunsSafely (c : equipment.Cell) (recipes : List document.Recipe) : Type 0 where
+  pub safe : (events : List Event) (record_so_far : List Out) (plant : Plant) → Leads (documents_of c recipes) opening events record_so_far plant
+      → IsSafe (documents_of c recipes) record_so_far
+  pub told : (events : List Event) (record_so_far : List Out) (plant : Plant) → Leads (documents_of c recipes) opening events record_so_far plant
+      → IsTold record_so_far plant
+  pub settled : (events : List Event) (record_so_far : List Out) (plant : Plant) → Leads (documents_of c recipes) opening events record_so_far plant
+      → next (documents_of c recipes) plant ≡ None → WaitsForSomething (cell_of c) (documents_of c recipes) plant
+
+abbrev pub ClearedSetsRunSafely : Type 0
+ClearedSetsRunSafely = (c : equipment.Cell) (recipes : List document.Recipe) → CanBeCleared (cell_of c) (documents_of c recipes) → RunsSafely c recipes
