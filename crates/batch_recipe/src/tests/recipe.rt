@@ -8,9 +8,9 @@ ghost use Rattle.batch_recipe.specs.declared.chart.Chart.{Chart};
 use crate::tests::parts::{act, label, step, table};
 use crate::tests::quantity;
 use crate::{
-    Act, Acts, Chart, FormulaFault, Header, Recipe, act_at, formula, node_count, place_at,
+    Act, Acts, Chart, FormulaFault, Header, Recipe, act_at, formula, node_at, node_count, place_at,
 };
-use batch_text::Name;
+use batch_text::{Name, Place};
 use std::alloc::Global;
 use std::test::Fail;
 
@@ -34,6 +34,25 @@ fn numbers_nodes_by_place(rt: HostRuntime) -> Result<(), Fail> {
         assert_eq!(rt; place_at(&recipe, 6, depth), want, "{depth}");
     }
     assert_eq!(rt; place_at(&recipe, 8, 0), None);
+    Ok(())
+}
+
+#[test]
+fn finds_nodes_by_place(rt: HostRuntime) -> Result<(), Fail> {
+    let alloc = rt.alloc();
+    let recipe = recipe(alloc, false)?;
+    for (place, want) in [
+        ("0", Some(0)),
+        ("0.0.0", Some(2)),
+        ("0.0.0.0.1", Some(5)),
+        ("0.0.0.0.1.1", Some(7)),
+        ("0.0.0.0.2", None),
+        ("0.1", None),
+        ("1", None),
+    ] {
+        let at = Place::read(alloc, place.as_bytes())?;
+        assert_eq!(rt; node_at(&recipe, &at), want, "{place}");
+    }
     Ok(())
 }
 
