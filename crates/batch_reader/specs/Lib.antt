@@ -1,3 +1,5 @@
 pub mod Entries
 pub mod Words
 pub mod CellDocument
+pub mod FormedActs
+pub mod SoundRecipe

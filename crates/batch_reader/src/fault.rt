@@ -7,13 +7,21 @@ use std::alloc::{AllocError, AllocFailed};
 use std::fmt;
 use thiserror::Error;
 
-/// A kind of table of a document. The top of a cell document is its table `cell`.
+/// A kind of table of a document. The top of a cell document is its table `cell`, and that of a recipe document `recipe`.
 #[derive(Clone, Copy, Debug, PartialEq, Eq)]
 pub enum TableKind {
     Cell,
     Unit,
     Module,
     Shared,
+    Recipe,
+    Input,
+    Parameter,
+    Output,
+    Procedure,
+    UnitProcedure,
+    Operation,
+    Phase,
 }
 
 impl fmt::Display for TableKind {
@@ -25,6 +33,14 @@ impl fmt::Display for TableKind {
             TableKind::Unit => "unit",
             TableKind::Module => "module",
             TableKind::Shared => "shared",
+            TableKind::Recipe => "recipe",
+            TableKind::Input => "input",
+            TableKind::Parameter => "parameter",
+            TableKind::Output => "output",
+            TableKind::Procedure => "procedure",
+            TableKind::UnitProcedure => "unit_procedure",
+            TableKind::Operation => "operation",
+            TableKind::Phase => "phase",
         })
     }
 }
