@@ -11,7 +11,7 @@ use Rattle.batch_cell.specs.declared.shared.Shared.{Shared}
 use Rattle.batch_cell.specs.declared.shared.TheConstants.{MAX_CAPACITY}
 use Rattle.batch_cell.specs.declared.unit.Unit.{Unit}
 use Rattle.batch_reader.specs.Entries.{HasName, HasNames, HasNumber, HasTables, has_only_keys}
-use Rattle.batch_reader.specs.declared.cell_document.TheConstants.{MAX_DOCUMENT_LEN}
+use Rattle.batch_reader.specs.declared.document.TheConstants.{MAX_DOCUMENT_LEN}
 
 -- the table stands for the unit
 pub record IsUnitTable (ms : Members) (unit : Unit) : Type 0 where

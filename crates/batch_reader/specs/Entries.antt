@@ -1,10 +1,13 @@
 -- What the entries of a table say.
-use Rattle.std.specs.Prelude.{◌≡◌, ℕ, ◌≤◌, pos, Bool, true, ◌&&◌, ⊤, List, [], ◌∷◌, Option, Some, option_and_then, nat_eq}
+use Rattle.std.specs.Prelude.{◌≡◌, ℕ, ◌≤◌, pos, Bool, true, false, ◌&&◌, ◌⊎◌, ⊤, List, [], ◌∷◌, length, Option, Some, None, option_and_then, nat_eq}
 use Rattle.std.specs.Cmp.Lexicographic.{pointwise}
 use Rattle.std.specs.List.{list_any}
 use Rattle.std.specs.Option.{option_map_or}
-use Rattle.toml.specs.Data.{Data, Items, no_items, item, Members, no_members, member, get_member, as_str, as_integer, as_array, as_table}
+use Rattle.toml.specs.Data.{Data, Items, no_items, item, Members, no_members, member, get_member, as_str, as_integer, as_bool, as_array, as_table}
 use Rattle.batch_text.specs.NameText.{IsName}
+use Rattle.batch_recipe.specs.Diagram.{Diagram}
+use Rattle.batch_grammar.specs.ChartGrammar.{IsChart, IsLabel}
+use Rattle.batch_grammar.specs.declared.reading.TheConstants.{MAX_CHART_LEN}
 
 -- each key of the table is one of these
 abbrev pub has_only_keys : List (List ℕ) → Members → Bool
@@ -20,6 +23,35 @@ pub record IsNameItem (d : Data) (name : List ℕ) : Type 0 where
 pub record HasName (key : List ℕ) (ms : Members) (name : List ℕ) : Type 0 where
   pub text : option_and_then as_str (get_member key ms) ≡ Some name
   pub valid : IsName name
+
+-- the key has a text, which is the name and none of the words of charts
+pub record HasLabel (key : List ℕ) (ms : Members) (name : List ℕ) : Type 0 where
+  pub text : option_and_then as_str (get_member key ms) ≡ Some name
+  pub label : IsLabel name
+
+-- the key has the name; where it is missing, the name is this other one
+abbrev pub HasNameOr : List ℕ → Members → List ℕ → List ℕ → Type 0
+HasNameOr key ms other name = HasName key ms name ⊎ ((get_member key ms ≡ None) × (name ≡ other))
+
+-- the key has the text, of at most so many bytes
+pub record HasText (key : List ℕ) (ms : Members) (most : ℕ) (text : List ℕ) : Type 0 where
+  pub found : option_and_then as_str (get_member key ms) ≡ Some text
+  pub short : length text ≤ most
+
+-- the key has the text; where it is missing, there is none
+abbrev pub MayHaveText : List ℕ → Members → ℕ → Option (List ℕ) → Type 0
+MayHaveText key ms most None = get_member key ms ≡ None
+MayHaveText key ms most (Some text) = HasText key ms most text
+
+-- the key has a text of the chart
+pub record HasChart (key : List ℕ) (ms : Members) (chart : Diagram) : Type 0 where
+  pub text : List ℕ
+  pub found : HasText key ms MAX_CHART_LEN text
+  pub is_chart : IsChart text chart
+
+-- the key has the truth value; where it is missing, it is false
+abbrev pub IsTruth : List ℕ → Members → Bool → Type 0
+IsTruth key ms b = option_map_or as_bool (get_member key ms) (Some false) ≡ Some b
 
 -- the key has the number, which is in range
 pub record HasNumber (key : List ℕ) (ms : Members) (low high number : ℕ) : Type 0 where
@@ -43,6 +75,19 @@ pub record HasNames (key : List ℕ) (ms : Members) (names : List (List ℕ)) : 
 -- the items of the array at a key, none where the key is missing
 abbrev pub items_at : List ℕ → Members → Option Items
 items_at key ms = option_map_or as_array (get_member key ms) (Some no_items)
+
+-- the key has a list of at most so many texts, which are the names; where it is missing, there are none
+pub record HasFewNames (key : List ℕ) (ms : Members) (most : ℕ) (names : List (List ℕ)) : Type 0 where
+  pub items : Items
+  pub found : items_at key ms ≡ Some items
+  pub listed : AllItems IsNameItem items names
+  pub few : length names ≤ most
+
+-- the key has a table that stands for x
+pub record HasTable {X : Type 0} (R : Members → X → Type 0) (key : List ℕ) (ms : Members) (x : X) : Type 0 where
+  pub members : Members
+  pub found : option_and_then as_table (get_member key ms) ≡ Some members
+  pub stands_for : R members x
 
 -- the item is a table that stands for x
 pub record IsTableOf {X : Type 0} (R : Members → X → Type 0) (d : Data) (x : X) : Type 0 where

@@ -3,3 +3,5 @@ pub mod Words
 pub mod CellDocument
 pub mod FormedActs
 pub mod SoundRecipe
+pub mod RecipeTables
+pub mod RecipeDocument

@@ -5,6 +5,7 @@ ghost use Rattle.toml.specs.View.{table_view};
 ghost use Rattle.batch_cell.specs.declared.cell.Cell.{Cell};
 ghost use Rattle.batch_reader.specs.CellDocument.{IsCellTable, IsCellDocument};
 
+use crate::document::{document_fault, table_of};
 use crate::entries::{has_only_keys, name_at};
 use crate::equipment::{Indexes, index_equipment};
 use crate::fault::{DocFault, EntryFault, Spot, TableFault, TableKind};
@@ -12,9 +13,6 @@ use crate::tables::tables_at;
 use batch_cell::{Cell, Module, Shared, Unit};
 use std::alloc::Global;
 use toml::Table;
-
-/// The longest document, in bytes.
-pub const MAX_DOCUMENT_LEN: usize = 1_048_576;
 
 const TOP: Spot = Spot {
     kind: TableKind::Cell,
@@ -28,23 +26,10 @@ pub fn read_cell(alloc: Global, bytes: &[u8]) -> Result<Cell, DocFault>
     ensures refused { IfErr result (λ fault. fault ≢ DocFault.Memory
         → (cell : Cell) → ¬ (IsCellDocument bytes.now cell)) }
 {
-    if bytes.len() > MAX_DOCUMENT_LEN {
-        return Err(DocFault::Entry(TOP, EntryFault::OutOfLimit));
-    }
-    let table = match toml::table_from_slice(alloc, bytes) {
-        Ok(table) => table,
-        Err(error) => {
-            return Err(if error.is_memory() {
-                DocFault::Memory
-            } else {
-                DocFault::NotToml
-            });
-        }
-    };
+    let table = table_of(alloc, bytes, TOP)?;
     match cell_from_table(alloc, &table) {
         Ok(cell) => Ok(cell),
-        Err(TableFault::Entry(spot, fault)) => Err(DocFault::Entry(spot, fault)),
-        Err(TableFault::Memory) => Err(DocFault::Memory),
+        Err(fault) => Err(document_fault(fault)),
     }
 }
 

@@ -13,7 +13,7 @@ use std::alloc::Global;
 use toml::Table;
 
 impl FromTable for Unit {
-    ghost stands_for = { IsUnitTable };
+    ghost stands_for = { λ _. IsUnitTable };
 
     fn from_table(alloc: Global, table: &Table, spot: Spot) -> Result<Unit, TableFault> {
         if !has_only_keys(table, &["name"]) {
@@ -25,7 +25,7 @@ impl FromTable for Unit {
 }
 
 impl FromTable for Module {
-    ghost stands_for = { IsModuleTable };
+    ghost stands_for = { λ _. IsModuleTable };
 
     fn from_table(alloc: Global, table: &Table, spot: Spot) -> Result<Module, TableFault> {
         match member(table, "unit") {
@@ -75,7 +75,7 @@ fn unit_module(alloc: Global, table: &Table, spot: Spot) -> Result<Module, Table
 }
 
 impl FromTable for Shared {
-    ghost stands_for = { IsSharedTable };
+    ghost stands_for = { λ _. IsSharedTable };
 
     fn from_table(alloc: Global, table: &Table, spot: Spot) -> Result<Shared, TableFault> {
         if !has_only_keys(table, &["name", "capacity"]) {

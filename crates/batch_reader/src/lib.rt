@@ -5,6 +5,7 @@ mod cell_document;
 mod cell_tables;
 #[cfg(test)]
 mod cell_tests;
+mod document;
 mod entries;
 mod equipment;
 mod fault;
@@ -18,5 +19,6 @@ mod resources;
 mod tables;
 
 pub use batch_grammar::{ChartFault, MAX_CHART_LEN, read_chart};
-pub use cell_document::{MAX_DOCUMENT_LEN, read_cell};
+pub use cell_document::read_cell;
+pub use document::MAX_DOCUMENT_LEN;
 pub use fault::{DocFault, EntryFault, Spot, TableKind};

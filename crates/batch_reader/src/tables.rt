@@ -3,6 +3,7 @@ ghost use Rattle.std.specs.Prelude.{◌≡◌, ◌≢◌, List, Some, None, IfOk
 ghost use Rattle.toml.specs.Data.{Members};
 ghost use Rattle.toml.specs.View.{table_view, items_view};
 ghost use Rattle.batch_reader.specs.Entries.{HasTables, items_at};
+ghost use Rattle.batch_reader.specs.declared.fault.TableKind.{TableKind};
 
 use crate::entries::member;
 use crate::fault::{EntryFault, Spot, TableFault, TableKind};
@@ -11,14 +12,14 @@ use toml::{Table, Value};
 
 /// A value that a table of a document stands for.
 pub(crate) trait FromTable: Drop {
-    // the table stands for the value
-    ghost stands_for: { Members → Self → Type 0 };
+    // the table of this kind stands for the value
+    ghost stands_for: { TableKind → Members → Self → Type 0 };
 
     /// Reads the table that stands at the spot.
     fn from_table(alloc: Global, table: &Table, spot: Spot) -> Result<Self, TableFault>
-        ensures ok { IfOk result (stands_for (table_view table.now)) }
+        ensures ok { IfOk result (stands_for spot.kind (table_view table.now)) }
         ensures refused { IfErr result (λ fault. fault ≢ TableFault.Memory
-            → (value : Self) → ¬ (stands_for (table_view table.now) value)) };
+            → (value : Self) → ¬ (stands_for spot.kind (table_view table.now) value)) };
 }
 
 /// The items of the array at a key, none where the key is missing.
@@ -46,9 +47,9 @@ pub(crate) fn tables_at<T: FromTable>(
     key: &str,
     kind: TableKind,
 ) -> Result<Vec<T>, TableFault>
-    ensures ok { IfOk result (λ values. HasTables T.stands_for key.now (table_view table.now) values.items) }
+    ensures ok { IfOk result (λ values. HasTables (T.stands_for kind) key.now (table_view table.now) values.items) }
     ensures refused { IfErr result (λ fault. fault ≢ TableFault.Memory
-        → (values : List T) → ¬ (HasTables T.stands_for key.now (table_view table.now) values)) }
+        → (values : List T) → ¬ (HasTables (T.stands_for kind) key.now (table_view table.now) values)) }
 {
     let mut values = Vec::new(alloc);
     for (entry, item) in items_at(table, key, Spot { kind, entry: 0 })?

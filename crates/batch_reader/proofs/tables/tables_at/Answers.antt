@@ -9,19 +9,19 @@ use Rattle.batch_reader.proofs.tables.tables_at.Goals as goal
 pub returns-in_default-clause-refused : goal.returns-in_default-clause-refused
 returns-in_default-clause-refused g c = λ _.
     let none : None ≡ as_table (view (get_or c.in_ok-item-items.item-items.now c.loop-entry.entry c.item-item.result)) = rw (← c.item-item.is) c.in_default.ensures in
-    HasTables_refused g.T.FromTable.stands_for c.args.key.now (table_view c.args.table.now) c.in_ok-item-items.item-items.now c.loop-entry.entry c.item-item.result
-    c.in_ok-item-items.ensures.ok c.loop-entry-test.true (IsTableOf_none g.T.FromTable.stands_for _ none)
+    HasTables_refused (g.T.FromTable.stands_for c.args.kind) c.args.key.now (table_view c.args.table.now) c.in_ok-item-items.item-items.now c.loop-entry.entry c.item-item.result
+    c.in_ok-item-items.ensures.ok c.loop-entry-test.true (IsTableOf_none (g.T.FromTable.stands_for c.args.kind) _ none)
 
 pub returns-in_err-value-clause-refused : goal.returns-in_err-value-clause-refused
 returns-in_err-value-clause-refused g c =
     let p = err_from_is_err_and c.from_residual-in_err-value.result c.from_residual-in_err-value.ensures.1 in
     rw (p.1, p.2) (λ known.
     let is_table : Some (table_view c.in-Some.inner.now) ≡ as_table (view (get_or c.in_ok-item-items.item-items.now c.loop-entry.entry c.item-item.result)) = rw (← c.item-item.is) c.in-Some.ensures in
-    HasTables_refused g.T.FromTable.stands_for c.args.key.now (table_view c.args.table.now) c.in_ok-item-items.item-items.now c.loop-entry.entry c.item-item.result
-    c.in_ok-item-items.ensures.ok c.loop-entry-test.true (IsTableOf_refused g.T.FromTable.stands_for _ _ is_table (c.in_err-value.ensures.refused known)))
+    HasTables_refused (g.T.FromTable.stands_for c.args.kind) c.args.key.now (table_view c.args.table.now) c.in_ok-item-items.item-items.now c.loop-entry.entry c.item-item.result
+    c.in_ok-item-items.ensures.ok c.loop-entry-test.true (IsTableOf_refused (g.T.FromTable.stands_for c.args.kind) _ _ is_table (c.in_err-value.ensures.refused known)))
 
 pub loop-entry-preserved : goal.loop-entry-preserved
 loop-entry-preserved g c =
     let is_table : Some (table_view c.in-Some.inner.now) ≡ as_table (view (get_or c.in_ok-item-items.item-items.now c.loop-entry.entry c.item-item.result)) = rw (← c.item-item.is) c.in-Some.ensures in
-    rw c.in_ok-push.ensures.items (AllItems-turn (IsTableOf g.T.FromTable.stands_for) c.in_ok-item-items.item-items.now c.loop-entry.values.items c.loop-entry.entry c.item-item.result c.in_ok-value.value
+    rw c.in_ok-push.ensures.items (AllItems-turn (IsTableOf (g.T.FromTable.stands_for c.args.kind)) c.in_ok-item-items.item-items.now c.loop-entry.values.items c.loop-entry.entry c.item-item.result c.in_ok-value.value
     c.loop-entry-test.true c.loop-entry.invariant (record { members = _; is_table = sym is_table; stands_for = c.in_ok-value.ensures.ok }))

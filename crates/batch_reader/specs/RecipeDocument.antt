@@ -1,0 +1,45 @@
+-- What a recipe document says.
+use Rattle.std.specs.Prelude.{◌≡◌, ◌≤◌, ℕ, true, List, [], ◌∷◌, Some, length, codes, IsUtf8}
+use Rattle.toml.specs.Data.{Members}
+use Rattle.toml.specs.Parse.{parse_document}
+use Rattle.batch_recipe.specs.declared.acts.Acts.{Acts}
+use Rattle.batch_recipe.specs.declared.recipe.Recipe.{Recipe}
+use Rattle.batch_recipe.specs.declared.scaling.TheConstants.{MAX_SIZE}
+use Rattle.batch_reader.specs.Entries.{HasName, HasNumber, HasTable, HasTables, has_only_keys}
+use Rattle.batch_reader.specs.RecipeTables.{HasHeader, IsQuantityTable, IsOutputTable, IsProcedureTable, IsUnitProcedureTable, IsOperationTable, IsPhaseTable}
+use Rattle.batch_reader.specs.SoundRecipe.{IsSoundRecipe}
+use Rattle.batch_reader.specs.declared.document.TheConstants.{MAX_DOCUMENT_LEN}
+
+-- the keys of the top
+abbrev pub recipe_keys : List (List ℕ)
+recipe_keys =
+    codes "recipe" ∷ codes "version" ∷ codes "product" ∷ codes "author" ∷ codes "info" ∷ codes "basis"
+    ∷ codes "input" ∷ codes "parameter" ∷ codes "output"
+    ∷ codes "procedure" ∷ codes "unit_procedure" ∷ codes "operation" ∷ codes "phase" ∷ []
+
+-- the document has the acts; the recipe's name is that of its procedure
+pub record HasActs (ms : Members) (acts : Acts) : Type 0 where
+  pub name : HasName (codes "recipe") ms acts.procedure.name
+  pub procedure : HasTable IsProcedureTable (codes "procedure") ms acts.procedure
+  pub unit_procedures : HasTables IsUnitProcedureTable (codes "unit_procedure") ms acts.unit_procedures.items
+  pub operations : HasTables IsOperationTable (codes "operation") ms acts.operations.items
+  pub phases : HasTables IsPhaseTable (codes "phase") ms acts.phases.items
+
+-- the table of a whole document stands for the recipe
+pub record IsRecipeTable (ms : Members) (recipe : Recipe) : Type 0 where
+  pub keys : has_only_keys recipe_keys ms ≡ true
+  pub header : HasHeader ms recipe.header
+  pub basis : HasNumber (codes "basis") ms 1 MAX_SIZE recipe.basis
+  pub inputs : HasTables IsQuantityTable (codes "input") ms recipe.inputs.items
+  pub parameters : HasTables IsQuantityTable (codes "parameter") ms recipe.parameters.items
+  pub outputs : HasTables IsOutputTable (codes "output") ms recipe.outputs.items
+  pub acts : HasActs ms recipe.acts
+  pub sound : IsSoundRecipe recipe.inputs.items recipe.parameters.items recipe.outputs.items recipe.acts
+
+-- the bytes are a document that stands for the recipe
+pub record IsRecipeDocument (bytes : List ℕ) (recipe : Recipe) : Type 0 where
+  pub short : length bytes ≤ MAX_DOCUMENT_LEN
+  pub is_text : IsUtf8 bytes
+  pub members : Members
+  pub parsed : parse_document bytes ≡ Some members
+  pub stands_for : IsRecipeTable members recipe

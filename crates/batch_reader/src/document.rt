@@ -1,0 +1,44 @@
+//! Documents, before it is known what they stand for.
+ghost use Rattle.std.specs.Prelude.{◌≡◌, ◌≢◌, ◌≤◌, Some, length, IfOk, IfErr, IsErrOf, IsSome, IsUtf8};
+ghost use Rattle.toml.specs.Parse.{parse_document};
+ghost use Rattle.toml.specs.View.{table_view};
+
+use crate::fault::{DocFault, EntryFault, Spot, TableFault};
+use std::alloc::Global;
+use toml::Table;
+
+/// The longest document, in bytes.
+pub const MAX_DOCUMENT_LEN: usize = 1_048_576;
+
+/// The table of a document. A document that is too long is refused at its top.
+pub(crate) fn table_of(alloc: Global, bytes: &[u8], top: Spot) -> Result<Table, DocFault>
+    ensures short { IfOk result (λ _. length bytes.now ≤ MAX_DOCUMENT_LEN) }
+    ensures is_text { IfOk result (λ _. IsUtf8 bytes.now) }
+    ensures parsed { IfOk result (λ table. parse_document bytes.now ≡ Some (table_view table)) }
+    ensures not_toml { IsErrOf result DocFault.NotToml → ¬ (IsUtf8 bytes.now × IsSome (parse_document bytes.now)) }
+    ensures refused { IfErr result (λ fault. fault ≢ DocFault.Memory
+        → ¬ ((length bytes.now ≤ MAX_DOCUMENT_LEN) × (IsUtf8 bytes.now × IsSome (parse_document bytes.now)))) }
+{
+    if bytes.len() > MAX_DOCUMENT_LEN {
+        return Err(DocFault::Entry(top, EntryFault::OutOfLimit));
+    }
+    match toml::table_from_slice(alloc, bytes) {
+        Ok(table) => Ok(table),
+        Err(error) => Err(if error.is_memory() {
+            DocFault::Memory
+        } else {
+            DocFault::NotToml
+        }),
+    }
+}
+
+/// The refusal of a document one of whose tables is refused.
+pub(crate) fn document_fault(fault: TableFault) -> DocFault
+    ensures is_toml { result ≢ DocFault.NotToml }
+    ensures memory { fault ≡ TableFault.Memory → result ≡ DocFault.Memory }
+{
+    match fault {
+        TableFault::Entry(spot, fault) => DocFault::Entry(spot, fault),
+        TableFault::Memory => DocFault::Memory,
+    }
+}
