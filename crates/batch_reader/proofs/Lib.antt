@@ -3,3 +3,4 @@ pub mod Items
 pub mod Distinct
 pub mod CellNames
 pub mod OneCell
+pub mod RecipeEntries

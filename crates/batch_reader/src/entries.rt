@@ -112,7 +112,7 @@ pub(crate) fn names_at(
 }
 
 /// The names that some values are, in order.
-fn names_of(alloc: Global, values: &[Value], spot: Spot) -> Result<Vec<Name>, TableFault>
+pub(crate) fn names_of(alloc: Global, values: &[Value], spot: Spot) -> Result<Vec<Name>, TableFault>
     ensures ok { IfOk result (λ names. AllItems IsNameItem (items_view values.now) names.items) }
     ensures refused { IfErr result (λ fault. fault ≢ TableFault.Memory
         → (names : List (List ℕ)) → ¬ (AllItems IsNameItem (items_view values.now) names)) }

@@ -1,10 +1,12 @@
 //! Readers: of chart texts, and of documents, which are cells so far.
 #![tactic(auto)]
 
+mod act_tables;
 mod cell_document;
 mod cell_tables;
 #[cfg(test)]
 mod cell_tests;
+mod chart_entry;
 mod document;
 mod entries;
 mod equipment;
@@ -13,10 +15,12 @@ mod fault;
 mod limit_tests;
 mod names;
 mod offered;
+mod recipe_entries;
 #[cfg(test)]
 mod refusal_tests;
 mod resources;
 mod tables;
+mod value_tables;
 
 pub use batch_grammar::{ChartFault, MAX_CHART_LEN, read_chart};
 pub use cell_document::read_cell;

@@ -1,0 +1,67 @@
+-- What the entries of a recipe's table say, once.
+use Rattle.std.proofs.Common.{◌≡◌, ℕ, ◌<◌, ◌≤◌, inl, inr, Bool, List, [], ◌∷◌, map, length, Some, None, refl, sym, ap, ◌∙◌, arith}
+use Rattle.std.proofs.lemmas.List.{map-id}
+use Rattle.std.specs.Option.{option_and_then}
+use Rattle.toml.specs.Data.{Data, Members, get_member, as_str}
+use Rattle.toml.specs.View.{items_view}
+use Rattle.toml.specs.declared.value.Value.{Value}
+use Rattle.batch_recipe.specs.Diagram.{Diagram}
+use Rattle.batch_grammar.proofs.ChartRead.{at_most_one}
+use Rattle.batch_grammar.specs.ChartGrammar.{IsChart}
+use Rattle.batch_reader.proofs.Items.{AllItems_same}
+use Rattle.batch_reader.specs.Entries.{AllItems, IsNameItem, HasLabel, HasName, HasNameOr, HasChart, HasFewNames, items_at}
+
+-- a list has as many items as it says names
+AllItems_length : {X : Type 0} (R : Data → X → Type 0) (vs : List Value) (xs : List X) → AllItems R (items_view vs) xs → length vs ≡ length xs
+AllItems_length R [] [] h = refl
+AllItems_length R [] (x ∷ xs) h = absurd h
+AllItems_length R (v ∷ vs) [] h = absurd h
+AllItems_length R (v ∷ vs) (x ∷ xs) h = omega (arith, AllItems_length R vs xs h.1)
+
+pub few_names : (key : List ℕ) (ms : Members) (vs : List Value) (most : ℕ) (names : List (List ℕ)) → items_at key ms ≡ Some (items_view vs)
+    → length vs ≤ most → AllItems IsNameItem (items_view vs) names → HasFewNames key ms most names
+few_names key ms vs most names found few listed =
+    record { items = items_view vs; found = found; listed = listed; few = omega (arith, AllItems_length IsNameItem vs names listed) }
+
+pub few_names_refused : (key : List ℕ) (ms : Members) (vs : List Value) (most : ℕ) → items_at key ms ≡ Some (items_view vs)
+    → most < length vs → (names : List (List ℕ)) → HasFewNames key ms most names → ⊥
+few_names_refused key ms vs most found many names h =
+    let same : h.items ≡ items_view vs = cc (h.found, found) in
+    let count : length vs ≡ length names = AllItems_length IsNameItem vs names (rw same at h.listed) in
+    omega (arith, h.few)
+
+-- where a text is one of no chart, a table with it has none
+pub chart_refused : (key : List ℕ) (ms : Members) (text : List ℕ) → option_and_then as_str (get_member key ms) ≡ Some text
+    → ((chart : Diagram) → IsChart text chart → ⊥) → (chart : Diagram) → HasChart key ms chart → ⊥
+chart_refused key ms text found none chart h =
+    let same : h.text ≡ text = cc (h.found.found, found) in
+    none chart (rw same at h.is_chart)
+
+-- each entry says one thing at most
+pub HasName_unique : (key : List ℕ) (ms : Members) (m n : List ℕ) → HasName key ms m → HasName key ms n → m ≡ n
+HasName_unique key ms m n h k = cc (h.text, k.text)
+
+pub HasLabel_unique : (key : List ℕ) (ms : Members) (m n : List ℕ) → HasLabel key ms m → HasLabel key ms n → m ≡ n
+HasLabel_unique key ms m n h k = cc (h.text, k.text)
+
+HasName_missing : (key : List ℕ) (ms : Members) (name : List ℕ) → get_member key ms ≡ None → HasName key ms name → ⊥
+HasName_missing key ms name missing h = let found = rw missing at h.text in cc found
+
+pub HasNameOr_unique : (key : List ℕ) (ms : Members) (other m n : List ℕ) → HasNameOr key ms other m → HasNameOr key ms other n → m ≡ n
+HasNameOr_unique key ms other m n (inl h) (inl k) = HasName_unique key ms m n h k
+HasNameOr_unique key ms other m n (inl h) (inr k) = absurd (HasName_missing key ms m k.0 h)
+HasNameOr_unique key ms other m n (inr h) (inl k) = absurd (HasName_missing key ms n h.0 k)
+HasNameOr_unique key ms other m n (inr h) (inr k) = h.1 ∙ sym k.1
+
+pub HasChart_unique : (key : List ℕ) (ms : Members) (a b : Diagram) → HasChart key ms a → HasChart key ms b → a ≡ b
+HasChart_unique key ms a b h k =
+    let same : h.text ≡ k.text = cc (h.found.found, k.found.found) in
+    at_most_one k.text a b (rw same at h.is_chart) k.is_chart
+
+IsNameItem_unique : (d : Data) (m n : List ℕ) → IsNameItem d m → IsNameItem d n → m ≡ n
+IsNameItem_unique d m n h k = cc (h.text, k.text)
+
+pub HasFewNames_unique : (key : List ℕ) (ms : Members) (most : ℕ) (xs ys : List (List ℕ)) → HasFewNames key ms most xs → HasFewNames key ms most ys → xs ≡ ys
+HasFewNames_unique key ms most xs ys h k =
+    let same : h.items ≡ k.items = cc (h.found, k.found) in
+    sym (map-id xs) ∙ AllItems_same IsNameItem (λ n. n) IsNameItem_unique k.items xs ys (rw same at h.listed) k.listed ∙ map-id ys

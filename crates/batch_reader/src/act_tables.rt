@@ -1,0 +1,129 @@
+//! The tables of a recipe's acts.
+ghost use Rattle.std.specs.Prelude.{◌≡◌, ◌≢◌, codes, IfOk, IfErr};
+ghost use Rattle.toml.specs.View.{table_view};
+ghost use Rattle.batch_recipe.specs.declared.act.Act.{Act};
+ghost use Rattle.batch_reader.specs.Entries.{HasTable};
+ghost use Rattle.batch_reader.specs.RecipeTables.{IsActTable, IsProcedureTable, IsUnitProcedureTable, IsOperationTable, IsPhaseTable};
+
+use crate::chart_entry::{chart_at, chart_without_par_at};
+use crate::entries::{has_only_keys, member, name_at};
+use crate::fault::{EntryFault, Spot, TableFault, TableKind};
+use crate::recipe_entries::{few_names_at, label_at, name_or};
+use crate::tables::FromTable;
+use batch_recipe::{Act, MAX_NEEDS, MAX_VALUES, Work};
+use batch_text::Name;
+use std::alloc::Global;
+use toml::Table;
+
+const PROCEDURE: Spot = Spot {
+    kind: TableKind::Procedure,
+    entry: 0,
+};
+
+/// Acts of other kinds than these don't stand in arrays of tables.
+impl FromTable for Act {
+    ghost stands_for = { IsActTable };
+
+    fn from_table(alloc: Global, table: &Table, spot: Spot) -> Result<Act, TableFault> {
+        match spot.kind {
+            TableKind::UnitProcedure => unit_procedure(alloc, table, spot),
+            TableKind::Operation => operation(alloc, table, spot),
+            TableKind::Phase => phase_step(alloc, table, spot),
+            _ => Err(TableFault::Entry(spot, EntryFault::WrongKind)),
+        }
+    }
+}
+
+fn unit_procedure(alloc: Global, table: &Table, spot: Spot) -> Result<Act, TableFault>
+    ensures ok { IfOk result (IsUnitProcedureTable (table_view table.now)) }
+    ensures refused { IfErr result (λ fault. fault ≢ TableFault.Memory
+        → (act : Act) → ¬ (IsUnitProcedureTable (table_view table.now) act)) }
+{
+    if !has_only_keys(table, &["name", "unit", "needs", "chart"]) {
+        return Err(TableFault::Entry(spot, EntryFault::UnknownKey));
+    }
+    let name = label_at(alloc, table, "name", spot)?;
+    let unit = name_at(alloc, table, "unit", spot)?;
+    let needs = few_names_at(alloc, table, "needs", MAX_NEEDS, spot)?;
+    let chart = chart_without_par_at(alloc, table, spot)?;
+    Ok(Act {
+        name,
+        unit: Some(unit),
+        needs,
+        work: Work::Follows(chart),
+    })
+}
+
+fn operation(alloc: Global, table: &Table, spot: Spot) -> Result<Act, TableFault>
+    ensures ok { IfOk result (IsOperationTable (table_view table.now)) }
+    ensures refused { IfErr result (λ fault. fault ≢ TableFault.Memory
+        → (act : Act) → ¬ (IsOperationTable (table_view table.now) act)) }
+{
+    if !has_only_keys(table, &["name", "needs", "chart"]) {
+        return Err(TableFault::Entry(spot, EntryFault::UnknownKey));
+    }
+    let name = label_at(alloc, table, "name", spot)?;
+    let needs = few_names_at(alloc, table, "needs", MAX_NEEDS, spot)?;
+    let chart = chart_at(alloc, table, spot)?;
+    Ok(Act {
+        name,
+        unit: None,
+        needs,
+        work: Work::Follows(chart),
+    })
+}
+
+fn phase_step(alloc: Global, table: &Table, spot: Spot) -> Result<Act, TableFault>
+    ensures ok { IfOk result (IsPhaseTable (table_view table.now)) }
+    ensures refused { IfErr result (λ fault. fault ≢ TableFault.Memory
+        → (act : Act) → ¬ (IsPhaseTable (table_view table.now) act)) }
+{
+    if !has_only_keys(table, &["name", "runs", "needs", "values"]) {
+        return Err(TableFault::Entry(spot, EntryFault::UnknownKey));
+    }
+    let name = label_at(alloc, table, "name", spot)?;
+    let phase = name_or(alloc, table, "runs", &name, spot)?;
+    let needs = few_names_at(alloc, table, "needs", MAX_NEEDS, spot)?;
+    let values = few_names_at(alloc, table, "values", MAX_VALUES, spot)?;
+    Ok(Act {
+        name,
+        unit: None,
+        needs,
+        work: Work::Runs { phase, values },
+    })
+}
+
+/// The procedure, which gets the recipe's name.
+pub(crate) fn procedure_at(alloc: Global, table: &Table, name: Name) -> Result<Act, TableFault>
+    ensures ok { IfOk result (HasTable IsProcedureTable (codes "procedure") (table_view table.now)) }
+    ensures named { IfOk result (λ act. act.name ≡ name) }
+    ensures refused { IfErr result (λ fault. fault ≢ TableFault.Memory
+        → (act : Act) → ¬ (HasTable IsProcedureTable (codes "procedure") (table_view table.now) act)) }
+{
+    let Some(value) = member(table, "procedure") else {
+        return Err(TableFault::Entry(PROCEDURE, EntryFault::MissingKey));
+    };
+    match value.as_table() {
+        Some(inner) => procedure(alloc, inner, name),
+        None => Err(TableFault::Entry(PROCEDURE, EntryFault::WrongKind)),
+    }
+}
+
+fn procedure(alloc: Global, table: &Table, name: Name) -> Result<Act, TableFault>
+    ensures ok { IfOk result (IsProcedureTable (table_view table.now)) }
+    ensures named { IfOk result (λ act. act.name ≡ name) }
+    ensures refused { IfErr result (λ fault. fault ≢ TableFault.Memory
+        → (act : Act) → ¬ (IsProcedureTable (table_view table.now) act)) }
+{
+    if !has_only_keys(table, &["needs", "chart"]) {
+        return Err(TableFault::Entry(PROCEDURE, EntryFault::UnknownKey));
+    }
+    let needs = few_names_at(alloc, table, "needs", MAX_NEEDS, PROCEDURE)?;
+    let chart = chart_at(alloc, table, PROCEDURE)?;
+    Ok(Act {
+        name,
+        unit: None,
+        needs,
+        work: Work::Follows(chart),
+    })
+}

@@ -1,0 +1,67 @@
+//! The chart texts of tables.
+ghost use Rattle.std.specs.Prelude.{◌≡◌, ◌≢◌, ◌↔◌, None, true, codes, IfOk, IfErr};
+ghost use Rattle.toml.specs.View.{table_view};
+ghost use Rattle.batch_recipe.specs.Diagram.{Diagram, diagram_of};
+ghost use Rattle.batch_recipe.specs.WellFormed.{has_no_par};
+ghost use Rattle.batch_reader.specs.Entries.{HasChart};
+
+use crate::entries::member;
+use crate::fault::{EntryFault, Spot, TableFault};
+use batch_grammar::{ChartFault, MAX_CHART_LEN, ReadChart, read_chart_and_par};
+use batch_recipe::Chart;
+use std::alloc::Global;
+use toml::Table;
+
+/// The chart of the text at the key `chart`, and where its first `par` opens.
+fn read_chart_at(alloc: Global, table: &Table, spot: Spot) -> Result<ReadChart, TableFault>
+    ensures ok { IfOk result (λ read. HasChart (codes "chart") (table_view table.now) (diagram_of read.chart)) }
+    ensures par { IfOk result (λ read. (read.first_par ≡ None) ↔ (has_no_par (diagram_of read.chart) ≡ true)) }
+    ensures refused { IfErr result (λ fault. fault ≢ TableFault.Memory
+        → (chart : Diagram) → ¬ (HasChart (codes "chart") (table_view table.now) chart)) }
+{
+    let Some(value) = member(table, "chart") else {
+        return Err(TableFault::Entry(spot, EntryFault::MissingKey));
+    };
+    let Some(text) = value.as_str() else {
+        return Err(TableFault::Entry(spot, EntryFault::WrongKind));
+    };
+    if text.len() > MAX_CHART_LEN {
+        return Err(TableFault::Entry(spot, EntryFault::OutOfLimit));
+    }
+    match read_chart_and_par(alloc, text.as_bytes()) {
+        Ok(read) => Ok(read),
+        Err(ChartFault::NotAChart(offset)) => {
+            Err(TableFault::Entry(spot, EntryFault::Chart(offset)))
+        }
+        Err(ChartFault::OutOfRange(_)) => Err(TableFault::Entry(spot, EntryFault::OutOfLimit)),
+        Err(ChartFault::Memory) => Err(TableFault::Memory),
+    }
+}
+
+/// The chart of a table.
+pub(crate) fn chart_at(alloc: Global, table: &Table, spot: Spot) -> Result<Chart, TableFault>
+    ensures ok { IfOk result (λ chart. HasChart (codes "chart") (table_view table.now) (diagram_of chart)) }
+    ensures refused { IfErr result (λ fault. fault ≢ TableFault.Memory
+        → (chart : Diagram) → ¬ (HasChart (codes "chart") (table_view table.now) chart)) }
+{
+    let read = read_chart_at(alloc, table, spot)?;
+    Ok(read.chart)
+}
+
+/// The chart of a table in which it may have no `par`.
+pub(crate) fn chart_without_par_at(
+    alloc: Global,
+    table: &Table,
+    spot: Spot,
+) -> Result<Chart, TableFault>
+    ensures ok { IfOk result (λ chart. HasChart (codes "chart") (table_view table.now) (diagram_of chart)) }
+    ensures no_par { IfOk result (λ chart. has_no_par (diagram_of chart) ≡ true) }
+    ensures refused { IfErr result (λ fault. fault ≢ TableFault.Memory
+        → (chart : Diagram) → HasChart (codes "chart") (table_view table.now) chart → ¬ (has_no_par chart ≡ true)) }
+{
+    let read = read_chart_at(alloc, table, spot)?;
+    match read.first_par {
+        None => Ok(read.chart),
+        Some(offset) => Err(TableFault::Entry(spot, EntryFault::Chart(offset))),
+    }
+}

@@ -1,0 +1,140 @@
+//! The entries that tables of recipes alone have.
+ghost use Rattle.std.specs.Prelude.{◌≡◌, ◌≢◌, ◌≤◌, ℕ, List, Bool, Option, option_map, string_bytes, string_len, IfOk, IfErr};
+ghost use Rattle.std.specs.Option.{ForSome};
+ghost use Rattle.toml.specs.View.{table_view};
+ghost use Rattle.batch_recipe.specs.WellFormed.{is_among, chart_words};
+ghost use Rattle.batch_reader.specs.Entries.{HasLabel, HasNameOr, HasText, MayHaveText, HasFewNames, IsTruth};
+
+use crate::entries::{member, name_at, names_of};
+use crate::fault::{EntryFault, Spot, TableFault};
+use crate::tables::items_at;
+use batch_text::Name;
+use std::alloc::Global;
+use toml::Table;
+
+/// Whether the text is one of the words of charts.
+fn is_chart_word(text: &str) -> bool
+    ensures { result ≡ is_among chart_words text.now }
+{
+    ["skip", "seq", "par", "sel", "loop", "else"]
+        .iter()
+        .any(|word| text == *word)
+}
+
+/// The name at a key, which is none of the words of charts.
+pub(crate) fn label_at(
+    alloc: Global,
+    table: &Table,
+    key: &str,
+    spot: Spot,
+) -> Result<Name, TableFault>
+    ensures ok { IfOk result (HasLabel key.now (table_view table.now)) }
+    ensures refused { IfErr result (λ fault. fault ≢ TableFault.Memory
+        → (name : List ℕ) → ¬ (HasLabel key.now (table_view table.now) name)) }
+{
+    let name = name_at(alloc, table, key, spot)?;
+    if is_chart_word(name.text()) {
+        return Err(TableFault::Entry(spot, EntryFault::WrongKind));
+    }
+    Ok(name)
+}
+
+/// The name at a key; where it is missing, a copy of the other one.
+pub(crate) fn name_or(
+    alloc: Global,
+    table: &Table,
+    key: &str,
+    other: &Name,
+    spot: Spot,
+) -> Result<Name, TableFault>
+    ensures ok { IfOk result (HasNameOr key.now (table_view table.now) other.now) }
+    ensures refused { IfErr result (λ fault. fault ≢ TableFault.Memory
+        → (name : List ℕ) → ¬ (HasNameOr key.now (table_view table.now) other.now name)) }
+{
+    if member(table, key).is_some() {
+        return name_at(alloc, table, key, spot);
+    }
+    match other.copy(alloc) {
+        Ok(name) => Ok(name),
+        Err(_) => Err(TableFault::Memory),
+    }
+}
+
+/// The text at a key, of at most so many bytes.
+pub(crate) fn text_at(
+    alloc: Global,
+    table: &Table,
+    key: &str,
+    most: usize,
+    spot: Spot,
+) -> Result<String, TableFault>
+    ensures ok { IfOk result (λ text. HasText key.now (table_view table.now) most (string_bytes text)) }
+    ensures short { IfOk result (λ text. string_len text ≤ most) }
+    ensures refused { IfErr result (λ fault. fault ≢ TableFault.Memory
+        → (text : List ℕ) → ¬ (HasText key.now (table_view table.now) most text)) }
+{
+    let Some(value) = member(table, key) else {
+        return Err(TableFault::Entry(spot, EntryFault::MissingKey));
+    };
+    let Some(text) = value.as_str() else {
+        return Err(TableFault::Entry(spot, EntryFault::WrongKind));
+    };
+    if text.len() > most {
+        return Err(TableFault::Entry(spot, EntryFault::OutOfLimit));
+    }
+    Ok(String::from_str(alloc, text)?)
+}
+
+/// The text at a key, of at most so many bytes, where the key is there.
+pub(crate) fn optional_text_at(
+    alloc: Global,
+    table: &Table,
+    key: &str,
+    most: usize,
+    spot: Spot,
+) -> Result<Option<String>, TableFault>
+    ensures ok { IfOk result (λ text. MayHaveText key.now (table_view table.now) most (option_map string_bytes text)) }
+    ensures short { IfOk result (λ text. ForSome text (λ t. string_len t ≤ most)) }
+    ensures refused { IfErr result (λ fault. fault ≢ TableFault.Memory
+        → (text : Option (List ℕ)) → ¬ (MayHaveText key.now (table_view table.now) most text)) }
+{
+    if member(table, key).is_none() {
+        return Ok(None);
+    }
+    let text = text_at(alloc, table, key, most, spot)?;
+    Ok(Some(text))
+}
+
+/// The truth value at a key, false where it is missing.
+pub(crate) fn truth_at(table: &Table, key: &str, spot: Spot) -> Result<bool, TableFault>
+    ensures ok { IfOk result (IsTruth key.now (table_view table.now)) }
+    ensures refused { IfErr result (λ fault. (truth : Bool) → ¬ (IsTruth key.now (table_view table.now) truth)) }
+{
+    let Some(value) = member(table, key) else {
+        return Ok(false);
+    };
+    match value.as_bool() {
+        Some(truth) => Ok(truth),
+        None => Err(TableFault::Entry(spot, EntryFault::WrongKind)),
+    }
+}
+
+/// The names in the list at a key, at most so many, and none where the key is missing.
+#[tactic(auto, using(crate::proofs::RecipeEntries::few_names))]
+pub(crate) fn few_names_at(
+    alloc: Global,
+    table: &Table,
+    key: &str,
+    most: usize,
+    spot: Spot,
+) -> Result<Vec<Name>, TableFault>
+    ensures ok { IfOk result (λ names. HasFewNames key.now (table_view table.now) most names.items) }
+    ensures refused { IfErr result (λ fault. fault ≢ TableFault.Memory
+        → (names : List (List ℕ)) → ¬ (HasFewNames key.now (table_view table.now) most names)) }
+{
+    let values = items_at(table, key, spot)?;
+    if values.len() > most {
+        return Err(TableFault::Entry(spot, EntryFault::OutOfLimit));
+    }
+    names_of(alloc, values, spot)
+}
