@@ -2,14 +2,14 @@
 use Rattle.std.proofs.Common.{◌≡◌, ℕ, ◌<◌, ◌≤◌, inl, inr, Bool, List, [], ◌∷◌, map, length, Some, None, refl, sym, ap, ◌∙◌, arith}
 use Rattle.std.proofs.lemmas.List.{map-id}
 use Rattle.std.specs.Option.{option_and_then}
-use Rattle.toml.specs.Data.{Data, Members, get_member, as_str}
+use Rattle.toml.specs.Data.{Data, Members, get_member, as_str, as_table}
 use Rattle.toml.specs.View.{items_view}
 use Rattle.toml.specs.declared.value.Value.{Value}
 use Rattle.batch_recipe.specs.Diagram.{Diagram}
 use Rattle.batch_grammar.proofs.ChartRead.{at_most_one}
 use Rattle.batch_grammar.specs.ChartGrammar.{IsChart}
 use Rattle.batch_reader.proofs.Items.{AllItems_same}
-use Rattle.batch_reader.specs.Entries.{AllItems, IsNameItem, HasLabel, HasName, HasNameOr, HasChart, HasFewNames, items_at}
+use Rattle.batch_reader.specs.Entries.{AllItems, IsNameItem, HasLabel, HasName, HasNameOr, HasChart, HasFewNames, HasTable, items_at}
 
 -- a list has as many items as it says names
 AllItems_length : {X : Type 0} (R : Data → X → Type 0) (vs : List Value) (xs : List X) → AllItems R (items_view vs) xs → length vs ≡ length xs
@@ -65,3 +65,17 @@ pub HasFewNames_unique : (key : List ℕ) (ms : Members) (most : ℕ) (xs ys : L
 HasFewNames_unique key ms most xs ys h k =
     let same : h.items ≡ k.items = cc (h.found, k.found) in
     sym (map-id xs) ∙ AllItems_same IsNameItem (λ n. n) IsNameItem_unique k.items xs ys (rw same at h.listed) k.listed ∙ map-id ys
+
+-- where the table at a key stands for nothing
+pub HasTable_refused : {X : Type 0} (R : Members → X → Type 0) (key : List ℕ) (ms inner : Members) → option_and_then as_table (get_member key ms) ≡ Some inner
+    → ((x : X) → R inner x → ⊥) → (x : X) → HasTable R key ms x → ⊥
+HasTable_refused R key ms inner found none x h =
+    let same : h.members ≡ inner = cc (h.found, found) in
+    none x (rw same at h.stands_for)
+
+-- where a table stands for one value at most, as far as f sees it, so does the table at a key
+pub HasTable_same : {X Y : Type 0} (R : Members → X → Type 0) (f : X → Y) → ((ms : Members) (x y : X) → R ms x → R ms y → f x ≡ f y)
+    → (key : List ℕ) (ms : Members) (x y : X) → HasTable R key ms x → HasTable R key ms y → f x ≡ f y
+HasTable_same R f one key ms x y h k =
+    let same : h.members ≡ k.members = cc (h.found, k.found) in
+    one k.members x y (rw same at h.stands_for) k.stands_for

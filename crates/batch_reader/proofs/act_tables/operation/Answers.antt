@@ -1,0 +1,13 @@
+use Rattle.std.proofs.lemmas.Result.{err_from_is_err_and}
+use Rattle.batch_recipe.specs.Diagram.{diagram_of}
+use Rattle.batch_reader.proofs.act_tables.operation.Goals as goal
+
+pub returns-in_err-needs-clause-refused : goal.returns-in_err-needs-clause-refused
+returns-in_err-needs-clause-refused c =
+    let p = err_from_is_err_and c.from_residual-in_err-needs.result c.from_residual-in_err-needs.ensures.1 in
+    rw (p.1, p.2) (λ known act h. c.in_err-needs.ensures.refused known act.needs.items h.needs)
+
+pub returns-in_err-chart-clause-refused : goal.returns-in_err-chart-clause-refused
+returns-in_err-chart-clause-refused c =
+    let p = err_from_is_err_and c.from_residual-in_err-chart.result c.from_residual-in_err-chart.ensures.1 in
+    rw (p.1, p.2) (λ known act h. c.in_err-chart.ensures.refused known (diagram_of h.course.chart) h.course.text)
