@@ -4,3 +4,4 @@ pub mod Distinct
 pub mod CellNames
 pub mod OneCell
 pub mod RecipeEntries
+pub mod RecipeParts
