@@ -5,3 +5,5 @@ pub mod CellNames
 pub mod OneCell
 pub mod RecipeEntries
 pub mod RecipeParts
+pub mod ActForms
+pub mod OneRecipe

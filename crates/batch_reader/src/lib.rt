@@ -1,4 +1,4 @@
-//! Readers: of chart texts, and of documents, which are cells so far.
+//! Readers: of chart texts, and of documents, which are cells and recipes.
 #![tactic(auto)]
 
 mod act_tables;
@@ -15,6 +15,8 @@ mod fault;
 mod limit_tests;
 mod names;
 mod offered;
+mod recipe_checks;
+mod recipe_document;
 mod recipe_entries;
 #[cfg(test)]
 mod refusal_tests;
@@ -26,3 +28,4 @@ pub use batch_grammar::{ChartFault, MAX_CHART_LEN, read_chart};
 pub use cell_document::read_cell;
 pub use document::MAX_DOCUMENT_LEN;
 pub use fault::{DocFault, EntryFault, Spot, TableKind};
+pub use recipe_document::read_recipe;

@@ -1,0 +1,82 @@
+-- The tables of a recipe stand for one form of their parts at most.
+use Rattle.std.proofs.Common.{◌≡◌, ℕ, List, map, Option, Some, None, codes, refl, sym, ap, ◌∙◌}
+use Rattle.std.proofs.lemmas.List.{map-id}
+use Rattle.toml.specs.Data.{Members}
+use Rattle.batch_recipe.specs.Conditions.{Name}
+use Rattle.batch_recipe.specs.Diagram.{diagram_of}
+use Rattle.batch_recipe.specs.declared.act.Act.{Act}
+use Rattle.batch_recipe.specs.declared.acts.Acts.{Acts}
+use Rattle.batch_recipe.specs.declared.quantity.Quantity.{Quantity}
+use Rattle.batch_recipe.specs.declared.recipe.Recipe.{Recipe}
+use Rattle.batch_reader.proofs.ActForms.{ActForm, WorkForm, follows, runs, work_form, form, sound_along}
+use Rattle.batch_reader.proofs.Items.{HasTables_same}
+use Rattle.batch_reader.proofs.RecipeEntries.{HasName_unique, HasLabel_unique, HasNameOr_unique, HasChart_unique, HasFewNames_unique, HasTable_same}
+use Rattle.batch_reader.specs.Entries.{HasTable, HasTables}
+use Rattle.batch_reader.specs.RecipeTables.{HasCourse, HasNeeds, IsQuantityTable, IsOutputTable, IsProcedureTable, IsUnitProcedureTable, IsOperationTable, IsPhaseTable}
+use Rattle.batch_reader.specs.RecipeDocument.{HasActs, IsRecipeTable}
+use Rattle.batch_reader.specs.SoundRecipe.{IsSoundRecipe}
+
+same_needs : (ms : Members) (a b : Act) → HasNeeds ms a → HasNeeds ms b → a.needs.items ≡ b.needs.items
+same_needs ms a b h k = HasFewNames_unique _ ms _ a.needs.items b.needs.items h k
+
+same_work : (ms : Members) (a b : Act) → HasCourse ms a → HasCourse ms b → work_form a.work ≡ work_form b.work
+same_work ms a b h k =
+    ap work_form h.follows ∙ ap follows (HasChart_unique _ ms (diagram_of h.chart) (diagram_of k.chart) h.text k.text) ∙ sym (ap work_form k.follows)
+
+same_form : (a b : Act) → a.name ≡ b.name → a.unit ≡ b.unit → a.needs.items ≡ b.needs.items → work_form a.work ≡ work_form b.work → form a ≡ form b
+same_form a b name unit needs work = cc
+
+same_unit_procedure : (ms : Members) (a b : Act) → IsUnitProcedureTable ms a → IsUnitProcedureTable ms b → form a ≡ form b
+same_unit_procedure ms a b h k =
+    same_form a b (HasLabel_unique _ ms a.name b.name h.name k.name)
+    (h.runs_on ∙ ap Some (HasName_unique _ ms h.unit k.unit h.has_unit k.has_unit) ∙ sym k.runs_on)
+    (same_needs ms a b h.needs k.needs) (same_work ms a b h.course k.course)
+
+same_operation : (ms : Members) (a b : Act) → IsOperationTable ms a → IsOperationTable ms b → form a ≡ form b
+same_operation ms a b h k =
+    same_form a b (HasLabel_unique _ ms a.name b.name h.name k.name) (h.no_unit ∙ sym k.no_unit)
+    (same_needs ms a b h.needs k.needs) (same_work ms a b h.course k.course)
+
+same_phase : (ms : Members) (a b : Act) → IsPhaseTable ms a → IsPhaseTable ms b → form a ≡ form b
+same_phase ms a b h k =
+    let name : a.name ≡ b.name = HasLabel_unique _ ms a.name b.name h.name k.name in
+    let phase : h.phase ≡ k.phase = HasNameOr_unique _ ms b.name h.phase k.phase (rw name at h.runs) k.runs in
+    let values : h.handed.items ≡ k.handed.items = HasFewNames_unique _ ms _ h.handed.items k.handed.items h.values k.values in
+    same_form a b name (h.no_unit ∙ sym k.no_unit) (same_needs ms a b h.needs k.needs)
+    (ap work_form h.work ∙ ap (λ p. runs p h.handed.items) phase ∙ ap (runs k.phase) values ∙ sym (ap work_form k.work))
+
+-- of the procedure's table, which doesn't have its name
+same_course : (ms : Members) (a b : Act) → IsProcedureTable ms a → IsProcedureTable ms b → (a.unit ≡ b.unit) × (a.needs.items ≡ b.needs.items) × (work_form a.work ≡ work_form b.work)
+same_course ms a b h k = (h.no_unit ∙ sym k.no_unit, same_needs ms a b h.needs k.needs, same_work ms a b h.course k.course)
+
+same_procedure : (ms : Members) (a b : Acts) → HasActs ms a → HasActs ms b → form a.procedure ≡ form b.procedure
+same_procedure ms a b h k =
+    let p : Act = a.procedure in
+    let q : Act = b.procedure in
+    let inner : h.procedure.members ≡ k.procedure.members = cc (h.procedure.found, k.procedure.found) in
+    let rest : (p.unit ≡ q.unit) × (p.needs.items ≡ q.needs.items) × (work_form p.work ≡ work_form q.work) =
+    same_course k.procedure.members p q (rw inner at h.procedure.stands_for) k.procedure.stands_for in
+    same_form p q (HasName_unique _ ms p.name q.name h.name k.name) rest.0 rest.1 rest.2
+
+same_quantities : (key : List ℕ) (ms : Members) (xs ys : List Quantity) → HasTables IsQuantityTable key ms xs → HasTables IsQuantityTable key ms ys
+    → map (λ q. q.name) xs ≡ map (λ q. q.name) ys
+same_quantities key ms xs ys h k = HasTables_same IsQuantityTable (λ q. q.name) (λ ns x y a b. HasLabel_unique _ ns x.name y.name a.name b.name) key ms xs ys h k
+
+same_outputs : (ms : Members) (xs ys : List Name) → HasTables IsOutputTable (codes "output") ms xs → HasTables IsOutputTable (codes "output") ms ys → xs ≡ ys
+same_outputs ms xs ys h k =
+    sym (map-id xs) ∙ HasTables_same IsOutputTable (λ name. name) (λ ns x y a b. HasLabel_unique _ ns x y a.name b.name) _ ms xs ys h k ∙ map-id ys
+
+-- where the parts that a table stands for aren't sound, the table stands for no recipe
+pub unsound_recipe_refused : (ms : Members) (inputs parameters : List Quantity) (outputs : List Name) (acts : Acts)
+    → HasTables IsQuantityTable (codes "input") ms inputs → HasTables IsQuantityTable (codes "parameter") ms parameters → HasTables IsOutputTable (codes "output") ms outputs
+    → HasActs ms acts → (IsSoundRecipe inputs parameters outputs acts → ⊥) → (recipe : Recipe) → IsRecipeTable ms recipe → ⊥
+unsound_recipe_refused ms inputs parameters outputs acts hi hp ho ha unsound recipe h =
+    unsound (sound_along recipe.inputs.items recipe.parameters.items inputs parameters recipe.outputs.items outputs recipe.acts acts
+    (same_quantities _ ms recipe.inputs.items inputs h.inputs hi)
+    (same_quantities _ ms recipe.parameters.items parameters h.parameters hp)
+    (same_outputs ms recipe.outputs.items outputs h.outputs ho)
+    (same_procedure ms recipe.acts acts h.acts ha)
+    (HasTables_same IsUnitProcedureTable form same_unit_procedure _ ms recipe.acts.unit_procedures.items acts.unit_procedures.items h.acts.unit_procedures ha.unit_procedures)
+    (HasTables_same IsOperationTable form same_operation _ ms recipe.acts.operations.items acts.operations.items h.acts.operations ha.operations)
+    (HasTables_same IsPhaseTable form same_phase _ ms recipe.acts.phases.items acts.phases.items h.acts.phases ha.phases)
+    h.sound)

@@ -1,0 +1,61 @@
+use Rattle.std.proofs.lemmas.Result.{err_from_is_err_and}
+use Rattle.batch_reader.proofs.OneRecipe.{unsound_recipe_refused}
+use Rattle.batch_reader.proofs.RecipeParts.{kinds_of_tables, formed_of_tables, free_names_of_tables}
+use Rattle.batch_reader.specs.SoundRecipe.{IsSoundRecipe}
+use Rattle.batch_reader.proofs.recipe_document.recipe_from_table.Goals as goal
+
+pub returns-in_err-basis-clause-refused : goal.returns-in_err-basis-clause-refused
+returns-in_err-basis-clause-refused c =
+    let p = err_from_is_err_and c.from_residual-in_err-basis.result c.from_residual-in_err-basis.ensures.1 in
+    rw (p.1, p.2) (λ known recipe h. c.in_err-basis.ensures.refused recipe.basis h.basis)
+
+pub returns-in_err-inputs-clause-refused : goal.returns-in_err-inputs-clause-refused
+returns-in_err-inputs-clause-refused c =
+    let p = err_from_is_err_and c.from_residual-in_err-inputs.result c.from_residual-in_err-inputs.ensures.1 in
+    rw (p.1, p.2) (λ known recipe h. c.in_err-inputs.ensures.refused known recipe.inputs.items h.inputs)
+
+pub returns-in_err-parameters-clause-refused : goal.returns-in_err-parameters-clause-refused
+returns-in_err-parameters-clause-refused c =
+    let p = err_from_is_err_and c.from_residual-in_err-parameters.result c.from_residual-in_err-parameters.ensures.1 in
+    rw (p.1, p.2) (λ known recipe h. c.in_err-parameters.ensures.refused known recipe.parameters.items h.parameters)
+
+pub returns-in_err-outputs-clause-refused : goal.returns-in_err-outputs-clause-refused
+returns-in_err-outputs-clause-refused c =
+    let p = err_from_is_err_and c.from_residual-in_err-outputs.result c.from_residual-in_err-outputs.ensures.1 in
+    rw (p.1, p.2) (λ known recipe h. c.in_err-outputs.ensures.refused known recipe.outputs.items h.outputs)
+
+pub check_recipe-requires-clause-kinds : goal.check_recipe-requires-clause-kinds
+check_recipe-requires-clause-kinds c = kinds_of_tables _ c.in_ok-acts.acts c.in_ok-acts.ensures.ok
+
+pub check_recipe-requires-clause-formed : goal.check_recipe-requires-clause-formed
+check_recipe-requires-clause-formed c = formed_of_tables _ c.in_ok-acts.acts c.in_ok-acts.ensures.ok
+
+pub returns-in_err-check_recipe-clause-refused : goal.returns-in_err-check_recipe-clause-refused
+returns-in_err-check_recipe-clause-refused c =
+    let p = err_from_is_err_and c.from_residual-in_err-check_recipe.result c.from_residual-in_err-check_recipe.ensures.1 in
+    rw (p.1, p.2) (λ known. unsound_recipe_refused _ c.in_ok-inputs.inputs.items c.in_ok-parameters.parameters.items c.in_ok-outputs.outputs.items c.in_ok-acts.acts
+    c.in_ok-inputs.ensures.ok c.in_ok-parameters.ensures.ok c.in_ok-outputs.ensures.ok c.in_ok-acts.ensures.ok
+    (rw (c.deref.ensures.value, c.deref-2.ensures.value, c.deref-3.ensures.value) at (c.in_err-check_recipe.ensures.refused known)))
+
+pub invariant_of-result : goal.invariant_of-result
+invariant_of-result c =
+    let sound : IsSoundRecipe c.in_ok-inputs.inputs.items c.in_ok-parameters.parameters.items c.in_ok-outputs.outputs.items c.in_ok-acts.acts =
+    rw (c.deref.ensures.value, c.deref-2.ensures.value, c.deref-3.ensures.value) at c.in_ok-check_recipe.ensures.ok in
+    record {
+      some_basis = c.in_ok-basis.ensures.ok.at_least;
+      basis_limit = c.in_ok-basis.ensures.ok.at_most;
+      few_inputs = sound.few_inputs;
+      few_parameters = sound.few_parameters;
+      few_outputs = sound.few_outputs;
+      some_unit_procedures = sound.some_unit_procedures;
+      few_unit_procedures = sound.few_unit_procedures;
+      some_operations = sound.some_operations;
+      few_operations = sound.few_operations;
+      some_phases = sound.some_phases;
+      few_phases = sound.few_phases;
+      kinds = kinds_of_tables _ c.in_ok-acts.acts c.in_ok-acts.ensures.ok;
+      well_formed = sound.well_formed;
+      free_names = free_names_of_tables _ c.in_ok-inputs.inputs.items c.in_ok-parameters.parameters.items c.in_ok-outputs.outputs.items c.in_ok-acts.acts
+          c.in_ok-inputs.ensures.ok c.in_ok-parameters.ensures.ok c.in_ok-outputs.ensures.ok c.in_ok-acts.ensures.ok;
+      small = sound.small;
+    }
