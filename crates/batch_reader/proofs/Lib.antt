@@ -3,6 +3,10 @@ pub mod Items
 pub mod Distinct
 pub mod CellNames
 pub mod OneCell
+pub mod Truth
+pub mod ChartNaming
+pub mod DistinctNames
+pub mod WellFormedParts
 pub mod RecipeEntries
 pub mod RecipeParts
 pub mod ActForms

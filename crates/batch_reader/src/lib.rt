@@ -7,6 +7,7 @@ mod cell_tables;
 #[cfg(test)]
 mod cell_tests;
 mod chart_entry;
+mod chart_names;
 mod document;
 mod entries;
 mod equipment;
@@ -18,6 +19,7 @@ mod offered;
 mod recipe_checks;
 mod recipe_document;
 mod recipe_entries;
+mod recipe_names;
 #[cfg(test)]
 mod refusal_tests;
 mod resources;

@@ -1,0 +1,28 @@
+-- What makes a recipe's acts well formed: their names differ, and what they name is declared.
+use Rattle.std.proofs.Common.{◌≡◌, Bool, true, false, ◌&&◌, List, [], ◌∷◌, ap, refl}
+use Rattle.std.specs.List.{list_all}
+use Rattle.batch_recipe.specs.Conditions.{Name}
+use Rattle.batch_recipe.specs.WellFormed.{act_names, follows_no_par, is_well_formed, is_work}
+use Rattle.batch_recipe.specs.declared.act.Act.{Act}
+use Rattle.batch_recipe.specs.declared.acts.Acts.{Acts}
+use Rattle.batch_reader.specs.Naming.{names_differ, acts_are_declared}
+use Rattle.batch_reader.proofs.Truth.{both_true}
+
+alone : (a b : Bool) → ((a && true) && b) ≡ (a && b)
+alone true b = refl
+alone false b = refl
+
+-- a test that all elements pass adds nothing
+all_pass : (p q : Act → Bool) (xs : List Act) → list_all q xs ≡ true → list_all (λ x. p x && q x) xs ≡ list_all p xs
+all_pass p q [] h = refl
+all_pass p q (x ∷ xs) h =
+    let k = both_true (q x) (list_all q xs) h in
+    rw (k.0, all_pass p q xs k.1) (alone (p x) (list_all p xs))
+
+pub well_formed_parts : (values : List Name) (a : Acts) → list_all follows_no_par a.unit_procedures.items ≡ true
+    → is_well_formed values a ≡ (names_differ values a && acts_are_declared values a)
+well_formed_parts values a no_par =
+    ap (λ b. names_differ values a
+    && (is_work (act_names a.unit_procedures.items) values a.procedure
+    && (b && (list_all (is_work (act_names a.phases.items) values) a.operations.items && list_all (is_work [] values) a.phases.items))))
+    (all_pass (is_work (act_names a.operations.items) values) follows_no_par a.unit_procedures.items no_par)

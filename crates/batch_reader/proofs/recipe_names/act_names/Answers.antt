@@ -1,0 +1,18 @@
+use Rattle.std.proofs.Common.{◌≡◌, [], ◌++◌, ap, ◌∙◌, append-nil}
+use Rattle.std.proofs.lemmas.Result.{err_from_is_err_and}
+use Rattle.batch_recipe.specs.WellFormed.{act_names}
+use Rattle.batch_reader.proofs.DistinctNames.{are_distinct-from_IsDistinct, names_refused}
+use Rattle.batch_reader.proofs.recipe_names.act_names.Goals as goal
+
+pub returns-in_err-add_names-clause-refused : goal.returns-in_err-add_names-clause-refused
+returns-in_err-add_names-clause-refused c =
+    let p = err_from_is_err_and c.from_residual.result c.from_residual.ensures.1 in
+    let names = act_names c.args.table.now in
+    let all : (c.new-names.result.keys ++ names) ++ [] ≡ names = rw c.new-names.ensures.empty (append-nil names) in
+    rw (p.1, p.2) (λ known. names_refused names c.new-names.result.keys names [] all (c.in_err-add_names.ensures.refused known))
+
+pub returns-clause-differ : goal.returns-clause-differ
+returns-clause-differ c =
+    let names = act_names c.args.table.now in
+    let all : c.add_names.new.names.keys ≡ names = c.in_ok-add_names.ensures.ok ∙ ap (λ ks. ks ++ names) c.new-names.ensures.empty in
+    rw (← all) (are_distinct-from_IsDistinct c.add_names.new.names.keys c.in_ok-add_names.ensures.distinct)

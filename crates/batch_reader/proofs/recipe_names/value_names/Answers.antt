@@ -1,0 +1,45 @@
+use Rattle.std.proofs.Common.{◌≡◌, true, List, [], ◌++◌, map, ◌∙◌, subst, append-nil}
+use Rattle.std.proofs.lemmas.Result.{err_from_is_err_and}
+use Rattle.batch_recipe.specs.Conditions.{Name}
+use Rattle.batch_recipe.specs.WellFormed.{are_distinct}
+use Rattle.batch_reader.proofs.DistinctNames.{are_distinct-from_IsDistinct, names_refused, after_none, after_first, after_second}
+use Rattle.batch_reader.proofs.recipe_names.value_names.Goals as goal
+
+pub returns-in_err-add_names-clause-refused : goal.returns-in_err-add_names-clause-refused
+returns-in_err-add_names-clause-refused c =
+    let p = err_from_is_err_and c.from_residual.result c.from_residual.ensures.1 in
+    let inputs : List Name = map (λ q. q.name) c.args.inputs.now in
+    let parameters : List Name = map (λ q. q.name) c.args.parameters.now in
+    let none = c.new-names.result.keys in
+    rw (p.1, p.2) (λ known. names_refused _ none inputs (parameters ++ c.args.outputs.now) (after_none inputs parameters c.args.outputs.now none [] [] c.new-names.ensures.empty)
+    (c.in_err-add_names.ensures.refused known))
+
+pub returns-in_err-add_names-2-clause-refused : goal.returns-in_err-add_names-2-clause-refused
+returns-in_err-add_names-2-clause-refused c =
+    let p = err_from_is_err_and c.from_residual-in_err-add_names-2.result c.from_residual-in_err-add_names-2.ensures.1 in
+    let inputs : List Name = map (λ q. q.name) c.args.inputs.now in
+    let parameters : List Name = map (λ q. q.name) c.args.parameters.now in
+    let first = c.add_names.new.names.keys in
+    rw (p.1, p.2) (λ known. names_refused _ first parameters c.args.outputs.now
+    (after_first inputs parameters c.args.outputs.now c.new-names.result.keys first [] c.new-names.ensures.empty c.in_ok-add_names.ensures.ok)
+    (c.in_err-add_names-2.ensures.refused known))
+
+pub returns-in_err-add_names-3-clause-refused : goal.returns-in_err-add_names-3-clause-refused
+returns-in_err-add_names-3-clause-refused c =
+    let p = err_from_is_err_and c.from_residual-in_err-add_names-3.result c.from_residual-in_err-add_names-3.ensures.1 in
+    let inputs : List Name = map (λ q. q.name) c.args.inputs.now in
+    let parameters : List Name = map (λ q. q.name) c.args.parameters.now in
+    let outputs : List Name = map (λ name. name) c.args.outputs.now in
+    let first = c.add_names.new.names.keys in
+    let second = c.add_names-2.new.names.keys in
+    let all = after_second inputs parameters c.args.outputs.now c.new-names.result.keys first second c.new-names.ensures.empty c.in_ok-add_names.ensures.ok c.in_ok-add_names-2.ensures.ok in
+    rw (p.1, p.2) (λ known. names_refused _ second outputs [] (append-nil (second ++ outputs) ∙ all) (c.in_err-add_names-3.ensures.refused known))
+
+pub returns-clause-differ : goal.returns-clause-differ
+returns-clause-differ c =
+    let inputs : List Name = map (λ q. q.name) c.args.inputs.now in
+    let parameters : List Name = map (λ q. q.name) c.args.parameters.now in
+    let first = c.add_names.new.names.keys in
+    let second = c.add_names-2.new.names.keys in
+    let all = after_second inputs parameters c.args.outputs.now c.new-names.result.keys first second c.new-names.ensures.empty c.in_ok-add_names.ensures.ok c.in_ok-add_names-2.ensures.ok in
+    subst (λ names. are_distinct names ≡ true) (c.in_ok-add_names-3.ensures.ok ∙ all) (are_distinct-from_IsDistinct c.add_names-3.new.names.keys c.in_ok-add_names-3.ensures.distinct)

@@ -1,0 +1,135 @@
+//! The conditions on the parts of a recipe.
+ghost use Rattle.std.specs.Prelude.{◌≡◌, ◌≢◌, ◌≤◌, true, length, IfErr, OnOk};
+ghost use Rattle.std.specs.List.{list_all};
+ghost use Rattle.batch_recipe.specs.Procedure.{procedure_nodes};
+ghost use Rattle.batch_recipe.specs.WellFormed.{act_names, are_kinds, is_among, is_work};
+ghost use Rattle.batch_recipe.specs.declared.recipe.TheConstants.{MAX_NODES};
+ghost use Rattle.batch_reader.specs.Naming.{acts_are_declared};
+ghost use Rattle.batch_reader.specs.FormedActs.{AreFormed, AreFormedActs, IsFormedWork};
+ghost use Rattle.batch_reader.specs.SoundRecipe.{IsSoundRecipe};
+
+use crate::chart_names::is_declared;
+use crate::equipment::check_count;
+use crate::fault::{EntryFault, Spot, TableFault, TableKind};
+use crate::recipe_names::{RecipeNames, recipe_names};
+use batch_recipe::{Act, Acts, MAX_ACTS, MAX_ENTRIES, Quantity, Work, count_nodes};
+use batch_text::Name;
+use indexmap::IndexSet;
+use std::alloc::Global;
+
+/// Tests the counts and the names of a recipe's parts.
+pub(crate) fn check_recipe(
+    alloc: Global,
+    inputs: &[Quantity],
+    parameters: &[Quantity],
+    outputs: &[Name],
+    acts: &Acts,
+) -> Result<(), TableFault>
+    requires kinds { are_kinds acts.now ≡ true }
+    requires formed { AreFormed acts.now }
+    ensures ok { OnOk result (IsSoundRecipe inputs.now parameters.now outputs.now acts.now) }
+    ensures refused { IfErr result (λ fault. fault ≢ TableFault.Memory
+        → ¬ (IsSoundRecipe inputs.now parameters.now outputs.now acts.now)) }
+{
+    check_count(inputs.len(), 0, MAX_ENTRIES, TableKind::Input)?;
+    check_count(parameters.len(), 0, MAX_ENTRIES, TableKind::Parameter)?;
+    check_count(outputs.len(), 0, MAX_ENTRIES, TableKind::Output)?;
+    check_count(
+        acts.unit_procedures.len(),
+        1,
+        MAX_ACTS,
+        TableKind::UnitProcedure,
+    )?;
+    check_count(acts.operations.len(), 1, MAX_ACTS, TableKind::Operation)?;
+    check_count(acts.phases.len(), 1, MAX_ACTS, TableKind::Phase)?;
+    let names = recipe_names(alloc, inputs, parameters, outputs, acts)?;
+    check_acts(alloc, acts, &names)?;
+    check_nodes(acts)
+}
+
+/// Tests that the acts name nothing that isn't declared.
+fn check_acts(alloc: Global, acts: &Acts, names: &RecipeNames) -> Result<(), TableFault>
+    requires formed { AreFormed acts.now }
+    requires unit_procedures { names.now.unit_procedures.keys ≡ act_names acts.now.unit_procedures.items }
+    requires operations { names.now.operations.keys ≡ act_names acts.now.operations.items }
+    requires phases { names.now.phases.keys ≡ act_names acts.now.phases.items }
+    ensures ok { OnOk result (acts_are_declared names.now.values.keys acts.now ≡ true) }
+    ensures refused { IfErr result (λ fault. acts_are_declared names.now.values.keys acts.now ≢ true) }
+{
+    let values = &names.values;
+    if !is_work(&acts.procedure, &names.unit_procedures, values) {
+        let spot = Spot {
+            kind: TableKind::Procedure,
+            entry: 0,
+        };
+        return Err(TableFault::Entry(spot, EntryFault::Undeclared));
+    }
+    let none = IndexSet::new(alloc);
+    check_table(
+        &acts.unit_procedures,
+        &names.operations,
+        values,
+        TableKind::UnitProcedure,
+    )?;
+    check_table(
+        &acts.operations,
+        &names.phases,
+        values,
+        TableKind::Operation,
+    )?;
+    check_table(&acts.phases, &none, values, TableKind::Phase)
+}
+
+/// Tests that the acts of a table name nothing but these labels and values.
+fn check_table(
+    table: &[Act],
+    labels: &IndexSet<Name>,
+    values: &IndexSet<Name>,
+    kind: TableKind,
+) -> Result<(), TableFault>
+    requires { AreFormedActs table.now }
+    ensures ok { OnOk result (list_all (is_work labels.now.keys values.now.keys) table.now ≡ true) }
+    ensures refused { IfErr result (λ fault. list_all (is_work labels.now.keys values.now.keys) table.now ≢ true) }
+{
+    for (entry, act) in table.iter().enumerate() {
+        if !is_work(act, labels, values) {
+            let spot = Spot { kind, entry };
+            return Err(TableFault::Entry(spot, EntryFault::Undeclared));
+        }
+    }
+    Ok(())
+}
+
+/// Whether the act names nothing but these labels and values.
+fn is_work(act: &Act, labels: &IndexSet<Name>, values: &IndexSet<Name>) -> bool
+    requires { IsFormedWork act.now.work }
+    ensures { result ≡ is_work labels.now.keys values.now.keys act.now }
+{
+    match &act.work {
+        Work::Follows(chart) => is_declared(chart, labels, values),
+        Work::Runs { values: handed, .. } => are_among(handed, values),
+    }
+}
+
+fn are_among(names: &[Name], declared: &IndexSet<Name>) -> bool
+    ensures { result ≡ list_all (is_among declared.now.keys) names.now }
+{
+    names.iter().all(|name| declared.contains(name))
+}
+
+/// Tests that the acts expand to no more nodes than a recipe may have.
+fn check_nodes(acts: &Acts) -> Result<(), TableFault>
+    ensures ok { OnOk result (length (procedure_nodes acts.now) ≤ MAX_NODES) }
+    ensures refused { IfErr result (λ fault. ¬ (length (procedure_nodes acts.now) ≤ MAX_NODES)) }
+{
+    match count_nodes(acts) {
+        Some(_) => Ok(()),
+        None => {
+            let spot = Spot {
+                kind: TableKind::Procedure,
+                entry: 0,
+            };
+            Err(TableFault::Entry(spot, EntryFault::OutOfLimit))
+        }
+    }
+}

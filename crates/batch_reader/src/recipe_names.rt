@@ -1,0 +1,104 @@
+//! The names that a recipe declares.
+ghost use Rattle.std.specs.Prelude.{◌≡◌, ◌≢◌, true, IfErr, IfOk, OnOk};
+ghost use Rattle.batch_recipe.specs.WellFormed.{act_names, are_distinct, value_names};
+ghost use Rattle.batch_reader.specs.Naming.{names_differ};
+
+use crate::fault::{TableFault, TableKind};
+use crate::names::{Named, add_names};
+use batch_recipe::{Act, Acts, Quantity};
+use batch_text::Name;
+use indexmap::IndexSet;
+use std::alloc::Global;
+
+impl Named for Quantity {
+    ghost name_of = { λ quantity. quantity.name };
+
+    fn name(&self) -> &Name {
+        &self.name
+    }
+}
+
+impl Named for Act {
+    ghost name_of = { λ act. act.name };
+
+    fn name(&self) -> &Name {
+        &self.name
+    }
+}
+
+/// An output is its name alone.
+impl Named for Name {
+    ghost name_of = { λ name. name };
+
+    fn name(&self) -> &Name {
+        self
+    }
+}
+
+/// What the charts of a recipe and its phase steps may name.
+#[derive(Drop)]
+pub(crate) struct RecipeNames {
+    /// The inputs, parameters and outputs.
+    pub(crate) values: IndexSet<Name>,
+    pub(crate) unit_procedures: IndexSet<Name>,
+    pub(crate) operations: IndexSet<Name>,
+    pub(crate) phases: IndexSet<Name>,
+}
+
+/// The names of a recipe, where those that have to differ do.
+pub(crate) fn recipe_names(
+    alloc: Global,
+    inputs: &[Quantity],
+    parameters: &[Quantity],
+    outputs: &[Name],
+    acts: &Acts,
+) -> Result<RecipeNames, TableFault>
+    ensures values { IfOk result (λ names. names.values.keys ≡ value_names inputs.now parameters.now outputs.now) }
+    ensures unit_procedures { IfOk result (λ names. names.unit_procedures.keys ≡ act_names acts.now.unit_procedures.items) }
+    ensures operations { IfOk result (λ names. names.operations.keys ≡ act_names acts.now.operations.items) }
+    ensures phases { IfOk result (λ names. names.phases.keys ≡ act_names acts.now.phases.items) }
+    ensures differ { OnOk result (names_differ (value_names inputs.now parameters.now outputs.now) acts.now ≡ true) }
+    ensures refused { IfErr result (λ fault. fault ≢ TableFault.Memory
+        → names_differ (value_names inputs.now parameters.now outputs.now) acts.now ≢ true) }
+{
+    let values = value_names(alloc, inputs, parameters, outputs)?;
+    let unit_procedures = act_names(alloc, &acts.unit_procedures, TableKind::UnitProcedure)?;
+    let operations = act_names(alloc, &acts.operations, TableKind::Operation)?;
+    let phases = act_names(alloc, &acts.phases, TableKind::Phase)?;
+    Ok(RecipeNames {
+        values,
+        unit_procedures,
+        operations,
+        phases,
+    })
+}
+
+/// The names of inputs, parameters and outputs, in this order.
+fn value_names(
+    alloc: Global,
+    inputs: &[Quantity],
+    parameters: &[Quantity],
+    outputs: &[Name],
+) -> Result<IndexSet<Name>, TableFault>
+    ensures ok { IfOk result (λ names. names.keys ≡ value_names inputs.now parameters.now outputs.now) }
+    ensures differ { OnOk result (are_distinct (value_names inputs.now parameters.now outputs.now) ≡ true) }
+    ensures refused { IfErr result (λ fault. fault ≢ TableFault.Memory
+        → are_distinct (value_names inputs.now parameters.now outputs.now) ≢ true) }
+{
+    let mut names = IndexSet::new(alloc);
+    add_names(alloc, &mut names, inputs, TableKind::Input)?;
+    add_names(alloc, &mut names, parameters, TableKind::Parameter)?;
+    add_names(alloc, &mut names, outputs, TableKind::Output)?;
+    Ok(names)
+}
+
+/// The names of the acts of a table.
+fn act_names(alloc: Global, table: &[Act], kind: TableKind) -> Result<IndexSet<Name>, TableFault>
+    ensures ok { IfOk result (λ names. names.keys ≡ act_names table.now) }
+    ensures differ { OnOk result (are_distinct (act_names table.now) ≡ true) }
+    ensures refused { IfErr result (λ fault. fault ≢ TableFault.Memory → are_distinct (act_names table.now) ≢ true) }
+{
+    let mut names = IndexSet::new(alloc);
+    add_names(alloc, &mut names, table, kind)?;
+    Ok(names)
+}
