@@ -1,0 +1,193 @@
+-- Acts, without where their parts lie in memory: what a recipe's parts must be depends on no more.
+use Rattle.std.proofs.Common.{◌≡◌, ◌≤◌, nat_le, Bool, true, false, ◌&&◌, List, [], ◌∷◌, ◌++◌, map, length, Option, Some, None, option_map, refl, sym, ap, ◌∙◌, subst, cond, find}
+use Rattle.std.proofs.Math.Path.{fun_ext}
+use Rattle.std.proofs.lemmas.List.{length-map}
+use Rattle.std.specs.List.{list_all}
+use Rattle.batch_recipe.specs.Conditions.{Name, same_name}
+use Rattle.batch_recipe.specs.Diagram.{Diagram, diagram_of}
+use Rattle.batch_recipe.specs.Expanding.{act_tree, act_named, asked_by, expanded, named_tree, task_of, unit_below}
+use Rattle.batch_recipe.specs.Nodes.{Node, child, nodes}
+use Rattle.batch_recipe.specs.Procedure.{procedure_nodes, procedure_tree}
+use Rattle.batch_recipe.specs.Tree as tree
+use Rattle.batch_recipe.specs.Tree.{Place, Tree, Task, act, skip}
+use Rattle.batch_recipe.specs.WellFormed.{act_names, are_distinct, follows_no_par, has_no_par, is_among, is_chart, is_well_formed, is_work, value_names}
+use Rattle.batch_recipe.specs.declared.act.Act.{Act}
+use Rattle.batch_recipe.specs.declared.act.TheConstants.{MAX_VALUES}
+use Rattle.batch_recipe.specs.declared.act.Work.{Work}
+use Rattle.batch_recipe.specs.declared.act.Work.TheVariants.{Follows, Runs}
+use Rattle.batch_recipe.specs.declared.acts.Acts.{Acts}
+use Rattle.batch_recipe.specs.declared.quantity.Quantity.{Quantity}
+use Rattle.batch_recipe.specs.declared.recipe.TheConstants.{MAX_NODES}
+use Rattle.batch_reader.specs.SoundRecipe.{IsSoundRecipe}
+
+-- a chart, or a phase and the names of the values that it is handed
+pub data WorkForm : Type 0 where
+  charted : Diagram → WorkForm
+  handing : Name → List Name → WorkForm
+
+pub record ActForm : Type 0 where
+  pub name : Name
+  pub unit : Option Name
+  pub needs : List Name
+  pub work : WorkForm
+
+abbrev pub work_form : Work → WorkForm
+work_form (Follows c) = charted (diagram_of c)
+work_form (Runs phase handed) = handing phase handed.items
+
+abbrev pub form : Act → ActForm
+form a = record { name = a.name; unit = a.unit; needs = a.needs.items; work = work_form a.work }
+
+pub same_form : (a b : Act) → a.name ≡ b.name → a.unit ≡ b.unit → a.needs.items ≡ b.needs.items → work_form a.work ≡ work_form b.work → form a ≡ form b
+same_form a b name unit needs work = λ i. record { name = name i; unit = unit i; needs = needs i; work = work i }
+
+-- ---- well-formed
+
+abbrev form_names : List ActForm → List Name
+form_names fs = map (λ f. f.name) fs
+
+names_form : (xs : List Act) → act_names xs ≡ form_names (map form xs)
+names_form [] = refl
+names_form (x ∷ xs) = ap (λ ns. x.name ∷ ns) (names_form xs)
+
+abbrev is_form_work : List Name → List Name → ActForm → Bool
+is_form_work labels values f =
+    elim f.work [ charted d ↦ is_chart labels values 32 d | handing phase handed ↦ nat_le (length handed) MAX_VALUES && list_all (is_among values) handed ]
+
+abbrev form_no_par : ActForm → Bool
+form_no_par f = elim f.work [ charted d ↦ has_no_par d | handing phase handed ↦ true ]
+
+work_case : (labels values : List Name) (w : Work)
+    → ◌≡◌ {A = Bool}
+    (elim w [ Follows c ↦ is_chart labels values 32 (diagram_of c) | Runs phase handed ↦ nat_le (length handed.items) MAX_VALUES && list_all (is_among values) handed.items ])
+    (elim (work_form w) [ charted d ↦ is_chart labels values 32 d | handing phase handed ↦ nat_le (length handed) MAX_VALUES && list_all (is_among values) handed ])
+work_case labels values (Follows c) = refl
+work_case labels values (Runs phase handed) = refl
+
+par_case : (w : Work)
+    → ◌≡◌ {A = Bool} (elim w [ Follows c ↦ has_no_par (diagram_of c) | Runs phase handed ↦ true ]) (elim (work_form w) [ charted d ↦ has_no_par d | handing phase handed ↦ true ])
+par_case (Follows c) = refl
+par_case (Runs phase handed) = refl
+
+and_same : {a b c d : Bool} → a ≡ b → c ≡ d → (a && c) ≡ (b && d)
+and_same e f = λ i. e i && f i
+
+all_form : (p : Act → Bool) (q : ActForm → Bool) → ((a : Act) → p a ≡ q (form a)) → (xs : List Act) → list_all p xs ≡ list_all q (map form xs)
+all_form p q same [] = refl
+all_form p q same (x ∷ xs) = and_same (same x) (all_form p q same xs)
+
+abbrev are_well_formed : List Name → ActForm → List ActForm → List ActForm → List ActForm → Bool
+are_well_formed values procedure us os ss =
+    (are_distinct values && (are_distinct (form_names us) && (are_distinct (form_names os) && are_distinct (form_names ss))))
+    && (is_form_work (form_names us) values procedure
+    && (list_all (λ u. is_form_work (form_names os) values u && form_no_par u) us
+    && (list_all (is_form_work (form_names ss) values) os
+    && list_all (is_form_work [] values) ss)))
+
+work_same : (values : List Name) (table : List Act) (a : Act) → is_work (act_names table) values a ≡ is_form_work (form_names (map form table)) values (form a)
+work_same values table a = work_case (act_names table) values a.work ∙ ap (λ labels. is_form_work labels values (form a)) (names_form table)
+
+well_formed_form : (values : List Name) (a : Acts)
+    → is_well_formed values a ≡ are_well_formed values (form a.procedure) (map form a.unit_procedures.items) (map form a.operations.items) (map form a.phases.items)
+well_formed_form values a =
+    let us : List Act = a.unit_procedures.items in
+    let os : List Act = a.operations.items in
+    let ss : List Act = a.phases.items in
+    and_same
+    (and_same refl (and_same (ap are_distinct (names_form us)) (and_same (ap are_distinct (names_form os)) (ap are_distinct (names_form ss)))))
+    (and_same (work_same values us a.procedure)
+    (and_same (all_form (λ u. is_work (act_names os) values u && follows_no_par u) (λ u. is_form_work (form_names (map form os)) values u && form_no_par u)
+    (λ u. and_same (work_same values os u) (par_case u.work)) us)
+    (and_same (all_form (is_work (act_names ss) values) (is_form_work (form_names (map form ss)) values) (work_same values ss) os)
+    (all_form (is_work [] values) (is_form_work [] values) (λ s. work_case [] values s.work) ss))))
+
+-- ---- the expanded tree
+
+abbrev form_task : (Name → Place → Tree) → Name → Name → Place → WorkForm → Task
+form_task acts unit name p (charted d) = tree.follows name (expanded acts (child p 0) d)
+form_task acts unit name p (handing phase handed) = tree.runs (record { unit = unit; name = phase; handed = handed })
+
+abbrev form_act : (Name → Name → Place → Tree) → Name → ActForm → Place → Tree
+form_act acts unit f p =
+    act (record { place = p; needs = asked_by f.unit f.needs })
+    (form_task (acts (unit_below unit f.unit)) (unit_below unit f.unit) f.name p f.work)
+
+abbrev form_named : List ActForm → Name → Option ActForm
+form_named fs name = find (λ f. same_name f.name name) fs
+
+abbrev form_tree : List (List ActForm) → Name → Name → Place → Tree
+form_tree [] unit name p = skip
+form_tree (table ∷ tables) unit name p = elim (form_named table name) [ None ↦ skip | Some f ↦ form_act (form_tree tables) unit f p ]
+
+task_case : (acts : Name → Place → Tree) (unit name : Name) (p : Place) (w : Work) → task_of acts unit name p w ≡ form_task acts unit name p (work_form w)
+task_case acts unit name p (Follows c) = refl
+task_case acts unit name p (Runs phase handed) = refl
+
+act_same : (acts : Name → Name → Place → Tree) (unit : Name) (a : Act) (p : Place) → act_tree acts unit a p ≡ form_act acts unit (form a) p
+act_same acts unit a p =
+    ap (act (record { place = p; needs = asked_by a.unit a.needs.items })) (task_case (acts (unit_below unit a.unit)) (unit_below unit a.unit) a.name p a.work)
+
+named_same : (xs : List Act) (name : Name) → option_map form (act_named xs name) ≡ form_named (map form xs) name
+named_same [] name = refl
+named_same (x ∷ xs) name =
+    let P : Bool → Type 0 = λ b. option_map form (cond b (Some x) (act_named xs name)) ≡ cond b (Some (form x)) (form_named (map form xs) name) in
+    elim (same_name x.name name) as P [ true ↦ refl | false ↦ named_same xs name ]
+
+found_case : (acts forms : Name → Name → Place → Tree) → acts ≡ forms → (unit : Name) (p : Place) (o : Option Act)
+    → ◌≡◌ {A = Tree} (elim o [ None ↦ skip | Some a ↦ act_tree acts unit a p ]) (elim (option_map form o) [ None ↦ skip | Some f ↦ form_act forms unit f p ])
+found_case acts forms same unit p None = refl
+found_case acts forms same unit p (Some a) = act_same acts unit a p ∙ ap (λ (F : Name → Name → Place → Tree). form_act F unit (form a) p) same
+
+tree_same : (tables : List (List Act)) → named_tree tables ≡ form_tree (map (map form) tables)
+tree_same [] = fun_ext (λ unit. fun_ext (λ name. fun_ext (λ p. refl)))
+tree_same (table ∷ tables) = fun_ext (λ unit. fun_ext (λ name. fun_ext (λ p.
+    found_case (named_tree tables) (form_tree (map (map form) tables)) (tree_same tables) unit p (act_named table name)
+    ∙ ap (λ (o : Option ActForm). elim o [ None ↦ skip | Some f ↦ form_act (form_tree (map (map form) tables)) unit f p ]) (named_same table name))))
+
+abbrev whole_tree : ActForm → List ActForm → List ActForm → List ActForm → Tree
+whole_tree procedure us os ss = form_act (form_tree (us ∷ os ∷ ss ∷ [])) [] procedure (0 ∷ [])
+
+procedure_form : (a : Acts)
+    → procedure_tree a ≡ whole_tree (form a.procedure) (map form a.unit_procedures.items) (map form a.operations.items) (map form a.phases.items)
+procedure_form a =
+    let tables : List (List Act) = a.unit_procedures.items ∷ a.operations.items ∷ a.phases.items ∷ [] in
+    act_same (named_tree tables) [] a.procedure (0 ∷ []) ∙ ap (λ (F : Name → Name → Place → Tree). form_act F [] (form a.procedure) (0 ∷ [])) (tree_same tables)
+
+-- ---- what is said of one recipe's parts holds of others with the same forms
+
+pub same_length : {X Y : Type 0} (f : X → Y) (xs ys : List X) → map f xs ≡ map f ys → length xs ≡ length ys
+same_length f xs ys e = sym (length-map xs f) ∙ ap length e ∙ length-map ys f
+
+module _ (a b : Acts) (procedure : form a.procedure ≡ form b.procedure) (unit_procedures : map form a.unit_procedures.items ≡ map form b.unit_procedures.items)
+    (operations : map form a.operations.items ≡ map form b.operations.items) (phases : map form a.phases.items ≡ map form b.phases.items) where
+  same_well_formed : (values : List Name) → is_well_formed values a ≡ is_well_formed values b
+  same_well_formed values =
+      well_formed_form values a ∙ (λ i. are_well_formed values (procedure i) (unit_procedures i) (operations i) (phases i)) ∙ sym (well_formed_form values b)
+
+  same_nodes : procedure_nodes a ≡ procedure_nodes b
+  same_nodes =
+      ap (nodes (0 ∷ []) []) (procedure_form a ∙ (λ i. whole_tree (procedure i) (unit_procedures i) (operations i) (phases i)) ∙ sym (procedure_form b))
+
+  pub sound_along : (is js ps qs : List Quantity) (os rs : List Name) → map (λ q. q.name) is ≡ map (λ q. q.name) js → map (λ q. q.name) ps ≡ map (λ q. q.name) qs → os ≡ rs
+      → IsSoundRecipe is ps os a → IsSoundRecipe js qs rs b
+  sound_along is js ps qs os rs inputs parameters outputs h =
+      let values : value_names is ps os ≡ value_names js qs rs = λ i. inputs i ++ parameters i ++ outputs i in
+      let li : length is ≡ length js = same_length (λ q. q.name) is js inputs in
+      let lp : length ps ≡ length qs = same_length (λ q. q.name) ps qs parameters in
+      let lo : length os ≡ length rs = ap length outputs in
+      let lu : length a.unit_procedures.items ≡ length b.unit_procedures.items = same_length form _ _ unit_procedures in
+      let lr : length a.operations.items ≡ length b.operations.items = same_length form _ _ operations in
+      let ls : length a.phases.items ≡ length b.phases.items = same_length form _ _ phases in
+      record {
+        few_inputs = rw (← li) h.few_inputs;
+        few_parameters = rw (← lp) h.few_parameters;
+        few_outputs = rw (← lo) h.few_outputs;
+        some_unit_procedures = rw (← lu) h.some_unit_procedures;
+        few_unit_procedures = rw (← lu) h.few_unit_procedures;
+        some_operations = rw (← lr) h.some_operations;
+        few_operations = rw (← lr) h.few_operations;
+        some_phases = rw (← ls) h.some_phases;
+        few_phases = rw (← ls) h.few_phases;
+        well_formed = sym (same_well_formed (value_names js qs rs)) ∙ ap (λ names. is_well_formed names a) (sym values) ∙ h.well_formed;
+        small = subst (λ (ns : List Node). length ns ≤ MAX_NODES) same_nodes h.small;
+      }
