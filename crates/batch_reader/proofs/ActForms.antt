@@ -22,8 +22,8 @@ use Rattle.batch_reader.specs.SoundRecipe.{IsSoundRecipe}
 
 -- a chart, or a phase and the names of the values that it is handed
 pub data WorkForm : Type 0 where
-  charted : Diagram → WorkForm
-  handing : Name → List Name → WorkForm
+  follows : Diagram → WorkForm
+  runs : Name → List Name → WorkForm
 
 pub record ActForm : Type 0 where
   pub name : Name
@@ -32,14 +32,11 @@ pub record ActForm : Type 0 where
   pub work : WorkForm
 
 abbrev pub work_form : Work → WorkForm
-work_form (Follows c) = charted (diagram_of c)
-work_form (Runs phase handed) = handing phase handed.items
+work_form (Follows c) = follows (diagram_of c)
+work_form (Runs phase handed) = runs phase handed.items
 
 abbrev pub form : Act → ActForm
 form a = record { name = a.name; unit = a.unit; needs = a.needs.items; work = work_form a.work }
-
-pub same_form : (a b : Act) → a.name ≡ b.name → a.unit ≡ b.unit → a.needs.items ≡ b.needs.items → work_form a.work ≡ work_form b.work → form a ≡ form b
-same_form a b name unit needs work = λ i. record { name = name i; unit = unit i; needs = needs i; work = work i }
 
 -- ---- well-formed
 
@@ -52,20 +49,20 @@ names_form (x ∷ xs) = ap (λ ns. x.name ∷ ns) (names_form xs)
 
 abbrev is_form_work : List Name → List Name → ActForm → Bool
 is_form_work labels values f =
-    elim f.work [ charted d ↦ is_chart labels values 32 d | handing phase handed ↦ nat_le (length handed) MAX_VALUES && list_all (is_among values) handed ]
+    elim f.work [ follows d ↦ is_chart labels values 32 d | runs phase handed ↦ nat_le (length handed) MAX_VALUES && list_all (is_among values) handed ]
 
 abbrev form_no_par : ActForm → Bool
-form_no_par f = elim f.work [ charted d ↦ has_no_par d | handing phase handed ↦ true ]
+form_no_par f = elim f.work [ follows d ↦ has_no_par d | runs phase handed ↦ true ]
 
 work_case : (labels values : List Name) (w : Work)
     → ◌≡◌ {A = Bool}
     (elim w [ Follows c ↦ is_chart labels values 32 (diagram_of c) | Runs phase handed ↦ nat_le (length handed.items) MAX_VALUES && list_all (is_among values) handed.items ])
-    (elim (work_form w) [ charted d ↦ is_chart labels values 32 d | handing phase handed ↦ nat_le (length handed) MAX_VALUES && list_all (is_among values) handed ])
+    (elim (work_form w) [ follows d ↦ is_chart labels values 32 d | runs phase handed ↦ nat_le (length handed) MAX_VALUES && list_all (is_among values) handed ])
 work_case labels values (Follows c) = refl
 work_case labels values (Runs phase handed) = refl
 
 par_case : (w : Work)
-    → ◌≡◌ {A = Bool} (elim w [ Follows c ↦ has_no_par (diagram_of c) | Runs phase handed ↦ true ]) (elim (work_form w) [ charted d ↦ has_no_par d | handing phase handed ↦ true ])
+    → ◌≡◌ {A = Bool} (elim w [ Follows c ↦ has_no_par (diagram_of c) | Runs phase handed ↦ true ]) (elim (work_form w) [ follows d ↦ has_no_par d | runs phase handed ↦ true ])
 par_case (Follows c) = refl
 par_case (Runs phase handed) = refl
 
@@ -104,8 +101,8 @@ well_formed_form values a =
 -- ---- the expanded tree
 
 abbrev form_task : (Name → Place → Tree) → Name → Name → Place → WorkForm → Task
-form_task acts unit name p (charted d) = tree.follows name (expanded acts (child p 0) d)
-form_task acts unit name p (handing phase handed) = tree.runs (record { unit = unit; name = phase; handed = handed })
+form_task acts unit name p (follows d) = tree.follows name (expanded acts (child p 0) d)
+form_task acts unit name p (runs phase handed) = tree.runs (record { unit = unit; name = phase; handed = handed })
 
 abbrev form_act : (Name → Name → Place → Tree) → Name → ActForm → Place → Tree
 form_act acts unit f p =
@@ -155,7 +152,7 @@ procedure_form a =
 
 -- ---- what is said of one recipe's parts holds of others with the same forms
 
-pub same_length : {X Y : Type 0} (f : X → Y) (xs ys : List X) → map f xs ≡ map f ys → length xs ≡ length ys
+same_length : {X Y : Type 0} (f : X → Y) (xs ys : List X) → map f xs ≡ map f ys → length xs ≡ length ys
 same_length f xs ys e = sym (length-map xs f) ∙ ap length e ∙ length-map ys f
 
 module _ (a b : Acts) (procedure : form a.procedure ≡ form b.procedure) (unit_procedures : map form a.unit_procedures.items ≡ map form b.unit_procedures.items)
@@ -168,26 +165,29 @@ module _ (a b : Acts) (procedure : form a.procedure ≡ form b.procedure) (unit_
   same_nodes =
       ap (nodes (0 ∷ []) []) (procedure_form a ∙ (λ i. whole_tree (procedure i) (unit_procedures i) (operations i) (phases i)) ∙ sym (procedure_form b))
 
-  pub sound_along : (is js ps qs : List Quantity) (os rs : List Name) → map (λ q. q.name) is ≡ map (λ q. q.name) js → map (λ q. q.name) ps ≡ map (λ q. q.name) qs → os ≡ rs
-      → IsSoundRecipe is ps os a → IsSoundRecipe js qs rs b
-  sound_along is js ps qs os rs inputs parameters outputs h =
-      let values : value_names is ps os ≡ value_names js qs rs = λ i. inputs i ++ parameters i ++ outputs i in
-      let li : length is ≡ length js = same_length (λ q. q.name) is js inputs in
-      let lp : length ps ≡ length qs = same_length (λ q. q.name) ps qs parameters in
-      let lo : length os ≡ length rs = ap length outputs in
-      let lu : length a.unit_procedures.items ≡ length b.unit_procedures.items = same_length form _ _ unit_procedures in
-      let lr : length a.operations.items ≡ length b.operations.items = same_length form _ _ operations in
-      let ls : length a.phases.items ≡ length b.phases.items = same_length form _ _ phases in
-      record {
-        few_inputs = rw (← li) h.few_inputs;
-        few_parameters = rw (← lp) h.few_parameters;
-        few_outputs = rw (← lo) h.few_outputs;
-        some_unit_procedures = rw (← lu) h.some_unit_procedures;
-        few_unit_procedures = rw (← lu) h.few_unit_procedures;
-        some_operations = rw (← lr) h.some_operations;
-        few_operations = rw (← lr) h.few_operations;
-        some_phases = rw (← ls) h.some_phases;
-        few_phases = rw (← ls) h.few_phases;
-        well_formed = sym (same_well_formed (value_names js qs rs)) ∙ ap (λ names. is_well_formed names a) (sym values) ∙ h.well_formed;
-        small = subst (λ (ns : List Node). length ns ≤ MAX_NODES) same_nodes h.small;
-      }
+pub sound_along : (inputs parameters inputs2 parameters2 : List Quantity) (outputs outputs2 : List Name) (a b : Acts)
+    → map (λ q. q.name) inputs ≡ map (λ q. q.name) inputs2 → map (λ q. q.name) parameters ≡ map (λ q. q.name) parameters2 → outputs ≡ outputs2
+    → form a.procedure ≡ form b.procedure → map form a.unit_procedures.items ≡ map form b.unit_procedures.items
+    → map form a.operations.items ≡ map form b.operations.items → map form a.phases.items ≡ map form b.phases.items
+    → IsSoundRecipe inputs parameters outputs a → IsSoundRecipe inputs2 parameters2 outputs2 b
+sound_along is ps js qs os rs a b ei ep eo procedure unit_procedures operations phases h =
+    let values : value_names is ps os ≡ value_names js qs rs = λ i. ei i ++ ep i ++ eo i in
+    let li : length is ≡ length js = same_length (λ q. q.name) is js ei in
+    let lp : length ps ≡ length qs = same_length (λ q. q.name) ps qs ep in
+    let lo : length os ≡ length rs = ap length eo in
+    let lu : length a.unit_procedures.items ≡ length b.unit_procedures.items = same_length form _ _ unit_procedures in
+    let lr : length a.operations.items ≡ length b.operations.items = same_length form _ _ operations in
+    let ls : length a.phases.items ≡ length b.phases.items = same_length form _ _ phases in
+    record {
+      few_inputs = rw (← li) h.few_inputs;
+      few_parameters = rw (← lp) h.few_parameters;
+      few_outputs = rw (← lo) h.few_outputs;
+      some_unit_procedures = rw (← lu) h.some_unit_procedures;
+      few_unit_procedures = rw (← lu) h.few_unit_procedures;
+      some_operations = rw (← lr) h.some_operations;
+      few_operations = rw (← lr) h.few_operations;
+      some_phases = rw (← ls) h.some_phases;
+      few_phases = rw (← ls) h.few_phases;
+      well_formed = sym (same_well_formed a b procedure unit_procedures operations phases (value_names js qs rs)) ∙ ap (λ names. is_well_formed names a) (sym values) ∙ h.well_formed;
+      small = subst (λ (ns : List Node). length ns ≤ MAX_NODES) (same_nodes a b procedure unit_procedures operations phases) h.small;
+    }
