@@ -95,7 +95,6 @@ formed_of_tables ms acts h = record {
 
 -- ---- names that are no words of charts
 
-
 free_names : {X : Type 0} (R : Members → X → Type 0) (name_of : X → Name) → ((ms : Members) (x : X) → R ms x → HasLabel (codes "name") ms (name_of x))
     → (key : List ℕ) (ms : Members) (xs : List X) → HasTables R key ms xs → have_no_chart_word (map name_of xs) ≡ true
 free_names R name_of named key ms xs h =

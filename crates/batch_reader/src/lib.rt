@@ -21,6 +21,12 @@ mod recipe_document;
 mod recipe_entries;
 mod recipe_names;
 #[cfg(test)]
+mod recipe_tests;
+#[cfg(test)]
+mod recipe_tests_limits;
+#[cfg(test)]
+mod recipe_tests_refusals;
+#[cfg(test)]
 mod refusal_tests;
 mod resources;
 mod tables;

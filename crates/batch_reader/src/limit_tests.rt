@@ -7,7 +7,7 @@ use std::test::Fail;
 const HEAD: &str = "cell = \"C\"\n[[unit]]\nname = \"U\"\n";
 
 /// The text, and then `count` pieces with a number each.
-fn numbered(
+pub(crate) fn numbered(
     alloc: Global,
     head: &str,
     before: &str,

@@ -16,9 +16,7 @@ use crate::fault::{DocFault, EntryFault, Spot, TableFault, TableKind};
 use crate::recipe_checks::check_recipe;
 use crate::recipe_entries::{optional_text_at, text_at};
 use crate::tables::tables_at;
-use batch_recipe::{
-    Act, Acts, Header, MAX_SIZE, MAX_TEXT_LEN, MAX_VERSION_LEN, Quantity, Recipe,
-};
+use batch_recipe::{Act, Acts, Header, MAX_SIZE, MAX_TEXT_LEN, MAX_VERSION_LEN, Quantity, Recipe};
 use batch_text::Name;
 use std::alloc::Global;
 use toml::Table;
@@ -117,8 +115,12 @@ fn acts_at(alloc: Global, table: &Table) -> Result<Acts, TableFault>
 {
     let name = name_at(alloc, table, "recipe", TOP)?;
     let procedure = procedure_at(alloc, table, name)?;
-    let unit_procedures =
-        tables_at::<Act>(alloc, table, "unit_procedure", TableKind::UnitProcedure)?;
+    let unit_procedures = tables_at::<Act>(
+        alloc,
+        table,
+        "unit_procedure",
+        TableKind::UnitProcedure,
+    )?;
     let operations = tables_at::<Act>(alloc, table, "operation", TableKind::Operation)?;
     let phases = tables_at::<Act>(alloc, table, "phase", TableKind::Phase)?;
     Ok(Acts {

@@ -1,0 +1,340 @@
+//! Recipe documents at their limits, and one past them.
+use crate::limit_tests::numbered;
+use crate::recipe_tests::{ADD, CHARGE, MAKE, OUTPUT, PROCEDURE, document};
+use crate::{DocFault, EntryFault, MAX_CHART_LEN, MAX_DOCUMENT_LEN, Spot, TableKind, read_recipe};
+use batch_recipe::node_count;
+use std::alloc::{AllocError, Global};
+use std::test::Fail;
+
+/// The text, `count` times, between two others.
+fn repeated(
+    alloc: Global,
+    head: &str,
+    piece: &str,
+    count: usize,
+    tail: &str,
+) -> Result<String, AllocError> {
+    let mut text = String::from_str(alloc, head)?;
+    for _ in 0..count {
+        text.push_str(piece)?;
+    }
+    text.push_str(tail)?;
+    Ok(text)
+}
+
+/// Whether the document is taken, or else refused at the table as out of a limit.
+fn fits(alloc: Global, parts: [&str; 5], kind: TableKind, entry: usize) -> Result<bool, Fail> {
+    let text = document(alloc, "A", parts)?;
+    match read_recipe(alloc, text.as_bytes()) {
+        Ok(_) => Ok(true),
+        Err(fault) => {
+            if fault != DocFault::Entry(Spot { kind, entry }, EntryFault::OutOfLimit) {
+                return Err(Fail::from("another refusal"));
+            }
+            Ok(false)
+        }
+    }
+}
+
+/// The same of a document that begins with a repeated text, between two others.
+fn fits_with(
+    alloc: Global,
+    texts: [&str; 3],
+    count: usize,
+    rest: [&str; 4],
+    kind: TableKind,
+) -> Result<bool, Fail> {
+    let [head, piece, tail] = texts;
+    let text = repeated(alloc, head, piece, count, tail)?;
+    let [first, second, third, fourth] = rest;
+    fits(
+        alloc,
+        [text.as_str(), first, second, third, fourth],
+        kind,
+        0,
+    )
+}
+
+#[test]
+fn too_few_tables(rt: HostRuntime) -> Result<(), Fail> {
+    let cases = [
+        (
+            ["", "[procedure]\nchart = 'skip'\n", "", CHARGE, ADD],
+            TableKind::UnitProcedure,
+        ),
+        (
+            [
+                "",
+                PROCEDURE,
+                "[[unit_procedure]]\nname = 'MAKE'\nunit = 'R1'\nchart = 'skip'\n",
+                "",
+                ADD,
+            ],
+            TableKind::Operation,
+        ),
+        (
+            [
+                "",
+                PROCEDURE,
+                MAKE,
+                "[[operation]]\nname = 'CHARGE'\nchart = 'skip'\n",
+                "",
+            ],
+            TableKind::Phase,
+        ),
+    ];
+    for (parts, kind) in cases {
+        assert!(rt; !fits(rt.alloc(), parts, kind, 0)?);
+    }
+    Ok(())
+}
+
+#[test]
+fn numbers_of_tables(rt: HostRuntime) -> Result<(), Fail> {
+    let alloc = rt.alloc();
+    let cases = [
+        (
+            "[[input]]\nvalue = 1\nmin = 0\nmax = 1\nname = 'I",
+            64,
+            64,
+            TableKind::Input,
+        ),
+        (
+            "[[parameter]]\nvalue = 1\nmin = 0\nmax = 1\nname = 'M",
+            64,
+            64,
+            TableKind::Parameter,
+        ),
+        ("[[output]]\nname = 'X", 64, 64, TableKind::Output),
+        (
+            "[[unit_procedure]]\nunit = 'R1'\nchart = 'skip'\nname = 'U",
+            255,
+            256,
+            TableKind::UnitProcedure,
+        ),
+        (
+            "[[operation]]\nchart = 'skip'\nname = 'O",
+            255,
+            256,
+            TableKind::Operation,
+        ),
+        ("[[phase]]\nname = 'S", 255, 256, TableKind::Phase),
+    ];
+    for (before, more, most, kind) in cases {
+        let good = numbered(alloc, "", before, more, "'\n")?;
+        assert!(rt;
+            fits(
+                alloc,
+                [PROCEDURE, MAKE, CHARGE, ADD, good.as_str()],
+                kind,
+                most
+            )?
+        );
+        let bad = numbered(alloc, "", before, more + 1, "'\n")?;
+        assert!(rt;
+            !fits(
+                alloc,
+                [PROCEDURE, MAKE, CHARGE, ADD, bad.as_str()],
+                kind,
+                most
+            )?
+        );
+    }
+    Ok(())
+}
+
+#[test]
+fn lengths_of_lists_and_texts(rt: HostRuntime) -> Result<(), Fail> {
+    let phase = [PROCEDURE, MAKE, CHARGE, OUTPUT];
+    let top = [PROCEDURE, MAKE, CHARGE, ADD];
+    let chart = "[[operation]]\nname = 'CHARGE'\nchart = 'ADD";
+    let cases = [
+        (
+            "[[phase]]\nname = 'ADD'\nneeds = [",
+            "'HDR', ",
+            16,
+            "]\n",
+            phase,
+            TableKind::Phase,
+        ),
+        (
+            "[[phase]]\nname = 'ADD'\nvalues = [",
+            "'X', ",
+            4,
+            "]\n",
+            phase,
+            TableKind::Phase,
+        ),
+        ("product = '", "x", 256, "'\n", top, TableKind::Recipe),
+        ("author = '", "x", 256, "'\n", top, TableKind::Recipe),
+        ("info = '", "x", 256, "'\n", top, TableKind::Recipe),
+        (
+            chart,
+            " ",
+            MAX_CHART_LEN - 3,
+            "'\n",
+            [PROCEDURE, MAKE, ADD, ""],
+            TableKind::Operation,
+        ),
+    ];
+    for (head, piece, most, tail, rest, kind) in cases {
+        assert!(rt;
+            fits_with(rt.alloc(), [head, piece, tail], most, rest, kind)?,
+            "{head}"
+        );
+        assert!(rt;
+            !fits_with(rt.alloc(), [head, piece, tail], most + 1, rest, kind)?,
+            "{head}"
+        );
+    }
+    Ok(())
+}
+
+#[test]
+fn lengths_of_versions(rt: HostRuntime) -> Result<(), Fail> {
+    let alloc = rt.alloc();
+    let rest = format!(in alloc; "'\nbasis = 1\n{PROCEDURE}{MAKE}{CHARGE}{ADD}")?;
+    let good = repeated(alloc, "recipe = 'A'\nversion = '", "x", 64, rest.as_str())?;
+    assert!(rt; read_recipe(alloc, good.as_bytes()).is_ok());
+    let bad = repeated(alloc, "recipe = 'A'\nversion = '", "x", 65, rest.as_str())?;
+    let top = Spot {
+        kind: TableKind::Recipe,
+        entry: 0,
+    };
+    let found = read_recipe(alloc, bad.as_bytes()).err();
+    assert_eq!(rt; found, Some(DocFault::Entry(top, EntryFault::OutOfLimit)));
+    Ok(())
+}
+
+#[test]
+fn numbers_out_of_range(rt: HostRuntime) -> Result<(), Fail> {
+    let cases = [
+        [
+            "[[input]]\nname = 'I'\nvalue = 1000000000001\nmin = 0\nmax = 2\n",
+            PROCEDURE,
+            MAKE,
+            CHARGE,
+            ADD,
+        ],
+        [
+            "[[input]]\nname = 'I'\nvalue = -1\nmin = 0\nmax = 2\n",
+            PROCEDURE,
+            MAKE,
+            CHARGE,
+            ADD,
+        ],
+        [
+            "[[input]]\nname = 'I'\nvalue = 5\nmin = 3\nmax = 2\n",
+            PROCEDURE,
+            MAKE,
+            CHARGE,
+            ADD,
+        ],
+        [
+            "[[input]]\nname = 'I'\nvalue = 5\nmin = 3\nmax = 1000000000001\n",
+            PROCEDURE,
+            MAKE,
+            CHARGE,
+            ADD,
+        ],
+    ];
+    for parts in cases {
+        assert!(rt; !fits(rt.alloc(), parts, TableKind::Input, 0)?);
+    }
+    let turns = "[[operation]]\nname = 'CHARGE'\nchart = 'loop(1001, X > 0, ADD)'\n";
+    assert!(rt;
+        !fits(
+            rt.alloc(),
+            [OUTPUT, PROCEDURE, MAKE, turns, ADD],
+            TableKind::Operation,
+            0
+        )?
+    );
+    Ok(())
+}
+
+#[test]
+fn sizes_of_expanded_recipes(rt: HostRuntime) -> Result<(), Fail> {
+    let alloc = rt.alloc();
+    let made = repeated(
+        alloc,
+        "[procedure]\nchart = 'seq(MAKE",
+        ", MAKE",
+        22,
+        ")'\n",
+    )?;
+    let added = repeated(
+        alloc,
+        "[[operation]]\nname = 'CHARGE'\nchart = 'seq(ADD",
+        ", ADD",
+        174,
+        ")'\n",
+    )?;
+    let text = document(alloc, "A", ["", made.as_str(), MAKE, added.as_str(), ADD])?;
+    assert_eq!(rt; node_count(&read_recipe(alloc, text.as_bytes())?), 4096);
+    let more = repeated(
+        alloc,
+        "[procedure]\nchart = 'seq(MAKE",
+        ", MAKE",
+        22,
+        ", skip)'\n",
+    )?;
+    assert!(rt;
+        !fits(
+            alloc,
+            ["", more.as_str(), MAKE, added.as_str(), ADD],
+            TableKind::Procedure,
+            0
+        )?
+    );
+    Ok(())
+}
+
+/// Charts of the greatest length, which would expand to more than 10^11 nodes.
+#[test]
+fn recipes_that_would_expand_too_far(rt: HostRuntime) -> Result<(), Fail> {
+    let alloc = rt.alloc();
+    let top = repeated(alloc, "[procedure]\nchart = 'seq(U", ",U", 8_188, ")'\n")?;
+    let unit_procedure = repeated(
+        alloc,
+        "[[unit_procedure]]\nname = 'U'\nunit = 'R1'\nchart = 'seq(O",
+        ",O",
+        8_188,
+        ")'\n",
+    )?;
+    let operation = repeated(
+        alloc,
+        "[[operation]]\nname = 'O'\nchart = 'seq(S",
+        ",S",
+        8_188,
+        ")'\n",
+    )?;
+    let parts = [
+        "",
+        top.as_str(),
+        unit_procedure.as_str(),
+        operation.as_str(),
+        "[[phase]]\nname = 'S'\n",
+    ];
+    assert!(rt; !fits(alloc, parts, TableKind::Procedure, 0)?);
+    Ok(())
+}
+
+#[test]
+fn lengths_of_documents(rt: HostRuntime) -> Result<(), Fail> {
+    let alloc = rt.alloc();
+    let mut text = document(alloc, "A", [PROCEDURE, MAKE, CHARGE, ADD, "#"])?;
+    for _ in text.len()..MAX_DOCUMENT_LEN {
+        text.push('#')?;
+    }
+    assert!(rt; read_recipe(alloc, text.as_bytes()).is_ok());
+    text.push('#')?;
+    assert_eq!(rt; text.len(), 1_048_577);
+    let top = Spot {
+        kind: TableKind::Recipe,
+        entry: 0,
+    };
+    let found = read_recipe(alloc, text.as_bytes()).err();
+    assert_eq!(rt; found, Some(DocFault::Entry(top, EntryFault::OutOfLimit)));
+    Ok(())
+}
