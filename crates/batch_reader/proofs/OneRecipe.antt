@@ -1,5 +1,5 @@
 -- The tables of a recipe stand for one form of their parts at most.
-use Rattle.std.proofs.Common.{◌≡◌, ℕ, List, map, Option, Some, None, codes, refl, sym, ap, ◌∙◌}
+use Rattle.std.proofs.Common.{◌≡◌, ℕ, List, map, Some, codes, sym, ap, ◌∙◌}
 use Rattle.std.proofs.lemmas.List.{map-id}
 use Rattle.toml.specs.Data.{Members}
 use Rattle.batch_recipe.specs.Conditions.{Name}
@@ -8,10 +8,10 @@ use Rattle.batch_recipe.specs.declared.act.Act.{Act}
 use Rattle.batch_recipe.specs.declared.acts.Acts.{Acts}
 use Rattle.batch_recipe.specs.declared.quantity.Quantity.{Quantity}
 use Rattle.batch_recipe.specs.declared.recipe.Recipe.{Recipe}
-use Rattle.batch_reader.proofs.ActForms.{ActForm, WorkForm, follows, runs, work_form, form, sound_along}
+use Rattle.batch_reader.proofs.ActForms.{follows, runs, work_form, form, sound_along}
 use Rattle.batch_reader.proofs.Items.{HasTables_same}
-use Rattle.batch_reader.proofs.RecipeEntries.{HasName_unique, HasLabel_unique, HasNameOr_unique, HasChart_unique, HasFewNames_unique, HasTable_same}
-use Rattle.batch_reader.specs.Entries.{HasTable, HasTables}
+use Rattle.batch_reader.proofs.RecipeEntries.{HasName_unique, HasLabel_unique, HasNameOr_unique, HasChart_unique, HasFewNames_unique}
+use Rattle.batch_reader.specs.Entries.{HasTables}
 use Rattle.batch_reader.specs.RecipeTables.{HasCourse, HasNeeds, IsQuantityTable, IsOutputTable, IsProcedureTable, IsUnitProcedureTable, IsOperationTable, IsPhaseTable}
 use Rattle.batch_reader.specs.RecipeDocument.{HasActs, IsRecipeTable}
 use Rattle.batch_reader.specs.SoundRecipe.{IsSoundRecipe}

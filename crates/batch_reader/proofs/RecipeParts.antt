@@ -3,19 +3,17 @@ use Rattle.std.proofs.Common.{◌≡◌, ℕ, Bool, true, false, not, ◌&&◌, 
 use Rattle.std.proofs.lemmas.List.Elements.{All-nil, All-cons}
 use Rattle.std.proofs.lemmas.List.Folds.{list_all-append, list_all-map}
 use Rattle.std.specs.List.{list_all, All}
-use Rattle.toml.specs.Data.{Data, Members, Items, no_items, item}
+use Rattle.toml.specs.Data.{Members, Items, no_items, item}
 use Rattle.batch_grammar.proofs.ChartForms.{is_formed}
-use Rattle.batch_grammar.specs.ChartGrammar.{IsLabel}
 use Rattle.batch_recipe.specs.Conditions.{Name}
 use Rattle.batch_recipe.specs.Diagram.{diagram_of}
-use Rattle.batch_recipe.specs.WellFormed.{is_among, chart_words, have_no_chart_word, act_names, value_names, has_unit, has_chart, are_kinds, follows_no_par, has_free_names}
+use Rattle.batch_recipe.specs.WellFormed.{is_among, chart_words, have_no_chart_word, value_names, has_unit, has_chart, are_kinds, follows_no_par, has_free_names}
 use Rattle.batch_recipe.specs.declared.act.Act.{Act}
-use Rattle.batch_recipe.specs.declared.act.Work.{Work}
 use Rattle.batch_recipe.specs.declared.act.Work.TheVariants.{Follows, Runs}
 use Rattle.batch_recipe.specs.declared.acts.Acts.{Acts}
 use Rattle.batch_recipe.specs.declared.quantity.Quantity.{Quantity}
 use Rattle.batch_reader.specs.Entries.{AllItems, IsTableOf, HasTables, HasLabel}
-use Rattle.batch_reader.specs.FormedActs.{IsFormedWork, AreFormedActs, AreFormed}
+use Rattle.batch_reader.specs.FormedActs.{IsFormedWork, AreFormed}
 use Rattle.batch_reader.specs.RecipeTables.{IsQuantityTable, IsOutputTable, HasCourse, IsProcedureTable, IsUnitProcedureTable, IsOperationTable, IsPhaseTable}
 use Rattle.batch_reader.specs.RecipeDocument.{HasActs}
 

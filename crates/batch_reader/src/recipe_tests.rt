@@ -1,6 +1,6 @@
 //! Recipe documents that are taken, and what their recipes hold.
 use crate::{DocFault, read_recipe};
-use batch_recipe::{Act, Recipe};
+use batch_recipe::{Act, Recipe, node_count};
 use std::alloc::{AllocError, Global};
 use std::test::Fail;
 
@@ -52,6 +52,16 @@ needs = [\"STEAM\"]
 name = \"DRAINS\"
 runs = \"DRAIN\"
 needs = [\"STEAM\"]
+";
+
+const LOOPING: &str = "[[operation]]
+name = \"CHARGE\"
+chart = \"loop(1000, X > 0, ADD)\"
+";
+
+const CROSSING: &str = "[[operation]]
+name = \"O\"
+chart = \"par(ADDH, seq(DRAIN, HEATS))\"
 ";
 
 const CROSSED: &str = "[[phase]]
@@ -332,16 +342,7 @@ unit_procedure MAKE Some(\"R1\") [] Follows(Label(\"COOK\"))
         ),
         (
             "L",
-            [
-                OUTPUT,
-                PROCEDURE,
-                MAKE,
-                "[[operation]]
-name = \"CHARGE\"
-chart = \"loop(1000, X > 0, ADD)\"
-",
-                ADD,
-            ],
+            [OUTPUT, PROCEDURE, MAKE, LOOPING, ADD],
             [
                 "1000 [] [] [\"X\"]
 procedure L None [] Follows(Label(\"MAKE\"))
@@ -391,16 +392,7 @@ phase DRAINS None [\"STEAM\"] Runs { phase: \"DRAIN\", values: [] }
         ),
         (
             "P",
-            [
-                "",
-                FOLLOWS_U,
-                ON_R1,
-                "[[operation]]
-name = \"O\"
-chart = \"par(ADDH, seq(DRAIN, HEATS))\"
-",
-                CROSSED,
-            ],
+            ["", FOLLOWS_U, ON_R1, CROSSING, CROSSED],
             [
                 "1000 [] [] []
 procedure P None [] Follows(Label(\"U\"))
@@ -438,6 +430,20 @@ procedure Q None [] Follows(Label(\"U\"))
     ];
     for (name, parts, expected) in cases {
         assert!(rt; reads(rt.alloc(), name, parts, expected)?, "{name}");
+    }
+    Ok(())
+}
+
+#[test]
+fn nodes_of_worked_examples(rt: HostRuntime) -> Result<(), Fail> {
+    let cases = [
+        ("L", [OUTPUT, PROCEDURE, MAKE, LOOPING, ADD], 5),
+        ("P", ["", FOLLOWS_U, ON_R1, CROSSING, CROSSED], 8),
+    ];
+    for (name, parts, nodes) in cases {
+        let text = document(rt.alloc(), name, parts)?;
+        let recipe = read_recipe(rt.alloc(), text.as_bytes())?;
+        assert_eq!(rt; node_count(&recipe), nodes);
     }
     Ok(())
 }

@@ -1,7 +1,6 @@
-use Rattle.std.proofs.Common.{◌≡◌, None, true, rules}
+use Rattle.std.proofs.Common.{◌≡◌, None}
 use Rattle.std.proofs.lemmas.Result.{err_from_is_err_and}
 use Rattle.batch_recipe.specs.Diagram.{diagram_of}
-use Rattle.batch_recipe.specs.WellFormed.{has_no_par}
 use Rattle.batch_reader.proofs.RecipeEntries.{HasChart_unique}
 use Rattle.batch_reader.proofs.chart_entry.chart_without_par_at.Goals as goal
 
