@@ -1,0 +1,16 @@
+pub mod Names
+pub mod Raises
+pub mod Walks
+pub mod Orders
+pub mod Turns
+pub mod Entries
+pub mod Told
+pub mod Pairs
+pub mod Asking
+pub mod Collects
+pub mod Branches
+pub mod Recipes
+pub mod Known
+pub mod Rising
+pub mod Circles
+pub mod Verdicts

@@ -1,0 +1,66 @@
+-- One more edge in a set of edges.
+use Rattle.std.proofs.Common.{◌≡◌, ℕ, ◌+◌, ◌*◌, ◌<◌, ◌/◌, Bool, true, false, ◌&&◌, ◌||◌, IsTrue, nat_eq, List, [], ◌∷◌, ◌++◌, length, set, get_or, inl, inr, refl, sym, ap, ◌∙◌, subst, arith, get_or-set_same, get_or-set_other}
+use Rattle.std.proofs.lemmas.Bool.{cases_eq, eqb-true, eq-eqb}
+use Rattle.std.proofs.lemmas.Nat.{mul-add-lt, div-mul-add}
+use Rattle.std.proofs.lemmas.List.Folds.{list_any-append}
+use Rattle.batch_check.specs.declared.edge.Edge.{Edge}
+use Rattle.batch_check.specs.Pairs.{has_pair, Keeps}
+
+abbrev is_pair : Edge → ℕ → ℕ → Bool
+is_pair e i j = nat_eq e.earlier i && nat_eq e.later j
+
+has_pair-push : (edges : List Edge) (e : Edge) (i j : ℕ) → has_pair (edges ++ e ∷ []) i j ≡ (has_pair edges i j || (is_pair e i j || false))
+has_pair-push edges e i j = list_any-append (λ (f : Edge). is_pair f i j) edges (e ∷ [])
+
+or_left : (a b : Bool) → IsTrue a → IsTrue (a || b)
+or_left true b h = refl
+or_left false b h = cc
+
+or_right : (a b : Bool) → b ≡ true → (a || (b || false)) ≡ true
+or_right true b h = refl
+or_right false true h = refl
+or_right false false h = cc
+
+or_none : (a b : Bool) → b ≡ false → a ≡ (a || (b || false))
+or_none true b h = refl
+or_none false true h = cc
+or_none false false h = refl
+
+pub pushed-keeps : (edges : List Edge) (e : Edge) → Keeps edges (edges ++ e ∷ [])
+pushed-keeps edges e i j h = subst IsTrue (sym (has_pair-push edges e i j)) (or_left (has_pair edges i j) (is_pair e i j || false) h)
+
+is_pair-own : (e : Edge) (i j : ℕ) → e.earlier ≡ i → e.later ≡ j → is_pair e i j ≡ true
+is_pair-own e i j p q = rw (eq-eqb e.earlier i p, eq-eqb e.later j q) refl
+
+is_pair-other : (e : Edge) (i j : ℕ) → (e.earlier ≡ i → e.later ≡ j → ⊥) → is_pair e i j ≡ false
+is_pair-other e i j h = go (nat_eq e.earlier i) (nat_eq e.later j) refl refl
+  where
+    go : (a b : Bool) → nat_eq e.earlier i ≡ a → nat_eq e.later j ≡ b → (a && b) ≡ false
+    go true true p q = absurd (h (eqb-true e.earlier i p) (eqb-true e.later j q))
+    go true false p q = refl
+    go false b p q = refl
+
+pub pushed-has : (edges : List Edge) (e : Edge) → IsTrue (has_pair (edges ++ e ∷ []) e.earlier e.later)
+pushed-has edges e =
+    has_pair-push edges e e.earlier e.later ∙ or_right (has_pair edges e.earlier e.later) (is_pair e e.earlier e.later) (is_pair-own e e.earlier e.later refl refl)
+
+-- the table says which pairs have an edge
+abbrev IsExact : ℕ → List Bool → List Edge → Type 0
+IsExact count known edges = (i j : ℕ) → i < count → j < count → get_or known (i * count + j) false ≡ has_pair edges i j
+
+pub pushed-exact : (count : ℕ) (known : List Bool) (edges : List Edge) (e : Edge) → e.earlier < count → e.later < count → length known ≡ count * count
+    → IsExact count known edges → IsExact count (set known (e.earlier * count + e.later) true) (edges ++ e ∷ [])
+pushed-exact count known edges e in_earlier in_later sized exact i j in_i in_j =
+    let within : e.earlier * count + e.later < length known = rw sized (mul-add-lt e.earlier count e.later count in_earlier in_later) in
+    elim (cases_eq (i * count + j) (e.earlier * count + e.later)) [
+      | inl same ↦
+          let first : i ≡ e.earlier = sym (div-mul-add i count j in_j) ∙ (ap (λ n. n / count) same ∙ div-mul-add e.earlier count e.later in_later) in
+          let rows : i * count ≡ e.earlier * count = ap (λ n. n * count) first in
+          let second : j ≡ e.later = omega (arith, same, rows) in
+          let new : has_pair (edges ++ e ∷ []) i j ≡ true = has_pair-push edges e i j ∙ or_right (has_pair edges i j) (is_pair e i j) (is_pair-own e i j (sym first) (sym second)) in
+          (ap (λ n. get_or (set known (e.earlier * count + e.later) true) n false) same ∙ get_or-set_same known (e.earlier * count + e.later) true false within) ∙ sym new
+      | inr ne ↦
+          let other : is_pair e i j ≡ false = is_pair-other e i j (λ p q. ne (ap (λ n. n * count + j) (sym p) ∙ ap (λ n. e.earlier * count + n) (sym q))) in
+          get_or-set_other known (e.earlier * count + e.later) (i * count + j) true false ne
+          ∙ (exact i j in_i in_j ∙ (or_none (has_pair edges i j) (is_pair e i j) other ∙ sym (has_pair-push edges e i j)))
+    ]

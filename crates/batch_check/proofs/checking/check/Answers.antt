@@ -1,0 +1,48 @@
+use Rattle.std.proofs.Common.{sym, subst}
+use Rattle.std.proofs.lemmas.Result.{err_from_is_err_and}
+use Rattle.batch_model.specs.Cleared.{Ranking, IsCleared}
+use Rattle.batch_model.specs.Documents.{cell_of, documents_of}
+use Rattle.batch_check.specs.ByName.{IsCertificateOf}
+use Rattle.batch_check.specs.Clearing.{IsLeastClearance}
+use Rattle.batch_check.proofs.Told.{TellsRanks-certificate}
+use Rattle.batch_check.proofs.Verdicts.{recipe_fault_none, circle_fault_none, least_clearance}
+use Rattle.batch_check.proofs.checking.check.Goals as goal
+
+pub returns-in_err-check_each-clause-none : goal.returns-in_err-check_each-clause-none
+returns-in_err-check_each-clause-none c =
+    let p = err_from_is_err_and c.from_residual.result c.from_residual.ensures.1 in
+    rw (p.1, p.2) (λ known. recipe_fault_none (cell_of c.args.cell.now) (documents_of c.args.cell.now c.args.recipes.now) c.in_err-check_each.field-0.0 c.in_err-check_each.ensures.fault known)
+
+pub returns-in_err-ranks-clause-none : goal.returns-in_err-ranks-clause-none
+returns-in_err-ranks-clause-none c =
+    let p = err_from_is_err_and c.from_residual-in_err-ranks.result c.from_residual-in_err-ranks.ensures.1 in
+    rw (p.1, p.2) (λ known. circle_fault_none c.args.cell.now c.args.recipes.now c.in_err-ranks.field-0.0 c.in_err-ranks.ensures.fault known)
+
+pub returns-clause-ranked : goal.returns-clause-ranked
+returns-clause-ranked c =
+    let h : IsCertificateOf c.args.cell.now c.in_ok-ranks.ranks.items c.in_ok-ranks-2.ranks.items = rw c.deref.ensures.value at c.in_ok-ranks-2.ensures in
+    let told = TellsRanks-certificate c.args.cell.now c.in_ok-ranks.ranks.items c.in_ok-ranks-2.ranks.items c.in_ok-ranks.ensures.least.complete h in
+    record { once = told.once; known = told.known; complete = told.complete }
+
+pub returns-clause-in_order : goal.returns-clause-in_order
+returns-clause-in_order c =
+    let h : IsCertificateOf c.args.cell.now c.in_ok-ranks.ranks.items c.in_ok-ranks-2.ranks.items = rw c.deref.ensures.value at c.in_ok-ranks-2.ensures in
+    (TellsRanks-certificate c.args.cell.now c.in_ok-ranks.ranks.items c.in_ok-ranks-2.ranks.items c.in_ok-ranks.ensures.least.complete h).in_order
+
+pub returns-clause-least : goal.returns-clause-least
+returns-clause-least c =
+    let cell = c.args.cell.now in
+    let ranks = c.in_ok-ranks.ranks.items in
+    let entries = c.in_ok-ranks-2.ranks.items in
+    let h : IsCertificateOf cell ranks entries = rw c.deref.ensures.value at c.in_ok-ranks-2.ensures in
+    subst (λ (rank : Ranking). IsLeastClearance cell c.args.recipes.now rank) (sym (TellsRanks-certificate cell ranks entries c.in_ok-ranks.ensures.least.complete h).by_name)
+    (least_clearance cell c.args.recipes.now ranks (c.is_recipe_set.ensures.0 c.if-not-is_recipe_set.false) c.in_ok-check_each.ensures.sound c.in_ok-ranks.ensures.least)
+
+pub returns-clause-cleared : goal.returns-clause-cleared
+returns-clause-cleared c =
+    let cell = c.args.cell.now in
+    let ranks = c.in_ok-ranks.ranks.items in
+    let entries = c.in_ok-ranks-2.ranks.items in
+    let h : IsCertificateOf cell ranks entries = rw c.deref.ensures.value at c.in_ok-ranks-2.ensures in
+    subst (λ (rank : Ranking). IsCleared (cell_of cell) (documents_of cell c.args.recipes.now) rank) (sym (TellsRanks-certificate cell ranks entries c.in_ok-ranks.ensures.least.complete h).by_name)
+    (least_clearance cell c.args.recipes.now ranks (c.is_recipe_set.ensures.0 c.if-not-is_recipe_set.false) c.in_ok-check_each.ensures.sound c.in_ok-ranks.ensures.least).clearing

@@ -1,0 +1,20 @@
+use Rattle.batch_model.specs.Documents.{documents_of}
+use Rattle.batch_model.specs.Recipes.{recipe_of}
+use Rattle.batch_check.proofs.Verdicts.{recipe_at, sound_more}
+use Rattle.batch_check.proofs.checking.check_each.Goals as goal
+
+pub returns-in-Some-clause-fault : goal.returns-in-Some-clause-fault
+returns-in-Some-clause-fault c =
+    let recipes = c.args.recipes.now in
+    let recipe = c.index-recipes-number.result in
+    record {
+      recipe = recipe_of recipe;
+      found = recipe_at recipes c.loop-number.number recipe c.loop-number-test.true c.index-recipes-number.is;
+      before = c.loop-number.invariant;
+      first = rw c.in-Some.is at (c.in_ok-first_broken.ensures recipes);
+    }
+
+pub loop-number-preserved : goal.loop-number-preserved
+loop-number-preserved c =
+    sound_more c.args.cell.now (documents_of c.args.cell.now c.args.recipes.now) c.args.recipes.now c.loop-number.number c.index-recipes-number.result c.loop-number-test.true c.index-recipes-number.is
+    c.loop-number.invariant (rw c.in-None.is at (c.in_ok-first_broken.ensures c.args.recipes.now))

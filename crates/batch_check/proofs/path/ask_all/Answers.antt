@@ -1,0 +1,16 @@
+use Rattle.std.proofs.Common.{[], ◌∷◌}
+use Rattle.batch_check.specs.Collecting.{HasAsked}
+use Rattle.batch_check.proofs.Asking.{HasAsked-append}
+use Rattle.batch_check.proofs.Collects.{IfOk-map}
+use Rattle.batch_check.proofs.path.ask_all.Goals as goal
+
+pub returns-in_ok-on_unit-in-Some : goal.returns-in_ok-on_unit-in-Some
+returns-in_ok-on_unit-in-Some c =
+    let cell = c.args.cell.now in
+    let needs = c.args.act.now.needs.items in
+    rw c.in-Some.is
+    (IfOk-map c.ask_each-in-Some.result
+    (HasAsked cell c.in_ok-on_unit-in-Some.on_unit c.args.node needs c.ask.new.edges c.ask_each-in-Some.new.edges)
+    (HasAsked cell c.args.path c.args.node (c.in-Some.unit ∷ needs) c.args.edges.now c.ask_each-in-Some.new.edges)
+    (λ next h. HasAsked-append cell c.args.path c.args.node (c.in-Some.unit ∷ []) needs c.args.edges.now c.ask.new.edges c.ask_each-in-Some.new.edges c.in_ok-on_unit-in-Some.on_unit next c.in_ok-on_unit-in-Some.ensures h)
+    (rw c.deref-in-Some.ensures.value at c.ask_each-in-Some.ensures))

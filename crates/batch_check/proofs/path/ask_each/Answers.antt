@@ -1,0 +1,17 @@
+use Rattle.std.proofs.Common.{◌≡◌, ◌+◌, List, [], ◌∷◌, ◌++◌, sym, ap, ◌∙◌, subst, take}
+use Rattle.std.proofs.lemmas.List.{take_more}
+use Rattle.batch_recipe.specs.Conditions.{Name}
+use Rattle.batch_check.specs.Collecting.{HasAsked}
+use Rattle.batch_check.proofs.Asking.{HasAsked-append}
+use Rattle.batch_check.proofs.path.ask_each.Goals as goal
+
+pub loop-need-preserved : goal.loop-need-preserved
+loop-need-preserved c =
+    let cell = c.args.cell.now in
+    let needs : List Name = c.args.needs.now in
+    let need : Name = c.need-item.result in
+    let more : take (c.loop-need.need-index + 1) needs ≡ take c.loop-need.need-index needs ++ need ∷ [] =
+    take_more needs c.loop-need.need-index need c.loop-need-test.true ∙ ap (λ (n : Name). take c.loop-need.need-index needs ++ n ∷ []) (sym c.need-item.is) in
+    subst (λ (own : List Name). HasAsked cell c.args.path c.args.node own c.args.edges.now c.ask.new.edges c.in_ok-at.at) (sym more)
+    (HasAsked-append cell c.args.path c.args.node (take c.loop-need.need-index needs) (need ∷ []) c.args.edges.now c.loop-need.edges c.ask.new.edges c.loop-need.at c.in_ok-at.at
+    c.loop-need.invariant c.in_ok-at.ensures)

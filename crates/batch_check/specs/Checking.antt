@@ -1,0 +1,55 @@
+-- What the check of a set of recipes says.
+use Rattle.std.specs.Prelude.{◌≡◌, ℕ, List, length, take, Some, None, slice_get, ⊤}
+use Rattle.batch_cell.specs.LookUps.{resources_of}
+use Rattle.batch_cell.specs.declared.cell.Cell as equipment
+use Rattle.batch_recipe.specs.declared.recipe.Recipe as document
+use Rattle.batch_model.specs.Lists.{Each}
+use Rattle.batch_model.specs.Plant.{Recipe, Documents}
+use Rattle.batch_model.specs.Cleared.{Cell, procedure_parts}
+use Rattle.batch_model.specs.Documents.{cell_of, documents_of}
+use Rattle.batch_verify.specs.Refusals.{IsSound, IsFirstBroken}
+use Rattle.batch_verify.specs.Verifying.{IsRecipeSet}
+use Rattle.batch_verify.specs.declared.rule.Broken.{Broken}
+use Rattle.batch_check.specs.declared.fault.CheckFault.{CheckFault}
+use Rattle.batch_check.specs.declared.fault.CheckFault.TheVariants.{Recipes, Recipe as in_recipe, Circle, Memory}
+use Rattle.batch_check.specs.ByName.{BeginsWithLeastName, rank_in}
+use Rattle.batch_check.specs.Clearing.{StandsAsCircle, NeedResources, RiseLeast}
+
+-- all nodes of the recipe meet the rules that don't speak of ranks
+abbrev pub IsSoundRecipe : Cell → Documents → Recipe → Type 0
+IsSoundRecipe cell d r = Each (IsSound cell d) (procedure_parts r)
+
+-- recipe k is the first with a node that breaks such a rule, and this is the first that does
+pub record IsFirstUnsound (cell : Cell) (d : Documents) (recipes : List Recipe) (k : ℕ) (broken : Broken) : Type 0 where
+  pub recipe : Recipe
+  pub found : slice_get recipes k ≡ Some recipe
+  pub before : Each (IsSoundRecipe cell d) (take k recipes)
+  pub first : IsFirstBroken cell d None (procedure_parts recipe) 0 broken
+
+-- the fault stands, and nothing does that is looked for before it: names and number of the recipes, then the recipes one
+-- after another, then circles; want of memory says nothing
+abbrev pub IsFault : equipment.Cell → List document.Recipe → CheckFault → Type 0
+IsFault c recipes Recipes = ¬ (IsRecipeSet (documents_of c recipes).recipes)
+IsFault c recipes (in_recipe k broken) =
+    IsRecipeSet (documents_of c recipes).recipes × IsFirstUnsound (cell_of c) (documents_of c recipes) (documents_of c recipes).recipes k broken
+IsFault c recipes (Circle circle) =
+    IsRecipeSet (documents_of c recipes).recipes × Each (IsSoundRecipe (cell_of c) (documents_of c recipes)) (documents_of c recipes).recipes
+    × StandsAsCircle c recipes circle.items × BeginsWithLeastName c circle.items
+IsFault c recipes Memory = ⊤
+
+-- the same where recipes alone were looked at
+abbrev pub IsRecipeFault : Cell → Documents → CheckFault → Type 0
+IsRecipeFault cell d (in_recipe k broken) = IsFirstUnsound cell d d.recipes k broken
+IsRecipeFault cell d Memory = ⊤
+IsRecipeFault cell d _ = ⊥
+
+-- the same where the orders of needs alone were looked at
+abbrev pub IsCircleFault : equipment.Cell → List document.Recipe → CheckFault → Type 0
+IsCircleFault c recipes (Circle circle) = StandsAsCircle c recipes circle.items × BeginsWithLeastName c circle.items
+IsCircleFault c recipes Memory = ⊤
+IsCircleFault c recipes _ = ⊥
+
+-- the ranks of all resources by number, which are the least that rise along all paths
+pub record AreLeastRanks (c : equipment.Cell) (recipes : List document.Recipe) (ranks : List ℕ) : Type 0 where
+  pub complete : length ranks ≡ length (resources_of c)
+  pub rising : NeedResources c recipes → RiseLeast c recipes (rank_in c ranks)

@@ -1,0 +1,68 @@
+-- What edges, rankings and circles say of the clearance of recipes.
+use Rattle.std.specs.Prelude.{ℕ, ◌<◌, ◌≤◌, List, length, IsTrue}
+use Rattle.std.specs.List.{All}
+use Rattle.batch_cell.specs.LookUps.{resources_of}
+use Rattle.batch_cell.specs.declared.cell.Cell as equipment
+use Rattle.batch_recipe.specs.Conditions.{Name}
+use Rattle.batch_recipe.specs.Procedure.{procedure_nodes}
+use Rattle.batch_recipe.specs.WellFormed.{is_among}
+use Rattle.batch_recipe.specs.declared.recipe.Recipe as document
+use Rattle.batch_model.specs.Lists.{Each}
+use Rattle.batch_model.specs.Cleared.{Ranking, NeedsResources, RiseStrictly, IsCleared, CanBeCleared}
+use Rattle.batch_model.specs.Documents.{cell_of, documents_of}
+use Rattle.batch_check.specs.declared.edge.Edge.{Edge}
+use Rattle.batch_check.specs.ByName.{rank_in}
+use Rattle.batch_check.specs.Edges.{Stands, AreEdgesOf}
+use Rattle.batch_check.specs.LeastRanking.{IsCircle, IsLeastRanking}
+
+-- each need is a resource of the cell
+abbrev pub NeedResources : equipment.Cell → List document.Recipe → Type 0
+NeedResources c recipes = Each (λ recipe. Each (λ node. NeedsResources (cell_of c) node.here) (procedure_nodes recipe.acts)) recipes
+
+-- the ranks rise strictly along all paths of the recipes
+abbrev pub RiseAlongPaths : Ranking → List document.Recipe → Type 0
+RiseAlongPaths rank recipes = Each (λ recipe. Each (λ node. RiseStrictly rank node.asked) (procedure_nodes recipe.acts)) recipes
+
+-- each resource has a rank above 0
+abbrev pub RanksResources : equipment.Cell → Ranking → Type 0
+RanksResources c rank = (name : Name) → IsTrue (is_among (resources_of c) name) → 0 < rank name
+
+-- no resource has a lower rank in the other ranking
+abbrev pub IsAtMost : equipment.Cell → Ranking → Ranking → Type 0
+IsAtMost c rank other = (name : Name) → IsTrue (is_among (resources_of c) name) → rank name ≤ other name
+
+-- ranks that rise along all paths, and no ranks that do are lower anywhere
+pub record RiseLeast (c : equipment.Cell) (recipes : List document.Recipe) (rank : Ranking) : Type 0 where
+  pub rising : RiseAlongPaths rank recipes
+  pub positive : RanksResources c rank
+  pub bounded : (name : Name) → rank name ≤ length (resources_of c)
+  pub least : (other : Ranking) → RanksResources c other → RiseAlongPaths other recipes → IsAtMost c rank other
+
+-- a ranking that clears the recipes, and no ranking that does has a lower rank anywhere
+pub record IsLeastClearance (c : equipment.Cell) (recipes : List document.Recipe) (rank : Ranking) : Type 0 where
+  pub clearing : IsCleared (cell_of c) (documents_of c recipes) rank
+  pub positive : RanksResources c rank
+  pub bounded : (name : Name) → rank name ≤ length (resources_of c)
+  pub least : (other : Ranking) → RanksResources c other → IsCleared (cell_of c) (documents_of c recipes) other → IsAtMost c rank other
+
+-- a circle of edges that stand in the recipes
+pub record StandsAsCircle (c : equipment.Cell) (recipes : List document.Recipe) (edges : List Edge) : Type 0 where
+  pub circle : IsCircle edges edges
+  pub standing : All (Stands c recipes) edges
+
+-- Laws
+
+-- no ranks rise along all paths of recipes in which a circle stands
+abbrev pub CirclesLeaveNoRising : Type 0
+CirclesLeaveNoRising = (c : equipment.Cell) (recipes : List document.Recipe) (circle : List Edge) (rank : Ranking)
+    → StandsAsCircle c recipes circle → RiseAlongPaths rank recipes → ⊥
+
+-- so no ranking clears them
+abbrev pub CirclesLeaveNoClearance : Type 0
+CirclesLeaveNoClearance = (c : equipment.Cell) (recipes : List document.Recipe) (circle : List Edge)
+    → StandsAsCircle c recipes circle → CanBeCleared (cell_of c) (documents_of c recipes) → ⊥
+
+-- the least ranks along the edges of recipes are the least that rise along all their paths
+abbrev pub LeastRanksRise : Type 0
+LeastRanksRise = (c : equipment.Cell) (recipes : List document.Recipe) (edges : List Edge) (ranks : List ℕ)
+    → NeedResources c recipes → AreEdgesOf c recipes edges → IsLeastRanking (length (resources_of c)) edges ranks → RiseLeast c recipes (rank_in c ranks)

@@ -1,0 +1,83 @@
+-- What is kept while the edges of recipes are collected.
+use Rattle.std.specs.Prelude.{◌≡◌, ℕ, ◌+◌, ◌<◌, ◌≤◌, List, [], ◌∷◌, ◌++◌, length, slice_get, Option, Some, None, ◌⊎◌}
+use Rattle.std.specs.List.{Contains}
+use Rattle.batch_cell.specs.LookUps.{resources_of}
+use Rattle.batch_cell.specs.declared.cell.Cell.{Cell}
+use Rattle.batch_recipe.specs.Conditions.{Name}
+use Rattle.batch_recipe.specs.Nodes.{Node}
+use Rattle.batch_model.specs.Lists.{Each}
+use Rattle.batch_check.specs.declared.edge.Edge.{Edge}
+use Rattle.batch_check.specs.declared.edge_set.EdgeSet.{EdgeSet}
+use Rattle.batch_check.specs.declared.path.Path.{Path}
+use Rattle.batch_check.specs.Edges.{AsksByNumber, numbers_of, Follows, Covers}
+use Rattle.batch_check.specs.Pairs.{Keeps}
+
+-- Sets of edges
+
+-- the set grows
+pub record Grows (old new : EdgeSet) : Type 0 where
+  pub same_count : new.count ≡ old.count
+  pub kept : Keeps old.edges.items new.edges.items
+
+-- the set is one for the cell's resources, and the last need on the path is one of these, or none
+pub record IsReady (cell : Cell) (path : Path) (edges : EdgeSet) : Type 0 where
+  pub sized : edges.count ≡ length (resources_of cell)
+  pub within : (number : ℕ) → path.last ≡ Some number → number < edges.count
+
+-- Paths
+
+-- the number of the last need, which is `last` where there are no more
+abbrev pub last_number : Option ℕ → List (Option ℕ) → Option ℕ
+last_number last [] = last
+last_number last (need ∷ needs) = last_number need needs
+
+-- the needs above end in this one
+abbrev pub EndsIn : Cell → List Name → Option ℕ → Type 0
+EndsIn cell above last = last_number None (numbers_of cell above) ≡ last
+
+-- the edge leads to one of the own needs, which are asked for after those above
+pub record IsAmong (cell : Cell) (above own : List Name) (edge : Edge) : Type 0 where
+  pub earlier_name : Name
+  pub later_name : Name
+  pub earlier_named : slice_get (resources_of cell) edge.earlier ≡ Some earlier_name
+  pub later_named : slice_get (resources_of cell) edge.later ≡ Some later_name
+  pub before : ℕ
+  pub place : ℕ
+  pub ordered : before < place
+  pub among_own : length above ≤ place
+  pub earlier_is : slice_get (above ++ own) before ≡ Some earlier_name
+  pub later_is : slice_get (above ++ own) place ≡ Some later_name
+
+-- the act at the node number has asked for its own needs, and the path goes on from there
+pub record HasAsked (cell : Cell) (path : Path) (node : ℕ) (own : List Name) (old new : EdgeSet) (next : Path) : Type 0 where
+  pub grown : Grows old new
+  pub ready : IsReady cell next new
+  pub same_recipe : next.recipe ≡ path.recipe
+  pub ends : next.last ≡ last_number path.last (numbers_of cell own)
+  pub covering : Follows new.edges.items path.last (numbers_of cell own)
+  pub standing : (above : List Name) → EndsIn cell above path.last → (edge : Edge) → Contains new.edges.items edge
+      → Contains old.edges.items edge ⊎ ((edge.recipe ≡ path.recipe) × (edge.node ≡ node) × IsAmong cell above own edge)
+
+-- Nodes
+
+-- the edge stands at one of these nodes, which are numbered from `first`
+pub record StandsAmong (cell : Cell) (recipe first : ℕ) (nodes : List Node) (edge : Edge) : Type 0 where
+  pub recipe_is : edge.recipe ≡ recipe
+  pub index : ℕ
+  pub node_is : edge.node ≡ first + index
+  pub node : Node
+  pub numbered : slice_get nodes index ≡ Some node
+  pub asked : AsksByNumber cell node edge.earlier edge.later
+
+-- the needs above are covered, and end in this one
+pub record PathTo (cell : Cell) (edges : List Edge) (above : List Name) (last : Option ℕ) : Type 0 where
+  pub covered : Follows edges None (numbers_of cell above)
+  pub ends : EndsIn cell above last
+
+-- the edges of these nodes below a path were collected: the next node has that number, each new edge stands among the nodes,
+-- and whatever edges come later, the nodes are covered where the path above is
+pub record IsCollected (cell : Cell) (path : Path) (first : ℕ) (above : List Name) (nodes : List Node) (old new : List Edge) (next : ℕ) : Type 0 where
+  pub next_is : first + length nodes < 65536 → next ≡ first + length nodes
+  pub standing : EndsIn cell above path.last → first + length nodes < 65536 → (edge : Edge) → Contains new edge
+      → Contains old edge ⊎ StandsAmong cell path.recipe first nodes edge
+  pub covering : (final : List Edge) → Keeps new final → PathTo cell final above path.last → Each (Covers cell final) nodes

@@ -1,0 +1,73 @@
+-- Edges that stand in recipes, and edges that cover the paths of recipes.
+use Rattle.std.specs.Prelude.{◌≡◌, ℕ, ◌+◌, ◌<◌, ◌≤◌, List, [], ◌∷◌, IsTrue, length, map, position, slice_get, Option, Some, None, ⊤}
+use Rattle.std.specs.List.{All}
+use Rattle.batch_cell.specs.LookUps.{resources_of}
+use Rattle.batch_cell.specs.declared.cell.Cell.{Cell}
+use Rattle.batch_recipe.specs.Conditions.{Name, same_name}
+use Rattle.batch_recipe.specs.Nodes.{Node, needs_of}
+use Rattle.batch_recipe.specs.Procedure.{procedure_nodes}
+use Rattle.batch_recipe.specs.declared.recipe.Recipe.{Recipe}
+use Rattle.batch_model.specs.Lists.{Each}
+use Rattle.batch_check.specs.declared.edge.Edge.{Edge}
+use Rattle.batch_check.specs.Pairs.{has_pair}
+
+-- Edges that stand
+
+-- the act at the node asks, among its own needs, for `later`, and `earlier` is asked for before on its path
+pub record AsksInOrder (node : Node) (earlier later : Name) : Type 0 where
+  pub before : ℕ
+  pub own : ℕ
+  pub ordered : before < own
+  -- the needs of the act are the last of its path
+  pub among_own : length node.asked ≤ own + length (needs_of node.here)
+  pub earlier_is : slice_get node.asked before ≡ Some earlier
+  pub later_is : slice_get node.asked own ≡ Some later
+
+-- the act at the node asks in this order for the resources with these numbers
+pub record AsksByNumber (cell : Cell) (node : Node) (earlier later : ℕ) : Type 0 where
+  pub earlier_name : Name
+  pub later_name : Name
+  pub earlier_named : slice_get (resources_of cell) earlier ≡ Some earlier_name
+  pub later_named : slice_get (resources_of cell) later ≡ Some later_name
+  pub asked : AsksInOrder node earlier_name later_name
+
+-- the edge says in which order a node of a recipe asks for resources
+pub record Stands (cell : Cell) (recipes : List Recipe) (edge : Edge) : Type 0 where
+  pub recipe : Recipe
+  pub found : slice_get recipes edge.recipe ≡ Some recipe
+  pub node : Node
+  pub numbered : slice_get (procedure_nodes recipe.acts) edge.node ≡ Some node
+  pub asked : AsksByNumber cell node edge.earlier edge.later
+
+-- Edges that cover
+
+-- the number of the resource with this name
+abbrev pub number_of : Cell → Name → Option ℕ
+number_of cell name = position (same_name name) (resources_of cell)
+
+abbrev pub numbers_of : Cell → List Name → List (Option ℕ)
+numbers_of cell names = map (number_of cell) names
+
+-- where both are resources, an edge leads from the one to the other
+abbrev pub Joins : List Edge → Option ℕ → Option ℕ → Type 0
+Joins edges None later = ⊤
+Joins edges (Some earlier) None = ⊤
+Joins edges (Some earlier) (Some later) = IsTrue (has_pair edges earlier later)
+
+-- each two needs that follow one another, the first one after `last`, are an edge
+abbrev pub Follows : List Edge → Option ℕ → List (Option ℕ) → Type 0
+Follows edges last [] = ⊤
+Follows edges last (need ∷ needs) = Joins edges last need × Follows edges need needs
+
+-- each two resources that follow one another on the node's path are an edge
+abbrev pub Covers : Cell → List Edge → Node → Type 0
+Covers cell edges node = Follows edges None (numbers_of cell node.asked)
+
+-- the same of all nodes of all recipes
+abbrev pub CoversRecipes : Cell → List Recipe → List Edge → Type 0
+CoversRecipes cell recipes edges = Each (λ recipe. Each (Covers cell edges) (procedure_nodes recipe.acts)) recipes
+
+-- edges that stand for the orders in which the recipes ask
+pub record AreEdgesOf (cell : Cell) (recipes : List Recipe) (edges : List Edge) : Type 0 where
+  pub standing : All (Stands cell recipes) edges
+  pub covering : CoversRecipes cell recipes edges

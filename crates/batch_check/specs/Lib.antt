@@ -1,0 +1,9 @@
+pub mod LeastRanking
+pub mod ByName
+pub mod RanksTold
+pub mod Raising
+pub mod Pairs
+pub mod Edges
+pub mod Collecting
+pub mod Clearing
+pub mod Checking

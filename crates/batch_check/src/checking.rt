@@ -1,0 +1,75 @@
+//! The check of recipes.
+ghost use Rattle.std.specs.Prelude.{◌≡◌, ◌≢◌, ◌≤◌, map, length, OnOk, IfOk, IfErr};
+ghost use Rattle.batch_model.specs.Lists.{Each};
+ghost use Rattle.batch_model.specs.Cleared.{CanBeCleared, IsCleared};
+ghost use Rattle.batch_model.specs.Documents.{cell_of, documents_of};
+ghost use Rattle.batch_model.specs.Recipes.{recipe_of};
+ghost use Rattle.batch_model.specs.declared.limits.TheConstants.{MAX_RECIPES};
+ghost use Rattle.batch_verify.specs.CertificateText.{AreInOrder};
+ghost use Rattle.batch_verify.specs.Ranked.{rank_of, RanksAll};
+ghost use Rattle.batch_check.specs.Checking.{AreLeastRanks, IsCircleFault, IsFault, IsRecipeFault, IsSoundRecipe};
+ghost use Rattle.batch_check.specs.Clearing.{IsLeastClearance};
+
+use crate::edges::edges_of;
+use crate::fault::CheckFault;
+use crate::naming::ranks_by_name;
+use crate::ranking::{Ranking, least_ranks};
+use crate::turning::turned;
+use batch_cell::Cell;
+use batch_recipe::Recipe;
+use batch_verify::{Certificate, first_broken, is_recipe_set};
+use std::alloc::Global;
+
+/// The least ranking that clears the recipes for the cell, in order of name, or why there is none.
+pub fn check(alloc: Global, cell: &Cell, recipes: &[Recipe]) -> Result<Certificate, CheckFault>
+    // So `verify` accepts the certificate.
+    ensures ranked { IfOk result (λ certificate. RanksAll (cell_of cell.now) certificate.ranks.items) }
+    ensures cleared { IfOk result
+        (λ certificate. IsCleared (cell_of cell.now) (documents_of cell.now recipes.now) (rank_of certificate.ranks.items)) }
+    ensures least { IfOk result (λ certificate. IsLeastClearance cell.now recipes.now (rank_of certificate.ranks.items)) }
+    ensures in_order { IfOk result (λ certificate. AreInOrder certificate.ranks.items) }
+
+    ensures first { IfErr result (IsFault cell.now recipes.now) }
+    // What a caller needs of it: but for memory, no ranking clears the recipes.
+    ensures none { IfErr result (λ fault. fault ≢ CheckFault.Memory → ¬ (CanBeCleared (cell_of cell.now) (documents_of cell.now recipes.now))) }
+{
+    if !is_recipe_set(recipes) {
+        return Err(CheckFault::Recipes);
+    }
+    check_each(alloc, cell, recipes)?;
+    let ranks = ranks_of(alloc, cell, recipes)?;
+    let ranks = ranks_by_name(alloc, cell, &ranks)?;
+    Ok(Certificate { ranks })
+}
+
+/// Looks at the recipes one after another, for the rules that don't speak of ranks.
+fn check_each(alloc: Global, cell: &Cell, recipes: &[Recipe]) -> Result<(), CheckFault>
+    requires { length recipes.now ≤ MAX_RECIPES }
+    ensures sound { OnOk result
+        (Each (IsSoundRecipe (cell_of cell.now) (documents_of cell.now recipes.now)) (map recipe_of recipes.now)) }
+    ensures fault { IfErr result (IsRecipeFault (cell_of cell.now) (documents_of cell.now recipes.now)) }
+{
+    for (number, recipe) in recipes.iter().enumerate() {
+        match first_broken(alloc, cell, recipe, None)? {
+            None => {}
+            Some(broken) => {
+                let recipe = number as u16;
+                return Err(CheckFault::Recipe { recipe, broken });
+            }
+        }
+    }
+    Ok(())
+}
+
+/// The least ranks that rise along all paths of the recipes, by number, or a circle.
+fn ranks_of(alloc: Global, cell: &Cell, recipes: &[Recipe]) -> Result<Vec<u32>, CheckFault>
+    requires { length recipes.now ≤ MAX_RECIPES }
+    ensures least { IfOk result (λ ranks. AreLeastRanks cell.now recipes.now ranks.items) }
+    ensures fault { IfErr result (IsCircleFault cell.now recipes.now) }
+{
+    let edges = edges_of(alloc, cell, recipes)?;
+    match least_ranks(alloc, cell.resources(), &edges)? {
+        Ranking::Ranks(ranks) => Ok(ranks),
+        Ranking::Circle(circle) => Err(CheckFault::Circle(turned(cell, circle))),
+    }
+}

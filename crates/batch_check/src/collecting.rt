@@ -1,0 +1,121 @@
+//! The edges of recipes.
+ghost use Rattle.std.specs.Prelude.{◌≡◌, ℕ, List, map, length, IfOk, OnOk};
+ghost use Rattle.batch_recipe.specs.Diagram.{diagram_of, diagrams_of, cases_of};
+ghost use Rattle.batch_recipe.specs.Expanding.{act_tree, expanded, expanded_each, expanded_cases, named_tree};
+ghost use Rattle.batch_recipe.specs.Nodes.{nodes, nodes_of_each, nodes_of_choices};
+ghost use Rattle.batch_recipe.specs.Procedure.{tables_from};
+ghost use Rattle.batch_check.specs.Collecting.{Grows, IsCollected, IsReady};
+
+use crate::edge_set::EdgeSet;
+use crate::path::{Path, ask_all};
+use batch_cell::Cell;
+use batch_recipe::{Act, Acts, Chart, Cond, Level, Work, act_named};
+use std::alloc::AllocError;
+
+/// What a recipe's names are looked up in.
+#[derive(Clone, Copy)]
+pub(crate) struct Site<'a> {
+    pub(crate) cell: &'a Cell,
+    pub(crate) acts: &'a Acts,
+}
+
+/// Adds the edges of an act's nodes, of which the first has this number: the number after the last one.
+#[cycle(collect)]
+pub(crate) fn collect_act(
+    act: &Act,
+    site: &Site,
+    level: Option<Level>,
+    path: Path,
+    node: u16,
+    edges: &mut EdgeSet,
+) -> Result<u16, AllocError>
+    requires { IsReady site.now.cell.now path edges.old }
+    ensures grown { OnOk result (Grows edges.old edges.new) }
+    ensures collected { IfOk result (λ next. (unit : List ℕ) (place : List ℕ) (above : List (List ℕ))
+        → IsCollected site.now.cell.now path node above (nodes place above (act_tree (named_tree (tables_from site.now.acts.now level)) unit act.now place)) edges.old.edges.items edges.new.edges.items next) }
+{
+    let below = ask_all(act, site.cell, path, node, edges)?;
+    let next = node.saturating_add(1);
+    match &act.work {
+        Work::Runs { .. } => Ok(next),
+        Work::Follows(chart) => collect(chart, site, level, below, next, edges),
+    }
+}
+
+/// Adds the edges of a chart's nodes, whose labels are looked up from the level on.
+#[cycle(collect)]
+fn collect(
+    chart: &Chart,
+    site: &Site,
+    level: Option<Level>,
+    path: Path,
+    node: u16,
+    edges: &mut EdgeSet,
+) -> Result<u16, AllocError>
+    requires { IsReady site.now.cell.now path edges.old }
+    ensures grown { OnOk result (Grows edges.old edges.new) }
+    ensures collected { IfOk result (λ next. (unit : List ℕ) (place : List ℕ) (above : List (List ℕ))
+        → IsCollected site.now.cell.now path node above (nodes place above (expanded (named_tree (tables_from site.now.acts.now level) unit) place (diagram_of chart.now))) edges.old.edges.items edges.new.edges.items next) }
+{
+    let next = node.saturating_add(1);
+    match chart {
+        Chart::Label(name) => match level {
+            None => Ok(next),
+            Some(table) => match act_named(site.acts.table(table), name) {
+                None => Ok(next),
+                Some(act) => collect_act(act, site, table.below(), path, node, edges),
+            },
+        },
+        Chart::Skip => Ok(next),
+        Chart::Seq(parts) | Chart::Par(parts) => {
+            collect_each(parts, site, level, path, next, edges)
+        }
+        Chart::Sel(choices, last) => collect_choices(choices, last, site, level, path, next, edges),
+        Chart::Loop(_, _, body) => collect(body, site, level, path, next, edges),
+    }
+}
+
+/// Adds the edges of the nodes of branches.
+#[cycle(collect)]
+fn collect_each(
+    parts: &[Chart],
+    site: &Site,
+    level: Option<Level>,
+    path: Path,
+    node: u16,
+    edges: &mut EdgeSet,
+) -> Result<u16, AllocError>
+    requires { IsReady site.now.cell.now path edges.old }
+    ensures grown { OnOk result (Grows edges.old edges.new) }
+    ensures collected { IfOk result (λ next. (unit : List ℕ) (place : List ℕ) (above : List (List ℕ))
+        → IsCollected site.now.cell.now path node above (nodes_of_each place above 0 (expanded_each (named_tree (tables_from site.now.acts.now level) unit) place 0 (diagrams_of (map diagram_of parts.now)))) edges.old.edges.items edges.new.edges.items next) }
+{
+    let mut next = node;
+    for part in parts {
+        next = collect(part, site, level, path, next, edges)?;
+    }
+    Ok(next)
+}
+
+/// Adds the edges of the nodes of a selection's branches.
+#[cycle(collect)]
+fn collect_choices(
+    choices: &[(Cond, Chart)],
+    last: &Chart,
+    site: &Site,
+    level: Option<Level>,
+    path: Path,
+    node: u16,
+    edges: &mut EdgeSet,
+) -> Result<u16, AllocError>
+    requires { IsReady site.now.cell.now path edges.old }
+    ensures grown { OnOk result (Grows edges.old edges.new) }
+    ensures collected { IfOk result (λ next. (unit : List ℕ) (place : List ℕ) (above : List (List ℕ))
+        → IsCollected site.now.cell.now path node above (nodes_of_choices place above 0 (expanded_cases (named_tree (tables_from site.now.acts.now level) unit) place 0 (cases_of (map (λ choice. (choice.0, diagram_of choice.1)) choices.now) (diagram_of last.now)))) edges.old.edges.items edges.new.edges.items next) }
+{
+    let mut next = node;
+    for choice in choices {
+        next = collect(&choice.1, site, level, path, next, edges)?;
+    }
+    collect(last, site, level, path, next, edges)
+}

@@ -1,0 +1,27 @@
+//! The check of a set of recipes: the least ranking of a cell's resources that clears them, or why there is none.
+#![tactic(auto)]
+
+mod checking;
+mod circle;
+mod collecting;
+mod edge;
+mod edge_set;
+mod edges;
+mod fault;
+mod laws;
+mod naming;
+mod path;
+mod raising;
+mod ranking;
+#[cfg(test)]
+mod tests;
+mod turning;
+
+pub use checking::check;
+pub use edge::Edge;
+pub use fault::CheckFault;
+pub use laws::{
+    certificates_tell_ranks, circle_leaves_no_ranking, least_ranks_rise_along_paths,
+    ranks_are_told_by_name, standing_circles_leave_no_clearance,
+};
+pub use ranking::{Ranking, least_ranks};

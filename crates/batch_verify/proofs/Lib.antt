@@ -1,0 +1,17 @@
+pub mod Cuts
+pub mod RankLines
+pub mod NameLemmas
+pub mod RankLemmas
+pub mod RecipeLemmas
+pub mod Clearing
+pub mod ExampleCell
+pub mod Finding
+pub mod Ranks
+pub mod Phases
+pub mod Branches
+pub mod RunningApart
+pub mod Entering
+pub mod Sizes
+pub mod Levels
+pub mod Verdicts
+pub mod Walks

@@ -1,0 +1,9 @@
+use Rattle.std.proofs.Common.{◌≡◌, drop, ◌||◌}
+use Rattle.batch_recipe.specs.Conditions.{Name}
+use Rattle.batch_recipe.specs.WellFormed.{is_among}
+use Rattle.batch_verify.specs.Walking.{names_at, Gathers}
+use Rattle.batch_verify.proofs.names.add_each.Given as goal
+
+abbrev pub invariant-loop-name : goal.invariant-loop-name
+invariant-loop-name l = (x : Name)
+    → (is_among (names_at l.names.items) x || is_among (names_at (drop l.name-index l.more)) x) ≡ (is_among (names_at l.initial.names.items) x || is_among (names_at l.more) x)

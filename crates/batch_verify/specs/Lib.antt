@@ -1,0 +1,7 @@
+pub mod CertificateText
+pub mod ClearedSet
+pub mod Example
+pub mod Ranked
+pub mod Refusals
+pub mod Verifying
+pub mod Walking

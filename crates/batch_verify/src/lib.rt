@@ -1,0 +1,33 @@
+//! The small checker: certificates, and the clearance of recipes for a cell by a certificate.
+#![tactic(auto)]
+
+mod apart;
+mod certificate;
+#[cfg(test)]
+mod certificate_tests;
+mod cleared;
+mod judgement;
+#[cfg(test)]
+mod judgement_tests;
+mod lines;
+mod names;
+mod ranking;
+mod reading;
+mod recipes;
+mod refusal;
+mod rejected;
+mod rising;
+mod rule;
+mod running;
+mod site;
+mod walk;
+
+pub use certificate::{CertFault, Certificate, MAX_LINES, MAX_RANK};
+pub use cleared::Cleared;
+pub use judgement::verify;
+pub use reading::read_certificate;
+pub use recipes::is_recipe_set;
+pub use refusal::Refusal;
+pub use rejected::Rejected;
+pub use rule::{Broken, Rule};
+pub use walk::first_broken;
