@@ -6,10 +6,12 @@
 ghost use Rattle.batch_safety.specs.Example.{PremisesCanBeMet};
 ghost use Rattle.batch_safety.specs.Headline.{CanOnlyBeSafe};
 ghost use Rattle.batch_safety.specs.Procedures.{RecipesAreProcedures, TreesAreProcedures};
-ghost use Rattle.batch_safety.specs.Sets.{ClearedSetsRunSafely, SetsAreDocuments};
+ghost use Rattle.batch_safety.specs.Sets.{ClearedSetsRunSafely, RunsSafely, SetsAreDocuments};
 ghost use Rattle.batch_safety.specs.Settlement.{NobodyWaitsInVain};
 ghost use Rattle.batch_safety.specs.Telling.{TellsThePlant};
 ghost use Rattle.batch_safety.specs.Ways.{WaysRise};
+
+use batch_verify::Cleared;
 
 /// Every record that a cleared set of recipes leads to is safe after each of its lines, whatever the events and however far
 /// the moves that they make possible have been made.
@@ -54,3 +56,10 @@ pub fn sets_are_documents()
 pub fn cleared_sets_run_safely()
     ensures { ClearedSetsRunSafely }
 {}
+
+/// Recipes that `verify` cleared run safely in their cell: whoever holds a [`Cleared`] may cite this of it.
+pub fn cleared_runs_safely(cleared: &Cleared)
+    ensures { RunsSafely cleared.now.cell cleared.now.recipes }
+{
+    let _recipes = cleared.recipes();
+}
