@@ -11,7 +11,8 @@ use Rattle.batch_cell.specs.declared.cell.Cell.{Cell}
 use Rattle.batch_recipe.specs.Conditions.{Name, same_name}
 use Rattle.batch_check.specs.declared.edge.Edge.{Edge}
 use Rattle.batch_check.specs.LeastRanking.{IsWithin}
-use Rattle.batch_check.specs.ByName.{name_in, rank_in}
+use Rattle.batch_check.specs.ByName.{name_in}
+use Rattle.batch_verify.specs.Refusals.{rank_in}
 
 -- what holds of all elements of a list holds of those that are left where a filter thins its middle
 module _ {X K : Type 0} (f : X → K) (p : X → Bool) (bs : List K) where

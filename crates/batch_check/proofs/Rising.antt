@@ -20,7 +20,8 @@ use Rattle.batch_model.specs.Plant.{Documents}
 use Rattle.batch_model.proofs.Members.{Each-map}
 use Rattle.batch_model.proofs.Parts.{parts-nodes}
 use Rattle.batch_check.specs.declared.edge.Edge.{Edge}
-use Rattle.batch_check.specs.ByName.{name_in, rank_in}
+use Rattle.batch_check.specs.ByName.{name_in}
+use Rattle.batch_verify.specs.Refusals.{rank_in}
 use Rattle.batch_check.specs.Edges.{Stands, Covers, CoversRecipes, AreEdgesOf, numbers_of, number_of, Follows}
 use Rattle.batch_check.specs.Pairs.{has_pair}
 use Rattle.batch_check.specs.LeastRanking.{IsLeastRanking}

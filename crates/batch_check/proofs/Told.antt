@@ -19,7 +19,8 @@ use Rattle.batch_cell.specs.declared.cell.Cell.{Cell}
 use Rattle.batch_recipe.specs.Conditions.{Name, same_name}
 use Rattle.batch_recipe.specs.WellFormed.{is_among, are_distinct}
 use Rattle.batch_model.specs.Lists.{Each}
-use Rattle.batch_check.specs.ByName.{name_in, rank_in, IsBelow, IsCertificateOf}
+use Rattle.batch_check.specs.ByName.{name_in, IsBelow, IsCertificateOf}
+use Rattle.batch_verify.specs.Refusals.{rank_in}
 use Rattle.batch_check.specs.RanksTold.{rank_told, TellsRanks}
 use Rattle.batch_check.proofs.Entries.{Entry}
 use Rattle.batch_check.proofs.Names.{resources_distinct, rank_in-name}

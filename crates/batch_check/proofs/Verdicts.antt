@@ -13,14 +13,14 @@ use Rattle.std.proofs.lemmas.List.{length-map, take_more}
 use Rattle.std.proofs.lemmas.Option.{get_or_from_slice_get, slice_get_read, slice_get-map}
 use Rattle.batch_model.proofs.Members.{Each-append, Each-map}
 use Rattle.batch_model.proofs.Parts.{parts-nodes}
-use Rattle.batch_verify.specs.Refusals.{IsSound, Breaks, IsFirstBroken}
+use Rattle.batch_verify.specs.Refusals.{rank_in, IsSound, Breaks, IsFirstBroken}
 use Rattle.batch_verify.specs.Verifying.{IsRecipeSet}
 use Rattle.batch_verify.specs.declared.rule.Rule.{Rule}
 use Rattle.batch_verify.specs.declared.rule.Rule.TheVariants.{UnknownResource, PhaseNotOffered, SamePhaseInParallel, LoopWithoutPhase, RankNotRising}
 use Rattle.batch_verify.specs.declared.rule.Broken.{Broken}
 use Rattle.batch_check.specs.declared.fault.CheckFault.{CheckFault}
 use Rattle.batch_check.specs.declared.fault.CheckFault.TheVariants.{Recipes, Recipe as in_recipe, Circle, Memory}
-use Rattle.batch_check.specs.ByName.{rank_in}
+
 use Rattle.batch_check.specs.Checking.{IsSoundRecipe, IsRecipeFault, IsCircleFault, AreLeastRanks}
 use Rattle.batch_check.specs.Clearing.{NeedResources, RiseAlongPaths, IsLeastClearance}
 use Rattle.batch_check.proofs.Rising.{Each-get, parts_hold, cleared_rises, circle_leaves_none}

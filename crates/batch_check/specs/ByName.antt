@@ -1,5 +1,5 @@
 -- Circles and rankings of a cell's resources, told by name.
-use Rattle.std.specs.Prelude.{◌≡◌, ℕ, ◌<◌, List, [], ◌∷◌, length, Some, None, position, slice_index, ⊤, ◌↔◌}
+use Rattle.std.specs.Prelude.{◌≡◌, ℕ, ◌<◌, List, [], ◌∷◌, length, slice_index, ⊤, ◌↔◌}
 use Rattle.std.specs.Cmp.Lexicographic.{slice_cmp}
 use Rattle.std.specs.List.{All, AllPairs, slice_index_or, zip}
 use Rattle.std.specs.List.Sorted.{IsPermutation}
@@ -7,8 +7,8 @@ use Rattle.std.specs.Ordering.{nat_cmp}
 use Rattle.std.specs.declared.cmp.Ordering.TheVariants.{Less}
 use Rattle.batch_cell.specs.LookUps.{resources_of}
 use Rattle.batch_cell.specs.declared.cell.Cell.{Cell}
-use Rattle.batch_recipe.specs.Conditions.{Name, same_name}
-use Rattle.batch_model.specs.Cleared.{Ranking}
+use Rattle.batch_recipe.specs.Conditions.{Name}
+use Rattle.batch_verify.specs.Refusals.{rank_in}
 use Rattle.batch_check.specs.declared.edge.Edge.{Edge}
 use Rattle.batch_check.specs.LeastRanking.{IsWithin}
 
@@ -29,10 +29,6 @@ BeginsWithLeastName c (first ∷ rest) = All (λ e. ¬ (IsBelow (name_in c e.ear
 pub record IsCertificateOf (c : Cell) (ranks : List ℕ) (entries : List (Name × ℕ)) : Type 0 where
   pub whole : IsPermutation (zip (resources_of c) ranks) entries
   pub in_order : AllPairs (λ x y. IsBelow x.0 y.0) entries
-
--- the ranking by a list of ranks, one for each resource by number; a name that is no resource has rank 0
-abbrev pub rank_in : Cell → List ℕ → Ranking
-rank_in c ranks name = elim (position (same_name name) (resources_of c)) [ None ↦ 0 | Some number ↦ slice_index_or ranks number 0 ]
 
 -- the rank of a resource's name is the rank of its number
 abbrev pub RanksByName : Type 0

@@ -7,12 +7,12 @@ use Rattle.batch_model.specs.Lists.{Each}
 use Rattle.batch_model.specs.Plant.{Recipe, Documents}
 use Rattle.batch_model.specs.Cleared.{Cell, procedure_parts}
 use Rattle.batch_model.specs.Documents.{cell_of, documents_of}
-use Rattle.batch_verify.specs.Refusals.{IsSound, IsFirstBroken}
+use Rattle.batch_verify.specs.Refusals.{rank_in, IsSound, IsFirstBroken}
 use Rattle.batch_verify.specs.Verifying.{IsRecipeSet}
 use Rattle.batch_verify.specs.declared.rule.Broken.{Broken}
 use Rattle.batch_check.specs.declared.fault.CheckFault.{CheckFault}
 use Rattle.batch_check.specs.declared.fault.CheckFault.TheVariants.{Recipes, Recipe as in_recipe, Circle, Memory}
-use Rattle.batch_check.specs.ByName.{BeginsWithLeastName, rank_in}
+use Rattle.batch_check.specs.ByName.{BeginsWithLeastName}
 use Rattle.batch_check.specs.Clearing.{StandsAsCircle, NeedResources, RiseLeast}
 
 -- all nodes of the recipe meet the rules that don't speak of ranks

@@ -11,7 +11,7 @@ use Rattle.batch_model.specs.Lists.{Each}
 use Rattle.batch_model.specs.Cleared.{Ranking, NeedsResources, RiseStrictly, IsCleared, CanBeCleared}
 use Rattle.batch_model.specs.Documents.{cell_of, documents_of}
 use Rattle.batch_check.specs.declared.edge.Edge.{Edge}
-use Rattle.batch_check.specs.ByName.{rank_in}
+use Rattle.batch_verify.specs.Refusals.{rank_in}
 use Rattle.batch_check.specs.Edges.{Stands, AreEdgesOf}
 use Rattle.batch_check.specs.LeastRanking.{IsCircle, IsLeastRanking}
 

@@ -10,7 +10,8 @@ use Rattle.batch_recipe.specs.Conditions.{Name, same_name}
 use Rattle.batch_recipe.specs.WellFormed.{is_among, are_distinct}
 use Rattle.batch_model.specs.Cleared.{Ranking}
 use Rattle.batch_model.specs.Lists.{Each}
-use Rattle.batch_check.specs.ByName.{rank_in, IsCertificateOf}
+use Rattle.batch_check.specs.ByName.{IsCertificateOf}
+use Rattle.batch_verify.specs.Refusals.{rank_in}
 
 -- the rank that the entries give a name; one without an entry has rank 0
 abbrev pub rank_told : List (Name × ℕ) → Ranking

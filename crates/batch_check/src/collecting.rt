@@ -20,6 +20,8 @@ pub(crate) struct Site<'a> {
 }
 
 /// Adds the edges of an act's nodes, of which the first has this number: the number after the last one.
+///
+/// A recipe has far fewer nodes than there are numbers, so that no number is cut off.
 #[cycle(collect)]
 pub(crate) fn collect_act(
     act: &Act,

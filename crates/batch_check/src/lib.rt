@@ -1,6 +1,8 @@
 //! The check of a set of recipes: the least ranking of a cell's resources that clears them, or why there is none.
 #![tactic(auto)]
 
+#[cfg(test)]
+mod check_tests;
 mod checking;
 mod circle;
 mod collecting;

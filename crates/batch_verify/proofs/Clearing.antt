@@ -1,7 +1,6 @@
 -- From what is found of recipes to what it means for clearance.
-use Rattle.std.proofs.Common.{◌≡◌, ◌≢◌, ℕ, ◌+◌, ◌<◌, Bool, true, false, Option, Some, None, List, [], ◌∷◌, length, map, slice_get, get_or, position, inl, inr, refl, sym, ap, ◌∙◌, subst, arith}
+use Rattle.std.proofs.Common.{◌≡◌, ◌≢◌, ℕ, ◌+◌, true, false, Option, Some, None, List, [], ◌∷◌, map, get_or, position, inl, inr, refl, sym, ap, ◌∙◌, subst}
 use Rattle.std.specs.Prelude.{IsTrue, unwrap_or}
-use Rattle.std.specs.Option.{is_some}
 use Rattle.std.specs.Map.{lookup}
 use Rattle.std.specs.Cmp.Lexicographic.{bytes_decides}
 use Rattle.std.proofs.lemmas.Bool.{false≢true, false_from_ne_true, or_from}
@@ -12,10 +11,10 @@ use Rattle.batch_cell.specs.declared.cell.Cell as equipment
 use Rattle.batch_recipe.specs.Conditions.{Name, same_name}
 use Rattle.batch_recipe.specs.WellFormed.{is_among}
 use Rattle.batch_model.specs.Lists.{Each}
-use Rattle.batch_model.specs.Plant.{Recipe, Documents}
+use Rattle.batch_model.specs.Plant.{Documents}
 use Rattle.batch_model.specs.Cleared.{Cell, Ranking, Part, IsClear, IsCleared, IsClearedRecipe, procedure_parts}
 use Rattle.batch_verify.specs.CertificateText.{Rank}
-use Rattle.batch_verify.specs.Ranked.{names_in, rank_of, AreAmong, RanksAll, IsFirstMissing, IsRankRefusal}
+use Rattle.batch_verify.specs.Ranked.{names_in, rank_of, AreAmong, RanksAll, IsFirstMissing}
 use Rattle.batch_verify.specs.Refusals.{rank_in, Breaks, IsFirstBroken}
 use Rattle.batch_verify.specs.Verifying.{IsRecipeSet, IsFirstRefusal, IsRecipeRefusal}
 use Rattle.batch_verify.specs.declared.rule.Rule.{Rule}

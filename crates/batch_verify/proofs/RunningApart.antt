@@ -1,5 +1,5 @@
 -- Branches that run apart.
-use Rattle.std.proofs.Common.{◌≡◌, Bool, true, false, ◌||◌, ◌⊎◌, ⊎_elim, inl, inr, ◌++◌, List, [], ◌∷◌, map, sym, ap, ◌∙◌, refl, subst}
+use Rattle.std.proofs.Common.{◌≡◌, Bool, true, false, ◌||◌, ◌⊎◌, ⊎_elim, inl, inr, ◌++◌, List, [], ◌∷◌, sym, ap, ◌∙◌, refl, subst}
 use Rattle.std.specs.List.{list_any}
 use Rattle.std.specs.Cmp.Lexicographic.{bytes_decides}
 use Rattle.batch_recipe.specs.Conditions.{Name, same_name}

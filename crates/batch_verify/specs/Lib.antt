@@ -1,6 +1,6 @@
 pub mod CertificateText
 pub mod ClearedSet
-pub mod Example
+pub mod IdleRecipe
 pub mod Ranked
 pub mod Refusals
 pub mod Verifying

@@ -10,7 +10,7 @@ use thiserror::Error;
 pub const MAX_LINES: usize = 384;
 
 /// The greatest rank that a certificate's text may give.
-pub const MAX_RANK: u32 = 1000000;
+pub const MAX_RANK: u32 = 1_000_000;
 
 /// A ranking of a cell's resources, by name. One that is read has an entry for each line of its text.
 #[derive(Debug, Drop)]

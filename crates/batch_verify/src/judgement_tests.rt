@@ -3,7 +3,7 @@ ghost use Rattle.std.specs.Prelude.{◌≡◌, [], ◌∷◌, Some, None, map, c
 ghost use Rattle.batch_cell.specs.Equipment.{unit_names};
 ghost use Rattle.batch_recipe.specs.declared.act.Work.{Work};
 ghost use Rattle.batch_recipe.specs.declared.chart.Chart.{Chart};
-ghost use Rattle.batch_verify.specs.Example.{AreActs, IsIdle, IsStep};
+ghost use Rattle.batch_verify.specs.IdleRecipe.{AreActs, IsIdle, IsStep};
 
 use crate::{Broken, Cleared, Refusal, Rejected, Rule, is_recipe_set, read_certificate, verify};
 use batch_cell::{Cell, Shared, Unit};

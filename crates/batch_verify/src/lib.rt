@@ -9,6 +9,7 @@ mod cleared;
 mod judgement;
 #[cfg(test)]
 mod judgement_tests;
+mod laws;
 mod lines;
 mod names;
 mod ranking;
@@ -25,6 +26,7 @@ mod walk;
 pub use certificate::{CertFault, Certificate, MAX_LINES, MAX_RANK};
 pub use cleared::Cleared;
 pub use judgement::verify;
+pub use laws::a_text_says_one_ranking;
 pub use reading::read_certificate;
 pub use recipes::is_recipe_set;
 pub use refusal::Refusal;

@@ -1,7 +1,7 @@
-//! The batch server: event lines from standard input, the record to standard output.
+//! The batch server: the commands that judge documents, and event lines from standard input, whose record goes to standard
+//! output.
 #![tactic(auto)]
 
-mod command_line;
 mod engine;
 #[cfg(test)]
 mod tests;
@@ -9,9 +9,9 @@ mod transcript;
 mod wire;
 
 use engine::Engine;
-use std::io::{BufWriter, ErrorKind};
+use std::io;
+use std::io::BufWriter;
 use std::process::ExitCode;
-use std::{env, io};
 use transcript::{ServeFault, serve};
 
 /// How often standard input may be read.
@@ -21,18 +21,10 @@ const MAX_READS: u64 = 1_000_000_000;
 const OUTPUT_ROOM: usize = 65_536;
 
 fn main(rt: HostRuntime) -> ExitCode {
-    match env::args(&rt) {
-        Ok(words) => {
-            if !command_line::takes_words(words.count()) {
-                return ExitCode::from(2);
-            }
-        }
-        Err(error) => {
-            let no_memory = error.kind() == ErrorKind::OutOfMemory;
-            return ExitCode::from(if no_memory { 4 } else { 2 });
-        }
+    match batch_commands::run(&rt) {
+        Some(status) => status,
+        None => serve_demo(rt),
     }
-    serve_demo(rt)
 }
 
 /// Runs the engine over the demo cell and its recipe, and gives the exit status.

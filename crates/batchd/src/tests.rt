@@ -1,4 +1,3 @@
-use crate::command_line::takes_words;
 use crate::engine::{Engine, Event, Out, Refusal, Reply};
 use crate::transcript::{ServeFault, serve};
 use crate::wire::rows::record_lines;
@@ -351,11 +350,4 @@ fn one_line_each_way(rt: HostRuntime) -> Result<(), Fail> {
     assert_eq!(rt; write_all(&mut full, b"abc"), Err(WriteFault));
     assert!(rt; full.taken.as_slice() == b"ab".as_slice());
     Ok(())
-}
-
-#[test]
-fn takes_no_argument(rt: HostRuntime) {
-    for (count, want) in [(0, true), (1, true), (2, false), (3, false)] {
-        assert_eq!(rt; takes_words(count), want, "{count}");
-    }
 }

@@ -11,8 +11,8 @@ use Rattle.batch_verify.proofs.Phases.{gathers_as, KeepsGathering-more, KeepsGat
 use Rattle.batch_verify.proofs.Branches.{each_from, each_at, cases_from, case_at, case_past}
 use Rattle.batch_recipe.specs.Procedure.{table_at, tables_from}
 use Rattle.batch_recipe.proofs.Counts.{counted, counted_act, counted_name}
-use Rattle.batch_recipe.proofs.Diagrams.{diagram_of-label, diagram_of-skip, diagram_of-seq, diagram_of-par, diagram_of-sel, diagram_of-loop}
-use Rattle.batch_recipe.proofs.Tables.{label_counted, label_tree, label_skip}
+use Rattle.batch_recipe.proofs.Diagrams.{diagram_of-seq, diagram_of-par, diagram_of-sel}
+use Rattle.batch_recipe.proofs.Tables.{label_counted, label_tree}
 use Rattle.batch_recipe.proofs.Branches.{case_of, counted_at, counted_choice, counted_last}
 use Rattle.batch_verify.proofs.apart.+gathering.Goals as goal
 

@@ -1,13 +1,12 @@
-use Rattle.std.proofs.Common.{◌≡◌, ◌+◌, ◌*◌, ◌||◌, map, drop}
+use Rattle.std.proofs.Common.{◌+◌, ◌*◌, map, drop}
 use Rattle.batch_recipe.specs.Conditions.{Name}
 use Rattle.batch_recipe.specs.Tree.{Place}
 use Rattle.batch_recipe.specs.Procedure.{tables_from}
 use Rattle.batch_recipe.specs.Expanding.{named_tree, expanded_each, expanded_cases}
 use Rattle.batch_recipe.specs.Diagram.{diagram_of, diagrams_of, cases_of}
-use Rattle.batch_recipe.specs.WellFormed.{is_among}
 use Rattle.batch_recipe.proofs.Counts.{counted, counted_each, counted_cases, counted_act, counted_name}
 use Rattle.batch_model.specs.Cleared.{phases_of_each, phases_of_choices}
-use Rattle.batch_verify.specs.Walking.{names_at, phase_names, Gathers}
+use Rattle.batch_verify.specs.Walking.{names_at, phase_names}
 use Rattle.batch_verify.proofs.Phases.{KeepsGathering}
 use Rattle.batch_verify.proofs.apart.+gathering.Given as goal
 

@@ -1,4 +1,4 @@
-use Rattle.std.proofs.Common.{◌≡◌, ◌+◌, [], true, false, sym, refl}
+use Rattle.std.proofs.Common.{◌≡◌, ◌+◌, [], true, false, sym}
 use Rattle.std.specs.List.{list_any}
 use Rattle.batch_recipe.specs.Nodes.{child}
 use Rattle.batch_recipe.specs.Diagram.{diagram_of}

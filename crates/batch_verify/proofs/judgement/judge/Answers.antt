@@ -1,6 +1,6 @@
-use Rattle.std.proofs.Common.{◌≡◌, sym, ap, ◌∙◌, subst}
+use Rattle.std.proofs.Common.{◌≡◌, ap, ◌∙◌, subst}
 use Rattle.std.proofs.lemmas.Result.{on_ok_weaker, IfErr-weaker}
-use Rattle.batch_model.specs.Cleared.{Ranking, IsCleared, IsClearedRecipe}
+use Rattle.batch_model.specs.Cleared.{Ranking, IsClearedRecipe}
 use Rattle.batch_model.specs.Documents.{cell_of, documents_of}
 use Rattle.batch_model.specs.Lists.{Each}
 use Rattle.batch_verify.specs.Ranked.{rank_of}

@@ -1,7 +1,7 @@
 use Rattle.std.proofs.Common.{◌≡◌, drop, ◌||◌}
 use Rattle.batch_recipe.specs.Conditions.{Name}
 use Rattle.batch_recipe.specs.WellFormed.{is_among}
-use Rattle.batch_verify.specs.Walking.{names_at, Gathers}
+use Rattle.batch_verify.specs.Walking.{names_at}
 use Rattle.batch_verify.proofs.names.add_each.Given as goal
 
 abbrev pub invariant-loop-name : goal.invariant-loop-name

@@ -1,4 +1,4 @@
-use Rattle.std.proofs.Common.{◌≡◌, Some, true, false, length, slice_get, refl, sym}
+use Rattle.std.proofs.Common.{true, false, length, refl}
 use Rattle.std.specs.Prelude.{IsTrue}
 use Rattle.std.proofs.lemmas.Option.{slice_get_read}
 use Rattle.batch_cell.specs.LookUps.{resources_of}

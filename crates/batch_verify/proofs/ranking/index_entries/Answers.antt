@@ -1,10 +1,7 @@
-use Rattle.std.proofs.Common.{◌≡◌, ◌++◌, ◌∷◌, [], ℕ, true, false, None, length, take, refl, sym, ap, ◌∙◌}
-use Rattle.std.specs.Option.{is_some}
-use Rattle.std.specs.Map.{lookup}
+use Rattle.std.proofs.Common.{◌≡◌, ◌++◌, ◌∷◌, [], true, false, None, length, take, refl, sym, ap, ◌∙◌}
 use Rattle.std.proofs.lemmas.Option.{slice_get_read}
 use Rattle.indexmap.proofs.CallerLemmas.{insert_entry-new}
 use Rattle.batch_recipe.specs.Conditions.{Name, same_name}
-use Rattle.batch_verify.specs.CertificateText.{Rank}
 use Rattle.batch_verify.proofs.NameLemmas.{take_next}
 use Rattle.batch_verify.proofs.RankLemmas.{once_next, first_again, is_none-some, looked_up}
 use Rattle.batch_verify.proofs.ranking.index_entries.Goals as goal

@@ -1,8 +1,7 @@
-use Rattle.std.proofs.Common.{◌≡◌, Some, None, sym, ap, ◌∙◌}
+use Rattle.std.proofs.Common.{◌≡◌, Some, None, ap, ◌∙◌}
 use Rattle.std.specs.Map.{lookup}
 use Rattle.batch_cell.specs.LookUps.{resources_of}
 use Rattle.batch_recipe.specs.Conditions.{same_name}
-use Rattle.batch_verify.specs.CertificateText.{Rank}
 use Rattle.batch_verify.proofs.RankLemmas.{ranks_next, among_next, first_missing}
 use Rattle.batch_verify.proofs.ranking.ranks_of.Goals as goal
 

@@ -1,4 +1,4 @@
-use Rattle.std.proofs.Common.{◌≡◌, map, ◌+◌, ◌++◌, true, false, Some, None, Ok, Err, sym, ap, ◌∙◌, arith, refl, option_copied, drop_of_length-le}
+use Rattle.std.proofs.Common.{◌≡◌, map, ◌+◌, ◌++◌, true, Some, None, Ok, Err, sym, ap, ◌∙◌, arith, refl, option_copied, drop_of_length-le}
 use Rattle.std.proofs.lemmas.Result.{err_from_is_err_and}
 use Rattle.batch_recipe.specs.Diagram.{diagram_of, diagrams_of, cases_of}
 use Rattle.batch_recipe.specs.Expanding.{act_named, act_tree, asked_by, expanded, expanded_each, expanded_cases, named_tree, task_of, unit_below}
@@ -13,7 +13,7 @@ use Rattle.batch_model.specs.Cleared.{below, part, parts_within}
 use Rattle.batch_model.specs.Documents.{cell_of, documents_of}
 use Rattle.batch_verify.specs.Refusals.{ranking_in}
 use Rattle.batch_verify.specs.Walking.{act_size, cases_size, chart_size, level_of}
-use Rattle.batch_verify.specs.declared.rule.Rule.TheVariants.{SamePhaseInParallel, LoopWithoutPhase}
+use Rattle.batch_verify.specs.declared.rule.Rule.TheVariants.{SamePhaseInParallel}
 use Rattle.batch_verify.specs.declared.site.Stop.TheVariants.{Found}
 use Rattle.batch_verify.proofs.Branches.{cut}
 use Rattle.batch_verify.proofs.Sizes.{act_sized, cases_sized, chart_sized, each_sized, same_count}

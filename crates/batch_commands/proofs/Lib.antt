@@ -1,0 +1,5 @@
+pub mod Faults
+pub mod PlaceTexts
+pub mod ShallowPlaces
+pub mod Grown
+pub mod RecipesRead

@@ -1,0 +1,86 @@
+-- What verdicts say of the documents that they are on.
+use Rattle.std.specs.Prelude.{◌≡◌, ◌≢◌, ◌≤◌, ◌<◌, ℕ, List, [], ◌∷◌, length, string_bytes, ⊤}
+use Rattle.batch_cell.specs.declared.cell.Cell.{Cell}
+use Rattle.batch_recipe.specs.declared.recipe.Recipe.{Recipe}
+use Rattle.batch_model.specs.Cleared.{IsCleared}
+use Rattle.batch_model.specs.Documents.{cell_of, documents_of}
+use Rattle.batch_reader.specs.CellDocument.{IsCellDocument}
+use Rattle.batch_reader.specs.RecipeDocument.{IsRecipeDocument}
+use Rattle.batch_reader.specs.declared.fault.DocFault.{DocFault}
+use Rattle.batch_reader.specs.declared.fault.DocFault.TheVariants as document
+use Rattle.batch_verify.specs.CertificateText.{Rank, AreInOrder, IsFirstFault}
+use Rattle.batch_verify.specs.Ranked.{rank_of, RanksAll}
+use Rattle.batch_verify.specs.Verifying.{IsFirstRefusal}
+use Rattle.batch_verify.specs.declared.certificate.CertFault.{CertFault}
+use Rattle.batch_verify.specs.declared.certificate.CertFault.TheVariants as certificate
+use Rattle.batch_verify.specs.declared.refusal.Refusal.{Refusal}
+use Rattle.batch_verify.specs.declared.refusal.Refusal.TheVariants as set
+use Rattle.batch_check.specs.Checking.{IsFault}
+use Rattle.batch_check.specs.Clearing.{IsLeastClearance}
+use Rattle.batch_check.specs.declared.fault.CheckFault.{CheckFault}
+use Rattle.batch_check.specs.declared.fault.CheckFault.TheVariants as check
+use Rattle.batch_commands.specs.VerdictTexts.{accepted_text, certificate_refused, certificate_text, document_text, fault_text, refusal_text}
+use Rattle.batch_commands.specs.declared.judging.TheConstants.{MAX_CERTIFICATE_LEN}
+use Rattle.batch_commands.specs.declared.verdict.Ending.{Ending}
+use Rattle.batch_commands.specs.declared.verdict.Ending.TheVariants.{Accepted, Refused, OutOfMemory}
+use Rattle.batch_commands.specs.declared.verdict.Halt.{Halt}
+use Rattle.batch_commands.specs.declared.verdict.Halt.TheVariants as halt
+
+abbrev pub status_of : Ending → ℕ
+status_of Accepted = 0
+status_of Refused = 1
+status_of OutOfMemory = 4
+
+-- Documents
+
+abbrev pub document_ending : DocFault → Ending
+document_ending document.Memory = OutOfMemory
+document_ending _ = Refused
+
+abbrev pub certificate_ending : CertFault → Ending
+certificate_ending certificate.Memory = OutOfMemory
+certificate_ending _ = Refused
+
+-- the program halts with this text and so, unless there was no memory for the text
+abbrev pub HaltsWith : List ℕ → Ending → Halt → Type 0
+HaltsWith text ending (halt.Refused verdict) = (string_bytes verdict.text ≡ text) × (verdict.ending ≡ ending)
+HaltsWith text ending (halt.Unread message) = ⊥
+HaltsWith text ending halt.Memory = ⊤
+
+-- the document is refused, and but for memory it stands for no cell
+pub record RefusesCell (path bytes : List ℕ) (h : Halt) : Type 0 where
+  pub fault : DocFault
+  pub stands : fault ≢ document.Memory → (c : Cell) → ¬ (IsCellDocument bytes c)
+  pub halts : HaltsWith (document_text path fault) (document_ending fault) h
+
+-- the document is refused, and but for memory it stands for no recipe
+pub record RefusesRecipe (path bytes : List ℕ) (h : Halt) : Type 0 where
+  pub fault : DocFault
+  pub stands : fault ≢ document.Memory → (r : Recipe) → ¬ (IsRecipeDocument bytes r)
+  pub halts : HaltsWith (document_text path fault) (document_ending fault) h
+
+-- the text is refused by its first fault, and a file that is too long as one of too many lines
+pub record RefusesCertificate (text : List ℕ) (h : Halt) : Type 0 where
+  pub fault : CertFault
+  pub stands : length text ≤ MAX_CERTIFICATE_LEN → IsFirstFault text fault
+  pub long : MAX_CERTIFICATE_LEN < length text → fault ≡ certificate.TooManyLines
+  pub halts : HaltsWith (certificate_refused fault) (certificate_ending fault) h
+
+-- Sets of recipes
+
+-- what is printed of recipes by a certificate, and how the program ends
+abbrev pub IsVerified : Cell → List Recipe → List Rank → List ℕ → Ending → Type 0
+IsVerified c rs ranks text Accepted =
+    (text ≡ accepted_text) × RanksAll (cell_of c) ranks × IsCleared (cell_of c) (documents_of c rs) (rank_of ranks)
+IsVerified c rs ranks text Refused =
+    (refusal : Refusal) × (refusal ≢ set.Memory) × IsFirstRefusal (cell_of c) (documents_of c rs) ranks refusal
+    × (text ≡ refusal_text c rs ranks refusal)
+IsVerified c rs ranks text OutOfMemory = text ≡ refusal_text c rs ranks set.Memory
+
+-- what is printed of recipes alone: the certificate with the least ranks, in order of name, or why there is none
+abbrev pub IsChecked : Cell → List Recipe → List ℕ → Ending → Type 0
+IsChecked c rs text Accepted =
+    (ranks : List Rank) × RanksAll (cell_of c) ranks × IsLeastClearance c rs (rank_of ranks) × AreInOrder ranks
+    × (text ≡ certificate_text ranks)
+IsChecked c rs text Refused = (fault : CheckFault) × (fault ≢ check.Memory) × IsFault c rs fault × (text ≡ fault_text c rs fault)
+IsChecked c rs text OutOfMemory = text ≡ fault_text c rs check.Memory

@@ -1,0 +1,4 @@
+pub mod CommandLine
+pub mod VerdictTexts
+pub mod Judging
+pub mod Reading

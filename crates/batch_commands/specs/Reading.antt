@@ -1,0 +1,54 @@
+-- Documents that are read one after the other.
+use Rattle.std.specs.Prelude.{◌≡◌, ℕ, ◌+◌, List, [], ◌∷◌, ⊤}
+use Rattle.batch_cell.specs.declared.cell.Cell.{Cell}
+use Rattle.batch_recipe.specs.declared.recipe.Recipe.{Recipe}
+use Rattle.batch_reader.specs.CellDocument.{IsCellDocument}
+use Rattle.batch_reader.specs.RecipeDocument.{IsRecipeDocument}
+use Rattle.batch_verify.specs.CertificateText.{Rank, IsCertificateText}
+use Rattle.batch_commands.specs.Judging.{IsChecked, IsVerified}
+use Rattle.batch_commands.specs.declared.verdict.Ending.{Ending}
+use Rattle.batch_commands.specs.declared.verdict.Halt.{Halt}
+use Rattle.batch_commands.specs.declared.verdict.Halt.TheVariants.{Refused, Unread, Memory}
+
+-- which bytes may be read at a path
+abbrev pub Gives : Type 1
+Gives = List ℕ → List ℕ → Type 0
+
+-- nothing was judged: a file couldn't be read, or there was no memory
+abbrev pub IsUnread : Halt → Type 0
+IsUnread (Refused verdict) = ⊥
+IsUnread (Unread message) = ⊤
+IsUnread Memory = ⊤
+
+abbrev pub ReadsCell : Gives → List ℕ → Cell → Type 0
+ReadsCell gives path c = (bytes : List ℕ) × gives path bytes × IsCellDocument bytes c
+
+abbrev pub ReadsRecipe : Gives → List ℕ → Recipe → Type 0
+ReadsRecipe gives path r = (bytes : List ℕ) × gives path bytes × IsRecipeDocument bytes r
+
+abbrev pub ReadsCertificate : Gives → List ℕ → List Rank → Type 0
+ReadsCertificate gives path ranks = (bytes : List ℕ) × gives path bytes × IsCertificateText bytes ranks
+
+-- a recipe for each path, in their order
+abbrev pub ReadsRecipes : Gives → List (List ℕ) → List Recipe → Type 0
+ReadsRecipes gives [] [] = ⊤
+ReadsRecipes gives (path ∷ paths) (r ∷ rs) = ReadsRecipe gives path r × ReadsRecipes gives paths rs
+ReadsRecipes gives _ _ = ⊥
+
+-- the verdict of `check` on the documents at these paths
+pub record ChecksDocuments (gives : Gives) (cell : List ℕ) (paths : List (List ℕ)) (text : List ℕ) (ending : Ending) : Type 0 where
+  pub equipment : Cell
+  pub recipes : List Recipe
+  pub cell_read : ReadsCell gives cell equipment
+  pub recipes_read : ReadsRecipes gives paths recipes
+  pub judged : IsChecked equipment recipes text ending
+
+-- the verdict of `verify` on the documents at these paths
+pub record VerifiesDocuments (gives : Gives) (cell certificate : List ℕ) (paths : List (List ℕ)) (text : List ℕ) (ending : Ending) : Type 0 where
+  pub equipment : Cell
+  pub ranks : List Rank
+  pub recipes : List Recipe
+  pub cell_read : ReadsCell gives cell equipment
+  pub certificate_read : ReadsCertificate gives certificate ranks
+  pub recipes_read : ReadsRecipes gives paths recipes
+  pub judged : IsVerified equipment recipes ranks text ending

@@ -1,0 +1,96 @@
+//! Reading and judging documents, each before the next.
+ghost use Rattle.std.specs.Prelude.{◌≡◌, ℕ, List, map, IfOk, IfErr, string_bytes};
+ghost use Rattle.batch_commands.specs.Reading.{ChecksDocuments, IsUnread, ReadsCell, ReadsCertificate, ReadsRecipe, ReadsRecipes, VerifiesDocuments};
+
+use crate::judging::{
+    MAX_CERTIFICATE_LEN, check_recipes, judge_cell, judge_certificate, judge_recipe, verify_recipes,
+};
+use crate::verdict::{Halt, Verdict};
+use batch_cell::Cell;
+use batch_reader::MAX_DOCUMENT_LEN;
+use batch_recipe::Recipe;
+use batch_verify::Certificate;
+use std::alloc::Global;
+
+/// Where documents are read from.
+pub trait Documents {
+    // Which bytes may be read at a path.
+    ghost gives: { Self → List ℕ → List ℕ → Type 0 };
+
+    /// The bytes at the path, but no more than one beyond the limit.
+    fn read(&self, alloc: Global, path: &str, limit: usize) -> Result<Vec<u8>, Halt>
+        ensures given { IfOk result (λ bytes. gives self.now path.now bytes.items) }
+        ensures unread { IfErr result IsUnread };
+}
+
+/// The verdict of `check` on the documents at these paths. The first document that can't be read or is refused ends it.
+pub fn check_documents<D: Documents>(
+    alloc: Global,
+    documents: &D,
+    cell: &str,
+    recipes: &[String],
+) -> Result<Verdict, Halt>
+    ensures { IfOk result (λ verdict. ChecksDocuments (D.gives documents.now) cell.now (map string_bytes recipes.now)
+        (string_bytes verdict.text) verdict.ending) }
+{
+    let cell = read_cell(alloc, documents, cell)?;
+    let recipes = read_recipes(alloc, documents, recipes)?;
+    Ok(check_recipes(alloc, &cell, &recipes)?)
+}
+
+/// The verdict of `verify` on the documents at these paths. The first document that can't be read or is refused ends it.
+pub fn verify_documents<D: Documents>(
+    alloc: Global,
+    documents: &D,
+    cell: &str,
+    certificate: &str,
+    recipes: &[String],
+) -> Result<Verdict, Halt>
+    ensures { IfOk result (λ verdict. VerifiesDocuments (D.gives documents.now) cell.now certificate.now (map string_bytes recipes.now)
+        (string_bytes verdict.text) verdict.ending) }
+{
+    let cell = read_cell(alloc, documents, cell)?;
+    let certificate = read_certificate(alloc, documents, certificate)?;
+    let recipes = read_recipes(alloc, documents, recipes)?;
+    Ok(verify_recipes(alloc, cell, recipes, &certificate)?)
+}
+
+fn read_cell<D: Documents>(alloc: Global, documents: &D, path: &str) -> Result<Cell, Halt>
+    ensures { IfOk result (ReadsCell (D.gives documents.now) path.now) }
+{
+    let bytes = documents.read(alloc, path, MAX_DOCUMENT_LEN)?;
+    judge_cell(alloc, path, &bytes)
+}
+
+fn read_certificate<D: Documents>(
+    alloc: Global,
+    documents: &D,
+    path: &str,
+) -> Result<Certificate, Halt>
+    ensures { IfOk result (λ certificate. ReadsCertificate (D.gives documents.now) path.now certificate.ranks.items) }
+{
+    let text = documents.read(alloc, path, MAX_CERTIFICATE_LEN)?;
+    judge_certificate(alloc, &text)
+}
+
+fn read_recipe<D: Documents>(alloc: Global, documents: &D, path: &str) -> Result<Recipe, Halt>
+    ensures { IfOk result (ReadsRecipe (D.gives documents.now) path.now) }
+{
+    let bytes = documents.read(alloc, path, MAX_DOCUMENT_LEN)?;
+    judge_recipe(alloc, path, &bytes)
+}
+
+fn read_recipes<D: Documents>(
+    alloc: Global,
+    documents: &D,
+    paths: &[String],
+) -> Result<Vec<Recipe>, Halt>
+    ensures { IfOk result (λ recipes. ReadsRecipes (D.gives documents.now) (map string_bytes paths.now) recipes.items) }
+{
+    let mut recipes = Vec::new(alloc);
+    for path in paths {
+        let recipe = read_recipe(alloc, documents, path.as_str())?;
+        recipes.push(recipe)?;
+    }
+    Ok(recipes)
+}

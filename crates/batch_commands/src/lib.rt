@@ -1,0 +1,23 @@
+//! The program's commands `check` and `verify`: the command line, the texts of the verdicts, and the files.
+#![tactic(auto)]
+
+mod command;
+mod documents;
+mod files;
+mod judging;
+mod running;
+#[cfg(test)]
+mod tests;
+mod texts;
+mod verdict;
+mod words;
+
+pub use command::{Command, CommandFault};
+pub use documents::{Documents, check_documents, verify_documents};
+pub use judging::{
+    MAX_CERTIFICATE_LEN, check_recipes, judge_cell, judge_certificate, judge_recipe, verify_recipes,
+};
+pub use running::run;
+pub use texts::{certificate_refused, certificate_text, document_text, fault_text, refusal_text};
+pub use verdict::{Ending, Halt, Verdict};
+pub use words::parse;

@@ -1,0 +1,10 @@
+//! The texts of verdicts.
+mod certificates;
+mod documents;
+mod nodes;
+mod places;
+mod refusals;
+
+pub use certificates::{certificate_refused, certificate_text};
+pub use documents::document_text;
+pub use refusals::{fault_text, refusal_text};

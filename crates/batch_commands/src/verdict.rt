@@ -1,0 +1,62 @@
+//! Verdicts, and how the program ends.
+ghost use Rattle.std.specs.Prelude.{◌≡◌};
+ghost use Rattle.batch_commands.specs.Judging.{status_of};
+ghost use Rattle.batch_commands.specs.declared.verdict.Halt.TheVariants.{Memory};
+
+use std::alloc::{AllocError, AllocFailed};
+
+/// How the program ends after a verdict.
+#[derive(Clone, Copy, Debug, PartialEq, Eq)]
+pub enum Ending {
+    Accepted,
+    Refused,
+    /// Memory for the judgement ran out, which says nothing of what was to be judged.
+    OutOfMemory,
+}
+
+impl Ending {
+    /// The exit status of the program.
+    pub fn status(self) -> u8
+        ensures { result ≡ status_of self }
+    {
+        match self {
+            Ending::Accepted => 0,
+            Ending::Refused => 1,
+            Ending::OutOfMemory => 4,
+        }
+    }
+}
+
+/// What the program prints on standard output, and how it ends then.
+#[derive(Debug, Drop)]
+pub struct Verdict {
+    pub text: String,
+    pub ending: Ending,
+}
+
+/// Why the program ends before it has judged all of its documents.
+#[derive(Debug, Drop)]
+pub enum Halt {
+    /// A document is refused.
+    Refused(Verdict),
+    /// A file can't be read, with a text for the user.
+    Unread(String),
+    /// There was no memory for the text of a verdict.
+    Memory,
+}
+
+impl From<AllocError> for Halt {
+    ghost from_gives = { λ _ halt. halt ≡ Memory };
+
+    fn from(_error: AllocError) -> Halt {
+        Halt::Memory
+    }
+}
+
+impl<T: Drop> From<AllocFailed<T>> for Halt {
+    ghost from_gives = { λ _ halt. halt ≡ Memory };
+
+    fn from(_error: AllocFailed<T>) -> Halt {
+        Halt::Memory
+    }
+}
