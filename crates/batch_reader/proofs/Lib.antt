@@ -2,12 +2,12 @@ pub mod Keys
 pub mod Items
 pub mod Distinct
 pub mod CellNames
+pub mod OneEntry
 pub mod OneCell
 pub mod Truth
 pub mod ChartNaming
 pub mod DistinctNames
 pub mod WellFormedParts
-pub mod RecipeEntries
 pub mod RecipeParts
 pub mod ActForms
 pub mod OneRecipe

@@ -6,7 +6,7 @@ use Rattle.std.proofs.lemmas.List.Folds.{list_all-map, flat_map-map}
 use Rattle.std.specs.Cmp.Lexicographic.{pointwise}
 use Rattle.std.specs.List.{IsDistinct, list_all, list_any, flat_map}
 use Rattle.std.specs.Option.{IsSome}
-use Rattle.toml.specs.Data.{Data, Members, get_member}
+use Rattle.toml.specs.Data.{Members, get_member}
 use Rattle.batch_cell.specs.Equipment.{unit_names, declared_names, has_declared_unit, phases_for, unit_phases, IsDeclaredOnce, HasDeclaredUnits, OffersPhasesOnce}
 use Rattle.batch_cell.specs.declared.unit.Unit.{Unit}
 use Rattle.batch_cell.specs.declared.module.Module.{Module}
@@ -14,23 +14,14 @@ use Rattle.batch_cell.specs.declared.module.TheConstants.{MAX_PHASES}
 use Rattle.batch_cell.specs.declared.shared.Shared.{Shared}
 use Rattle.batch_cell.specs.declared.cell.Cell.{Cell}
 use Rattle.batch_reader.proofs.Items.{AllItems_same, HasTables_same}
+use Rattle.batch_reader.proofs.OneEntry.{HasName_unique, HasName_missing, IsNameItem_unique}
 use Rattle.batch_reader.specs.Entries.{HasName, HasNames, HasTables, IsNameItem}
 use Rattle.batch_reader.specs.CellDocument.{IsUnitTable, IsUnitModuleTable, IsModuleTable, IsSharedTable, IsSoundEquipment, IsCellTable}
-
-HasName_unique : (key : List ℕ) (ms : Members) (m n : List ℕ) → HasName key ms m → HasName key ms n → m ≡ n
-HasName_unique key ms m n h k = cc (h.text, k.text)
-
-IsNameItem_unique : (d : Data) (m n : List ℕ) → IsNameItem d m → IsNameItem d n → m ≡ n
-IsNameItem_unique d m n h k = cc (h.text, k.text)
 
 pub HasNames_unique : (key : List ℕ) (ms : Members) (xs ys : List (List ℕ)) → HasNames key ms xs → HasNames key ms ys → xs ≡ ys
 HasNames_unique key ms xs ys h k =
     let same : h.items ≡ k.items = cc (h.found, k.found) in
     sym (map-id xs) ∙ AllItems_same IsNameItem (λ n. n) IsNameItem_unique k.items xs ys (rw same at h.listed) k.listed ∙ map-id ys
-
--- a key that is missing has no name
-HasName_missing : (key : List ℕ) (ms : Members) (name : List ℕ) → get_member key ms ≡ None → HasName key ms name → ⊥
-HasName_missing key ms name missing h = let found = rw missing at h.text in cc found
 
 module_name : (ms : Members) (m : Module) → IsModuleTable ms m → HasName (codes "name") ms m.name
 module_name ms m (inl free) = free.name

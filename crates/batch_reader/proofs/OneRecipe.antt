@@ -10,7 +10,7 @@ use Rattle.batch_recipe.specs.declared.quantity.Quantity.{Quantity}
 use Rattle.batch_recipe.specs.declared.recipe.Recipe.{Recipe}
 use Rattle.batch_reader.proofs.ActForms.{follows, runs, work_form, form, sound_along}
 use Rattle.batch_reader.proofs.Items.{HasTables_same}
-use Rattle.batch_reader.proofs.RecipeEntries.{HasName_unique, HasLabel_unique, HasNameOr_unique, HasChart_unique, HasFewNames_unique}
+use Rattle.batch_reader.proofs.OneEntry.{HasName_unique, HasLabel_unique, HasNameOr_unique, HasChart_unique, HasFewNames_unique}
 use Rattle.batch_reader.specs.Entries.{HasTables}
 use Rattle.batch_reader.specs.RecipeTables.{HasCourse, HasNeeds, IsQuantityTable, IsOutputTable, IsProcedureTable, IsUnitProcedureTable, IsOperationTable, IsPhaseTable}
 use Rattle.batch_reader.specs.RecipeDocument.{HasActs, IsRecipeTable}

@@ -1,7 +1,9 @@
 //! Documents, before it is known what they stand for.
-ghost use Rattle.std.specs.Prelude.{◌≡◌, ◌≢◌, ◌≤◌, Some, length, IfOk, IfErr, IsErrOf, IsSome, IsUtf8};
+ghost use Rattle.std.specs.Prelude.{◌≡◌, ◌≢◌, ◌≤◌, ◌<◌, Some, Err, length, IfOk, IfErr, IsErrOf, IsSome, IsUtf8};
 ghost use Rattle.toml.specs.Parse.{parse_document};
 ghost use Rattle.toml.specs.View.{table_view};
+ghost use Rattle.batch_reader.specs.declared.fault.EntryFault.{EntryFault};
+ghost use Rattle.batch_reader.specs.declared.fault.Spot.{Spot};
 
 use crate::fault::{DocFault, EntryFault, Spot, TableFault};
 use std::alloc::Global;
@@ -15,6 +17,7 @@ pub(crate) fn table_of(alloc: Global, bytes: &[u8], top: Spot) -> Result<Table, 
     ensures short { IfOk result (λ _. length bytes.now ≤ MAX_DOCUMENT_LEN) }
     ensures is_text { IfOk result (λ _. IsUtf8 bytes.now) }
     ensures parsed { IfOk result (λ table. parse_document bytes.now ≡ Some (table_view table)) }
+    ensures long { MAX_DOCUMENT_LEN < length bytes.now → result ≡ Err (DocFault.Entry top EntryFault.OutOfLimit) }
     ensures not_toml { IsErrOf result DocFault.NotToml → ¬ (IsUtf8 bytes.now × IsSome (parse_document bytes.now)) }
     ensures refused { IfErr result (λ fault. fault ≢ DocFault.Memory
         → ¬ ((length bytes.now ≤ MAX_DOCUMENT_LEN) × (IsUtf8 bytes.now × IsSome (parse_document bytes.now)))) }
@@ -34,8 +37,9 @@ pub(crate) fn table_of(alloc: Global, bytes: &[u8], top: Spot) -> Result<Table, 
 
 /// The refusal of a document one of whose tables is refused.
 pub(crate) fn document_fault(fault: TableFault) -> DocFault
-    ensures is_toml { result ≢ DocFault.NotToml }
+    ensures entry { (spot : Spot) (wrong : EntryFault) → fault ≡ TableFault.Entry spot wrong → result ≡ DocFault.Entry spot wrong }
     ensures memory { fault ≡ TableFault.Memory → result ≡ DocFault.Memory }
+    ensures is_toml { result ≢ DocFault.NotToml }
 {
     match fault {
         TableFault::Entry(spot, fault) => DocFault::Entry(spot, fault),

@@ -120,7 +120,7 @@ pub(crate) fn truth_at(table: &Table, key: &str, spot: Spot) -> Result<bool, Tab
 }
 
 /// The names in the list at a key, at most so many, and none where the key is missing.
-#[tactic(auto, using(crate::proofs::RecipeEntries::few_names))]
+#[tactic(auto, using(crate::proofs::OneEntry::few_names))]
 pub(crate) fn few_names_at(
     alloc: Global,
     table: &Table,

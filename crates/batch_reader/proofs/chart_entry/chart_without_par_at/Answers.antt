@@ -1,7 +1,7 @@
 use Rattle.std.proofs.Common.{◌≡◌, None}
 use Rattle.std.proofs.lemmas.Result.{err_from_is_err_and}
 use Rattle.batch_recipe.specs.Diagram.{diagram_of}
-use Rattle.batch_reader.proofs.RecipeEntries.{HasChart_unique}
+use Rattle.batch_reader.proofs.OneEntry.{HasChart_unique}
 use Rattle.batch_reader.proofs.chart_entry.chart_without_par_at.Goals as goal
 
 pub returns-in_err-read-clause-refused : goal.returns-in_err-read-clause-refused

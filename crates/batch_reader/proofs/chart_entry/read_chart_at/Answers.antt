@@ -3,7 +3,7 @@ use Rattle.std.specs.Option.{option_and_then}
 use Rattle.toml.specs.Data.{get_member, as_str}
 use Rattle.toml.specs.View.{table_view}
 use Rattle.batch_grammar.specs.ChartAnswer.{IsOutsideAt}
-use Rattle.batch_reader.proofs.RecipeEntries.{chart_refused}
+use Rattle.batch_reader.proofs.OneEntry.{chart_refused}
 use Rattle.batch_reader.proofs.chart_entry.read_chart_at.Goals as goal
 
 pub returns-in-Err-OutOfRange-clause-refused : goal.returns-in-Err-OutOfRange-clause-refused

@@ -1,4 +1,4 @@
-use Rattle.batch_reader.proofs.RecipeEntries.{few_names_refused}
+use Rattle.batch_reader.proofs.OneEntry.{few_names_refused}
 use Rattle.batch_reader.proofs.recipe_entries.few_names_at.Goals as goal
 
 pub returns-then-values-most-clause-refused : goal.returns-then-values-most-clause-refused

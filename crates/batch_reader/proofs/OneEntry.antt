@@ -1,4 +1,4 @@
--- What the entries of a recipe's table say, once.
+-- An entry of a table says one thing at most.
 use Rattle.std.proofs.Common.{◌≡◌, ℕ, ◌<◌, ◌≤◌, inl, inr, List, [], ◌∷◌, length, Some, None, refl, sym, ◌∙◌, arith}
 use Rattle.std.proofs.lemmas.List.{map-id}
 use Rattle.std.specs.Option.{option_and_then}
@@ -44,7 +44,8 @@ HasName_unique key ms m n h k = cc (h.text, k.text)
 pub HasLabel_unique : (key : List ℕ) (ms : Members) (m n : List ℕ) → HasLabel key ms m → HasLabel key ms n → m ≡ n
 HasLabel_unique key ms m n h k = cc (h.text, k.text)
 
-HasName_missing : (key : List ℕ) (ms : Members) (name : List ℕ) → get_member key ms ≡ None → HasName key ms name → ⊥
+-- a key that is missing has no name
+pub HasName_missing : (key : List ℕ) (ms : Members) (name : List ℕ) → get_member key ms ≡ None → HasName key ms name → ⊥
 HasName_missing key ms name missing h = let found = rw missing at h.text in cc found
 
 pub HasNameOr_unique : (key : List ℕ) (ms : Members) (other m n : List ℕ) → HasNameOr key ms other m → HasNameOr key ms other n → m ≡ n
@@ -58,7 +59,7 @@ HasChart_unique key ms a b h k =
     let same : h.text ≡ k.text = cc (h.found.found, k.found.found) in
     at_most_one k.text a b (rw same at h.is_chart) k.is_chart
 
-IsNameItem_unique : (d : Data) (m n : List ℕ) → IsNameItem d m → IsNameItem d n → m ≡ n
+pub IsNameItem_unique : (d : Data) (m n : List ℕ) → IsNameItem d m → IsNameItem d n → m ≡ n
 IsNameItem_unique d m n h k = cc (h.text, k.text)
 
 pub HasFewNames_unique : (key : List ℕ) (ms : Members) (most : ℕ) (xs ys : List (List ℕ)) → HasFewNames key ms most xs → HasFewNames key ms most ys → xs ≡ ys
