@@ -3,3 +3,4 @@ pub mod PlaceTexts
 pub mod ShallowPlaces
 pub mod Grown
 pub mod RecipesRead
+pub mod CommandRows
