@@ -47,6 +47,12 @@ HaltsWith text ending (halt.Refused verdict) = (string_bytes verdict.text ≡ te
 HaltsWith text ending (halt.Unread message) = ⊥
 HaltsWith text ending halt.Memory = ⊤
 
+-- a halt accepts nothing
+abbrev pub IsHalt : Halt → Type 0
+IsHalt (halt.Refused verdict) = verdict.ending ≢ Accepted
+IsHalt (halt.Unread message) = ⊤
+IsHalt halt.Memory = ⊤
+
 -- the document is refused, and but for memory it stands for no cell
 pub record RefusesCell (path bytes : List ℕ) (h : Halt) : Type 0 where
   pub fault : DocFault

@@ -1,5 +1,6 @@
 //! Reading and judging documents, each before the next.
 ghost use Rattle.std.specs.Prelude.{◌≡◌, ℕ, List, map, IfOk, IfErr, string_bytes};
+ghost use Rattle.batch_commands.specs.Judging.{IsHalt};
 ghost use Rattle.batch_commands.specs.Reading.{ChecksDocuments, IsUnread, ReadsCell, ReadsCertificate, ReadsRecipe, ReadsRecipes, VerifiesDocuments};
 
 use crate::judging::{
@@ -30,8 +31,9 @@ pub fn check_documents<D: Documents>(
     cell: &str,
     recipes: &[String],
 ) -> Result<Verdict, Halt>
-    ensures { IfOk result (λ verdict. ChecksDocuments (D.gives documents.now) cell.now (map string_bytes recipes.now)
+    ensures verdict { IfOk result (λ verdict. ChecksDocuments (D.gives documents.now) cell.now (map string_bytes recipes.now)
         (string_bytes verdict.text) verdict.ending) }
+    ensures halts { IfErr result IsHalt }
 {
     let cell = read_cell(alloc, documents, cell)?;
     let recipes = read_recipes(alloc, documents, recipes)?;
@@ -46,8 +48,9 @@ pub fn verify_documents<D: Documents>(
     certificate: &str,
     recipes: &[String],
 ) -> Result<Verdict, Halt>
-    ensures { IfOk result (λ verdict. VerifiesDocuments (D.gives documents.now) cell.now certificate.now (map string_bytes recipes.now)
+    ensures verdict { IfOk result (λ verdict. VerifiesDocuments (D.gives documents.now) cell.now certificate.now (map string_bytes recipes.now)
         (string_bytes verdict.text) verdict.ending) }
+    ensures halts { IfErr result IsHalt }
 {
     let cell = read_cell(alloc, documents, cell)?;
     let certificate = read_certificate(alloc, documents, certificate)?;
@@ -56,7 +59,8 @@ pub fn verify_documents<D: Documents>(
 }
 
 fn read_cell<D: Documents>(alloc: Global, documents: &D, path: &str) -> Result<Cell, Halt>
-    ensures { IfOk result (ReadsCell (D.gives documents.now) path.now) }
+    ensures read { IfOk result (ReadsCell (D.gives documents.now) path.now) }
+    ensures halts { IfErr result IsHalt }
 {
     let bytes = documents.read(alloc, path, MAX_DOCUMENT_LEN)?;
     judge_cell(alloc, path, &bytes)
@@ -67,14 +71,16 @@ fn read_certificate<D: Documents>(
     documents: &D,
     path: &str,
 ) -> Result<Certificate, Halt>
-    ensures { IfOk result (λ certificate. ReadsCertificate (D.gives documents.now) path.now certificate.ranks.items) }
+    ensures read { IfOk result (λ certificate. ReadsCertificate (D.gives documents.now) path.now certificate.ranks.items) }
+    ensures halts { IfErr result IsHalt }
 {
     let text = documents.read(alloc, path, MAX_CERTIFICATE_LEN)?;
     judge_certificate(alloc, &text)
 }
 
 fn read_recipe<D: Documents>(alloc: Global, documents: &D, path: &str) -> Result<Recipe, Halt>
-    ensures { IfOk result (ReadsRecipe (D.gives documents.now) path.now) }
+    ensures read { IfOk result (ReadsRecipe (D.gives documents.now) path.now) }
+    ensures halts { IfErr result IsHalt }
 {
     let bytes = documents.read(alloc, path, MAX_DOCUMENT_LEN)?;
     judge_recipe(alloc, path, &bytes)
@@ -85,7 +91,8 @@ fn read_recipes<D: Documents>(
     documents: &D,
     paths: &[String],
 ) -> Result<Vec<Recipe>, Halt>
-    ensures { IfOk result (λ recipes. ReadsRecipes (D.gives documents.now) (map string_bytes paths.now) recipes.items) }
+    ensures read { IfOk result (λ recipes. ReadsRecipes (D.gives documents.now) (map string_bytes paths.now) recipes.items) }
+    ensures halts { IfErr result IsHalt }
 {
     let mut recipes = Vec::new(alloc);
     for path in paths {

@@ -4,7 +4,7 @@ ghost use Rattle.batch_reader.specs.CellDocument.{IsCellDocument};
 ghost use Rattle.batch_reader.specs.RecipeDocument.{IsRecipeDocument};
 ghost use Rattle.batch_verify.specs.CertificateText.{IsCertificateText};
 ghost use Rattle.batch_commands.specs.VerdictTexts.{certificate_refused, document_text};
-ghost use Rattle.batch_commands.specs.Judging.{HaltsWith, IsChecked, IsVerified, RefusesCell, RefusesCertificate, RefusesRecipe, certificate_ending, document_ending};
+ghost use Rattle.batch_commands.specs.Judging.{HaltsWith, IsChecked, IsHalt, IsVerified, RefusesCell, RefusesCertificate, RefusesRecipe, certificate_ending, document_ending};
 
 use crate::texts::{
     certificate_refused, certificate_text, document_text, fault_text, refusal_text,
@@ -24,6 +24,7 @@ pub const MAX_CERTIFICATE_LEN: usize = 32_768;
 pub fn judge_cell(alloc: Global, path: &str, bytes: &[u8]) -> Result<Cell, Halt>
     ensures ok { IfOk result (IsCellDocument bytes.now) }
     ensures refused { IfErr result (RefusesCell path.now bytes.now) }
+    ensures halts { IfErr result IsHalt }
 {
     match read_cell(alloc, bytes) {
         Ok(cell) => Ok(cell),
@@ -35,6 +36,7 @@ pub fn judge_cell(alloc: Global, path: &str, bytes: &[u8]) -> Result<Cell, Halt>
 pub fn judge_recipe(alloc: Global, path: &str, bytes: &[u8]) -> Result<Recipe, Halt>
     ensures ok { IfOk result (IsRecipeDocument bytes.now) }
     ensures refused { IfErr result (RefusesRecipe path.now bytes.now) }
+    ensures halts { IfErr result IsHalt }
 {
     match read_recipe(alloc, bytes) {
         Ok(recipe) => Ok(recipe),
@@ -43,7 +45,8 @@ pub fn judge_recipe(alloc: Global, path: &str, bytes: &[u8]) -> Result<Recipe, H
 }
 
 fn document_halt(alloc: Global, path: &str, fault: DocFault) -> Halt
-    ensures { HaltsWith (document_text path.now fault) (document_ending fault) result }
+    ensures told { HaltsWith (document_text path.now fault) (document_ending fault) result }
+    ensures halts { IsHalt result }
 {
     let ending = match fault {
         DocFault::Memory => Ending::OutOfMemory,
@@ -60,6 +63,7 @@ pub fn judge_certificate(alloc: Global, text: &[u8]) -> Result<Certificate, Halt
     ensures ok { IfOk result (λ certificate. IsCertificateText text.now certificate.ranks.items) }
     ensures short { OnOk result (length text.now ≤ MAX_CERTIFICATE_LEN) }
     ensures refused { IfErr result (RefusesCertificate text.now) }
+    ensures halts { IfErr result IsHalt }
 {
     if text.len() > MAX_CERTIFICATE_LEN {
         return Err(certificate_halt(alloc, CertFault::TooManyLines));
@@ -71,7 +75,8 @@ pub fn judge_certificate(alloc: Global, text: &[u8]) -> Result<Certificate, Halt
 }
 
 fn certificate_halt(alloc: Global, fault: CertFault) -> Halt
-    ensures { HaltsWith (certificate_refused fault) (certificate_ending fault) result }
+    ensures told { HaltsWith (certificate_refused fault) (certificate_ending fault) result }
+    ensures halts { IsHalt result }
 {
     let ending = match fault {
         CertFault::Memory => Ending::OutOfMemory,

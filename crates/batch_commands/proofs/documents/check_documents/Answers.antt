@@ -3,14 +3,14 @@ use Rattle.batch_recipe.specs.declared.recipe.Recipe.{Recipe}
 use Rattle.batch_commands.specs.Judging.{IsChecked}
 use Rattle.batch_commands.proofs.documents.check_documents.Goals as goal
 
-pub returns : goal.returns
-returns g c =
+pub returns-clause-verdict : goal.returns-clause-verdict
+returns-clause-verdict g c =
     let verdict = c.in_ok-check_recipes.field-0 in
     let Judged : List Recipe → Type 0 = λ rs. IsChecked c.in_ok-cell.cell rs (string_bytes verdict.text) verdict.ending in
     record {
       equipment = c.in_ok-cell.cell;
       recipes = c.in_ok-recipes.recipes.items;
-      cell_read = c.in_ok-cell.ensures;
-      recipes_read = c.in_ok-recipes.ensures;
+      cell_read = c.in_ok-cell.ensures.read;
+      recipes_read = c.in_ok-recipes.ensures.read;
       judged = subst Judged c.deref.ensures.value c.in_ok-check_recipes.ensures;
     }
