@@ -4,3 +4,4 @@ pub mod ShallowPlaces
 pub mod Grown
 pub mod RecipesRead
 pub mod CommandRows
+pub mod Halted

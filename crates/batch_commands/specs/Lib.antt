@@ -2,3 +2,4 @@ pub mod CommandLine
 pub mod VerdictTexts
 pub mod Judging
 pub mod Reading
+pub mod Halting

@@ -1,5 +1,6 @@
 //! Reading and judging documents, each before the next.
 ghost use Rattle.std.specs.Prelude.{◌≡◌, ℕ, List, map, IfOk, IfErr, string_bytes};
+ghost use Rattle.batch_commands.specs.Halting.{HaltsAtCell, HaltsAtCertificate, HaltsAtRecipe, HaltsAtRecipes, HaltsCheck, HaltsVerify};
 ghost use Rattle.batch_commands.specs.Judging.{IsHalt};
 ghost use Rattle.batch_commands.specs.Reading.{ChecksDocuments, IsUnread, ReadsCell, ReadsCertificate, ReadsRecipe, ReadsRecipes, VerifiesDocuments};
 
@@ -34,6 +35,7 @@ pub fn check_documents<D: Documents>(
     ensures verdict { IfOk result (λ verdict. ChecksDocuments (D.gives documents.now) cell.now (map string_bytes recipes.now)
         (string_bytes verdict.text) verdict.ending) }
     ensures halts { IfErr result IsHalt }
+    ensures halted { IfErr result (HaltsCheck (D.gives documents.now) cell.now (map string_bytes recipes.now)) }
 {
     let cell = read_cell(alloc, documents, cell)?;
     let recipes = read_recipes(alloc, documents, recipes)?;
@@ -51,6 +53,7 @@ pub fn verify_documents<D: Documents>(
     ensures verdict { IfOk result (λ verdict. VerifiesDocuments (D.gives documents.now) cell.now certificate.now (map string_bytes recipes.now)
         (string_bytes verdict.text) verdict.ending) }
     ensures halts { IfErr result IsHalt }
+    ensures halted { IfErr result (HaltsVerify (D.gives documents.now) cell.now certificate.now (map string_bytes recipes.now)) }
 {
     let cell = read_cell(alloc, documents, cell)?;
     let certificate = read_certificate(alloc, documents, certificate)?;
@@ -61,6 +64,7 @@ pub fn verify_documents<D: Documents>(
 fn read_cell<D: Documents>(alloc: Global, documents: &D, path: &str) -> Result<Cell, Halt>
     ensures read { IfOk result (ReadsCell (D.gives documents.now) path.now) }
     ensures halts { IfErr result IsHalt }
+    ensures halted { IfErr result (HaltsAtCell (D.gives documents.now) path.now) }
 {
     let bytes = documents.read(alloc, path, MAX_DOCUMENT_LEN)?;
     judge_cell(alloc, path, &bytes)
@@ -73,6 +77,7 @@ fn read_certificate<D: Documents>(
 ) -> Result<Certificate, Halt>
     ensures read { IfOk result (λ certificate. ReadsCertificate (D.gives documents.now) path.now certificate.ranks.items) }
     ensures halts { IfErr result IsHalt }
+    ensures halted { IfErr result (HaltsAtCertificate (D.gives documents.now) path.now) }
 {
     let text = documents.read(alloc, path, MAX_CERTIFICATE_LEN)?;
     judge_certificate(alloc, &text)
@@ -81,6 +86,7 @@ fn read_certificate<D: Documents>(
 fn read_recipe<D: Documents>(alloc: Global, documents: &D, path: &str) -> Result<Recipe, Halt>
     ensures read { IfOk result (ReadsRecipe (D.gives documents.now) path.now) }
     ensures halts { IfErr result IsHalt }
+    ensures halted { IfErr result (HaltsAtRecipe (D.gives documents.now) path.now) }
 {
     let bytes = documents.read(alloc, path, MAX_DOCUMENT_LEN)?;
     judge_recipe(alloc, path, &bytes)
@@ -93,6 +99,7 @@ fn read_recipes<D: Documents>(
 ) -> Result<Vec<Recipe>, Halt>
     ensures read { IfOk result (λ recipes. ReadsRecipes (D.gives documents.now) (map string_bytes paths.now) recipes.items) }
     ensures halts { IfErr result IsHalt }
+    ensures halted { IfErr result (HaltsAtRecipes (D.gives documents.now) (map string_bytes paths.now)) }
 {
     let mut recipes = Vec::new(alloc);
     for path in paths {

@@ -1,4 +1,5 @@
-use Rattle.std.proofs.Common.{List, subst, string_bytes}
+use Rattle.std.proofs.Common.{List, inr, subst, string_bytes}
+use Rattle.std.proofs.lemmas.Result.{err_from_is_err_and}
 use Rattle.batch_recipe.specs.declared.recipe.Recipe.{Recipe}
 use Rattle.batch_commands.specs.Judging.{IsChecked}
 use Rattle.batch_commands.proofs.documents.check_documents.Goals as goal
@@ -14,3 +15,8 @@ returns-clause-verdict g c =
       recipes_read = c.in_ok-recipes.ensures.read;
       judged = subst Judged c.deref.ensures.value c.in_ok-check_recipes.ensures;
     }
+
+pub returns-in_err-recipes-clause-halted : goal.returns-in_err-recipes-clause-halted
+returns-in_err-recipes-clause-halted g c =
+    let p = err_from_is_err_and c.from_residual-in_err-recipes.result c.from_residual-in_err-recipes.ensures.1 in
+    rw (p.1, p.2) (inr (c.in_ok-cell.cell, c.in_ok-cell.ensures.read, c.in_err-recipes.ensures.halted))
