@@ -117,16 +117,14 @@ fn broken_rules(rt: HostRuntime) -> Result<(), Fail> {
 fn first_broken_rule(rt: HostRuntime) -> Result<(), Fail> {
     let alloc = rt.alloc();
     let cell = judge_cell(alloc, "cell", CELL1.as_bytes())?;
-    let recipes = recipes_of(alloc, &[A, A_MIXING])?;
-    assert_eq!(rt; first_broken(alloc, &cell, &recipes[0], None)?, None);
-    let broken = Broken {
+    let offered = Broken {
         node: 3,
         rule: Rule::PhaseNotOffered,
     };
-    assert_eq!(rt;
-        first_broken(alloc, &cell, &recipes[1], None)?,
-        Some(broken)
-    );
+    for (text, want) in [(A, None), (A_MIXING, Some(offered))] {
+        let recipe = judge_recipe(alloc, "recipe", text.as_bytes())?;
+        assert_eq!(rt; first_broken(alloc, &cell, &recipe, None)?, want);
+    }
     Ok(())
 }
 
