@@ -1,15 +1,15 @@
 //! What a sign changes in what is wanted.
 ghost use Rattle.std.specs.Prelude.{◌≡◌, ◌∷◌, ◌==◌, true, false, Some, MatchResult};
 ghost use Rattle.batch_recipe.specs.Diagram.{diagram_of};
-ghost use Rattle.batch_grammar.specs.ChartMachine.{a_chart, take_comma, take_sign};
-ghost use Rattle.batch_grammar.specs.ChartView.{Gives, after_view, frame_view, frames_view, want_view};
+ghost use Rattle.batch_grammar.specs.ChartMachine.{a_chart, after_chart, after_condition, take_comma, take_sign};
+ghost use Rattle.batch_grammar.specs.ChartView.{Gives, after_view, frame_view, frames_view, test_view, want_view};
 
 use crate::fault::Stop;
 use crate::forms::take_close;
 use crate::frame::Frame;
 use crate::stack::{popped, pushed};
 use crate::want::{Test, Want};
-use batch_recipe::Chart;
+use batch_recipe::{Chart, Cond};
 use std::alloc::Global;
 
 /// The byte is the sign.
@@ -55,6 +55,43 @@ fn take_comma(chart: Chart, stack: Vec<Frame>) -> Result<(Want, Vec<Frame>), Sto
     }
 }
 
+/// The colon or the comma after a condition.
+fn end_condition(
+    test: Test,
+    condition: Cond,
+    byte: u8,
+    stack: Vec<Frame>,
+) -> Result<(Want, Vec<Frame>), Stop>
+    ensures { Gives after_view result (take_sign (after_condition (test_view test) condition) byte (frames_view stack.items)) }
+{
+    match test {
+        Test::Sel(cases) => {
+            expect(byte, b':')?;
+            inside(stack, Frame::Case(cases, condition))
+        }
+        Test::Loop(turns) => {
+            expect(byte, b',')?;
+            inside(stack, Frame::Loop(turns, condition))
+        }
+    }
+}
+
+/// The comma or the parenthesis after a chart.
+fn end_chart(
+    alloc: Global,
+    chart: Chart,
+    byte: u8,
+    stack: Vec<Frame>,
+) -> Result<(Want, Vec<Frame>), Stop>
+    ensures { Gives after_view result (take_sign (after_chart (diagram_of chart)) byte (frames_view stack.items)) }
+{
+    match byte {
+        b',' => take_comma(chart, stack),
+        b')' => take_close(alloc, chart, stack),
+        _ => Err(Stop::NotAChart),
+    }
+}
+
 /// A parenthesis, a comma or a colon.
 pub fn take_sign(
     alloc: Global,
@@ -85,25 +122,12 @@ pub fn take_sign(
             expect(byte, b',')?;
             Ok((Want::Name(Test::Loop(turns)), stack))
         }
-        Want::AfterCond(test, condition) => match test {
-            Test::Sel(cases) => {
-                expect(byte, b':')?;
-                inside(stack, Frame::Case(cases, condition))
-            }
-            Test::Loop(turns) => {
-                expect(byte, b',')?;
-                inside(stack, Frame::Loop(turns, condition))
-            }
-        },
+        Want::AfterCond(test, condition) => end_condition(test, condition, byte, stack),
         Want::AfterElse(cases) => {
             expect(byte, b':')?;
             inside(stack, Frame::Else(cases))
         }
-        Want::AfterChart(chart) => match byte {
-            b',' => take_comma(chart, stack),
-            b')' => take_close(alloc, chart, stack),
-            _ => Err(Stop::NotAChart),
-        },
+        Want::AfterChart(chart) => end_chart(alloc, chart, byte, stack),
         Want::Chart | Want::Turns | Want::Name(_) | Want::Operator(_, _) | Want::Operand(_, _, _) =>
             { Err(Stop::NotAChart) }
     }

@@ -62,38 +62,41 @@ fn charts_are_taken(rt: HostRuntime) -> Result<(), Fail> {
     Ok(())
 }
 
+/// Texts that are no charts, and the byte at which each goes wrong.
+const NO_CHARTS: [(&str, usize); 27] = [
+    (" ", 1),
+    ("par(a)", 5),
+    ("sel(X = 1: a)", 12),
+    ("loop(1001, X > 0, a", 19),
+    ("skip(", 4),
+    ("seq", 3),
+    ("par", 3),
+    ("sel", 3),
+    ("loop", 4),
+    ("else", 4),
+    ("else)", 4),
+    ("sel)", 3),
+    ("seq(a)b", 6),
+    ("seq(a", 5),
+    ("1", 0),
+    ("a b", 2),
+    ("seq1(", 4),
+    ("sel(else: a)", 8),
+    ("sel(X =< 1: a, else: b)", 7),
+    ("sel(X / 1: a", 7),
+    ("sel(X = 12345678901234567890: a", 27),
+    ("abcdefghijklmnopqrstuvwxyzabcdefg", 32),
+    ("loop(X, X > 0, a)", 5),
+    ("sel(X = 1: a, X = 2: b)", 22),
+    ("sel(X = seq: a", 11),
+    ("sel(X < = 1: a", 8),
+    ("loop(1 2", 7),
+];
+
 #[test]
 fn no_charts_are_told_at_their_byte(rt: HostRuntime) -> Result<(), Fail> {
     let alloc = rt.alloc();
-    for (text, place) in [
-        (" ", 1),
-        ("par(a)", 5),
-        ("sel(X = 1: a)", 12),
-        ("loop(1001, X > 0, a", 19),
-        ("skip(", 4),
-        ("seq", 3),
-        ("par", 3),
-        ("sel", 3),
-        ("loop", 4),
-        ("else", 4),
-        ("else)", 4),
-        ("sel)", 3),
-        ("seq(a)b", 6),
-        ("seq(a", 5),
-        ("1", 0),
-        ("a b", 2),
-        ("seq1(", 4),
-        ("sel(else: a)", 8),
-        ("sel(X =< 1: a, else: b)", 7),
-        ("sel(X / 1: a", 7),
-        ("sel(X = 12345678901234567890: a", 27),
-        ("abcdefghijklmnopqrstuvwxyzabcdefg", 32),
-        ("loop(X, X > 0, a)", 5),
-        ("sel(X = 1: a, X = 2: b)", 22),
-        ("sel(X = seq: a", 11),
-        ("sel(X < = 1: a", 8),
-        ("loop(1 2", 7),
-    ] {
+    for (text, place) in NO_CHARTS {
         assert_eq!(rt;
             fault(alloc, text),
             Some(ChartFault::NotAChart(place)),
