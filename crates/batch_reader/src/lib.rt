@@ -23,10 +23,6 @@ mod recipe_names;
 #[cfg(test)]
 mod recipe_tests;
 #[cfg(test)]
-mod recipe_tests_limits;
-#[cfg(test)]
-mod recipe_tests_refusals;
-#[cfg(test)]
 mod refusal_tests;
 mod resources;
 mod tables;

@@ -31,51 +31,40 @@ fn refuses(alloc: Global, text: &str, kind: TableKind, entry: usize) -> bool {
     read_cell(alloc, text.as_bytes()).err() == Some(wanted)
 }
 
+/// What stands before the tables, their front up to a number, and how many there may be.
+const TABLES: [(&str, &str, usize, TableKind); 3] = [
+    (
+        "cell = \"C\"\n",
+        "[[unit]]\nname = \"U",
+        64,
+        TableKind::Unit,
+    ),
+    (HEAD, "[[module]]\nname = \"M", 256, TableKind::Module),
+    (
+        HEAD,
+        "[[shared]]\ncapacity = 1\nname = \"S",
+        64,
+        TableKind::Shared,
+    ),
+];
+
 #[test]
 fn numbers_of_tables(rt: HostRuntime) -> Result<(), Fail> {
     let alloc = rt.alloc();
-    assert!(rt; refuses(rt.alloc(), "cell = \"C\"\n", TableKind::Unit, 0));
-    assert!(rt; refuses(rt.alloc(), "cell = \"C\"\nunit = []\n", TableKind::Unit, 0));
-    let cases = [
-        (
-            "cell = \"C\"\n",
-            "[[unit]]\nname = \"U",
-            64,
-            "\"\n",
-            TableKind::Unit,
-        ),
-        (
-            HEAD,
-            "[[module]]\nname = \"M",
-            256,
-            "\"\n",
-            TableKind::Module,
-        ),
-        (
-            HEAD,
-            "[[shared]]\ncapacity = 1\nname = \"S",
-            64,
-            "\"\n",
-            TableKind::Shared,
-        ),
-    ];
-    for (head, before, most, after, kind) in cases {
-        assert!(rt;
-            takes(
-                rt.alloc(),
-                numbered(alloc, head, before, most, after)?.as_str()
-            )
-        );
-        assert!(rt;
-            refuses(
-                rt.alloc(),
-                numbered(alloc, head, before, most + 1, after)?.as_str(),
-                kind,
-                most
-            )
-        );
+    for (head, before, most, kind) in TABLES {
+        let good = numbered(alloc, head, before, most, "\"\n")?;
+        assert!(rt; takes(alloc, good.as_str()));
+        let bad = numbered(alloc, head, before, most + 1, "\"\n")?;
+        assert!(rt; refuses(alloc, bad.as_str(), kind, most));
     }
     Ok(())
+}
+
+#[test]
+fn cells_without_a_unit(rt: HostRuntime) {
+    for text in ["cell = \"C\"\n", "cell = \"C\"\nunit = []\n"] {
+        assert!(rt; refuses(rt.alloc(), text, TableKind::Unit, 0), "{text}");
+    }
 }
 
 #[test]

@@ -67,41 +67,27 @@ fn missing_keys(rt: HostRuntime) -> Result<(), Fail> {
 }
 
 #[test]
-fn wrong_kinds_and_bad_names(rt: HostRuntime) -> Result<(), Fail> {
-    assert!(rt;
-        refuses(
-            rt.alloc(),
-            "cell = 5\n",
-            TableKind::Cell,
-            0,
-            EntryFault::WrongKind
-        )
-    );
-    assert!(rt;
-        refuses(
-            rt.alloc(),
-            "cell = \"C\"\nunit = 5\n",
-            TableKind::Unit,
-            0,
-            EntryFault::WrongKind
-        )
-    );
-    assert!(rt;
-        refuses(
-            rt.alloc(),
+fn wrong_kinds_at_the_top(rt: HostRuntime) {
+    for (text, kind, entry) in [
+        ("cell = 5\n", TableKind::Cell, 0),
+        ("cell = \"C\"\nunit = 5\n", TableKind::Unit, 0),
+        (
             "cell = \"C\"\nunit = [{ name = \"U\" }, 5]\n",
             TableKind::Unit,
             1,
-            EntryFault::WrongKind
-        )
-    );
-    let cases = [
-        ("[[unit]]\nname = \"2U\"\n", TableKind::Unit, 1),
-        (
-            "[[unit]]\nname = \"abcdefghijklmnopqrstuvwxyzabcdefg\"\n",
-            TableKind::Unit,
-            1,
         ),
+    ] {
+        let alloc = rt.alloc();
+        assert!(rt;
+            refuses(alloc, text, kind, entry, EntryFault::WrongKind),
+            "{text}"
+        );
+    }
+}
+
+#[test]
+fn wrong_kinds(rt: HostRuntime) -> Result<(), Fail> {
+    let cases = [
         ("[[module]]\nname = \"M\"\nunit = 0\n", TableKind::Module, 0),
         (
             "[[module]]\nname = \"M\"\nunit = \"U\"\nphases = \"A\"\n",
@@ -114,11 +100,6 @@ fn wrong_kinds_and_bad_names(rt: HostRuntime) -> Result<(), Fail> {
             0,
         ),
         (
-            "[[module]]\nname = \"M\"\nunit = \"U\"\nphases = [\"\"]\n",
-            TableKind::Module,
-            0,
-        ),
-        (
             "[[shared]]\nname = \"S\"\ncapacity = \"1\"\n",
             TableKind::Shared,
             0,
@@ -126,6 +107,25 @@ fn wrong_kinds_and_bad_names(rt: HostRuntime) -> Result<(), Fail> {
         (
             "[shared]\nname = \"S\"\ncapacity = 1\n",
             TableKind::Shared,
+            0,
+        ),
+    ];
+    assert!(rt; refuses_below_head(rt.alloc(), &cases, EntryFault::WrongKind)?);
+    Ok(())
+}
+
+#[test]
+fn bad_names(rt: HostRuntime) -> Result<(), Fail> {
+    let cases = [
+        ("[[unit]]\nname = \"2U\"\n", TableKind::Unit, 1),
+        (
+            "[[unit]]\nname = \"abcdefghijklmnopqrstuvwxyzabcdefg\"\n",
+            TableKind::Unit,
+            1,
+        ),
+        (
+            "[[module]]\nname = \"M\"\nunit = \"U\"\nphases = [\"\"]\n",
+            TableKind::Module,
             0,
         ),
     ];
@@ -184,18 +184,9 @@ fn undeclared_units(rt: HostRuntime) -> Result<(), Fail> {
     Ok(())
 }
 
+/// A name that another entry has.
 #[test]
-fn duplicates(rt: HostRuntime) -> Result<(), Fail> {
-    let more = format!(in rt.alloc(); "{DEMO}[[shared]]\nname = \"HDR\"\ncapacity = 1\n")?;
-    assert!(rt;
-        refuses(
-            rt.alloc(),
-            more.as_str(),
-            TableKind::Shared,
-            2,
-            EntryFault::Duplicate
-        )
-    );
+fn names_twice(rt: HostRuntime) -> Result<(), Fail> {
     let cases = [
         (
             "[[unit]]\nname = \"V\"\n[[unit]]\nname = \"U\"\n",
@@ -213,6 +204,25 @@ fn duplicates(rt: HostRuntime) -> Result<(), Fail> {
             TableKind::Shared,
             0,
         ),
+    ];
+    assert!(rt; refuses_below_head(rt.alloc(), &cases, EntryFault::Duplicate)?);
+    let more = format!(in rt.alloc(); "{DEMO}[[shared]]\nname = \"HDR\"\ncapacity = 1\n")?;
+    assert!(rt;
+        refuses(
+            rt.alloc(),
+            more.as_str(),
+            TableKind::Shared,
+            2,
+            EntryFault::Duplicate
+        )
+    );
+    Ok(())
+}
+
+/// A phase that a module lists twice, or that two modules of a unit have.
+#[test]
+fn phases_twice(rt: HostRuntime) -> Result<(), Fail> {
+    let cases = [
         (
             "[[module]]\nname = \"M\"\nunit = \"U\"\nphases = [\"A\", \"B\", \"A\"]\n",
             TableKind::Module,

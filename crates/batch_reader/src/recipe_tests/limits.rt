@@ -1,6 +1,6 @@
 //! Recipe documents at their limits, and one past them.
+use super::{ADD, CHARGE, MAKE, OUTPUT, PROCEDURE, document};
 use crate::limit_tests::numbered;
-use crate::recipe_tests::{ADD, CHARGE, MAKE, OUTPUT, PROCEDURE, document};
 use crate::{DocFault, EntryFault, MAX_CHART_LEN, MAX_DOCUMENT_LEN, Spot, TableKind, read_recipe};
 use batch_recipe::node_count;
 use std::alloc::{AllocError, Global};
@@ -89,104 +89,95 @@ fn too_few_tables(rt: HostRuntime) -> Result<(), Fail> {
     Ok(())
 }
 
+/// The front of a table up to its number, how many there may be beside the tables that are there,
+/// and how many in all.
+const TABLES: [(&str, usize, usize, TableKind); 6] = [
+    (
+        "[[input]]\nvalue = 1\nmin = 0\nmax = 1\nname = 'I",
+        64,
+        64,
+        TableKind::Input,
+    ),
+    (
+        "[[parameter]]\nvalue = 1\nmin = 0\nmax = 1\nname = 'M",
+        64,
+        64,
+        TableKind::Parameter,
+    ),
+    ("[[output]]\nname = 'X", 64, 64, TableKind::Output),
+    (
+        "[[unit_procedure]]\nunit = 'R1'\nchart = 'skip'\nname = 'U",
+        255,
+        256,
+        TableKind::UnitProcedure,
+    ),
+    (
+        "[[operation]]\nchart = 'skip'\nname = 'O",
+        255,
+        256,
+        TableKind::Operation,
+    ),
+    ("[[phase]]\nname = 'S", 255, 256, TableKind::Phase),
+];
+
 #[test]
 fn numbers_of_tables(rt: HostRuntime) -> Result<(), Fail> {
     let alloc = rt.alloc();
-    let cases = [
-        (
-            "[[input]]\nvalue = 1\nmin = 0\nmax = 1\nname = 'I",
-            64,
-            64,
-            TableKind::Input,
-        ),
-        (
-            "[[parameter]]\nvalue = 1\nmin = 0\nmax = 1\nname = 'M",
-            64,
-            64,
-            TableKind::Parameter,
-        ),
-        ("[[output]]\nname = 'X", 64, 64, TableKind::Output),
-        (
-            "[[unit_procedure]]\nunit = 'R1'\nchart = 'skip'\nname = 'U",
-            255,
-            256,
-            TableKind::UnitProcedure,
-        ),
-        (
-            "[[operation]]\nchart = 'skip'\nname = 'O",
-            255,
-            256,
-            TableKind::Operation,
-        ),
-        ("[[phase]]\nname = 'S", 255, 256, TableKind::Phase),
-    ];
-    for (before, more, most, kind) in cases {
+    for (before, more, most, kind) in TABLES {
         let good = numbered(alloc, "", before, more, "'\n")?;
-        assert!(rt;
-            fits(
-                alloc,
-                [PROCEDURE, MAKE, CHARGE, ADD, good.as_str()],
-                kind,
-                most
-            )?
-        );
+        let parts = [PROCEDURE, MAKE, CHARGE, ADD, good.as_str()];
+        assert!(rt; fits(alloc, parts, kind, most)?, "{before}");
         let bad = numbered(alloc, "", before, more + 1, "'\n")?;
+        let parts = [PROCEDURE, MAKE, CHARGE, ADD, bad.as_str()];
+        assert!(rt; !fits(alloc, parts, kind, most)?, "{before}");
+    }
+    Ok(())
+}
+
+#[test]
+fn lengths_of_lists(rt: HostRuntime) -> Result<(), Fail> {
+    let rest = [PROCEDURE, MAKE, CHARGE, OUTPUT];
+    for (head, piece, most) in [
+        ("[[phase]]\nname = 'ADD'\nneeds = [", "'HDR', ", 16),
+        ("[[phase]]\nname = 'ADD'\nvalues = [", "'X', ", 4),
+    ] {
+        let texts = [head, piece, "]\n"];
         assert!(rt;
-            !fits(
-                alloc,
-                [PROCEDURE, MAKE, CHARGE, ADD, bad.as_str()],
-                kind,
-                most
-            )?
+            fits_with(rt.alloc(), texts, most, rest, TableKind::Phase)?,
+            "{head}"
+        );
+        assert!(rt;
+            !fits_with(rt.alloc(), texts, most + 1, rest, TableKind::Phase)?,
+            "{head}"
         );
     }
     Ok(())
 }
 
 #[test]
-fn lengths_of_lists_and_texts(rt: HostRuntime) -> Result<(), Fail> {
-    let phase = [PROCEDURE, MAKE, CHARGE, OUTPUT];
-    let top = [PROCEDURE, MAKE, CHARGE, ADD];
-    let chart = "[[operation]]\nname = 'CHARGE'\nchart = 'ADD";
-    let cases = [
-        (
-            "[[phase]]\nname = 'ADD'\nneeds = [",
-            "'HDR', ",
-            16,
-            "]\n",
-            phase,
-            TableKind::Phase,
-        ),
-        (
-            "[[phase]]\nname = 'ADD'\nvalues = [",
-            "'X', ",
-            4,
-            "]\n",
-            phase,
-            TableKind::Phase,
-        ),
-        ("product = '", "x", 256, "'\n", top, TableKind::Recipe),
-        ("author = '", "x", 256, "'\n", top, TableKind::Recipe),
-        ("info = '", "x", 256, "'\n", top, TableKind::Recipe),
-        (
-            chart,
-            " ",
-            MAX_CHART_LEN - 3,
-            "'\n",
-            [PROCEDURE, MAKE, ADD, ""],
-            TableKind::Operation,
-        ),
-    ];
-    for (head, piece, most, tail, rest, kind) in cases {
+fn lengths_of_texts(rt: HostRuntime) -> Result<(), Fail> {
+    let rest = [PROCEDURE, MAKE, CHARGE, ADD];
+    for head in ["product = '", "author = '", "info = '"] {
+        let texts = [head, "x", "'\n"];
         assert!(rt;
-            fits_with(rt.alloc(), [head, piece, tail], most, rest, kind)?,
+            fits_with(rt.alloc(), texts, 256, rest, TableKind::Recipe)?,
             "{head}"
         );
         assert!(rt;
-            !fits_with(rt.alloc(), [head, piece, tail], most + 1, rest, kind)?,
+            !fits_with(rt.alloc(), texts, 257, rest, TableKind::Recipe)?,
             "{head}"
         );
     }
+    Ok(())
+}
+
+#[test]
+fn lengths_of_charts(rt: HostRuntime) -> Result<(), Fail> {
+    let texts = ["[[operation]]\nname = 'CHARGE'\nchart = 'ADD", " ", "'\n"];
+    let rest = [PROCEDURE, MAKE, ADD, ""];
+    let most = MAX_CHART_LEN - 3;
+    assert!(rt; fits_with(rt.alloc(), texts, most, rest, TableKind::Operation)?);
+    assert!(rt; !fits_with(rt.alloc(), texts, most + 1, rest, TableKind::Operation)?);
     Ok(())
 }
 
@@ -208,48 +199,23 @@ fn lengths_of_versions(rt: HostRuntime) -> Result<(), Fail> {
 
 #[test]
 fn numbers_out_of_range(rt: HostRuntime) -> Result<(), Fail> {
-    let cases = [
-        [
-            "[[input]]\nname = 'I'\nvalue = 1000000000001\nmin = 0\nmax = 2\n",
-            PROCEDURE,
-            MAKE,
-            CHARGE,
-            ADD,
-        ],
-        [
-            "[[input]]\nname = 'I'\nvalue = -1\nmin = 0\nmax = 2\n",
-            PROCEDURE,
-            MAKE,
-            CHARGE,
-            ADD,
-        ],
-        [
-            "[[input]]\nname = 'I'\nvalue = 5\nmin = 3\nmax = 2\n",
-            PROCEDURE,
-            MAKE,
-            CHARGE,
-            ADD,
-        ],
-        [
-            "[[input]]\nname = 'I'\nvalue = 5\nmin = 3\nmax = 1000000000001\n",
-            PROCEDURE,
-            MAKE,
-            CHARGE,
-            ADD,
-        ],
-    ];
-    for parts in cases {
-        assert!(rt; !fits(rt.alloc(), parts, TableKind::Input, 0)?);
+    for text in [
+        "[[input]]\nname = 'I'\nvalue = 1000000000001\nmin = 0\nmax = 2\n",
+        "[[input]]\nname = 'I'\nvalue = -1\nmin = 0\nmax = 2\n",
+        "[[input]]\nname = 'I'\nvalue = 5\nmin = 3\nmax = 2\n",
+        "[[input]]\nname = 'I'\nvalue = 5\nmin = 3\nmax = 1000000000001\n",
+    ] {
+        let parts = [text, PROCEDURE, MAKE, CHARGE, ADD];
+        assert!(rt; !fits(rt.alloc(), parts, TableKind::Input, 0)?, "{text}");
     }
+    Ok(())
+}
+
+#[test]
+fn turns_out_of_range(rt: HostRuntime) -> Result<(), Fail> {
     let turns = "[[operation]]\nname = 'CHARGE'\nchart = 'loop(1001, X > 0, ADD)'\n";
-    assert!(rt;
-        !fits(
-            rt.alloc(),
-            [OUTPUT, PROCEDURE, MAKE, turns, ADD],
-            TableKind::Operation,
-            0
-        )?
-    );
+    let parts = [OUTPUT, PROCEDURE, MAKE, turns, ADD];
+    assert!(rt; !fits(rt.alloc(), parts, TableKind::Operation, 0)?);
     Ok(())
 }
 

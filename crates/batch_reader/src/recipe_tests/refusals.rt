@@ -1,0 +1,419 @@
+//! Recipe documents that are refused, each for one fault.
+use super::{ADD, CHARGE, MAKE, PROCEDURE, document};
+use crate::{DocFault, EntryFault, Spot, TableKind, read_recipe};
+use std::alloc::{AllocError, Global};
+use std::test::Fail;
+
+/// A text in place of the good tables of its kind, and the entry that is at fault.
+type Case = (&'static str, TableKind, usize);
+
+/// The good tables, with this text in place of those of the kind.
+fn tables_with(text: &str, kind: TableKind) -> [&str; 5] {
+    match kind {
+        TableKind::Procedure => ["", text, MAKE, CHARGE, ADD],
+        TableKind::UnitProcedure => ["", PROCEDURE, text, CHARGE, ADD],
+        TableKind::Operation => ["", PROCEDURE, MAKE, text, ADD],
+        TableKind::Phase => ["", PROCEDURE, MAKE, CHARGE, text],
+        _ => [text, PROCEDURE, MAKE, CHARGE, ADD],
+    }
+}
+
+fn refusal(alloc: Global, parts: [&str; 5]) -> Result<Option<DocFault>, AllocError> {
+    let text = document(alloc, "A", parts)?;
+    Ok(read_recipe(alloc, text.as_bytes()).err())
+}
+
+#[test]
+fn not_toml(rt: HostRuntime) {
+    let cases: [&[u8]; 3] = [b"\xff\xff", b"recipe = ", b"recipe = 'A'\nrecipe = 'A'\n"];
+    for bytes in cases {
+        assert_eq!(rt;
+            read_recipe(rt.alloc(), bytes).err(),
+            Some(DocFault::NotToml)
+        );
+    }
+}
+
+/// Faults of the top itself, in documents that have no tables.
+const TOPS: [(&str, EntryFault); 11] = [
+    ("", EntryFault::MissingKey),
+    ("recipe = 'A'\nbasis = 1\n", EntryFault::MissingKey),
+    ("recipe = 'A'\nversion = '1'\n", EntryFault::MissingKey),
+    ("version = '1'\nbasis = 1\n", EntryFault::MissingKey),
+    (
+        "recipe = 'A B'\nversion = '1'\nbasis = 1\n",
+        EntryFault::WrongKind,
+    ),
+    (
+        "recipe = 'A'\nversion = 1\nbasis = 1\n",
+        EntryFault::WrongKind,
+    ),
+    (
+        "recipe = 'A'\nversion = '1'\nproduct = 1\nbasis = 1\n",
+        EntryFault::WrongKind,
+    ),
+    (
+        "recipe = 'A'\nversion = '1'\nbasis = '1'\n",
+        EntryFault::WrongKind,
+    ),
+    ("cell = 'A'\n", EntryFault::UnknownKey),
+    (
+        "recipe = 'A'\nversion = '1'\nbasis = 0\n",
+        EntryFault::OutOfLimit,
+    ),
+    (
+        "recipe = 'A'\nversion = '1'\nbasis = 1000000001\n",
+        EntryFault::OutOfLimit,
+    ),
+];
+
+#[test]
+fn tops(rt: HostRuntime) {
+    let top = Spot {
+        kind: TableKind::Recipe,
+        entry: 0,
+    };
+    for (text, fault) in TOPS {
+        let found = read_recipe(rt.alloc(), text.as_bytes()).err();
+        assert_eq!(rt; found, Some(DocFault::Entry(top, fault)), "{text}");
+    }
+}
+
+const WITHOUT_A_KEY: [Case; 12] = [
+    ("", TableKind::Procedure, 0),
+    ("[procedure]\n", TableKind::Procedure, 0),
+    (
+        "[[input]]\nvalue = 1\nmin = 0\nmax = 2\n",
+        TableKind::Input,
+        0,
+    ),
+    (
+        "[[input]]\nname = 'I'\nvalue = 1\nmin = 0\nmax = 2\n[[input]]\nname = 'J'\nmin = 0\nmax = 2\n",
+        TableKind::Input,
+        1,
+    ),
+    (
+        "[[parameter]]\nname = 'M'\nvalue = 1\nmax = 2\n",
+        TableKind::Parameter,
+        0,
+    ),
+    (
+        "[[parameter]]\nname = 'M'\nvalue = 1\nmin = 0\n",
+        TableKind::Parameter,
+        0,
+    ),
+    ("[[output]]\n", TableKind::Output, 0),
+    (
+        "[[unit_procedure]]\nname = 'MAKE'\nchart = 'CHARGE'\n",
+        TableKind::UnitProcedure,
+        0,
+    ),
+    (
+        "[[unit_procedure]]\nunit = 'R1'\nchart = 'CHARGE'\n",
+        TableKind::UnitProcedure,
+        0,
+    ),
+    (
+        "[[unit_procedure]]\nname = 'MAKE'\nunit = 'R1'\n",
+        TableKind::UnitProcedure,
+        0,
+    ),
+    (
+        "[[operation]]\nname = 'CHARGE'\nchart = 'ADD'\n[[operation]]\nname = 'COOK'\n",
+        TableKind::Operation,
+        1,
+    ),
+    ("[[phase]]\nruns = 'ADD'\n", TableKind::Phase, 0),
+];
+
+#[test]
+fn missing_keys(rt: HostRuntime) -> Result<(), Fail> {
+    for (text, kind, entry) in WITHOUT_A_KEY {
+        let found = refusal(rt.alloc(), tables_with(text, kind))?;
+        let wanted = DocFault::Entry(Spot { kind, entry }, EntryFault::MissingKey);
+        assert_eq!(rt; found, Some(wanted), "{text}");
+    }
+    Ok(())
+}
+
+const WITH_A_WRONG_KIND: [Case; 8] = [
+    ("procedure = 5\n", TableKind::Procedure, 0),
+    (
+        "procedure = [{ chart = 'MAKE' }]\n",
+        TableKind::Procedure,
+        0,
+    ),
+    ("[procedure]\nchart = 5\n", TableKind::Procedure, 0),
+    (
+        "[procedure]\nneeds = 'HDR'\nchart = 'MAKE'\n",
+        TableKind::Procedure,
+        0,
+    ),
+    (
+        "[[input]]\nname = 'I'\nvalue = '1'\nmin = 0\nmax = 2\n",
+        TableKind::Input,
+        0,
+    ),
+    (
+        "[[input]]\nname = 'I'\nvalue = 1\nmin = 0\nmax = 2\nfixed = 1\n",
+        TableKind::Input,
+        0,
+    ),
+    ("[output]\nname = 'X'\n", TableKind::Output, 0),
+    (
+        "[[phase]]\nname = 'ADD'\nneeds = ['HDR', 1]\n",
+        TableKind::Phase,
+        0,
+    ),
+];
+
+#[test]
+fn wrong_kinds(rt: HostRuntime) -> Result<(), Fail> {
+    for (text, kind, entry) in WITH_A_WRONG_KIND {
+        let found = refusal(rt.alloc(), tables_with(text, kind))?;
+        let wanted = DocFault::Entry(Spot { kind, entry }, EntryFault::WrongKind);
+        assert_eq!(rt; found, Some(wanted), "{text}");
+    }
+    Ok(())
+}
+
+const WITH_A_BAD_NAME: [Case; 9] = [
+    (
+        "[[parameter]]\nname = 'loop'\nvalue = 1\nmin = 0\nmax = 2\n",
+        TableKind::Parameter,
+        0,
+    ),
+    (
+        "[[output]]\nname = 'X'\n[[output]]\nname = 'sel'\n",
+        TableKind::Output,
+        1,
+    ),
+    (
+        "[[unit_procedure]]\nname = 'seq'\nunit = 'R1'\nchart = 'CHARGE'\n",
+        TableKind::UnitProcedure,
+        0,
+    ),
+    (
+        "[[unit_procedure]]\nname = 'MAKE'\nunit = '1'\nchart = 'CHARGE'\n",
+        TableKind::UnitProcedure,
+        0,
+    ),
+    (
+        "[[operation]]\nname = 'else'\nchart = 'ADD'\n",
+        TableKind::Operation,
+        0,
+    ),
+    ("[[phase]]\nname = 'par'\n", TableKind::Phase, 0),
+    ("[[phase]]\nname = 'skip'\n", TableKind::Phase, 0),
+    (
+        "[[phase]]\nname = 'ADD'\nruns = 'A B'\n",
+        TableKind::Phase,
+        0,
+    ),
+    (
+        "[[phase]]\nname = 'ADD'\nvalues = ['']\n",
+        TableKind::Phase,
+        0,
+    ),
+];
+
+#[test]
+fn bad_names(rt: HostRuntime) -> Result<(), Fail> {
+    for (text, kind, entry) in WITH_A_BAD_NAME {
+        let found = refusal(rt.alloc(), tables_with(text, kind))?;
+        let wanted = DocFault::Entry(Spot { kind, entry }, EntryFault::WrongKind);
+        assert_eq!(rt; found, Some(wanted), "{text}");
+    }
+    Ok(())
+}
+
+const WITH_AN_UNKNOWN_KEY: [Case; 8] = [
+    ("size = 1\n", TableKind::Recipe, 0),
+    (
+        "[[input]]\nname = 'I'\nvalue = 1\nmin = 0\nmax = 2\nunit = 'R1'\n",
+        TableKind::Input,
+        0,
+    ),
+    (
+        "[[parameter]]\nname = 'M'\nvalue = 1\nmin = 0\nmax = 2\n[[parameter]]\nname = 'N'\nvalue = 1\nmin = 0\nmax = 2\nneeds = []\n",
+        TableKind::Parameter,
+        1,
+    ),
+    ("[[output]]\nname = 'X'\nvalue = 1\n", TableKind::Output, 0),
+    (
+        "[procedure]\nchart = 'MAKE'\nname = 'A'\n",
+        TableKind::Procedure,
+        0,
+    ),
+    (
+        "[[unit_procedure]]\nname = 'MAKE'\nunit = 'R1'\nchart = 'CHARGE'\nruns = 'R1'\n",
+        TableKind::UnitProcedure,
+        0,
+    ),
+    (
+        "[[operation]]\nname = 'CHARGE'\nchart = 'ADD'\nunit = 'R1'\n",
+        TableKind::Operation,
+        0,
+    ),
+    (
+        "[[phase]]\nname = 'ADD'\nchart = 'skip'\n",
+        TableKind::Phase,
+        0,
+    ),
+];
+
+#[test]
+fn unknown_keys(rt: HostRuntime) -> Result<(), Fail> {
+    for (text, kind, entry) in WITH_AN_UNKNOWN_KEY {
+        let found = refusal(rt.alloc(), tables_with(text, kind))?;
+        let wanted = DocFault::Entry(Spot { kind, entry }, EntryFault::UnknownKey);
+        assert_eq!(rt; found, Some(wanted), "{text}");
+    }
+    Ok(())
+}
+
+const WITH_AN_UNDECLARED_NAME: [Case; 3] = [
+    ("[procedure]\nchart = 'CHARGE'\n", TableKind::Procedure, 0),
+    (
+        "[[unit_procedure]]\nname = 'MAKE'\nunit = 'R1'\nchart = 'seq(CHARGE, ADD)'\n",
+        TableKind::UnitProcedure,
+        0,
+    ),
+    (
+        "[[operation]]\nname = 'CHARGE'\nchart = 'loop(2, X > 0, ADD)'\n",
+        TableKind::Operation,
+        0,
+    ),
+];
+
+#[test]
+fn undeclared_names(rt: HostRuntime) -> Result<(), Fail> {
+    for (text, kind, entry) in WITH_AN_UNDECLARED_NAME {
+        let found = refusal(rt.alloc(), tables_with(text, kind))?;
+        let wanted = DocFault::Entry(Spot { kind, entry }, EntryFault::Undeclared);
+        assert_eq!(rt; found, Some(wanted), "{text}");
+    }
+    Ok(())
+}
+
+/// Beside the output `X`.
+const WITH_ANOTHER_NAME_THAN_X: [Case; 3] = [
+    (
+        "[[operation]]\nname = 'CHARGE'\nchart = 'sel(X = Y: ADD, else: skip)'\n",
+        TableKind::Operation,
+        0,
+    ),
+    (
+        "[[operation]]\nname = 'CHARGE'\nchart = 'ADD'\n[[operation]]\nname = 'COOK'\nchart = 'HEAT'\n",
+        TableKind::Operation,
+        1,
+    ),
+    (
+        "[[phase]]\nname = 'ADD'\nvalues = ['X', 'Y']\n",
+        TableKind::Phase,
+        0,
+    ),
+];
+
+#[test]
+fn undeclared_names_beside_an_output(rt: HostRuntime) -> Result<(), Fail> {
+    for (text, kind, entry) in WITH_ANOTHER_NAME_THAN_X {
+        let [_, procedure, unit_procedures, operations, phases] = tables_with(text, kind);
+        let output = "[[output]]\nname = 'X'\n";
+        let found = refusal(
+            rt.alloc(),
+            [output, procedure, unit_procedures, operations, phases],
+        )?;
+        let wanted = DocFault::Entry(Spot { kind, entry }, EntryFault::Undeclared);
+        assert_eq!(rt; found, Some(wanted), "{text}");
+    }
+    Ok(())
+}
+
+const WITH_A_NAME_TWICE: [Case; 6] = [
+    (
+        "[[input]]\nname = 'I'\nvalue = 1\nmin = 0\nmax = 2\n[[input]]\nname = 'I'\nvalue = 1\nmin = 0\nmax = 2\n",
+        TableKind::Input,
+        1,
+    ),
+    (
+        "[[parameter]]\nname = 'M'\nvalue = 1\nmin = 0\nmax = 2\n[[input]]\nname = 'M'\nvalue = 1\nmin = 0\nmax = 2\n",
+        TableKind::Parameter,
+        0,
+    ),
+    (
+        "[[output]]\nname = 'X'\n[[parameter]]\nname = 'X'\nvalue = 1\nmin = 0\nmax = 2\n",
+        TableKind::Output,
+        0,
+    ),
+    (
+        "[[unit_procedure]]\nname = 'MAKE'\nunit = 'R1'\nchart = 'CHARGE'\n[[unit_procedure]]\nname = 'MAKE'\nunit = 'R1'\nchart = 'skip'\n",
+        TableKind::UnitProcedure,
+        1,
+    ),
+    (
+        "[[operation]]\nname = 'CHARGE'\nchart = 'ADD'\n[[operation]]\nname = 'CHARGE'\nchart = 'ADD'\n",
+        TableKind::Operation,
+        1,
+    ),
+    (
+        "[[phase]]\nname = 'ADD'\n[[phase]]\nname = 'HEAT'\n[[phase]]\nname = 'ADD'\n",
+        TableKind::Phase,
+        2,
+    ),
+];
+
+#[test]
+fn duplicates(rt: HostRuntime) -> Result<(), Fail> {
+    for (text, kind, entry) in WITH_A_NAME_TWICE {
+        let found = refusal(rt.alloc(), tables_with(text, kind))?;
+        let wanted = DocFault::Entry(Spot { kind, entry }, EntryFault::Duplicate);
+        assert_eq!(rt; found, Some(wanted), "{text}");
+    }
+    Ok(())
+}
+
+/// The last number is the byte of the chart at which the fault is told.
+const WITH_A_BAD_CHART: [(&str, TableKind, usize, usize); 6] = [
+    (
+        "[procedure]\nchart = 'par(MAKE)'\n",
+        TableKind::Procedure,
+        0,
+        8,
+    ),
+    ("[procedure]\nchart = ''\n", TableKind::Procedure, 0, 0),
+    (
+        "[[unit_procedure]]\nname = 'MAKE'\nunit = 'R1'\nchart = 'par(CHARGE, CHARGE)'\n",
+        TableKind::UnitProcedure,
+        0,
+        3,
+    ),
+    (
+        "[[unit_procedure]]\nname = 'MAKE'\nunit = 'R1'\nchart = 'seq(CHARGE, par (CHARGE, CHARGE), par(CHARGE, skip))'\n",
+        TableKind::UnitProcedure,
+        0,
+        16,
+    ),
+    (
+        "[[operation]]\nname = 'CHARGE'\nchart = 'ADD,'\n",
+        TableKind::Operation,
+        0,
+        3,
+    ),
+    (
+        "[[operation]]\nname = 'CHARGE'\nchart = 'ADD'\n[[operation]]\nname = 'COOK'\nchart = 'sel(X = 1: ADD)'\n",
+        TableKind::Operation,
+        1,
+        14,
+    ),
+];
+
+#[test]
+fn chart_faults(rt: HostRuntime) -> Result<(), Fail> {
+    for (text, kind, entry, offset) in WITH_A_BAD_CHART {
+        let found = refusal(rt.alloc(), tables_with(text, kind))?;
+        let wanted = DocFault::Entry(Spot { kind, entry }, EntryFault::Chart(offset));
+        assert_eq!(rt; found, Some(wanted), "{text}");
+    }
+    Ok(())
+}
