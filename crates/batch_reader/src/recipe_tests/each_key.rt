@@ -8,7 +8,7 @@ version = "2.0 b"
 product = "brine"
 author = ""
 info = "é"
-basis = 1
+basis = 1000000000
 procedure = { chart = "skip", needs = [] }
 [[input]]
 name = "A"
@@ -41,7 +41,7 @@ values = ["D", "A", "B", "A"]
 "#;
 
 const TOLD: &str =
-    r#"1 [Quantity { name: "A", value: 1000000000000, min: 1000000000000, max: 1000000000000, fixed: true }] [Quantity { name: "B", value: 0, min: 0, max: 0, fixed: false }] ["C", "D"]
+    r#"1000000000 [Quantity { name: "A", value: 1000000000000, min: 1000000000000, max: 1000000000000, fixed: true }] [Quantity { name: "B", value: 0, min: 0, max: 0, fixed: false }] ["C", "D"]
 procedure ALL-1 None [] Follows(Skip)
 unit_procedure A Some("seq") [] Follows(Seq([Label("A")]))
 operation A None [] Follows(Sel([(Cond { name: "A", op: Less, term: Named("B") }, Label("A")), (Cond { name: "C", op: NotEqual, term: Named("D") }, Skip)], Label("A")))
