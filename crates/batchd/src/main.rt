@@ -9,10 +9,11 @@ mod transcript;
 mod wire;
 
 use engine::Engine;
+use std::fmt::Display;
 use std::io;
 use std::io::BufWriter;
 use std::process::ExitCode;
-use transcript::{ServeFault, serve};
+use transcript::serve;
 
 /// How often standard input may be read.
 const MAX_READS: u64 = 1_000_000_000;
@@ -33,10 +34,16 @@ fn serve_demo(rt: HostRuntime) -> ExitCode {
     let mut engine = Engine::demo(alloc);
     let mut input = rt.stdin();
     let Ok(mut output) = BufWriter::with_capacity(alloc, OUTPUT_ROOM, io::writer(&rt)) else {
-        return ExitCode::from(4);
+        return complain(&rt, "out of memory", 4);
     };
     match serve(alloc, &mut engine, &mut input, &mut output, MAX_READS) {
         Ok(()) => ExitCode::SUCCESS,
-        Err(ServeFault::Read | ServeFault::Write | ServeFault::TooManyReads) => ExitCode::from(3),
+        Err(fault) => complain(&rt, fault, 3),
     }
+}
+
+/// Ends with the status. A fault that can't be written to standard error changes nothing about it.
+fn complain<F: Display + Drop>(rt: &HostRuntime, fault: F, status: u8) -> ExitCode {
+    let _ = rt.eprintln(fault);
+    ExitCode::from(status)
 }

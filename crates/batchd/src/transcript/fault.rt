@@ -7,11 +7,11 @@ use thiserror::Error;
 /// Why serving stopped.
 #[derive(Clone, Copy, Debug, PartialEq, Eq, Error)]
 pub enum ServeFault {
-    #[error("the reader failed")]
+    #[error("the input can't be read")]
     Read,
-    #[error("the writer failed")]
+    #[error("the output can't be written")]
     Write,
-    #[error("the reader was called as often as it may be")]
+    #[error("the input was read as often as it may be")]
     TooManyReads,
 }
 
