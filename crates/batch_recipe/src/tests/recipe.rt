@@ -62,9 +62,10 @@ fn gives_values_to_a_batch(rt: HostRuntime) -> Result<(), Fail> {
     let scaled = recipe(alloc, false)?;
     assert_eq!(rt; quantity_of(alloc, &scaled, 500), Ok(Some(167)));
     assert_eq!(rt; quantity_of(alloc, &scaled, 1503), Ok(Some(500)));
+    let quantity = Name::read(alloc, b"QTY")?;
     assert_eq!(rt;
         quantity_of(alloc, &scaled, 1504),
-        Err(FormulaFault::OutOfRange(0))
+        Err(FormulaFault::OutOfRange(&quantity))
     );
     assert_eq!(rt; quantity_of(alloc, &scaled, 0), Err(FormulaFault::Size));
     let fixed = recipe(alloc, true)?;
@@ -76,7 +77,7 @@ fn name_at(recipe: &Recipe, node: u16) -> Option<&str> {
     act_at(recipe, node).map(|act| act.name.text())
 }
 
-fn quantity_of(alloc: Global, recipe: &Recipe, size: u64) -> Result<Option<u64>, FormulaFault> {
+fn quantity_of(alloc: Global, recipe: &Recipe, size: u64) -> Result<Option<u64>, FormulaFault<'_>> {
     let name = Name::read(alloc, b"QTY")?;
     Ok(formula(alloc, recipe, size)?.value_of(&name))
 }
