@@ -2,7 +2,7 @@
 use crate::tests::parts::{above_zero, act, label, labels, step, table};
 use crate::{
     Act, Acts, Chart, Level, MAX_NODES, act_named, acts_stand_at_their_nodes, count_nodes,
-    nodes_are_counted, places_rise,
+    nodes_are_counted, places_rise, scaled_values_are_nearest,
 };
 use batch_text::Name;
 use std::alloc::Global;
@@ -65,6 +65,7 @@ fn laws_are_called() {
     places_rise();
     nodes_are_counted();
     acts_stand_at_their_nodes();
+    scaled_values_are_nearest();
 }
 
 fn first_name(table: &[Act]) -> Option<&str> {
