@@ -1,9 +1,10 @@
 -- Worked rows: which recipes are cleared.
-use Rattle.std.specs.Prelude.{List, [], ◌∷◌, true, false, codes}
-use Rattle.batch_recipe.specs.Conditions.{same_name}
-use Rattle.batch_recipe.specs.Diagram.{label, skip, par, loop, diagrams_of}
+use Rattle.std.specs.Prelude.{◌<◌, List, [], ◌∷◌, length, true, false, codes}
+use Rattle.batch_recipe.specs.Conditions.{Name, same_name}
+use Rattle.batch_recipe.specs.Diagram.{Diagram, label, skip, seq, par, sel, loop, otherwise, when, diagrams_of}
 use Rattle.batch_model.specs.Plant.{Recipe, Documents}
-use Rattle.batch_model.specs.RowDocuments.{r1, r2, hdr, steam, add, make, charge, Entry, phase_step, chart_act, recipe_with, recipe_with_x, add_step, making, x_above_0, recipe_p, recipe_q, recipe_j, cell, narrow_cell}
+use Rattle.batch_model.specs.RowDocuments.{r1, r2, hdr, steam, add, make, charge, Entry, phase_step, chart_act, recipe_with, recipe_with_x, add_step, making, x_above_0, x_is_1, recipe_p, recipe_q, recipe_j, cell, narrow_cell}
+use Rattle.batch_model.specs.Demo as demo
 use Rattle.batch_model.specs.Cleared.{Cell, Ranking, IsCleared, CanBeCleared}
 
 -- the demo cell
@@ -20,6 +21,14 @@ narrow = record narrow_cell { recipes = recipe_p ∷ recipe_q ∷ [] }
 -- the units before the header and steam
 abbrev pub units_first : Ranking
 units_first r = elim (same_name r r1) [ true ↦ 1 | false ↦ elim (same_name r r2) [ true ↦ 1 | false ↦ 2 ] ]
+
+-- the ranking that has the units first clears them
+abbrev pub AreCleared : List Recipe → Type 0
+AreCleared recipes = IsCleared equipment (with_recipes recipes) units_first
+
+-- no ranking clears them
+abbrev pub AreRefused : List Recipe → Type 0
+AreRefused recipes = (rank : Ranking) → ¬ (IsCleared equipment (with_recipes recipes) rank)
 
 abbrev pub CrossedBranchesAreCleared : Type 0
 CrossedBranchesAreCleared = IsCleared equipment narrow units_first
@@ -76,3 +85,103 @@ recipe_idle = recipe_with_x (codes "IDLE") (making (codes "IDLE") charge [] (loo
 
 abbrev pub EveryTurnRunsAPhase : Type 0
 EveryTurnRunsAPhase = CanBeCleared equipment (with_recipes (recipe_idle ∷ [])) → ⊥
+
+-- The turns of a loop
+
+-- three turns at most, which follow a chart of the step ADD
+abbrev pub turns : Diagram → Recipe
+turns body = recipe_with_x (codes "TURNS") (making (codes "TURNS") charge (add_step r1 ∷ []) (loop 3 x_above_0 body))
+
+abbrev pub FirstBranchRunsNothing : Type 0
+FirstBranchRunsNothing = AreRefused (turns (sel (when x_is_1 skip (otherwise (label add)))) ∷ [])
+
+abbrev pub LastBranchRunsNothing : Type 0
+LastBranchRunsNothing = AreRefused (turns (sel (when x_is_1 (label add) (otherwise skip))) ∷ [])
+
+abbrev pub EachBranchRunsAPhase : Type 0
+EachBranchRunsAPhase = AreCleared (turns (sel (when x_is_1 (label add) (otherwise (label add)))) ∷ [])
+
+abbrev pub OneOfASeqRunsAPhase : Type 0
+OneOfASeqRunsAPhase = AreCleared (turns (seq (diagrams_of (skip ∷ label add ∷ []))) ∷ [])
+
+abbrev pub NoneOfASeqRunsAPhase : Type 0
+NoneOfASeqRunsAPhase = AreRefused (turns (seq (diagrams_of (skip ∷ skip ∷ []))) ∷ [])
+
+abbrev pub OneOfAParRunsAPhase : Type 0
+OneOfAParRunsAPhase = AreCleared (turns (par (diagrams_of (skip ∷ label add ∷ []))) ∷ [])
+
+abbrev pub NoneOfAParRunsAPhase : Type 0
+NoneOfAParRunsAPhase = AreRefused (turns (par (diagrams_of (skip ∷ skip ∷ []))) ∷ [])
+
+abbrev pub TurnsWithinTurns : Type 0
+TurnsWithinTurns = AreCleared (turns (loop 3 x_is_1 (label add)) ∷ [])
+
+-- three turns of an operation at most, which follows a chart of the step ADD
+abbrev pub operation_turns : Diagram → Recipe
+operation_turns d =
+    recipe_with_x (codes "TURNS")
+    (chart_act (codes "TURNS") []
+    (chart_act make (r1 ∷ []) (chart_act charge [] (add_step r1 ∷ []) d ∷ []) (loop 3 x_above_0 (label charge)) ∷ [])
+    (label make))
+
+abbrev pub OperationRunsAPhase : Type 0
+OperationRunsAPhase = AreCleared (operation_turns (label add) ∷ [])
+
+abbrev pub OperationMayRunNothing : Type 0
+OperationMayRunNothing = AreRefused (operation_turns (sel (when x_is_1 (label add) (otherwise skip))) ∷ [])
+
+-- What a cell has
+
+-- one phase, with needs of the procedure, further ones of the unit procedure, and those of the operation and of the phase step
+abbrev pub recipe_needing : List Name → List Name → List Name → List Name → Recipe
+recipe_needing of_procedure of_unit_procedure of_operation of_step =
+    recipe_with (codes "NEEDS") [] []
+    (chart_act (codes "NEEDS") of_procedure
+    (chart_act make (r1 ∷ of_unit_procedure) (chart_act charge of_operation (phase_step add of_step r1 add [] ∷ []) (label add) ∷ []) (label charge)
+    ∷ [])
+    (label make))
+
+-- no resource of the cell
+abbrev pub water : Name
+water = codes "WATER"
+
+abbrev pub ProcedureNeedsWater : Type 0
+ProcedureNeedsWater = AreRefused (recipe_needing (water ∷ []) [] [] [] ∷ [])
+
+abbrev pub UnitProcedureNeedsWater : Type 0
+UnitProcedureNeedsWater = AreRefused (recipe_needing [] (water ∷ []) [] [] ∷ [])
+
+abbrev pub OperationNeedsWater : Type 0
+OperationNeedsWater = AreRefused (recipe_needing [] [] (water ∷ []) [] ∷ [])
+
+abbrev pub StepNeedsWater : Type 0
+StepNeedsWater = AreRefused (recipe_needing [] [] [] (water ∷ []) ∷ [])
+
+-- a unit procedure on a resource, with nothing to do
+abbrev pub recipe_resting_on : Name → Recipe
+recipe_resting_on resource =
+    recipe_with (codes "RESTS") [] [] (chart_act (codes "RESTS") [] (chart_act make (resource ∷ []) [] skip ∷ []) (label make))
+
+abbrev pub UnitIsAUnit : Type 0
+UnitIsAUnit = AreCleared (recipe_resting_on r1 ∷ [])
+
+abbrev pub HeaderAsUnit : Type 0
+HeaderAsUnit = AreRefused (recipe_resting_on hdr ∷ [])
+
+-- a phase that no unit offers
+abbrev pub mix : Name
+mix = codes "MIX"
+
+abbrev pub PhaseIsNotOffered : Type 0
+PhaseIsNotOffered = AreRefused (recipe_with mix [] [] (making mix charge (phase_step mix [] r1 mix [] ∷ []) (label mix)) ∷ [])
+
+-- Sets of recipes
+
+abbrev pub DemoIsCleared : Type 0
+DemoIsCleared = AreCleared (demo.recipe ∷ [])
+
+abbrev pub SameRecipeTwice : Type 0
+SameRecipeTwice = AreRefused (demo.recipe ∷ demo.recipe ∷ [])
+
+abbrev pub MoreThan256Recipes : Type 0
+MoreThan256Recipes = (recipes : List Recipe) → 256 < length recipes → AreRefused recipes

@@ -14,6 +14,26 @@ ghost use Rattle.batch_model.specs.RowsOfClearance.{
   EqualRanks,
   SamePhaseInParallel,
   EveryTurnRunsAPhase,
+  FirstBranchRunsNothing,
+  LastBranchRunsNothing,
+  EachBranchRunsAPhase,
+  OneOfASeqRunsAPhase,
+  NoneOfASeqRunsAPhase,
+  OneOfAParRunsAPhase,
+  NoneOfAParRunsAPhase,
+  TurnsWithinTurns,
+  OperationRunsAPhase,
+  OperationMayRunNothing,
+  ProcedureNeedsWater,
+  UnitProcedureNeedsWater,
+  OperationNeedsWater,
+  StepNeedsWater,
+  UnitIsAUnit,
+  HeaderAsUnit,
+  PhaseIsNotOffered,
+  DemoIsCleared,
+  SameRecipeTwice,
+  MoreThan256Recipes,
 };
 
 /// The parts that clearance looks at are all nodes of the tree, in their order.
@@ -53,4 +73,52 @@ pub fn same_phase_in_parallel()
 /// A loop may not have a turn that runs no phase.
 pub fn every_turn_runs_a_phase()
     ensures { EveryTurnRunsAPhase }
+{}
+
+/// In a turn that is a choice each branch runs a phase.
+pub fn each_branch_runs_a_phase()
+    ensures first { FirstBranchRunsNothing }
+    ensures last { LastBranchRunsNothing }
+    ensures both { EachBranchRunsAPhase }
+{}
+
+/// In a turn of several parts, one after the other or side by side, one of them runs a phase.
+pub fn one_part_runs_a_phase()
+    ensures one_in_turn { OneOfASeqRunsAPhase }
+    ensures none_in_turn { NoneOfASeqRunsAPhase }
+    ensures one_at_once { OneOfAParRunsAPhase }
+    ensures none_at_once { NoneOfAParRunsAPhase }
+    ensures within { TurnsWithinTurns }
+{}
+
+/// A turn that is an act runs a phase just where every way through the act's own chart does.
+pub fn act_runs_what_its_chart_runs()
+    ensures phase { OperationRunsAPhase }
+    ensures nothing { OperationMayRunNothing }
+{}
+
+/// No act of any level needs what the cell doesn't have.
+pub fn unknown_need()
+    ensures procedure { ProcedureNeedsWater }
+    ensures unit_procedure { UnitProcedureNeedsWater }
+    ensures operation { OperationNeedsWater }
+    ensures step { StepNeedsWater }
+{}
+
+/// A unit procedure runs on a unit, and on no other resource.
+pub fn header_as_unit()
+    ensures unit { UnitIsAUnit }
+    ensures header { HeaderAsUnit }
+{}
+
+/// A phase step runs a phase that its unit offers.
+pub fn phase_is_not_offered()
+    ensures { PhaseIsNotOffered }
+{}
+
+/// The demo recipe is cleared alone, and not beside another of its name; nor are more than 256 recipes.
+pub fn sets_of_recipes()
+    ensures demo { DemoIsCleared }
+    ensures twice { SameRecipeTwice }
+    ensures too_many { MoreThan256Recipes }
 {}

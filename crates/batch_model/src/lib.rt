@@ -10,8 +10,10 @@ mod limits;
 mod rows;
 
 pub use clearance::{
-    crossed_branches_are_cleared, else_branch_has_the_circle, every_turn_runs_a_phase,
-    opposite_orders, parts_are_nodes, same_phase_in_parallel, same_resource_twice,
+    act_runs_what_its_chart_runs, crossed_branches_are_cleared, each_branch_runs_a_phase,
+    else_branch_has_the_circle, every_turn_runs_a_phase, header_as_unit, one_part_runs_a_phase,
+    opposite_orders, parts_are_nodes, phase_is_not_offered, same_phase_in_parallel,
+    same_resource_twice, sets_of_recipes, unknown_need,
 };
 pub use laws::{
     acts_have_one_move, acts_rise, advances_fully, advances_without_taking, last_line_tells,
