@@ -2,7 +2,7 @@
 ghost use Rattle.std.specs.Prelude.{◌≡◌, ◌≢◌, ◌≤◌, true, length, IfErr, OnOk};
 ghost use Rattle.std.specs.List.{list_all};
 ghost use Rattle.batch_recipe.specs.Procedure.{procedure_nodes};
-ghost use Rattle.batch_recipe.specs.WellFormed.{act_names, are_kinds, is_among, is_work};
+ghost use Rattle.batch_recipe.specs.WellFormed.{act_names, is_among, is_work};
 ghost use Rattle.batch_recipe.specs.declared.recipe.TheConstants.{MAX_NODES};
 ghost use Rattle.batch_reader.specs.Naming.{acts_are_declared};
 ghost use Rattle.batch_reader.specs.FormedActs.{AreFormed, AreFormedActs, IsFormedWork};
@@ -25,8 +25,7 @@ pub(crate) fn check_recipe(
     outputs: &[Name],
     acts: &Acts,
 ) -> Result<(), TableFault>
-    requires kinds { are_kinds acts.now ≡ true }
-    requires formed { AreFormed acts.now }
+    requires { AreFormed acts.now }
     ensures ok { OnOk result (IsSoundRecipe inputs.now parameters.now outputs.now acts.now) }
     ensures refused { IfErr result (λ fault. fault ≢ TableFault.Memory
         → ¬ (IsSoundRecipe inputs.now parameters.now outputs.now acts.now)) }

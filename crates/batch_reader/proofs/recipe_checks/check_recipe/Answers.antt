@@ -13,7 +13,7 @@ returns-in_err-check_acts-clause-refused c =
     let values = value_names c.args.inputs.now c.args.parameters.now c.args.outputs.now in
     let P : List Name → Type 0 = λ names. acts_are_declared names c.args.acts.now ≡ true in
     rw (p.1, p.2) (λ _ sound. c.in_err-check_acts.ensures.refused (subst P (sym c.in_ok-names.ensures.values)
-    (both_true (names_differ values c.args.acts.now) _ (sym (well_formed_parts values c.args.acts.now c.requires.formed.no_par) ∙ sound.well_formed)).1))
+    (both_true (names_differ values c.args.acts.now) _ (sym (well_formed_parts values c.args.acts.now c.requires.no_par) ∙ sound.well_formed)).1))
 
 pub returns-clause-ok : goal.returns-clause-ok
 returns-clause-ok c =
@@ -30,7 +30,7 @@ returns-clause-ok c =
       few_operations = omega (arith, c.in_ok-check_count-5.ensures.ok.1, c.len-2.ensures, c.args.acts.now.operations.ok.0);
       some_phases = omega (arith, c.in_ok-check_count-6.ensures.ok.0, c.len-3.ensures, c.args.acts.now.phases.ok.0);
       few_phases = omega (arith, c.in_ok-check_count-6.ensures.ok.1, c.len-3.ensures, c.args.acts.now.phases.ok.0);
-      well_formed = well_formed_parts values c.args.acts.now c.requires.formed.no_par
+      well_formed = well_formed_parts values c.args.acts.now c.requires.no_par
           ∙ and_true (names_differ values c.args.acts.now) (acts_are_declared values c.args.acts.now) c.in_ok-names.ensures.differ declared;
       small = small;
     }) c.check_nodes.ensures.ok

@@ -24,11 +24,8 @@ returns-in_err-outputs-clause-refused c =
     let p = err_from_is_err_and c.from_residual-in_err-outputs.result c.from_residual-in_err-outputs.ensures.1 in
     rw (p.1, p.2) (λ known recipe h. c.in_err-outputs.ensures.refused known recipe.outputs.items h.outputs)
 
-pub check_recipe-requires-clause-kinds : goal.check_recipe-requires-clause-kinds
-check_recipe-requires-clause-kinds c = kinds_of_tables _ c.in_ok-acts.acts c.in_ok-acts.ensures.ok
-
-pub check_recipe-requires-clause-formed : goal.check_recipe-requires-clause-formed
-check_recipe-requires-clause-formed c = formed_of_tables _ c.in_ok-acts.acts c.in_ok-acts.ensures.ok
+pub check_recipe-requires : goal.check_recipe-requires
+check_recipe-requires c = formed_of_tables _ c.in_ok-acts.acts c.in_ok-acts.ensures.ok
 
 pub returns-in_err-check_recipe-clause-refused : goal.returns-in_err-check_recipe-clause-refused
 returns-in_err-check_recipe-clause-refused c =
