@@ -1,9 +1,10 @@
 //! Cell documents.
-ghost use Rattle.std.specs.Prelude.{◌≡◌, ◌≢◌, IfOk, IfErr, IsErrOf, IsSome, IsUtf8};
+ghost use Rattle.std.specs.Prelude.{◌≡◌, ◌≢◌, ◌<◌, Err, length, IfOk, IfErr, IsErrOf, IsSome, IsUtf8};
 ghost use Rattle.toml.specs.Parse.{parse_document};
 ghost use Rattle.toml.specs.View.{table_view};
 ghost use Rattle.batch_cell.specs.declared.cell.Cell.{Cell};
 ghost use Rattle.batch_reader.specs.CellDocument.{IsCellTable, IsCellDocument};
+ghost use Rattle.batch_reader.specs.declared.document.TheConstants.{MAX_DOCUMENT_LEN};
 
 use crate::document::{document_fault, table_of};
 use crate::entries::{has_only_keys, name_at};
@@ -25,6 +26,8 @@ pub fn read_cell(alloc: Global, bytes: &[u8]) -> Result<Cell, DocFault>
     ensures not_toml { IsErrOf result DocFault.NotToml → ¬ (IsUtf8 bytes.now × IsSome (parse_document bytes.now)) }
     ensures refused { IfErr result (λ fault. fault ≢ DocFault.Memory
         → (cell : Cell) → ¬ (IsCellDocument bytes.now cell)) }
+    ensures long { MAX_DOCUMENT_LEN < length bytes.now
+        → result ≡ Err (DocFault.Entry (record { kind = TableKind.Cell; entry = 0 }) EntryFault.OutOfLimit) }
 {
     let table = table_of(alloc, bytes, TOP)?;
     match cell_from_table(alloc, &table) {

@@ -1,13 +1,14 @@
 //! Recipe documents.
-ghost use Rattle.std.specs.Prelude.{◌≡◌, ◌≢◌, true, IfOk, IfErr, IsErrOf, IsSome, IsUtf8};
+ghost use Rattle.std.specs.Prelude.{◌≡◌, ◌≢◌, ◌<◌, true, Err, codes, length, IfOk, IfErr, IsErrOf, IsSome, IsUtf8};
 ghost use Rattle.toml.specs.Parse.{parse_document};
 ghost use Rattle.toml.specs.View.{table_view};
 ghost use Rattle.batch_recipe.specs.declared.acts.Acts.{Acts};
 ghost use Rattle.batch_recipe.specs.declared.header.Header.{Header};
 ghost use Rattle.batch_recipe.specs.declared.recipe.Recipe.{Recipe};
-ghost use Rattle.batch_reader.specs.Entries.{has_only_keys};
+ghost use Rattle.batch_reader.specs.Entries.{HasName, has_only_keys};
 ghost use Rattle.batch_reader.specs.RecipeTables.{HasHeader};
 ghost use Rattle.batch_reader.specs.RecipeDocument.{HasActs, IsRecipeTable, IsRecipeDocument, recipe_keys};
+ghost use Rattle.batch_reader.specs.declared.document.TheConstants.{MAX_DOCUMENT_LEN};
 
 use crate::act_tables::procedure_at;
 use crate::document::{document_fault, table_of};
@@ -32,6 +33,8 @@ pub fn read_recipe(alloc: Global, bytes: &[u8]) -> Result<Recipe, DocFault>
     ensures not_toml { IsErrOf result DocFault.NotToml → ¬ (IsUtf8 bytes.now × IsSome (parse_document bytes.now)) }
     ensures refused { IfErr result (λ fault. fault ≢ DocFault.Memory
         → (recipe : Recipe) → ¬ (IsRecipeDocument bytes.now recipe)) }
+    ensures long { MAX_DOCUMENT_LEN < length bytes.now
+        → result ≡ Err (DocFault.Entry (record { kind = TableKind.Recipe; entry = 0 }) EntryFault.OutOfLimit) }
 {
     let table = table_of(alloc, bytes, TOP)?;
     match recipe_from_table(alloc, &table) {
@@ -48,12 +51,13 @@ fn recipe_from_table(alloc: Global, table: &Table) -> Result<Recipe, TableFault>
     if !has_recipe_keys(table) {
         return Err(TableFault::Entry(TOP, EntryFault::UnknownKey));
     }
+    let name = name_at(alloc, table, "recipe", TOP)?;
     let header = header_at(alloc, table)?;
     let basis = number_at(table, "basis", 1, MAX_SIZE, TOP)?;
     let inputs = tables_at::<Quantity>(alloc, table, "input", TableKind::Input)?;
     let parameters = tables_at::<Quantity>(alloc, table, "parameter", TableKind::Parameter)?;
     let outputs = tables_at::<Name>(alloc, table, "output", TableKind::Output)?;
-    let acts = acts_at(alloc, table)?;
+    let acts = acts_at(alloc, table, name)?;
     check_recipe(alloc, &inputs, &parameters, &outputs, &acts)?;
     Ok(Recipe {
         header,
@@ -107,13 +111,13 @@ fn header_at(alloc: Global, table: &Table) -> Result<Header, TableFault>
     })
 }
 
-/// The acts, each as its table says.
-fn acts_at(alloc: Global, table: &Table) -> Result<Acts, TableFault>
+/// The acts, each as its table says. The procedure gets the recipe's name.
+fn acts_at(alloc: Global, table: &Table, name: Name) -> Result<Acts, TableFault>
+    requires { HasName (codes "recipe") (table_view table.now) name }
     ensures ok { IfOk result (HasActs (table_view table.now)) }
     ensures refused { IfErr result (λ fault. fault ≢ TableFault.Memory
         → (acts : Acts) → ¬ (HasActs (table_view table.now) acts)) }
 {
-    let name = name_at(alloc, table, "recipe", TOP)?;
     let procedure = procedure_at(alloc, table, name)?;
     let unit_procedures = tables_at::<Act>(
         alloc,

@@ -79,6 +79,19 @@ fn tops(rt: HostRuntime) {
     }
 }
 
+/// The input is at fault too.
+#[test]
+fn tops_come_first(rt: HostRuntime) {
+    let text = "version = '1'\nbasis = 1\n[[input]]\nname = 5\n";
+    let top = Spot {
+        kind: TableKind::Recipe,
+        entry: 0,
+    };
+    let wanted = DocFault::Entry(top, EntryFault::MissingKey);
+    let found = read_recipe(rt.alloc(), text.as_bytes()).err();
+    assert_eq!(rt; found, Some(wanted));
+}
+
 const WITHOUT_A_KEY: [Case; 12] = [
     ("", TableKind::Procedure, 0),
     ("[procedure]\n", TableKind::Procedure, 0),

@@ -3,7 +3,7 @@ use Rattle.batch_reader.proofs.recipe_document.acts_at.Goals as goal
 
 pub returns-in_err-procedure-clause-refused : goal.returns-in_err-procedure-clause-refused
 returns-in_err-procedure-clause-refused c =
-    let p = err_from_is_err_and c.from_residual-in_err-procedure.result c.from_residual-in_err-procedure.ensures.1 in
+    let p = err_from_is_err_and c.from_residual.result c.from_residual.ensures.1 in
     rw (p.1, p.2) (λ known acts h. c.in_err-procedure.ensures.refused known acts.procedure h.procedure)
 
 pub returns-in_err-unit_procedures-clause-refused : goal.returns-in_err-unit_procedures-clause-refused

@@ -4,6 +4,11 @@ use Rattle.batch_reader.proofs.RecipeParts.{kinds_of_tables, formed_of_tables, f
 use Rattle.batch_reader.specs.SoundRecipe.{IsSoundRecipe}
 use Rattle.batch_reader.proofs.recipe_document.recipe_from_table.Goals as goal
 
+pub returns-in_err-name-clause-refused : goal.returns-in_err-name-clause-refused
+returns-in_err-name-clause-refused c =
+    let p = err_from_is_err_and c.from_residual.result c.from_residual.ensures.1 in
+    rw (p.1, p.2) (λ known recipe h. c.in_err-name.ensures.refused known recipe.acts.procedure.name h.acts.name)
+
 pub returns-in_err-basis-clause-refused : goal.returns-in_err-basis-clause-refused
 returns-in_err-basis-clause-refused c =
     let p = err_from_is_err_and c.from_residual-in_err-basis.result c.from_residual-in_err-basis.ensures.1 in
