@@ -1,10 +1,11 @@
 //! Cell documents that are taken, and what is looked up in their cells.
 use crate::read_cell;
 use batch_text::Name;
+use std::alloc::{AllocError, Global};
 use std::test::Fail;
 
-/// The cell of the worked examples.
-pub(crate) const DEMO: &str = "cell = \"DEMO\"
+/// The cell of the worked examples, up to the capacity of its steam.
+const DEMO: &str = "cell = \"DEMO\"
 [[unit]]
 name = \"R1\"
 [[unit]]
@@ -22,8 +23,12 @@ name = \"HDR\"
 capacity = 1
 [[shared]]
 name = \"STEAM\"
-capacity = 2
-";
+capacity = ";
+
+/// The cell of the worked examples, whose steam has this capacity.
+pub(crate) fn demo(alloc: Global, steam: &str) -> Result<String, AllocError> {
+    format!(in alloc; "{DEMO}{steam}\n")
+}
 
 /// A unit with two modules, and a free module.
 const FREE: &str = "cell = \"C\"
@@ -46,26 +51,28 @@ capacity = 1000
 
 #[test]
 fn reads_each_field(rt: HostRuntime) -> Result<(), Fail> {
-    let cell = read_cell(rt.alloc(), DEMO.as_bytes())?;
-    assert_eq!(rt; cell.name.text(), "DEMO");
-    let units = ["R1", "R2"];
-    assert_eq!(rt; cell.units.len(), 2);
-    for (unit, name) in cell.units.iter().zip(units) {
-        assert_eq!(rt; unit.name.text(), name);
-    }
-    assert_eq!(rt; cell.modules.len(), 2);
-    for (module, (name, unit)) in cell.modules.iter().zip([("M1", "R1"), ("M2", "R2")]) {
-        assert_eq!(rt; module.name.text(), name);
-        assert!(rt; module.unit.as_ref().is_some_and(|own| own.text() == unit));
-        assert_eq!(rt; module.phases.len(), 3);
-        for (phase, name) in module.phases.iter().zip(["ADD", "HEAT", "DRAIN"]) {
-            assert_eq!(rt; phase.text(), name);
+    for (written, steam) in [("2", 2), ("1", 1)] {
+        let text = demo(rt.alloc(), written)?;
+        let cell = read_cell(rt.alloc(), text.as_bytes())?;
+        assert_eq!(rt; cell.name.text(), "DEMO");
+        assert_eq!(rt; cell.units.len(), 2);
+        for (unit, name) in cell.units.iter().zip(["R1", "R2"]) {
+            assert_eq!(rt; unit.name.text(), name);
         }
-    }
-    assert_eq!(rt; cell.shared.len(), 2);
-    for (shared, (name, capacity)) in cell.shared.iter().zip([("HDR", 1), ("STEAM", 2)]) {
-        assert_eq!(rt; shared.name.text(), name);
-        assert_eq!(rt; shared.capacity, capacity);
+        assert_eq!(rt; cell.modules.len(), 2);
+        for (module, (name, unit)) in cell.modules.iter().zip([("M1", "R1"), ("M2", "R2")]) {
+            assert_eq!(rt; module.name.text(), name);
+            assert!(rt; module.unit.as_ref().is_some_and(|own| own.text() == unit));
+            assert_eq!(rt; module.phases.len(), 3);
+            for (phase, name) in module.phases.iter().zip(["ADD", "HEAT", "DRAIN"]) {
+                assert_eq!(rt; phase.text(), name);
+            }
+        }
+        assert_eq!(rt; cell.shared.len(), 2);
+        for (shared, (name, capacity)) in cell.shared.iter().zip([("HDR", 1), ("STEAM", steam)]) {
+            assert_eq!(rt; shared.name.text(), name);
+            assert_eq!(rt; shared.capacity, capacity);
+        }
     }
     Ok(())
 }

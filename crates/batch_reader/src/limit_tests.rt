@@ -1,5 +1,5 @@
 //! Cell documents at their limits, and one past them.
-use crate::cell_tests::DEMO;
+use crate::cell_tests::demo;
 use crate::{DocFault, EntryFault, MAX_DOCUMENT_LEN, Spot, TableKind, read_cell};
 use std::alloc::{AllocError, Global};
 use std::test::Fail;
@@ -87,23 +87,24 @@ fn numbers_of_phases(rt: HostRuntime) -> Result<(), Fail> {
 #[test]
 fn capacities(rt: HostRuntime) -> Result<(), Fail> {
     let alloc = rt.alloc();
-    let head = format!(in alloc;
-        "{HEAD}[[shared]]\nname = \"HDR\"\ncapacity = 1\n[[shared]]\nname = \"STEAM\"\ncapacity = "
-    )?;
     for capacity in ["1", "1000"] {
-        let text = format!(in alloc; "{head}{capacity}\n")?;
-        assert!(rt; takes(rt.alloc(), text.as_str()));
+        let text = demo(alloc, capacity)?;
+        assert!(rt; takes(alloc, text.as_str()), "{capacity}");
     }
     for capacity in ["0", "1001", "-1"] {
-        let text = format!(in alloc; "{head}{capacity}\n")?;
-        assert!(rt; refuses(rt.alloc(), text.as_str(), TableKind::Shared, 1));
+        let text = demo(alloc, capacity)?;
+        assert!(rt;
+            refuses(alloc, text.as_str(), TableKind::Shared, 1),
+            "{capacity}"
+        );
     }
     Ok(())
 }
 
 #[test]
 fn lengths_of_documents(rt: HostRuntime) -> Result<(), Fail> {
-    let mut text = format!(in rt.alloc(); "{DEMO}#")?;
+    let mut text = demo(rt.alloc(), "2")?;
+    text.push('#')?;
     for _ in text.len()..MAX_DOCUMENT_LEN {
         text.push('#')?;
     }

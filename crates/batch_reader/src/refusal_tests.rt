@@ -1,5 +1,5 @@
 //! Cell documents that are refused, each for one fault.
-use crate::cell_tests::DEMO;
+use crate::cell_tests::demo;
 use crate::{DocFault, EntryFault, Spot, TableKind, read_cell};
 use std::alloc::Global;
 use std::test::Fail;
@@ -206,7 +206,8 @@ fn names_twice(rt: HostRuntime) -> Result<(), Fail> {
         ),
     ];
     assert!(rt; refuses_below_head(rt.alloc(), &cases, EntryFault::Duplicate)?);
-    let more = format!(in rt.alloc(); "{DEMO}[[shared]]\nname = \"HDR\"\ncapacity = 1\n")?;
+    let mut more = demo(rt.alloc(), "2")?;
+    more.push_str("[[shared]]\nname = \"HDR\"\ncapacity = 1\n")?;
     assert!(rt;
         refuses(
             rt.alloc(),

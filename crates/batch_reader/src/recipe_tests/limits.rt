@@ -134,20 +134,52 @@ fn numbers_of_tables(rt: HostRuntime) -> Result<(), Fail> {
     Ok(())
 }
 
+/// The front of a table up to the items of a list, an item, how many there may be, and the other tables.
+const LISTS: [(&str, &str, usize, [&str; 4], TableKind); 5] = [
+    (
+        "[procedure]\nchart = 'MAKE'\nneeds = [",
+        "'HDR', ",
+        16,
+        [MAKE, CHARGE, ADD, ""],
+        TableKind::Procedure,
+    ),
+    (
+        "[[unit_procedure]]\nname = 'MAKE'\nunit = 'R1'\nchart = 'CHARGE'\nneeds = [",
+        "'HDR', ",
+        16,
+        [PROCEDURE, CHARGE, ADD, ""],
+        TableKind::UnitProcedure,
+    ),
+    (
+        "[[operation]]\nname = 'CHARGE'\nchart = 'ADD'\nneeds = [",
+        "'HDR', ",
+        16,
+        [PROCEDURE, MAKE, ADD, ""],
+        TableKind::Operation,
+    ),
+    (
+        "[[phase]]\nname = 'ADD'\nneeds = [",
+        "'HDR', ",
+        16,
+        [PROCEDURE, MAKE, CHARGE, ""],
+        TableKind::Phase,
+    ),
+    (
+        "[[phase]]\nname = 'ADD'\nvalues = [",
+        "'X', ",
+        4,
+        [PROCEDURE, MAKE, CHARGE, OUTPUT],
+        TableKind::Phase,
+    ),
+];
+
 #[test]
 fn lengths_of_lists(rt: HostRuntime) -> Result<(), Fail> {
-    let rest = [PROCEDURE, MAKE, CHARGE, OUTPUT];
-    for (head, piece, most) in [
-        ("[[phase]]\nname = 'ADD'\nneeds = [", "'HDR', ", 16),
-        ("[[phase]]\nname = 'ADD'\nvalues = [", "'X', ", 4),
-    ] {
-        let texts = [head, piece, "]\n"];
+    for (head, item, most, rest, kind) in LISTS {
+        let texts = [head, item, "]\n"];
+        assert!(rt; fits_with(rt.alloc(), texts, most, rest, kind)?, "{head}");
         assert!(rt;
-            fits_with(rt.alloc(), texts, most, rest, TableKind::Phase)?,
-            "{head}"
-        );
-        assert!(rt;
-            !fits_with(rt.alloc(), texts, most + 1, rest, TableKind::Phase)?,
+            !fits_with(rt.alloc(), texts, most + 1, rest, kind)?,
             "{head}"
         );
     }
@@ -173,11 +205,28 @@ fn lengths_of_texts(rt: HostRuntime) -> Result<(), Fail> {
 
 #[test]
 fn lengths_of_charts(rt: HostRuntime) -> Result<(), Fail> {
+    assert_eq!(rt; MAX_CHART_LEN, 16_384);
     let texts = ["[[operation]]\nname = 'CHARGE'\nchart = 'ADD", " ", "'\n"];
     let rest = [PROCEDURE, MAKE, ADD, ""];
-    let most = MAX_CHART_LEN - 3;
-    assert!(rt; fits_with(rt.alloc(), texts, most, rest, TableKind::Operation)?);
-    assert!(rt; !fits_with(rt.alloc(), texts, most + 1, rest, TableKind::Operation)?);
+    let added = "ADD".len();
+    assert!(rt;
+        fits_with(
+            rt.alloc(),
+            texts,
+            16_384 - added,
+            rest,
+            TableKind::Operation
+        )?
+    );
+    assert!(rt;
+        !fits_with(
+            rt.alloc(),
+            texts,
+            16_385 - added,
+            rest,
+            TableKind::Operation
+        )?
+    );
     Ok(())
 }
 
@@ -197,16 +246,38 @@ fn lengths_of_versions(rt: HostRuntime) -> Result<(), Fail> {
     Ok(())
 }
 
+const IN_RANGE: [&str; 3] = [
+    "value = 0\nmin = 0\nmax = 0\n",
+    "value = 1000000000000\nmin = 0\nmax = 1000000000000\n",
+    "value = 5\nmin = 1000000000000\nmax = 1000000000000\n",
+];
+
+const OUT_OF_RANGE: [&str; 6] = [
+    "value = 1000000000001\nmin = 0\nmax = 2\n",
+    "value = -1\nmin = 0\nmax = 2\n",
+    "value = 5\nmin = -1\nmax = 2\n",
+    "value = 5\nmin = 3\nmax = 2\n",
+    "value = 5\nmin = 3\nmax = 1000000000001\n",
+    "value = 5\nmin = 1000000000001\nmax = 1000000000000\n",
+];
+
 #[test]
-fn numbers_out_of_range(rt: HostRuntime) -> Result<(), Fail> {
-    for text in [
-        "[[input]]\nname = 'I'\nvalue = 1000000000001\nmin = 0\nmax = 2\n",
-        "[[input]]\nname = 'I'\nvalue = -1\nmin = 0\nmax = 2\n",
-        "[[input]]\nname = 'I'\nvalue = 5\nmin = 3\nmax = 2\n",
-        "[[input]]\nname = 'I'\nvalue = 5\nmin = 3\nmax = 1000000000001\n",
+fn numbers_of_quantities(rt: HostRuntime) -> Result<(), Fail> {
+    let alloc = rt.alloc();
+    for (table, kind) in [
+        ("[[input]]\nname = 'Q'\n", TableKind::Input),
+        ("[[parameter]]\nname = 'Q'\n", TableKind::Parameter),
     ] {
-        let parts = [text, PROCEDURE, MAKE, CHARGE, ADD];
-        assert!(rt; !fits(rt.alloc(), parts, TableKind::Input, 0)?, "{text}");
+        for numbers in IN_RANGE {
+            let text = format!(in alloc; "{table}{numbers}")?;
+            let parts = [text.as_str(), PROCEDURE, MAKE, CHARGE, ADD];
+            assert!(rt; fits(alloc, parts, kind, 0)?, "{text}");
+        }
+        for numbers in OUT_OF_RANGE {
+            let text = format!(in alloc; "{table}{numbers}")?;
+            let parts = [text.as_str(), PROCEDURE, MAKE, CHARGE, ADD];
+            assert!(rt; !fits(alloc, parts, kind, 0)?, "{text}");
+        }
     }
     Ok(())
 }

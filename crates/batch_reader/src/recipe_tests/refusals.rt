@@ -240,6 +240,22 @@ fn bad_names(rt: HostRuntime) -> Result<(), Fail> {
     Ok(())
 }
 
+#[test]
+fn words_of_charts_as_inputs(rt: HostRuntime) -> Result<(), Fail> {
+    let alloc = rt.alloc();
+    let spot = Spot {
+        kind: TableKind::Input,
+        entry: 0,
+    };
+    for word in ["seq", "par", "sel", "loop", "else", "skip"] {
+        let text = format!(in alloc; "[[input]]\nname = '{word}'\nvalue = 1\nmin = 0\nmax = 2\n")?;
+        let found = refusal(alloc, [text.as_str(), PROCEDURE, MAKE, CHARGE, ADD])?;
+        let wanted = DocFault::Entry(spot, EntryFault::WrongKind);
+        assert_eq!(rt; found, Some(wanted), "{word}");
+    }
+    Ok(())
+}
+
 const WITH_AN_UNKNOWN_KEY: [Case; 8] = [
     ("size = 1\n", TableKind::Recipe, 0),
     (

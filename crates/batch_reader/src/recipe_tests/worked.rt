@@ -17,7 +17,7 @@ struct Example {
 const ONE_PHASE: Example = Example {
     name: "A",
     parts: ["", PROCEDURE, MAKE, CHARGE, ADD],
-    told: r#"1000 [] [] []
+    told: r#""1" None None None 1000 [] [] []
 procedure A None [] Follows(Label("MAKE"))
 unit_procedure MAKE Some("R1") [] Follows(Label("CHARGE"))
 operation CHARGE None [] Follows(Label("ADD"))
@@ -34,7 +34,7 @@ const WITH_AN_INPUT: Example = Example {
         CHARGE,
         "[[phase]]\nname = \"ADD\"\nvalues = [\"QTY\"]\n",
     ],
-    told: r#"1000 [Quantity { name: "QTY", value: 333, min: 0, max: 500, fixed: false }] [] []
+    told: r#""1" None None None 1000 [Quantity { name: "QTY", value: 333, min: 0, max: 500, fixed: false }] [] []
 procedure F None [] Follows(Label("MAKE"))
 unit_procedure MAKE Some("R1") [] Follows(Label("CHARGE"))
 operation CHARGE None [] Follows(Label("ADD"))
@@ -51,7 +51,7 @@ const NEEDS_OF_A_PHASE: Example = Example {
         CHARGE,
         "[[phase]]\nname = \"ADD\"\nneeds = [\"HDR\", \"HDR\"]\n",
     ],
-    told: r#"1000 [] [] []
+    told: r#""1" None None None 1000 [] [] []
 procedure N None [] Follows(Label("MAKE"))
 unit_procedure MAKE Some("R1") [] Follows(Label("CHARGE"))
 operation CHARGE None [] Follows(Label("ADD"))
@@ -68,7 +68,7 @@ const NEEDS_OF_A_UNIT_PROCEDURE: Example = Example {
         CHARGE,
         ADD,
     ],
-    told: r#"1000 [] [] []
+    told: r#""1" None None None 1000 [] [] []
 procedure G None [] Follows(Label("MAKE"))
 unit_procedure MAKE Some("R1") ["HDR"] Follows(Label("CHARGE"))
 operation CHARGE None [] Follows(Label("ADD"))
@@ -85,7 +85,7 @@ const NEEDS_OF_A_PROCEDURE: Example = Example {
         CHARGE,
         ADD,
     ],
-    told: r#"1000 [] [] []
+    told: r#""1" None None None 1000 [] [] []
 procedure H None ["HDR"] Follows(Label("MAKE"))
 unit_procedure MAKE Some("R1") [] Follows(Label("CHARGE"))
 operation CHARGE None [] Follows(Label("ADD"))
@@ -114,7 +114,7 @@ const SELECTION: Example = Example {
         CHARGE,
         ADD,
     ],
-    told: r#"1000 [] [] ["X"]
+    told: r#""1" None None None 1000 [] [] ["X"]
 procedure J None [] Follows(Sel([(Cond { name: "X", op: Equal, term: Number(1) }, Label("GOOD"))], Label("BAD")))
 unit_procedure GOOD Some("R1") ["HDR"] Follows(Label("CHARGE"))
 unit_procedure BAD Some("R2") ["HDR", "R1"] Follows(Label("CHARGE"))
@@ -136,7 +136,7 @@ const SEQUENCE: Example = Example {
         "[[operation]]\nname = \"COOK\"\nchart = \"seq(ADD, HEAT)\"\n",
         ADD_AND_HEAT,
     ],
-    told: r#"1000 [] [] []
+    told: r#""1" None None None 1000 [] [] []
 procedure S None [] Follows(Label("MAKE"))
 unit_procedure MAKE Some("R1") [] Follows(Label("COOK"))
 operation COOK None [] Follows(Seq([Label("ADD"), Label("HEAT")]))
@@ -154,7 +154,7 @@ const PARALLEL: Example = Example {
         "[[operation]]\nname = \"COOK\"\nchart = \"par(ADD, HEAT)\"\n",
         ADD_AND_HEAT,
     ],
-    told: r#"1000 [] [] []
+    told: r#""1" None None None 1000 [] [] []
 procedure W None [] Follows(Label("MAKE"))
 unit_procedure MAKE Some("R1") [] Follows(Label("COOK"))
 operation COOK None [] Follows(Par([Label("ADD"), Label("HEAT")]))
@@ -172,7 +172,7 @@ const LOOPING: Example = Example {
         "[[operation]]\nname = \"CHARGE\"\nchart = \"loop(1000, X > 0, ADD)\"\n",
         ADD,
     ],
-    told: r#"1000 [] [] ["X"]
+    told: r#""1" None None None 1000 [] [] ["X"]
 procedure L None [] Follows(Label("MAKE"))
 unit_procedure MAKE Some("R1") [] Follows(Label("CHARGE"))
 operation CHARGE None [] Follows(Loop(1000, Cond { name: "X", op: Greater, term: Number(0) }, Label("ADD")))
@@ -207,7 +207,7 @@ runs = "DRAIN"
 needs = ["STEAM"]
 "#,
     ],
-    told: r#"1000 [] [] []
+    told: r#""1" None None None 1000 [] [] []
 procedure T None [] Follows(Label("U"))
 unit_procedure U Some("R1") [] Follows(Label("O"))
 operation O None [] Follows(Par([Label("ADDS"), Label("HEATS"), Label("DRAINS")]))
@@ -239,7 +239,7 @@ const HEADER_FIRST: Example = Example {
         "[[operation]]\nname = \"O\"\nchart = \"par(ADDH, seq(DRAIN, HEATS))\"\n",
         CROSSED,
     ],
-    told: r#"1000 [] [] []
+    told: r#""1" None None None 1000 [] [] []
 procedure P None [] Follows(Label("U"))
 unit_procedure U Some("R1") [] Follows(Label("O"))
 operation O None [] Follows(Par([Label("ADDH"), Seq([Label("DRAIN"), Label("HEATS")])]))
@@ -258,7 +258,7 @@ const STEAM_FIRST: Example = Example {
         "[[operation]]\nname = \"O\"\nchart = \"par(HEATS, seq(DRAIN, ADDH))\"\n",
         CROSSED,
     ],
-    told: r#"1000 [] [] []
+    told: r#""1" None None None 1000 [] [] []
 procedure Q None [] Follows(Label("U"))
 unit_procedure U Some("R2") [] Follows(Label("O"))
 operation O None [] Follows(Par([Label("HEATS"), Seq([Label("DRAIN"), Label("ADDH")])]))
