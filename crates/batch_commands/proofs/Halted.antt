@@ -1,14 +1,15 @@
 -- The document that ends a command.
-use Rattle.std.proofs.Common.{◌≡◌, ℕ, ◌<◌, List, [], ◌∷◌, inl, inr, length, map, take, get_or, suc, zero, subst, ap, arith}
+use Rattle.std.proofs.Common.{◌≡◌, ℕ, ◌<◌, List, [], ◌∷◌, inl, inr, length, map, take, get_or, suc, zero, refl, subst, ap, arith}
 use Rattle.batch_recipe.specs.declared.recipe.Recipe.{Recipe}
 use Rattle.batch_commands.specs.Halting.{HaltsAtRecipe, HaltsAtRecipes}
-use Rattle.batch_commands.specs.Reading.{Gives, IsUnread, ReadsRecipes}
+use Rattle.batch_commands.specs.Reading.{Gives, ReadsRecipes}
 use Rattle.batch_commands.specs.declared.verdict.Halt.{Halt}
+use Rattle.batch_commands.specs.declared.verdict.Halt.TheVariants.{Memory}
 
--- nothing was judged
-pub halts_unread : (gives : Gives) (paths : List (List ℕ)) (h : Halt) → IsUnread h → HaltsAtRecipes gives paths h
-halts_unread gives [] h unread = unread
-halts_unread gives (p ∷ paths) h unread = inl (inl unread)
+-- memory may be wanting anywhere
+pub halts_without_memory : (gives : Gives) (paths : List (List ℕ)) → HaltsAtRecipes gives paths Memory
+halts_without_memory gives [] = refl
+halts_without_memory gives (p ∷ paths) = inl (inl tt)
 
 -- the documents before it are recipes
 pub halts_at : {X : Type 0} (gives : Gives) (text_of : X → List ℕ) (paths : List X) (i : ℕ) (path : X) (rs : List Recipe) (h : Halt)

@@ -1,26 +1,27 @@
 -- Which document ends a command before there is a verdict on all.
-use Rattle.std.specs.Prelude.{ℕ, List, [], ◌∷◌, ◌⊎◌}
+use Rattle.std.specs.Prelude.{◌≡◌, ℕ, List, [], ◌∷◌, Some, ◌⊎◌}
 use Rattle.batch_cell.specs.declared.cell.Cell.{Cell}
 use Rattle.batch_recipe.specs.declared.recipe.Recipe.{Recipe}
 use Rattle.batch_verify.specs.CertificateText.{Rank}
 use Rattle.batch_commands.specs.Judging.{RefusesCell, RefusesCertificate, RefusesRecipe}
 use Rattle.batch_commands.specs.Reading.{Gives, IsUnread, ReadsCell, ReadsCertificate, ReadsRecipe}
 use Rattle.batch_commands.specs.declared.verdict.Halt.{Halt}
+use Rattle.batch_commands.specs.declared.verdict.Halt.TheVariants.{Memory}
 
 -- the document at the path can't be read, or is refused
 
 abbrev pub HaltsAtCell : Gives → List ℕ → Halt → Type 0
-HaltsAtCell gives path h = IsUnread h ⊎ ((bytes : List ℕ) × gives path bytes × RefusesCell path bytes h)
+HaltsAtCell gives path h = IsUnread gives path h ⊎ ((bytes : List ℕ) × gives path (Some bytes) × RefusesCell path bytes h)
 
 abbrev pub HaltsAtCertificate : Gives → List ℕ → Halt → Type 0
-HaltsAtCertificate gives path h = IsUnread h ⊎ ((bytes : List ℕ) × gives path bytes × RefusesCertificate bytes h)
+HaltsAtCertificate gives path h = IsUnread gives path h ⊎ ((bytes : List ℕ) × gives path (Some bytes) × RefusesCertificate bytes h)
 
 abbrev pub HaltsAtRecipe : Gives → List ℕ → Halt → Type 0
-HaltsAtRecipe gives path h = IsUnread h ⊎ ((bytes : List ℕ) × gives path bytes × RefusesRecipe path bytes h)
+HaltsAtRecipe gives path h = IsUnread gives path h ⊎ ((bytes : List ℕ) × gives path (Some bytes) × RefusesRecipe path bytes h)
 
--- one of the documents at these paths does, and those before it are recipes
+-- one of the documents at these paths does, and those before it are recipes; past them only memory can be wanting
 abbrev pub HaltsAtRecipes : Gives → List (List ℕ) → Halt → Type 0
-HaltsAtRecipes gives [] h = IsUnread h
+HaltsAtRecipes gives [] h = h ≡ Memory
 HaltsAtRecipes gives (path ∷ paths) h = HaltsAtRecipe gives path h ⊎ ((r : Recipe) × ReadsRecipe gives path r × HaltsAtRecipes gives paths h)
 
 -- the first document that can't be read or is refused ends `check`

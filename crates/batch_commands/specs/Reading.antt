@@ -1,5 +1,5 @@
 -- Documents that are read one after the other.
-use Rattle.std.specs.Prelude.{ℕ, List, [], ◌∷◌, ⊤}
+use Rattle.std.specs.Prelude.{ℕ, List, [], ◌∷◌, Option, Some, None, ⊤}
 use Rattle.batch_cell.specs.declared.cell.Cell.{Cell}
 use Rattle.batch_recipe.specs.declared.recipe.Recipe.{Recipe}
 use Rattle.batch_reader.specs.CellDocument.{IsCellDocument}
@@ -10,24 +10,24 @@ use Rattle.batch_commands.specs.declared.verdict.Ending.{Ending}
 use Rattle.batch_commands.specs.declared.verdict.Halt.{Halt}
 use Rattle.batch_commands.specs.declared.verdict.Halt.TheVariants.{Refused, Unread, Memory}
 
--- which bytes may be read at a path
+-- what reading a path may give: these bytes, or at None that nothing can be read there
 abbrev pub Gives : Type 1
-Gives = List ℕ → List ℕ → Type 0
+Gives = List ℕ → Option (List ℕ) → Type 0
 
--- nothing was judged: a file couldn't be read, or there was no memory
-abbrev pub IsUnread : Halt → Type 0
-IsUnread (Refused verdict) = ⊥
-IsUnread (Unread message) = ⊤
-IsUnread Memory = ⊤
+-- nothing was judged: nothing can be read at the path, or there was no memory
+abbrev pub IsUnread : Gives → List ℕ → Halt → Type 0
+IsUnread gives path (Refused verdict) = ⊥
+IsUnread gives path (Unread message) = gives path None
+IsUnread gives path Memory = ⊤
 
 abbrev pub ReadsCell : Gives → List ℕ → Cell → Type 0
-ReadsCell gives path c = (bytes : List ℕ) × gives path bytes × IsCellDocument bytes c
+ReadsCell gives path c = (bytes : List ℕ) × gives path (Some bytes) × IsCellDocument bytes c
 
 abbrev pub ReadsRecipe : Gives → List ℕ → Recipe → Type 0
-ReadsRecipe gives path r = (bytes : List ℕ) × gives path bytes × IsRecipeDocument bytes r
+ReadsRecipe gives path r = (bytes : List ℕ) × gives path (Some bytes) × IsRecipeDocument bytes r
 
 abbrev pub ReadsCertificate : Gives → List ℕ → List Rank → Type 0
-ReadsCertificate gives path ranks = (bytes : List ℕ) × gives path bytes × IsCertificateText bytes ranks
+ReadsCertificate gives path ranks = (bytes : List ℕ) × gives path (Some bytes) × IsCertificateText bytes ranks
 
 -- a recipe for each path, in their order
 abbrev pub ReadsRecipes : Gives → List (List ℕ) → List Recipe → Type 0

@@ -1,5 +1,5 @@
 //! Reading and judging documents, each before the next.
-ghost use Rattle.std.specs.Prelude.{◌≡◌, ℕ, List, map, IfOk, IfErr, string_bytes};
+ghost use Rattle.std.specs.Prelude.{◌≡◌, ℕ, List, Option, map, IfOk, IfErr, string_bytes};
 ghost use Rattle.batch_commands.specs.Halting.{HaltsAtCell, HaltsAtCertificate, HaltsAtRecipe, HaltsAtRecipes, HaltsCheck, HaltsVerify};
 ghost use Rattle.batch_commands.specs.Judging.{IsHalt};
 ghost use Rattle.batch_commands.specs.Reading.{ChecksDocuments, IsUnread, ReadsCell, ReadsCertificate, ReadsRecipe, ReadsRecipes, VerifiesDocuments};
@@ -16,13 +16,13 @@ use std::alloc::Global;
 
 /// Where documents are read from.
 pub trait Documents {
-    // Which bytes may be read at a path.
-    ghost gives: { Self → List ℕ → List ℕ → Type 0 };
+    // What reading a path may give: these bytes, or at None that nothing can be read there.
+    ghost gives: { Self → List ℕ → Option (List ℕ) → Type 0 };
 
     /// The bytes at the path, but no more than one beyond the limit.
     fn read(&self, alloc: Global, path: &str, limit: usize) -> Result<Vec<u8>, Halt>
-        ensures given { IfOk result (λ bytes. gives self.now path.now bytes.items) }
-        ensures unread { IfErr result IsUnread };
+        ensures given { IfOk result (λ bytes. gives self.now path.now (Some bytes.items)) }
+        ensures unread { IfErr result (IsUnread (gives self.now) path.now) };
 }
 
 /// The verdict of `check` on the documents at these paths. The first document that can't be read or is refused ends it.

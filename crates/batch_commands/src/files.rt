@@ -33,7 +33,7 @@ fn read_file<R: Files>(rt: &R, alloc: Global, path: &str, limit: usize) -> io::R
 }
 
 fn unread(alloc: Global, path: &str, error: &io::Error) -> Halt
-    ensures { IsUnread result }
+    ensures { IsUnread (λ _ _. ⊤) path.now result }
 {
     if error.kind() == ErrorKind::OutOfMemory {
         return Halt::Memory;

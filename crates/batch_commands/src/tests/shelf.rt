@@ -1,8 +1,11 @@
 //! Documents for tests, by their texts.
-ghost use Rattle.std.specs.Prelude.{⊤};
+ghost use Rattle.std.specs.Prelude.{◌≡◌, option_map};
+ghost use Rattle.std.specs.List.{find};
+ghost use Rattle.std.specs.Str.{bytes_eq};
 
 use crate::{Documents, Halt, Verdict};
-use std::alloc::{AllocFailed, Global};
+use std::alloc::Global;
+use std::test::Fail;
 
 /// Two units, and two resources that are shared.
 pub(crate) const CELL: &str = "cell = \"DEMO\"
@@ -45,32 +48,23 @@ needs = [\"HDR\", \"HDR\"]
 pub(crate) struct Shelf<'a>(pub(crate) &'a [(&'a str, &'a str)]);
 
 impl Documents for Shelf<'_> {
-    ghost gives = { λ _ _ _. ⊤ };
+    // The text of the first document with this path, and nothing where there is none.
+    ghost gives = { λ shelf path reading.
+        reading ≡ option_map (λ document. document.1.now) (find (λ document. bytes_eq document.0.now path) shelf.0.now) };
 
     fn read(&self, alloc: Global, path: &str, _limit: usize) -> Result<Vec<u8>, Halt> {
-        for (name, text) in self.0 {
-            if *name == path {
-                return match text.as_bytes().to_vec(alloc) {
-                    Ok(bytes) => Ok(bytes),
-                    Err(_) => Err(Halt::Memory),
-                };
-            }
-        }
-        match String::from_str(alloc, path) {
-            Ok(path) => Err(Halt::Unread(path)),
-            Err(_) => Err(Halt::Memory),
+        match self.0.iter().find(|document| document.0 == path) {
+            Some((_, text)) => Ok(text.as_bytes().to_vec(alloc)?),
+            None => Err(Halt::Unread(String::from_str(alloc, path)?)),
         }
     }
 }
 
 /// The words as they come to the program.
-pub(crate) fn owned(alloc: Global, words: &[&str]) -> Result<Vec<String>, AllocFailed<String>> {
+pub(crate) fn owned(alloc: Global, words: &[&str]) -> Result<Vec<String>, Fail> {
     let mut owned = Vec::new(alloc);
     for word in words {
-        match String::from_str(alloc, word) {
-            Ok(word) => owned.push(word)?,
-            Err(_) => break,
-        }
+        owned.push(String::from_str(alloc, word)?)?;
     }
     Ok(owned)
 }

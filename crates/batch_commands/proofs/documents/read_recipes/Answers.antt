@@ -1,7 +1,7 @@
 use Rattle.std.proofs.Common.{◌<◌, List, ℕ, length, map, rules, string_bytes, subst}
 use Rattle.std.proofs.lemmas.Result.{err_from_is_err_and}
 use Rattle.batch_commands.specs.Halting.{HaltsAtRecipe}
-use Rattle.batch_commands.proofs.Halted.{halts_at, halts_unread}
+use Rattle.batch_commands.proofs.Halted.{halts_at, halts_without_memory}
 use Rattle.batch_commands.proofs.RecipesRead.{reads_next}
 use Rattle.batch_commands.proofs.documents.read_recipes.Goals as goal
 
@@ -23,4 +23,4 @@ returns-in_err-recipe-clause-halted g c =
 pub returns-in_err-push-clause-halted : goal.returns-in_err-push-clause-halted
 returns-in_err-push-clause-halted g c =
     let p = err_from_is_err_and c.from_residual-in_err-push.result c.from_residual-in_err-push.ensures.1 in
-    rw (p.1, p.2) (halts_unread (g.D.Documents.gives c.args.documents.now) (map string_bytes c.args.paths.now) _ tt)
+    rw (p.1, p.2) (halts_without_memory (g.D.Documents.gives c.args.documents.now) (map string_bytes c.args.paths.now))
