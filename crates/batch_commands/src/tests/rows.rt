@@ -27,8 +27,8 @@ fn checked(alloc: Global, cell: &str, texts: &[&str]) -> Result<String, Fail> {
 }
 
 /// What `verify` prints.
-fn verified(alloc: Global, ranks: &str, texts: &[&str]) -> Result<String, Fail> {
-    let cell = judge_cell(alloc, "cell", CELL1.as_bytes())?;
+fn verified(alloc: Global, cell: &str, ranks: &str, texts: &[&str]) -> Result<String, Fail> {
+    let cell = judge_cell(alloc, "cell", cell.as_bytes())?;
     let certificate = match judge_certificate(alloc, ranks.as_bytes()) {
         Err(Halt::Refused(verdict)) => return Ok(verdict.text),
         other => other?,
@@ -49,11 +49,24 @@ fn least_certificates(rt: HostRuntime) -> Result<(), Fail> {
 }
 
 #[test]
+fn certificates_are_accepted(rt: HostRuntime) -> Result<(), Fail> {
+    let alloc = rt.alloc();
+    for (cell, texts) in [(CELL1, [A].as_slice()), (CELL2, [P, Q].as_slice())] {
+        let ranks = checked(alloc, cell, texts)?;
+        assert_eq!(rt;
+            verified(alloc, cell, ranks.as_str(), texts)?.as_str(),
+            "accepted\n"
+        );
+    }
+    Ok(())
+}
+
+#[test]
 fn same_resource_twice(rt: HostRuntime) -> Result<(), Fail> {
     let alloc = rt.alloc();
     let ranks = "rank HDR 2\nrank R1 1\nrank R2 1\nrank STEAM 1\n";
     assert_eq!(rt;
-        verified(alloc, ranks, &[N])?.as_str(),
+        verified(alloc, CELL1, ranks, &[N])?.as_str(),
         "refused V4 N 0.0.0.0\n"
     );
     assert_eq!(rt;
@@ -79,7 +92,7 @@ fn opposite_orders(rt: HostRuntime) -> Result<(), Fail> {
         "refused C1\nedge H 0.0 HDR R1\nedge G 0.0 R1 HDR\n"
     );
     assert_eq!(rt;
-        verified(alloc, EQUAL, &[G])?.as_str(),
+        verified(alloc, CELL1, EQUAL, &[G])?.as_str(),
         "refused V4 G 0.0\n"
     );
     Ok(())
@@ -106,10 +119,13 @@ fn broken_rules(rt: HostRuntime) -> Result<(), Fail> {
         (L_SKIPPING, "refused V7 L 0.0.0.0\n"),
     ] {
         assert_eq!(rt; checked(alloc, CELL1, &[text])?.as_str(), want);
-        assert_eq!(rt; verified(alloc, EQUAL, &[text])?.as_str(), want);
+        assert_eq!(rt; verified(alloc, CELL1, EQUAL, &[text])?.as_str(), want);
     }
     assert_eq!(rt; checked(alloc, CELL1, &[A, A])?.as_str(), "refused V10\n");
-    assert_eq!(rt; verified(alloc, EQUAL, &[A, A])?.as_str(), "refused V10\n");
+    assert_eq!(rt;
+        verified(alloc, CELL1, EQUAL, &[A, A])?.as_str(),
+        "refused V10\n"
+    );
     Ok(())
 }
 
@@ -145,7 +161,7 @@ fn faults_of_certificates(rt: HostRuntime) -> Result<(), Fail> {
         ("rank HDR 0\n", "refused K1 1\n"),
         (EQUAL, "accepted\n"),
     ] {
-        assert_eq!(rt; verified(alloc, ranks, &[A])?.as_str(), want);
+        assert_eq!(rt; verified(alloc, CELL1, ranks, &[A])?.as_str(), want);
     }
     Ok(())
 }
