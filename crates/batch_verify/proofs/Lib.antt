@@ -9,6 +9,7 @@ pub mod Finding
 pub mod Ranks
 pub mod Phases
 pub mod Branches
+pub mod NameSets
 pub mod RunningApart
 pub mod Entering
 pub mod Sizes

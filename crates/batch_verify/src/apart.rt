@@ -11,6 +11,7 @@ ghost use Rattle.batch_verify.specs.Walking.{names_at, phase_names, Gathers};
 use crate::names::{add, add_each, share_one};
 use batch_recipe::{Act, Acts, Chart, Cond, Level, Work, act_named};
 use batch_text::Name;
+use indexmap::IndexSet;
 use std::alloc::{AllocError, Global};
 
 /// Whether no two of the charts run the same phase. Their labels are looked up from the level on.
@@ -23,9 +24,9 @@ pub fn are_apart(
     ensures { IfOk result (λ apart. (unit : Text) (place : Place)
         → IsTrue apart ↔ BranchesRunApart (expanded_each (named_tree (tables_from acts.now level) unit) place 0 (diagrams_of (map diagram_of parts.now)))) }
 {
-    let mut earlier = Vec::new(alloc);
+    let mut earlier = IndexSet::new(alloc);
     for part in parts {
-        let mut own = Vec::new(alloc);
+        let mut own = IndexSet::new(alloc);
         gather(part, acts, level, &mut own)?;
         if share_one(&earlier, &own) {
             return Ok(false);
@@ -41,10 +42,10 @@ fn gather<'a>(
     chart: &'a Chart,
     acts: &'a Acts,
     level: Option<Level>,
-    names: &mut Vec<&'a Name>,
+    names: &mut IndexSet<&'a Name>,
 ) -> Result<(), AllocError>
-    ensures { IfOk result (λ _. (unit : Text) (place : Place) → Gathers (names_at names.old.items)
-        (phase_names (phases (expanded (named_tree (tables_from acts.now level) unit) place (diagram_of chart.now)))) (names_at names.new.items)) }
+    ensures { IfOk result (λ _. (unit : Text) (place : Place) → Gathers (names_at names.old.keys)
+        (phase_names (phases (expanded (named_tree (tables_from acts.now level) unit) place (diagram_of chart.now)))) (names_at names.new.keys)) }
 {
     match chart {
         Chart::Label(name) => match level {
@@ -66,10 +67,10 @@ fn gather_act<'a>(
     act: &'a Act,
     acts: &'a Acts,
     level: Option<Level>,
-    names: &mut Vec<&'a Name>,
+    names: &mut IndexSet<&'a Name>,
 ) -> Result<(), AllocError>
-    ensures { IfOk result (λ _. (unit : Text) (place : Place) → Gathers (names_at names.old.items)
-        (phase_names (phases (act_tree (named_tree (tables_from acts.now level)) unit act.now place))) (names_at names.new.items)) }
+    ensures { IfOk result (λ _. (unit : Text) (place : Place) → Gathers (names_at names.old.keys)
+        (phase_names (phases (act_tree (named_tree (tables_from acts.now level)) unit act.now place))) (names_at names.new.keys)) }
 {
     match &act.work {
         Work::Runs { phase, .. } => add(names, phase),
@@ -82,11 +83,11 @@ fn gather_each<'a>(
     parts: &'a [Chart],
     acts: &'a Acts,
     level: Option<Level>,
-    names: &mut Vec<&'a Name>,
+    names: &mut IndexSet<&'a Name>,
 ) -> Result<(), AllocError>
-    ensures { IfOk result (λ _. (unit : Text) (place : Place) → Gathers (names_at names.old.items)
+    ensures { IfOk result (λ _. (unit : Text) (place : Place) → Gathers (names_at names.old.keys)
         (phase_names (phases_of_each (expanded_each (named_tree (tables_from acts.now level) unit) place 0 (diagrams_of (map diagram_of parts.now)))))
-        (names_at names.new.items)) }
+        (names_at names.new.keys)) }
 {
     for part in parts {
         gather(part, acts, level, names)?;
@@ -100,11 +101,11 @@ fn gather_choices<'a>(
     last: &'a Chart,
     acts: &'a Acts,
     level: Option<Level>,
-    names: &mut Vec<&'a Name>,
+    names: &mut IndexSet<&'a Name>,
 ) -> Result<(), AllocError>
-    ensures { IfOk result (λ _. (unit : Text) (place : Place) → Gathers (names_at names.old.items)
+    ensures { IfOk result (λ _. (unit : Text) (place : Place) → Gathers (names_at names.old.keys)
         (phase_names (phases_of_choices (expanded_cases (named_tree (tables_from acts.now level) unit) place 0 (cases_of (map (λ choice. (choice.0, diagram_of choice.1)) choices.now) (diagram_of last.now)))))
-        (names_at names.new.items)) }
+        (names_at names.new.keys)) }
 {
     for choice in choices {
         gather(&choice.1, acts, level, names)?;

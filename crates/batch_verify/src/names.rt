@@ -1,51 +1,40 @@
-//! Sets of names, kept as lists.
-ghost use Rattle.std.specs.Prelude.{◌≡◌, [], ◌∷◌, map, IfOk};
+//! Sets of names.
+ghost use Rattle.std.specs.Prelude.{◌≡◌, [], ◌∷◌, IfOk};
 ghost use Rattle.std.specs.List.{list_any};
 ghost use Rattle.batch_recipe.specs.WellFormed.{is_among};
 ghost use Rattle.batch_verify.specs.Walking.{names_at, Gathers};
 
 use batch_text::Name;
+use indexmap::IndexSet;
 use std::alloc::AllocError;
 
-/// Whether the name is among them.
-fn is_among(names: &[&Name], name: &Name) -> bool
-    ensures { result ≡ is_among (names_at names.now) name.now }
-{
-    for other in names {
-        if *name == **other {
-            return true;
-        }
-    }
-    false
-}
-
 /// Adds the name where it isn't there yet.
-pub fn add<'a>(names: &mut Vec<&'a Name>, name: &'a Name) -> Result<(), AllocError>
-    ensures { IfOk result (λ _. Gathers (names_at names.old.items) (name.now ∷ []) (names_at names.new.items)) }
+pub fn add<'a>(names: &mut IndexSet<&'a Name>, name: &'a Name) -> Result<(), AllocError>
+    ensures { IfOk result (λ _. Gathers (names_at names.old.keys) (name.now ∷ []) (names_at names.new.keys)) }
 {
-    if is_among(names, name) {
-        return Ok(());
-    }
-    names.push(name)?;
+    names.insert(name)?;
     Ok(())
 }
 
 /// Adds the names that aren't there yet.
-pub fn add_each<'a>(names: &mut Vec<&'a Name>, more: &[&'a Name]) -> Result<(), AllocError>
-    ensures { IfOk result (λ _. Gathers (names_at names.old.items) (names_at more.now) (names_at names.new.items)) }
+pub fn add_each<'a>(
+    names: &mut IndexSet<&'a Name>,
+    more: &IndexSet<&'a Name>,
+) -> Result<(), AllocError>
+    ensures { IfOk result (λ _. Gathers (names_at names.old.keys) (names_at more.now.keys) (names_at names.new.keys)) }
 {
-    for name in more {
+    for name in more.iter() {
         add(names, *name)?;
     }
     Ok(())
 }
 
 /// Whether a name is among both.
-pub fn share_one(names: &[&Name], others: &[&Name]) -> bool
-    ensures { result ≡ list_any (is_among (names_at names.now)) (names_at others.now) }
+pub fn share_one<'a>(names: &IndexSet<&'a Name>, others: &IndexSet<&'a Name>) -> bool
+    ensures { result ≡ list_any (is_among (names_at names.now.keys)) (names_at others.now.keys) }
 {
-    for name in others {
-        if is_among(names, *name) {
+    for name in others.iter() {
+        if names.contains(name) {
             return true;
         }
     }

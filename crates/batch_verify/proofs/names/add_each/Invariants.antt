@@ -1,4 +1,4 @@
-use Rattle.std.proofs.Common.{◌≡◌, drop, ◌||◌}
+use Rattle.std.proofs.Common.{◌≡◌, ◌||◌}
 use Rattle.batch_recipe.specs.Conditions.{Name}
 use Rattle.batch_recipe.specs.WellFormed.{is_among}
 use Rattle.batch_verify.specs.Walking.{names_at}
@@ -6,4 +6,4 @@ use Rattle.batch_verify.proofs.names.add_each.Given as goal
 
 abbrev pub invariant-loop-name : goal.invariant-loop-name
 invariant-loop-name l = (x : Name)
-    → (is_among (names_at l.names.items) x || is_among (names_at (drop l.name-index l.more)) x) ≡ (is_among (names_at l.initial.names.items) x || is_among (names_at l.more) x)
+    → (is_among (names_at l.names.keys) x || is_among (names_at l.name-iterator) x) ≡ (is_among (names_at l.initial.names.keys) x || is_among (names_at l.more.keys) x)
