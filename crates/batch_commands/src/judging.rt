@@ -128,9 +128,9 @@ pub fn verify_recipes(
                 &rejected.cell,
                 &rejected.recipes,
                 certificate,
-                rejected.refusal,
+                rejected.fault,
             )?,
-            ending: match rejected.refusal {
+            ending: match rejected.fault {
                 Refusal::Memory => Ending::OutOfMemory,
                 _ => Ending::Refused,
             },

@@ -34,17 +34,17 @@ pub fn verify(
 
     ensures rejected { IfErr result (λ rejected. (rejected.cell ≡ cell) × (rejected.recipes ≡ recipes)) }
     ensures first { IfErr result
-        (λ rejected. IsFirstRefusal (cell_of cell) (documents_of cell recipes.items) certificate.now.ranks.items rejected.refusal) }
+        (λ rejected. IsFirstRefusal (cell_of cell) (documents_of cell recipes.items) certificate.now.ranks.items rejected.fault) }
 
     // What a caller needs of it: but for memory, the certificate doesn't clear the recipes.
-    ensures refused { IfErr result (λ rejected. rejected.refusal ≢ Refusal.Memory
+    ensures refused { IfErr result (λ rejected. rejected.fault ≢ Refusal.Memory
         → RanksAll (cell_of cell) certificate.now.ranks.items
         → ¬ (IsCleared (cell_of cell) (documents_of cell recipes.items) (rank_of certificate.now.ranks.items))) }
 {
     match judge(alloc, &cell, &recipes, certificate) {
         Ok(()) => Ok(Cleared::new(cell, recipes)),
-        Err(refusal) => Err(Rejected {
-            refusal,
+        Err(fault) => Err(Rejected {
+            fault,
             cell,
             recipes,
         }),

@@ -43,7 +43,7 @@ fn wants_one_rank_for_each_resource(rt: HostRuntime) -> Result<(), Fail> {
                 assert_eq!(rt; cleared.recipes().len(), 0);
             }
             Err(rejected) => {
-                assert!(rt; refusal == Some(rejected.refusal));
+                assert!(rt; refusal == Some(rejected.fault));
                 assert_eq!(rt; rejected.cell.resources(), 2);
                 assert_eq!(rt; rejected.recipes.len(), 0);
             }
@@ -73,14 +73,14 @@ fn gives_refused_recipes_back(rt: HostRuntime) -> Result<(), Fail> {
     let twice = vec![in alloc; recipe(alloc, b"P", b"R1")?, recipe(alloc, b"P", b"R1")?]?;
     assert!(rt; !is_recipe_set(&twice));
     let rejected = judged(alloc, twice)?.err().ok_or("cleared")?;
-    assert!(rt; rejected.refusal == Refusal::Recipes);
+    assert!(rt; rejected.fault == Refusal::Recipes);
     let no_unit = vec![in alloc; recipe(alloc, b"P", b"R1")?, recipe(alloc, b"Q", b"STEAM")?]?;
     let rejected = judged(alloc, no_unit)?.err().ok_or("cleared")?;
     let broken = Broken {
         node: 1,
         rule: Rule::UnknownResource,
     };
-    assert!(rt; rejected.refusal == Refusal::Recipe { recipe: 1, broken });
+    assert!(rt; rejected.fault == Refusal::Recipe { recipe: 1, broken });
     assert_eq!(rt; rejected.cell.resources(), 2);
     assert_eq!(rt; rejected.recipes.len(), 2);
     Ok(())

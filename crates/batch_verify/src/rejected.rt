@@ -6,7 +6,7 @@ use batch_recipe::Recipe;
 /// A cell and recipes that weren't cleared, given back as they came, and why.
 #[derive(Debug, Drop)]
 pub struct Rejected {
-    pub refusal: Refusal,
+    pub fault: Refusal,
     pub cell: Cell,
     pub recipes: Vec<Recipe>,
 }
