@@ -5,19 +5,24 @@ ghost use Rattle.batch_check.specs.declared.fault.CheckFault.TheVariants.{Memory
 use crate::edge::Edge;
 use batch_verify::Broken;
 use std::alloc::{AllocError, AllocFailed};
+use thiserror::Error;
 
 /// Why no ranking clears recipes for a cell: the first fault in the order of these. Want of memory stands where a growth was
 /// refused.
-#[derive(Debug, PartialEq, Eq, Drop)]
+#[derive(Debug, PartialEq, Eq, Error, Drop)]
 pub enum CheckFault {
     /// Two recipes have one name, or there are too many.
+    #[error("two recipes have one name, or there are too many")]
     Recipes,
     /// A node of the recipe with this number is the first that breaks a rule.
+    #[error("recipe {recipe} breaks a rule: {broken:?}")]
     Recipe { recipe: u16, broken: Broken },
     /// These edges, which all stand in recipes, lead from a resource back to it, and no resource comes twice. The first comes
     /// from the resource with the least name.
+    #[error("edges lead from a resource back to it: {0:?}")]
     Circle(Vec<Edge>),
     /// Out of memory.
+    #[error("out of memory")]
     Memory,
 }
 

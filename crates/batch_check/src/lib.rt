@@ -26,4 +26,3 @@ pub use laws::{
     certificates_tell_ranks, circle_leaves_no_ranking, least_ranks_rise_along_paths,
     ranks_are_told_by_name, standing_circles_leave_no_clearance,
 };
-pub use ranking::{Ranking, least_ranks};

@@ -9,7 +9,7 @@ use std::alloc::{AllocError, Global};
 
 /// What edges allow.
 #[derive(Debug, Drop)]
-pub enum Ranking {
+pub(crate) enum Ranking {
     /// The rank of each resource, by number.
     Ranks(Vec<u32>),
     /// A circle of edges, along which no ranks can rise.
@@ -17,7 +17,7 @@ pub enum Ranking {
 }
 
 /// The least ranking of the resources below `count` that rises along all edges, or a circle where there is no ranking.
-pub fn least_ranks(alloc: Global, count: u16, edges: &[Edge]) -> Result<Ranking, AllocError>
+pub(crate) fn least_ranks(alloc: Global, count: u16, edges: &[Edge]) -> Result<Ranking, AllocError>
     requires { IsWithin count edges.now }
     ensures { IfOk result (IsRankingOf count edges.now) }
 {

@@ -2,7 +2,8 @@
 ghost use Rattle.std.specs.Prelude.{IfOk};
 ghost use Rattle.batch_check.specs.LeastRanking.{IsRankingOf};
 
-use crate::{Edge, Ranking, least_ranks};
+use crate::Edge;
+use crate::ranking::{Ranking, least_ranks};
 use std::alloc::Global;
 use std::process::Abort;
 use std::test::Fail;
