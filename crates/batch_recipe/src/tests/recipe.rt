@@ -7,9 +7,7 @@ ghost use Rattle.batch_recipe.specs.declared.chart.Chart.{Chart};
 
 use crate::tests::parts::{act, label, step, table};
 use crate::tests::quantity;
-use crate::{
-    Act, Acts, Chart, FormulaFault, Header, Recipe, act_at, formula, node_at, node_count, place_at,
-};
+use crate::{Act, Acts, Chart, Header, Recipe, act_at, formula, node_at, node_count, place_at};
 use batch_text::{Name, Place};
 use std::alloc::Global;
 use std::test::Fail;
@@ -60,16 +58,19 @@ fn finds_nodes_by_place(rt: HostRuntime) -> Result<(), Fail> {
 fn gives_values_to_a_batch(rt: HostRuntime) -> Result<(), Fail> {
     let alloc = rt.alloc();
     let scaled = recipe(alloc, false)?;
-    assert_eq!(rt; quantity_of(alloc, &scaled, 500), Ok(Some(167)));
-    assert_eq!(rt; quantity_of(alloc, &scaled, 1503), Ok(Some(500)));
-    let quantity = Name::read(alloc, b"QTY")?;
-    assert_eq!(rt;
-        quantity_of(alloc, &scaled, 1504),
-        Err(FormulaFault::OutOfRange(&quantity))
-    );
-    assert_eq!(rt; quantity_of(alloc, &scaled, 0), Err(FormulaFault::Size));
+    for (size, want) in [
+        (500, "Some(167)"),
+        (1503, "Some(500)"),
+        (1504, "QTY is out of range"),
+        (0, "the size is out of range"),
+    ] {
+        assert!(rt;
+            quantity_of(alloc, &scaled, size)?.as_str() == want,
+            "{size}"
+        );
+    }
     let fixed = recipe(alloc, true)?;
-    assert_eq!(rt; quantity_of(alloc, &fixed, 500), Ok(Some(333)));
+    assert!(rt; quantity_of(alloc, &fixed, 500)?.as_str() == "Some(333)");
     Ok(())
 }
 
@@ -77,9 +78,13 @@ fn name_at(recipe: &Recipe, node: u16) -> Option<&str> {
     act_at(recipe, node).map(|act| act.name.text())
 }
 
-fn quantity_of(alloc: Global, recipe: &Recipe, size: u64) -> Result<Option<u64>, FormulaFault<'_>> {
+/// The value of QTY in a batch of the size, or why the batch has none.
+fn quantity_of(alloc: Global, recipe: &Recipe, size: u64) -> Result<String, Fail> {
     let name = Name::read(alloc, b"QTY")?;
-    Ok(formula(alloc, recipe, size)?.value_of(&name))
+    Ok(match formula(alloc, recipe, size) {
+        Ok(values) => format!(in alloc; "{:?}", values.value_of(&name))?,
+        Err(fault) => format!(in alloc; "{fault}")?,
+    })
 }
 
 /// Recipe P with the input QTY, which HEATS is handed.
