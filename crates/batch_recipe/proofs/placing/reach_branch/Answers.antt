@@ -29,7 +29,7 @@ returns-in-Ok c =
     let size = front_length diagram_of parts n chart in' is in
     subst (λ ds. LeadsTo c.args.acts.now (branch_nodes c.args.acts.now c.args.level ds) c.args.child c.args.left None) (sym (parted diagram_of parts n chart in' is))
     (leads_after c.args.acts.now c.args.level front chart back c.args.child c.args.left (omega (arith, size, c.from-number.ensures)) None tt
-    (λ _ unit place above. found_within (branch_nodes c.args.acts.now c.args.level front unit place above) place c.args.left 0 (option_copied c.in-Ok.field-0.act) c.in-Ok.field-0.number (c.in-Ok.ensures unit place above)))
+    (λ _ unit place above. found_within c.args.acts.now (branch_nodes c.args.acts.now c.args.level front unit place above) place c.args.left 0 (option_copied c.in-Ok.field-0.act) c.in-Ok.field-0.number (c.in-Ok.ensures unit place above)))
 
 pub returns-in-Err : goal.returns-in-Err
 returns-in-Err c =
