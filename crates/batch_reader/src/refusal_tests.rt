@@ -238,3 +238,33 @@ fn phases_twice(rt: HostRuntime) -> Result<(), Fail> {
     assert!(rt; refuses_below_head(rt.alloc(), &cases, EntryFault::Duplicate)?);
     Ok(())
 }
+
+const WORDS: [(TableKind, &str, &str); 12] = [
+    (TableKind::Cell, "cell", "cell 0"),
+    (TableKind::Unit, "unit", "unit 1"),
+    (TableKind::Module, "module", "module 2"),
+    (TableKind::Shared, "shared", "shared 3"),
+    (TableKind::Recipe, "recipe", "recipe 4"),
+    (TableKind::Input, "input", "input 5"),
+    (TableKind::Parameter, "parameter", "parameter 6"),
+    (TableKind::Output, "output", "output 7"),
+    (TableKind::Procedure, "procedure", "procedure 8"),
+    (
+        TableKind::UnitProcedure,
+        "unit_procedure",
+        "unit_procedure 9",
+    ),
+    (TableKind::Operation, "operation", "operation 10"),
+    (TableKind::Phase, "phase", "phase 11"),
+];
+
+#[test]
+fn words_of_tables(rt: HostRuntime) -> Result<(), Fail> {
+    for (entry, (kind, word, spot)) in WORDS.into_iter().enumerate() {
+        let printed = format!(in rt.alloc(); "{kind}")?;
+        assert_eq!(rt; printed.as_str(), word);
+        let printed = format!(in rt.alloc(); "{}", Spot { kind, entry })?;
+        assert_eq!(rt; printed.as_str(), spot);
+    }
+    Ok(())
+}
