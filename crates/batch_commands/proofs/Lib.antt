@@ -5,3 +5,5 @@ pub mod Grown
 pub mod RecipesRead
 pub mod CommandRows
 pub mod Halted
+pub mod Outcomes
+pub mod Successes

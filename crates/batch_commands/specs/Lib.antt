@@ -3,3 +3,5 @@ pub mod VerdictTexts
 pub mod Judging
 pub mod Reading
 pub mod Halting
+pub mod Running
+pub mod Statuses

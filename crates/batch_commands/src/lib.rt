@@ -5,6 +5,7 @@ mod command;
 mod documents;
 mod files;
 mod judging;
+mod laws;
 mod running;
 #[cfg(test)]
 mod tests;
@@ -17,7 +18,8 @@ pub use documents::{Documents, check_documents, verify_documents};
 pub use judging::{
     MAX_CERTIFICATE_LEN, check_recipes, judge_cell, judge_certificate, judge_recipe, verify_recipes,
 };
-pub use running::run;
+pub use laws::statuses_tell;
+pub use running::{run, run_words};
 pub use texts::{certificate_refused, certificate_text, document_text, fault_text, refusal_text};
 pub use verdict::{Ending, Halt, Verdict};
 pub use words::parse;

@@ -1,53 +1,78 @@
 //! Running the program's commands.
+ghost use Rattle.std.specs.Prelude.{◌≡◌, IfSome, map, string_bytes};
+ghost use Rattle.batch_commands.specs.Running.{IsExitStatus, IsPrinted, IsRun, IsTold};
+
 use crate::command::{Command, CommandFault};
-use crate::documents::{check_documents, verify_documents};
+use crate::documents::{Documents, check_documents, verify_documents};
 use crate::files::FilesOf;
 use crate::verdict::{Halt, Verdict};
 use crate::words::parse;
-use std::io::ErrorKind;
+use std::alloc::Global;
+use std::io::{ErrorKind, Write};
 use std::process::ExitCode;
-use std::rt::{Env, Files};
 use std::{env, io};
+
+/// The exit status where help was asked for.
+const SUCCESS: u8 = 0;
 
 /// The exit status where the words are no command.
 const USAGE: u8 = 2;
 
-/// The exit status where a file can't be read or written.
+/// The exit status where a file can't be read, or standard output can't be written.
 const FILE_FAULT: u8 = 3;
 
 /// The exit status where memory ran out.
 const NO_MEMORY: u8 = 4;
 
-/// Runs the command that stands in the words of the process, and gives the exit status, or None where the program is to serve.
-///
-/// Verdicts and help go to standard output, and all else to standard error.
-pub fn run<R: Env + Files + Print + Eprint + AllocGlobal>(rt: &R) -> Option<ExitCode> {
-    match words_of(rt) {
-        Ok(words) => run_words(rt, &words),
-        Err(error) if error.kind() == ErrorKind::OutOfMemory => Some(complain(
-            rt,
-            "out of memory\n",
-            NO_MEMORY,
-        )),
-        Err(_) => Some(complain(rt, "an argument is no text\n", USAGE)),
-    }
+const OUT_OF_MEMORY: &str = "out of memory\n";
+
+/// Runs the command that stands in the words of the process, over its files and its streams, and gives the exit status, or
+/// None where the program is to serve.
+pub fn run(rt: &HostRuntime) -> Option<ExitCode>
+    ensures { IfSome result IsExitStatus }
+{
+    let mut errors = rt.stderr();
+    let status = match words_of(rt) {
+        Ok(words) => run_words(
+            rt.alloc(),
+            &words,
+            &FilesOf(rt),
+            &mut rt.stdout(),
+            &mut errors,
+        )?,
+        Err(error) if error.kind() == ErrorKind::OutOfMemory => {
+            complain(&mut errors, OUT_OF_MEMORY, NO_MEMORY)
+        }
+        Err(_) => complain(&mut errors, "an argument is no text\n", USAGE),
+    };
+    Some(ExitCode::from(status))
 }
 
 /// The words after the program's name.
-fn words_of<R: Env + AllocGlobal>(rt: &R) -> io::Result<Vec<String>> {
+fn words_of(rt: &HostRuntime) -> io::Result<Vec<String>> {
     Ok(env::args(rt)?.skip(1).collect(rt.alloc())?)
 }
 
-fn run_words<R: Files + Print + Eprint + AllocGlobal>(
-    rt: &R,
+/// Runs the command that the words name, and gives the exit status, or None where the program is to serve.
+///
+/// Verdicts and help go to the output, and all else, in a free text, to the errors. Where that text can't be written the
+/// exit status is the same.
+pub fn run_words<D: Documents, O: Write, E: Write>(
+    alloc: Global,
     words: &[String],
-) -> Option<ExitCode> {
-    let alloc = rt.alloc();
+    documents: &D,
+    output: &mut O,
+    errors: &mut E,
+) -> Option<u8>
+    ensures { IsRun (D.gives documents.now) (map string_bytes words.now)
+        (record { before = O.contents output.old; after = O.contents output.new })
+        (record { before = E.contents errors.old; after = E.contents errors.new }) result }
+{
     match parse(alloc, words) {
         Ok(Command::Serve) => None,
         Ok(Command::Check { cell, recipes }) => {
-            let outcome = check_documents(alloc, &FilesOf(rt), &cell, &recipes);
-            Some(end(rt, outcome))
+            let outcome = check_documents(alloc, documents, &cell, &recipes);
+            Some(tell(&outcome, output, errors))
         }
         Ok(
             Command::Verify {
@@ -56,32 +81,43 @@ fn run_words<R: Files + Print + Eprint + AllocGlobal>(
                 recipes,
             },
         ) => {
-            let outcome = verify_documents(alloc, &FilesOf(rt), &cell, &certificate, &recipes);
-            Some(end(rt, outcome))
+            let outcome = verify_documents(alloc, documents, &cell, &certificate, &recipes);
+            Some(tell(&outcome, output, errors))
         }
-        Err(CommandFault::Help(text)) => Some(print(rt, &text, 0)),
-        Err(CommandFault::Usage(text)) => Some(complain(rt, &text, USAGE)),
-        Err(CommandFault::Memory) => Some(complain(rt, "out of memory\n", NO_MEMORY)),
+        Err(CommandFault::Help(text)) => Some(print(output, &text, SUCCESS)),
+        Err(CommandFault::Usage(text)) => Some(complain(errors, &text, USAGE)),
+        Err(CommandFault::Memory) => Some(complain(errors, OUT_OF_MEMORY, NO_MEMORY)),
     }
 }
 
-fn end<R: Print + Eprint>(rt: &R, outcome: Result<Verdict, Halt>) -> ExitCode {
+/// Tells how a command came out, and gives the exit status.
+fn tell<O: Write, E: Write>(outcome: &Result<Verdict, Halt>, output: &mut O, errors: &mut E) -> u8
+    ensures { IsTold (record { before = O.contents output.old; after = O.contents output.new })
+        (record { before = E.contents errors.old; after = E.contents errors.new }) outcome.now result }
+{
     match outcome {
-        Ok(verdict) => print(rt, &verdict.text, verdict.ending.status()),
-        Err(Halt::Refused(verdict)) => print(rt, &verdict.text, verdict.ending.status()),
-        Err(Halt::Unread(text)) => complain(rt, &text, FILE_FAULT),
-        Err(Halt::Memory) => complain(rt, "out of memory\n", NO_MEMORY),
+        Ok(verdict) | Err(Halt::Refused(verdict)) => {
+            print(output, &verdict.text, verdict.ending.status())
+        }
+        Err(Halt::Unread(text)) => complain(errors, text, FILE_FAULT),
+        Err(Halt::Memory) => complain(errors, OUT_OF_MEMORY, NO_MEMORY),
     }
 }
 
-fn print<R: Print>(rt: &R, text: &str, status: u8) -> ExitCode {
-    match rt.print(text) {
-        Ok(()) => ExitCode::from(status),
-        Err(_) => ExitCode::from(FILE_FAULT),
+/// Prints the text, and gives the wanted exit status, or that of a write that fails.
+fn print<O: Write>(output: &mut O, text: &str, wanted: u8) -> u8
+    ensures { IsPrinted (record { before = O.contents output.old; after = O.contents output.new }) text.now wanted result }
+{
+    match output.write_all(text.as_bytes()) {
+        Ok(()) => wanted,
+        Err(_) => FILE_FAULT,
     }
 }
 
-fn complain<R: Eprint>(rt: &R, text: &str, status: u8) -> ExitCode {
-    let _ = rt.eprint(text);
-    ExitCode::from(status)
+/// Writes the text if it can, and gives the exit status in any case.
+fn complain<E: Write>(errors: &mut E, text: &str, status: u8) -> u8
+    ensures { result ≡ status }
+{
+    let _ = errors.write_all(text.as_bytes());
+    status
 }

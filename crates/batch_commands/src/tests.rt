@@ -3,5 +3,6 @@ mod command_line;
 mod judged_documents;
 mod row_documents;
 mod rows;
+mod running;
 mod shelf;
 mod verdict_texts;
