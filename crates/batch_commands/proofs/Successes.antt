@@ -65,19 +65,19 @@ accepts Accepted is = refl
 accepts Refused is = absurd cc
 accepts OutOfMemory is = absurd cc
 
-printed_success : (output : Stream) (text : List ℕ) (ending : Ending) (status : ℕ) → IsPrinted output text (status_of ending) status → status ≡ 0
+printed_success : (output errors : Stream) (text : List ℕ) (ending : Ending) (status : ℕ) → IsPrinted output errors text (status_of ending) status → status ≡ 0
     → Appends output.before output.after text × (ending ≡ Accepted)
-printed_success output text ending status (inl (appends, same)) is = (appends, accepts ending (sym same ∙ is))
-printed_success output text ending status (inr fault) is = absurd cc
+printed_success output errors text ending status (inl (appends, _, same)) is = (appends, accepts ending (sym same ∙ is))
+printed_success output errors text ending status (inr fault) is = absurd cc
 
 success_of : (gives : Gives) (output errors : Stream) (command : Command) (outcome : Result Verdict Halt) (status : ℕ)
     → IsOutcome gives command outcome → IsTold output errors outcome status → status ≡ 0 → IsSuccess gives command output
 success_of gives output errors Serve outcome status came told is = absurd came
-success_of gives output errors (Check cell recipes) (Ok verdict) status came (printed, _) is =
-    let (appends, accepted) = printed_success output _ verdict.ending status printed is in
+success_of gives output errors (Check cell recipes) (Ok verdict) status came printed is =
+    let (appends, accepted) = printed_success output errors _ verdict.ending status printed is in
     (string_bytes verdict.text, appends, rw accepted at came)
-success_of gives output errors (Verify cell certificate recipes) (Ok verdict) status came (printed, _) is =
-    let (appends, accepted) = printed_success output _ verdict.ending status printed is in
+success_of gives output errors (Verify cell certificate recipes) (Ok verdict) status came printed is =
+    let (appends, accepted) = printed_success output errors _ verdict.ending status printed is in
     let Judged : Ending → Type 0 = IsVerified came.equipment came.recipes came.ranks (string_bytes verdict.text) in
     let judged = subst Judged accepted came.judged in (
       rw judged.0 at appends,
@@ -92,10 +92,10 @@ success_of gives output errors (Verify cell certificate recipes) (Ok verdict) st
         cleared = judged.2;
       },
     )
-success_of gives output errors (Check cell recipes) (Err (halt.Refused verdict)) status came (printed, _) is =
-    absurd (came.1 (printed_success output _ verdict.ending status printed is).1)
-success_of gives output errors (Verify cell certificate recipes) (Err (halt.Refused verdict)) status came (printed, _) is =
-    absurd (came.1 (printed_success output _ verdict.ending status printed is).1)
+success_of gives output errors (Check cell recipes) (Err (halt.Refused verdict)) status came printed is =
+    absurd (came.1 (printed_success output errors _ verdict.ending status printed is).1)
+success_of gives output errors (Verify cell certificate recipes) (Err (halt.Refused verdict)) status came printed is =
+    absurd (came.1 (printed_success output errors _ verdict.ending status printed is).1)
 success_of gives output errors (Check cell recipes) (Err (halt.Unread message)) status came (_, fault) is = absurd cc
 success_of gives output errors (Verify cell certificate recipes) (Err (halt.Unread message)) status came (_, fault) is = absurd cc
 success_of gives output errors (Check cell recipes) (Err halt.Memory) status came (_, fault) is = absurd cc
@@ -106,7 +106,7 @@ told_success : (gives : Gives) (words : List Text) (output errors : Stream) (com
 told_success gives words output errors command _ named (serves _ _ _) is = absurd cc
 told_success gives words output errors command _ named (judges other outcome status named2 came told) is =
     success_of gives output errors command outcome status (same_outcome gives (subcommand_of program_app words) other command outcome named2.1 named.1 came) told cc
-told_success gives words output errors command _ named (helps text status asked _ _) is = absurd (no_fault words command _ named asked)
+told_success gives words output errors command _ named (helps text status asked _) is = absurd (no_fault words command _ named asked)
 told_success gives words output errors command _ named (misuses _ _) is = absurd cc
 told_success gives words output errors command _ named (starves _) is = absurd cc
 
@@ -117,6 +117,6 @@ pub no_command_serves : (gives : Gives) → NoCommandServes gives
 no_command_serves gives words output errors _ named (serves _ _ _) = inl refl
 no_command_serves gives words output errors _ named (judges other outcome status named2 came told) =
     absurd (same_outcome gives (subcommand_of program_app words) other Serve outcome named2.1 named.1 came)
-no_command_serves gives words output errors _ named (helps text status asked _ _) = absurd (no_fault words Serve _ named asked)
+no_command_serves gives words output errors _ named (helps text status asked _) = absurd (no_fault words Serve _ named asked)
 no_command_serves gives words output errors _ named (misuses (kind, among, _) _) = absurd (no_fault words Serve kind named among)
 no_command_serves gives words output errors _ named (starves _) = inr refl

@@ -48,9 +48,11 @@ pub record Stream : Type 0 where
 abbrev pub IsUntouched : Stream → Type 0
 IsUntouched s = Keeps s.before s.after
 
--- the text was written whole and the program ends with the wanted status, or a write failed and it ends with that of a fault
-abbrev pub IsPrinted : Stream → List ℕ → ℕ → ℕ → Type 0
-IsPrinted s text wanted status = (Appends s.before s.after text × (status ≡ wanted)) ⊎ (status ≡ fault_status)
+-- the text was written whole to the output, nothing to the errors, and the program ends with the wanted status; or a write
+-- failed, which is told on the errors, and it ends with the status of a fault
+abbrev pub IsPrinted : Stream → Stream → List ℕ → ℕ → ℕ → Type 0
+IsPrinted output errors text wanted status =
+    (Appends output.before output.after text × IsUntouched errors × (status ≡ wanted)) ⊎ (status ≡ fault_status)
 
 -- Commands
 
@@ -76,8 +78,8 @@ IsOutcome gives (Verify cell certificate recipes) (Err h) =
 -- verdicts and refusals are printed; a file that can't be read and want of memory leave the output as it was, and are told on
 -- the errors in a free text
 abbrev pub IsTold : Stream → Stream → Result Verdict Halt → ℕ → Type 0
-IsTold output errors (Ok verdict) status = IsPrinted output (string_bytes verdict.text) (status_of verdict.ending) status × IsUntouched errors
-IsTold output errors (Err (halt.Refused verdict)) status = IsPrinted output (string_bytes verdict.text) (status_of verdict.ending) status × IsUntouched errors
+IsTold output errors (Ok verdict) status = IsPrinted output errors (string_bytes verdict.text) (status_of verdict.ending) status
+IsTold output errors (Err (halt.Refused verdict)) status = IsPrinted output errors (string_bytes verdict.text) (status_of verdict.ending) status
 IsTold output errors (Err (halt.Unread message)) status = IsUntouched output × (status ≡ fault_status)
 IsTold output errors (Err halt.Memory) status = IsUntouched output × (status ≡ memory_status)
 
@@ -90,7 +92,7 @@ pub data IsRun (gives : Gives) (words : List Text) (output errors : Stream) : Op
       → IsNamed words command → IsOutcome gives command outcome → IsTold output errors outcome status
       → IsRun gives words output errors (Some status)
   helps : (text : List ℕ) (status : ℕ)
-      → IsAmong DisplayHelp (fault_of program_app words) → IsPrinted output text help_status status → IsUntouched errors
+      → IsAmong DisplayHelp (fault_of program_app words) → IsPrinted output errors text help_status status
       → IsRun gives words output errors (Some status)
   misuses : AreMisused words → IsUntouched output → IsRun gives words output errors (Some usage_status)
   -- there was no memory to read the words

@@ -26,6 +26,8 @@ const NO_MEMORY: u8 = 4;
 
 const OUT_OF_MEMORY: &str = "out of memory\n";
 
+const UNWRITTEN: &str = "standard output can't be written\n";
+
 /// Runs the command that stands in the words of the process, over its files and its streams, and gives the exit status, or
 /// None where the program is to serve.
 pub fn run(rt: &HostRuntime) -> Option<ExitCode>
@@ -84,7 +86,7 @@ pub fn run_words<D: Documents, O: Write, E: Write>(
             let outcome = verify_documents(alloc, documents, &cell, &certificate, &recipes);
             Some(tell(&outcome, output, errors))
         }
-        Err(CommandFault::Help(text)) => Some(print(output, &text, SUCCESS)),
+        Err(CommandFault::Help(text)) => Some(print(output, errors, &text, SUCCESS)),
         Err(CommandFault::Usage(text)) => Some(complain(errors, &text, USAGE)),
         Err(CommandFault::Memory) => Some(complain(errors, OUT_OF_MEMORY, NO_MEMORY)),
     }
@@ -97,7 +99,7 @@ fn tell<O: Write, E: Write>(outcome: &Result<Verdict, Halt>, output: &mut O, err
 {
     match outcome {
         Ok(verdict) | Err(Halt::Refused(verdict)) => {
-            print(output, &verdict.text, verdict.ending.status())
+            print(output, errors, &verdict.text, verdict.ending.status())
         }
         Err(Halt::Unread(text)) => complain(errors, text, FILE_FAULT),
         Err(Halt::Memory) => complain(errors, OUT_OF_MEMORY, NO_MEMORY),
@@ -105,12 +107,13 @@ fn tell<O: Write, E: Write>(outcome: &Result<Verdict, Halt>, output: &mut O, err
 }
 
 /// Prints the text, and gives the wanted exit status, or that of a write that fails.
-fn print<O: Write>(output: &mut O, text: &str, wanted: u8) -> u8
-    ensures { IsPrinted (record { before = O.contents output.old; after = O.contents output.new }) text.now wanted result }
+fn print<O: Write, E: Write>(output: &mut O, errors: &mut E, text: &str, wanted: u8) -> u8
+    ensures { IsPrinted (record { before = O.contents output.old; after = O.contents output.new })
+        (record { before = E.contents errors.old; after = E.contents errors.new }) text.now wanted result }
 {
     match output.write_all(text.as_bytes()) {
         Ok(()) => wanted,
-        Err(_) => FILE_FAULT,
+        Err(_) => complain(errors, UNWRITTEN, FILE_FAULT),
     }
 }
 

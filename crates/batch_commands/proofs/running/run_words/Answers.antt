@@ -40,7 +40,7 @@ returns-in-Ok-Verify g c =
 pub returns-in-Err-Help : goal.returns-in-Err-Help
 returns-in-Err-Help g c =
     let Faulty : CommandFault → Type 0 = IsFaultOf (fault_of program_app (map string_bytes c.args.words.now)) in
-    helps _ _ (subst Faulty c.in-Err-Help.field-0-is c.in-Err-Help.ensures.fault) c.print.ensures (Keeps-refl _)
+    helps _ _ (subst Faulty c.in-Err-Help.field-0-is c.in-Err-Help.ensures.fault) c.print.ensures
 
 pub returns-in-Err-Usage : goal.returns-in-Err-Usage
 returns-in-Err-Usage g c =
