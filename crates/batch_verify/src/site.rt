@@ -1,8 +1,8 @@
 //! What a walk over the nodes of a recipe goes by.
 ghost use Rattle.std.specs.Prelude.{◌≡◌};
-ghost use Rattle.batch_verify.specs.declared.site.Stop.TheVariants.{Memory};
+ghost use Rattle.batch_verify.specs.declared.site.Stop.TheVariants.{Found, Memory};
 
-use crate::rule::Broken;
+use crate::rule::{Broken, Rule};
 use batch_cell::Cell;
 use batch_recipe::Acts;
 use std::alloc::{AllocError, Global};
@@ -29,6 +29,15 @@ pub struct Path {
 pub enum Stop {
     Found(Broken),
     Memory(AllocError),
+}
+
+impl Stop {
+    /// The node with this number breaks the rule.
+    pub(crate) fn at(node: u16, rule: Rule) -> Stop
+        ensures { result ≡ Found (record { node = node; rule = rule }) }
+    {
+        Stop::Found(Broken { node, rule })
+    }
 }
 
 impl From<AllocError> for Stop {

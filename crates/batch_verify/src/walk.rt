@@ -131,7 +131,7 @@ fn walk_act(
         (λ unit place above. parts depth place above (act_tree (named_tree (tables_from site.now.acts.now level)) unit act.now place)) node result }
 {
     match enter(act, site, path) {
-        Err(rule) => Err(Stop::Found(Broken { node, rule })),
+        Err(rule) => Err(Stop::at(node, rule)),
         Ok(within) => match &act.work {
             Work::Runs { .. } => Ok(node + 1),
             Work::Follows(chart) => walk(chart, site, level, within, node + 1),
@@ -166,20 +166,14 @@ fn walk(
         Chart::Seq(parts) => walk_each(parts, site, level, path, node + 1),
         Chart::Par(parts) => {
             if !run_apart(parts, site, level)? {
-                return Err(Stop::Found(Broken {
-                    node,
-                    rule: Rule::SamePhaseInParallel,
-                }));
+                return Err(Stop::at(node, Rule::SamePhaseInParallel));
             }
             walk_each(parts, site, level, path, node + 1)
         }
         Chart::Sel(choices, last) => walk_choices(choices, last, site, level, path, node + 1),
         Chart::Loop(_, _, body) => {
             if !surely_runs(body, site.acts, level) {
-                return Err(Stop::Found(Broken {
-                    node,
-                    rule: Rule::LoopWithoutPhase,
-                }));
+                return Err(Stop::at(node, Rule::LoopWithoutPhase));
             }
             walk(body, site, level, path, node + 1)
         }
