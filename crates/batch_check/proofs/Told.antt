@@ -21,7 +21,8 @@ use Rattle.batch_recipe.specs.WellFormed.{is_among, are_distinct}
 use Rattle.batch_model.specs.Lists.{Each}
 use Rattle.batch_check.specs.ByName.{name_in, IsBelow, IsCertificateOf}
 use Rattle.batch_verify.specs.Refusals.{rank_in}
-use Rattle.batch_check.specs.RanksTold.{rank_told, TellsRanks}
+use Rattle.batch_verify.specs.Ranked.{rank_of}
+use Rattle.batch_check.specs.RanksTold.{TellsRanks}
 use Rattle.batch_check.proofs.Entries.{Entry}
 use Rattle.batch_check.proofs.Names.{resources_distinct, rank_in-name}
 
@@ -89,14 +90,14 @@ module _ (c : Cell) (ranks : List ℕ) (entries : List Entry) (same : length ran
       lookup-from_Contains nat_list_eq_equiv (name_in c k) (get_or ranks k 0) entries keys_distinct
       (Contains-permutation (zip (resources_of c) ranks) entries (name_in c k, get_or ranks k 0) certified.whole here)
 
-  abbrev rank_of : Option ℕ → ℕ
-  rank_of None = 0
-  rank_of (Some number) = get_or ranks number 0
+  abbrev rank_found : Option ℕ → ℕ
+  rank_found None = 0
+  rank_found (Some number) = get_or ranks number 0
 
-  told : (name : Name) → rank_told entries name ≡ rank_in c ranks name
+  told : (name : Name) → rank_of entries name ≡ rank_in c ranks name
   told name = go (lookup (same_name name) entries) refl
     where
-      without : (p : Option ℕ) → position (same_name name) (resources_of c) ≡ p → lookup (same_name name) entries ≡ None → unwrap_or None 0 ≡ rank_of p
+      without : (p : Option ℕ) → position (same_name name) (resources_of c) ≡ p → lookup (same_name name) entries ≡ None → unwrap_or None 0 ≡ rank_found p
       without None is none = refl
       without (Some k) is none =
           let found = position-Some (same_name name) (resources_of c) k [] is in
@@ -110,19 +111,21 @@ module _ (c : Cell) (ranks : List ℕ) (entries : List Entry) (same : length ran
           let entry = entry_number name rank (Contains-from_lookup same_by_test name rank entries is) in
           sym entry.3 ∙ (sym (rank_in-name c ranks entry.0 entry.1) ∙ ap (rank_in c ranks) entry.2)
 
-  numbered : map (rank_told entries) (resources_of c) ≡ ranks
+  numbered : map (rank_of entries) (resources_of c) ≡ ranks
   numbered =
-      same_lists (map (rank_told entries) (resources_of c)) ranks (length-map (resources_of c) (rank_told entries) ∙ sym same)
+      same_lists (map (rank_of entries) (resources_of c)) ranks (length-map (resources_of c) (rank_of entries) ∙ sym same)
       (λ k d in'.
-      let inside : k < length (resources_of c) = subst (λ n. k < n) (length-map (resources_of c) (rank_told entries)) in' in
-      get_or-map (rank_told entries) (resources_of c) k [] d inside
+      let inside : k < length (resources_of c) = subst (λ n. k < n) (length-map (resources_of c) (rank_of entries)) in' in
+      get_or-map (rank_of entries) (resources_of c) k [] d inside
       ∙ (ap (λ o. unwrap_or o 0) (entry_found k inside) ∙ get_or_default ranks k 0 d (omega (arith, same))))
 
   pub TellsRanks-certificate : TellsRanks c ranks entries
   TellsRanks-certificate = record {
-    once = distinct_names (keys_of entries) keys_distinct;
-    known = all_among (keys_of entries) (resources_of c) (IsPermutation-sym (resources_of c) (keys_of entries) names_moved);
-    complete = all_among (resources_of c) (keys_of entries) names_moved;
+    ranked = record {
+      once = distinct_names (keys_of entries) keys_distinct;
+      known = all_among (keys_of entries) (resources_of c) (IsPermutation-sym (resources_of c) (keys_of entries) names_moved);
+      complete = all_among (resources_of c) (keys_of entries) names_moved;
+    };
     by_number = numbered;
     by_name = λ i name. told name i;
     in_order = λ k d low in'. not_before (get_or entries k d).0 (get_or entries (k + 1) d).0 (certified.in_order k (k + 1) d (omega arith) in');

@@ -21,8 +21,7 @@ returns-in_err-ranks-clause-none c =
 pub returns-clause-ranked : goal.returns-clause-ranked
 returns-clause-ranked c =
     let h : IsCertificateOf c.args.cell.now c.in_ok-ranks.ranks.items c.in_ok-ranks-2.ranks.items = rw c.deref.ensures.value at c.in_ok-ranks-2.ensures in
-    let told = TellsRanks-certificate c.args.cell.now c.in_ok-ranks.ranks.items c.in_ok-ranks-2.ranks.items c.in_ok-ranks.ensures.least.complete h in
-    record { once = told.once; known = told.known; complete = told.complete }
+    (TellsRanks-certificate c.args.cell.now c.in_ok-ranks.ranks.items c.in_ok-ranks-2.ranks.items c.in_ok-ranks.ensures.least.complete h).ranked
 
 pub returns-clause-in_order : goal.returns-clause-in_order
 returns-clause-in_order c =
