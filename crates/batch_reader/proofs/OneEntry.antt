@@ -1,8 +1,9 @@
 -- An entry of a table says one thing at most.
-use Rattle.std.proofs.Common.{◌≡◌, ℕ, ◌<◌, ◌≤◌, inl, inr, List, [], ◌∷◌, length, Some, None, refl, sym, ◌∙◌, arith}
+use Rattle.std.proofs.Common.{◌≡◌, ℕ, ◌<◌, ◌≤◌, nat_lt, true, false, inl, inr, List, [], ◌∷◌, length, Option, Some, None, refl, sym, ◌∙◌, arith}
 use Rattle.std.proofs.lemmas.List.{map-id}
+use Rattle.std.proofs.lemmas.Bool.Decides.{nat_tests}
 use Rattle.std.specs.Option.{option_and_then}
-use Rattle.toml.specs.Data.{Data, Members, get_member, as_str, as_table}
+use Rattle.toml.specs.Data.{Data, Items, Members, get_member, as_str, as_table}
 use Rattle.toml.specs.View.{items_view}
 use Rattle.toml.specs.declared.value.Value.{Value}
 use Rattle.batch_recipe.specs.Diagram.{Diagram}
@@ -10,6 +11,8 @@ use Rattle.batch_grammar.proofs.ChartRead.{at_most_one}
 use Rattle.batch_grammar.specs.ChartGrammar.{IsChart}
 use Rattle.batch_reader.proofs.Items.{AllItems_same}
 use Rattle.batch_reader.specs.Entries.{AllItems, IsNameItem, HasLabel, HasName, HasNameOr, HasChart, HasFewNames, HasTable, items_at}
+use Rattle.batch_reader.specs.Faults.{count_items, few_names_fault}
+use Rattle.batch_reader.specs.declared.fault.EntryFault.TheVariants.{OutOfLimit, WrongKind}
 
 -- a list has as many items as it says names
 AllItems_length : {X : Type 0} (R : Data → X → Type 0) (vs : List Value) (xs : List X) → AllItems R (items_view vs) xs → length vs ≡ length xs
@@ -29,6 +32,21 @@ few_names_refused key ms vs most found many names h =
     let same : h.items ≡ items_view vs = cc (h.found, found) in
     let count : length vs ≡ length names = AllItems_length IsNameItem vs names (rw same at h.listed) in
     omega (arith, h.few)
+
+count_items-view : (vs : List Value) → count_items (items_view vs) ≡ length vs
+count_items-view [] = refl
+count_items-view (v ∷ vs) = omega (arith, count_items-view vs)
+
+-- what is told of a list of names, as its length says
+pub few_names_fault-long : (most : ℕ) (found : Option Items) (vs : List Value) → found ≡ Some (items_view vs) → most < length vs → OutOfLimit ≡ few_names_fault most found
+few_names_fault-long most found vs is_list many =
+    let long : nat_lt most (count_items (items_view vs)) ≡ true = rw (count_items-view vs) (grind (arith, nat_tests)) in
+    rw (is_list, long) refl
+
+pub few_names_fault-short : (most : ℕ) (found : Option Items) (vs : List Value) → found ≡ Some (items_view vs) → length vs ≤ most → few_names_fault most found ≡ WrongKind
+few_names_fault-short most found vs is_list few =
+    let short : nat_lt most (count_items (items_view vs)) ≡ false = rw (count_items-view vs) (grind (arith, nat_tests)) in
+    rw (is_list, short) refl
 
 -- where a text is one of no chart, a table with it has none
 pub chart_refused : (key : List ℕ) (ms : Members) (text : List ℕ) → option_and_then as_str (get_member key ms) ≡ Some text

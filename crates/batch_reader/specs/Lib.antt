@@ -1,5 +1,6 @@
 pub mod Entries
 pub mod Words
+pub mod Faults
 pub mod CellDocument
 pub mod FormedActs
 pub mod Naming

@@ -4,6 +4,7 @@ ghost use Rattle.toml.specs.View.{table_view};
 ghost use Rattle.batch_recipe.specs.declared.act.Act.{Act};
 ghost use Rattle.batch_reader.specs.Entries.{HasTable};
 ghost use Rattle.batch_reader.specs.RecipeTables.{IsActTable, IsProcedureTable, IsUnitProcedureTable, IsOperationTable, IsPhaseTable};
+ghost use Rattle.batch_reader.specs.Faults.{IsAt};
 
 use crate::chart_entry::{chart_at, chart_without_par_at};
 use crate::entries::{has_only_keys, member, name_at};
@@ -38,6 +39,7 @@ fn unit_procedure(alloc: Global, table: &Table, spot: Spot) -> Result<Act, Table
     ensures ok { IfOk result (IsUnitProcedureTable (table_view table.now)) }
     ensures refused { IfErr result (λ fault. fault ≢ TableFault.Memory
         → (act : Act) → ¬ (IsUnitProcedureTable (table_view table.now) act)) }
+    ensures told { IfErr result (IsAt spot) }
 {
     if !has_only_keys(table, &["name", "unit", "needs", "chart"]) {
         return Err(TableFault::Entry(spot, EntryFault::UnknownKey));
@@ -58,6 +60,7 @@ fn operation(alloc: Global, table: &Table, spot: Spot) -> Result<Act, TableFault
     ensures ok { IfOk result (IsOperationTable (table_view table.now)) }
     ensures refused { IfErr result (λ fault. fault ≢ TableFault.Memory
         → (act : Act) → ¬ (IsOperationTable (table_view table.now) act)) }
+    ensures told { IfErr result (IsAt spot) }
 {
     if !has_only_keys(table, &["name", "needs", "chart"]) {
         return Err(TableFault::Entry(spot, EntryFault::UnknownKey));
@@ -77,6 +80,7 @@ fn phase_step(alloc: Global, table: &Table, spot: Spot) -> Result<Act, TableFaul
     ensures ok { IfOk result (IsPhaseTable (table_view table.now)) }
     ensures refused { IfErr result (λ fault. fault ≢ TableFault.Memory
         → (act : Act) → ¬ (IsPhaseTable (table_view table.now) act)) }
+    ensures told { IfErr result (IsAt spot) }
 {
     if !has_only_keys(table, &["name", "runs", "needs", "values"]) {
         return Err(TableFault::Entry(spot, EntryFault::UnknownKey));
@@ -99,6 +103,7 @@ pub(crate) fn procedure_at(alloc: Global, table: &Table, name: Name) -> Result<A
     ensures named { IfOk result (λ act. act.name ≡ name) }
     ensures refused { IfErr result (λ fault. fault ≢ TableFault.Memory
         → (act : Act) → ¬ (HasTable IsProcedureTable (codes "procedure") (table_view table.now) act)) }
+    ensures told { IfErr result (IsAt PROCEDURE) }
 {
     let Some(value) = member(table, "procedure") else {
         return Err(TableFault::Entry(PROCEDURE, EntryFault::MissingKey));
@@ -114,6 +119,7 @@ fn procedure(alloc: Global, table: &Table, name: Name) -> Result<Act, TableFault
     ensures named { IfOk result (λ act. act.name ≡ name) }
     ensures refused { IfErr result (λ fault. fault ≢ TableFault.Memory
         → (act : Act) → ¬ (IsProcedureTable (table_view table.now) act)) }
+    ensures told { IfErr result (IsAt PROCEDURE) }
 {
     if !has_only_keys(table, &["needs", "chart"]) {
         return Err(TableFault::Entry(PROCEDURE, EntryFault::UnknownKey));

@@ -1,10 +1,13 @@
 //! Cell documents.
-ghost use Rattle.std.specs.Prelude.{◌≡◌, ◌≢◌, ◌<◌, Err, length, IfOk, IfErr, IsErrOf, IsSome, IsUtf8};
+ghost use Rattle.std.specs.Prelude.{◌≡◌, ◌≢◌, ◌<◌, true, length, Err, IfOk, IfErr, IsErrOf, IsSome, IsUtf8};
 ghost use Rattle.toml.specs.Parse.{parse_document};
 ghost use Rattle.toml.specs.View.{table_view};
 ghost use Rattle.batch_cell.specs.declared.cell.Cell.{Cell};
 ghost use Rattle.batch_reader.specs.CellDocument.{IsCellTable, IsCellDocument};
+ghost use Rattle.batch_reader.specs.Faults.{IsAmong, is_of_cell};
 ghost use Rattle.batch_reader.specs.declared.document.TheConstants.{MAX_DOCUMENT_LEN};
+ghost use Rattle.batch_reader.specs.declared.fault.EntryFault.{EntryFault};
+ghost use Rattle.batch_reader.specs.declared.fault.Spot.{Spot};
 
 use crate::document::{document_fault, table_of};
 use crate::entries::{has_only_keys, name_at};
@@ -28,6 +31,7 @@ pub fn read_cell(alloc: Global, bytes: &[u8]) -> Result<Cell, DocFault>
         → (cell : Cell) → ¬ (IsCellDocument bytes.now cell)) }
     ensures long { MAX_DOCUMENT_LEN < length bytes.now
         → result ≡ Err (DocFault.Entry (record { kind = TableKind.Cell; entry = 0 }) EntryFault.OutOfLimit) }
+    ensures told { (spot : Spot) (wrong : EntryFault) → IsErrOf result (DocFault.Entry spot wrong) → is_of_cell spot.kind ≡ true }
 {
     let table = table_of(alloc, bytes, TOP)?;
     match cell_from_table(alloc, &table) {
@@ -40,6 +44,7 @@ fn cell_from_table(alloc: Global, table: &Table) -> Result<Cell, TableFault>
     ensures ok { IfOk result (IsCellTable (table_view table.now)) }
     ensures refused { IfErr result (λ fault. fault ≢ TableFault.Memory
         → (cell : Cell) → ¬ (IsCellTable (table_view table.now) cell)) }
+    ensures told { IfErr result (IsAmong is_of_cell) }
 {
     if !has_only_keys(table, &["cell", "unit", "module", "shared"]) {
         return Err(TableFault::Entry(TOP, EntryFault::UnknownKey));

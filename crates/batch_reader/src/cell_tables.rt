@@ -4,6 +4,7 @@ ghost use Rattle.toml.specs.Data.{get_member};
 ghost use Rattle.toml.specs.View.{table_view};
 ghost use Rattle.batch_cell.specs.declared.module.Module.{Module};
 ghost use Rattle.batch_reader.specs.CellDocument.{IsUnitTable, IsModuleTable, IsSharedTable};
+ghost use Rattle.batch_reader.specs.Faults.{IsAt};
 
 use crate::entries::{has_only_keys, member, name_at, names_at, number_at};
 use crate::fault::{EntryFault, Spot, TableFault};
@@ -40,6 +41,7 @@ fn free_module(alloc: Global, table: &Table, spot: Spot) -> Result<Module, Table
     ensures ok { IfOk result (IsModuleTable (table_view table.now)) }
     ensures refused { IfErr result (λ fault. fault ≢ TableFault.Memory
         → (m : Module) → ¬ (IsModuleTable (table_view table.now) m)) }
+    ensures told { IfErr result (IsAt spot) }
 {
     if !has_only_keys(table, &["name"]) {
         return Err(TableFault::Entry(spot, EntryFault::UnknownKey));
@@ -57,6 +59,7 @@ fn unit_module(alloc: Global, table: &Table, spot: Spot) -> Result<Module, Table
     ensures ok { IfOk result (IsModuleTable (table_view table.now)) }
     ensures refused { IfErr result (λ fault. fault ≢ TableFault.Memory
         → (m : Module) → ¬ (IsModuleTable (table_view table.now) m)) }
+    ensures told { IfErr result (IsAt spot) }
 {
     if !has_only_keys(table, &["name", "unit", "phases"]) {
         return Err(TableFault::Entry(spot, EntryFault::UnknownKey));

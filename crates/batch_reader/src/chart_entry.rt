@@ -1,9 +1,10 @@
 //! The chart texts of tables.
-ghost use Rattle.std.specs.Prelude.{◌≡◌, ◌≢◌, ◌↔◌, None, true, codes, IfOk, IfErr};
+ghost use Rattle.std.specs.Prelude.{◌≡◌, ◌≢◌, ◌⊎◌, Some, true, codes, IfOk, IfErr};
 ghost use Rattle.toml.specs.View.{table_view};
 ghost use Rattle.batch_recipe.specs.Diagram.{Diagram, diagram_of};
 ghost use Rattle.batch_recipe.specs.WellFormed.{has_no_par};
 ghost use Rattle.batch_reader.specs.Entries.{HasChart};
+ghost use Rattle.batch_reader.specs.Faults.{HasNoChartAt, HasReadChart, IsAt, IsChartFault};
 
 use crate::entries::member;
 use crate::fault::{EntryFault, Spot, TableFault};
@@ -15,9 +16,11 @@ use toml::Table;
 /// The chart of the text at the key `chart`, and where its first `par` opens.
 fn read_chart_at(alloc: Global, table: &Table, spot: Spot) -> Result<ReadChart, TableFault>
     ensures ok { IfOk result (λ read. HasChart (codes "chart") (table_view table.now) (diagram_of read.chart)) }
-    ensures par { IfOk result (λ read. (read.first_par ≡ None) ↔ (has_no_par (diagram_of read.chart) ≡ true)) }
+    ensures read { IfOk result (λ read. HasReadChart (table_view table.now) (diagram_of read.chart) read.first_par) }
     ensures refused { IfErr result (λ fault. fault ≢ TableFault.Memory
         → (chart : Diagram) → ¬ (HasChart (codes "chart") (table_view table.now) chart)) }
+    ensures told { IfErr result (IsAt spot) }
+    ensures wrong { IfErr result (IsChartFault (HasNoChartAt (table_view table.now)) (table_view table.now)) }
 {
     let Some(value) = member(table, "chart") else {
         return Err(TableFault::Entry(spot, EntryFault::MissingKey));
@@ -43,6 +46,8 @@ pub(crate) fn chart_at(alloc: Global, table: &Table, spot: Spot) -> Result<Chart
     ensures ok { IfOk result (λ chart. HasChart (codes "chart") (table_view table.now) (diagram_of chart)) }
     ensures refused { IfErr result (λ fault. fault ≢ TableFault.Memory
         → (chart : Diagram) → ¬ (HasChart (codes "chart") (table_view table.now) chart)) }
+    ensures told { IfErr result (IsAt spot) }
+    ensures wrong { IfErr result (IsChartFault (HasNoChartAt (table_view table.now)) (table_view table.now)) }
 {
     let read = read_chart_at(alloc, table, spot)?;
     Ok(read.chart)
@@ -58,6 +63,9 @@ pub(crate) fn chart_without_par_at(
     ensures no_par { IfOk result (λ chart. has_no_par (diagram_of chart) ≡ true) }
     ensures refused { IfErr result (λ fault. fault ≢ TableFault.Memory
         → (chart : Diagram) → HasChart (codes "chart") (table_view table.now) chart → ¬ (has_no_par chart ≡ true)) }
+    ensures told { IfErr result (IsAt spot) }
+    ensures wrong { IfErr result (IsChartFault (λ offset. HasNoChartAt (table_view table.now) offset
+        ⊎ ((chart : Diagram) × HasReadChart (table_view table.now) chart (Some offset))) (table_view table.now)) }
 {
     let read = read_chart_at(alloc, table, spot)?;
     match read.first_par {

@@ -2,9 +2,10 @@
 ghost use Rattle.std.specs.Prelude.{◌≡◌, ◌≢◌, ◌≤◌, ℕ, List, Some, None, map, option_map, nat_eq, IfOk, IfErr};
 ghost use Rattle.std.specs.Cmp.Lexicographic.{pointwise};
 ghost use Rattle.std.specs.List.{list_any};
-ghost use Rattle.toml.specs.Data.{get_member};
+ghost use Rattle.toml.specs.Data.{as_integer, get_member};
 ghost use Rattle.toml.specs.View.{view, items_view, table_view};
 ghost use Rattle.batch_reader.specs.Entries.{HasName, HasNumber, HasNames, AllItems, IsNameItem, has_only_keys};
+ghost use Rattle.batch_reader.specs.Faults.{IsToldAs, missing_or_wrong, value_fault};
 
 use crate::fault::{EntryFault, Spot, TableFault};
 use batch_text::{Name, TextFault};
@@ -36,6 +37,7 @@ fn name_of(alloc: Global, value: &Value, spot: Spot) -> Result<Name, TableFault>
     ensures ok { IfOk result (IsNameItem (view value.now)) }
     ensures refused { IfErr result (λ fault. fault ≢ TableFault.Memory
         → (name : List ℕ) → ¬ (IsNameItem (view value.now) name)) }
+    ensures told { IfErr result (IsToldAs spot EntryFault.WrongKind) }
 {
     let Some(text) = value.as_str() else {
         return Err(TableFault::Entry(spot, EntryFault::WrongKind));
@@ -57,6 +59,7 @@ pub(crate) fn name_at(
     ensures ok { IfOk result (HasName key.now (table_view table.now)) }
     ensures refused { IfErr result (λ fault. fault ≢ TableFault.Memory
         → (name : List ℕ) → ¬ (HasName key.now (table_view table.now) name)) }
+    ensures told { IfErr result (IsToldAs spot (missing_or_wrong (get_member key.now (table_view table.now)))) }
 {
     let Some(value) = member(table, key) else {
         return Err(TableFault::Entry(spot, EntryFault::MissingKey));
@@ -74,6 +77,7 @@ pub(crate) fn number_at(
 ) -> Result<u64, TableFault>
     ensures ok { IfOk result (HasNumber key.now (table_view table.now) low high) }
     ensures refused { IfErr result (λ fault. (number : ℕ) → ¬ (HasNumber key.now (table_view table.now) low high number)) }
+    ensures told { IfErr result (λ fault. fault ≡ TableFault.Entry spot (value_fault as_integer (get_member key.now (table_view table.now)))) }
 {
     let Some(value) = member(table, key) else {
         return Err(TableFault::Entry(spot, EntryFault::MissingKey));
@@ -101,6 +105,7 @@ pub(crate) fn names_at(
     ensures ok { IfOk result (λ names. HasNames key.now (table_view table.now) names.items) }
     ensures refused { IfErr result (λ fault. fault ≢ TableFault.Memory
         → (names : List (List ℕ)) → ¬ (HasNames key.now (table_view table.now) names)) }
+    ensures told { IfErr result (IsToldAs spot (missing_or_wrong (get_member key.now (table_view table.now)))) }
 {
     let Some(value) = member(table, key) else {
         return Err(TableFault::Entry(spot, EntryFault::MissingKey));
@@ -116,6 +121,7 @@ pub(crate) fn names_of(alloc: Global, values: &[Value], spot: Spot) -> Result<Ve
     ensures ok { IfOk result (λ names. AllItems IsNameItem (items_view values.now) names.items) }
     ensures refused { IfErr result (λ fault. fault ≢ TableFault.Memory
         → (names : List (List ℕ)) → ¬ (AllItems IsNameItem (items_view values.now) names)) }
+    ensures told { IfErr result (IsToldAs spot EntryFault.WrongKind) }
 {
     let mut names = Vec::new(alloc);
     for value in values {

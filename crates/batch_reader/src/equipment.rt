@@ -1,8 +1,9 @@
 //! The conditions on a cell's equipment, and the indexes over it.
-ghost use Rattle.std.specs.Prelude.{◌≡◌, ◌≢◌, ◌≤◌, map, IfOk, IfErr, OnOk};
+ghost use Rattle.std.specs.Prelude.{◌≡◌, ◌≢◌, ◌≤◌, ◌<◌, Err, map, IfOk, IfErr, OnOk};
 ghost use Rattle.indexmap.specs.IndexSet.{keys};
 ghost use Rattle.batch_cell.specs.Equipment.{offered_phases, resource_names};
 ghost use Rattle.batch_reader.specs.CellDocument.{IsSoundEquipment};
+ghost use Rattle.batch_reader.specs.Faults.{IsAmong, is_of_cell};
 
 use crate::fault::{EntryFault, Spot, TableFault, TableKind};
 use crate::offered::offered_phases;
@@ -33,6 +34,7 @@ pub(crate) fn index_equipment(
     ensures offered { IfOk result (λ indexes. map keys indexes.offered.items ≡ offered_phases units.now modules.now) }
     ensures refused { IfErr result (λ fault. fault ≢ TableFault.Memory
         → ¬ (IsSoundEquipment units.now modules.now shared.now)) }
+    ensures told { IfErr result (IsAmong is_of_cell) }
 {
     check_count(units.len(), 1, MAX_UNITS, TableKind::Unit)?;
     check_count(modules.len(), 0, MAX_MODULES, TableKind::Module)?;
@@ -52,6 +54,8 @@ pub(crate) fn check_count(
     kind: TableKind,
 ) -> Result<(), TableFault>
     ensures ok { OnOk result ((least ≤ count) × (count ≤ most)) }
+    ensures few { count < least → result ≡ Err (TableFault.Entry (record { kind = kind; entry = 0 }) EntryFault.OutOfLimit) }
+    ensures many { IfErr result (λ fault. least ≤ count → fault ≡ TableFault.Entry (record { kind = kind; entry = most }) EntryFault.OutOfLimit) }
     ensures refused { IfErr result (λ fault. ¬ ((least ≤ count) × (count ≤ most))) }
 {
     if count < least {

@@ -1,7 +1,10 @@
 //! Names that have to differ.
-ghost use Rattle.std.specs.Prelude.{◌≡◌, ◌≢◌, ℕ, List, [], ◌∷◌, ◌++◌, map, nat_eq, OnOk, IfErr};
+ghost use Rattle.std.specs.Prelude.{◌≡◌, ◌≢◌, ℕ, List, [], ◌∷◌, ◌++◌, map, nat_eq, OnOk, IfErr, IsErrOf};
 ghost use Rattle.std.specs.Cmp.Lexicographic.{pointwise};
 ghost use Rattle.std.specs.List.{IsDistinct};
+ghost use Rattle.batch_reader.specs.Faults.{FailsFirst, IsToldAs, IsToldIn};
+ghost use Rattle.batch_reader.specs.declared.fault.EntryFault.{EntryFault};
+ghost use Rattle.batch_reader.specs.declared.fault.Spot.{Spot};
 
 use crate::fault::{EntryFault, Spot, TableFault, TableKind};
 use batch_text::Name;
@@ -27,6 +30,7 @@ pub(crate) fn add_name(
     ensures distinct { OnOk result (IsDistinct (pointwise nat_eq) names.new.keys) }
     ensures refused { IfErr result (λ fault. fault ≢ TableFault.Memory
         → ¬ (IsDistinct (pointwise nat_eq) (names.old.keys ++ name.now ∷ []))) }
+    ensures told { IfErr result (IsToldAs spot EntryFault.Duplicate) }
 {
     let Ok(copy) = name.copy(alloc) else {
         return Err(TableFault::Memory);
@@ -49,6 +53,9 @@ pub(crate) fn add_names<T: Named>(
     ensures distinct { OnOk result (IsDistinct (pointwise nat_eq) names.new.keys) }
     ensures refused { IfErr result (λ fault. fault ≢ TableFault.Memory
         → ¬ (IsDistinct (pointwise nat_eq) (names.old.keys ++ map T.name_of items.now))) }
+    ensures told { IfErr result (IsToldIn kind EntryFault.Duplicate) }
+    ensures first { (spot : Spot) (wrong : EntryFault) → IsErrOf result (TableFault.Entry spot wrong)
+        → FailsFirst (λ front. IsDistinct (pointwise nat_eq) (names.old.keys ++ map T.name_of front)) items.now spot.entry }
 {
     for (entry, item) in items.iter().enumerate() {
         add_name(alloc, names, item.name(), Spot { kind, entry })?;
@@ -68,6 +75,7 @@ pub(crate) fn add_list(
     ensures distinct { OnOk result (IsDistinct (pointwise nat_eq) names.new.keys) }
     ensures refused { IfErr result (λ fault. fault ≢ TableFault.Memory
         → ¬ (IsDistinct (pointwise nat_eq) (names.old.keys ++ list.now))) }
+    ensures told { IfErr result (IsToldAs spot EntryFault.Duplicate) }
 {
     for name in list {
         add_name(alloc, names, name, spot)?;

@@ -1,9 +1,12 @@
 //! The phases that units offer.
-ghost use Rattle.std.specs.Prelude.{◌≡◌, ◌≢◌, map, nat_eq, IfOk, OnOk, IfErr};
+ghost use Rattle.std.specs.Prelude.{◌≡◌, ◌≢◌, map, nat_eq, IfOk, OnOk, IfErr, IsErrOf};
 ghost use Rattle.std.specs.Cmp.Lexicographic.{pointwise};
 ghost use Rattle.std.specs.List.{IsDistinct};
 ghost use Rattle.indexmap.specs.IndexSet.{keys};
 ghost use Rattle.batch_cell.specs.Equipment.{OffersPhasesOnce, belongs_to, offered_phases, unit_phases};
+ghost use Rattle.batch_reader.specs.Faults.{FailsFirst, IsToldIn};
+ghost use Rattle.batch_reader.specs.declared.fault.EntryFault.{EntryFault};
+ghost use Rattle.batch_reader.specs.declared.fault.Spot.{Spot};
 
 use crate::fault::{Spot, TableFault, TableKind};
 use crate::names::add_list;
@@ -21,6 +24,7 @@ pub(crate) fn offered_phases(
     ensures ok { IfOk result (λ offered. map keys offered.items ≡ offered_phases units.now modules.now) }
     ensures once { OnOk result (OffersPhasesOnce units.now modules.now) }
     ensures refused { IfErr result (λ fault. fault ≢ TableFault.Memory → ¬ (OffersPhasesOnce units.now modules.now)) }
+    ensures told { IfErr result (IsToldIn TableKind.Module EntryFault.Duplicate) }
 {
     let mut offered = Vec::new(alloc);
     for unit in units {
@@ -36,6 +40,9 @@ fn unit_phases(alloc: Global, modules: &[Module], unit: &Name) -> Result<IndexSe
     ensures once { OnOk result (IsDistinct (pointwise nat_eq) (unit_phases modules.now unit.now)) }
     ensures refused { IfErr result (λ fault. fault ≢ TableFault.Memory
         → ¬ (IsDistinct (pointwise nat_eq) (unit_phases modules.now unit.now))) }
+    ensures told { IfErr result (IsToldIn TableKind.Module EntryFault.Duplicate) }
+    ensures first { (spot : Spot) (wrong : EntryFault) → IsErrOf result (TableFault.Entry spot wrong)
+        → FailsFirst (λ front. IsDistinct (pointwise nat_eq) (unit_phases front unit.now)) modules.now spot.entry }
 {
     let mut phases = IndexSet::new(alloc);
     for (entry, module) in modules.iter().enumerate() {

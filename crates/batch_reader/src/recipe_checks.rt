@@ -1,12 +1,15 @@
 //! The conditions on the parts of a recipe.
-ghost use Rattle.std.specs.Prelude.{◌≡◌, ◌≢◌, ◌≤◌, true, length, IfErr, OnOk};
+ghost use Rattle.std.specs.Prelude.{◌≡◌, ◌≢◌, ◌≤◌, true, length, IfErr, IsErrOf, OnOk};
 ghost use Rattle.std.specs.List.{list_all};
 ghost use Rattle.batch_recipe.specs.Procedure.{procedure_nodes};
 ghost use Rattle.batch_recipe.specs.WellFormed.{act_names, is_among, is_work};
 ghost use Rattle.batch_recipe.specs.declared.recipe.TheConstants.{MAX_NODES};
+ghost use Rattle.batch_reader.specs.Faults.{FailsFirst, IsAmong, IsToldIn, IsWrong, is_of_recipe};
 ghost use Rattle.batch_reader.specs.Naming.{acts_are_declared};
 ghost use Rattle.batch_reader.specs.FormedActs.{AreFormed, AreFormedActs, IsFormedWork};
 ghost use Rattle.batch_reader.specs.SoundRecipe.{IsSoundRecipe};
+ghost use Rattle.batch_reader.specs.declared.fault.EntryFault.{EntryFault};
+ghost use Rattle.batch_reader.specs.declared.fault.Spot.{Spot};
 
 use crate::chart_names::is_declared;
 use crate::equipment::check_count;
@@ -29,6 +32,7 @@ pub(crate) fn check_recipe(
     ensures ok { OnOk result (IsSoundRecipe inputs.now parameters.now outputs.now acts.now) }
     ensures refused { IfErr result (λ fault. fault ≢ TableFault.Memory
         → ¬ (IsSoundRecipe inputs.now parameters.now outputs.now acts.now)) }
+    ensures told { IfErr result (IsAmong is_of_recipe) }
 {
     check_count(inputs.len(), 0, MAX_ENTRIES, TableKind::Input)?;
     check_count(parameters.len(), 0, MAX_ENTRIES, TableKind::Parameter)?;
@@ -54,6 +58,7 @@ fn check_acts(alloc: Global, acts: &Acts, names: &RecipeNames) -> Result<(), Tab
     requires phases { names.now.phases.keys ≡ act_names acts.now.phases.items }
     ensures ok { OnOk result (acts_are_declared names.now.values.keys acts.now ≡ true) }
     ensures refused { IfErr result (λ fault. acts_are_declared names.now.values.keys acts.now ≢ true) }
+    ensures told { IfErr result (λ fault. (fault ≢ TableFault.Memory) × (IsAmong is_of_recipe fault × IsWrong EntryFault.Undeclared fault)) }
 {
     let values = &names.values;
     if !is_work(&acts.procedure, &names.unit_procedures, values) {
@@ -89,6 +94,9 @@ fn check_table(
     requires { AreFormedActs table.now }
     ensures ok { OnOk result (list_all (is_work labels.now.keys values.now.keys) table.now ≡ true) }
     ensures refused { IfErr result (λ fault. list_all (is_work labels.now.keys values.now.keys) table.now ≢ true) }
+    ensures told { IfErr result (λ fault. (fault ≢ TableFault.Memory) × IsToldIn kind EntryFault.Undeclared fault) }
+    ensures first { (spot : Spot) (wrong : EntryFault) → IsErrOf result (TableFault.Entry spot wrong)
+        → FailsFirst (λ front. list_all (is_work labels.now.keys values.now.keys) front ≡ true) table.now spot.entry }
 {
     for (entry, act) in table.iter().enumerate() {
         if !is_work(act, labels, values) {
@@ -120,6 +128,7 @@ fn are_among(names: &[Name], declared: &IndexSet<Name>) -> bool
 fn check_nodes(acts: &Acts) -> Result<(), TableFault>
     ensures ok { OnOk result (length (procedure_nodes acts.now) ≤ MAX_NODES) }
     ensures refused { IfErr result (λ fault. ¬ (length (procedure_nodes acts.now) ≤ MAX_NODES)) }
+    ensures told { IfErr result (λ fault. fault ≡ TableFault.Entry (record { kind = TableKind.Procedure; entry = 0 }) EntryFault.OutOfLimit) }
 {
     match count_nodes(acts) {
         Some(_) => Ok(()),

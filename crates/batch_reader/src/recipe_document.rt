@@ -6,9 +6,12 @@ ghost use Rattle.batch_recipe.specs.declared.acts.Acts.{Acts};
 ghost use Rattle.batch_recipe.specs.declared.header.Header.{Header};
 ghost use Rattle.batch_recipe.specs.declared.recipe.Recipe.{Recipe};
 ghost use Rattle.batch_reader.specs.Entries.{HasName, has_only_keys};
+ghost use Rattle.batch_reader.specs.Faults.{IsAmong, IsAt, is_of_recipe};
 ghost use Rattle.batch_reader.specs.RecipeTables.{HasHeader};
 ghost use Rattle.batch_reader.specs.RecipeDocument.{HasActs, IsRecipeTable, IsRecipeDocument, recipe_keys};
 ghost use Rattle.batch_reader.specs.declared.document.TheConstants.{MAX_DOCUMENT_LEN};
+ghost use Rattle.batch_reader.specs.declared.fault.EntryFault.{EntryFault};
+ghost use Rattle.batch_reader.specs.declared.fault.Spot.{Spot};
 
 use crate::act_tables::procedure_at;
 use crate::document::{document_fault, table_of};
@@ -35,6 +38,7 @@ pub fn read_recipe(alloc: Global, bytes: &[u8]) -> Result<Recipe, DocFault>
         → (recipe : Recipe) → ¬ (IsRecipeDocument bytes.now recipe)) }
     ensures long { MAX_DOCUMENT_LEN < length bytes.now
         → result ≡ Err (DocFault.Entry (record { kind = TableKind.Recipe; entry = 0 }) EntryFault.OutOfLimit) }
+    ensures told { (spot : Spot) (wrong : EntryFault) → IsErrOf result (DocFault.Entry spot wrong) → is_of_recipe spot.kind ≡ true }
 {
     let table = table_of(alloc, bytes, TOP)?;
     match recipe_from_table(alloc, &table) {
@@ -47,6 +51,7 @@ fn recipe_from_table(alloc: Global, table: &Table) -> Result<Recipe, TableFault>
     ensures ok { IfOk result (IsRecipeTable (table_view table.now)) }
     ensures refused { IfErr result (λ fault. fault ≢ TableFault.Memory
         → (recipe : Recipe) → ¬ (IsRecipeTable (table_view table.now) recipe)) }
+    ensures told { IfErr result (IsAmong is_of_recipe) }
 {
     if !has_recipe_keys(table) {
         return Err(TableFault::Entry(TOP, EntryFault::UnknownKey));
@@ -98,6 +103,7 @@ fn header_at(alloc: Global, table: &Table) -> Result<Header, TableFault>
     ensures ok { IfOk result (HasHeader (table_view table.now)) }
     ensures refused { IfErr result (λ fault. fault ≢ TableFault.Memory
         → (header : Header) → ¬ (HasHeader (table_view table.now) header)) }
+    ensures told { IfErr result (IsAt TOP) }
 {
     let version = text_at(alloc, table, "version", MAX_VERSION_LEN, TOP)?;
     let product = optional_text_at(alloc, table, "product", MAX_TEXT_LEN, TOP)?;
@@ -117,6 +123,7 @@ fn acts_at(alloc: Global, table: &Table, name: Name) -> Result<Acts, TableFault>
     ensures ok { IfOk result (HasActs (table_view table.now)) }
     ensures refused { IfErr result (λ fault. fault ≢ TableFault.Memory
         → (acts : Acts) → ¬ (HasActs (table_view table.now) acts)) }
+    ensures told { IfErr result (IsAmong is_of_recipe) }
 {
     let procedure = procedure_at(alloc, table, name)?;
     let unit_procedures = tables_at::<Act>(

@@ -1,9 +1,11 @@
 //! The entries that tables of recipes alone have.
 ghost use Rattle.std.specs.Prelude.{◌≡◌, ◌≢◌, ◌≤◌, ℕ, List, Bool, Option, option_map, string_bytes, string_len, IfOk, IfErr};
 ghost use Rattle.std.specs.Option.{ForSome};
+ghost use Rattle.toml.specs.Data.{as_str, get_member};
 ghost use Rattle.toml.specs.View.{table_view};
 ghost use Rattle.batch_recipe.specs.WellFormed.{is_among, chart_words};
-ghost use Rattle.batch_reader.specs.Entries.{HasLabel, HasNameOr, HasText, MayHaveText, HasFewNames, IsTruth};
+ghost use Rattle.batch_reader.specs.Entries.{HasLabel, HasNameOr, HasText, MayHaveText, HasFewNames, IsTruth, items_at};
+ghost use Rattle.batch_reader.specs.Faults.{IsToldAs, few_names_fault, missing_or_wrong, value_fault};
 
 use crate::entries::{member, name_at, names_of};
 use crate::fault::{EntryFault, Spot, TableFault};
@@ -31,6 +33,7 @@ pub(crate) fn label_at(
     ensures ok { IfOk result (HasLabel key.now (table_view table.now)) }
     ensures refused { IfErr result (λ fault. fault ≢ TableFault.Memory
         → (name : List ℕ) → ¬ (HasLabel key.now (table_view table.now) name)) }
+    ensures told { IfErr result (IsToldAs spot (missing_or_wrong (get_member key.now (table_view table.now)))) }
 {
     let name = name_at(alloc, table, key, spot)?;
     if is_chart_word(name.text()) {
@@ -50,6 +53,7 @@ pub(crate) fn name_or(
     ensures ok { IfOk result (HasNameOr key.now (table_view table.now) other.now) }
     ensures refused { IfErr result (λ fault. fault ≢ TableFault.Memory
         → (name : List ℕ) → ¬ (HasNameOr key.now (table_view table.now) other.now name)) }
+    ensures told { IfErr result (IsToldAs spot EntryFault.WrongKind) }
 {
     if member(table, key).is_some() {
         return name_at(alloc, table, key, spot);
@@ -72,6 +76,7 @@ pub(crate) fn text_at(
     ensures short { IfOk result (λ text. string_len text ≤ most) }
     ensures refused { IfErr result (λ fault. fault ≢ TableFault.Memory
         → (text : List ℕ) → ¬ (HasText key.now (table_view table.now) most text)) }
+    ensures told { IfErr result (IsToldAs spot (value_fault as_str (get_member key.now (table_view table.now)))) }
 {
     let Some(value) = member(table, key) else {
         return Err(TableFault::Entry(spot, EntryFault::MissingKey));
@@ -97,6 +102,7 @@ pub(crate) fn optional_text_at(
     ensures short { IfOk result (λ text. ForSome text (λ t. string_len t ≤ most)) }
     ensures refused { IfErr result (λ fault. fault ≢ TableFault.Memory
         → (text : Option (List ℕ)) → ¬ (MayHaveText key.now (table_view table.now) most text)) }
+    ensures told { IfErr result (IsToldAs spot (value_fault as_str (get_member key.now (table_view table.now)))) }
 {
     if member(table, key).is_none() {
         return Ok(None);
@@ -109,6 +115,7 @@ pub(crate) fn optional_text_at(
 pub(crate) fn truth_at(table: &Table, key: &str, spot: Spot) -> Result<bool, TableFault>
     ensures ok { IfOk result (IsTruth key.now (table_view table.now)) }
     ensures refused { IfErr result (λ fault. (truth : Bool) → ¬ (IsTruth key.now (table_view table.now) truth)) }
+    ensures told { IfErr result (λ fault. fault ≡ TableFault.Entry spot EntryFault.WrongKind) }
 {
     let Some(value) = member(table, key) else {
         return Ok(false);
@@ -131,6 +138,7 @@ pub(crate) fn few_names_at(
     ensures ok { IfOk result (λ names. HasFewNames key.now (table_view table.now) most names.items) }
     ensures refused { IfErr result (λ fault. fault ≢ TableFault.Memory
         → (names : List (List ℕ)) → ¬ (HasFewNames key.now (table_view table.now) most names)) }
+    ensures told { IfErr result (IsToldAs spot (few_names_fault most (items_at key.now (table_view table.now)))) }
 {
     let values = items_at(table, key, spot)?;
     if values.len() > most {

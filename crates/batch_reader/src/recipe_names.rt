@@ -1,7 +1,9 @@
 //! The names that a recipe declares.
 ghost use Rattle.std.specs.Prelude.{◌≡◌, ◌≢◌, true, IfErr, IfOk, OnOk};
 ghost use Rattle.batch_recipe.specs.WellFormed.{act_names, are_distinct, value_names};
+ghost use Rattle.batch_reader.specs.Faults.{IsAmong, IsToldIn, IsWrong, is_of_recipe};
 ghost use Rattle.batch_reader.specs.Naming.{names_differ};
+ghost use Rattle.batch_reader.specs.declared.fault.EntryFault.{EntryFault};
 
 use crate::fault::{TableFault, TableKind};
 use crate::names::{Named, add_names};
@@ -60,6 +62,7 @@ pub(crate) fn recipe_names(
     ensures differ { OnOk result (names_differ (value_names inputs.now parameters.now outputs.now) acts.now ≡ true) }
     ensures refused { IfErr result (λ fault. fault ≢ TableFault.Memory
         → names_differ (value_names inputs.now parameters.now outputs.now) acts.now ≢ true) }
+    ensures told { IfErr result (λ fault. IsAmong is_of_recipe fault × IsWrong EntryFault.Duplicate fault) }
 {
     let values = value_names(alloc, inputs, parameters, outputs)?;
     let unit_procedures = act_names(alloc, &acts.unit_procedures, TableKind::UnitProcedure)?;
@@ -84,6 +87,7 @@ fn value_names(
     ensures differ { OnOk result (are_distinct (value_names inputs.now parameters.now outputs.now) ≡ true) }
     ensures refused { IfErr result (λ fault. fault ≢ TableFault.Memory
         → are_distinct (value_names inputs.now parameters.now outputs.now) ≢ true) }
+    ensures told { IfErr result (λ fault. IsAmong is_of_recipe fault × IsWrong EntryFault.Duplicate fault) }
 {
     let mut names = IndexSet::new(alloc);
     add_names(alloc, &mut names, inputs, TableKind::Input)?;
@@ -97,6 +101,7 @@ fn act_names(alloc: Global, table: &[Act], kind: TableKind) -> Result<IndexSet<N
     ensures ok { IfOk result (λ names. names.keys ≡ act_names table.now) }
     ensures differ { OnOk result (are_distinct (act_names table.now) ≡ true) }
     ensures refused { IfErr result (λ fault. fault ≢ TableFault.Memory → are_distinct (act_names table.now) ≢ true) }
+    ensures told { IfErr result (IsToldIn kind EntryFault.Duplicate) }
 {
     let mut names = IndexSet::new(alloc);
     add_names(alloc, &mut names, table, kind)?;

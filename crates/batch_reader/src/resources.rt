@@ -1,8 +1,11 @@
 //! The names that a cell declares.
-ghost use Rattle.std.specs.Prelude.{◌≡◌, ◌≢◌, ◌++◌, map, filter, nat_eq, OnOk, IfOk, IfErr};
+ghost use Rattle.std.specs.Prelude.{◌≡◌, ◌≢◌, ◌++◌, map, filter, nat_eq, OnOk, IfOk, IfErr, IsErrOf};
 ghost use Rattle.std.specs.Cmp.Lexicographic.{pointwise};
 ghost use Rattle.std.specs.List.{IsDistinct, list_any};
 ghost use Rattle.batch_cell.specs.Equipment.{IsDeclaredOnce, HasDeclaredUnits, is_free, has_declared_unit, resource_names, unit_names};
+ghost use Rattle.batch_reader.specs.Faults.{FailsFirst, IsAmong, IsToldIn, IsWrong, is_of_cell};
+ghost use Rattle.batch_reader.specs.declared.fault.EntryFault.{EntryFault};
+ghost use Rattle.batch_reader.specs.declared.fault.Spot.{Spot};
 
 use crate::fault::{EntryFault, Spot, TableFault, TableKind};
 use crate::names::{Named, add_name, add_names};
@@ -44,6 +47,7 @@ pub(crate) fn check_names(
 ) -> Result<(), TableFault>
     ensures ok { OnOk result (IsDeclaredOnce units.now modules.now shared.now) }
     ensures refused { IfErr result (λ fault. fault ≢ TableFault.Memory → ¬ (IsDeclaredOnce units.now modules.now shared.now)) }
+    ensures told { IfErr result (λ fault. IsAmong is_of_cell fault × IsWrong EntryFault.Duplicate fault) }
 {
     let mut names = IndexSet::new(alloc);
     add_names(alloc, &mut names, units, TableKind::Unit)?;
@@ -62,6 +66,7 @@ pub(crate) fn resource_names(
     ensures ok { IfOk result (λ names. names.keys ≡ resource_names units.now modules.now shared.now) }
     ensures refused { IfErr result (λ fault. fault ≢ TableFault.Memory
         → ¬ (IsDistinct (pointwise nat_eq) (resource_names units.now modules.now shared.now))) }
+    ensures told { IfErr result (λ fault. IsAmong is_of_cell fault × IsWrong EntryFault.Duplicate fault) }
 {
     let mut names = IndexSet::new(alloc);
     add_names(alloc, &mut names, units, TableKind::Unit)?;
@@ -80,6 +85,9 @@ fn add_free_modules(
     ensures distinct { OnOk result (IsDistinct (pointwise nat_eq) names.new.keys) }
     ensures refused { IfErr result (λ fault. fault ≢ TableFault.Memory
         → ¬ (IsDistinct (pointwise nat_eq) (names.old.keys ++ map (λ m. m.name) (filter is_free modules.now)))) }
+    ensures told { IfErr result (IsToldIn TableKind.Module EntryFault.Duplicate) }
+    ensures first { (spot : Spot) (wrong : EntryFault) → IsErrOf result (TableFault.Entry spot wrong)
+        → FailsFirst (λ front. IsDistinct (pointwise nat_eq) (names.old.keys ++ map (λ m. m.name) (filter is_free front))) modules.now spot.entry }
 {
     for (entry, module) in modules.iter().enumerate() {
         if module.unit.is_none() {
@@ -97,6 +105,9 @@ fn add_free_modules(
 pub(crate) fn check_units(units: &[Unit], modules: &[Module]) -> Result<(), TableFault>
     ensures ok { OnOk result (HasDeclaredUnits units.now modules.now) }
     ensures refused { IfErr result (λ fault. ¬ (HasDeclaredUnits units.now modules.now)) }
+    ensures told { IfErr result (λ fault. (fault ≢ TableFault.Memory) × IsToldIn TableKind.Module EntryFault.Undeclared fault) }
+    ensures first { (spot : Spot) (wrong : EntryFault) → IsErrOf result (TableFault.Entry spot wrong)
+        → FailsFirst (HasDeclaredUnits units.now) modules.now spot.entry }
 {
     for (entry, module) in modules.iter().enumerate() {
         if !has_declared_unit(units, module) {

@@ -1,8 +1,11 @@
 //! The tables of an array.
-ghost use Rattle.std.specs.Prelude.{◌≡◌, ◌≢◌, List, Some, None, IfOk, IfErr};
-ghost use Rattle.toml.specs.Data.{Members};
+ghost use Rattle.std.specs.Prelude.{◌≡◌, ◌≢◌, List, Some, None, Err, IfOk, IfErr, IsErrOf};
+ghost use Rattle.toml.specs.Data.{Items, Members};
 ghost use Rattle.toml.specs.View.{table_view, items_view};
-ghost use Rattle.batch_reader.specs.Entries.{HasTables, items_at};
+ghost use Rattle.batch_reader.specs.Entries.{HasTables, IsTableOf, items_at};
+ghost use Rattle.batch_reader.specs.Faults.{IsAt, IsFirstRefused, IsIn};
+ghost use Rattle.batch_reader.specs.declared.fault.EntryFault.{EntryFault};
+ghost use Rattle.batch_reader.specs.declared.fault.Spot.{Spot};
 ghost use Rattle.batch_reader.specs.declared.fault.TableKind.{TableKind};
 
 use crate::entries::member;
@@ -19,7 +22,8 @@ pub(crate) trait FromTable: Drop {
     fn from_table(alloc: Global, table: &Table, spot: Spot) -> Result<Self, TableFault>
         ensures ok { IfOk result (stands_for spot.kind (table_view table.now)) }
         ensures refused { IfErr result (λ fault. fault ≢ TableFault.Memory
-            → (value : Self) → ¬ (stands_for spot.kind (table_view table.now) value)) };
+            → (value : Self) → ¬ (stands_for spot.kind (table_view table.now) value)) }
+        ensures told { IfErr result (IsAt spot) };
 }
 
 /// The items of the array at a key, none where the key is missing.
@@ -30,6 +34,7 @@ pub(crate) fn items_at<'a>(
 ) -> Result<&'a [Value], TableFault>
     ensures ok { IfOk result (λ values. items_at key.now (table_view table.now) ≡ Some (items_view values.now)) }
     ensures refused { IfErr result (λ fault. items_at key.now (table_view table.now) ≡ None) }
+    ensures told { IfErr result (λ fault. fault ≡ TableFault.Entry spot EntryFault.WrongKind) }
 {
     let Some(value) = member(table, key) else {
         return Ok(&[]);
@@ -50,6 +55,12 @@ pub(crate) fn tables_at<T: FromTable>(
     ensures ok { IfOk result (λ values. HasTables (T.stands_for kind) key.now (table_view table.now) values.items) }
     ensures refused { IfErr result (λ fault. fault ≢ TableFault.Memory
         → (values : List T) → ¬ (HasTables (T.stands_for kind) key.now (table_view table.now) values)) }
+    ensures told { IfErr result (IsIn kind) }
+    ensures no_list { items_at key.now (table_view table.now) ≡ None
+        → result ≡ Err (TableFault.Entry (record { kind = kind; entry = 0 }) EntryFault.WrongKind) }
+    ensures first { (items : Items) (spot : Spot) (wrong : EntryFault)
+        → items_at key.now (table_view table.now) ≡ Some items → IsErrOf result (TableFault.Entry spot wrong)
+        → IsFirstRefused (IsTableOf (T.stands_for kind)) items spot.entry }
 {
     let mut values = Vec::new(alloc);
     for (entry, item) in items_at(table, key, Spot { kind, entry: 0 })?

@@ -12,5 +12,5 @@ returns-in_err-read-clause-refused c =
 pub returns-in-Some-clause-refused : goal.returns-in-Some-clause-refused
 returns-in-Some-clause-refused c = λ _ chart has no_par.
     let same : chart ≡ diagram_of c.in_ok-read.read.chart = HasChart_unique _ _ chart (diagram_of c.in_ok-read.read.chart) has c.in_ok-read.ensures.ok in
-    let none : c.in_ok-read.read.first_par ≡ None = c.in_ok-read.ensures.par.1 (rw same at no_par) in
+    let none : c.in_ok-read.read.first_par ≡ None = c.in_ok-read.ensures.read.read.has_par.1 (rw same at no_par) in
     cc (none, c.in-Some.is)

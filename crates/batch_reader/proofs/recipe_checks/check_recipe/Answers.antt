@@ -1,4 +1,4 @@
-use Rattle.std.proofs.Common.{◌≡◌, true, arith, List, ◌∙◌, sym, subst}
+use Rattle.std.proofs.Common.{◌≡◌, true, arith, List, ◌∙◌, refl, sym, subst}
 use Rattle.std.proofs.lemmas.Result.{err_from_is_err_and, on_ok_weaker, IfErr-weaker}
 use Rattle.batch_recipe.specs.Conditions.{Name}
 use Rattle.batch_recipe.specs.WellFormed.{value_names}
@@ -37,3 +37,11 @@ returns-clause-ok c =
 
 pub returns-clause-refused : goal.returns-clause-refused
 returns-clause-refused c = IfErr-weaker c.check_nodes.result _ _ (λ fault large _ sound. large sound.small) c.check_nodes.ensures.refused
+
+pub returns-in_err-check_acts-clause-told : goal.returns-in_err-check_acts-clause-told
+returns-in_err-check_acts-clause-told c =
+    let p = err_from_is_err_and c.from_residual-in_err-check_acts.result c.from_residual-in_err-check_acts.ensures.1 in
+    rw (p.1, p.2) (c.in_err-check_acts.ensures.told.1.0)
+
+pub returns-clause-told : goal.returns-clause-told
+returns-clause-told c = IfErr-weaker c.check_nodes.result _ _ (λ fault told. rw told refl) c.check_nodes.ensures.told
