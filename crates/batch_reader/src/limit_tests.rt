@@ -85,6 +85,12 @@ fn numbers_of_phases(rt: HostRuntime) -> Result<(), Fail> {
 }
 
 #[test]
+fn longest_names(rt: HostRuntime) {
+    let name = "cell = \"abcdefghijklmnopqrstuvwxyz_12345\"\n[[unit]]\nname = \"U\"\n";
+    assert!(rt; takes(rt.alloc(), name));
+}
+
+#[test]
 fn capacities(rt: HostRuntime) -> Result<(), Fail> {
     let alloc = rt.alloc();
     for capacity in ["1", "1000"] {

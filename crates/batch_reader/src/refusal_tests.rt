@@ -28,7 +28,12 @@ fn refuses_below_head(
 
 #[test]
 fn not_toml(rt: HostRuntime) {
-    let cases: [&[u8]; 3] = [b"\xff\xff", b"cell = ", b"cell = \"C\"\ncell = \"C\"\n"];
+    let cases: [&[u8]; 4] = [
+        b"\xff\xff",
+        b"cell = ",
+        b"cell = \"C\"\ncell = \"C\"\n",
+        b"cell = 9223372036854775808\n",
+    ];
     for bytes in cases {
         assert!(rt; read_cell(rt.alloc(), bytes).err() == Some(DocFault::NotToml));
     }
@@ -267,4 +272,45 @@ fn words_of_tables(rt: HostRuntime) -> Result<(), Fail> {
         assert_eq!(rt; printed.as_str(), spot);
     }
     Ok(())
+}
+
+/// Cells with two faults, of which the first is told.
+const WITH_TWO_FAULTS: [(&str, TableKind, usize, EntryFault); 5] = [
+    (
+        "size = 1\ncell = 5\n",
+        TableKind::Cell,
+        0,
+        EntryFault::UnknownKey,
+    ),
+    (
+        "cell = \"C\"\n[[module]]\n[[unit]]\nname = 5\n",
+        TableKind::Unit,
+        0,
+        EntryFault::WrongKind,
+    ),
+    (
+        "cell = \"C\"\n[[module]]\nname = \"M\"\n[[module]]\nname = \"M\"\n",
+        TableKind::Unit,
+        0,
+        EntryFault::OutOfLimit,
+    ),
+    (
+        "cell = \"C\"\n[[unit]]\nname = \"U\"\n[[module]]\nname = \"U\"\nunit = \"V\"\nphases = [\"A\"]\n",
+        TableKind::Module,
+        0,
+        EntryFault::Duplicate,
+    ),
+    (
+        "cell = \"C\"\n[[unit]]\nname = \"U\"\n[[module]]\nname = \"M\"\nunit = \"U\"\nphases = [\"A\", \"A\"]\n[[module]]\nname = \"N\"\nunit = \"V\"\nphases = [\"A\"]\n",
+        TableKind::Module,
+        1,
+        EntryFault::Undeclared,
+    ),
+];
+
+#[test]
+fn first_of_two_faults(rt: HostRuntime) {
+    for (text, kind, entry, fault) in WITH_TWO_FAULTS {
+        assert!(rt; refuses(rt.alloc(), text, kind, entry, fault), "{text}");
+    }
 }

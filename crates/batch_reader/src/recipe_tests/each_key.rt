@@ -3,7 +3,7 @@ use super::told::told;
 use crate::read_recipe;
 use std::test::Fail;
 
-const WHOLE: &str = r#"recipe = "ALL-1"
+const WHOLE: &str = r#"recipe = "ALL-1_abcdefghijklmnopqrstuvwxyz"
 version = "2.0 b"
 product = "brine"
 author = ""
@@ -42,7 +42,7 @@ values = ["D", "A", "B", "A"]
 
 const TOLD: &str =
     r#""2.0 b" Some("brine") Some("") Some("é") 1000000000 [Quantity { name: "A", value: 1000000000000, min: 1000000000000, max: 1000000000000, fixed: true }] [Quantity { name: "B", value: 0, min: 0, max: 0, fixed: false }] ["C", "D"]
-procedure ALL-1 None [] Follows(Skip)
+procedure ALL-1_abcdefghijklmnopqrstuvwxyz None [] Follows(Skip)
 unit_procedure A Some("seq") [] Follows(Seq([Label("A")]))
 operation A None [] Follows(Sel([(Cond { name: "A", op: Less, term: Named("B") }, Label("A")), (Cond { name: "C", op: NotEqual, term: Named("D") }, Skip)], Label("A")))
 phase A None ["par", "A"] Runs { phase: "else", values: ["D", "A", "B", "A"] }

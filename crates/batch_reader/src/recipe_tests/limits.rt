@@ -1,7 +1,7 @@
 //! Recipe documents at their limits, and one past them.
 use super::{ADD, CHARGE, MAKE, OUTPUT, PROCEDURE, document};
 use crate::limit_tests::numbered;
-use crate::{DocFault, EntryFault, MAX_CHART_LEN, MAX_DOCUMENT_LEN, Spot, TableKind, read_recipe};
+use crate::{DocFault, EntryFault, MAX_DOCUMENT_LEN, Spot, TableKind, read_recipe};
 use batch_recipe::node_count;
 use std::alloc::{AllocError, Global};
 use std::test::Fail;
@@ -283,10 +283,57 @@ fn numbers_of_quantities(rt: HostRuntime) -> Result<(), Fail> {
 }
 
 #[test]
-fn turns_out_of_range(rt: HostRuntime) -> Result<(), Fail> {
-    let turns = "[[operation]]\nname = 'CHARGE'\nchart = 'loop(1001, X > 0, ADD)'\n";
-    let parts = [OUTPUT, PROCEDURE, MAKE, turns, ADD];
-    assert!(rt; !fits(rt.alloc(), parts, TableKind::Operation, 0)?);
+fn numbers_in_charts(rt: HostRuntime) -> Result<(), Fail> {
+    let alloc = rt.alloc();
+    for (turns, number, is_good) in [
+        ("0", "0", false),
+        ("1", "1000000000000", true),
+        ("1000", "0", true),
+        ("1001", "0", false),
+        ("1", "1000000000001", false),
+    ] {
+        let operation = format!(in alloc;
+            "[[operation]]\nname = 'CHARGE'\nchart = 'loop({turns}, X > {number}, ADD)'\n"
+        )?;
+        let parts = [OUTPUT, PROCEDURE, MAKE, operation.as_str(), ADD];
+        assert!(rt;
+            fits(alloc, parts, TableKind::Operation, 0)? == is_good,
+            "{turns} {number}"
+        );
+    }
+    Ok(())
+}
+
+/// An operation whose chart nests so many forms.
+fn nested(alloc: Global, depth: usize) -> Result<String, AllocError> {
+    let opened = repeated(
+        alloc,
+        "[[operation]]\nname = 'CHARGE'\nchart = '",
+        "seq(",
+        depth,
+        "ADD",
+    )?;
+    repeated(alloc, opened.as_str(), ")", depth, "'\n")
+}
+
+#[test]
+fn nesting_of_charts(rt: HostRuntime) -> Result<(), Fail> {
+    let alloc = rt.alloc();
+    let good = nested(alloc, 32)?;
+    let parts = ["", PROCEDURE, MAKE, good.as_str(), ADD];
+    assert!(rt; fits(alloc, parts, TableKind::Operation, 0)?);
+    let bad = nested(alloc, 33)?;
+    let text = document(alloc, "A", ["", PROCEDURE, MAKE, bad.as_str(), ADD])?;
+    let spot = Spot {
+        kind: TableKind::Operation,
+        entry: 0,
+    };
+    // the word of the form that is too many could begin a label
+    let found = read_recipe(alloc, text.as_bytes()).err();
+    assert_eq!(rt;
+        found,
+        Some(DocFault::Entry(spot, EntryFault::Chart(32 * 4 + 3)))
+    );
     Ok(())
 }
 

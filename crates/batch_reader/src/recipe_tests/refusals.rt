@@ -1,5 +1,5 @@
 //! Recipe documents that are refused, each for one fault.
-use super::{ADD, CHARGE, MAKE, PROCEDURE, document};
+use super::{ADD, CHARGE, MAKE, OUTPUT, PROCEDURE, document};
 use crate::{DocFault, EntryFault, Spot, TableKind, read_recipe};
 use std::alloc::{AllocError, Global};
 use std::test::Fail;
@@ -190,7 +190,7 @@ fn wrong_kinds(rt: HostRuntime) -> Result<(), Fail> {
     Ok(())
 }
 
-const WITH_A_BAD_NAME: [Case; 9] = [
+const WITH_A_BAD_NAME: [Case; 10] = [
     (
         "[[parameter]]\nname = 'loop'\nvalue = 1\nmin = 0\nmax = 2\n",
         TableKind::Parameter,
@@ -214,6 +214,11 @@ const WITH_A_BAD_NAME: [Case; 9] = [
     (
         "[[operation]]\nname = 'else'\nchart = 'ADD'\n",
         TableKind::Operation,
+        0,
+    ),
+    (
+        "[[phase]]\nname = 'abcdefghijklmnopqrstuvwxyz_123456'\n",
+        TableKind::Phase,
         0,
     ),
     ("[[phase]]\nname = 'par'\n", TableKind::Phase, 0),
@@ -443,6 +448,77 @@ fn chart_faults(rt: HostRuntime) -> Result<(), Fail> {
         let found = refusal(rt.alloc(), tables_with(text, kind))?;
         let wanted = DocFault::Entry(Spot { kind, entry }, EntryFault::Chart(offset));
         assert_eq!(rt; found, Some(wanted), "{text}");
+    }
+    Ok(())
+}
+
+/// A unit procedure that follows an undeclared operation, and a phase step.
+const WITH_AN_UNDECLARED_OPERATION: &str =
+    "[[unit_procedure]]\nname = 'MAKE'\nunit = 'R1'\nchart = 'COOK'\n[[phase]]\nname = 'ADD'\n";
+
+/// Recipes with two faults, of which the first is told.
+const WITH_TWO_FAULTS: [([&str; 5], TableKind, usize, EntryFault); 7] = [
+    (
+        ["size = 1\nproduct = 5\n", PROCEDURE, MAKE, CHARGE, ADD],
+        TableKind::Recipe,
+        0,
+        EntryFault::UnknownKey,
+    ),
+    (
+        ["product = 5\n", "[[input]]\n", MAKE, CHARGE, ADD],
+        TableKind::Recipe,
+        0,
+        EntryFault::WrongKind,
+    ),
+    (
+        ["", "[[output]]\n", MAKE, CHARGE, ADD],
+        TableKind::Output,
+        0,
+        EntryFault::MissingKey,
+    ),
+    (
+        ["", PROCEDURE, MAKE, "", "[[phase]]\nname = 5\n"],
+        TableKind::Phase,
+        0,
+        EntryFault::WrongKind,
+    ),
+    (
+        [OUTPUT, OUTPUT, PROCEDURE, MAKE, ADD],
+        TableKind::Operation,
+        0,
+        EntryFault::OutOfLimit,
+    ),
+    (
+        [
+            OUTPUT,
+            OUTPUT,
+            PROCEDURE,
+            CHARGE,
+            WITH_AN_UNDECLARED_OPERATION,
+        ],
+        TableKind::Output,
+        1,
+        EntryFault::Duplicate,
+    ),
+    (
+        [
+            "[procedure]\nchart = 'seq(U,U,U,U,U,U,U,U,U,U,U,U,U,U,U,U,U)'\n",
+            "[[unit_procedure]]\nname = 'U'\nunit = 'R1'\nchart = 'seq(O,O,O,O,O,O,O,O,O,O,O,O,O,O,O,O,O)'\n",
+            "[[operation]]\nname = 'O'\nchart = 'seq(ADD,ADD,ADD,ADD,ADD,ADD,ADD,ADD,ADD,ADD,ADD,ADD,ADD,ADD,ADD,ADD,ADD)'\n",
+            "[[phase]]\nname = 'ADD'\nvalues = ['Y']\n",
+            "",
+        ],
+        TableKind::Phase,
+        0,
+        EntryFault::Undeclared,
+    ),
+];
+
+#[test]
+fn first_of_two_faults(rt: HostRuntime) -> Result<(), Fail> {
+    for (parts, kind, entry, fault) in WITH_TWO_FAULTS {
+        let found = refusal(rt.alloc(), parts)?;
+        assert_eq!(rt; found, Some(DocFault::Entry(Spot { kind, entry }, fault)));
     }
     Ok(())
 }
