@@ -1,6 +1,7 @@
 //! Recipe documents: worked examples, one with each key, and documents that are refused or at their limits.
 
 mod each_key;
+mod formulas;
 mod limits;
 mod refusals;
 mod told;

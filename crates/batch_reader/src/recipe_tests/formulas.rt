@@ -1,0 +1,91 @@
+//! The values that recipe documents give to batches.
+use super::{ADD, CHARGE, MAKE, PROCEDURE, document};
+use crate::read_recipe;
+use batch_recipe::{FormulaFault, formula};
+use std::alloc::Global;
+use std::test::Fail;
+
+/// The values of a batch of the size, or why it has none.
+fn given(alloc: Global, parts: [&str; 5], size: u64) -> Result<String, Fail> {
+    let recipe = read_recipe(alloc, document(alloc, "F", parts)?.as_bytes())?;
+    let mut text = String::new(alloc);
+    match formula(alloc, &recipe, size) {
+        Ok(values) => {
+            for (name, value) in &values.entries {
+                text.push_str(format!(in alloc; "{name}={value};")?.as_str())?;
+            }
+        }
+        Err(FormulaFault::Size) => text.push_str("F1")?,
+        Err(FormulaFault::OutOfRange(name)) => {
+            text.push_str(format!(in alloc; "F2 {name}")?.as_str())?;
+        }
+        Err(FormulaFault::Memory) => text.push_str("F3")?,
+    }
+    Ok(text)
+}
+
+const INPUT: &str = "[[input]]\nname = \"QTY\"\nvalue = 333\nmin = 0\nmax = 500\n";
+
+const HANDED: &str = "[[phase]]\nname = \"ADD\"\nvalues = [\"QTY\"]\n";
+
+#[test]
+fn scaled_quantity(rt: HostRuntime) -> Result<(), Fail> {
+    for (size, wanted) in [
+        (0, "F1"),
+        (1, "QTY=0;"),
+        (500, "QTY=167;"),
+        (1503, "QTY=500;"),
+        (1504, "F2 QTY"),
+        (1_000_000_000, "F2 QTY"),
+        (1_000_000_001, "F1"),
+    ] {
+        let found = given(rt.alloc(), [INPUT, PROCEDURE, MAKE, CHARGE, HANDED], size)?;
+        assert!(rt; found.as_str() == wanted, "{size}");
+    }
+    Ok(())
+}
+
+#[test]
+fn fixed_quantity(rt: HostRuntime) -> Result<(), Fail> {
+    let alloc = rt.alloc();
+    let input = format!(in alloc; "{INPUT}fixed = true\n")?;
+    let parts = [input.as_str(), PROCEDURE, MAKE, CHARGE, HANDED];
+    assert!(rt; given(alloc, parts, 500)?.as_str() == "QTY=333;");
+    Ok(())
+}
+
+/// The parameter must not be 0. Tables are not in the order of the values.
+const SEVERAL: &str = r#"[[output]]
+name = "X"
+[[parameter]]
+name = "HEAT"
+value = 7
+min = 1
+max = 10
+[[input]]
+name = "WATER"
+value = 1000
+min = 0
+max = 5000
+[[input]]
+name = "SALT"
+value = 3
+min = 0
+max = 12
+"#;
+
+#[test]
+fn several_values(rt: HostRuntime) -> Result<(), Fail> {
+    for (size, wanted) in [
+        (50, "F2 HEAT"),
+        (500, "WATER=500;SALT=2;HEAT=4;X=0;"),
+        (1000, "WATER=1000;SALT=3;HEAT=7;X=0;"),
+        (2000, "F2 HEAT"),
+        (5000, "F2 SALT"),
+        (6000, "F2 WATER"),
+    ] {
+        let found = given(rt.alloc(), [SEVERAL, PROCEDURE, MAKE, CHARGE, ADD], size)?;
+        assert!(rt; found.as_str() == wanted, "{size}");
+    }
+    Ok(())
+}
