@@ -1,7 +1,7 @@
 //! Recipe documents at their limits, and one past them.
 use super::{ADD, CHARGE, MAKE, OUTPUT, PROCEDURE, document};
 use crate::limit_tests::numbered;
-use crate::{DocFault, EntryFault, MAX_DOCUMENT_LEN, Spot, TableKind, read_recipe};
+use crate::{DocFault, EntryFault, MAX_CHART_LEN, MAX_DOCUMENT_LEN, Spot, TableKind, read_recipe};
 use batch_recipe::node_count;
 use std::alloc::{AllocError, Global};
 use std::test::Fail;
