@@ -8,7 +8,7 @@ use Rattle.batch_reader.specs.CellDocument.{IsCellDocument}
 use Rattle.batch_reader.specs.RecipeDocument.{IsRecipeDocument}
 use Rattle.batch_reader.specs.declared.fault.DocFault.{DocFault}
 use Rattle.batch_reader.specs.declared.fault.DocFault.TheVariants as document
-use Rattle.batch_verify.specs.CertificateText.{Rank, AreInOrder, IsFirstFault}
+use Rattle.batch_verify.specs.CertificateText.{Rank, AreInOrder, IsCertificateText, IsFirstFault}
 use Rattle.batch_verify.specs.Ranked.{rank_of, RanksAll}
 use Rattle.batch_verify.specs.Verifying.{IsFirstRefusal}
 use Rattle.batch_verify.specs.declared.certificate.CertFault.{CertFault}
@@ -83,10 +83,11 @@ IsVerified c rs ranks text Refused =
     × (text ≡ refusal_text c rs ranks refusal)
 IsVerified c rs ranks text OutOfMemory = text ≡ refusal_text c rs ranks set.Memory
 
--- what is printed of recipes alone: the certificate with the least ranks, in order of name, or why there is none
+-- what is printed of recipes alone: a text that is read as the least ranks, in order of name, and is not too long for a file,
+-- or why there are none
 abbrev pub IsChecked : Cell → List Recipe → List ℕ → Ending → Type 0
 IsChecked c rs text Accepted =
     (ranks : List Rank) × RanksAll (cell_of c) ranks × IsLeastClearance c rs (rank_of ranks) × AreInOrder ranks
-    × (text ≡ certificate_text ranks)
+    × (text ≡ certificate_text ranks) × IsCertificateText text ranks × (length text ≤ MAX_CERTIFICATE_LEN)
 IsChecked c rs text Refused = (fault : CheckFault) × (fault ≢ check.Memory) × IsFault c rs fault × (text ≡ fault_text c rs fault)
 IsChecked c rs text OutOfMemory = text ≡ fault_text c rs check.Memory
