@@ -86,6 +86,31 @@ fn gives_refused_recipes_back(rt: HostRuntime) -> Result<(), Fail> {
     Ok(())
 }
 
+#[test]
+fn takes_as_many_recipes_as_may_be(rt: HostRuntime) -> Result<(), Fail> {
+    let alloc = rt.alloc();
+    let cleared = judged(alloc, named_apart(alloc, 256)?)?
+        .ok()
+        .ok_or("rejected")?;
+    assert_eq!(rt; cleared.recipes().len(), 256);
+    let rejected = judged(alloc, named_apart(alloc, 257)?)?
+        .err()
+        .ok_or("cleared")?;
+    assert!(rt; rejected.fault == Refusal::Recipes);
+    assert_eq!(rt; rejected.recipes.len(), 257);
+    Ok(())
+}
+
+/// So many recipes, each with a name of its own.
+fn named_apart(alloc: Global, count: u16) -> Result<Vec<Recipe>, Fail> {
+    let mut recipes = Vec::new(alloc);
+    for number in 0..count {
+        let name = format!(in alloc; "R{number}")?;
+        recipes.push(recipe(alloc, name.as_bytes(), b"R1")?)?;
+    }
+    Ok(recipes)
+}
+
 /// What is said of the recipes where R1 and then STEAM may be asked for.
 fn judged(alloc: Global, recipes: Vec<Recipe>) -> Result<Result<Cleared, Rejected>, Fail> {
     let certificate = read_certificate(alloc, b"rank R1 1\nrank STEAM 2\n")?;
