@@ -1,4 +1,5 @@
 -- What the acts of a recipe name, and what is declared.
+-- For private contracts; no public clause cites this file.
 use Rattle.std.specs.Prelude.{Bool, ◌&&◌, List, []}
 use Rattle.std.specs.List.{list_all}
 use Rattle.batch_grammar.specs.ChartForm.{labels_of, values_of}
