@@ -4,6 +4,7 @@ use Rattle.std.specs.Prelude.{codes}
 use Rattle.std.proofs.lemmas.Bool.Decides.{nat_tests}
 use Rattle.batch_text.specs.NameText.{IsName}
 use Rattle.batch_text.specs.NumberText.{number_of, IsNumber}
+use Rattle.batch_recipe.specs.declared.chart.TheConstants.{MAX_DEPTH, MAX_TURNS}
 use Rattle.batch_recipe.specs.declared.condition.Op.{Op}
 use Rattle.batch_recipe.specs.declared.condition.Term.{Term}
 use Rattle.batch_recipe.specs.declared.condition.Term.TheVariants as term
@@ -122,11 +123,11 @@ name_loop = record { spelled = refl; short = omega arith }
 name_else : IsName (codes "else")
 name_else = record { spelled = refl; short = omega arith }
 
-room : (frames : List Frame) (depth : ℕ) → length frames + suc depth ≡ 32 → ltb (length frames) 32 ≡ true
+room : (frames : List Frame) (depth : ℕ) → length frames + suc depth ≡ MAX_DEPTH → ltb (length frames) MAX_DEPTH ≡ true
 room frames depth h = grind (arith, nat_tests)
 
 keyword : (bytes : List ℕ) (w : Want) {s : List ℕ} (s1 : List ℕ) (total depth : ℕ) (frames : List Frame) (o : Firsts)
-    → Skips s (bytes ++ s1) → IsName bytes → IsFree s1 → length frames + suc depth ≡ 32 → take_word a_chart bytes (length frames) ≡ deeper (length frames) w
+    → Skips s (bytes ++ s1) → IsName bytes → IsFree s1 → length frames + suc depth ≡ MAX_DEPTH → take_word a_chart bytes (length frames) ≡ deeper (length frames) w
     → runs total s (between a_chart frames o) ≡ runs total s1 (between w frames o)
 keyword bytes w s1 total depth frames o skips name free deep e =
     let fits = room frames depth deep in
@@ -138,7 +139,7 @@ mutual
   unfolding begin between
 
   runs-chart : {total depth : ℕ} {s t : List ℕ} {out : Offsets} {tree : Diagram} → Reads total depth s t tree out → IsFree t
-      → (frames : List Frame) (o : Firsts) → length frames + depth ≡ 32
+      → (frames : List Frame) (o : Firsts) → length frames + depth ≡ MAX_DEPTH
       → runs total s (between a_chart frames o) ≡ runs total t (between (after_chart tree) frames (noted o out))
   runs-chart (spec.label {total = total} {name = bytes} {t = t} skips label) free frames o deep =
       runs-word_token bytes t (after_chart (chart.label bytes)) total a_chart frames o skips label.name refl free (ap (λ w. take_chart_word w bytes (length frames)) (label_word _ label))
@@ -169,7 +170,7 @@ mutual
       ∙ runs-cases cases (c, first) [] frames (noted (noted o f) g) (omega arith)
       ∙ ap (λ x. runs total t (between (after_chart (chart.sel (chart.when c first others))) frames x)) (noted-joined2 o f g h)
   runs-chart (spec.loop {total = total} {depth = depth} {s1 = s1} {s3 = s3} {t = t} {c = c} {body = body} {offsets = g} {offsets2 = h} digits skips opens number_skips number comma tests comma2 reads closes) free frames o deep =
-      let f = ranged 1 1000 (number_of digits) (total - length (digits ++ s3)) in
+      let f = ranged 1 MAX_TURNS (number_of digits) (total - length (digits ++ s3)) in
       let o1 = noted o f in
       let o2 = noted o1 g in
       let o3 = noted o2 h in
@@ -185,7 +186,7 @@ mutual
       ∙ ap (λ x. runs total t (between (after_chart (chart.loop n c body)) frames x)) (noted-joined2 o f g h)
 
   runs-seq : {total depth : ℕ} {s t : List ℕ} {out : Offsets} {trees : Diagrams} → ReadsBranches total depth s t trees out
-      → (us : List Diagram) (frames : List Frame) (o : Firsts) → suc (length frames) + depth ≡ 32
+      → (us : List Diagram) (frames : List Frame) (o : Firsts) → suc (length frames) + depth ≡ MAX_DEPTH
       → runs total s (between a_chart (in_seq us ∷ frames) o) ≡ runs total t (between (after_chart (chart.seq (with_diagrams us trees))) frames (noted o out))
   runs-seq (spec.last {total = total} {s1 = s1} {t = t} {d = tree} {offsets = offsets} reads closes) us frames o deep =
       let kept = noted o offsets in
@@ -201,7 +202,7 @@ mutual
       ∙ ap (λ x. runs total t (between (after_chart (chart.seq (with_diagrams us (chart.more tree others)))) frames x)) (sym (noted-joined o f g))
 
   runs-par : {total depth : ℕ} {s t : List ℕ} {out : Offsets} {trees : Diagrams} → ReadsBranches total depth s t trees out
-      → (u : Diagram) (us : List Diagram) (frames : List Frame) (o : Firsts) → suc (length frames) + depth ≡ 32
+      → (u : Diagram) (us : List Diagram) (frames : List Frame) (o : Firsts) → suc (length frames) + depth ≡ MAX_DEPTH
       → runs total s (between a_chart (in_par (u ∷ us) ∷ frames) o) ≡ runs total t (between (after_chart (chart.par (with_diagrams (u ∷ us) trees))) frames (noted o out))
   runs-par (spec.last {total = total} {s1 = s1} {t = t} {d = tree} {offsets = offsets} reads closes) u us frames o deep =
       let kept = noted o offsets in
@@ -217,7 +218,7 @@ mutual
       ∙ ap (λ x. runs total t (between (after_chart (chart.par (with_diagrams (u ∷ us) (chart.more tree others)))) frames x)) (sym (noted-joined o f g))
 
   runs-cases : {total depth : ℕ} {s t : List ℕ} {out : Offsets} {cases : Cases} → ReadsCases total depth s t cases out
-      → (u : Cond × Diagram) (us : List (Cond × Diagram)) (frames : List Frame) (o : Firsts) → suc (length frames) + depth ≡ 32
+      → (u : Cond × Diagram) (us : List (Cond × Diagram)) (frames : List Frame) (o : Firsts) → suc (length frames) + depth ≡ MAX_DEPTH
       → runs total s (between (a_name (of_sel (u ∷ us))) frames o) ≡ runs total t (between (after_chart (chart.sel (with_cases (u ∷ us) cases))) frames (noted o out))
   runs-cases (spec.last_case {total = total} {s1 = s1} {t = t} {d = tree} {offsets = offsets} skips colon reads closes) u us frames o deep =
       let kept = noted o offsets in

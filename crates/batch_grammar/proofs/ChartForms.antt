@@ -6,6 +6,7 @@ use Rattle.std.proofs.lemmas.List.Folds.{list_all-append}
 use Rattle.std.proofs.lemmas.Bool.Decides.{nat_tests}
 use Rattle.batch_text.specs.NumberText.{number_of}
 use Rattle.batch_recipe.specs.Conditions.{Name}
+use Rattle.batch_recipe.specs.declared.chart.TheConstants.{MAX_TURNS}
 use Rattle.batch_recipe.specs.declared.condition.Cond.{Cond}
 use Rattle.batch_recipe.specs.declared.condition.Term.{Term}
 use Rattle.batch_recipe.specs.declared.scaling.TheConstants.{MAX_VALUE}
@@ -190,7 +191,7 @@ module _ (labels values : List Name) where
     chart_limits (spec.sel {depth = depth} {c = c} {first = first} {others = others} skips opens cases) within h =
         deeper depth (λ n. are_cases labels values n 1 (when c first others)) (cases_limits cases within h)
     chart_limits (spec.loop {total = total} {depth = depth} {s3 = s3} {c = c} {body = body} {offsets = f} {offsets2 = g} digits skips opens number_skips number comma tests comma2 reads closes) within h =
-        let turns = in_range (nat_le 1 (number_of digits) && nat_le (number_of digits) 1000) (total - length (digits ++ s3)) (front_nil _ (f.outside ++ g.outside) within) in
+        let turns = in_range (nat_le 1 (number_of digits) && nat_le (number_of digits) MAX_TURNS) (total - length (digits ++ s3)) (front_nil _ (f.outside ++ g.outside) within) in
         let inner = rest_nil _ (f.outside ++ g.outside) within in
         let names = each (is_among values) (names_compared c) (values_of body) h.1 in
         let room : nat_lt 0 (suc depth) ≡ true = grind (arith, nat_tests) in

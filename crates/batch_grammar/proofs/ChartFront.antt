@@ -3,6 +3,8 @@ use Rattle.std.proofs.Common.{◌≡◌, ℕ, ◌+◌, ◌-◌, List, [], ◌∷
 use Rattle.std.specs.Prelude.{codes}
 use Rattle.std.specs.Char.{is_ascii_alphabetic, is_ascii_digit}
 use Rattle.batch_text.specs.NumberText.{number_of}
+use Rattle.batch_text.specs.declared.name.TheConstants.{MAX_NAME_LEN}
+use Rattle.batch_text.specs.declared.number.TheConstants.{MAX_DIGITS}
 use Rattle.batch_recipe.specs.declared.condition.Op.{Op}
 use Rattle.batch_recipe.specs.declared.condition.Op.TheVariants.{Less, AtMost, Equal, NotEqual, AtLeast, Greater}
 use Rattle.batch_recipe.specs.declared.condition.Term.TheVariants as term
@@ -76,7 +78,7 @@ from_between (after_chart t) frames = closing frames t
 
 -- ---- inside a token
 
-keyword_goes : (bytes longer : List ℕ) (w : Want) (frames : List Frame) → bytes ++ codes "x" ≡ longer → ltb (length bytes) 32 ≡ true → CanEnd (letters longer) w frames → CanEnd (letters bytes) w frames
+keyword_goes : (bytes longer : List ℕ) (w : Want) (frames : List Frame) → bytes ++ codes "x" ≡ longer → ltb (length bytes) MAX_NAME_LEN ≡ true → CanEnd (letters longer) w frames → CanEnd (letters bytes) w frames
 unfolding runs step in_token
 keyword_goes bytes longer w frames e room r =
     let r2 = subst (λ l. CanEnd (letters l) w frames) (sym e) r in
@@ -193,8 +195,8 @@ begin_fit place b st =
 
 go_on_fit : (l : Lexeme) (b : ℕ) (st : State) → IsFit l st.want → Leads (go_on l b st) Fits
 go_on_fit nothing b st fit = tt
-go_on_fit (letters bytes) b st fit = if_leads (ltb (length bytes) 32) _ None Fits (λ _. fit) (λ _. tt)
-go_on_fit (digits bytes) b st fit = if_leads (ltb (length bytes) 19) _ None Fits (λ _. fit) (λ _. tt)
+go_on_fit (letters bytes) b st fit = if_leads (ltb (length bytes) MAX_NAME_LEN) _ None Fits (λ _. fit) (λ _. tt)
+go_on_fit (digits bytes) b st fit = if_leads (ltb (length bytes) MAX_DIGITS) _ None Fits (λ _. fit) (λ _. tt)
 go_on_fit less b st fit = any_leads (take_operator st.want AtMost) _ Fits (λ _. tt)
 go_on_fit more b st fit = any_leads (take_operator st.want AtLeast) _ Fits (λ _. tt)
 go_on_fit slash b st fit = any_leads (take_operator st.want NotEqual) _ Fits (λ _. tt)

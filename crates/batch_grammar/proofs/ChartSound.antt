@@ -8,6 +8,9 @@ use Rattle.std.proofs.lemmas.Bool.Decides.{nat_tests, Decides-eqb}
 use Rattle.std.proofs.lemmas.Bool.{ltb-true}
 use Rattle.batch_text.specs.NameText.{IsName}
 use Rattle.batch_text.specs.NumberText.{number_of, IsNumber}
+use Rattle.batch_text.specs.declared.name.TheConstants.{MAX_NAME_LEN}
+use Rattle.batch_text.specs.declared.number.TheConstants.{MAX_DIGITS}
+use Rattle.batch_recipe.specs.declared.chart.TheConstants.{MAX_DEPTH, MAX_TURNS}
 use Rattle.batch_recipe.specs.declared.condition.Op.{Op}
 use Rattle.batch_recipe.specs.declared.condition.Op.TheVariants.{Less, AtMost, Equal, NotEqual, AtLeast, Greater}
 use Rattle.batch_recipe.specs.declared.condition.Term.{Term}
@@ -93,7 +96,7 @@ word_cases P bytes is_skip is_seq is_par is_sel is_loop is_else is_name =
 module _ (total : ℕ) (whole : Diagram) where
   -- how deep a chart within the frames may nest
   abbrev within : List Frame → ℕ
-  within frames = 32 - length frames
+  within frames = MAX_DEPTH - length frames
 
   -- a chart has been read
   data Completes : List Frame → Diagram → List ℕ → Offsets → Type 0 where
@@ -125,7 +128,7 @@ module _ (total : ℕ) (whole : Diagram) where
     from_open_sel : {frames : List Frame} {s s1 : List ℕ} {out : Offsets} → Skips s (40 ∷ s1) → From (a_name (of_sel [])) frames s1 out → From open_sel frames s out
     from_open_loop : {frames : List Frame} {s s1 : List ℕ} {out : Offsets} → Skips s (40 ∷ s1) → From a_turns frames s1 out → From open_loop frames s out
     from_turns : {frames : List Frame} {s s1 : List ℕ} {g : Offsets} (bytes : List ℕ) → Skips s (bytes ++ s1) → IsNumber bytes → From (after_turns (number_of bytes)) frames s1 g
-        → From a_turns frames s (joined (ranged 1 1000 (number_of bytes) (total - length (bytes ++ s1))) g)
+        → From a_turns frames s (joined (ranged 1 MAX_TURNS (number_of bytes) (total - length (bytes ++ s1))) g)
     from_after_turns : {n : ℕ} {frames : List Frame} {s s1 : List ℕ} {out : Offsets} → Skips s (44 ∷ s1) → From (a_name (of_loop n)) frames s1 out → From (after_turns n) frames s out
     from_name : {test : Test} {bytes : List ℕ} {frames : List Frame} {s s1 : List ℕ} {out : Offsets} → Skips s (bytes ++ s1) → IsLabel bytes → From (an_operator test bytes) frames s1 out → From (a_name test) frames s out
     from_else : {u : Cond × Diagram} {us : List (Cond × Diagram)} {frames : List Frame} {s s1 : List ℕ} {out : Offsets} → Skips s (codes "else" ++ s1) → From (after_else (u ∷ us)) frames s1 out → From (a_name (of_sel (u ∷ us))) frames s out
@@ -138,10 +141,10 @@ module _ (total : ℕ) (whole : Diagram) where
 
   -- ---- forms from their parts
 
-  deep : (frames : List Frame) → ltb (length frames) 32 ≡ true → suc (32 - suc (length frames)) ≡ within frames
+  deep : (frames : List Frame) → ltb (length frames) MAX_DEPTH ≡ true → suc (MAX_DEPTH - suc (length frames)) ≡ within frames
   deep frames h = grind (arith, nat_tests)
 
-  at_depth : (frames : List Frame) {s t : List ℕ} {f : Offsets} {c : Diagram} → ltb (length frames) 32 ≡ true → Reads total (suc (32 - suc (length frames))) s t c f → Reads total (within frames) s t c f
+  at_depth : (frames : List Frame) {s t : List ℕ} {f : Offsets} {c : Diagram} → ltb (length frames) MAX_DEPTH ≡ true → Reads total (suc (MAX_DEPTH - suc (length frames))) s t c f → Reads total (within frames) s t c f
   at_depth frames {s = s} {t = t} {f = f} {c = c} room reads = subst (λ d. Reads total d s t c f) (deep frames room) reads
 
   then_completes : {frames : List Frame} {s s1 : List ℕ} {t : Diagram} (f a b : Offsets) → Reads total (within frames) s s1 t (joined f a) → Completes frames t s1 b → From a_chart frames s (joined f (joined a b))
@@ -150,23 +153,23 @@ module _ (total : ℕ) (whole : Diagram) where
   then_completes2 : {frames : List Frame} {s s1 : List ℕ} {t : Diagram} (f a b g : Offsets) → Reads total (within frames) s s1 t (joined f (joined a b)) → Completes frames t s1 g → From a_chart frames s (joined f (joined a (joined b g)))
   then_completes2 {frames = frames} {s = s} f a b g reads rest = subst (λ o. From a_chart frames s o) (joined_assoc f (joined a b) g ∙ ap (joined f) (joined_assoc a b g)) (from_chart reads rest)
 
-  seq_from : {frames : List Frame} {t : List ℕ} {out : Offsets} → ltb (length frames) 32 ≡ true → From open_seq frames t out → From a_chart frames (codes "seq" ++ t) out
+  seq_from : {frames : List Frame} {t : List ℕ} {out : Offsets} → ltb (length frames) MAX_DEPTH ≡ true → From open_seq frames t out → From a_chart frames (codes "seq" ++ t) out
   seq_from {frames = frames} room (from_open_seq opens (from_chart reads (closes_seq closes rest))) =
       from_chart (at_depth frames room (spec.seq here opens (spec.last reads closes))) rest
   seq_from {frames = frames} room (from_open_seq opens (from_chart {f = f} reads (goes_on_seq {f = a} {g = b} comma branches rest))) =
       then_completes f a b (at_depth frames room (spec.seq here opens (spec.next reads comma branches))) rest
 
-  par_from : {frames : List Frame} {t : List ℕ} {out : Offsets} → ltb (length frames) 32 ≡ true → From open_par frames t out → From a_chart frames (codes "par" ++ t) out
+  par_from : {frames : List Frame} {t : List ℕ} {out : Offsets} → ltb (length frames) MAX_DEPTH ≡ true → From open_par frames t out → From a_chart frames (codes "par" ++ t) out
   par_from {frames = frames} room (from_open_par {s1 = s1} opens (from_chart {f = f} reads (goes_on_par {f = a} {g = b} comma branches rest))) =
       then_completes2 (opens_par (total - length (40 ∷ s1))) f a b (at_depth frames room (spec.par here opens (spec.next reads comma branches))) rest
 
-  sel_from : {frames : List Frame} {t : List ℕ} {out : Offsets} → ltb (length frames) 32 ≡ true → From open_sel frames t out → From a_chart frames (codes "sel" ++ t) out
+  sel_from : {frames : List Frame} {t : List ℕ} {out : Offsets} → ltb (length frames) MAX_DEPTH ≡ true → From open_sel frames t out → From a_chart frames (codes "sel" ++ t) out
   sel_from {frames = frames} room (from_open_sel opens (from_name skips label (from_operator op (from_operand {f = f} x (from_case colon (from_chart {f = a} reads (goes_on_case {f = b} {g = g} comma cases rest))))))) =
       then_completes2 f a b g (at_depth frames room (spec.sel here opens (spec.next_case (spec.condition skips label op x) colon reads comma cases))) rest
 
-  loop_from : {frames : List Frame} {t : List ℕ} {out : Offsets} → ltb (length frames) 32 ≡ true → From open_loop frames t out → From a_chart frames (codes "loop" ++ t) out
+  loop_from : {frames : List Frame} {t : List ℕ} {out : Offsets} → ltb (length frames) MAX_DEPTH ≡ true → From open_loop frames t out → From a_chart frames (codes "loop" ++ t) out
   loop_from {frames = frames} room (from_open_loop opens (from_turns {s1 = s1} bytes skips number (from_after_turns comma (from_name name_skips label (from_operator op (from_operand {f = a} x (from_body comma2 (from_chart {f = b} {g = g} reads (closes_loop closes rest))))))))) =
-      then_completes2 (ranged 1 1000 (number_of bytes) (total - length (bytes ++ s1))) a b g
+      then_completes2 (ranged 1 MAX_TURNS (number_of bytes) (total - length (bytes ++ s1))) a b g
       (at_depth frames room (spec.loop bytes here opens skips number comma (spec.condition name_skips label op x) comma2 reads closes)) rest
 
   -- the branches of a seq, whichever have been read
@@ -247,9 +250,9 @@ module _ (total : ℕ) (whole : Diagram) where
   TakesWord w frames bytes w' = (s : List ℕ) (out : Offsets) → From w' frames s out → From w frames (bytes ++ s) out
 
   deeper_takes : (frames : List Frame) (bytes word : List ℕ) (w' : Want) → bytes ≡ word
-      → ((s : List ℕ) (out : Offsets) → ltb (length frames) 32 ≡ true → From w' frames s out → From a_chart frames (word ++ s) out)
+      → ((s : List ℕ) (out : Offsets) → ltb (length frames) MAX_DEPTH ≡ true → From w' frames s out → From a_chart frames (word ++ s) out)
       → Leads (deeper (length frames) w') (TakesWord a_chart frames bytes)
-  deeper_takes frames bytes word w' e f = if_leads (ltb (length frames) 32) (Some w') None (TakesWord a_chart frames bytes) (λ room s out h. rw e (f s out room h)) (λ _. tt)
+  deeper_takes frames bytes word w' e f = if_leads (ltb (length frames) MAX_DEPTH) (Some w') None (TakesWord a_chart frames bytes) (λ room s out h. rw e (f s out room h)) (λ _. tt)
 
   chart_word_takes : (bytes : List ℕ) (frames : List Frame) → IsName bytes → Leads (take_chart_word (word_of bytes) bytes (length frames)) (TakesWord a_chart frames bytes)
   chart_word_takes bytes frames name =
@@ -418,9 +421,9 @@ module _ (total : ℕ) (whole : Diagram) where
   unfolding in_token
   go_on_back nothing w frames o b s good goes = tt
   go_on_back (letters bytes) w frames o b s good goes =
-      if_leads (ltb (length bytes) 32) _ None _ (λ room. (name_more bytes b good goes (ltb-true (length bytes) 32 room), λ k r. (r.0, subst (λ x. From w frames x r.0) (append_assoc bytes (b ∷ []) s) r.1, r.2))) (λ _. tt)
+      if_leads (ltb (length bytes) MAX_NAME_LEN) _ None _ (λ room. (name_more bytes b good goes (ltb-true (length bytes) MAX_NAME_LEN room), λ k r. (r.0, subst (λ x. From w frames x r.0) (append_assoc bytes (b ∷ []) s) r.1, r.2))) (λ _. tt)
   go_on_back (digits bytes) w frames o b s good goes =
-      if_leads (ltb (length bytes) 19) _ None _ (λ room. (number_more bytes b good goes (ltb-true (length bytes) 19 room), λ k r. (r.0, subst (λ x. From w frames x r.0) (append_assoc bytes (b ∷ []) s) r.1, r.2))) (λ _. tt)
+      if_leads (ltb (length bytes) MAX_DIGITS) _ None _ (λ room. (number_more bytes b good goes (ltb-true (length bytes) MAX_DIGITS room), λ k r. (r.0, subst (λ x. From w frames x r.0) (append_assoc bytes (b ∷ []) s) r.1, r.2))) (λ _. tt)
   go_on_back less w frames o b s good goes =
       let e = eqb-is b 61 goes in
       map_leads (take_operator w AtMost) _ _ _ (operator_takes w AtMost frames (60 ∷ 61 ∷ s) s (spec.at_most here)) (λ w' takes. (tt, λ k r. (r.0, rw e (takes r.0 r.1), r.2)))

@@ -8,12 +8,14 @@ use Rattle.std.proofs.lemmas.List.Folds.{list_all-append}
 use Rattle.std.proofs.lemmas.Bool.Decides.{nat_tests}
 use Rattle.batch_text.specs.NameText.{is_name_byte, IsName}
 use Rattle.batch_text.specs.NumberText.{IsNumber}
+use Rattle.batch_text.specs.declared.name.TheConstants.{MAX_NAME_LEN}
+use Rattle.batch_text.specs.declared.number.TheConstants.{MAX_DIGITS}
 
 -- a name by its first byte and the others
 pub record IsNameFrom (b : ℕ) (bs : List ℕ) : Type 0 where
   pub letter : is_ascii_alphabetic b ≡ true
   pub others : list_all is_name_byte bs ≡ true
-  pub short : length bs < 32
+  pub short : length bs < MAX_NAME_LEN
 
 pub no_name : IsName [] → ⊥
 no_name name = let never = name.spelled in absurd cc
@@ -28,7 +30,7 @@ name_from b bs name = record {
 pub name_of_letter : (b : ℕ) → is_ascii_alphabetic b ≡ true → IsName (b ∷ [])
 name_of_letter b letter = record { spelled = grind (arith, nat_tests); short = omega arith }
 
-pub name_more : (bytes : List ℕ) (b : ℕ) → IsName bytes → is_name_byte b ≡ true → length bytes < 32 → IsName (bytes ++ b ∷ [])
+pub name_more : (bytes : List ℕ) (b : ℕ) → IsName bytes → is_name_byte b ≡ true → length bytes < MAX_NAME_LEN → IsName (bytes ++ b ∷ [])
 name_more [] b name byte room = absurd (no_name name)
 name_more (x ∷ xs) b name byte room =
     let parts = name_from x xs name in
@@ -40,7 +42,7 @@ number_first b bs number = (grind (arith, number.digits), grind (arith, number.d
 pub number_of_digit : (b : ℕ) → is_ascii_digit b ≡ true → IsNumber (b ∷ [])
 number_of_digit b digit = record { some = omega arith; digits = grind (arith, digit); short = omega arith }
 
-pub number_more : (bytes : List ℕ) (b : ℕ) → IsNumber bytes → is_ascii_digit b ≡ true → length bytes < 19 → IsNumber (bytes ++ b ∷ [])
+pub number_more : (bytes : List ℕ) (b : ℕ) → IsNumber bytes → is_ascii_digit b ≡ true → length bytes < MAX_DIGITS → IsNumber (bytes ++ b ∷ [])
 number_more bytes b number byte room = record {
   some = omega (arith, length-append bytes (b ∷ []));
   digits = rw (list_all-append is_ascii_digit bytes (b ∷ [])) (grind (arith, number.digits));

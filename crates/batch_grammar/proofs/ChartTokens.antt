@@ -6,6 +6,8 @@ use Rattle.std.specs.Char.{is_ascii_alphabetic, is_ascii_digit}
 use Rattle.std.proofs.lemmas.Bool.Decides.{nat_tests}
 use Rattle.batch_text.specs.NameText.{is_name_byte, IsName}
 use Rattle.batch_text.specs.NumberText.{number_of, IsNumber}
+use Rattle.batch_text.specs.declared.name.TheConstants.{MAX_NAME_LEN}
+use Rattle.batch_text.specs.declared.number.TheConstants.{MAX_DIGITS}
 use Rattle.batch_recipe.specs.declared.condition.Op.{Op}
 use Rattle.batch_recipe.specs.declared.condition.Op.TheVariants.{Less, Greater}
 use Rattle.batch_recipe.specs.Diagram.{Diagram}
@@ -34,15 +36,15 @@ both_true true b h = (refl, h)
 both_true false b h = absurd cc
 
 letters_go_on : (rest read t : List ℕ) (total : ℕ) (w : Want) (frames : List Frame) (o : Firsts)
-    → list_all is_name_byte rest ≡ true → length read + length rest ≤ 32
+    → list_all is_name_byte rest ≡ true → length read + length rest ≤ MAX_NAME_LEN
     → runs total (rest ++ t) (in_token (letters read) w frames o) ≡ runs total t (in_token (letters (read ++ rest)) w frames o)
 unfolding runs step in_token
 letters_go_on [] read t total w frames o all short = rw append-nil refl
 letters_go_on (b ∷ bs) read t total w frames o all short =
     let name_byte : is_name_byte b ≡ true = (both_true (is_name_byte b) _ all).0 in
     let others : list_all is_name_byte bs ≡ true = (both_true (is_name_byte b) _ all).1 in
-    let room : ltb (length read) 32 ≡ true = grind (arith, nat_tests) in
-    let longer : length (read ++ b ∷ []) + length bs ≤ 32 = omega (arith, length-append read (b ∷ [])) in
+    let room : ltb (length read) MAX_NAME_LEN ≡ true = grind (arith, nat_tests) in
+    let longer : length (read ++ b ∷ []) + length bs ≤ MAX_NAME_LEN = omega (arith, length-append read (b ∷ [])) in
     let joined = append_assoc read (b ∷ []) bs in
     rw (name_byte, room) (letters_go_on bs (read ++ b ∷ []) t total w frames o others longer ∙ ap (λ l. runs total t (in_token (letters l) w frames o)) joined)
 
@@ -59,15 +61,15 @@ runs-word (b ∷ bs) t total w frames o word takes =
     rw (no_space, letter, takes) (letters_go_on bs (b ∷ []) t total w frames o parts.others (omega (arith, parts.short)))
 
 digits_go_on : (rest read t : List ℕ) (total : ℕ) (w : Want) (frames : List Frame) (o : Firsts)
-    → list_all is_ascii_digit rest ≡ true → length read + length rest ≤ 19
+    → list_all is_ascii_digit rest ≡ true → length read + length rest ≤ MAX_DIGITS
     → runs total (rest ++ t) (in_token (digits read) w frames o) ≡ runs total t (in_token (digits (read ++ rest)) w frames o)
 unfolding runs step in_token
 digits_go_on [] read t total w frames o all short = rw append-nil refl
 digits_go_on (b ∷ bs) read t total w frames o all short =
     let digit : is_ascii_digit b ≡ true = (both_true (is_ascii_digit b) _ all).0 in
     let others : list_all is_ascii_digit bs ≡ true = (both_true (is_ascii_digit b) _ all).1 in
-    let room : ltb (length read) 19 ≡ true = grind (arith, nat_tests) in
-    let longer : length (read ++ b ∷ []) + length bs ≤ 19 = omega (arith, length-append read (b ∷ [])) in
+    let room : ltb (length read) MAX_DIGITS ≡ true = grind (arith, nat_tests) in
+    let longer : length (read ++ b ∷ []) + length bs ≤ MAX_DIGITS = omega (arith, length-append read (b ∷ [])) in
     let joined = append_assoc read (b ∷ []) bs in
     rw (digit, room) (digits_go_on bs (read ++ b ∷ []) t total w frames o others longer ∙ ap (λ l. runs total t (in_token (digits l) w frames o)) joined)
 

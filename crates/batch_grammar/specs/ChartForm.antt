@@ -4,6 +4,7 @@ use Rattle.std.specs.List.{list_all}
 use Rattle.batch_recipe.specs.Conditions.{Name}
 use Rattle.batch_recipe.specs.Diagram.{Diagram, label, skip, seq, par, sel, loop, Diagrams, none, more, Cases, otherwise, when}
 use Rattle.batch_recipe.specs.WellFormed.{is_among, is_chart}
+use Rattle.batch_recipe.specs.declared.chart.TheConstants.{MAX_DEPTH}
 use Rattle.batch_recipe.specs.declared.condition.Cond.{Cond}
 use Rattle.batch_recipe.specs.declared.condition.Term.TheVariants.{Named, Number}
 use Rattle.batch_grammar.specs.ChartGrammar.{IsLabel}
@@ -54,4 +55,4 @@ pub record IsFormed (chart : Diagram) : Type 0 where
   pub labels : All IsLabel (labels_of chart)
   pub values : All IsLabel (values_of chart)
   pub limits : (labels values : List Name) → list_all (is_among labels) (labels_of chart) ≡ true → list_all (is_among values) (values_of chart) ≡ true
-      → is_chart labels values 32 chart ≡ true
+      → is_chart labels values MAX_DEPTH chart ≡ true

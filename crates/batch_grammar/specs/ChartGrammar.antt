@@ -7,16 +7,18 @@ use Rattle.batch_recipe.specs.declared.condition.Op.TheVariants.{Less, AtMost, E
 use Rattle.batch_recipe.specs.declared.condition.Term.{Term}
 use Rattle.batch_recipe.specs.declared.condition.Term.TheVariants as term
 use Rattle.batch_recipe.specs.declared.condition.Cond.{Cond}
+use Rattle.batch_recipe.specs.declared.chart.TheConstants.{MAX_DEPTH, MAX_TURNS}
 use Rattle.batch_recipe.specs.declared.scaling.TheConstants.{MAX_VALUE}
 use Rattle.batch_recipe.specs.Diagram.{Diagram, Diagrams, Cases}
 use Rattle.batch_recipe.specs.Diagram as chart
 use Rattle.batch_recipe.specs.WellFormed.{is_among, chart_words}
+use Rattle.batch_grammar.specs.Ascii as ascii
 
 -- ---- tokens
 
 -- a space, a tab, a line feed or a carriage return
 abbrev pub is_space : ℕ → Bool
-is_space b = b == 32 || b == 9 || b == 10 || b == 13
+is_space b = b == ascii.space || b == ascii.tab || b == ascii.line_feed || b == ascii.carriage_return
 
 -- s is spaces, and then t
 pub data Skips : List ℕ → List ℕ → Type 0 where
@@ -94,7 +96,7 @@ mutual
         → Skips s3 (codes "," ++ s4) → ReadsCond total s4 s5 c offsets
         → Skips s5 (codes "," ++ s6) → Reads total depth s6 s7 body offsets2 → Skips s7 (codes ")" ++ t)
         → Reads total (suc depth) s t (chart.loop (number_of digits) c body)
-        (joined (ranged 1 1000 (number_of digits) (total - length (digits ++ s3))) (joined offsets offsets2))
+        (joined (ranged 1 MAX_TURNS (number_of digits) (total - length (digits ++ s3))) (joined offsets offsets2))
 
   -- chart { "," chart } ")"
   pub data ReadsBranches : ℕ → ℕ → List ℕ → List ℕ → Diagrams → Offsets → Type 0 where
@@ -117,7 +119,7 @@ mutual
 
 -- the text is one of the chart but for numbers out of range
 pub data IsWideChart : List ℕ → Diagram → Offsets → Type 0 where
-  whole : {text t : List ℕ} {d : Diagram} {offsets : Offsets} → Reads (length text) 32 text t d offsets → Skips t [] → IsWideChart text d offsets
+  whole : {text t : List ℕ} {d : Diagram} {offsets : Offsets} → Reads (length text) MAX_DEPTH text t d offsets → Skips t [] → IsWideChart text d offsets
 
 -- the text is one of the chart, and its `par`s open at the offsets
 abbrev pub IsChartWithPars : List ℕ → Diagram → List ℕ → Type 0

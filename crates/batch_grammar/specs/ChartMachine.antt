@@ -1,16 +1,21 @@
 -- The reader of charts as a machine that takes one byte after another.
-use Rattle.std.specs.Prelude.{ℕ, ◌+◌, ◌-◌, List, [], ◌∷◌, ◌++◌, length, Bool, true, false, ◌==◌, ltb, if◌then◌else◌, Option, Some, None, option_and_then, option_map, codes, bytes_eq}
+use Rattle.std.specs.Prelude.{ℕ, ◌+◌, ◌-◌, ltb, List, [], ◌∷◌, ◌++◌, length, codes, bytes_eq}
+use Rattle.std.specs.Prelude.{Bool, true, false, ◌==◌, if◌then◌else◌, Option, Some, None, option_and_then, option_map}
 use Rattle.std.specs.Char.{is_ascii_alphabetic, is_ascii_digit}
 use Rattle.batch_text.specs.NameText.{is_name_byte, IsName}
 use Rattle.batch_text.specs.NumberText.{number_of, IsNumber}
+use Rattle.batch_text.specs.declared.name.TheConstants.{MAX_NAME_LEN}
+use Rattle.batch_text.specs.declared.number.TheConstants.{MAX_DIGITS}
 use Rattle.batch_recipe.specs.declared.condition.Op.{Op}
 use Rattle.batch_recipe.specs.declared.condition.Op.TheVariants.{Less, AtMost, Equal, NotEqual, AtLeast, Greater}
 use Rattle.batch_recipe.specs.declared.condition.Term.{Term}
 use Rattle.batch_recipe.specs.declared.condition.Term.TheVariants as term
 use Rattle.batch_recipe.specs.declared.condition.Cond.{Cond}
+use Rattle.batch_recipe.specs.declared.chart.TheConstants.{MAX_DEPTH, MAX_TURNS}
 use Rattle.batch_recipe.specs.declared.scaling.TheConstants.{MAX_VALUE}
 use Rattle.batch_recipe.specs.Diagram.{Diagram, Diagrams, Cases, diagrams_of, cases_of}
 use Rattle.batch_recipe.specs.Diagram as chart
+use Rattle.batch_grammar.specs.Ascii as ascii
 use Rattle.batch_grammar.specs.ChartGrammar.{is_space, Offsets, no_offsets, opens_par, ranged}
 use Rattle.batch_grammar.specs.declared.word.Word.{Word}
 use Rattle.batch_grammar.specs.declared.word.Word.TheVariants as word
@@ -98,7 +103,7 @@ word_of bytes =
 
 -- nesting one deeper, where that is allowed
 abbrev pub deeper : ℕ → Want → Option Want
-deeper depth w = if ltb depth 32 then Some w else None
+deeper depth w = if ltb depth MAX_DEPTH then Some w else None
 
 abbrev pub take_chart_word : Word → List ℕ → ℕ → Option Want
 take_chart_word word.Name bytes depth = Some (after_chart (chart.label bytes))
@@ -149,7 +154,7 @@ take_number _ n = None
 
 -- what is noted of a number
 abbrev pub number_offsets : Want → ℕ → ℕ → Offsets
-number_offsets a_turns n offset = ranged 1 1000 n offset
+number_offsets a_turns n offset = ranged 1 MAX_TURNS n offset
 number_offsets (an_operand test bytes op) n offset = ranged 0 MAX_VALUE n offset
 number_offsets _ n offset = no_offsets
 
@@ -191,15 +196,15 @@ take_close t (in_else bs ∷ frames) = Some (after_chart (chart.sel (cases_of bs
 take_close t (in_loop n c ∷ frames) = Some (after_chart (chart.loop n c t), frames)
 
 abbrev pub take_sign : Want → ℕ → List Frame → After
-take_sign open_seq b frames = when_is b 40 (Some (a_chart, in_seq [] ∷ frames))
-take_sign open_par b frames = when_is b 40 (Some (a_chart, in_par [] ∷ frames))
-take_sign open_sel b frames = when_is b 40 (Some (a_name (of_sel []), frames))
-take_sign open_loop b frames = when_is b 40 (Some (a_turns, frames))
-take_sign (after_turns n) b frames = when_is b 44 (Some (a_name (of_loop n), frames))
-take_sign (after_condition (of_sel bs) c) b frames = when_is b 58 (Some (a_chart, in_case bs c ∷ frames))
-take_sign (after_condition (of_loop n) c) b frames = when_is b 44 (Some (a_chart, in_loop n c ∷ frames))
-take_sign (after_else bs) b frames = when_is b 58 (Some (a_chart, in_else bs ∷ frames))
-take_sign (after_chart t) b frames = if b == 44 then take_comma t frames else if b == 41 then take_close t frames else None
+take_sign open_seq b frames = when_is b ascii.open_parenthesis (Some (a_chart, in_seq [] ∷ frames))
+take_sign open_par b frames = when_is b ascii.open_parenthesis (Some (a_chart, in_par [] ∷ frames))
+take_sign open_sel b frames = when_is b ascii.open_parenthesis (Some (a_name (of_sel []), frames))
+take_sign open_loop b frames = when_is b ascii.open_parenthesis (Some (a_turns, frames))
+take_sign (after_turns n) b frames = when_is b ascii.comma (Some (a_name (of_loop n), frames))
+take_sign (after_condition (of_sel bs) c) b frames = when_is b ascii.colon (Some (a_chart, in_case bs c ∷ frames))
+take_sign (after_condition (of_loop n) c) b frames = when_is b ascii.comma (Some (a_chart, in_loop n c ∷ frames))
+take_sign (after_else bs) b frames = when_is b ascii.colon (Some (a_chart, in_else bs ∷ frames))
+take_sign (after_chart t) b frames = if b == ascii.comma then take_comma t frames else if b == ascii.close_parenthesis then take_close t frames else None
 take_sign a_chart b frames = None
 take_sign a_turns b frames = None
 take_sign (a_name test) b frames = None
@@ -235,10 +240,10 @@ with_after place st after = option_map (λ p. record { lexeme = nothing; want = 
 -- an operator's first byte, or the sign `=`
 abbrev pub begin_operator : ℕ → State → Option State
 begin_operator b st =
-    if b == 60 then Some (record st { lexeme = less }) else
-    if b == 62 then Some (record st { lexeme = more }) else
-    if b == 47 then Some (record st { lexeme = slash }) else
-    if b == 61 then with_want st (take_operator st.want Equal) else
+    if b == ascii.less_than then Some (record st { lexeme = less }) else
+    if b == ascii.greater_than then Some (record st { lexeme = more }) else
+    if b == ascii.slash then Some (record st { lexeme = slash }) else
+    if b == ascii.equals then with_want st (take_operator st.want Equal) else
     None
 
 -- a byte that no token goes on with
@@ -250,10 +255,12 @@ begin place b st =
     if takes_operator st.want then begin_operator b st else
     with_after place st (take_sign st.want b st.stack)
 
+-- the number, before the byte at the place
 unfoldable pub end_number : ℕ → List ℕ → State → Option State
 end_number place bytes st =
-    option_map (λ w. record { lexeme = nothing; want = w; stack = st.stack; firsts = noted st.firsts (number_offsets st.want (number_of bytes) (place - length bytes)) })
-    (take_number st.want (number_of bytes))
+    let n = number_of bytes in
+    let firsts = noted st.firsts (number_offsets st.want n (place - length bytes)) in
+    option_map (λ w. record { lexeme = nothing; want = w; stack = st.stack; firsts = firsts }) (take_number st.want n)
 
 -- the token, before the byte at the place
 abbrev pub end_token : ℕ → Lexeme → State → Option State
@@ -278,14 +285,14 @@ abbrev pub continues : Lexeme → ℕ → Bool
 continues nothing b = false
 continues (letters bytes) b = is_name_byte b
 continues (digits bytes) b = is_ascii_digit b
-continues less b = b == 61
-continues more b = b == 61
-continues slash b = b == 61
+continues less b = b == ascii.equals
+continues more b = b == ascii.equals
+continues slash b = b == ascii.equals
 
 abbrev pub go_on : Lexeme → ℕ → State → Option State
 go_on nothing b st = None
-go_on (letters bytes) b st = if ltb (length bytes) 32 then Some (record st { lexeme = letters (bytes ++ b ∷ []) }) else None
-go_on (digits bytes) b st = if ltb (length bytes) 19 then Some (record st { lexeme = digits (bytes ++ b ∷ []) }) else None
+go_on (letters bytes) b st = if ltb (length bytes) MAX_NAME_LEN then Some (record st { lexeme = letters (bytes ++ b ∷ []) }) else None
+go_on (digits bytes) b st = if ltb (length bytes) MAX_DIGITS then Some (record st { lexeme = digits (bytes ++ b ∷ []) }) else None
 go_on less b st = with_want st (take_operator st.want AtMost)
 go_on more b st = with_want st (take_operator st.want AtLeast)
 go_on slash b st = with_want st (take_operator st.want NotEqual)

@@ -1,3 +1,4 @@
+pub mod Ascii
 pub mod ChartGrammar
 pub mod ChartAnswer
 pub mod ChartForm

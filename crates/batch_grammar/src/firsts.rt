@@ -4,10 +4,7 @@ ghost use Rattle.batch_grammar.specs.ChartMachine.{first_or, no_firsts, noted, n
 ghost use Rattle.batch_grammar.specs.ChartView.{want_view};
 
 use crate::want::Want;
-use batch_recipe::MAX_VALUE;
-
-/// The most turns of a loop.
-const MAX_TURNS: u64 = 1_000;
+use batch_recipe::{MAX_TURNS, MAX_VALUE};
 
 /// The first of each kind of offset.
 #[derive(Clone, Copy)]
@@ -19,6 +16,7 @@ pub struct Firsts {
 }
 
 impl Firsts {
+    /// With nothing noted yet.
     pub fn none() -> Firsts
         ensures { result ≡ no_firsts }
     {

@@ -6,12 +6,9 @@ ghost use Rattle.batch_grammar.specs.ChartView.{Gives, test_view, want_view};
 use crate::fault::Stop;
 use crate::want::{Test, Want};
 use crate::word::{Word, name_of, word_of};
-use batch_recipe::{Chart, Cond, Op, Term};
+use batch_recipe::{Chart, Cond, MAX_DEPTH, Op, Term};
 use batch_text::Name;
 use std::alloc::Global;
-
-/// How deep forms may nest.
-const MAX_DEPTH: usize = 32;
 
 /// A form begins inside `depth` others.
 fn deeper(depth: usize, want: Want) -> Result<Want, Stop>
