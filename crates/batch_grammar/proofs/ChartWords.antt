@@ -1,10 +1,11 @@
 -- Labels are the words that are none of the six.
-use Rattle.std.proofs.Common.{◌≡◌, List, ℕ, Bool, true, false, ◌||◌, refl, sym, ◌∙◌}
+use Rattle.std.proofs.Common.{◌≡◌, List, ℕ, Bool, true, false, ◌||◌, refl, sym, ap, ◌∙◌}
 use Rattle.std.specs.Prelude.{codes, if◌then◌else◌, bytes_eq}
 use Rattle.std.specs.Cmp.Lexicographic.{bytes_decides}
 use Rattle.std.proofs.lemmas.Slice.Eq.{bytes_eq-Decides}
 use Rattle.batch_text.specs.NameText.{IsName}
 use Rattle.batch_recipe.specs.Conditions.{same_name}
+use Rattle.batch_recipe.specs.WellFormed.{is_among, chart_words}
 use Rattle.batch_grammar.specs.ChartGrammar.{IsLabel}
 use Rattle.batch_grammar.specs.ChartMachine.{word_of}
 use Rattle.batch_grammar.specs.declared.word.Word.{Word}
@@ -52,6 +53,23 @@ words_told bytes =
     let e5 = same_tests bytes (codes "loop") in
     let e6 = same_tests bytes (codes "else") in
     rw (e1, e2, e3, e4, e5, e6) refl
+
+-- a word of charts, as the machine tells it
+abbrev pub is_meant : Word → Bool
+is_meant word.Name = false
+is_meant _ = true
+
+any_is_meant : (a b c d e f : Bool) → (a || (b || (c || (d || (e || (f || false)))))) ≡ is_meant (which a b c d e f)
+any_is_meant true b c d e f = refl
+any_is_meant false true c d e f = refl
+any_is_meant false false true d e f = refl
+any_is_meant false false false true e f = refl
+any_is_meant false false false false true f = refl
+any_is_meant false false false false false true = refl
+any_is_meant false false false false false false = refl
+
+pub chart_word_told : (bytes : List ℕ) → is_among chart_words bytes ≡ is_meant (word_of bytes)
+chart_word_told bytes = any_is_meant _ _ _ _ _ _ ∙ ap is_meant (sym (words_told bytes))
 
 pub label_word : (bytes : List ℕ) → IsLabel bytes → word_of bytes ≡ word.Name
 label_word bytes label = words_told bytes ∙ none_is_name _ _ _ _ _ _ label.free

@@ -23,3 +23,4 @@ mod words;
 pub use fault::ChartFault;
 pub use laws::{a_chart_has_its_pars, a_chart_is_well_formed, a_text_has_one_chart};
 pub use reading::{MAX_CHART_LEN, ReadChart, read_chart, read_chart_and_par};
+pub use word::is_chart_word;

@@ -5,6 +5,7 @@ mod reference;
 
 use crate::fault::ChartFault;
 use crate::reading::{read_chart, read_chart_and_par};
+use crate::word::is_chart_word;
 use std::alloc::{AllocError, Global};
 use std::test::Fail;
 
@@ -166,6 +167,17 @@ fn chart_offsets(rt: HostRuntime) -> Result<(), Fail> {
         format!(in alloc; "{close:?}")?,
         format!(in alloc; "{wide:?}")?
     );
+    Ok(())
+}
+
+#[test]
+fn the_words_of_charts_are_six(rt: HostRuntime) -> Result<(), Fail> {
+    for word in ["skip", "seq", "par", "sel", "loop", "else"] {
+        assert!(rt; is_chart_word(word.as_bytes()), "{word}");
+    }
+    for word in ["", "se", "seqs", "Seq", "if"] {
+        assert!(rt; !is_chart_word(word.as_bytes()), "{word}");
+    }
     Ok(())
 }
 

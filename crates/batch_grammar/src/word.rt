@@ -1,6 +1,7 @@
 //! The words of chart texts.
 ghost use Rattle.std.specs.Prelude.{◌≡◌, ◌≢◌, IfOk, IsOkUnless};
 ghost use Rattle.batch_text.specs.NameText.{IsName};
+ghost use Rattle.batch_recipe.specs.WellFormed.{is_among, chart_words};
 ghost use Rattle.batch_grammar.specs.ChartMachine.{word_of};
 
 use crate::fault::Stop;
@@ -38,6 +39,15 @@ pub fn word_of(word: &[u8]) -> Word
     } else {
         Word::Name
     }
+}
+
+/// Whether the text is one of the six words with a meaning in charts, which name nothing: `skip`, `seq`, `par`, `sel`, `loop`
+/// and `else`.
+#[tactic(auto, using(crate::proofs::ChartWords::chart_word_told))]
+pub fn is_chart_word(text: &[u8]) -> bool
+    ensures { result ≡ is_among chart_words text.now }
+{
+    !matches!(word_of(text), Word::Name)
 }
 
 /// The name that the word is.

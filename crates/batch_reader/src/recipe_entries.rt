@@ -3,25 +3,16 @@ ghost use Rattle.std.specs.Prelude.{◌≡◌, ◌≢◌, ◌≤◌, ℕ, List, 
 ghost use Rattle.std.specs.Option.{ForSome};
 ghost use Rattle.toml.specs.Data.{as_str, get_member};
 ghost use Rattle.toml.specs.View.{table_view};
-ghost use Rattle.batch_recipe.specs.WellFormed.{is_among, chart_words};
 ghost use Rattle.batch_reader.specs.Entries.{HasLabel, HasNameOr, HasText, MayHaveText, HasFewNames, IsTruth, items_at};
 ghost use Rattle.batch_reader.specs.Faults.{IsToldAs, few_names_fault, missing_or_wrong, value_fault};
 
 use crate::entries::{member, name_at, names_of};
 use crate::fault::{EntryFault, Spot, TableFault};
 use crate::tables::items_at;
+use batch_grammar::is_chart_word;
 use batch_text::Name;
 use std::alloc::Global;
 use toml::Table;
-
-/// Whether the text is one of the words of charts.
-fn is_chart_word(text: &str) -> bool
-    ensures { result ≡ is_among chart_words text.now }
-{
-    ["skip", "seq", "par", "sel", "loop", "else"]
-        .iter()
-        .any(|word| text == *word)
-}
 
 /// The name at a key, which is none of the words of charts.
 pub(crate) fn label_at(
@@ -36,7 +27,7 @@ pub(crate) fn label_at(
     ensures told { IfErr result (IsToldAs spot (missing_or_wrong (get_member key.now (table_view table.now)))) }
 {
     let name = name_at(alloc, table, key, spot)?;
-    if is_chart_word(name.text()) {
+    if is_chart_word(name.text().as_bytes()) {
         return Err(TableFault::Entry(spot, EntryFault::WrongKind));
     }
     Ok(name)
