@@ -4,7 +4,10 @@ use Rattle.std.specs.Global.{Global}
 use Rattle.batch_recipe.specs.declared.condition.Cond.{Cond}
 use Rattle.batch_recipe.specs.declared.chart.Chart.{Chart}
 use Rattle.batch_recipe.specs.Diagram.{Diagram, diagram_of}
-use Rattle.batch_grammar.specs.ChartMachine.{Frame, in_seq, in_par, in_case, in_else, in_loop, Test, of_sel, of_loop, Want, a_chart, open_seq, open_par, open_sel, open_loop, a_turns, after_turns, a_name, an_operator, an_operand, after_condition, after_else, after_chart, Lexeme, nothing, letters, digits, less, more, slash, State}
+use Rattle.batch_grammar.specs.ChartMachine.{State, Frame, in_seq, in_par, in_case, in_else, in_loop, Test, of_sel, of_loop}
+use Rattle.batch_grammar.specs.ChartMachine.{Want, a_chart, open_seq, open_par, open_sel, open_loop, a_turns, after_turns}
+use Rattle.batch_grammar.specs.ChartMachine.{a_name, an_operator, an_operand, after_condition, after_else, after_chart}
+use Rattle.batch_grammar.specs.ChartMachine.{Lexeme, nothing, letters, digits, less, more, slash}
 use Rattle.batch_grammar.specs.declared.firsts.Firsts.{Firsts}
 use Rattle.batch_grammar.specs.declared.frame.Frame.{Frame as TheFrame}
 use Rattle.batch_grammar.specs.declared.frame.Frame.TheVariants as frame
@@ -74,7 +77,12 @@ after_view p = (want_view p.0, frames_view p.1.items)
 
 -- the state after the bytes before the place
 abbrev pub state_view : List ℕ → ℕ → TheState → State
-state_view text place st = record { lexeme = lexeme_view text place st.lexeme; want = want_view st.want; stack = frames_view st.stack.items; firsts = st.firsts }
+state_view text place st = record {
+  lexeme = lexeme_view text place st.lexeme;
+  want = want_view st.want;
+  stack = frames_view st.stack.items;
+  firsts = st.firsts;
+}
 
 abbrev pub found_view : Chart × Firsts → Diagram × Firsts
 found_view p = (diagram_of p.0, p.1)

@@ -10,7 +10,7 @@ pub fn a_text_has_one_chart()
     ensures { (text : List ℕ) (a b : Diagram) → IsChart text a → IsChart text b → a ≡ b }
 {}
 
-/// What the grammar says of a chart is what a recipe asks of it, once its names are declared.
+/// A chart of the grammar is one that a recipe may have, once its names are declared.
 pub fn a_chart_is_well_formed()
     ensures { (text : List ℕ) (chart : Diagram) → IsChart text chart → IsFormed chart }
 {}

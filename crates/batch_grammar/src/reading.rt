@@ -20,6 +20,7 @@ pub const MAX_CHART_LEN: usize = 16_384;
 #[derive(Drop)]
 pub struct ReadChart {
     pub chart: Chart,
+    /// The offset of the parenthesis of its first `par`, in bytes from 0.
     pub first_par: Option<usize>,
 }
 
@@ -56,7 +57,8 @@ pub fn read_chart_and_par(alloc: Global, text: &[u8]) -> Result<ReadChart, Chart
     }
 }
 
-/// Reads the chart of a text.
+/// Reads the chart of a text. `NotAChart`: the text is none, whatever range its numbers may have. `OutOfRange`: it is one but
+/// for the range of its numbers. Both tell an offset in bytes from 0. `Memory` may come of any text.
 pub fn read_chart(alloc: Global, text: &[u8]) -> Result<Chart, ChartFault>
     ensures found { IfOk result (λ chart. IsChart text.now (diagram_of chart)) }
     ensures no_chart { (n : ℕ) → result ≡ Err (ChartFault.NotAChart n) → HasFaultAt text.now n }

@@ -17,7 +17,8 @@ use std::alloc::Global;
 
 /// A token begins that is one of those wanted, or not.
 fn starts(is_wanted: bool, lexeme: Lexeme, state: State) -> Result<State, Stop>
-    ensures { MatchResult result (λ next. (is_wanted ≡ true) × (next ≡ record state { lexeme = lexeme })) (λ stop. (stop ≡ Stop.NotAChart) × (is_wanted ≡ false)) }
+    ensures { MatchResult result (λ next. (is_wanted ≡ true) × (next ≡ record state { lexeme = lexeme }))
+        (λ stop. (stop ≡ Stop.NotAChart) × (is_wanted ≡ false)) }
 {
     if is_wanted {
         Ok(State {

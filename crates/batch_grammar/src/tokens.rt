@@ -27,7 +27,8 @@ fn longer(token: &[u8], most: usize, state: State) -> Result<State, Stop>
 
 /// The token is an operator of two bytes.
 pub fn end_operator(state: State, op: Op) -> Result<State, Stop>
-    ensures { (text : List ℕ) (before place : ℕ) → Gives (state_view text place) result (with_want (state_view text before state) (take_operator (want_view state.want) op)) }
+    ensures { (text : List ℕ) (before place : ℕ) → Gives (state_view text place) result
+        (with_want (state_view text before state) (take_operator (want_view state.want) op)) }
 {
     let want = take_operator(state.want, op)?;
     Ok(State::between(want, state.stack, state.firsts))

@@ -32,18 +32,21 @@ pub enum Want {
 }
 
 impl Want {
+    /// A word may come next.
     pub fn takes_word(&self) -> bool
         ensures { result ≡ takes_word (want_view self.now) }
     {
         matches!(self, Want::Chart | Want::Name(_) | Want::Operand(_, _, _))
     }
 
+    /// A number may come next.
     pub fn takes_number(&self) -> bool
         ensures { result ≡ takes_number (want_view self.now) }
     {
         matches!(self, Want::Turns | Want::Operand(_, _, _))
     }
 
+    /// An operator has to come next.
     pub fn takes_operator(&self) -> bool
         ensures { result ≡ takes_operator (want_view self.now) }
     {

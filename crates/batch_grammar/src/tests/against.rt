@@ -1,4 +1,5 @@
-//! The reader against the plain one: each front and each change of one byte.
+//! The reader against the plain one, over ten charts: their 178 fronts, and the 43,008 texts in which one byte of theirs is
+//! another one, or the same.
 
 use super::reference::{Refusal, chart, spaces_end};
 use crate::fault::ChartFault;
@@ -7,7 +8,7 @@ use batch_recipe::Chart;
 use std::alloc::{AllocError, Global};
 use std::test::Fail;
 
-/// The charts of the demo recipes.
+/// The charts of the worked examples.
 const CHARTS: [&str; 10] = [
     "MAKE",
     "CHARGE",
@@ -54,18 +55,22 @@ fn is_read_alike(alloc: Global, text: &[u8]) -> Result<bool, AllocError> {
 #[test]
 fn each_front_is_read_alike(rt: HostRuntime) -> Result<(), Fail> {
     let alloc = rt.alloc();
+    let mut fronts: usize = 0;
     for text in CHARTS {
         for length in 0..=text.len() {
             let front = text.as_bytes().get(..length).ok_or("a front")?;
             assert!(rt; is_read_alike(alloc, front)?, "{text} {length}");
+            fronts = fronts.saturating_add(1);
         }
     }
+    assert_eq!(rt; fronts, 178);
     Ok(())
 }
 
 #[test]
 fn each_change_of_a_byte_is_read_alike(rt: HostRuntime) -> Result<(), Fail> {
     let alloc = rt.alloc();
+    let mut changes: usize = 0;
     for text in CHARTS {
         for place in 0..text.len() {
             let mut changed = Vec::from_slice(alloc, text.as_bytes())?;
@@ -74,8 +79,10 @@ fn each_change_of_a_byte_is_read_alike(rt: HostRuntime) -> Result<(), Fail> {
                     *old = byte;
                 }
                 assert!(rt; is_read_alike(alloc, &changed)?, "{text} {place} {byte}");
+                changes = changes.saturating_add(1);
             }
         }
     }
+    assert_eq!(rt; changes, 43_008);
     Ok(())
 }
