@@ -1,24 +1,17 @@
+-- For private contracts; no public clause cites this file.
 -- Where a place leads.
-use Rattle.std.specs.Prelude.{◌≡◌, ◌≢◌, ◌≤◌, ℕ, ◌+◌, List, ◌∷◌, ◌++◌, length, slice_get, Option, Some, None}
-use Rattle.std.specs.List.{AllByRecursion}
+use Rattle.std.specs.Prelude.{◌≡◌, ◌≤◌, ℕ, ◌+◌, List, ◌∷◌, ◌++◌, length, Option, Some, None}
 use Rattle.batch_recipe.specs.Conditions.{Name}
 use Rattle.batch_recipe.specs.Diagram.{Diagram, diagram_of, diagrams_of}
 use Rattle.batch_recipe.specs.Tree.{Place}
 use Rattle.batch_recipe.specs.Expanding.{act_tree, expanded, expanded_each, named_tree}
 use Rattle.batch_recipe.specs.Nodes.{Node, nodes, nodes_of_each}
+use Rattle.batch_recipe.specs.Places.{IsNodeAt, NoNodeAt}
 use Rattle.batch_recipe.specs.Procedure.{tables_from}
 use Rattle.batch_recipe.specs.declared.act.Act.{Act}
 use Rattle.batch_recipe.specs.declared.acts.Acts.{Acts}
 use Rattle.batch_recipe.specs.declared.acts.Level.{Level}
 use Rattle.batch_recipe.specs.declared.placing.Reached.{Reached}
-
--- node number k has this place
-abbrev pub IsNodeAt : List Node → ℕ → Place → Type 0
-IsNodeAt ns k place = (at : Node) × (slice_get ns k ≡ Some at) × (at.place ≡ place)
-
--- no node has this place
-abbrev pub NoNodeAt : List Node → Place → Type 0
-NoNodeAt ns place = AllByRecursion (λ (n : Node). n.place ≢ place) ns
 
 -- of the `left` nodes that may still come, so many are left at the node of this place; none where no node has it, or more nodes come
 abbrev pub IsLocated : List Node → Place → ℕ → Option ℕ → Type 0
