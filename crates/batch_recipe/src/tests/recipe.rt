@@ -87,7 +87,7 @@ fn quantity_of(alloc: Global, recipe: &Recipe, size: u64) -> Result<String, Fail
     })
 }
 
-/// Recipe P with the input QTY, which HEATS is handed.
+/// Recipe P without its needs, and with the input QTY, which HEATS is handed.
 fn recipe(alloc: Global, fixed: bool) -> Result<Recipe, Fail> {
     let acts = acts(alloc)?;
     let header = header(alloc)?;
