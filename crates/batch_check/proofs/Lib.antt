@@ -13,4 +13,5 @@ pub mod Recipes
 pub mod Known
 pub mod Rising
 pub mod Circles
+pub mod Tight
 pub mod Verdicts

@@ -153,6 +153,10 @@ Each-nodes : (P : Node → Type 0) (xs : List Part) → Each (λ x. P x.node) xs
 Each-nodes P [] h = tt
 Each-nodes P (x ∷ xs) h = (h.0, Each-nodes P xs h.1)
 
+pub nodes-Each : (P : Node → Type 0) (xs : List Part) → Each P (map (λ x. x.node) xs) → Each (λ x. P x.node) xs
+nodes-Each P [] h = tt
+nodes-Each P (x ∷ xs) h = (h.0, nodes-Each P xs h.1)
+
 -- what holds of the nodes of all parts holds of all nodes
 pub parts_hold : (P : Node → Type 0) (r : Recipe) → Each (λ x. P x.node) (parts is_procedure (0 ∷ []) [] (procedure_tree r.acts)) → Each P (procedure_nodes r.acts)
 parts_hold P r h =

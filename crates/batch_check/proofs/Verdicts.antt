@@ -22,7 +22,7 @@ use Rattle.batch_check.specs.declared.fault.CheckFault.{CheckFault}
 use Rattle.batch_check.specs.declared.fault.CheckFault.TheVariants.{Recipes, Recipe as in_recipe, Circle, Memory}
 use Rattle.batch_check.specs.Checking.{IsSoundRecipe, IsRecipeFault, IsCircleFault, AreLeastRanks}
 use Rattle.batch_check.specs.Clearing.{NeedResources, RiseAlongPaths, IsLeastClearance}
-use Rattle.batch_check.proofs.Rising.{Each-get, parts_hold, cleared_rises, circle_leaves_none}
+use Rattle.batch_check.proofs.Rising.{Each-get, nodes-Each, parts_hold, cleared_rises, circle_leaves_none}
 
 -- A fault leaves no clearance
 
@@ -54,17 +54,13 @@ circle_fault_none c recipes Memory h known cleared = known refl
 
 -- The least clearance
 
-needs_known : (c : equipment.Cell) (d : Documents) (recipes : List document.Recipe) → Each (IsSoundRecipe (cell_of c) d) (map recipe_of recipes) → NeedResources c recipes
+pub needs_known : (c : equipment.Cell) (d : Documents) (recipes : List document.Recipe) → Each (IsSoundRecipe (cell_of c) d) (map recipe_of recipes) → NeedResources c recipes
 needs_known c d [] h = tt
 needs_known c d (r ∷ rs) h = (
   parts_hold (λ n. NeedsResources (cell_of c) n.here) r
       (Each-map (IsSound (cell_of c) d) (λ x. NeedsResources (cell_of c) x.node.here) (λ x sound. sound.known) (parts is_procedure (0 ∷ []) [] (procedure_tree r.acts)) h.0),
   needs_known c d rs h.1,
 )
-
-nodes-Each : (P : Node → Type 0) (xs : List Part) → Each P (map (λ x. x.node) xs) → Each (λ x. P x.node) xs
-nodes-Each P [] h = tt
-nodes-Each P (x ∷ xs) h = (h.0, nodes-Each P xs h.1)
 
 sound_rises : (cell : Cell) (d : Documents) (rank : Ranking) (xs : List Part) → Each (IsSound cell d) xs → Each (λ x. RiseStrictly rank x.node.asked) xs → Each (IsClear cell d rank) xs
 sound_rises cell d rank [] h g = tt

@@ -14,6 +14,7 @@ use Rattle.batch_check.specs.declared.fault.CheckFault.{CheckFault}
 use Rattle.batch_check.specs.declared.fault.CheckFault.TheVariants.{Recipes, Recipe as in_recipe, Circle, Memory}
 use Rattle.batch_check.specs.ByName.{BeginsWithLeastName}
 use Rattle.batch_check.specs.Clearing.{StandsAsCircle, NeedResources, RiseLeast}
+use Rattle.batch_check.specs.TightRanks.{RanksTightly}
 
 -- all nodes of the recipe meet the rules that don't speak of ranks
 abbrev pub IsSoundRecipe : Cell → Documents → Recipe → Type 0
@@ -53,3 +54,4 @@ IsCircleFault c recipes _ = ⊥
 pub record AreLeastRanks (c : equipment.Cell) (recipes : List document.Recipe) (ranks : List ℕ) : Type 0 where
   pub complete : length ranks ≡ length (resources_of c)
   pub rising : NeedResources c recipes → RiseLeast c recipes (rank_in c ranks)
+  pub tight : NeedResources c recipes → RanksTightly c recipes (rank_in c ranks)

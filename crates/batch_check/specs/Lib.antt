@@ -6,4 +6,5 @@ pub mod Pairs
 pub mod Edges
 pub mod Collecting
 pub mod Clearing
+pub mod TightRanks
 pub mod Checking

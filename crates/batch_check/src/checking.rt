@@ -9,6 +9,7 @@ ghost use Rattle.batch_verify.specs.CertificateText.{AreInOrder};
 ghost use Rattle.batch_verify.specs.Ranked.{rank_of, RanksAll};
 ghost use Rattle.batch_check.specs.Checking.{AreLeastRanks, IsCircleFault, IsFault, IsRecipeFault, IsSoundRecipe};
 ghost use Rattle.batch_check.specs.Clearing.{IsLeastClearance};
+ghost use Rattle.batch_check.specs.TightRanks.{RanksTightly};
 
 use crate::edges::edges_of;
 use crate::fault::CheckFault;
@@ -27,6 +28,8 @@ pub fn check(alloc: Global, cell: &Cell, recipes: &[Recipe]) -> Result<Certifica
     ensures cleared { IfOk result
         (λ certificate. IsCleared (cell_of cell.now) (documents_of cell.now recipes.now) (rank_of certificate.ranks.items)) }
     ensures least { IfOk result (λ certificate. IsLeastClearance cell.now recipes.now (rank_of certificate.ranks.items)) }
+    // A resource's rank is one more than the greatest among those asked for before it on some path, and 1 where there are none.
+    ensures tight { IfOk result (λ certificate. RanksTightly cell.now recipes.now (rank_of certificate.ranks.items)) }
     ensures in_order { IfOk result (λ certificate. AreInOrder certificate.ranks.items) }
 
     ensures first { IfErr result (IsFault cell.now recipes.now) }

@@ -4,8 +4,9 @@ use Rattle.batch_model.specs.Cleared.{Ranking, IsCleared}
 use Rattle.batch_model.specs.Documents.{cell_of, documents_of}
 use Rattle.batch_check.specs.ByName.{IsCertificateOf}
 use Rattle.batch_check.specs.Clearing.{IsLeastClearance}
+use Rattle.batch_check.specs.TightRanks.{RanksTightly}
 use Rattle.batch_check.proofs.Told.{TellsRanks-certificate}
-use Rattle.batch_check.proofs.Verdicts.{recipe_fault_none, circle_fault_none, least_clearance}
+use Rattle.batch_check.proofs.Verdicts.{recipe_fault_none, circle_fault_none, least_clearance, needs_known}
 use Rattle.batch_check.proofs.checking.check.Goals as goal
 
 pub returns-in_err-check_each-clause-none : goal.returns-in_err-check_each-clause-none
@@ -45,3 +46,12 @@ returns-clause-cleared c =
     let h : IsCertificateOf cell ranks entries = rw c.deref.ensures.value at c.in_ok-ranks-2.ensures in
     subst (λ (rank : Ranking). IsCleared (cell_of cell) (documents_of cell c.args.recipes.now) rank) (sym (TellsRanks-certificate cell ranks entries c.in_ok-ranks.ensures.least.complete h).by_name)
     (least_clearance cell c.args.recipes.now ranks (c.is_recipe_set.ensures.0 c.if-not-is_recipe_set.false) c.in_ok-check_each.ensures.sound c.in_ok-ranks.ensures.least).clearing
+
+pub returns-clause-tight : goal.returns-clause-tight
+returns-clause-tight c =
+    let cell = c.args.cell.now in
+    let ranks = c.in_ok-ranks.ranks.items in
+    let entries = c.in_ok-ranks-2.ranks.items in
+    let h : IsCertificateOf cell ranks entries = rw c.deref.ensures.value at c.in_ok-ranks-2.ensures in
+    subst (λ (rank : Ranking). RanksTightly cell c.args.recipes.now rank) (sym (TellsRanks-certificate cell ranks entries c.in_ok-ranks.ensures.least.complete h).by_name)
+    (c.in_ok-ranks.ensures.least.tight (needs_known cell (documents_of cell c.args.recipes.now) c.args.recipes.now c.in_ok-check_each.ensures.sound))

@@ -3,6 +3,7 @@ use Rattle.batch_cell.specs.LookUps.{resources_of}
 use Rattle.batch_check.specs.LeastRanking.{IsCircle, IsLeastRanking}
 use Rattle.batch_check.proofs.Circles.{circle_within, circle_itself, circle_stands}
 use Rattle.batch_check.proofs.Rising.{least_ranks_rise}
+use Rattle.batch_check.proofs.Tight.{least_ranks_tight}
 use Rattle.batch_check.proofs.checking.ranks_of.Goals as goal
 
 pub returns-in-Ranks-clause-least : goal.returns-in-Ranks-clause-least
@@ -12,6 +13,7 @@ returns-in-Ranks-clause-least c =
     record {
       complete = least.complete;
       rising = λ known. least_ranks_rise c.args.cell.now c.args.recipes.now edges c.in-Ranks.ranks.items known c.in_ok-edges.ensures.edges least;
+      tight = λ known. least_ranks_tight c.args.cell.now c.args.recipes.now edges c.in-Ranks.ranks.items known c.in_ok-edges.ensures.edges least;
     }
 
 pub turned-requires-clause-within : goal.turned-requires-clause-within
