@@ -11,8 +11,8 @@ use Rattle.batch_recipe.specs.Conditions.{Name, same_name}
 use Rattle.batch_check.specs.declared.edge.Edge.{Edge}
 use Rattle.batch_check.specs.declared.edge_set.EdgeSet.{EdgeSet}
 use Rattle.batch_check.specs.declared.path.Path.{Path}
-use Rattle.batch_check.specs.Edges.{number_of, numbers_of, Joins, Follows}
-use Rattle.batch_check.specs.Pairs.{Keeps, has_pair}
+use Rattle.batch_check.specs.Edges.{has_pair, number_of, numbers_of, Joins, Follows}
+use Rattle.batch_check.specs.Pairs.{Keeps}
 use Rattle.batch_check.specs.Collecting.{Grows, IsReady, last_number, EndsIn, IsAmong, HasAsked}
 
 pub slice_get-left : {X : Type 0} (xs ys : List X) (k : ℕ) (x : X) → slice_get xs k ≡ Some x → slice_get (xs ++ ys) k ≡ Some x

@@ -4,7 +4,8 @@ use Rattle.std.proofs.lemmas.Bool.{cases_eq, eqb-true, eq-eqb}
 use Rattle.std.proofs.lemmas.Nat.{mul-add-lt, div-mul-add}
 use Rattle.std.proofs.lemmas.List.Folds.{list_any-append}
 use Rattle.batch_check.specs.declared.edge.Edge.{Edge}
-use Rattle.batch_check.specs.Pairs.{has_pair, Keeps}
+use Rattle.batch_check.specs.Edges.{has_pair}
+use Rattle.batch_check.specs.Pairs.{Keeps}
 
 abbrev is_pair : Edge → ℕ → ℕ → Bool
 is_pair e i j = nat_eq e.earlier i && nat_eq e.later j

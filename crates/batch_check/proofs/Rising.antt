@@ -22,8 +22,7 @@ use Rattle.batch_model.proofs.Parts.{parts-nodes}
 use Rattle.batch_check.specs.declared.edge.Edge.{Edge}
 use Rattle.batch_check.specs.ByName.{name_in}
 use Rattle.batch_verify.specs.Refusals.{rank_in}
-use Rattle.batch_check.specs.Edges.{Stands, Covers, CoversRecipes, AreEdgesOf, numbers_of, number_of, Follows}
-use Rattle.batch_check.specs.Pairs.{has_pair}
+use Rattle.batch_check.specs.Edges.{has_pair, Stands, Covers, CoversRecipes, AreEdgesOf, numbers_of, number_of, Follows}
 use Rattle.batch_check.specs.LeastRanking.{IsLeastRanking}
 use Rattle.batch_check.specs.Clearing.{NeedResources, RiseAlongPaths, RiseLeast, StandsAsCircle}
 use Rattle.batch_check.proofs.Names.{name_in-found, rank_in-name}

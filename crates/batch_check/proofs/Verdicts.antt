@@ -20,7 +20,8 @@ use Rattle.batch_verify.specs.declared.rule.Rule.TheVariants.{UnknownResource, P
 use Rattle.batch_verify.specs.declared.rule.Broken.{Broken}
 use Rattle.batch_check.specs.declared.fault.CheckFault.{CheckFault}
 use Rattle.batch_check.specs.declared.fault.CheckFault.TheVariants.{Recipes, Recipe as in_recipe, Circle, Memory}
-use Rattle.batch_check.specs.Checking.{IsSoundRecipe, IsRecipeFault, IsCircleFault, AreLeastRanks}
+use Rattle.batch_check.specs.Checking.{IsSoundRecipe}
+use Rattle.batch_check.specs.Finding.{IsRecipeFault, IsCircleFault, AreLeastRanks}
 use Rattle.batch_check.specs.Clearing.{NeedResources, RiseAlongPaths, IsLeastClearance}
 use Rattle.batch_check.proofs.Rising.{Each-get, nodes-Each, parts_hold, cleared_rises, circle_leaves_none}
 

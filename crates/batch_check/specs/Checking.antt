@@ -1,20 +1,18 @@
 -- What the check of a set of recipes says.
-use Rattle.std.specs.Prelude.{◌≡◌, ℕ, List, length, take, Some, None, slice_get, ⊤}
-use Rattle.batch_cell.specs.LookUps.{resources_of}
+use Rattle.std.specs.Prelude.{◌≡◌, ℕ, List, take, Some, None, slice_get, ⊤}
 use Rattle.batch_cell.specs.declared.cell.Cell as equipment
 use Rattle.batch_recipe.specs.declared.recipe.Recipe as document
 use Rattle.batch_model.specs.Lists.{Each}
 use Rattle.batch_model.specs.Plant.{Recipe, Documents}
 use Rattle.batch_model.specs.Cleared.{Cell, procedure_parts}
 use Rattle.batch_model.specs.Documents.{cell_of, documents_of}
-use Rattle.batch_verify.specs.Refusals.{rank_in, IsSound, IsFirstBroken}
+use Rattle.batch_verify.specs.Refusals.{IsSound, IsFirstBroken}
 use Rattle.batch_verify.specs.Verifying.{IsRecipeSet}
 use Rattle.batch_verify.specs.declared.rule.Broken.{Broken}
 use Rattle.batch_check.specs.declared.fault.CheckFault.{CheckFault}
 use Rattle.batch_check.specs.declared.fault.CheckFault.TheVariants.{Recipes, Recipe as in_recipe, Circle, Memory}
 use Rattle.batch_check.specs.ByName.{BeginsWithLeastName}
-use Rattle.batch_check.specs.Clearing.{StandsAsCircle, NeedResources, RiseLeast}
-use Rattle.batch_check.specs.TightRanks.{RanksTightly}
+use Rattle.batch_check.specs.Clearing.{StandsAsCircle}
 
 -- all nodes of the recipe meet the rules that don't speak of ranks
 abbrev pub IsSoundRecipe : Cell → Documents → Recipe → Type 0
@@ -37,21 +35,3 @@ IsFault c recipes (Circle circle) =
     IsRecipeSet (documents_of c recipes).recipes × Each (IsSoundRecipe (cell_of c) (documents_of c recipes)) (documents_of c recipes).recipes
     × StandsAsCircle c recipes circle.items × BeginsWithLeastName c circle.items
 IsFault c recipes Memory = ⊤
-
--- the same where recipes alone were looked at
-abbrev pub IsRecipeFault : Cell → Documents → CheckFault → Type 0
-IsRecipeFault cell d (in_recipe k broken) = IsFirstUnsound cell d d.recipes k broken
-IsRecipeFault cell d Memory = ⊤
-IsRecipeFault cell d _ = ⊥
-
--- the same where the orders of needs alone were looked at
-abbrev pub IsCircleFault : equipment.Cell → List document.Recipe → CheckFault → Type 0
-IsCircleFault c recipes (Circle circle) = StandsAsCircle c recipes circle.items × BeginsWithLeastName c circle.items
-IsCircleFault c recipes Memory = ⊤
-IsCircleFault c recipes _ = ⊥
-
--- the ranks of all resources by number, which are the least that rise along all paths
-pub record AreLeastRanks (c : equipment.Cell) (recipes : List document.Recipe) (ranks : List ℕ) : Type 0 where
-  pub complete : length ranks ≡ length (resources_of c)
-  pub rising : NeedResources c recipes → RiseLeast c recipes (rank_in c ranks)
-  pub tight : NeedResources c recipes → RanksTightly c recipes (rank_in c ranks)

@@ -1,6 +1,6 @@
 -- Edges that stand in recipes, and edges that cover the paths of recipes.
-use Rattle.std.specs.Prelude.{◌≡◌, ℕ, ◌+◌, ◌<◌, ◌≤◌, List, [], ◌∷◌, IsTrue, length, map, position, slice_get, Option, Some, None, ⊤}
-use Rattle.std.specs.List.{All}
+use Rattle.std.specs.Prelude.{◌≡◌, ℕ, ◌+◌, ◌<◌, ◌≤◌, List, [], ◌∷◌, ◌&&◌, Bool, IsTrue, length, map, nat_eq, position, slice_get, Option, Some, None, ⊤}
+use Rattle.std.specs.List.{All, list_any}
 use Rattle.batch_cell.specs.LookUps.{resources_of}
 use Rattle.batch_cell.specs.declared.cell.Cell.{Cell}
 use Rattle.batch_recipe.specs.Conditions.{Name, same_name}
@@ -9,7 +9,6 @@ use Rattle.batch_recipe.specs.Procedure.{procedure_nodes}
 use Rattle.batch_recipe.specs.declared.recipe.Recipe.{Recipe}
 use Rattle.batch_model.specs.Lists.{Each}
 use Rattle.batch_check.specs.declared.edge.Edge.{Edge}
-use Rattle.batch_check.specs.Pairs.{has_pair}
 
 -- Edges that stand
 
@@ -47,6 +46,10 @@ number_of cell name = position (same_name name) (resources_of cell)
 
 abbrev pub numbers_of : Cell → List Name → List (Option ℕ)
 numbers_of cell names = map (number_of cell) names
+
+-- some edge leads from the one resource to the other
+abbrev pub has_pair : List Edge → ℕ → ℕ → Bool
+has_pair edges earlier later = list_any (λ edge. nat_eq edge.earlier earlier && nat_eq edge.later later) edges
 
 -- where both are resources, an edge leads from the one to the other
 abbrev pub Joins : List Edge → Option ℕ → Option ℕ → Type 0

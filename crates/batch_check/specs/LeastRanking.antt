@@ -2,8 +2,6 @@
 use Rattle.std.specs.Prelude.{◌≡◌, ◌≢◌, ℕ, ◌+◌, ◌<◌, ◌≤◌, List, [], ◌∷◌, length, slice_index}
 use Rattle.std.specs.List.{All, AllPairs, Contains}
 use Rattle.batch_check.specs.declared.edge.Edge.{Edge}
-use Rattle.batch_check.specs.declared.ranking.Ranking.{Ranking}
-use Rattle.batch_check.specs.declared.ranking.Ranking.TheVariants.{Ranks, Circle}
 
 -- both resources of each edge are below count
 abbrev pub IsWithin : ℕ → List Edge → Type 0
@@ -48,11 +46,6 @@ pub record IsCircle (edges : List Edge) (circle : List Edge) : Type 0 where
   pub closed : Leads start circle start
   pub apart : AllPairs (λ e f. e.later ≢ f.later) circle
   pub standing : All (Contains edges) circle
-
--- the least ranking, or a circle
-abbrev pub IsRankingOf : ℕ → List Edge → Ranking → Type 0
-IsRankingOf count edges (Ranks ranks) = IsLeastRanking count edges ranks.items
-IsRankingOf count edges (Circle circle) = IsCircle edges circle.items
 
 abbrev pub CirclesLeaveNoRanking : Type 0
 CirclesLeaveNoRanking = (count : ℕ) (edges circle : List Edge) (rank : ℕ → ℕ) → IsCircle edges circle → IsRanking count edges rank → ⊥

@@ -8,3 +8,4 @@ pub mod Collecting
 pub mod Clearing
 pub mod TightRanks
 pub mod Checking
+pub mod Finding

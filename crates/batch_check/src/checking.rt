@@ -7,8 +7,9 @@ ghost use Rattle.batch_model.specs.Recipes.{recipe_of};
 ghost use Rattle.batch_model.specs.declared.limits.TheConstants.{MAX_RECIPES};
 ghost use Rattle.batch_verify.specs.CertificateText.{AreInOrder};
 ghost use Rattle.batch_verify.specs.Ranked.{rank_of, RanksAll};
-ghost use Rattle.batch_check.specs.Checking.{AreLeastRanks, IsCircleFault, IsFault, IsRecipeFault, IsSoundRecipe};
+ghost use Rattle.batch_check.specs.Checking.{IsFault, IsSoundRecipe};
 ghost use Rattle.batch_check.specs.Clearing.{IsLeastClearance};
+ghost use Rattle.batch_check.specs.Finding.{AreLeastRanks, IsCircleFault, IsRecipeFault};
 ghost use Rattle.batch_check.specs.TightRanks.{RanksTightly};
 
 use crate::edges::edges_of;

@@ -1,7 +1,8 @@
 //! Sets of edges.
 ghost use Rattle.std.specs.Prelude.{◌≡◌, ℕ, ◌+◌, ◌*◌, ◌<◌, ◌⊎◌, [], false, length, IfOk, IsTrue, OnOk};
 ghost use Rattle.std.specs.List.{Contains, slice_index_or};
-ghost use Rattle.batch_check.specs.Pairs.{Keeps, has_pair};
+ghost use Rattle.batch_check.specs.Edges.{has_pair};
+ghost use Rattle.batch_check.specs.Pairs.{Keeps};
 ghost use Rattle.batch_check.specs.declared.edge.Edge.{Edge};
 
 use crate::edge::Edge;

@@ -1,6 +1,7 @@
 //! The least ranking.
 ghost use Rattle.std.specs.Prelude.{ℕ, IfOk};
-ghost use Rattle.batch_check.specs.LeastRanking.{IsWithin, IsRankingOf};
+ghost use Rattle.batch_check.specs.Finding.{IsRankingOf};
+ghost use Rattle.batch_check.specs.LeastRanking.{IsWithin};
 
 use crate::circle::circle_through;
 use crate::edge::Edge;

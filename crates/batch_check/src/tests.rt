@@ -1,6 +1,6 @@
 //! Worked edges.
 ghost use Rattle.std.specs.Prelude.{IfOk};
-ghost use Rattle.batch_check.specs.LeastRanking.{IsRankingOf};
+ghost use Rattle.batch_check.specs.Finding.{IsRankingOf};
 
 use crate::Edge;
 use crate::ranking::{Ranking, least_ranks};
