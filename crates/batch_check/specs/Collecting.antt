@@ -1,11 +1,20 @@
 -- For private contracts; no public clause cites this file.
 -- What is kept while the edges of recipes are collected.
-use Rattle.std.specs.Prelude.{◌≡◌, ℕ, ◌+◌, ◌<◌, ◌≤◌, List, [], ◌∷◌, ◌++◌, length, slice_get, Option, Some, None, ◌⊎◌}
+use Rattle.std.specs.Prelude.{◌≡◌, ℕ, ◌+◌, ◌<◌, ◌≤◌, List, [], ◌∷◌, ◌++◌, length, map, slice_get, Option, Some, None, ◌⊎◌}
 use Rattle.std.specs.List.{Contains}
 use Rattle.batch_cell.specs.LookUps.{resources_of}
 use Rattle.batch_cell.specs.declared.cell.Cell.{Cell}
 use Rattle.batch_recipe.specs.Conditions.{Name}
-use Rattle.batch_recipe.specs.Nodes.{Node}
+use Rattle.batch_recipe.specs.Diagram.{diagram_of, diagrams_of, cases_of}
+use Rattle.batch_recipe.specs.Expanding.{act_tree, expanded, expanded_each, expanded_cases, named_tree}
+use Rattle.batch_recipe.specs.Nodes.{Node, nodes, nodes_of_each, nodes_of_choices}
+use Rattle.batch_recipe.specs.Procedure.{tables_from}
+use Rattle.batch_recipe.specs.Tree.{Place}
+use Rattle.batch_recipe.specs.declared.act.Act.{Act}
+use Rattle.batch_recipe.specs.declared.acts.Acts.{Acts}
+use Rattle.batch_recipe.specs.declared.acts.Level.{Level}
+use Rattle.batch_recipe.specs.declared.chart.Chart.{Chart}
+use Rattle.batch_recipe.specs.declared.condition.Cond.{Cond}
 use Rattle.batch_model.specs.Lists.{Each}
 use Rattle.batch_check.specs.declared.edge.Edge.{Edge}
 use Rattle.batch_check.specs.declared.edge_set.EdgeSet.{EdgeSet}
@@ -61,6 +70,29 @@ pub record HasAsked (cell : Cell) (path : Path) (node : ℕ) (own : List Name) (
 
 -- Nodes
 
+-- nodes on a unit, at a place, below a path that asks for these resources
+abbrev pub Standing : Type 0
+Standing = Name → Place → List Name → List Node
+
+-- those of an act, the labels of its chart looked up from the level on
+abbrev pub act_nodes : Acts → Option Level → Act → Standing
+act_nodes acts level act unit place above = nodes place above (act_tree (named_tree (tables_from acts level)) unit act place)
+
+-- those of a chart
+abbrev pub chart_nodes : Acts → Option Level → Chart → Standing
+chart_nodes acts level chart unit place above = nodes place above (expanded (named_tree (tables_from acts level) unit) place (diagram_of chart))
+
+-- those of branches
+abbrev pub branch_nodes : Acts → Option Level → List Chart → Standing
+branch_nodes acts level parts unit place above =
+    nodes_of_each place above 0 (expanded_each (named_tree (tables_from acts level) unit) place 0 (diagrams_of (map diagram_of parts)))
+
+-- those of a selection's branches
+abbrev pub choice_nodes : Acts → Option Level → List (Cond × Chart) → Chart → Standing
+choice_nodes acts level choices last unit place above =
+    nodes_of_choices place above 0
+    (expanded_cases (named_tree (tables_from acts level) unit) place 0 (cases_of (map (λ choice. (choice.0, diagram_of choice.1)) choices) (diagram_of last)))
+
 -- the edge stands at one of these nodes, which are numbered from `first`
 pub record StandsAmong (cell : Cell) (recipe first : ℕ) (nodes : List Node) (edge : Edge) : Type 0 where
   pub recipe_is : edge.recipe ≡ recipe
@@ -82,3 +114,8 @@ pub record IsCollected (cell : Cell) (path : Path) (first : ℕ) (above : List N
   pub standing : EndsIn cell above path.last → first + length nodes < 65536 → (edge : Edge) → Contains new edge
       → Contains old edge ⊎ StandsAmong cell path.recipe first nodes edge
   pub covering : (final : List Edge) → Keeps new final → PathTo cell final above path.last → Each (Covers cell final) nodes
+
+-- so wherever the nodes stand
+abbrev pub AreCollected : Cell → Path → ℕ → Standing → EdgeSet → EdgeSet → ℕ → Type 0
+AreCollected cell path first standing old new next =
+    (unit : Name) (place : Place) (above : List Name) → IsCollected cell path first above (standing unit place above) old.edges.items new.edges.items next

@@ -1,10 +1,6 @@
 //! The edges of recipes.
-ghost use Rattle.std.specs.Prelude.{◌≡◌, ℕ, List, map, length, IfOk, OnOk};
-ghost use Rattle.batch_recipe.specs.Diagram.{diagram_of, diagrams_of, cases_of};
-ghost use Rattle.batch_recipe.specs.Expanding.{act_tree, expanded, expanded_each, expanded_cases, named_tree};
-ghost use Rattle.batch_recipe.specs.Nodes.{nodes, nodes_of_each, nodes_of_choices};
-ghost use Rattle.batch_recipe.specs.Procedure.{tables_from};
-ghost use Rattle.batch_check.specs.Collecting.{Grows, IsCollected, IsReady};
+ghost use Rattle.std.specs.Prelude.{IfOk, OnOk};
+ghost use Rattle.batch_check.specs.Collecting.{AreCollected, Grows, IsReady, act_nodes, branch_nodes, chart_nodes, choice_nodes};
 
 use crate::edge_set::EdgeSet;
 use crate::path::{Path, ask_all};
@@ -33,8 +29,8 @@ pub(crate) fn collect_act(
 ) -> Result<u16, AllocError>
     requires { IsReady site.now.cell.now path edges.old }
     ensures grown { OnOk result (Grows edges.old edges.new) }
-    ensures collected { IfOk result (λ next. (unit : List ℕ) (place : List ℕ) (above : List (List ℕ))
-        → IsCollected site.now.cell.now path node above (nodes place above (act_tree (named_tree (tables_from site.now.acts.now level)) unit act.now place)) edges.old.edges.items edges.new.edges.items next) }
+    ensures collected { IfOk result
+        (AreCollected site.now.cell.now path node (act_nodes site.now.acts.now level act.now) edges.old edges.new) }
 {
     let below = ask_all(act, site.cell, path, node, edges)?;
     let next = node.saturating_add(1);
@@ -56,8 +52,8 @@ fn collect(
 ) -> Result<u16, AllocError>
     requires { IsReady site.now.cell.now path edges.old }
     ensures grown { OnOk result (Grows edges.old edges.new) }
-    ensures collected { IfOk result (λ next. (unit : List ℕ) (place : List ℕ) (above : List (List ℕ))
-        → IsCollected site.now.cell.now path node above (nodes place above (expanded (named_tree (tables_from site.now.acts.now level) unit) place (diagram_of chart.now))) edges.old.edges.items edges.new.edges.items next) }
+    ensures collected { IfOk result
+        (AreCollected site.now.cell.now path node (chart_nodes site.now.acts.now level chart.now) edges.old edges.new) }
 {
     let next = node.saturating_add(1);
     match chart {
@@ -89,8 +85,8 @@ fn collect_each(
 ) -> Result<u16, AllocError>
     requires { IsReady site.now.cell.now path edges.old }
     ensures grown { OnOk result (Grows edges.old edges.new) }
-    ensures collected { IfOk result (λ next. (unit : List ℕ) (place : List ℕ) (above : List (List ℕ))
-        → IsCollected site.now.cell.now path node above (nodes_of_each place above 0 (expanded_each (named_tree (tables_from site.now.acts.now level) unit) place 0 (diagrams_of (map diagram_of parts.now)))) edges.old.edges.items edges.new.edges.items next) }
+    ensures collected { IfOk result
+        (AreCollected site.now.cell.now path node (branch_nodes site.now.acts.now level parts.now) edges.old edges.new) }
 {
     let mut next = node;
     for part in parts {
@@ -112,8 +108,8 @@ fn collect_choices(
 ) -> Result<u16, AllocError>
     requires { IsReady site.now.cell.now path edges.old }
     ensures grown { OnOk result (Grows edges.old edges.new) }
-    ensures collected { IfOk result (λ next. (unit : List ℕ) (place : List ℕ) (above : List (List ℕ))
-        → IsCollected site.now.cell.now path node above (nodes_of_choices place above 0 (expanded_cases (named_tree (tables_from site.now.acts.now level) unit) place 0 (cases_of (map (λ choice. (choice.0, diagram_of choice.1)) choices.now) (diagram_of last.now)))) edges.old.edges.items edges.new.edges.items next) }
+    ensures collected { IfOk result
+        (AreCollected site.now.cell.now path node (choice_nodes site.now.acts.now level choices.now last.now) edges.old edges.new) }
 {
     let mut next = node;
     for choice in choices {

@@ -11,6 +11,7 @@ use std::alloc::{AllocError, Global};
 /// Edges between the resources below a count, at most one for each pair of them, in the order in which they were added.
 #[derive(Debug, Drop)]
 pub(crate) struct EdgeSet {
+    /// How many resources there are.
     pub(crate) count: u16,
     /// For each earlier and each later, whether an edge leads from the one to the other.
     pub(crate) known: Vec<bool>,

@@ -16,7 +16,12 @@ pub enum CheckFault {
     Recipes,
     /// A node of the recipe with this number is the first that breaks a rule.
     #[error("recipe {recipe} breaks a rule: {broken:?}")]
-    Recipe { recipe: u16, broken: Broken },
+    Recipe {
+        /// The recipe's number, from 0 in the order given.
+        recipe: u16,
+        /// The rule and the node's number.
+        broken: Broken,
+    },
     /// These edges, which all stand in recipes, lead from a resource back to it, and no resource comes twice. The first comes
     /// from the resource with the least name.
     #[error("edges lead from a resource back to it: {0:?}")]

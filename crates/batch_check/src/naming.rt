@@ -25,6 +25,7 @@ pub(crate) fn ranks_by_name(
     Ok(entries)
 }
 
+/// The same name. A copy fails for want of memory alone.
 fn copied(alloc: Global, name: &Name) -> Result<Name, AllocError>
     ensures { IfOk result (λ copy. copy ≡ name.now) }
 {
