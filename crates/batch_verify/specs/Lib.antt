@@ -1,6 +1,7 @@
 pub mod CertificateText
 pub mod ClearedSet
 pub mod IdleRecipe
+pub mod Judging
 pub mod Ranked
 pub mod Refusals
 pub mod Verifying

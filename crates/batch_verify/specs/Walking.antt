@@ -1,3 +1,4 @@
+-- For private contracts; no public clause cites this file.
 -- What the parts of a walk say.
 use Rattle.std.specs.Prelude.{◌≡◌, ℕ, ◌+◌, ◌<◌, List, [], ◌∷◌, ◌++◌, map, length, Bool, true, false, not, ◌&&◌, ◌||◌, Option, Some, None, Result, Ok, Err, position, ⊤}
 use Rattle.std.specs.Borrow.{Bor}

@@ -11,7 +11,7 @@ use batch_recipe::{Act, Acts, Chart, Cond, Level, Work, act_named};
 
 /// Whether every way through the chart runs a phase. Its labels are looked up from the level on.
 #[cycle(running)]
-pub fn surely_runs(chart: &Chart, acts: &Acts, level: Option<Level>) -> bool
+pub(crate) fn surely_runs(chart: &Chart, acts: &Acts, level: Option<Level>) -> bool
     ensures { (unit : Name) (place : Place)
         → result ≡ surely_runs (expanded (named_tree (tables_from acts.now level) unit) place (diagram_of chart.now)) }
 {
