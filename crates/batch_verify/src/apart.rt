@@ -8,14 +8,14 @@ ghost use Rattle.batch_recipe.specs.Conditions.{Name as Text};
 ghost use Rattle.batch_model.specs.Cleared.{phases, phases_of_each, phases_of_choices, BranchesRunApart};
 ghost use Rattle.batch_verify.specs.Walking.{names_at, phase_names, Gathers};
 
-use crate::names::{add, add_each, share_one};
+use crate::names::add;
 use batch_recipe::{Act, Acts, Chart, Cond, Level, Work, act_named};
 use batch_text::Name;
 use indexmap::IndexSet;
 use std::alloc::{AllocError, Global};
 
 /// Whether no two of the charts run the same phase. Their labels are looked up from the level on.
-pub fn are_apart(
+pub(crate) fn are_apart(
     alloc: Global,
     parts: &[Chart],
     acts: &Acts,
@@ -28,10 +28,10 @@ pub fn are_apart(
     for part in parts {
         let mut own = IndexSet::new(alloc);
         gather(part, acts, level, &mut own)?;
-        if share_one(&earlier, &own) {
+        if !earlier.is_disjoint(&own) {
             return Ok(false);
         }
-        add_each(&mut earlier, &own)?;
+        earlier.append(&mut own)?;
     }
     Ok(true)
 }
