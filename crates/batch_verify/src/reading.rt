@@ -9,6 +9,10 @@ use batch_text::{Name, is_name, read_number};
 use std::alloc::Global;
 
 /// Reads the text of a certificate, a line at a time.
+///
+/// A fault is that of the first line with one. Of each line it is asked first whether there are too many, then whether it is a
+/// rank line, and last whether its name is in order. Want of memory comes where a growth was refused before a fault was found:
+/// of the text it says nothing.
 pub fn read_certificate(alloc: Global, text: &[u8]) -> Result<Certificate, CertFault>
     ensures ok { IfOk result (λ certificate. IsCertificateText text.now certificate.ranks.items) }
     ensures fault { IfErr result (IsFirstFault text.now) }

@@ -37,6 +37,8 @@ use std::alloc::{AllocError, Global};
 /// The first rule that the recipe breaks: of the first node that breaks one, by number, the first rule.
 ///
 /// The resources have these ranks, by number. Without ranks, the rule on them is left out.
+///
+/// An error is want of memory, for the names of phases in the branches of a `par`. It says nothing of the recipe.
 pub fn first_broken(
     alloc: Global,
     cell: &Cell,
