@@ -1,13 +1,20 @@
 -- What verdicts say of the documents that they are on.
-use Rattle.std.specs.Prelude.{◌≡◌, ◌≢◌, ◌≤◌, ◌<◌, ℕ, List, length, string_bytes, ⊤}
+use Rattle.std.specs.Prelude.{◌≡◌, ◌≢◌, ◌≤◌, ◌<◌, ℕ, List, true, length, string_bytes, IsSome, IsUtf8, ⊤}
+use Rattle.toml.specs.Parse.{parse_document}
 use Rattle.batch_cell.specs.declared.cell.Cell.{Cell}
 use Rattle.batch_recipe.specs.declared.recipe.Recipe.{Recipe}
 use Rattle.batch_model.specs.Cleared.{IsCleared}
 use Rattle.batch_model.specs.Documents.{cell_of, documents_of}
 use Rattle.batch_reader.specs.CellDocument.{IsCellDocument}
+use Rattle.batch_reader.specs.Faults.{is_of_cell, is_of_recipe}
 use Rattle.batch_reader.specs.RecipeDocument.{IsRecipeDocument}
+use Rattle.batch_reader.specs.declared.document.TheConstants.{MAX_DOCUMENT_LEN}
 use Rattle.batch_reader.specs.declared.fault.DocFault.{DocFault}
 use Rattle.batch_reader.specs.declared.fault.DocFault.TheVariants as document
+use Rattle.batch_reader.specs.declared.fault.EntryFault.{EntryFault}
+use Rattle.batch_reader.specs.declared.fault.EntryFault.TheVariants.{OutOfLimit}
+use Rattle.batch_reader.specs.declared.fault.Spot.{Spot}
+use Rattle.batch_reader.specs.declared.fault.TableKind.TheVariants as table
 use Rattle.batch_verify.specs.CertificateText.{Rank, AreInOrder, IsCertificateText, IsFirstFault}
 use Rattle.batch_verify.specs.Ranked.{rank_of, RanksAll}
 use Rattle.batch_verify.specs.Verifying.{IsFirstRefusal}
@@ -53,16 +60,26 @@ IsHalt (halt.Refused verdict) = verdict.ending ≢ Accepted
 IsHalt (halt.Unread message) = ⊤
 IsHalt halt.Memory = ⊤
 
--- the document is refused, and but for memory it stands for no cell
+abbrev pub IsToml : List ℕ → Type 0
+IsToml bytes = IsUtf8 bytes × IsSome (parse_document bytes)
+
+-- the document is refused, and but for memory it stands for no cell: it is called no TOML only where it is none, a document
+-- that is too long is refused at its top, and a table at fault is one of a cell's
 pub record RefusesCell (path bytes : List ℕ) (h : Halt) : Type 0 where
   pub fault : DocFault
   pub stands : fault ≢ document.Memory → (c : Cell) → ¬ (IsCellDocument bytes c)
+  pub not_toml : fault ≡ document.NotToml → ¬ (IsToml bytes)
+  pub long : MAX_DOCUMENT_LEN < length bytes → fault ≡ document.Entry (record { kind = table.Cell; entry = 0 }) OutOfLimit
+  pub told : (spot : Spot) (wrong : EntryFault) → fault ≡ document.Entry spot wrong → is_of_cell spot.kind ≡ true
   pub halts : HaltsWith (document_text path fault) (document_ending fault) h
 
--- the document is refused, and but for memory it stands for no recipe
+-- the document is refused, and but for memory it stands for no recipe; the rest is as for a cell, of the tables of a recipe
 pub record RefusesRecipe (path bytes : List ℕ) (h : Halt) : Type 0 where
   pub fault : DocFault
   pub stands : fault ≢ document.Memory → (r : Recipe) → ¬ (IsRecipeDocument bytes r)
+  pub not_toml : fault ≡ document.NotToml → ¬ (IsToml bytes)
+  pub long : MAX_DOCUMENT_LEN < length bytes → fault ≡ document.Entry (record { kind = table.Recipe; entry = 0 }) OutOfLimit
+  pub told : (spot : Spot) (wrong : EntryFault) → fault ≡ document.Entry spot wrong → is_of_recipe spot.kind ≡ true
   pub halts : HaltsWith (document_text path fault) (document_ending fault) h
 
 -- the text is refused by its first fault, and a file that is too long as one of too many lines
