@@ -48,8 +48,8 @@ pub record Stream : Type 0 where
 abbrev pub IsUntouched : Stream → Type 0
 IsUntouched s = Keeps s.before s.after
 
--- the text was written whole to the output, nothing to the errors, and the program ends with the wanted status; or a write
--- failed, which is told on the errors, and it ends with the status of a fault
+-- the text was written whole to the output, nothing to the errors, and the program ends with the wanted status; or it ends
+-- with the status of a fault, and then nothing is known of the streams
 abbrev pub IsPrinted : Stream → Stream → List ℕ → ℕ → ℕ → Type 0
 IsPrinted output errors text wanted status =
     (Appends output.before output.after text × IsUntouched errors × (status ≡ wanted)) ⊎ (status ≡ fault_status)
