@@ -1,5 +1,6 @@
 //! Documents that are read and judged one after another.
-use crate::tests::shelf::{CELL, NEEDS_TWICE, Shelf, ended, owned};
+use crate::tests::row_documents::{CELL1, N};
+use crate::tests::shelf::{Shelf, ended, owned};
 use crate::{Halt, Verdict, check_documents, judge_certificate, verify_documents};
 use std::alloc::Global;
 use std::test::Fail;
@@ -7,17 +8,17 @@ use std::test::Fail;
 const RANKS: &str = "rank HDR 2\nrank R1 1\nrank R2 1\nrank STEAM 1\n";
 
 fn checked(alloc: Global, recipes: &[&str]) -> Result<Verdict, Fail> {
-    let shelf = Shelf(&[("cell", CELL), ("twice", NEEDS_TWICE), ("bad", "=")]);
+    let shelf = Shelf(&[("cell", CELL1), ("twice", N), ("bad", "=")]);
     let recipes = owned(alloc, recipes)?;
     Ok(ended(check_documents(alloc, &shelf, "cell", &recipes))?)
 }
 
 fn verified(alloc: Global, certificate: &str, recipes: &[&str]) -> Result<Verdict, Fail> {
     let shelf = Shelf(&[
-        ("cell", CELL),
+        ("cell", CELL1),
         ("ranks", RANKS),
         ("zero", "rank HDR 0\n"),
-        ("twice", NEEDS_TWICE),
+        ("twice", N),
         ("bad", "="),
     ]);
     let recipes = owned(alloc, recipes)?;
@@ -61,7 +62,7 @@ fn first_fault_ends(rt: HostRuntime) -> Result<(), Fail> {
     assert_eq!(rt; verdict.ending.status(), 1);
     let verdict = verified(rt.alloc(), "zero", &["bad"])?;
     assert_eq!(rt; verdict.text.as_str(), "refused K1 1\n");
-    let shelf = Shelf(&[("cell", CELL), ("bad", "=")]);
+    let shelf = Shelf(&[("cell", CELL1), ("bad", "=")]);
     let recipes = owned(rt.alloc(), &["nowhere", "bad"])?;
     let Err(Halt::Unread(path)) = check_documents(rt.alloc(), &shelf, "cell", &recipes) else {
         panic!(rt; "no file fault");

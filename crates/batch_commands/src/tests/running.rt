@@ -86,9 +86,10 @@ fn help_is_output(rt: HostRuntime) -> Result<(), Fail> {
 
 #[test]
 fn faults_are_errors(rt: HostRuntime) -> Result<(), Fail> {
-    let rows: [(&[&str], &str, u8); 3] = [
+    let rows: [(&[&str], &str, u8); 4] = [
         (&["check", "cell", "nowhere", "bad"], "nowhere", 3),
         (&["check"], "<CELL>", 2),
+        (&["run"], "run", 2),
         (&["plant"], "plant", 2),
     ];
     for (words, part, status) in rows {

@@ -7,42 +7,6 @@ use crate::{Documents, Halt, Verdict};
 use std::alloc::Global;
 use std::test::Fail;
 
-/// Two units, and two resources that are shared.
-pub(crate) const CELL: &str = "cell = \"DEMO\"
-[[unit]]
-name = \"R1\"
-[[unit]]
-name = \"R2\"
-[[module]]
-name = \"M1\"
-unit = \"R1\"
-phases = [\"ADD\"]
-[[shared]]
-name = \"HDR\"
-capacity = 1
-[[shared]]
-name = \"STEAM\"
-capacity = 2
-";
-
-/// A recipe whose phase asks for one resource twice.
-pub(crate) const NEEDS_TWICE: &str = "recipe = \"N\"
-version = \"1\"
-basis = 1000
-[procedure]
-chart = \"MAKE\"
-[[unit_procedure]]
-name = \"MAKE\"
-unit = \"R1\"
-chart = \"CHARGE\"
-[[operation]]
-name = \"CHARGE\"
-chart = \"ADD\"
-[[phase]]
-name = \"ADD\"
-needs = [\"HDR\", \"HDR\"]
-";
-
 /// Documents, by path.
 #[derive(Drop)]
 pub(crate) struct Shelf<'a>(pub(crate) &'a [(&'a str, &'a str)]);

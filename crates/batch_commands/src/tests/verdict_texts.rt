@@ -1,5 +1,5 @@
 //! The texts of verdicts.
-use crate::tests::shelf::{CELL, NEEDS_TWICE};
+use crate::tests::row_documents::{CELL1, N};
 use crate::{
     certificate_refused, certificate_text, document_text, fault_text, judge_cell,
     judge_certificate, judge_recipe, refusal_text,
@@ -76,8 +76,8 @@ fn certificates(rt: HostRuntime) -> Result<(), Fail> {
 #[test]
 fn refusals_of_sets(rt: HostRuntime) -> Result<(), Fail> {
     let alloc = rt.alloc();
-    let cell = judge_cell(alloc, "c", CELL.as_bytes())?;
-    let recipes = vec![in alloc; judge_recipe(alloc, "r", NEEDS_TWICE.as_bytes())?]?;
+    let cell = judge_cell(alloc, "c", CELL1.as_bytes())?;
+    let recipes = vec![in alloc; judge_recipe(alloc, "r", N.as_bytes())?]?;
     let certificate = judge_certificate(alloc, b"rank HDR 2\nrank R1 1\n")?;
     let at = |node, rule| Refusal::Recipe {
         recipe: 0,
@@ -104,8 +104,8 @@ fn refusals_of_sets(rt: HostRuntime) -> Result<(), Fail> {
 #[test]
 fn recipes_without_certificate(rt: HostRuntime) -> Result<(), Fail> {
     let alloc = rt.alloc();
-    let cell = judge_cell(alloc, "c", CELL.as_bytes())?;
-    let recipes = vec![in alloc; judge_recipe(alloc, "r", NEEDS_TWICE.as_bytes())?]?;
+    let cell = judge_cell(alloc, "c", CELL1.as_bytes())?;
+    let recipes = vec![in alloc; judge_recipe(alloc, "r", N.as_bytes())?]?;
     let edge = |earlier, later| Edge {
         recipe: 0,
         node: 3,
