@@ -3,6 +3,7 @@ ghost use Rattle.std.specs.Prelude.{◌≡◌};
 ghost use Rattle.batch_commands.specs.declared.command.CommandFault.TheVariants.{Memory};
 
 use std::alloc::{AllocError, AllocFailed};
+use thiserror::Error;
 
 /// A command of the program, with the paths of its documents.
 #[derive(Debug, Drop)]
@@ -22,13 +23,17 @@ pub enum Command {
     },
 }
 
-/// Why the words are no command, with the text for the user.
-#[derive(Debug, Drop)]
+/// Why the words are no command.
+#[derive(Debug, Error, Drop)]
 pub enum CommandFault {
-    /// Help was asked for.
+    /// Help was asked for, with the help's text.
+    #[error("{0}")]
     Help(String),
-    /// The words are no command.
+    /// The words are no command, with a text that says what is wrong with them.
+    #[error("{0}")]
     Usage(String),
+    /// Memory ran out while the words were read, or for the text of another fault.
+    #[error("out of memory")]
     Memory,
 }
 

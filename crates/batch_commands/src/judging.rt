@@ -20,7 +20,10 @@ use std::alloc::{AllocError, Global};
 /// The longest file of a certificate, in bytes.
 pub const MAX_CERTIFICATE_LEN: usize = 32_768;
 
-/// The cell of the document at the path.
+/// The cell of the document at the path, which only the text of a refusal names.
+///
+/// A document with a fault is refused by the first that the reader meets, and want of memory for the judgement is refused as
+/// well. Where there is no memory for that text the error is [`Halt::Memory`].
 pub fn judge_cell(alloc: Global, path: &str, bytes: &[u8]) -> Result<Cell, Halt>
     ensures ok { IfOk result (IsCellDocument bytes.now) }
     ensures refused { IfErr result (RefusesCell path.now bytes.now) }
@@ -32,7 +35,7 @@ pub fn judge_cell(alloc: Global, path: &str, bytes: &[u8]) -> Result<Cell, Halt>
     }
 }
 
-/// The recipe of the document at the path.
+/// The recipe of the document at the path. What it names is looked up in no cell. Its errors are those of [`judge_cell`].
 pub fn judge_recipe(alloc: Global, path: &str, bytes: &[u8]) -> Result<Recipe, Halt>
     ensures ok { IfOk result (IsRecipeDocument bytes.now) }
     ensures refused { IfErr result (RefusesRecipe path.now bytes.now) }
@@ -59,6 +62,10 @@ fn document_halt(alloc: Global, path: &str, fault: DocFault) -> Halt
 }
 
 /// The certificate of the file.
+///
+/// A text with a fault is refused by its first line with one, and a file longer than [`MAX_CERTIFICATE_LEN`] as one of too many
+/// lines, whatever it holds. Want of memory is refused as well; where there is none for that text the error is
+/// [`Halt::Memory`].
 pub fn judge_certificate(alloc: Global, text: &[u8]) -> Result<Certificate, Halt>
     ensures ok { IfOk result (λ certificate. IsCertificateText text.now certificate.ranks.items) }
     ensures short { OnOk result (length text.now ≤ MAX_CERTIFICATE_LEN) }

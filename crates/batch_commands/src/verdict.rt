@@ -8,7 +8,9 @@ use std::alloc::{AllocError, AllocFailed};
 /// How the program ends after a verdict.
 #[derive(Clone, Copy, Debug, PartialEq, Eq)]
 pub enum Ending {
+    /// The recipes are cleared, by the certificate that `check` found or that `verify` was given.
     Accepted,
+    /// A document, a certificate or the recipes are refused.
     Refused,
     /// Memory for the judgement ran out, which says nothing of what was to be judged.
     OutOfMemory,
@@ -30,18 +32,20 @@ impl Ending {
 /// What the program prints on standard output, and how it ends then.
 #[derive(Debug, Drop)]
 pub struct Verdict {
+    /// The lines of the verdict, each with its line feed.
     pub text: String,
+    /// How the program ends once the text is written.
     pub ending: Ending,
 }
 
 /// Why the program ends before it has judged all of its documents.
 #[derive(Debug, Drop)]
 pub enum Halt {
-    /// A document is refused.
+    /// A document is refused, or there was no memory to judge it, which its refusal says.
     Refused(Verdict),
-    /// A file can't be read, with a text for the user.
+    /// A document can't be read, with a text for the user that goes to standard error.
     Unread(String),
-    /// There was no memory for the text of a verdict.
+    /// There was no memory to read the documents, or for the text of a verdict.
     Memory,
 }
 

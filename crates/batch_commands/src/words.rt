@@ -9,7 +9,10 @@ use clap::error::ErrorKind;
 use clap::{Arg, ArgAction, ArgMatches, Error};
 use std::alloc::{AllocError, Global};
 
-/// Reads the words that follow the program's name.
+/// Reads the words that follow the program's name. Where there are none the program is to serve.
+///
+/// The error is [`CommandFault::Help`] where the fault that clap gives is that help is asked for, [`CommandFault::Usage`] at any
+/// other, and [`CommandFault::Memory`] where memory ran out, be it for the text of one of these.
 pub fn parse(alloc: Global, words: &[String]) -> Result<Command, CommandFault>
     ensures command { IfOk result (IsCommandOf (subcommand_of program_app (map string_bytes words.now))) }
     ensures taken { IfOk result (λ _. fault_of program_app (map string_bytes words.now) ≡ []) }
