@@ -25,10 +25,8 @@ impl Cell {
     pub fn resource_of(&self, name: &Name) -> Option<u16>
         ensures { result ≡ position (pointwise nat_eq name.now) (resources_of self.now) }
     {
-        match self.names.get_index_of(name) {
-            Some(number) => Some(number as u16),
-            None => None,
-        }
+        let number = self.names.get_index_of(name)?;
+        Some(number as u16)
     }
 
     /// The name of the resource with this number.

@@ -31,10 +31,8 @@ impl Cell {
         requires { unit < length (units_of self.now) }
         ensures { result ≡ position (pointwise nat_eq phase.now) (phases_of self.now unit) }
     {
-        match self.phases_of(unit).get_index_of(phase) {
-            Some(number) => Some(number as u16),
-            None => None,
-        }
+        let number = self.phases_of(unit).get_index_of(phase)?;
+        Some(number as u16)
     }
 
     /// The name of the phase with this number among those that the unit offers.
