@@ -12,8 +12,6 @@ mod document;
 mod entries;
 mod equipment;
 mod fault;
-#[cfg(test)]
-mod limit_tests;
 mod names;
 mod offered;
 mod recipe_checks;
@@ -22,8 +20,6 @@ mod recipe_entries;
 mod recipe_names;
 #[cfg(test)]
 mod recipe_tests;
-#[cfg(test)]
-mod refusal_tests;
 mod resources;
 mod tables;
 mod value_tables;

@@ -7,7 +7,14 @@ mod refusals;
 mod told;
 mod worked;
 
+use crate::{Spot, TableKind};
 use std::alloc::{AllocError, Global};
+
+/// The top of a document.
+const TOP: Spot = Spot {
+    kind: TableKind::Recipe,
+    entry: 0,
+};
 
 // The tables of the worked examples.
 const PROCEDURE: &str = "[procedure]\nchart = \"MAKE\"\n";

@@ -1,6 +1,6 @@
 //! Recipe documents at their limits, and one past them.
-use super::{ADD, CHARGE, MAKE, OUTPUT, PROCEDURE, document};
-use crate::limit_tests::numbered;
+use super::{ADD, CHARGE, MAKE, OUTPUT, PROCEDURE, TOP, document};
+use crate::cell_tests::numbered;
 use crate::{DocFault, EntryFault, MAX_CHART_LEN, MAX_DOCUMENT_LEN, Spot, TableKind, read_recipe};
 use batch_recipe::node_count;
 use std::alloc::{AllocError, Global};
@@ -186,19 +186,24 @@ fn lengths_of_lists(rt: HostRuntime) -> Result<(), Fail> {
     Ok(())
 }
 
+/// Letters, how many of each there may be, as lengths count bytes, and one more.
+const LETTERS_OF_A_TEXT: [(&str, usize, usize); 2] = [("x", 256, 257), ("é", 128, 129)];
+
 #[test]
 fn lengths_of_texts(rt: HostRuntime) -> Result<(), Fail> {
     let rest = [PROCEDURE, MAKE, CHARGE, ADD];
     for head in ["product = '", "author = '", "info = '"] {
-        let texts = [head, "x", "'\n"];
-        assert!(rt;
-            fits_with(rt.alloc(), texts, 256, rest, TableKind::Recipe)?,
-            "{head}"
-        );
-        assert!(rt;
-            !fits_with(rt.alloc(), texts, 257, rest, TableKind::Recipe)?,
-            "{head}"
-        );
+        for (letter, most, more) in LETTERS_OF_A_TEXT {
+            let texts = [head, letter, "'\n"];
+            assert!(rt;
+                fits_with(rt.alloc(), texts, most, rest, TableKind::Recipe)?,
+                "{head}{letter}"
+            );
+            assert!(rt;
+                !fits_with(rt.alloc(), texts, more, rest, TableKind::Recipe)?,
+                "{head}{letter}"
+            );
+        }
     }
     Ok(())
 }
@@ -233,16 +238,19 @@ fn lengths_of_charts(rt: HostRuntime) -> Result<(), Fail> {
 #[test]
 fn lengths_of_versions(rt: HostRuntime) -> Result<(), Fail> {
     let alloc = rt.alloc();
+    let head = "recipe = 'A'\nversion = '";
     let rest = format!(in alloc; "'\nbasis = 1\n{PROCEDURE}{MAKE}{CHARGE}{ADD}")?;
-    let good = repeated(alloc, "recipe = 'A'\nversion = '", "x", 64, rest.as_str())?;
-    assert!(rt; read_recipe(alloc, good.as_bytes()).is_ok());
-    let bad = repeated(alloc, "recipe = 'A'\nversion = '", "x", 65, rest.as_str())?;
-    let top = Spot {
-        kind: TableKind::Recipe,
-        entry: 0,
-    };
-    let found = read_recipe(alloc, bad.as_bytes()).err();
-    assert_eq!(rt; found, Some(DocFault::Entry(top, EntryFault::OutOfLimit)));
+    for (letter, most, more) in [("x", 64, 65), ("é", 32, 33)] {
+        let good = repeated(alloc, head, letter, most, rest.as_str())?;
+        assert!(rt; read_recipe(alloc, good.as_bytes()).is_ok(), "{letter}");
+        let bad = repeated(alloc, head, letter, more, rest.as_str())?;
+        let found = read_recipe(alloc, bad.as_bytes()).err();
+        assert_eq!(rt;
+            found,
+            Some(DocFault::Entry(TOP, EntryFault::OutOfLimit)),
+            "{letter}"
+        );
+    }
     Ok(())
 }
 
@@ -414,11 +422,7 @@ fn lengths_of_documents(rt: HostRuntime) -> Result<(), Fail> {
     assert!(rt; read_recipe(alloc, text.as_bytes()).is_ok());
     text.push('#')?;
     assert_eq!(rt; text.len(), 1_048_577);
-    let top = Spot {
-        kind: TableKind::Recipe,
-        entry: 0,
-    };
     let found = read_recipe(alloc, text.as_bytes()).err();
-    assert_eq!(rt; found, Some(DocFault::Entry(top, EntryFault::OutOfLimit)));
+    assert_eq!(rt; found, Some(DocFault::Entry(TOP, EntryFault::OutOfLimit)));
     Ok(())
 }

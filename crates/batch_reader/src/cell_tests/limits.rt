@@ -1,34 +1,16 @@
 //! Cell documents at their limits, and one past them.
-use crate::cell_tests::demo;
-use crate::{DocFault, EntryFault, MAX_DOCUMENT_LEN, Spot, TableKind, read_cell};
-use std::alloc::{AllocError, Global};
+use super::{HEAD, demo, numbered, refuses};
+use crate::{EntryFault, MAX_DOCUMENT_LEN, TableKind, read_cell};
+use std::alloc::Global;
 use std::test::Fail;
-
-const HEAD: &str = "cell = \"C\"\n[[unit]]\nname = \"U\"\n";
-
-/// The text, and then `count` pieces with a number each.
-pub(crate) fn numbered(
-    alloc: Global,
-    head: &str,
-    before: &str,
-    count: usize,
-    after: &str,
-) -> Result<String, AllocError> {
-    let mut text = String::from_str(alloc, head)?;
-    for number in 0..count {
-        let piece = format!(in alloc; "{before}{number}{after}")?;
-        text.push_str(piece.as_str())?;
-    }
-    Ok(text)
-}
 
 fn takes(alloc: Global, text: &str) -> bool {
     read_cell(alloc, text.as_bytes()).is_ok()
 }
 
-fn refuses(alloc: Global, text: &str, kind: TableKind, entry: usize) -> bool {
-    let wanted = DocFault::Entry(Spot { kind, entry }, EntryFault::OutOfLimit);
-    read_cell(alloc, text.as_bytes()).err() == Some(wanted)
+/// Whether the document is refused, at this table, as out of a limit.
+fn exceeds(alloc: Global, text: &str, kind: TableKind, entry: usize) -> bool {
+    refuses(alloc, text, kind, entry, EntryFault::OutOfLimit)
 }
 
 /// What stands before the tables, their front up to a number, and how many there may be.
@@ -55,7 +37,7 @@ fn numbers_of_tables(rt: HostRuntime) -> Result<(), Fail> {
         let good = numbered(alloc, head, before, most, "\"\n")?;
         assert!(rt; takes(alloc, good.as_str()));
         let bad = numbered(alloc, head, before, most + 1, "\"\n")?;
-        assert!(rt; refuses(alloc, bad.as_str(), kind, most));
+        assert!(rt; exceeds(alloc, bad.as_str(), kind, most));
     }
     Ok(())
 }
@@ -63,7 +45,7 @@ fn numbers_of_tables(rt: HostRuntime) -> Result<(), Fail> {
 #[test]
 fn cells_without_a_unit(rt: HostRuntime) {
     for text in ["cell = \"C\"\n", "cell = \"C\"\nunit = []\n"] {
-        assert!(rt; refuses(rt.alloc(), text, TableKind::Unit, 0), "{text}");
+        assert!(rt; exceeds(rt.alloc(), text, TableKind::Unit, 0), "{text}");
     }
 }
 
@@ -79,7 +61,7 @@ fn numbers_of_phases(rt: HostRuntime) -> Result<(), Fail> {
     for count in [0, 33] {
         let mut text = numbered(alloc, head.as_str(), "\"P", count, "\", ")?;
         text.push_str("]\n")?;
-        assert!(rt; refuses(rt.alloc(), text.as_str(), TableKind::Module, 0));
+        assert!(rt; exceeds(rt.alloc(), text.as_str(), TableKind::Module, 0));
     }
     Ok(())
 }
@@ -100,7 +82,7 @@ fn capacities(rt: HostRuntime) -> Result<(), Fail> {
     for capacity in ["0", "1001", "-1"] {
         let text = demo(alloc, capacity)?;
         assert!(rt;
-            refuses(alloc, text.as_str(), TableKind::Shared, 1),
+            exceeds(alloc, text.as_str(), TableKind::Shared, 1),
             "{capacity}"
         );
     }
@@ -117,6 +99,6 @@ fn lengths_of_documents(rt: HostRuntime) -> Result<(), Fail> {
     assert_eq!(rt; text.len(), 1_048_576);
     assert!(rt; takes(rt.alloc(), text.as_str()));
     text.push('#')?;
-    assert!(rt; refuses(rt.alloc(), text.as_str(), TableKind::Cell, 0));
+    assert!(rt; exceeds(rt.alloc(), text.as_str(), TableKind::Cell, 0));
     Ok(())
 }

@@ -1,15 +1,8 @@
 //! Cell documents that are refused, each for one fault.
-use crate::cell_tests::demo;
+use super::{HEAD, demo, refuses};
 use crate::{DocFault, EntryFault, Spot, TableKind, read_cell};
 use std::alloc::Global;
 use std::test::Fail;
-
-const HEAD: &str = "cell = \"C\"\n[[unit]]\nname = \"U\"\n";
-
-fn refuses(alloc: Global, text: &str, kind: TableKind, entry: usize, fault: EntryFault) -> bool {
-    let wanted = DocFault::Entry(Spot { kind, entry }, fault);
-    read_cell(alloc, text.as_bytes()).err() == Some(wanted)
-}
 
 /// Whether each text, below a cell of one unit, is refused.
 fn refuses_below_head(
