@@ -45,6 +45,21 @@ fn scaled_quantity(rt: HostRuntime) -> Result<(), Fail> {
     Ok(())
 }
 
+/// The largest size, which makes the largest value.
+#[test]
+fn largest_size(rt: HostRuntime) -> Result<(), Fail> {
+    let input = "[[input]]\nname = 'QTY'\nvalue = 1000000\nmin = 0\nmax = 1000000000000\n";
+    for (size, wanted) in [
+        (999_999_999, "QTY=999999999000;"),
+        (1_000_000_000, "QTY=1000000000000;"),
+        (1_000_000_001, "F1"),
+    ] {
+        let found = given(rt.alloc(), [input, PROCEDURE, MAKE, CHARGE, HANDED], size)?;
+        assert!(rt; found.as_str() == wanted, "{size}");
+    }
+    Ok(())
+}
+
 #[test]
 fn fixed_quantity(rt: HostRuntime) -> Result<(), Fail> {
     let alloc = rt.alloc();

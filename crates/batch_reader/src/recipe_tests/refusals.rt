@@ -1,5 +1,5 @@
 //! Recipe documents that are refused, each for one fault.
-use super::{ADD, CHARGE, MAKE, OUTPUT, PROCEDURE, document};
+use super::{ADD, CHARGE, MAKE, OUTPUT, PROCEDURE, TOP, document};
 use crate::{DocFault, EntryFault, Spot, TableKind, read_recipe};
 use std::alloc::{AllocError, Global};
 use std::test::Fail;
@@ -35,7 +35,7 @@ fn not_toml(rt: HostRuntime) {
 }
 
 /// Faults of the top itself, in documents that have no tables.
-const TOPS: [(&str, EntryFault); 11] = [
+const TOPS: [(&str, EntryFault); 13] = [
     ("", EntryFault::MissingKey),
     ("recipe = 'A'\nbasis = 1\n", EntryFault::MissingKey),
     ("recipe = 'A'\nversion = '1'\n", EntryFault::MissingKey),
@@ -50,6 +50,14 @@ const TOPS: [(&str, EntryFault); 11] = [
     ),
     (
         "recipe = 'A'\nversion = '1'\nproduct = 1\nbasis = 1\n",
+        EntryFault::WrongKind,
+    ),
+    (
+        "recipe = 'A'\nversion = '1'\nauthor = true\nbasis = 1\n",
+        EntryFault::WrongKind,
+    ),
+    (
+        "recipe = 'A'\nversion = '1'\ninfo = ['x']\nbasis = 1\n",
         EntryFault::WrongKind,
     ),
     (
@@ -69,13 +77,9 @@ const TOPS: [(&str, EntryFault); 11] = [
 
 #[test]
 fn tops(rt: HostRuntime) {
-    let top = Spot {
-        kind: TableKind::Recipe,
-        entry: 0,
-    };
     for (text, fault) in TOPS {
         let found = read_recipe(rt.alloc(), text.as_bytes()).err();
-        assert_eq!(rt; found, Some(DocFault::Entry(top, fault)), "{text}");
+        assert_eq!(rt; found, Some(DocFault::Entry(TOP, fault)), "{text}");
     }
 }
 
@@ -83,16 +87,12 @@ fn tops(rt: HostRuntime) {
 #[test]
 fn tops_come_first(rt: HostRuntime) {
     let text = "version = '1'\nbasis = 1\n[[input]]\nname = 5\n";
-    let top = Spot {
-        kind: TableKind::Recipe,
-        entry: 0,
-    };
-    let wanted = DocFault::Entry(top, EntryFault::MissingKey);
+    let wanted = DocFault::Entry(TOP, EntryFault::MissingKey);
     let found = read_recipe(rt.alloc(), text.as_bytes()).err();
     assert_eq!(rt; found, Some(wanted));
 }
 
-const WITHOUT_A_KEY: [Case; 12] = [
+const WITHOUT_A_KEY: [Case; 13] = [
     ("", TableKind::Procedure, 0),
     ("[procedure]\n", TableKind::Procedure, 0),
     (
@@ -136,6 +136,7 @@ const WITHOUT_A_KEY: [Case; 12] = [
         TableKind::Operation,
         1,
     ),
+    ("[[operation]]\nchart = 'ADD'\n", TableKind::Operation, 0),
     ("[[phase]]\nruns = 'ADD'\n", TableKind::Phase, 0),
 ];
 
@@ -149,7 +150,7 @@ fn missing_keys(rt: HostRuntime) -> Result<(), Fail> {
     Ok(())
 }
 
-const WITH_A_WRONG_KIND: [Case; 8] = [
+const WITH_A_WRONG_KIND: [Case; 12] = [
     ("procedure = 5\n", TableKind::Procedure, 0),
     (
         "procedure = [{ chart = 'MAKE' }]\n",
@@ -168,6 +169,16 @@ const WITH_A_WRONG_KIND: [Case; 8] = [
         0,
     ),
     (
+        "[[input]]\nname = 'I'\nvalue = 1\nmin = '0'\nmax = 2\n",
+        TableKind::Input,
+        0,
+    ),
+    (
+        "[[parameter]]\nname = 'M'\nvalue = 1\nmin = 0\nmax = 2.0\n",
+        TableKind::Parameter,
+        0,
+    ),
+    (
         "[[input]]\nname = 'I'\nvalue = 1\nmin = 0\nmax = 2\nfixed = 1\n",
         TableKind::Input,
         0,
@@ -178,6 +189,8 @@ const WITH_A_WRONG_KIND: [Case; 8] = [
         TableKind::Phase,
         0,
     ),
+    ("[[phase]]\nname = 'ADD'\nvalues = 5\n", TableKind::Phase, 0),
+    ("[[phase]]\nname = 'ADD'\nruns = 5\n", TableKind::Phase, 0),
 ];
 
 #[test]
