@@ -21,7 +21,6 @@ const PROCEDURE: Spot = Spot {
     entry: 0,
 };
 
-/// Acts of other kinds than these don't stand in arrays of tables.
 impl FromTable for Act {
     ghost stands_for = { IsActTable };
 
@@ -30,6 +29,7 @@ impl FromTable for Act {
             TableKind::UnitProcedure => unit_procedure(alloc, table, spot),
             TableKind::Operation => operation(alloc, table, spot),
             TableKind::Phase => phase_step(alloc, table, spot),
+            // never asked for: no table of another kind stands for an act, but a spot may have any kind
             _ => Err(TableFault::Entry(spot, EntryFault::WrongKind)),
         }
     }

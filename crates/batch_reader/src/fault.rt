@@ -7,20 +7,32 @@ use std::alloc::{AllocError, AllocFailed};
 use std::fmt;
 use thiserror::Error;
 
-/// A kind of table of a document. The top of a cell document is its table `cell`, and that of a recipe document `recipe`.
+/// A kind of table of a document. The word for it is that of its tables, and for a top `cell` or `recipe`.
 #[derive(Clone, Copy, Debug, PartialEq, Eq)]
 pub enum TableKind {
+    /// The top of a cell document.
     Cell,
+    /// A unit, `[[unit]]`.
     Unit,
+    /// An equipment module, `[[module]]`.
     Module,
+    /// A shared resource, `[[shared]]`.
     Shared,
+    /// The top of a recipe document.
     Recipe,
+    /// A process input, `[[input]]`.
     Input,
+    /// A process parameter, `[[parameter]]`.
     Parameter,
+    /// A process output, `[[output]]`.
     Output,
+    /// The procedure, `[procedure]`, the one table of its kind.
     Procedure,
+    /// A unit procedure, `[[unit_procedure]]`.
     UnitProcedure,
+    /// An operation, `[[operation]]`.
     Operation,
+    /// A phase step, `[[phase]]`.
     Phase,
 }
 
@@ -64,18 +76,25 @@ impl fmt::Display for Spot {
 /// What is wrong with a table.
 #[derive(Clone, Copy, Debug, PartialEq, Eq, Error)]
 pub enum EntryFault {
+    /// A key that the table needs is missing, or the document has no procedure.
     #[error("a key is missing")]
     MissingKey,
+    /// A value is of another kind than its key has, is no name, or declares a name that is a word of charts.
     #[error("a value is of the wrong kind, or is no name")]
     WrongKind,
+    /// The table has a key that tables of its kind don't have.
     #[error("a key is unknown here")]
     UnknownKey,
+    /// A unit, a label or a value is named that the document doesn't declare.
     #[error("a name is not declared")]
     Undeclared,
+    /// A name is declared that an earlier table has, or a phase that its unit offers already.
     #[error("a name stands twice")]
     Duplicate,
+    /// A number, a text's length in bytes or a count is out of its limits, or `min` is above `max`.
     #[error("a number, a length or a count is out of its limits")]
     OutOfLimit,
+    /// The chart's text is no chart, or has a `par` where none may stand: the byte, from 0, at which this shows.
     #[error("no chart, from byte {0} on")]
     Chart(usize),
 }

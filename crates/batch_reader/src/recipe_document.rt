@@ -30,7 +30,12 @@ const TOP: Spot = Spot {
     entry: 0,
 };
 
-/// Reads a recipe document. The needs, the units and the phases that it names are looked up in no cell.
+/// Reads a recipe document. The needs, the units and the phases that it names are looked up in no cell. It is refused as
+/// - `NotToml`, where its bytes are no TOML in UTF-8;
+/// - `Entry`, where it is too long, which is told at its top, or says no recipe. The first fault is told: of the top's
+///   entries, then of each table by itself (inputs, parameters, outputs, the procedure, unit procedures, operations,
+///   phase steps), then of how many there are, of their names, of what they name, and of the size of the expanded tree;
+/// - `Memory`, where memory is refused on the way.
 pub fn read_recipe(alloc: Global, bytes: &[u8]) -> Result<Recipe, DocFault>
     ensures ok { IfOk result (IsRecipeDocument bytes.now) }
     ensures not_toml { IsErrOf result DocFault.NotToml → ¬ (IsUtf8 bytes.now × IsSome (parse_document bytes.now)) }
