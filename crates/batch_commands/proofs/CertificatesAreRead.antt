@@ -1,12 +1,11 @@
 -- The text of a certificate is read as the ranks that it was made of.
-use Rattle.std.proofs.Common.{◌≡◌, ℕ, zero, suc, ◌+◌, ◌-◌, ◌*◌, ◌^◌, ◌<◌, ◌≤◌, ◌==◌, ◌&&◌, ◌||◌, Bool, true, false, Some, None, List, [], ◌∷◌, ◌++◌, length, map, get_or, slice_get, codes, decimal, refl, sym, ap, subst, ◌∙◌, arith, rules, inl, inr, append_assoc, lit<, nat_lt, nat_le}
+use Rattle.std.proofs.Common.{◌≡◌, ℕ, zero, suc, ◌-◌, ◌*◌, ◌^◌, ◌<◌, ◌≤◌, ◌==◌, ◌&&◌, ◌||◌, Bool, true, false, Some, None, List, [], ◌∷◌, ◌++◌, length, map, get_or, slice_get, codes, decimal, refl, sym, ap, subst, ◌∙◌, arith, rules, inl, inr, append_assoc, lit<, nat_lt, nat_le}
 use Rattle.std.specs.Prelude.{IsTrue, All, unwrap_or}
 use Rattle.std.specs.Char.{is_ascii_digit}
 use Rattle.std.specs.Cmp.Lexicographic.{nat_list_eq_equiv}
 use Rattle.std.specs.List.{list_all, slice_split}
-use Rattle.std.specs.Str.{bytes_eq}
 use Rattle.std.specs.Str.Lines.{lines, lines_of_parts, strip_carriage_return}
-use Rattle.std.proofs.lemmas.Bool.{and_parts, and_from, or_left, or_cases, or_right, cond-true, cond-false, ne_eqb, lt-ltb, le-leb, false≢true}
+use Rattle.std.proofs.lemmas.Bool.{and_parts, and_from, or_left, or_cases, cond-true, cond-false, ne_eqb, lt-ltb, le-leb, false≢true}
 use Rattle.std.proofs.lemmas.Fmt.{decimal_nonempty, digits_decimal, digits_value-decimal, length-decimal-le}
 use Rattle.std.proofs.lemmas.List.{length-map, length-append}
 use Rattle.std.proofs.lemmas.List.Folds.{list_all-append}
@@ -17,7 +16,7 @@ use Rattle.std.proofs.lemmas.Map.Made.{length-le_from_is_member}
 use Rattle.std.proofs.lemmas.Option.{get_or_from_slice_get, slice_get_within}
 use Rattle.std.proofs.lemmas.Slice.Eq.{bytes_eq-Decides}
 use Rattle.std.proofs.lemmas.Str.Parse.{IsNumeralModel, numerals_by_value}
-use Rattle.batch_text.specs.NameText.{IsName, is_name, is_name_byte, is_name_spelling}
+use Rattle.batch_text.specs.NameText.{IsName, is_name, is_name_byte}
 use Rattle.batch_text.specs.NumberText.{is_digits, number_of}
 use Rattle.batch_text.specs.PlaceText.{is_number_spelling, is_short_number}
 use Rattle.batch_text.specs.declared.number.TheConstants.{MAX_DIGITS}
@@ -26,7 +25,7 @@ use Rattle.batch_cell.specs.LookUps.{resources_of}
 use Rattle.batch_cell.specs.declared.cell.Cell.{Cell}
 use Rattle.batch_cell.proofs.Resources.{few_resources}
 use Rattle.batch_recipe.specs.Conditions.{Name, same_name}
-use Rattle.batch_recipe.specs.WellFormed.{is_among, are_distinct}
+use Rattle.batch_recipe.specs.WellFormed.{is_among}
 use Rattle.batch_recipe.specs.declared.recipe.Recipe.{Recipe}
 use Rattle.batch_model.specs.Documents.{cell_of}
 use Rattle.batch_model.specs.Lists.{Each}

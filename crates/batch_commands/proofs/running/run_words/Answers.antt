@@ -1,4 +1,4 @@
-use Rattle.std.proofs.Common.{◌≡◌, Some, refl, sym, subst, ℕ, Option, map, string_bytes}
+use Rattle.std.proofs.Common.{subst, map, string_bytes}
 use Rattle.std.proofs.KnownBytes.{Keeps-refl}
 use Rattle.batch_commands.specs.CommandLine.{IsFaultOf, program_app}
 use Rattle.clap.specs.Words.{fault_of}
