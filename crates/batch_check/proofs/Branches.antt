@@ -21,6 +21,7 @@ use Rattle.batch_check.specs.Pairs.{Keeps}
 use Rattle.batch_check.specs.Collecting.{Grows, IsReady, IsCollected}
 use Rattle.batch_check.proofs.Asking.{Grows-twice}
 use Rattle.batch_check.proofs.Collects.{collected-append, collected-none, collected-under}
+use Rattle.batch_recipe.specs.Needs.{resources_of}
 
 cut : {X : Type 0} (xs : List X) (i : ℕ) (x : X) → i < length xs → x ≡ get_or xs i x → drop i xs ≡ x ∷ drop (i + 1) xs
 cut {X} xs i x in' is = rw add-one (drop-cons xs i x in' ∙ ap (λ (y : X). y ∷ drop (suc i) xs) (sym is))
@@ -138,11 +139,11 @@ module _ (F : Name → Name → Place → Tree) (cell : Cell) (path : Path) wher
 -- the nodes of an act
 module _ (F : Name → Name → Place → Tree) (unit : Name) (a : Act) (place : Place) (above : List Name) where
   abbrev nodes_of_work : Work → List Node
-  nodes_of_work w = node place above (act_tree F unit a place) ∷ nodes_within place (above ++ asked_by a.unit a.needs.items) (task_of (F (unit_below unit a.unit)) (unit_below unit a.unit) a.name place w)
+  nodes_of_work w = node place above (act_tree F unit a place) ∷ nodes_within place (above ++ resources_of (asked_by a.unit a.needs.items)) (task_of (F (unit_below unit a.unit)) (unit_below unit a.unit) a.name place w)
 
   pub act_runs : (phase : Name) (values : Vec Name Global) → a.work ≡ Runs phase values → nodes place above (act_tree F unit a place) ≡ node place above (act_tree F unit a place) ∷ []
   act_runs phase values is = ap nodes_of_work is
 
   pub act_follows : (c : Chart) → a.work ≡ Follows c → nodes place above (act_tree F unit a place)
-      ≡ node place above (act_tree F unit a place) ∷ nodes (child place 0) (above ++ asked_by a.unit a.needs.items) (expanded (F (unit_below unit a.unit)) (child place 0) (diagram_of c))
+      ≡ node place above (act_tree F unit a place) ∷ nodes (child place 0) (above ++ resources_of (asked_by a.unit a.needs.items)) (expanded (F (unit_below unit a.unit)) (child place 0) (diagram_of c))
   act_follows c is = ap nodes_of_work is

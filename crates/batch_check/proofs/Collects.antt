@@ -12,6 +12,8 @@ use Rattle.batch_check.specs.Edges.{numbers_of, Follows, Covers}
 use Rattle.batch_check.specs.Pairs.{Keeps}
 use Rattle.batch_check.specs.Collecting.{EndsIn, HasAsked, StandsAmong, IsCollected}
 use Rattle.batch_check.proofs.Asking.{slice_get-left, slice_get-right, EndsIn-append, Follows-append, Follows-keeps, numbers-append}
+use Rattle.batch_recipe.specs.Needs.{resources_of}
+use Rattle.std.proofs.lemmas.List.{length-map}
 
 module _ (cell : Cell) where
   standing_left : (recipe first : ℕ) (xs ys : List Node) (edge : Edge) → StandsAmong cell recipe first xs edge → StandsAmong cell recipe first (xs ++ ys) edge
@@ -68,7 +70,7 @@ module _ (cell : Cell) where
     }
 
     -- a node that is no act
-    pub collected-bare : (first next : ℕ) (place : Place) (t : Tree) (edges : List Edge) → needs_of t ≡ [] → (first + 1 < 65536 → next ≡ first + 1)
+    pub collected-bare : (first next : ℕ) (place : Place) (t : Tree) (edges : List Edge) → resources_of (needs_of t) ≡ [] → (first + 1 < 65536 → next ≡ first + 1)
         → IsCollected cell path first above (node place above t ∷ []) edges edges next
     collected-bare first next place t edges bare next_is = record {
       next_is = λ room. next_is room;
@@ -78,7 +80,7 @@ module _ (cell : Cell) where
     }
 
     -- a node that is no act, and those below it
-    pub collected-under : (first mid next : ℕ) (place : Place) (t : Tree) (ns : List Node) (old new : List Edge) → needs_of t ≡ [] → (first + 1 < 65536 → mid ≡ first + 1)
+    pub collected-under : (first mid next : ℕ) (place : Place) (t : Tree) (ns : List Node) (old new : List Edge) → resources_of (needs_of t) ≡ [] → (first + 1 < 65536 → mid ≡ first + 1)
         → IsCollected cell path mid above ns old new next → IsCollected cell path first above (node place above t ∷ ns) old new next
     collected-under first mid next place t ns old new bare mid_is g = record {
       next_is = λ room.
@@ -98,7 +100,7 @@ module _ (cell : Cell) where
     }
 
     -- the node of an act that has asked for its needs
-    module _ (first : ℕ) (place : Place) (t : Tree) (old new : EdgeSet) (within : Path) (h : HasAsked cell path first (needs_of t) old new within) where
+    module _ (first : ℕ) (place : Place) (t : Tree) (old new : EdgeSet) (within : Path) (h : HasAsked cell path first (resources_of (needs_of t)) old new within) where
       pub collected-act : (next : ℕ) → (first + 1 < 65536 → next ≡ first + 1) → IsCollected cell path first above (node place above t ∷ []) old.edges.items new.edges.items next
       collected-act next next_is = record {
         next_is = λ room. next_is room;
@@ -119,7 +121,7 @@ module _ (cell : Cell) where
                 before = own.2.before;
                 own = own.2.place;
                 ordered = own.2.ordered;
-                among_own = omega (arith, own.2.among_own, length-append above (needs_of t));
+                among_own = omega (arith, own.2.among_own, length-append above (resources_of (needs_of t)), length-map (needs_of t) (λ n. n.resource));
                 earlier_is = own.2.earlier_is;
                 later_is = own.2.later_is;
               };
@@ -127,21 +129,21 @@ module _ (cell : Cell) where
           })
         ];
         covering = λ final later to. (
-          subst (λ (ns : List (Option ℕ)). Follows final None ns) (sym (numbers-append cell above (needs_of t)))
-              (Follows-append final None (numbers_of cell above) (numbers_of cell (needs_of t)) to.covered
-              (subst (λ o. Follows final o (numbers_of cell (needs_of t))) (sym to.ends)
-              (Follows-keeps new.edges.items final later path.last (numbers_of cell (needs_of t)) h.covering))),
+          subst (λ (ns : List (Option ℕ)). Follows final None ns) (sym (numbers-append cell above (resources_of (needs_of t))))
+              (Follows-append final None (numbers_of cell above) (numbers_of cell (resources_of (needs_of t))) to.covered
+              (subst (λ o. Follows final o (numbers_of cell (resources_of (needs_of t)))) (sym to.ends)
+              (Follows-keeps new.edges.items final later path.last (numbers_of cell (resources_of (needs_of t))) h.covering))),
           tt,
         );
       }
 
       -- what is below it, seen from above
       pub collected-below : (n after : ℕ) (ns : List Node) (final : List Edge) → Keeps new.edges.items final
-          → IsCollected cell within n (above ++ needs_of t) ns new.edges.items final after → IsCollected cell path n above ns new.edges.items final after
+          → IsCollected cell within n (above ++ resources_of (needs_of t)) ns new.edges.items final after → IsCollected cell path n above ns new.edges.items final after
       collected-below n after ns final grown g = record {
         next_is = g.next_is;
         standing = λ ends room edge stands.
-            let below : EndsIn cell (above ++ needs_of t) within.last = EndsIn-append cell above (needs_of t) path.last ends ∙ sym h.ends in
+            let below : EndsIn cell (above ++ resources_of (needs_of t)) within.last = EndsIn-append cell above (resources_of (needs_of t)) path.last ends ∙ sym h.ends in
             elim (g.standing below room edge stands) [
               | inl known ↦ inl known
               | inr here ↦ inr (subst (λ r. StandsAmong cell r n ns edge) h.same_recipe here)
@@ -149,16 +151,16 @@ module _ (cell : Cell) where
         covering = λ last later to.
             g.covering last later (record {
               covered =
-                  subst (λ (ns : List (Option ℕ)). Follows last None ns) (sym (numbers-append cell above (needs_of t)))
-                  (Follows-append last None (numbers_of cell above) (numbers_of cell (needs_of t)) to.covered
-                  (subst (λ o. Follows last o (numbers_of cell (needs_of t))) (sym to.ends)
-                  (Follows-keeps new.edges.items last (λ i j known. later i j (grown i j known)) path.last (numbers_of cell (needs_of t)) h.covering)));
-              ends = EndsIn-append cell above (needs_of t) path.last to.ends ∙ sym h.ends;
+                  subst (λ (ns : List (Option ℕ)). Follows last None ns) (sym (numbers-append cell above (resources_of (needs_of t))))
+                  (Follows-append last None (numbers_of cell above) (numbers_of cell (resources_of (needs_of t))) to.covered
+                  (subst (λ o. Follows last o (numbers_of cell (resources_of (needs_of t)))) (sym to.ends)
+                  (Follows-keeps new.edges.items last (λ i j known. later i j (grown i j known)) path.last (numbers_of cell (resources_of (needs_of t))) h.covering)));
+              ends = EndsIn-append cell above (resources_of (needs_of t)) path.last to.ends ∙ sym h.ends;
             });
       }
 
       pub collected-within : (mid after : ℕ) (ns : List Node) (final : List Edge) → (first + 1 < 65536 → mid ≡ first + 1) → Keeps new.edges.items final
-          → IsCollected cell within mid (above ++ needs_of t) ns new.edges.items final after
+          → IsCollected cell within mid (above ++ resources_of (needs_of t)) ns new.edges.items final after
           → IsCollected cell path first above (node place above t ∷ ns) old.edges.items final after
       collected-within mid after ns final mid_is grown g =
           collected-append first mid after (node place above t ∷ []) ns old.edges.items new.edges.items final (collected-act mid mid_is) grown (collected-below mid after ns final grown g)

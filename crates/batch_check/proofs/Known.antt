@@ -15,6 +15,8 @@ use Rattle.batch_model.proofs.Members.{Each-append}
 use Rattle.batch_check.specs.Edges.{number_of}
 use Rattle.batch_check.proofs.Names.{name_in-found, position_of_own, resources_differ}
 use Rattle.batch_check.specs.ByName.{name_in}
+use Rattle.batch_recipe.specs.Needs as own
+use Rattle.batch_recipe.specs.declared.need.Need.{Need}
 
 -- a resource stands somewhere in the list of resources
 pub record IsFound (c : Cell) (name : Name) : Type 0 where
@@ -49,14 +51,20 @@ Each-right P (x ∷ xs) ys h = Each-right P xs ys h.1
 -- where the needs of each node are known, all that is asked for on its path is
 module _ (K : Name → Type 0) where
   abbrev Own : Node → Type 0
-  Own n = Each K (needs_of n.here)
+  Own n = Each (λ need. K need.resource) (needs_of n.here)
 
   abbrev Path : Node → Type 0
   Path n = Each K n.asked
 
+  known_resources : (needs : List Need) → Each (λ need. K need.resource) needs → Each K (own.resources_of needs)
+  known_resources [] h = tt
+  known_resources (need ∷ needs) h = (h.0, known_resources needs h.1)
+
   mutual
     pub known_path : (p : Place) (above : List Name) (t : Tree) → Each K above → Each Own (nodes p above t) → Each Path (nodes p above t)
-    known_path p above (act s w) k h = (Each-append K above s.needs k h.0, known_within p (above ++ s.needs) w (Each-append K above s.needs k h.0) h.1)
+    known_path p above (act s w) k h =
+        let whole : Each K (above ++ own.resources_of s.needs) = Each-append K above (own.resources_of s.needs) k (known_resources s.needs h.0) in
+        (whole, known_within p (above ++ own.resources_of s.needs) w whole h.1)
     known_path p above skip k h = (Each-append K above [] k tt, tt)
     known_path p above (seq ts) k h = (Each-append K above [] k tt, known_each p above 0 ts k h.1)
     known_path p above (par ts) k h = (Each-append K above [] k tt, known_each p above 0 ts k h.1)

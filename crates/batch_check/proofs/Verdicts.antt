@@ -16,7 +16,7 @@ use Rattle.batch_model.proofs.Parts.{parts-nodes}
 use Rattle.batch_verify.specs.Refusals.{rank_in, IsSound, Breaks, IsFirstBroken}
 use Rattle.batch_verify.specs.Verifying.{IsRecipeSet}
 use Rattle.batch_verify.specs.declared.rule.Rule.{Rule}
-use Rattle.batch_verify.specs.declared.rule.Rule.TheVariants.{UnknownResource, PhaseNotOffered, SamePhaseInParallel, LoopWithoutPhase, RankNotRising}
+use Rattle.batch_verify.specs.declared.rule.Rule.TheVariants.{UnknownResource, ShareAboveCapacity, PhaseNotOffered, SamePhaseInParallel, LoopWithoutPhase, RankNotRising}
 use Rattle.batch_verify.specs.declared.rule.Broken.{Broken}
 use Rattle.batch_check.specs.declared.fault.CheckFault.{CheckFault}
 use Rattle.batch_check.specs.declared.fault.CheckFault.TheVariants.{Recipes, Recipe as in_recipe, Circle, Memory}
@@ -29,6 +29,7 @@ use Rattle.batch_check.proofs.Rising.{Each-get, nodes-Each, parts_hold, cleared_
 
 unsound_rule : (cell : Cell) (d : Documents) (rank : Ranking) (x : Part) (rule : Rule) → Breaks cell d None x rule → IsClear cell d rank x → ⊥
 unsound_rule cell d rank x UnknownResource b clear = b (clear.known, clear.on_unit)
+unsound_rule cell d rank x ShareAboveCapacity b clear = b.1 clear.within
 unsound_rule cell d rank x PhaseNotOffered b clear = b.1 clear.offered
 unsound_rule cell d rank x SamePhaseInParallel b clear = b.2 clear.apart
 unsound_rule cell d rank x LoopWithoutPhase b clear = b.3 clear.turning
@@ -66,7 +67,7 @@ needs_known c d (r ∷ rs) h = (
 sound_rises : (cell : Cell) (d : Documents) (rank : Ranking) (xs : List Part) → Each (IsSound cell d) xs → Each (λ x. RiseStrictly rank x.node.asked) xs → Each (IsClear cell d rank) xs
 sound_rises cell d rank [] h g = tt
 sound_rises cell d rank (x ∷ xs) h g =
-    (record { known = h.0.known; on_unit = h.0.on_unit; offered = h.0.offered; apart = h.0.apart; turning = h.0.turning; rising = g.0 }, sound_rises cell d rank xs h.1 g.1)
+    (record { known = h.0.known; on_unit = h.0.on_unit; within = h.0.within; offered = h.0.offered; apart = h.0.apart; turning = h.0.turning; rising = g.0 }, sound_rises cell d rank xs h.1 g.1)
 
 rising_clears : (c : equipment.Cell) (d : Documents) (rank : Ranking) (recipes : List document.Recipe) → Each (IsSoundRecipe (cell_of c) d) (map recipe_of recipes) → RiseAlongPaths rank recipes
     → Each (IsClearedRecipe (cell_of c) d rank) (map recipe_of recipes)

@@ -1,12 +1,13 @@
 //! Paths of needs.
 ghost use Rattle.std.specs.Prelude.{◌≡◌, ℕ, [], ◌∷◌, IfOk};
 ghost use Rattle.batch_recipe.specs.Expanding.{asked_by};
+ghost use Rattle.batch_recipe.specs.Needs.{resources_of};
 ghost use Rattle.batch_check.specs.Collecting.{HasAsked, IsReady};
 
 use crate::edge::Edge;
 use crate::edge_set::EdgeSet;
 use batch_cell::Cell;
-use batch_recipe::Act;
+use batch_recipe::{Act, Need};
 use batch_text::Name;
 use std::alloc::AllocError;
 
@@ -28,7 +29,7 @@ pub(crate) fn ask_all(
     edges: &mut EdgeSet,
 ) -> Result<Path, AllocError>
     requires { IsReady cell.now path edges.old }
-    ensures { IfOk result (HasAsked cell.now path node (asked_by act.now.unit act.now.needs.items) edges.old edges.new) }
+    ensures { IfOk result (HasAsked cell.now path node (resources_of (asked_by act.now.unit act.now.needs.items)) edges.old edges.new) }
 {
     match &act.unit {
         None => ask_each(&act.needs, cell, path, node, edges),
@@ -39,7 +40,7 @@ pub(crate) fn ask_all(
     }
 }
 
-/// The path after one more need of the act at the node. Adds the edge to it from the need before it.
+/// The path after one more resource that the act at the node needs. Adds the edge to it from the one before it.
 fn ask(
     need: &Name,
     cell: &Cell,
@@ -71,18 +72,18 @@ fn ask(
 
 /// The path after these needs of the act at the node, in their order. Adds the edges to them.
 fn ask_each(
-    needs: &[Name],
+    needs: &[Need],
     cell: &Cell,
     path: Path,
     node: u16,
     edges: &mut EdgeSet,
 ) -> Result<Path, AllocError>
     requires { IsReady cell.now path edges.old }
-    ensures { IfOk result (HasAsked cell.now path node needs.now edges.old edges.new) }
+    ensures { IfOk result (HasAsked cell.now path node (resources_of needs.now) edges.old edges.new) }
 {
     let mut at = path;
     for need in needs {
-        at = ask(need, cell, at, node, edges)?;
+        at = ask(&need.resource, cell, at, node, edges)?;
     }
     Ok(at)
 }

@@ -12,7 +12,7 @@ use Rattle.batch_recipe.specs.Conditions.{Name, ValueList, same_name}
 use Rattle.batch_recipe.specs.Tree.{Place}
 use Rattle.batch_model.specs.Lists.{Has}
 use Rattle.batch_model.specs.Rest.{reach}
-use Rattle.batch_model.specs.Plant.{Formula, size_out_of_range, value_out_of_range, scaled, Recipe, Documents, Batch, BatchAct, Plant, batch_at, in_batch}
+use Rattle.batch_model.specs.Plant.{Formula, size_out_of_range, value_out_of_range, scaled, Recipe, Documents, Batch, Share, Plant, batch_at, in_batch}
 use Rattle.batch_model.specs.Moves.{Move, next}
 use Rattle.batch_model.specs.Events.{Event, create, order, remove, report, ordered, removed, reported, refused, unknown_recipe, unknown_batch, command_not_accepted, no_live_phase, report_not_expected, bad_output, full, not_idle, moves_pending, Answer, is_full, new_batch, with_batch, creating, with_values, with_outputs_zero, stopped, commanded, lines_under, ordering, without_batch, removing, LivePhase, live_phase, are_outputs, phase_after, batch_state_after, batch_reported, reporting, judged, react}
 use Rattle.batch_model.specs.Standing.{IsStandingBatch, IsStanding}
@@ -71,7 +71,7 @@ module _ (c : Documents) (s : Plant) (k : IsStanding c s) where
   abbrev Stands : Answer → Type 0
   Stands a = IsStanding c a.1
 
-  in_batch-stands : (n : ℕ) (f : Batch → Batch) (line : Name → List BatchAct) → ((b : Batch) → IsStandingBatch c b → IsStandingBatch c (f b))
+  in_batch-stands : (n : ℕ) (f : Batch → Batch) (line : Name → List Share) → ((b : Batch) → IsStandingBatch c b → IsStandingBatch c (f b))
       → ((b : Batch) → (f b).number ≡ b.number) → IsStanding c (record (in_batch n f s) { line = line })
   in_batch-stands n f line keep same =
       record {

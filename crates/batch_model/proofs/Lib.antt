@@ -21,3 +21,4 @@ pub mod Led
 pub mod Settling
 pub mod Telling
 pub mod Parts
+pub mod Exclusive

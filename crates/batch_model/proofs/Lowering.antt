@@ -7,7 +7,6 @@ use Rattle.batch_matrix.specs.declared.state.State.TheVariants.{Idle, Running, P
 use Rattle.batch_matrix.specs.declared.command.Command.{Command}
 use Rattle.batch_matrix.specs.declared.command.Command.TheVariants.{Start, Pause, Resume, Hold, Restart, Stop, Abort, Reset}
 use Rattle.batch_matrix.specs.Matrix.{accepts, target}
-use Rattle.batch_recipe.specs.Conditions.{Name}
 use Rattle.batch_recipe.specs.Tree.{Step, Task, runs, follows}
 use Rattle.batch_model.specs.Rest.{Rest, ready, asking, open_act, live, freeing, in_seq, in_par, in_loop, done, is_done}
 use Rattle.batch_model.specs.Plant.{Documents, Batch, Plant, place_of, in_act, held_in}
@@ -15,6 +14,7 @@ use Rattle.batch_model.specs.Moves.{Move, send, release, begin, start, end, ask,
 use Rattle.batch_model.specs.Runs.{toil, toil_of_work, sends, goes_on, ahead, toil_left}
 use Rattle.batch_model.proofs.Work.{going, going_no_further, reach-toil}
 use Rattle.batch_model.proofs.Keeping.{RemainsAs, sent-remains, released-remains, ended-remains, begun-remains}
+use Rattle.batch_recipe.specs.declared.need.Need.{Need}
 
 -- m is a move of the act a of this batch
 pub record IsMoveOf (b : Batch) (a : Rest) (m : Move) : Type 0 where
@@ -113,7 +113,7 @@ module _ (b : Batch) where
             remains = begun-remains b.values s (follows name c) k;
           }))
 
-      go : (o : Option Name) → slice_get s.needs k ≡ o
+      go : (o : Option Need) → slice_get s.needs k ≡ o
           → elim o [
             | Some r ↦ Some (ask b.number s.place r)
             | None ↦ elim w [ runs y ↦ Some (start b.number s.place y (handed_values b.values y.handed)) | follows name c ↦ Some (begin b.number s.place name) ]
@@ -135,12 +135,12 @@ module _ (b : Batch) where
       go None q h = begins w refl h
 
   -- an act gives back the last of the k needs that it holds
-  giving_back-is : (s : Step) (k : ℕ) (m : Move) (a : Rest) → place_of a ≡ s.place → (0 < k → (r : Name) → toil_left b.state (act_after b.values (release b.number s.place r) a) < toil_left b.state a)
+  giving_back-is : (s : Step) (k : ℕ) (m : Move) (a : Rest) → place_of a ≡ s.place → (0 < k → (r : Need) → toil_left b.state (act_after b.values (release b.number s.place r) a) < toil_left b.state a)
       → giving_back b s k ≡ Some m → IsMoveOf b a m
   giving_back-is s zero m a at lower e = absurd cc
   giving_back-is s (suc k) m a at lower e = go (slice_get s.needs k) e
     where
-      go : (o : Option Name) → elim o [ None ↦ None | Some r ↦ Some (release b.number s.place r) ] ≡ Some m → IsMoveOf b a m
+      go : (o : Option Need) → elim o [ None ↦ None | Some r ↦ Some (release b.number s.place r) ] ≡ Some m → IsMoveOf b a m
       go None h = absurd cc
       go (Some r) h =
           let n : release b.number s.place r ≡ m = cc in
@@ -175,7 +175,7 @@ module _ (b : Batch) where
       go false h false f g = absurd cc
   act_move-is c s (asking p w k) m e = go (slice_get p.needs k) refl e
     where
-      go : (o : Option Name) → slice_get p.needs k ≡ o
+      go : (o : Option Need) → slice_get p.needs k ≡ o
           → elim o [ None ↦ None | Some r ↦ when (is_served c s r (b.number, p.place)) (grant b.number p.place r) ] ≡ Some m
           → IsMoveOf b (asking p w k) m
       go None h f = absurd cc

@@ -7,6 +7,8 @@ use Rattle.batch_recipe.specs.WellFormed.{is_among, are_distinct}
 use Rattle.batch_model.specs.Lists.{Each}
 use Rattle.batch_model.specs.Plant.{Recipe, Documents}
 use Rattle.batch_model.specs.declared.limits.TheConstants.{MAX_RECIPES}
+use Rattle.batch_recipe.specs.Needs.{resources_of}
+use Rattle.batch_recipe.specs.declared.need.Need.{Need}
 
 -- what a process cell has, by name
 pub record Cell : Type 0 where
@@ -45,7 +47,7 @@ part l p above t = record { level = l; node = node p above t }
 -- the nodes of a tree, as `nodes` lists them, with their levels
 abbrev mutual
   pub parts : Level → Place → List Name → Tree → List Part
-  parts l p above (act s w) = part l p above (act s w) ∷ parts_within (below l) p (above ++ s.needs) w
+  parts l p above (act s w) = part l p above (act s w) ∷ parts_within (below l) p (above ++ resources_of s.needs) w
   parts l p above skip = part l p above skip ∷ []
   parts l p above (seq ts) = part l p above (seq ts) ∷ parts_of_each l p above 0 ts
   parts l p above (par ts) = part l p above (par ts) ∷ parts_of_each l p above 0 ts
@@ -124,13 +126,17 @@ abbrev mutual
 
 -- The rules
 
--- each need is a resource of the cell
+-- each need is of a resource of the cell
 abbrev pub NeedsResources : Cell → Tree → Type 0
-NeedsResources cell t = Each (λ need. IsTrue (is_among cell.resources need)) (needs_of t)
+NeedsResources cell t = Each (λ need. IsTrue (is_among cell.resources need.resource)) (needs_of t)
 
-abbrev pub BeginsWithUnit : Cell → List Name → Type 0
+-- each need is of no more units than the resource has
+abbrev pub NeedsWithinCapacity : Documents → Tree → Type 0
+NeedsWithinCapacity d t = Each (λ need. need.units ≤ d.capacity need.resource) (needs_of t)
+
+abbrev pub BeginsWithUnit : Cell → List Need → Type 0
 BeginsWithUnit cell [] = ⊥
-BeginsWithUnit cell (unit ∷ needs) = IsTrue (is_among cell.units unit)
+BeginsWithUnit cell (unit ∷ needs) = IsTrue (is_among cell.units unit.resource)
 
 -- the unit of a unit procedure, its first need, is a unit of the cell
 abbrev pub HasUnit : Cell → Level → Tree → Type 0
@@ -162,6 +168,7 @@ RiseStrictly rank (x ∷ y ∷ ys) = (rank x < rank y) × RiseStrictly rank (y �
 pub record IsClear (cell : Cell) (d : Documents) (rank : Ranking) (x : Part) : Type 0 where
   pub known : NeedsResources cell x.node.here
   pub on_unit : HasUnit cell x.level x.node.here
+  pub within : NeedsWithinCapacity d x.node.here
   pub offered : IsOffered d x.node.here
   pub apart : IsApart x.level x.node.here
   pub turning : TurnsRun x.node.here

@@ -5,6 +5,7 @@ use Rattle.batch_recipe.specs.Formula.{is_size}
 use Rattle.batch_recipe.specs.Tree.{Phase, Tree, act, runs, follows}
 use Rattle.batch_model.specs.Plant.{Formula, size_out_of_range, scaled, Recipe, Documents}
 use Rattle.batch_model.specs.declared.limits.TheConstants.{MAX_LIVE_BATCHES}
+use Rattle.batch_recipe.specs.Needs.{one_unit}
 
 -- both units offer the three phases
 abbrev pub offers : Name → Name → Bool
@@ -27,7 +28,7 @@ abbrev pub operation : Tree
 operation = act (record { place = 0 ∷ 0 ∷ 0 ∷ []; needs = [] }) (follows (codes "CHARGE") (act (record { place = 0 ∷ 0 ∷ 0 ∷ 0 ∷ []; needs = [] }) (runs add)))
 
 abbrev pub unit_procedure : Tree
-unit_procedure = act (record { place = 0 ∷ 0 ∷ []; needs = codes "R1" ∷ [] }) (follows (codes "MAKE") operation)
+unit_procedure = act (record { place = 0 ∷ 0 ∷ []; needs = one_unit (codes "R1") ∷ [] }) (follows (codes "MAKE") operation)
 
 abbrev pub procedure : Tree
 procedure = act (record { place = 0 ∷ []; needs = [] }) (follows (codes "A") unit_procedure)

@@ -12,7 +12,7 @@ use Rattle.batch_matrix.specs.Matrix.{accepts, target, after_report}
 use Rattle.batch_recipe.specs.Conditions.{Name, ValueList, same_name}
 use Rattle.batch_recipe.specs.Tree.{Place}
 use Rattle.batch_model.specs.Rest.{Rest, live, acts, reach, withdrawn}
-use Rattle.batch_model.specs.Plant.{Formula, size_out_of_range, value_out_of_range, scaled, Recipe, Documents, Batch, BatchAct, Plant, batch_at, in_batch, in_act}
+use Rattle.batch_model.specs.Plant.{Formula, size_out_of_range, value_out_of_range, scaled, Recipe, Documents, Batch, Share, Plant, batch_at, in_batch, in_act}
 use Rattle.batch_model.specs.Moves.{ended, next}
 use Rattle.batch_model.specs.declared.limits.TheConstants.{LAST_NUMBER}
 use Rattle.batch_recipe.specs.declared.scaling.TheConstants.{MAX_VALUE}
@@ -103,8 +103,8 @@ ends_asks Abort = true
 ends_asks _ = false
 
 -- the lines without the asks of batch n, where the command ends them
-abbrev pub lines_under : Command → ℕ → (Name → List BatchAct) → Name → List BatchAct
-lines_under command n line r = elim (ends_asks command) [ false ↦ line r | true ↦ filter (λ a. not (nat_eq a.0 n)) (line r) ]
+abbrev pub lines_under : Command → ℕ → (Name → List Share) → Name → List Share
+lines_under command n line r = elim (ends_asks command) [ false ↦ line r | true ↦ filter (λ a. not (nat_eq a.act.0 n)) (line r) ]
 
 abbrev pub ordering : Plant → Command → Batch → Answer
 ordering s command b =

@@ -1,5 +1,5 @@
 -- The moves that a plant makes by itself: which are possible, which is next, and what each changes.
-use Rattle.std.specs.Prelude.{ℕ, zero, suc, pred, List, [], ◌∷◌, ◌++◌, length, map, filter, flat_map, Bool, true, false, ◌&&◌, ◌||◌, not, Option, Some, None, nat_lt, slice_get}
+use Rattle.std.specs.Prelude.{ℕ, zero, suc, pred, List, [], ◌∷◌, ◌++◌, length, map, filter, flat_map, Bool, true, false, ◌&&◌, ◌||◌, not, Option, Some, None, nat_le, ◌+◌, slice_get}
 use Rattle.std.specs.List.{list_all, filter_map}
 use Rattle.batch_matrix.specs.declared.state.State.{State}
 use Rattle.batch_matrix.specs.declared.state.State.TheVariants.{Running, Pausing, Paused, Holding, Held, Restarting, Stopping, Stopped, Aborting, Aborted}
@@ -9,18 +9,19 @@ use Rattle.batch_matrix.specs.Matrix.{accepts, target, ends_as}
 use Rattle.batch_recipe.specs.Conditions.{Name, ValueList, value_or_0, same_name}
 use Rattle.batch_recipe.specs.Tree.{Place, is_before, Step, Phase, Task, runs, follows}
 use Rattle.batch_model.specs.Rest.{Rest, ready, asking, open_act, live, freeing, done, is_done, acts, reach}
-use Rattle.batch_model.specs.Plant.{Documents, Batch, BatchAct, Plant, is_same_act, in_batch, in_act, held_in, phase_states, holders}
+use Rattle.batch_model.specs.Plant.{Documents, Batch, BatchAct, Share, units_in, Plant, is_same_act, in_batch, in_act, held_in, phase_states, holders}
+use Rattle.batch_recipe.specs.declared.need.Need.{Need}
 
 -- a move is what its record line says: the number of its batch, mostly the place of an act, and what is done there
 pub data Move : Type 0 where
   send : ℕ → Place → Phase → Command → Move
   state : ℕ → State → Move
-  release : ℕ → Place → Name → Move
+  release : ℕ → Place → Need → Move
   begin : ℕ → Place → Name → Move
   start : ℕ → Place → Phase → ValueList → Move
   end : ℕ → Place → Move
-  ask : ℕ → Place → Name → Move
-  grant : ℕ → Place → Name → Move
+  ask : ℕ → Place → Need → Move
+  grant : ℕ → Place → Need → Move
 
 -- The order of moves
 
@@ -139,11 +140,11 @@ abbrev pub giving_back : Batch → Step → ℕ → Option Move
 giving_back b s zero = None
 giving_back b s (suc k) = elim (slice_get s.needs k) [ None ↦ None | Some r ↦ Some (release b.number s.place r) ]
 
--- a share of the resource is free, and the act is first in its line
-abbrev pub is_served : Documents → Plant → Name → BatchAct → Bool
+-- as many units of the resource are free as are needed, and the act is first in its line
+abbrev pub is_served : Documents → Plant → Need → BatchAct → Bool
 is_served c s r a =
-    nat_lt (length (holders s r)) (c.capacity r)
-    && elim (s.line r) [ [] ↦ false | x ∷ xs ↦ is_same_act x a ]
+    nat_le (units_in (holders s r.resource) + r.units) (c.capacity r.resource)
+    && elim (s.line r.resource) [ [] ↦ false | x ∷ xs ↦ is_same_act x.act a ]
 
 -- the move that an act of a batch can make: there is at most one
 abbrev pub act_move : Documents → Plant → Batch → Rest → Option Move
@@ -239,9 +240,11 @@ act_after vs (end n p) = ended
 act_after vs (ask n p r) = asked
 act_after vs (grant n p r) = granted
 
-abbrev pub line_after : Move → (Name → List BatchAct) → Name → List BatchAct
-line_after (ask n p r) line q = elim (same_name q r) [ true ↦ line q ++ (n, p) ∷ [] | false ↦ line q ]
-line_after (grant n p r) line q = elim (same_name q r) [ true ↦ filter (λ a. not (is_same_act a (n, p))) (line q) | false ↦ line q ]
+abbrev pub line_after : Move → (Name → List Share) → Name → List Share
+line_after (ask n p r) line q =
+    elim (same_name q r.resource) [ true ↦ line q ++ record { act = (n, p); units = r.units } ∷ [] | false ↦ line q ]
+line_after (grant n p r) line q =
+    elim (same_name q r.resource) [ true ↦ filter (λ a. not (is_same_act a.act (n, p))) (line q) | false ↦ line q ]
 line_after _ line q = line q
 
 abbrev pub batch_after : Move → Batch → Batch

@@ -1,10 +1,11 @@
 -- The plant: the batches, what each holds and asks for, and the lines in which the asks stand.
-use Rattle.std.specs.Prelude.{ℕ, List, [], ◌∷◌, take, map, filter, find, flat_map, Bool, true, false, ◌&&◌, Option, None, nat_eq, slice_get}
+use Rattle.std.specs.Prelude.{ℕ, List, [], ◌∷◌, take, map, filter, find, flat_map, sum_by, Bool, true, false, ◌&&◌, Option, None, nat_eq, slice_get}
 use Rattle.batch_matrix.specs.declared.state.State.{State}
 use Rattle.batch_recipe.specs.Conditions.{Name, ValueList}
 use Rattle.batch_recipe.specs.Tree.{Place, Tree}
 use Rattle.batch_recipe.specs.Conditions.{same_name}
 use Rattle.batch_model.specs.Rest.{same_place, Rest, ready, asking, open_act, live, freeing, acts, advance, changed_at}
+use Rattle.batch_recipe.specs.declared.need.Need.{Need}
 
 -- what a formula gives for a size: its values, or why it gives none
 pub data Formula : Type 0 where
@@ -38,11 +39,24 @@ pub record Batch : Type 0 where
 abbrev pub BatchAct : Type 0
 BatchAct = ℕ × Place
 
+-- so many units of a resource's capacity, which an act holds or asks for
+pub record Share : Type 0 where
+  pub act : BatchAct
+  pub units : ℕ
+
+-- the units of all shares together
+abbrev pub units_in : List Share → ℕ
+units_in shares = sum_by (λ h. h.units) shares
+
+-- the acts whose shares they are, in order
+abbrev pub acts_in : List Share → List BatchAct
+acts_in shares = map (λ h. h.act) shares
+
 pub record Plant : Type 0 where
   pub batches : List Batch
   pub next_number : ℕ
-  -- the acts whose asks for a resource stand, in the order in which they came
-  pub line : Name → List BatchAct
+  -- what stands asked for of a resource, in the order in which the asks came
+  pub line : Name → List Share
 
 -- the plant in which nothing has happened
 abbrev pub opening : Plant
@@ -70,8 +84,8 @@ place_of (live s p x) = s.place
 place_of (freeing s k) = s.place
 place_of _ = []
 
--- the resources that an act itself holds, in the order in which it asked for them
-abbrev pub held_by : Rest → List Name
+-- what an act itself holds, in the order in which it asked for it
+abbrev pub held_by : Rest → List Need
 held_by (ready s w k) = take k s.needs
 held_by (asking s w k) = take k s.needs
 held_by (open_act s r) = s.needs
@@ -79,13 +93,13 @@ held_by (live s p x) = s.needs
 held_by (freeing s k) = take k s.needs
 held_by _ = []
 
--- the resource that an act in line asks for
-abbrev pub asked_by : Rest → Option Name
+-- what an act in line asks for
+abbrev pub asked_by : Rest → Option Need
 asked_by (asking s w k) = slice_get s.needs k
 asked_by _ = None
 
--- the resources held by an act or by any below it
-abbrev pub held_in : Rest → List Name
+-- what is held by an act or by any below it
+abbrev pub held_in : Rest → List Need
 held_in r = flat_map held_by (acts r)
 
 -- the states of the live phases
@@ -98,13 +112,15 @@ phase_states (_ ∷ more) = phase_states more
 abbrev pub acts_of : Batch → List (ℕ × Rest)
 acts_of b = map (λ a. (b.number, a)) (acts b.rest)
 
--- who holds a resource: each batch and place whose act holds it
-abbrev pub holders : Plant → Name → List BatchAct
+-- who holds how much of a resource: a share for each need by which an act holds it
+abbrev pub holders : Plant → Name → List Share
 holders s resource =
     flat_map
-    (λ b. flat_map (λ a. map (λ r. (b.number, place_of a)) (filter (same_name resource) (held_by a))) (acts b.rest))
+    (λ b. flat_map
+    (λ a. map (λ r. record { act = (b.number, place_of a); units = r.units }) (filter (λ r. same_name resource r.resource) (held_by a)))
+    (acts b.rest))
     s.batches
 
--- who asks for a resource: each batch and place whose act asks for it, in the order in which the asks came
-abbrev pub askers : Plant → Name → List BatchAct
+-- who asks for how much of a resource, in the order in which the asks came
+abbrev pub askers : Plant → Name → List Share
 askers s resource = s.line resource

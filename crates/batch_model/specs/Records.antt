@@ -1,5 +1,5 @@
 -- What a record alone tells, and when it is safe.
-use Rattle.std.specs.Prelude.{◌≡◌, ℕ, ◌≤◌, List, [], ◌∷◌, ◌++◌, length, filter, fold, Bool, true, false, not, IsTrue, ⊤, Option, Some, None, nat_eq}
+use Rattle.std.specs.Prelude.{◌≡◌, ◌⊎◌, ℕ, ◌≤◌, List, [], ◌∷◌, ◌++◌, filter, fold, Bool, true, false, not, IsTrue, ⊤, Option, Some, None, nat_eq}
 use Rattle.batch_matrix.specs.declared.state.State.{State}
 use Rattle.batch_matrix.specs.declared.state.State.TheVariants.{Idle, Stopped, Aborted, Complete}
 use Rattle.batch_matrix.specs.declared.command.Command.TheVariants.{Stop, Abort}
@@ -7,35 +7,37 @@ use Rattle.batch_matrix.specs.declared.report.Report.{Report}
 use Rattle.batch_model.specs.Lists.{Has, Each}
 use Rattle.batch_recipe.specs.Conditions.{Name, same_name}
 use Rattle.batch_recipe.specs.Tree.{Place, Phase}
-use Rattle.batch_model.specs.Plant.{Documents, BatchAct, Plant, is_same_act, holders, askers}
+use Rattle.batch_model.specs.Plant.{Documents, BatchAct, Share, units_in, acts_in, Plant, is_same_act, holders, askers}
 use Rattle.batch_model.specs.Moves.{state, release, start, ask, grant}
 use Rattle.batch_model.specs.Events.{created, ordered, reported}
 use Rattle.batch_model.specs.Runs.{Out, reply, move}
 
-abbrev pub without : BatchAct → List BatchAct → List BatchAct
-without a as' = filter (λ b. not (is_same_act b a)) as'
+abbrev pub without : BatchAct → List Share → List Share
+without a shares = filter (λ b. not (is_same_act b.act a)) shares
 
-abbrev pub without_batch : ℕ → List BatchAct → List BatchAct
-without_batch n as' = filter (λ b. not (nat_eq b.0 n)) as'
+abbrev pub without_batch : ℕ → List Share → List Share
+without_batch n shares = filter (λ b. not (nat_eq b.act.0 n)) shares
 
--- a place of a batch holds a resource from its grant to its release
-abbrev pub holders_after : Name → List BatchAct → Out → List BatchAct
-holders_after r hs (move (grant n p q)) = elim (same_name r q) [ true ↦ hs ++ (n, p) ∷ [] | false ↦ hs ]
-holders_after r hs (move (release n p q)) = elim (same_name r q) [ true ↦ without (n, p) hs | false ↦ hs ]
+-- a place of a batch holds its share of a resource from its grant to its release
+abbrev pub holders_after : Name → List Share → Out → List Share
+holders_after r hs (move (grant n p q)) =
+    elim (same_name r q.resource) [ true ↦ hs ++ record { act = (n, p); units = q.units } ∷ [] | false ↦ hs ]
+holders_after r hs (move (release n p q)) = elim (same_name r q.resource) [ true ↦ without (n, p) hs | false ↦ hs ]
 holders_after r hs _ = hs
 
-abbrev pub holders_told : List Out → Name → List BatchAct
+abbrev pub holders_told : List Out → Name → List Share
 holders_told outs r = fold (holders_after r) [] outs
 
 -- it waits from its ask to its grant, or to the next stop or abort of its batch
-abbrev pub waiters_after : Name → List BatchAct → Out → List BatchAct
-waiters_after r ws (move (ask n p q)) = elim (same_name r q) [ true ↦ ws ++ (n, p) ∷ [] | false ↦ ws ]
-waiters_after r ws (move (grant n p q)) = elim (same_name r q) [ true ↦ without (n, p) ws | false ↦ ws ]
+abbrev pub waiters_after : Name → List Share → Out → List Share
+waiters_after r ws (move (ask n p q)) =
+    elim (same_name r q.resource) [ true ↦ ws ++ record { act = (n, p); units = q.units } ∷ [] | false ↦ ws ]
+waiters_after r ws (move (grant n p q)) = elim (same_name r q.resource) [ true ↦ without (n, p) ws | false ↦ ws ]
 waiters_after r ws (reply (ordered Stop n x)) = without_batch n ws
 waiters_after r ws (reply (ordered Abort n x)) = without_batch n ws
 waiters_after r ws _ = ws
 
-abbrev pub waiters_told : List Out → Name → List BatchAct
+abbrev pub waiters_told : List Out → Name → List Share
 waiters_told outs r = fold (waiters_after r) [] outs
 
 -- a phase step of a batch that runs its phase
@@ -72,16 +74,16 @@ state_told outs n = fold (state_after n) None outs
 
 -- Circles
 
--- who holds and who waits for each resource
+-- who holds each resource, and who waits for it, the oldest ask first
 pub record Scene : Type 0 where
   pub holders : Name → List BatchAct
   pub waiters : Name → List BatchAct
 
 abbrev pub scene_told : List Out → Scene
-scene_told outs = record { holders = holders_told outs; waiters = waiters_told outs }
+scene_told outs = record { holders = λ r. acts_in (holders_told outs r); waiters = λ r. acts_in (waiters_told outs r) }
 
 abbrev pub scene_of : Plant → Scene
-scene_of s = record { holders = holders s; waiters = askers s }
+scene_of s = record { holders = λ r. acts_in (holders s r); waiters = λ r. acts_in (askers s r) }
 
 pub record Waiting : Type 0 where
   pub act : BatchAct
@@ -95,8 +97,21 @@ abbrev pub IsAtOrAbove : Place → Place → Type 0
 IsAtOrAbove p q = (below : Place) × (p ++ below ≡ q)
 
 -- the resource that w waits for is held by v's batch, at v's place or above it
+abbrev pub WaitsForHolder : Scene → Waiting → Waiting → Type 0
+WaitsForHolder sc w v = (p : Place) × Has (sc.holders w.resource) (v.act.0, p) × IsAtOrAbove p v.act.1
+
+-- a stands before b in the list
+abbrev pub StandsBefore : {X : Type 0} → List X → X → X → Type 0
+StandsBefore [] a b = ⊥
+StandsBefore (x ∷ xs) a b = ((x ≡ a) × Has xs b) ⊎ StandsBefore xs a b
+
+-- v asked for the same resource as w, and before it
+abbrev pub WaitsForOlder : Scene → Waiting → Waiting → Type 0
+WaitsForOlder sc w v = (v.resource ≡ w.resource) × StandsBefore (sc.waiters w.resource) v.act w.act
+
+-- w waits until v has gone on
 abbrev pub PointsTo : Scene → Waiting → Waiting → Type 0
-PointsTo sc w v = (p : Place) × Has (sc.holders w.resource) (v.act.0, p) × IsAtOrAbove p v.act.1
+PointsTo sc w v = WaitsForHolder sc w v ⊎ WaitsForOlder sc w v
 
 -- w points to the first of the others, each to the next, and the last to `last`
 abbrev pub PointAlong : Scene → Waiting → List Waiting → Waiting → Type 0
@@ -133,14 +148,15 @@ IsAtRest Stopped = ⊤
 IsAtRest Aborted = ⊤
 IsAtRest _ = ⊥
 
+-- the shares held of a resource are together no more than its capacity
 abbrev pub HasCapacity : Documents → List Out → Type 0
-HasCapacity c outs = (r : Name) → length (holders_told outs r) ≤ c.capacity r
+HasCapacity c outs = (r : Name) → units_in (holders_told outs r) ≤ c.capacity r
 
 -- the unit of each active phase is held by the phase's batch, above the phase
 abbrev pub HoldsUnits : List Out → Type 0
 HoldsUnits outs =
     (a : Active) → Has (active_told outs) a
-    → (p : Place) × Has (holders_told outs a.phase.unit) (a.act.0, p) × IsAtOrAbove p a.act.1 × (p ≡ a.act.1 → ⊥)
+    → (p : Place) × Has (acts_in (holders_told outs a.phase.unit)) (a.act.0, p) × IsAtOrAbove p a.act.1 × (p ≡ a.act.1 → ⊥)
 
 abbrev pub IsOnUnit : Name → Name → Active → Type 0
 IsOnUnit unit name a = (a.phase.unit ≡ unit) × (a.phase.name ≡ name)
@@ -158,7 +174,7 @@ HasNoCircle outs = (ws : List Waiting) → IsCircle (scene_told outs) ws → ⊥
 abbrev pub RestsEmpty : List Out → Type 0
 RestsEmpty outs =
     (n : ℕ) (x : State) → state_told outs n ≡ Some x → IsAtRest x
-    → (r : Name) → Each (λ a. a.0 ≡ n → ⊥) (holders_told outs r) × Each (λ a. a.0 ≡ n → ⊥) (waiters_told outs r)
+    → (r : Name) → Each (λ h. h.act.0 ≡ n → ⊥) (holders_told outs r) × Each (λ h. h.act.0 ≡ n → ⊥) (waiters_told outs r)
 
 pub record IsSafeNow (c : Documents) (outs : List Out) : Type 0 where
   pub capacity : HasCapacity c outs

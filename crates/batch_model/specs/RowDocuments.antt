@@ -13,6 +13,8 @@ use Rattle.batch_recipe.specs.Tree as node
 use Rattle.batch_recipe.specs.Tree.{Place, Tree, act, runs, follows}
 use Rattle.batch_model.specs.Plant.{Formula, size_out_of_range, value_out_of_range, scaled, Recipe, Documents}
 use Rattle.batch_model.specs.Demo as demo
+use Rattle.batch_recipe.specs.Needs.{one_unit}
+use Rattle.batch_recipe.specs.declared.need.Need.{Need}
 
 -- Names
 
@@ -69,12 +71,12 @@ entry_named [] name p = node.skip
 entry_named (e ∷ es) name p = elim (same_name e.0 name) [ true ↦ e.1 p | false ↦ entry_named es name p ]
 
 -- a phase step that runs a phase on a unit
-abbrev pub phase_step : Name → List Name → Name → Name → List Name → Entry
+abbrev pub phase_step : Name → List Need → Name → Name → List Name → Entry
 phase_step name needs unit phase handed =
     (name, λ p. act (record { place = p; needs = needs }) (runs (record { unit = unit; name = phase; handed = handed })))
 
 -- an act that follows a chart, whose labels stand in a table
-abbrev pub chart_act : Name → List Name → List Entry → Diagram → Entry
+abbrev pub chart_act : Name → List Need → List Entry → Diagram → Entry
 chart_act name needs table d =
     (name, λ p. act (record { place = p; needs = needs }) (follows name (expanded (entry_named table) (child p 0) d)))
 
@@ -99,7 +101,7 @@ drain_step unit = phase_step drain [] unit drain []
 abbrev pub one_operation : Name → Name → Name → Name → List Entry → Diagram → Entry
 one_operation unit name unit_procedure operation steps d =
     chart_act name []
-    (chart_act unit_procedure (unit ∷ []) (chart_act operation [] steps d ∷ []) (label operation) ∷ [])
+    (chart_act unit_procedure (one_unit unit ∷ []) (chart_act operation [] steps d ∷ []) (label operation) ∷ [])
     (label unit_procedure)
 
 -- the same with the unit procedure MAKE on R1
@@ -152,16 +154,27 @@ abbrev pub recipe_t : Recipe
 recipe_t =
     recipe_with (codes "T") [] []
     (plain_on r1 (codes "T")
-    (phase_step (codes "ADDS") (steam ∷ []) r1 add []
-    ∷ phase_step (codes "HEATS") (steam ∷ []) r1 heat []
-    ∷ phase_step (codes "DRAINS") (steam ∷ []) r1 drain []
+    (phase_step (codes "ADDS") (one_unit steam ∷ []) r1 add []
+    ∷ phase_step (codes "HEATS") (one_unit steam ∷ []) r1 heat []
+    ∷ phase_step (codes "DRAINS") (one_unit steam ∷ []) r1 drain []
+    ∷ [])
+    (par (diagrams_of (label (codes "ADDS") ∷ label (codes "HEATS") ∷ label (codes "DRAINS") ∷ []))))
+
+-- the same, but the second needs so many units of STEAM
+abbrev pub recipe_y : ℕ → Recipe
+recipe_y units =
+    recipe_with (codes "Y") [] []
+    (plain_on r1 (codes "Y")
+    (phase_step (codes "ADDS") (one_unit steam ∷ []) r1 add []
+    ∷ phase_step (codes "HEATS") (record { resource = steam; units = units } ∷ []) r1 heat []
+    ∷ phase_step (codes "DRAINS") (one_unit steam ∷ []) r1 drain []
     ∷ [])
     (par (diagrams_of (label (codes "ADDS") ∷ label (codes "HEATS") ∷ label (codes "DRAINS") ∷ []))))
 
 -- steps that need HDR to add and STEAM to heat
 abbrev pub crossed_steps : Name → List Entry
 crossed_steps unit =
-    phase_step (codes "ADDH") (hdr ∷ []) unit add [] ∷ phase_step (codes "HEATS") (steam ∷ []) unit heat [] ∷ drain_step unit ∷ []
+    phase_step (codes "ADDH") (one_unit hdr ∷ []) unit add [] ∷ phase_step (codes "HEATS") (one_unit steam ∷ []) unit heat [] ∷ drain_step unit ∷ []
 
 abbrev pub recipe_p : Recipe
 recipe_p =
@@ -198,8 +211,8 @@ abbrev pub recipe_j : Recipe
 recipe_j =
     recipe_with_x (codes "J")
     (chart_act (codes "J") []
-    (chart_act (codes "GOOD") (r1 ∷ hdr ∷ []) (chart_act charge [] (add_step r1 ∷ []) (label add) ∷ []) (label charge)
-    ∷ chart_act (codes "BAD") (r2 ∷ hdr ∷ r1 ∷ []) (chart_act charge [] (add_step r2 ∷ []) (label add) ∷ []) (label charge)
+    (chart_act (codes "GOOD") (one_unit r1 ∷ one_unit hdr ∷ []) (chart_act charge [] (add_step r1 ∷ []) (label add) ∷ []) (label charge)
+    ∷ chart_act (codes "BAD") (one_unit r2 ∷ one_unit hdr ∷ one_unit r1 ∷ []) (chart_act charge [] (add_step r2 ∷ []) (label add) ∷ []) (label charge)
     ∷ [])
     (sel (when x_is_1 (label (codes "GOOD")) (otherwise (label (codes "BAD"))))))
 
@@ -215,7 +228,7 @@ abbrev pub recipe_both : Recipe
 recipe_both =
     recipe_with (codes "BOTH") [] []
     (chart_act (codes "BOTH") []
-    (chart_act make (r1 ∷ r2 ∷ []) (chart_act charge [] (add_step r1 ∷ []) (label add) ∷ []) (label charge) ∷ [])
+    (chart_act make (one_unit r1 ∷ one_unit r2 ∷ []) (chart_act charge [] (add_step r1 ∷ []) (label add) ∷ []) (label charge) ∷ [])
     (label make))
 
 -- two unit procedures at once, of which the first has nothing to do
@@ -223,8 +236,8 @@ abbrev pub recipe_pair : Recipe
 recipe_pair =
     recipe_with (codes "PAIR") [] []
     (chart_act (codes "PAIR") []
-    (chart_act (codes "REST") (r1 ∷ []) [] skip
-    ∷ chart_act make (r2 ∷ []) (chart_act charge [] (add_step r2 ∷ []) (label add) ∷ []) (label charge)
+    (chart_act (codes "REST") (one_unit r1 ∷ []) [] skip
+    ∷ chart_act make (one_unit r2 ∷ []) (chart_act charge [] (add_step r2 ∷ []) (label add) ∷ []) (label charge)
     ∷ [])
     (par (diagrams_of (label (codes "REST") ∷ label make ∷ []))))
 
@@ -233,8 +246,8 @@ abbrev pub recipe_twin : Recipe
 recipe_twin =
     recipe_with (codes "TWIN") [] []
     (chart_act (codes "TWIN") []
-    (chart_act (codes "LEFT") (r1 ∷ []) (chart_act charge [] (add_step r1 ∷ []) (label add) ∷ []) (label charge)
-    ∷ chart_act (codes "RIGHT") (r2 ∷ []) (chart_act charge [] (add_step r2 ∷ []) (label add) ∷ []) (label charge)
+    (chart_act (codes "LEFT") (one_unit r1 ∷ []) (chart_act charge [] (add_step r1 ∷ []) (label add) ∷ []) (label charge)
+    ∷ chart_act (codes "RIGHT") (one_unit r2 ∷ []) (chart_act charge [] (add_step r2 ∷ []) (label add) ∷ []) (label charge)
     ∷ [])
     (par (diagrams_of (label (codes "LEFT") ∷ label (codes "RIGHT") ∷ []))))
 
@@ -252,7 +265,7 @@ cell =
     record demo.demo {
       recipes =
           demo.recipe ∷ recipe_f ∷ recipe_s ∷ recipe_w ∷ recipe_t ∷ recipe_p ∷ recipe_q ∷ recipe_l ∷ recipe_j ∷ recipe_k
-          ∷ recipe_both ∷ recipe_pair ∷ recipe_twin ∷ recipe_sides ∷ [];
+          ∷ recipe_both ∷ recipe_pair ∷ recipe_twin ∷ recipe_sides ∷ recipe_y 2 ∷ [];
       batch_limit = 4096;
     }
 

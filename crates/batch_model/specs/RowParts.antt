@@ -10,6 +10,7 @@ use Rattle.batch_model.specs.Moves.{release, begin, end, ask, grant, state, star
 use Rattle.batch_model.specs.Events.{Event, create, report, created, ordered, reported, refused, Refusal, react}
 use Rattle.batch_model.specs.Runs.{Out, reply, move, settling, work_left}
 use Rattle.batch_model.specs.RowDocuments.{r1, add, name_a, make, charge}
+use Rattle.batch_recipe.specs.Needs.{one_unit}
 
 -- Places, each called by its child numbers
 
@@ -71,6 +72,16 @@ on unit name = record { unit = unit; name = name; handed = [] }
 abbrev pub starts : ℕ → Place → Name → Name → Out
 starts n p unit phase = move (start n p (on unit phase) [])
 
+-- one unit of a resource's capacity is asked for, granted, given back
+abbrev pub asks : ℕ → Place → Name → Out
+asks n p resource = move (ask n p (one_unit resource))
+
+abbrev pub grants : ℕ → Place → Name → Out
+grants n p resource = move (grant n p (one_unit resource))
+
+abbrev pub releases : ℕ → Place → Name → Out
+releases n p resource = move (release n p (one_unit resource))
+
 abbrev pub refuses : Refusal → Out
 refuses r = reply (refused r)
 
@@ -83,14 +94,14 @@ abbrev pub opened : ℕ → Name → Name → Name → Name → List Out → Lis
 opened n recipe unit unit_procedure operation more =
     reply (ordered Start n Running)
     ∷ move (begin n p0 recipe)
-    ∷ move (ask n p00 unit)
-    ∷ move (grant n p00 unit)
+    ∷ asks n p00 unit
+    ∷ grants n p00 unit
     ∷ entered n unit_procedure operation more
 
 -- a batch of one unit is finished
 abbrev pub closed : ℕ → Name → List Out → List Out
 closed n unit more =
-    move (end n p000) ∷ move (end n p00) ∷ move (release n p00 unit) ∷ move (end n p0) ∷ move (state n Complete) ∷ more
+    move (end n p000) ∷ move (end n p00) ∷ releases n p00 unit ∷ move (end n p0) ∷ move (state n Complete) ∷ more
 
 abbrev pub created_a : ℕ → Out
 created_a n = reply (created n name_a 1000)

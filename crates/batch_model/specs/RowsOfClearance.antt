@@ -3,9 +3,11 @@ use Rattle.std.specs.Prelude.{◌<◌, List, [], ◌∷◌, length, true, false,
 use Rattle.batch_recipe.specs.Conditions.{Name, same_name}
 use Rattle.batch_recipe.specs.Diagram.{Diagram, label, skip, seq, par, sel, loop, otherwise, when, diagrams_of}
 use Rattle.batch_model.specs.Plant.{Recipe, Documents}
-use Rattle.batch_model.specs.RowDocuments.{r1, r2, hdr, steam, add, make, charge, Entry, phase_step, chart_act, recipe_with, recipe_with_x, add_step, making, x_above_0, x_is_1, recipe_p, recipe_q, recipe_j, cell, narrow_cell}
+use Rattle.batch_model.specs.RowDocuments.{r1, r2, hdr, steam, add, make, charge, Entry, phase_step, chart_act, recipe_with, recipe_with_x, add_step, making, x_above_0, x_is_1, recipe_p, recipe_q, recipe_j, cell, narrow_cell, recipe_y}
 use Rattle.batch_model.specs.Demo as demo
 use Rattle.batch_model.specs.Cleared.{Cell, Ranking, IsCleared, CanBeCleared}
+use Rattle.batch_recipe.specs.Needs.{one_unit}
+use Rattle.batch_recipe.specs.declared.need.Need.{Need}
 
 -- the demo cell
 abbrev pub equipment : Cell
@@ -35,7 +37,7 @@ CrossedBranchesAreCleared = IsCleared equipment narrow units_first
 
 -- a phase that needs HDR and HDR
 abbrev pub recipe_n : Recipe
-recipe_n = recipe_with (codes "N") [] [] (making (codes "N") charge (phase_step add (hdr ∷ hdr ∷ []) r1 add [] ∷ []) (label add))
+recipe_n = recipe_with (codes "N") [] [] (making (codes "N") charge (phase_step add (one_unit hdr ∷ one_unit hdr ∷ []) r1 add [] ∷ []) (label add))
 
 abbrev pub SameResourceTwice : Type 0
 SameResourceTwice = CanBeCleared equipment (with_recipes (recipe_n ∷ [])) → ⊥
@@ -45,11 +47,11 @@ charging = chart_act charge [] (add_step r1 ∷ []) (label add)
 
 -- R1, then HDR
 abbrev pub recipe_g : Recipe
-recipe_g = recipe_with (codes "G") [] [] (chart_act (codes "G") [] (chart_act make (r1 ∷ hdr ∷ []) (charging ∷ []) (label charge) ∷ []) (label make))
+recipe_g = recipe_with (codes "G") [] [] (chart_act (codes "G") [] (chart_act make (one_unit r1 ∷ one_unit hdr ∷ []) (charging ∷ []) (label charge) ∷ []) (label make))
 
 -- HDR, then R1
 abbrev pub recipe_h : Recipe
-recipe_h = recipe_with (codes "H") [] [] (chart_act (codes "H") (hdr ∷ []) (chart_act make (r1 ∷ []) (charging ∷ []) (label charge) ∷ []) (label make))
+recipe_h = recipe_with (codes "H") [] [] (chart_act (codes "H") (one_unit hdr ∷ []) (chart_act make (one_unit r1 ∷ []) (charging ∷ []) (label charge) ∷ []) (label make))
 
 abbrev pub header_first : Ranking
 header_first r = elim (same_name r hdr) [ true ↦ 1 | false ↦ 2 ]
@@ -121,7 +123,7 @@ abbrev pub operation_turns : Diagram → Recipe
 operation_turns d =
     recipe_with_x (codes "TURNS")
     (chart_act (codes "TURNS") []
-    (chart_act make (r1 ∷ []) (chart_act charge [] (add_step r1 ∷ []) d ∷ []) (loop 3 x_above_0 (label charge)) ∷ [])
+    (chart_act make (one_unit r1 ∷ []) (chart_act charge [] (add_step r1 ∷ []) d ∷ []) (loop 3 x_above_0 (label charge)) ∷ [])
     (label make))
 
 abbrev pub OperationRunsAPhase : Type 0
@@ -133,11 +135,11 @@ OperationMayRunNothing = AreRefused (operation_turns (sel (when x_is_1 (label ad
 -- What a cell has
 
 -- one phase, with needs of the procedure, further ones of the unit procedure, and those of the operation and of the phase step
-abbrev pub recipe_needing : List Name → List Name → List Name → List Name → Recipe
+abbrev pub recipe_needing : List Need → List Need → List Need → List Need → Recipe
 recipe_needing of_procedure of_unit_procedure of_operation of_step =
     recipe_with (codes "NEEDS") [] []
     (chart_act (codes "NEEDS") of_procedure
-    (chart_act make (r1 ∷ of_unit_procedure) (chart_act charge of_operation (phase_step add of_step r1 add [] ∷ []) (label add) ∷ []) (label charge)
+    (chart_act make (one_unit r1 ∷ of_unit_procedure) (chart_act charge of_operation (phase_step add of_step r1 add [] ∷ []) (label add) ∷ []) (label charge)
     ∷ [])
     (label make))
 
@@ -146,21 +148,27 @@ abbrev pub water : Name
 water = codes "WATER"
 
 abbrev pub ProcedureNeedsWater : Type 0
-ProcedureNeedsWater = AreRefused (recipe_needing (water ∷ []) [] [] [] ∷ [])
+ProcedureNeedsWater = AreRefused (recipe_needing (one_unit water ∷ []) [] [] [] ∷ [])
 
 abbrev pub UnitProcedureNeedsWater : Type 0
-UnitProcedureNeedsWater = AreRefused (recipe_needing [] (water ∷ []) [] [] ∷ [])
+UnitProcedureNeedsWater = AreRefused (recipe_needing [] (one_unit water ∷ []) [] [] ∷ [])
 
 abbrev pub OperationNeedsWater : Type 0
-OperationNeedsWater = AreRefused (recipe_needing [] [] (water ∷ []) [] ∷ [])
+OperationNeedsWater = AreRefused (recipe_needing [] [] (one_unit water ∷ []) [] ∷ [])
 
 abbrev pub StepNeedsWater : Type 0
-StepNeedsWater = AreRefused (recipe_needing [] [] [] (water ∷ []) ∷ [])
+StepNeedsWater = AreRefused (recipe_needing [] [] [] (one_unit water ∷ []) ∷ [])
+
+abbrev pub AllUnits : Type 0
+AllUnits = AreCleared (recipe_y 2 ∷ [])
+
+abbrev pub MoreUnitsThanThereAre : Type 0
+MoreUnitsThanThereAre = AreRefused (recipe_y 3 ∷ [])
 
 -- a unit procedure on a resource, with nothing to do
 abbrev pub recipe_resting_on : Name → Recipe
 recipe_resting_on resource =
-    recipe_with (codes "RESTS") [] [] (chart_act (codes "RESTS") [] (chart_act make (resource ∷ []) [] skip ∷ []) (label make))
+    recipe_with (codes "RESTS") [] [] (chart_act (codes "RESTS") [] (chart_act make (one_unit resource ∷ []) [] skip ∷ []) (label make))
 
 abbrev pub UnitIsAUnit : Type 0
 UnitIsAUnit = AreCleared (recipe_resting_on r1 ∷ [])

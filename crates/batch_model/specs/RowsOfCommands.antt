@@ -8,12 +8,12 @@ use Rattle.batch_matrix.specs.declared.report.Report.{Report}
 use Rattle.batch_recipe.specs.Tree.{Place}
 use Rattle.batch_model.specs.Demo as demo
 use Rattle.batch_model.specs.Plant.{Plant, Batch}
-use Rattle.batch_model.specs.Moves.{send, state, release, begin, end, ask, grant}
+use Rattle.batch_model.specs.Moves.{send, state, begin, end}
 use Rattle.batch_model.specs.Events.{create, order, remove, created, ordered, removed, reported, refused, full, not_idle, unknown_batch, report_not_expected, moves_pending, new_batch, react}
 use Rattle.batch_model.specs.Runs.{reply, move, run}
 use Rattle.batch_model.specs.ActStates.{state_of}
 use Rattle.batch_model.specs.RowDocuments.{r1, r2, hdr, steam, add, heat, drain, name_a, make, charge, cook, cell, narrow_cell, small_cell}
-use Rattle.batch_model.specs.RowParts.{p0, p00, p000, p001, p0000, p00000, p00001, p000010, p000011, create_a, says, add_done, on, starts, refuses, entered, opened, created_a, opened_a, finished_a, settled_after}
+use Rattle.batch_model.specs.RowParts.{p0, p00, p000, p001, p0000, p00000, p00001, p000010, p000011, create_a, says, add_done, on, starts, refuses, entered, opened, created_a, opened_a, finished_a, settled_after, asks, grants, releases}
 
 -- a phase is done while its batch comes to Held, and the next begins after the restart
 abbrev pub HoldBetweenPhases : Type 0
@@ -40,8 +40,8 @@ NoAskWhileHeld =
     ≡ (reply (created 1 (codes "P") 1000)
     ∷ opened 1 (codes "P") r1 (codes "U") (codes "O")
     (starts 1 p000010 r1 drain
-    ∷ move (ask 1 p00000 hdr)
-    ∷ move (grant 1 p00000 hdr)
+    ∷ asks 1 p00000 hdr
+    ∷ grants 1 p00000 hdr
     ∷ starts 1 p00000 r1 add
     ∷ reply (ordered Hold 1 Holding)
     ∷ move (send 1 p00000 (on r1 add) Hold)
@@ -53,8 +53,8 @@ NoAskWhileHeld =
     ∷ move (send 1 p00000 (on r1 add) Restart)
     ∷ reply (reported r1 add Report.Running 1 p00000 Restarting)
     ∷ move (state 1 Running)
-    ∷ move (ask 1 p000011 steam)
-    ∷ move (grant 1 p000011 steam)
+    ∷ asks 1 p000011 steam
+    ∷ grants 1 p000011 steam
     ∷ starts 1 p000011 r1 heat
     ∷ []))
 
@@ -70,7 +70,7 @@ HeldBatchEnds =
     ∷ move (state 1 Held)
     ∷ move (end 1 p000)
     ∷ move (end 1 p00)
-    ∷ move (release 1 p00 r1)
+    ∷ releases 1 p00 r1
     ∷ move (end 1 p0)
     ∷ reply (ordered Restart 1 Restarting)
     ∷ move (state 1 Running)
@@ -86,11 +86,11 @@ HeldAskIsGranted =
     ∷ opened_a 1
     (reply (ordered Start 2 Running)
     ∷ move (begin 2 p0 name_a)
-    ∷ move (ask 2 p00 r1)
+    ∷ asks 2 p00 r1
     ∷ reply (ordered Hold 2 Holding)
     ∷ move (state 2 Held)
     ∷ finished_a 1
-    (move (grant 2 p00 r1)
+    (grants 2 p00 r1
     ∷ reply (ordered Restart 2 Restarting)
     ∷ move (state 2 Running)
     ∷ entered 2 make charge
@@ -107,21 +107,21 @@ StopWithdrawsAsks =
     ∷ reply (created 2 (codes "Q") 1000)
     ∷ opened 2 (codes "Q") r2 (codes "U") (codes "O")
     (starts 2 p000010 r2 drain
-    ∷ move (ask 2 p00000 steam)
-    ∷ move (grant 2 p00000 steam)
+    ∷ asks 2 p00000 steam
+    ∷ grants 2 p00000 steam
     ∷ starts 2 p00000 r2 heat
     ∷ opened 1 (codes "P") r1 (codes "U") (codes "O")
     (starts 1 p000010 r1 drain
-    ∷ move (ask 1 p00000 hdr)
-    ∷ move (grant 1 p00000 hdr)
+    ∷ asks 1 p00000 hdr
+    ∷ grants 1 p00000 hdr
     ∷ starts 1 p00000 r1 add
     ∷ reply (reported r1 drain Report.Done 1 p000010 Running)
-    ∷ move (ask 1 p000011 steam)
+    ∷ asks 1 p000011 steam
     ∷ reply (ordered Stop 1 Stopping)
     ∷ move (send 1 p00000 (on r1 add) Stop)
     ∷ reply (reported r1 add Report.Stopped 1 p00000 Stopping)
-    ∷ move (release 1 p00000 hdr)
-    ∷ move (release 1 p00 r1)
+    ∷ releases 1 p00000 hdr
+    ∷ releases 1 p00 r1
     ∷ move (state 1 Stopped)
     ∷ [])))
 
@@ -136,14 +136,14 @@ LaterAskPasses command going gone =
     ∷ opened_a 1
     (reply (ordered Start 2 Running)
     ∷ move (begin 2 p0 name_a)
-    ∷ move (ask 2 p00 r1)
+    ∷ asks 2 p00 r1
     ∷ reply (ordered Start 3 Running)
     ∷ move (begin 3 p0 name_a)
-    ∷ move (ask 3 p00 r1)
+    ∷ asks 3 p00 r1
     ∷ reply (ordered command 2 going)
     ∷ move (state 2 gone)
     ∷ finished_a 1
-    (move (grant 3 p00 r1)
+    (grants 3 p00 r1
     ∷ entered 3 make charge
     (starts 3 p0000 r1 add
     ∷ []))))
@@ -163,14 +163,14 @@ StopGivesBackPartOfNeeds =
     ∷ opened_a 1
     (reply (ordered Start 2 Running)
     ∷ move (begin 2 p0 (codes "J"))
-    ∷ move (ask 2 p001 r2)
-    ∷ move (grant 2 p001 r2)
-    ∷ move (ask 2 p001 hdr)
-    ∷ move (grant 2 p001 hdr)
-    ∷ move (ask 2 p001 r1)
+    ∷ asks 2 p001 r2
+    ∷ grants 2 p001 r2
+    ∷ asks 2 p001 hdr
+    ∷ grants 2 p001 hdr
+    ∷ asks 2 p001 r1
     ∷ reply (ordered Stop 2 Stopping)
-    ∷ move (release 2 p001 hdr)
-    ∷ move (release 2 p001 r2)
+    ∷ releases 2 p001 hdr
+    ∷ releases 2 p001 r2
     ∷ move (state 2 Stopped)
     ∷ []))
 
@@ -186,7 +186,7 @@ AbortAfterStop =
     ∷ move (send 1 p0000 (on r1 add) Abort)
     ∷ refuses (report_not_expected Aborting)
     ∷ reply (reported r1 add Report.Aborted 1 p0000 Aborting)
-    ∷ move (release 1 p00 r1)
+    ∷ releases 1 p00 r1
     ∷ move (state 1 Aborted)
     ∷ []))
 
@@ -200,7 +200,7 @@ AbortResetStart =
     (reply (ordered Stop 1 Stopping)
     ∷ move (send 1 p0000 (on r1 add) Stop)
     ∷ reply (reported r1 add Report.Stopped 1 p0000 Stopping)
-    ∷ move (release 1 p00 r1)
+    ∷ releases 1 p00 r1
     ∷ move (state 1 Stopped)
     ∷ reply (ordered Abort 1 Aborting)
     ∷ move (state 1 Aborted)

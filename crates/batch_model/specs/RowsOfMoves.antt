@@ -4,11 +4,12 @@ use Rattle.batch_matrix.specs.declared.state.State.TheVariants.{Running, Holding
 use Rattle.batch_matrix.specs.declared.command.Command.TheVariants.{Start, Hold, Restart}
 use Rattle.batch_matrix.specs.declared.report.Report.{Report}
 use Rattle.batch_model.specs.Demo.{demo, recipe}
-use Rattle.batch_model.specs.Moves.{send, state, release, begin, end, ask, grant}
+use Rattle.batch_model.specs.Moves.{send, state, begin, end, ask, grant, release}
 use Rattle.batch_model.specs.Events.{create, order, report, created, ordered, reported}
 use Rattle.batch_model.specs.Runs.{Out, reply, move, run}
 use Rattle.batch_model.specs.RowDocuments.{r1, r2, hdr, steam, add, heat, drain, x_name, name_a, make, charge, procedure_of, procedure_a, cell, narrow_cell}
-use Rattle.batch_model.specs.RowParts.{p0, p00, p000, p001, p0000, p0010, p00000, p00001, p00002, p00100, p000010, p000011, create_a, says, add_done, on, starts, entered, opened, closed, created_a, opened_a, finished_a}
+use Rattle.batch_model.specs.RowParts.{p0, p00, p000, p001, p0000, p0010, p00000, p00001, p00002, p00100, p000010, p000011, create_a, says, add_done, on, starts, entered, opened, closed, created_a, opened_a, finished_a, asks, grants, releases}
+use Rattle.batch_recipe.specs.declared.need.Need.{Need}
 
 -- the demo's recipe is what its document expands to
 abbrev pub DemoIsExpanded : Type 0
@@ -21,15 +22,15 @@ OneBatchToComplete =
     ≡ (created_a 1
     ∷ reply (ordered Start 1 Running)
     ∷ move (begin 1 p0 name_a)
-    ∷ move (ask 1 p00 r1)
-    ∷ move (grant 1 p00 r1)
+    ∷ asks 1 p00 r1
+    ∷ grants 1 p00 r1
     ∷ move (begin 1 p00 make)
     ∷ move (begin 1 p000 charge)
     ∷ starts 1 p0000 r1 add
     ∷ reply (reported r1 add Report.Done 1 p0000 Running)
     ∷ move (end 1 p000)
     ∷ move (end 1 p00)
-    ∷ move (release 1 p00 r1)
+    ∷ releases 1 p00 r1
     ∷ move (end 1 p0)
     ∷ move (state 1 Complete)
     ∷ [])
@@ -43,9 +44,9 @@ SecondBatchWaits =
     ∷ opened_a 1
     (reply (ordered Start 2 Running)
     ∷ move (begin 2 p0 name_a)
-    ∷ move (ask 2 p00 r1)
+    ∷ asks 2 p00 r1
     ∷ finished_a 1
-    (move (grant 2 p00 r1)
+    (grants 2 p00 r1
     ∷ entered 2 make charge
     (starts 2 p0000 r1 add
     ∷ []))))
@@ -60,12 +61,12 @@ OlderAskIsGranted =
     ∷ opened_a 1
     (reply (ordered Start 3 Running)
     ∷ move (begin 3 p0 name_a)
-    ∷ move (ask 3 p00 r1)
+    ∷ asks 3 p00 r1
     ∷ reply (ordered Start 2 Running)
     ∷ move (begin 2 p0 name_a)
-    ∷ move (ask 2 p00 r1)
+    ∷ asks 2 p00 r1
     ∷ finished_a 1
-    (move (grant 3 p00 r1)
+    (grants 3 p00 r1
     ∷ entered 3 make charge
     (starts 3 p0000 r1 add
     ∷ []))))
@@ -81,31 +82,31 @@ CrossedBranchesWithoutCircle =
     ∷ reply (created 2 (codes "Q") 1000)
     ∷ opened 1 (codes "P") r1 (codes "U") (codes "O")
     (starts 1 p000010 r1 drain
-    ∷ move (ask 1 p00000 hdr)
-    ∷ move (grant 1 p00000 hdr)
+    ∷ asks 1 p00000 hdr
+    ∷ grants 1 p00000 hdr
     ∷ starts 1 p00000 r1 add
     ∷ opened 2 (codes "Q") r2 (codes "U") (codes "O")
     (starts 2 p000010 r2 drain
-    ∷ move (ask 2 p00000 steam)
-    ∷ move (grant 2 p00000 steam)
+    ∷ asks 2 p00000 steam
+    ∷ grants 2 p00000 steam
     ∷ starts 2 p00000 r2 heat
     ∷ reply (reported r1 drain Report.Done 1 p000010 Running)
-    ∷ move (ask 1 p000011 steam)
+    ∷ asks 1 p000011 steam
     ∷ reply (reported r2 drain Report.Done 2 p000010 Running)
-    ∷ move (ask 2 p000011 hdr)
+    ∷ asks 2 p000011 hdr
     ∷ reply (reported r1 add Report.Done 1 p00000 Running)
-    ∷ move (release 1 p00000 hdr)
-    ∷ move (grant 2 p000011 hdr)
+    ∷ releases 1 p00000 hdr
+    ∷ grants 2 p000011 hdr
     ∷ starts 2 p000011 r2 add
     ∷ reply (reported r2 heat Report.Done 2 p00000 Running)
-    ∷ move (release 2 p00000 steam)
-    ∷ move (grant 1 p000011 steam)
+    ∷ releases 2 p00000 steam
+    ∷ grants 1 p000011 steam
     ∷ starts 1 p000011 r1 heat
     ∷ reply (reported r1 heat Report.Done 1 p000011 Running)
-    ∷ move (release 1 p000011 steam)
+    ∷ releases 1 p000011 steam
     ∷ closed 1 r1
     (reply (reported r2 add Report.Done 2 p000011 Running)
-    ∷ move (release 2 p000011 hdr)
+    ∷ releases 2 p000011 hdr
     ∷ closed 2 r2 []))))
 
 -- of three parallel steps two share a resource of capacity 2, and the third waits
@@ -114,14 +115,44 @@ SharedCapacity =
     run cell (create (codes "T") 1000 ∷ order Start 1 ∷ [])
     ≡ (reply (created 1 (codes "T") 1000)
     ∷ opened 1 (codes "T") r1 (codes "U") (codes "O")
-    (move (ask 1 p00000 steam)
-    ∷ move (ask 1 p00001 steam)
-    ∷ move (ask 1 p00002 steam)
-    ∷ move (grant 1 p00000 steam)
+    (asks 1 p00000 steam
+    ∷ asks 1 p00001 steam
+    ∷ asks 1 p00002 steam
+    ∷ grants 1 p00000 steam
     ∷ starts 1 p00000 r1 add
-    ∷ move (grant 1 p00001 steam)
+    ∷ grants 1 p00001 steam
     ∷ starts 1 p00001 r1 heat
     ∷ []))
+
+-- the second step wants both units and is granted them at once; until then the third, which wants one, doesn't pass it
+abbrev pub both_units : Need
+both_units = record { resource = steam; units = 2 }
+
+abbrev pub SmallAskDoesNotPass : Type 0
+SmallAskDoesNotPass =
+    run cell (create (codes "Y") 1000 ∷ order Start 1 ∷ add_done ∷ [])
+    ≡ (reply (created 1 (codes "Y") 1000)
+    ∷ opened 1 (codes "Y") r1 (codes "U") (codes "O")
+    (asks 1 p00000 steam
+    ∷ move (ask 1 p00001 both_units)
+    ∷ asks 1 p00002 steam
+    ∷ grants 1 p00000 steam
+    ∷ starts 1 p00000 r1 add
+    ∷ reply (reported r1 add Report.Done 1 p00000 Running)
+    ∷ releases 1 p00000 steam
+    ∷ move (grant 1 p00001 both_units)
+    ∷ starts 1 p00001 r1 heat
+    ∷ []))
+
+-- its release gives both units back
+abbrev pub ReleaseGivesAllBack : Type 0
+ReleaseGivesAllBack =
+    drop 16 (run cell (create (codes "Y") 1000 ∷ order Start 1 ∷ add_done ∷ says r1 heat Report.Done ∷ []))
+    ≡ (reply (reported r1 heat Report.Done 1 p00001 Running)
+    ∷ move (release 1 p00001 both_units)
+    ∷ grants 1 p00002 steam
+    ∷ starts 1 p00002 r1 drain
+    ∷ [])
 
 -- X is 0, so the last branch is taken
 abbrev pub ElseBranchIsTaken : Type 0
@@ -130,12 +161,12 @@ ElseBranchIsTaken =
     ≡ (reply (created 1 (codes "J") 1000)
     ∷ reply (ordered Start 1 Running)
     ∷ move (begin 1 p0 (codes "J"))
-    ∷ move (ask 1 p001 r2)
-    ∷ move (grant 1 p001 r2)
-    ∷ move (ask 1 p001 hdr)
-    ∷ move (grant 1 p001 hdr)
-    ∷ move (ask 1 p001 r1)
-    ∷ move (grant 1 p001 r1)
+    ∷ asks 1 p001 r2
+    ∷ grants 1 p001 r2
+    ∷ asks 1 p001 hdr
+    ∷ grants 1 p001 hdr
+    ∷ asks 1 p001 r1
+    ∷ grants 1 p001 r1
     ∷ move (begin 1 p001 (codes "BAD"))
     ∷ move (begin 1 p0010 charge)
     ∷ starts 1 p00100 r2 add
@@ -207,32 +238,32 @@ ReleaseBeforeBegin =
     ∷ reply (created 2 (codes "PAIR") 1000)
     ∷ reply (ordered Start 1 Running)
     ∷ move (begin 1 p0 (codes "BOTH"))
-    ∷ move (ask 1 p00 r1)
-    ∷ move (grant 1 p00 r1)
-    ∷ move (ask 1 p00 r2)
-    ∷ move (grant 1 p00 r2)
+    ∷ asks 1 p00 r1
+    ∷ grants 1 p00 r1
+    ∷ asks 1 p00 r2
+    ∷ grants 1 p00 r2
     ∷ entered 1 make charge
     (starts 1 p0000 r1 add
     ∷ reply (ordered Start 2 Running)
     ∷ move (begin 2 p0 (codes "PAIR"))
-    ∷ move (ask 2 p000 r1)
-    ∷ move (ask 2 p001 r2)
+    ∷ asks 2 p000 r1
+    ∷ asks 2 p001 r2
     ∷ reply (ordered Hold 2 Holding)
     ∷ move (state 2 Held)
     ∷ reply (reported r1 add Report.Done 1 p0000 Running)
     ∷ move (end 1 p000)
     ∷ move (end 1 p00)
-    ∷ move (release 1 p00 r2)
-    ∷ move (release 1 p00 r1)
+    ∷ releases 1 p00 r2
+    ∷ releases 1 p00 r1
     ∷ move (end 1 p0)
     ∷ move (state 1 Complete)
-    ∷ move (grant 2 p000 r1)
-    ∷ move (grant 2 p001 r2)
+    ∷ grants 2 p000 r1
+    ∷ grants 2 p001 r2
     ∷ reply (ordered Restart 2 Restarting)
     ∷ move (state 2 Running)
     ∷ move (begin 2 p000 (codes "REST"))
     ∷ move (end 2 p000)
-    ∷ move (release 2 p000 r1)
+    ∷ releases 2 p000 r1
     ∷ move (begin 2 p001 make)
     ∷ move (begin 2 p0010 charge)
     ∷ starts 2 p00100 r2 add
@@ -249,26 +280,26 @@ ReleaseBeforeEarlierPlace =
     ∷ reply (created 2 (codes "SIDES") 1000)
     ∷ opened 1 (codes "P") r1 (codes "U") (codes "O")
     (starts 1 p000010 r1 drain
-    ∷ move (ask 1 p00000 hdr)
-    ∷ move (grant 1 p00000 hdr)
+    ∷ asks 1 p00000 hdr
+    ∷ grants 1 p00000 hdr
     ∷ starts 1 p00000 r1 add
     ∷ opened 2 (codes "SIDES") r2 (codes "U") (codes "O")
-    (move (ask 2 p00000 hdr)
-    ∷ move (ask 2 p00001 steam)
-    ∷ move (grant 2 p00001 steam)
+    (asks 2 p00000 hdr
+    ∷ asks 2 p00001 steam
+    ∷ grants 2 p00001 steam
     ∷ starts 2 p00001 r2 heat
     ∷ reply (ordered Hold 2 Holding)
     ∷ move (send 2 p00001 (on r2 heat) Hold)
     ∷ reply (reported r2 heat Report.Held 2 p00001 Holding)
     ∷ move (state 2 Held)
     ∷ reply (reported r1 add Report.Done 1 p00000 Running)
-    ∷ move (release 1 p00000 hdr)
-    ∷ move (grant 2 p00000 hdr)
+    ∷ releases 1 p00000 hdr
+    ∷ grants 2 p00000 hdr
     ∷ reply (ordered Restart 2 Restarting)
     ∷ move (send 2 p00001 (on r2 heat) Restart)
     ∷ reply (reported r2 heat Report.Done 2 p00001 Restarting)
     ∷ move (state 2 Running)
-    ∷ move (release 2 p00001 steam)
+    ∷ releases 2 p00001 steam
     ∷ starts 2 p00000 r2 add
     ∷ [])))
 
@@ -284,9 +315,9 @@ BeginBeforeLaterEnd =
     ∷ opened_a 1
     (reply (ordered Start 2 Running)
     ∷ move (begin 2 p0 (codes "TWIN"))
-    ∷ move (ask 2 p000 r1)
-    ∷ move (ask 2 p001 r2)
-    ∷ move (grant 2 p001 r2)
+    ∷ asks 2 p000 r1
+    ∷ asks 2 p001 r2
+    ∷ grants 2 p001 r2
     ∷ move (begin 2 p001 (codes "RIGHT"))
     ∷ move (begin 2 p0010 charge)
     ∷ starts 2 p00100 r2 add
@@ -295,7 +326,7 @@ BeginBeforeLaterEnd =
     ∷ reply (reported r2 add Report.Held 2 p00100 Holding)
     ∷ move (state 2 Held)
     ∷ finished_a 1
-    (move (grant 2 p000 r1)
+    (grants 2 p000 r1
     ∷ reply (ordered Restart 2 Restarting)
     ∷ move (send 2 p00100 (on r2 add) Restart)
     ∷ reply (reported r2 add Report.Done 2 p00100 Restarting)
@@ -305,5 +336,5 @@ BeginBeforeLaterEnd =
     ∷ starts 2 p00000 r1 add
     ∷ move (end 2 p0010)
     ∷ move (end 2 p001)
-    ∷ move (release 2 p001 r2)
+    ∷ releases 2 p001 r2
     ∷ [])))

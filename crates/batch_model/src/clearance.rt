@@ -28,6 +28,8 @@ ghost use Rattle.batch_model.specs.RowsOfClearance.{
   UnitProcedureNeedsWater,
   OperationNeedsWater,
   StepNeedsWater,
+  AllUnits,
+  MoreUnitsThanThereAre,
   UnitIsAUnit,
   HeaderAsUnit,
   PhaseIsNotOffered,
@@ -103,6 +105,12 @@ pub fn unknown_need()
     ensures unit_procedure { UnitProcedureNeedsWater }
     ensures operation { OperationNeedsWater }
     ensures step { StepNeedsWater }
+{}
+
+/// An act may need all units of a resource, and no more.
+pub fn share_above_capacity()
+    ensures all { AllUnits }
+    ensures more { MoreUnitsThanThereAre }
 {}
 
 /// A unit procedure runs on a unit, and on no other resource.

@@ -13,7 +13,7 @@ pub use clearance::{
     act_runs_what_its_chart_runs, crossed_branches_are_cleared, each_branch_runs_a_phase,
     else_branch_has_the_circle, every_turn_runs_a_phase, header_as_unit, one_part_runs_a_phase,
     opposite_orders, parts_are_nodes, phase_is_not_offered, same_phase_in_parallel,
-    same_resource_twice, sets_of_recipes, unknown_need,
+    same_resource_twice, sets_of_recipes, share_above_capacity, unknown_need,
 };
 pub use laws::{
     acts_have_one_move, acts_rise, advances_fully, advances_without_taking, last_line_tells,
@@ -27,6 +27,6 @@ pub use rows::{
     demo_is_expanded, earlier_state_shows, event_while_moves_pend, fault_holds_the_batch,
     held_ask_is_granted, hold_between_phases, hold_while_pausing, live_batch_limit,
     one_batch_to_complete, outputs, pause_and_resume, refused_events, release_before_begin,
-    report_twice, scaled_quantity, second_batch_waits, shared_capacity, stop_withdraws_asks,
-    thousand_turns,
+    report_twice, scaled_quantity, second_batch_waits, shared_capacity, shares_of_several_units,
+    stop_withdraws_asks, thousand_turns,
 };

@@ -6,6 +6,8 @@ ghost use Rattle.batch_model.specs.RowsOfMoves.{
   OlderAskIsGranted,
   CrossedBranchesWithoutCircle,
   SharedCapacity,
+  SmallAskDoesNotPass,
+  ReleaseGivesAllBack,
   ElseBranchIsTaken,
   OutputChoosesBranch,
   OutputChoosesElse,
@@ -97,6 +99,12 @@ pub fn crossed_branches_without_circle()
 /// Steps share a resource up to its capacity.
 pub fn shared_capacity()
     ensures { SharedCapacity }
+{}
+
+/// A step that wants several units is granted them at once, and those behind it in line wait.
+pub fn shares_of_several_units()
+    ensures no_passing { SmallAskDoesNotPass }
+    ensures all_back { ReleaseGivesAllBack }
 {}
 
 /// Values choose a branch at the moment when the choice is reached.

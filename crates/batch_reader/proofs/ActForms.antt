@@ -19,6 +19,7 @@ use Rattle.batch_recipe.specs.declared.acts.Acts.{Acts}
 use Rattle.batch_recipe.specs.declared.quantity.Quantity.{Quantity}
 use Rattle.batch_recipe.specs.declared.recipe.TheConstants.{MAX_NODES}
 use Rattle.batch_reader.specs.SoundRecipe.{IsSoundRecipe}
+use Rattle.batch_recipe.specs.declared.need.Need.{Need}
 
 -- a chart, or a phase and the names of the values that it is handed
 pub data WorkForm : Type 0 where
@@ -28,7 +29,7 @@ pub data WorkForm : Type 0 where
 pub record ActForm : Type 0 where
   pub name : Name
   pub unit : Option Name
-  pub needs : List Name
+  pub needs : List Need
   pub work : WorkForm
 
 abbrev pub work_form : Work → WorkForm

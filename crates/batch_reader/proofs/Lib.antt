@@ -11,3 +11,4 @@ pub mod WellFormedParts
 pub mod RecipeParts
 pub mod ActForms
 pub mod OneRecipe
+pub mod NeedCuts

@@ -1,5 +1,5 @@
 -- An entry of a table says one thing at most.
-use Rattle.std.proofs.Common.{◌≡◌, ℕ, ◌<◌, ◌≤◌, nat_lt, true, false, inl, inr, List, [], ◌∷◌, length, Option, Some, None, refl, sym, ◌∙◌, arith}
+use Rattle.std.proofs.Common.{◌≡◌, ℕ, ◌<◌, ◌≤◌, nat_lt, true, false, inl, inr, List, [], ◌∷◌, length, Option, Some, None, refl, sym, ap₂, subst, ◌∙◌, arith, nat_le, position}
 use Rattle.std.proofs.lemmas.List.{map-id}
 use Rattle.std.proofs.lemmas.Bool.Decides.{nat_tests}
 use Rattle.std.specs.Option.{option_and_then}
@@ -10,9 +10,13 @@ use Rattle.batch_recipe.specs.Diagram.{Diagram}
 use Rattle.batch_grammar.proofs.ChartRead.{at_most_one}
 use Rattle.batch_grammar.specs.ChartGrammar.{IsChart}
 use Rattle.batch_reader.proofs.Items.{AllItems_same}
-use Rattle.batch_reader.specs.Entries.{AllItems, IsNameItem, HasLabel, HasName, HasNameOr, HasChart, HasFewNames, HasTable, items_at}
+use Rattle.batch_reader.specs.Entries.{AllItems, IsNameItem, HasLabel, HasName, HasNameOr, HasChart, HasFew, HasFewNames, HasFewNeeds, IsNeedItem, HasTable, items_at}
 use Rattle.batch_reader.specs.Faults.{count_items, few_names_fault}
 use Rattle.batch_reader.specs.declared.fault.EntryFault.TheVariants.{OutOfLimit, WrongKind}
+use Rattle.batch_recipe.specs.declared.need.Need.{Need}
+use Rattle.batch_reader.specs.NeedText.{IsNeedText, IsNeedCut, is_star}
+use Rattle.batch_recipe.specs.Needs.{have_units}
+use Rattle.batch_recipe.specs.declared.need.TheConstants.{MAX_UNITS}
 
 -- a list has as many items as it says names
 AllItems_length : {X : Type 0} (R : Data → X → Type 0) (vs : List Value) (xs : List X) → AllItems R (items_view vs) xs → length vs ≡ length xs
@@ -21,17 +25,25 @@ AllItems_length R [] (x ∷ xs) h = absurd h
 AllItems_length R (v ∷ vs) [] h = absurd h
 AllItems_length R (v ∷ vs) (x ∷ xs) h = omega (arith, AllItems_length R vs xs h.1)
 
+few_items : {X : Type 0} (R : Data → X → Type 0) (key : List ℕ) (ms : Members) (vs : List Value) (most : ℕ) (xs : List X) → items_at key ms ≡ Some (items_view vs)
+    → length vs ≤ most → AllItems R (items_view vs) xs → HasFew R key ms most xs
+few_items R key ms vs most xs found short listed =
+    record { items = items_view vs; found = found; listed = listed; few = omega (arith, AllItems_length R vs xs listed) }
+
+pub few_refused : {X : Type 0} (R : Data → X → Type 0) (key : List ℕ) (ms : Members) (vs : List Value) (most : ℕ) → items_at key ms ≡ Some (items_view vs)
+    → most < length vs → (xs : List X) → HasFew R key ms most xs → ⊥
+few_refused R key ms vs most found many xs h =
+    let same : h.items ≡ items_view vs = cc (h.found, found) in
+    let count : length vs ≡ length xs = AllItems_length R vs xs (rw same at h.listed) in
+    omega (arith, h.few)
+
 pub few_names : (key : List ℕ) (ms : Members) (vs : List Value) (most : ℕ) (names : List (List ℕ)) → items_at key ms ≡ Some (items_view vs)
     → length vs ≤ most → AllItems IsNameItem (items_view vs) names → HasFewNames key ms most names
-few_names key ms vs most names found few listed =
-    record { items = items_view vs; found = found; listed = listed; few = omega (arith, AllItems_length IsNameItem vs names listed) }
+few_names = few_items IsNameItem
 
-pub few_names_refused : (key : List ℕ) (ms : Members) (vs : List Value) (most : ℕ) → items_at key ms ≡ Some (items_view vs)
-    → most < length vs → (names : List (List ℕ)) → HasFewNames key ms most names → ⊥
-few_names_refused key ms vs most found many names h =
-    let same : h.items ≡ items_view vs = cc (h.found, found) in
-    let count : length vs ≡ length names = AllItems_length IsNameItem vs names (rw same at h.listed) in
-    omega (arith, h.few)
+pub few_needs : (key : List ℕ) (ms : Members) (vs : List Value) (most : ℕ) (needs : List Need) → items_at key ms ≡ Some (items_view vs)
+    → length vs ≤ most → AllItems IsNeedItem (items_view vs) needs → HasFewNeeds key ms most needs
+few_needs = few_items IsNeedItem
 
 count_items-view : (vs : List Value) → count_items (items_view vs) ≡ length vs
 count_items-view [] = refl
@@ -54,6 +66,9 @@ pub chart_refused : (key : List ℕ) (ms : Members) (text : List ℕ) → option
 chart_refused key ms text found none chart h =
     let same : h.text ≡ text = cc (h.found.found, found) in
     none chart (rw same at h.is_chart)
+
+same_need : (m n : Need) → m.resource ≡ n.resource → m.units ≡ n.units → m ≡ n
+same_need m n resource units = ap₂ (λ r u. let x : Need = record { resource = r; units = u } in x) resource units
 
 -- each entry says one thing at most
 pub HasName_unique : (key : List ℕ) (ms : Members) (m n : List ℕ) → HasName key ms m → HasName key ms n → m ≡ n
@@ -80,10 +95,42 @@ HasChart_unique key ms a b h k =
 pub IsNameItem_unique : (d : Data) (m n : List ℕ) → IsNameItem d m → IsNameItem d n → m ≡ n
 IsNameItem_unique d m n h k = cc (h.text, k.text)
 
-pub HasFewNames_unique : (key : List ℕ) (ms : Members) (most : ℕ) (xs ys : List (List ℕ)) → HasFewNames key ms most xs → HasFewNames key ms most ys → xs ≡ ys
-HasFewNames_unique key ms most xs ys h k =
+HasFew_unique : {X : Type 0} (R : Data → X → Type 0) → ((d : Data) (x y : X) → R d x → R d y → x ≡ y)
+    → (key : List ℕ) (ms : Members) (most : ℕ) (xs ys : List X) → HasFew R key ms most xs → HasFew R key ms most ys → xs ≡ ys
+HasFew_unique R one key ms most xs ys h k =
     let same : h.items ≡ k.items = cc (h.found, k.found) in
-    sym (map-id xs) ∙ AllItems_same IsNameItem (λ n. n) IsNameItem_unique k.items xs ys (rw same at h.listed) k.listed ∙ map-id ys
+    sym (map-id xs) ∙ AllItems_same R (λ n. n) one k.items xs ys (rw same at h.listed) k.listed ∙ map-id ys
+
+pub HasFewNames_unique : (key : List ℕ) (ms : Members) (most : ℕ) (xs ys : List (List ℕ)) → HasFewNames key ms most xs → HasFewNames key ms most ys → xs ≡ ys
+HasFewNames_unique = HasFew_unique IsNameItem IsNameItem_unique
+
+-- a text says one need at most
+cut_unique : (star : Option ℕ) (text : List ℕ) (m n : Need) → IsNeedCut star text m → IsNeedCut star text n → m ≡ n
+cut_unique None text m n h k = same_need m n (h.1 ∙ sym k.1) (h.2 ∙ sym k.2)
+cut_unique (Some star) text m n h k = same_need m n (h.1 ∙ sym k.1) (h.2.value ∙ sym k.2.value)
+
+IsNeedItem_unique : (d : Data) (m n : Need) → IsNeedItem d m → IsNeedItem d n → m ≡ n
+IsNeedItem_unique d m n h k =
+    let same : h.text ≡ k.text = cc (h.found, k.found) in
+    cut_unique (position is_star k.text) k.text m n (subst (λ text. IsNeedText text m) same h.says) k.says
+
+pub HasFewNeeds_unique : (key : List ℕ) (ms : Members) (most : ℕ) (xs ys : List Need) → HasFewNeeds key ms most xs → HasFewNeeds key ms most ys → xs ≡ ys
+HasFewNeeds_unique = HasFew_unique IsNeedItem IsNeedItem_unique
+
+-- needs that texts say have units
+units_of_cut : (star : Option ℕ) (text : List ℕ) (need : Need) → IsNeedCut star text need → (1 ≤ need.units) × (need.units ≤ MAX_UNITS)
+units_of_cut None text need h = (omega (arith, h.2), omega (arith, h.2))
+units_of_cut (Some star) text need h = (h.2.some, h.2.few)
+
+pub needs_have_units : (vs : List Value) (needs : List Need) → AllItems IsNeedItem (items_view vs) needs → have_units needs ≡ true
+needs_have_units [] [] h = refl
+needs_have_units [] (need ∷ needs) h = absurd h
+needs_have_units (v ∷ vs) [] h = absurd h
+needs_have_units (v ∷ vs) (need ∷ needs) h =
+    let units = units_of_cut (position is_star h.0.text) h.0.text need h.0.says in
+    let some : nat_le 1 need.units ≡ true = grind (arith, nat_tests, units.0) in
+    let few : nat_le need.units MAX_UNITS ≡ true = grind (arith, nat_tests, units.1) in
+    rw (some, few) (needs_have_units vs needs h.1)
 
 -- where the table at a key stands for nothing
 pub HasTable_refused : {X : Type 0} (R : Members → X → Type 0) (key : List ℕ) (ms inner : Members) → option_and_then as_table (get_member key ms) ≡ Some inner

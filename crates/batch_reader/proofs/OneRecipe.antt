@@ -10,14 +10,14 @@ use Rattle.batch_recipe.specs.declared.quantity.Quantity.{Quantity}
 use Rattle.batch_recipe.specs.declared.recipe.Recipe.{Recipe}
 use Rattle.batch_reader.proofs.ActForms.{follows, runs, work_form, form, sound_along}
 use Rattle.batch_reader.proofs.Items.{HasTables_same}
-use Rattle.batch_reader.proofs.OneEntry.{HasName_unique, HasLabel_unique, HasNameOr_unique, HasChart_unique, HasFewNames_unique}
+use Rattle.batch_reader.proofs.OneEntry.{HasName_unique, HasLabel_unique, HasNameOr_unique, HasChart_unique, HasFewNames_unique, HasFewNeeds_unique}
 use Rattle.batch_reader.specs.Entries.{HasTables}
 use Rattle.batch_reader.specs.RecipeTables.{HasCourse, HasNeeds, IsQuantityTable, IsOutputTable, IsProcedureTable, IsUnitProcedureTable, IsOperationTable, IsPhaseTable}
 use Rattle.batch_reader.specs.RecipeDocument.{HasActs, IsRecipeTable}
 use Rattle.batch_reader.specs.SoundRecipe.{IsSoundRecipe}
 
 same_needs : (ms : Members) (a b : Act) → HasNeeds ms a → HasNeeds ms b → a.needs.items ≡ b.needs.items
-same_needs ms a b h k = HasFewNames_unique _ ms _ a.needs.items b.needs.items h k
+same_needs ms a b h k = HasFewNeeds_unique _ ms _ a.needs.items b.needs.items h k
 
 same_work : (ms : Members) (a b : Act) → HasCourse ms a → HasCourse ms b → work_form a.work ≡ work_form b.work
 same_work ms a b h k =

@@ -8,6 +8,8 @@ use Rattle.batch_text.specs.NameText.{IsName}
 use Rattle.batch_recipe.specs.Diagram.{Diagram}
 use Rattle.batch_grammar.specs.ChartGrammar.{IsChart, IsLabel}
 use Rattle.batch_grammar.specs.declared.reading.TheConstants.{MAX_CHART_LEN}
+use Rattle.batch_recipe.specs.declared.need.Need.{Need}
+use Rattle.batch_reader.specs.NeedText.{IsNeedText}
 
 -- each key of the table is one of these
 abbrev pub has_only_keys : List (List ℕ) → Members → Bool
@@ -18,6 +20,12 @@ has_only_keys known (member key d ms) = list_any (λ word. pointwise nat_eq word
 pub record IsNameItem (d : Data) (name : List ℕ) : Type 0 where
   pub text : as_str d ≡ Some name
   pub valid : IsName name
+
+-- the value is a text, which is the need
+pub record IsNeedItem (d : Data) (need : Need) : Type 0 where
+  pub text : List ℕ
+  pub found : as_str d ≡ Some text
+  pub says : IsNeedText text need
 
 -- the key has a text, which is the name
 pub record HasName (key : List ℕ) (ms : Members) (name : List ℕ) : Type 0 where
@@ -76,12 +84,20 @@ pub record HasNames (key : List ℕ) (ms : Members) (names : List (List ℕ)) : 
 abbrev pub items_at : List ℕ → Members → Option Items
 items_at key ms = option_map_or as_array (get_member key ms) (Some no_items)
 
--- the key has a list of at most so many texts, which are the names; where it is missing, there are none
-pub record HasFewNames (key : List ℕ) (ms : Members) (most : ℕ) (names : List (List ℕ)) : Type 0 where
+-- the key has a list of at most so many items, which say the values; where it is missing, there are none
+pub record HasFew {X : Type 0} (R : Data → X → Type 0) (key : List ℕ) (ms : Members) (most : ℕ) (values : List X) : Type 0 where
   pub items : Items
   pub found : items_at key ms ≡ Some items
-  pub listed : AllItems IsNameItem items names
-  pub few : length names ≤ most
+  pub listed : AllItems R items values
+  pub few : length values ≤ most
+
+-- texts that are names
+abbrev pub HasFewNames : List ℕ → Members → ℕ → List (List ℕ) → Type 0
+HasFewNames key ms most names = HasFew IsNameItem key ms most names
+
+-- texts that are needs
+abbrev pub HasFewNeeds : List ℕ → Members → ℕ → List Need → Type 0
+HasFewNeeds key ms most needs = HasFew IsNeedItem key ms most needs
 
 -- the key has a table that stands for x
 pub record HasTable {X : Type 0} (R : Members → X → Type 0) (key : List ℕ) (ms : Members) (x : X) : Type 0 where

@@ -1,3 +1,4 @@
+pub mod NeedText
 pub mod Entries
 pub mod Words
 pub mod Faults

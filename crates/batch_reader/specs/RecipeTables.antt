@@ -13,7 +13,7 @@ use Rattle.batch_recipe.specs.declared.header.Header.{Header}
 use Rattle.batch_recipe.specs.declared.header.TheConstants.{MAX_VERSION_LEN, MAX_TEXT_LEN}
 use Rattle.batch_recipe.specs.declared.quantity.Quantity.{Quantity}
 use Rattle.batch_recipe.specs.declared.scaling.TheConstants.{MAX_VALUE}
-use Rattle.batch_reader.specs.Entries.{HasName, HasLabel, HasNameOr, HasNumber, HasText, MayHaveText, HasChart, HasFewNames, IsTruth, has_only_keys}
+use Rattle.batch_reader.specs.Entries.{HasName, HasLabel, HasNameOr, HasNumber, HasText, MayHaveText, HasChart, HasFewNames, HasFewNeeds, IsTruth, has_only_keys}
 use Rattle.batch_reader.specs.declared.fault.TableKind.{TableKind}
 use Rattle.batch_reader.specs.declared.fault.TableKind.TheVariants.{UnitProcedure, Operation, Phase}
 
@@ -41,7 +41,7 @@ pub record IsOutputTable (ms : Members) (output : Name) : Type 0 where
 
 -- the table has the act's needs
 abbrev pub HasNeeds : Members → Act → Type 0
-HasNeeds ms a = HasFewNames (codes "needs") ms MAX_NEEDS a.needs.items
+HasNeeds ms a = HasFewNeeds (codes "needs") ms MAX_NEEDS a.needs.items
 
 -- the table has the chart that the act follows
 pub record HasCourse (ms : Members) (a : Act) : Type 0 where

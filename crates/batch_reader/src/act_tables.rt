@@ -9,6 +9,7 @@ ghost use Rattle.batch_reader.specs.Faults.{IsAt};
 use crate::chart_entry::{chart_at, chart_without_par_at};
 use crate::entries::{has_only_keys, member, name_at};
 use crate::fault::{EntryFault, Spot, TableFault, TableKind};
+use crate::needs::few_needs_at;
 use crate::recipe_entries::{few_names_at, label_at, name_or};
 use crate::tables::FromTable;
 use batch_recipe::{Act, MAX_NEEDS, MAX_VALUES, Work};
@@ -46,7 +47,7 @@ fn unit_procedure(alloc: Global, table: &Table, spot: Spot) -> Result<Act, Table
     }
     let name = label_at(alloc, table, "name", spot)?;
     let unit = name_at(alloc, table, "unit", spot)?;
-    let needs = few_names_at(alloc, table, "needs", MAX_NEEDS, spot)?;
+    let needs = few_needs_at(alloc, table, "needs", MAX_NEEDS, spot)?;
     let chart = chart_without_par_at(alloc, table, spot)?;
     Ok(Act {
         name,
@@ -66,7 +67,7 @@ fn operation(alloc: Global, table: &Table, spot: Spot) -> Result<Act, TableFault
         return Err(TableFault::Entry(spot, EntryFault::UnknownKey));
     }
     let name = label_at(alloc, table, "name", spot)?;
-    let needs = few_names_at(alloc, table, "needs", MAX_NEEDS, spot)?;
+    let needs = few_needs_at(alloc, table, "needs", MAX_NEEDS, spot)?;
     let chart = chart_at(alloc, table, spot)?;
     Ok(Act {
         name,
@@ -87,7 +88,7 @@ fn phase_step(alloc: Global, table: &Table, spot: Spot) -> Result<Act, TableFaul
     }
     let name = label_at(alloc, table, "name", spot)?;
     let phase = name_or(alloc, table, "runs", &name, spot)?;
-    let needs = few_names_at(alloc, table, "needs", MAX_NEEDS, spot)?;
+    let needs = few_needs_at(alloc, table, "needs", MAX_NEEDS, spot)?;
     let values = few_names_at(alloc, table, "values", MAX_VALUES, spot)?;
     Ok(Act {
         name,
@@ -124,7 +125,7 @@ fn procedure(alloc: Global, table: &Table, name: Name) -> Result<Act, TableFault
     if !has_only_keys(table, &["needs", "chart"]) {
         return Err(TableFault::Entry(PROCEDURE, EntryFault::UnknownKey));
     }
-    let needs = few_names_at(alloc, table, "needs", MAX_NEEDS, PROCEDURE)?;
+    let needs = few_needs_at(alloc, table, "needs", MAX_NEEDS, PROCEDURE)?;
     let chart = chart_at(alloc, table, PROCEDURE)?;
     Ok(Act {
         name,

@@ -13,6 +13,7 @@ mod entries;
 mod equipment;
 mod fault;
 mod names;
+mod needs;
 mod offered;
 mod recipe_checks;
 mod recipe_document;

@@ -1,5 +1,5 @@
--- What a batch of a cleared recipe waits for is a resource of the cell.
-use Rattle.std.proofs.Common.{◌≡◌, ⊎_elim, refl, subst, ℕ, ◌+◌, List, [], ◌∷◌, ◌++◌, Bool, true, false, ◌||◌, take, slice_get, IsTrue, inl, inr, bytes_eq}
+-- What a batch of a cleared recipe waits for is a resource of the cell, and no more of it than its capacity.
+use Rattle.std.proofs.Common.{◌≡◌, ⊎_elim, refl, subst, ℕ, ◌+◌, ◌≤◌, List, [], ◌∷◌, ◌++◌, Bool, true, false, ◌||◌, take, slice_get, IsTrue, inl, inr, bytes_eq}
 use Rattle.std.proofs.lemmas.Slice.Eq.{bytes_eq-Decides}
 use Rattle.std.specs.List.{list_any}
 use Rattle.batch_recipe.specs.Conditions.{Name, same_name}
@@ -15,6 +15,8 @@ use Rattle.batch_model.proofs.Members.{Has-split, Each-Has}
 use Rattle.batch_safety.proofs.Facts.{awaiting, performing, held_at, awaited_at, facts, facts_of_each}
 use Rattle.batch_safety.proofs.Members.{Each-left, Each-right}
 use Rattle.batch_safety.proofs.Ranking.{Has-get, held-awaiting, awaited-awaiting, lone-awaiting}
+use Rattle.batch_recipe.specs.declared.need.Need.{Need}
+use Rattle.batch_recipe.specs.Needs.{resources_of}
 
 pub among-Has : (names : List Name) (x : Name) → IsTrue (is_among names x) → Has names x
 among-Has [] x h = absurd cc
@@ -28,21 +30,25 @@ module _ (cell : Cell) (d : Documents) (rank : Ranking) where
   abbrev Clear : Part → Type 0
   Clear = IsClear cell d rank
 
-  abbrev IsKnown : Name → Type 0
-  IsKnown x = IsTrue (is_among cell.resources x)
+  -- a need is of a resource of the cell, and of no more units than this has
+  abbrev pub CanBeMet : Need → Type 0
+  CanBeMet x = IsTrue (is_among cell.resources x.resource) × (x.units ≤ d.capacity x.resource)
 
   mutual
-    pub awaited-known : (l : Level) (p : Place) (asked : List Name) (c : Tree) (r : Rest) → Each Clear (parts l p asked c) → IsRestOf c r → (q : Place) (x : Name)
-        → Has (facts r) (q, awaiting x) → IsKnown x
+    pub awaited-known : (l : Level) (p : Place) (asked : List Name) (c : Tree) (r : Rest) → Each Clear (parts l p asked c) → IsRestOf c r → (q : Place) (x : Need)
+        → Has (facts r) (q, awaiting x) → CanBeMet x
     awaited-known l p asked (act s w) (ready u v n) cl h q x k = absurd (held-awaiting u.place (take n u.needs) q x k)
     awaited-known l p asked (act s w) (asking u v n) cl h q x k =
-        Each-Has IsKnown s.needs x cl.0.known
-        (subst (λ z. Has z.needs x) h.0
+        let own : Has s.needs x =
+        subst (λ z. Has z.needs x) h.0
         (Has-get n u.needs x
         (⊎_elim (λ m. absurd (held-awaiting u.place (take n u.needs) q x m)) (awaited-awaiting u.place (slice_get u.needs n) q x)
-        (Has-split (held_at u.place (take n u.needs)) (awaited_at u.place (slice_get u.needs n)) (q, awaiting x) k))))
+        (Has-split (held_at u.place (take n u.needs)) (awaited_at u.place (slice_get u.needs n)) (q, awaiting x) k))) in (
+          Each-Has (λ z. IsTrue (is_among cell.resources z.resource)) s.needs x cl.0.known own,
+          Each-Has (λ z. z.units ≤ d.capacity z.resource) s.needs x cl.0.within own,
+        )
     awaited-known l p asked (act s w) (open_act u r) cl h q x k =
-        ⊎_elim (λ m. absurd (held-awaiting u.place u.needs q x m)) (awaited-known_below (below l) p (asked ++ s.needs) w r cl.1 h.1 q x)
+        ⊎_elim (λ m. absurd (held-awaiting u.place u.needs q x m)) (awaited-known_below (below l) p (asked ++ resources_of s.needs) w r cl.1 h.1 q x)
         (Has-split (held_at u.place u.needs) (facts r) (q, awaiting x) k)
     awaited-known l p asked (act s w) (live u y t) cl h q x k =
         ⊎_elim (λ m. absurd (held-awaiting u.place u.needs q x m)) (λ m. absurd (lone-awaiting u.place y q x m))
@@ -55,13 +61,13 @@ module _ (cell : Cell) (d : Documents) (rank : Ranking) where
     awaited-known l p asked c done cl h q x k = absurd k
     awaited-known l p asked _ _ cl h q x k = absurd h
 
-    pub awaited-known_below : (l : Level) (p : Place) (asked : List Name) (w : Task) (r : Rest) → Each Clear (parts_within l p asked w) → IsRestBelow w r → (q : Place) (x : Name)
-        → Has (facts r) (q, awaiting x) → IsKnown x
+    pub awaited-known_below : (l : Level) (p : Place) (asked : List Name) (w : Task) (r : Rest) → Each Clear (parts_within l p asked w) → IsRestBelow w r → (q : Place) (x : Need)
+        → Has (facts r) (q, awaiting x) → CanBeMet x
     awaited-known_below l p asked (runs y) r cl h q x k = absurd h
     awaited-known_below l p asked (follows name c) r cl h q x k = awaited-known l (child p 0) asked c r cl h q x k
 
     pub awaited-known_branch : (l : Level) (p : Place) (asked : List Name) (i : ℕ) (cs : Trees) (r : Rest) (ds : Trees) → Each Clear (parts_of_each l p asked i cs) → IsBranch cs r ds
-        → (q : Place) (x : Name) → Has (facts r) (q, awaiting x) → IsKnown x
+        → (q : Place) (x : Need) → Has (facts r) (q, awaiting x) → CanBeMet x
     awaited-known_branch l p asked i no_trees r ds cl h q x k = absurd h
     awaited-known_branch l p asked i (tree c cs) r ds cl (inl h) q x k =
         awaited-known l (child p i) asked c r (Each-left Clear (parts l (child p i) asked c) (parts_of_each l p asked (i + 1) cs) cl) h.0 q x k
@@ -69,7 +75,7 @@ module _ (cell : Cell) (d : Documents) (rank : Ranking) where
         awaited-known_branch l p asked (i + 1) cs r ds (Each-right Clear (parts l (child p i) asked c) (parts_of_each l p asked (i + 1) cs) cl) h q x k
 
     pub awaited-known_each : (l : Level) (p : Place) (asked : List Name) (i : ℕ) (cs : Trees) (rs : Rests) → Each Clear (parts_of_each l p asked i cs) → AreBranches cs rs
-        → (q : Place) (x : Name) → Has (facts_of_each rs) (q, awaiting x) → IsKnown x
+        → (q : Place) (x : Need) → Has (facts_of_each rs) (q, awaiting x) → CanBeMet x
     awaited-known_each l p asked i no_trees no_rests cl h q x k = absurd k
     awaited-known_each l p asked i (tree c cs) (rest r rs) cl h q x k =
         ⊎_elim (awaited-known l (child p i) asked c r (Each-left Clear (parts l (child p i) asked c) (parts_of_each l p asked (i + 1) cs) cl) h.0 q x)
@@ -79,7 +85,7 @@ module _ (cell : Cell) (d : Documents) (rank : Ranking) where
     awaited-known_each l p asked i (tree c cs) no_rests cl h q x k = absurd h
 
     pub awaited-known_chosen : (l : Level) (p : Place) (asked : List Name) (i : ℕ) (ch : Choices) (r : Rest) → Each Clear (parts_of_choices l p asked i ch) → IsChosen ch r
-        → (q : Place) (x : Name) → Has (facts r) (q, awaiting x) → IsKnown x
+        → (q : Place) (x : Need) → Has (facts r) (q, awaiting x) → CanBeMet x
     awaited-known_chosen l p asked i (otherwise c) r cl h q x k = awaited-known l (child p i) asked c r cl h q x k
     awaited-known_chosen l p asked i (choice e c ch) r cl (inl h) q x k =
         awaited-known l (child p i) asked c r (Each-left Clear (parts l (child p i) asked c) (parts_of_choices l p asked (i + 1) ch) cl) h q x k

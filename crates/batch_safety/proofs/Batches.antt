@@ -6,30 +6,34 @@ use Rattle.batch_model.specs.Lists.{Has}
 use Rattle.batch_recipe.specs.Conditions.{Name}
 use Rattle.batch_recipe.specs.Tree.{Place}
 use Rattle.batch_model.specs.Rest.{Rest, ready, asking, open_act, live, freeing, in_seq, in_par, in_loop, done, Rests, no_rests, rest, acts, acts_of_each, changed_at}
-use Rattle.batch_model.specs.Plant.{Batch, BatchAct, Plant, place_of, held_by, holders}
-use Rattle.batch_safety.proofs.Facts.{performing, Standing, held_at, awaited_at, facts, facts_of_each, Entry, entry, entries_of, entries, holders_among}
+use Rattle.batch_model.specs.Plant.{Batch, BatchAct, Share, Plant, place_of, held_by, holders}
+use Rattle.batch_safety.proofs.Facts.{performing, Standing, held_at, awaited_at, facts, facts_of_each, Entry, entry, entries_of, entries, holders_among, share}
 use Rattle.batch_model.proofs.Members.{Has-split, Has-flat_map}
 use Rattle.batch_safety.proofs.Members.{Has-map}
 use Rattle.batch_safety.proofs.Framing.{Frame, regroup}
 use Rattle.batch_safety.proofs.Entries.{nat_same, nat_self, nat_differs, holders-append}
+use Rattle.batch_recipe.specs.declared.need.Need.{Need}
 
 -- The model's holders are those among the entries
 
-held-holders : (n : ℕ) (q : Name) (p : Place) (names : List Name)
-    → map (λ r. let a : BatchAct = (n, p) in a) (filter (bytes_eq q) names) ≡ holders_among q (map (entry n) (held_at p names))
+abbrev of_resource : Name → Need → Bool
+of_resource q r = bytes_eq q r.resource
+
+held-holders : (n : ℕ) (q : Name) (p : Place) (needs : List Need)
+    → map (λ r. share (n, p) r.units) (filter (of_resource q) needs) ≡ holders_among q (map (entry n) (held_at p needs))
 held-holders n q p [] = refl
-held-holders n q p (r ∷ names) = go (bytes_eq q r) (held-holders n q p names)
+held-holders n q p (r ∷ needs) = go (bytes_eq q r.resource) (held-holders n q p needs)
   where
-    go : (b : Bool) → map (λ z. let a : BatchAct = (n, p) in a) (filter (bytes_eq q) names) ≡ holders_among q (map (entry n) (held_at p names))
-        → map (λ z. let a : BatchAct = (n, p) in a) (cond b (r ∷ filter (bytes_eq q) names) (filter (bytes_eq q) names))
-        ≡ elim b [ true ↦ (n, p) ∷ [] | false ↦ [] ] ++ holders_among q (map (entry n) (held_at p names))
-    go true h = ap (λ z. (n, p) ∷ z) h
+    go : (b : Bool) → map (λ z. share (n, p) z.units) (filter (of_resource q) needs) ≡ holders_among q (map (entry n) (held_at p needs))
+        → map (λ z. share (n, p) z.units) (cond b (r ∷ filter (of_resource q) needs) (filter (of_resource q) needs))
+        ≡ elim b [ true ↦ share (n, p) r.units ∷ [] | false ↦ [] ] ++ holders_among q (map (entry n) (held_at p needs))
+    go true h = ap (λ z. share (n, p) r.units ∷ z) h
     go false h = h
 
-abbrev holders_at : ℕ → Name → Rest → List BatchAct
-holders_at n q a = map (λ r. let z : BatchAct = (n, place_of a) in z) (filter (bytes_eq q) (held_by a))
+abbrev holders_at : ℕ → Name → Rest → List Share
+holders_at n q a = map (λ r. share (n, place_of a) r.units) (filter (of_resource q) (held_by a))
 
-awaited-holders : (n : ℕ) (q : Name) (p : Place) (o : Option Name) → holders_among q (map (entry n) (awaited_at p o)) ≡ []
+awaited-holders : (n : ℕ) (q : Name) (p : Place) (o : Option Need) → holders_among q (map (entry n) (awaited_at p o)) ≡ []
 awaited-holders n q p None = refl
 awaited-holders n q p (Some r) = refl
 

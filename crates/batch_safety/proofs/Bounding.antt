@@ -1,15 +1,15 @@
 -- Acts that stand at their nodes ask for needs that they have, and free needs that they have.
 use Rattle.std.proofs.Common.{◌≡◌, refl, ℕ, zero, suc, ◌<◌, ◌≤◌, arith, List, [], ◌∷◌, slice_get, Some, length, inl, inr}
-use Rattle.batch_recipe.specs.Conditions.{Name}
 use Rattle.batch_recipe.specs.Tree.{Tree, act, seq, par, sel, loop, Task, runs, follows, Trees, no_trees, tree, Choices, otherwise, choice}
 use Rattle.batch_model.specs.Rest.{Rest, ready, asking, open_act, live, freeing, in_seq, in_par, in_loop, done, Rests, no_rests, rest}
 use Rattle.batch_model.specs.Standing.{IsRestOf, IsRestBelow, IsBranch, AreBranches, IsChosen}
+use Rattle.batch_recipe.specs.declared.need.Need.{Need}
 
 abbrev mutual
   -- an act that asks asks for one of its needs, and one that frees holds one of them
   pub IsBounded : Rest → Type 0
   IsBounded (ready s w k) = Unit {0}
-  IsBounded (asking s w k) = (r : Name) × (slice_get s.needs k ≡ Some r)
+  IsBounded (asking s w k) = (r : Need) × (slice_get s.needs k ≡ Some r)
   IsBounded (open_act s r) = IsBounded r
   IsBounded (live s x t) = Unit {0}
   IsBounded (freeing s k) = (0 < k) × (k ≤ length s.needs)
@@ -22,7 +22,7 @@ abbrev mutual
   AreBounded no_rests = Unit {0}
   AreBounded (rest r rs) = IsBounded r × AreBounded rs
 
-get-below : (k : ℕ) (names : List Name) → k < length names → (r : Name) × (slice_get names k ≡ Some r)
+get-below : (k : ℕ) (names : List Need) → k < length names → (r : Need) × (slice_get names k ≡ Some r)
 get-below k [] h = absurd (omega arith)
 get-below zero (x ∷ names) h = (x, refl)
 get-below (suc k) (x ∷ names) h = get-below k names (omega arith)

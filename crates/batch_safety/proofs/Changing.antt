@@ -1,16 +1,16 @@
 -- One act of one batch changes: what each kind of change keeps.
-use Rattle.std.proofs.Common.{◌≡◌, ◌⊎◌, ⊎_elim, refl, sym, ◌∙◌, ap, subst, subst₂, ℕ, suc, ◌+◌, ◌≤◌, arith, List, [], ◌∷◌, ◌++◌, Bool, true, false, map, Option, Some, None, inl, inr, length, bytes_eq, append-nil}
-use Rattle.std.proofs.lemmas.List.{map-append, length-append}
+use Rattle.std.proofs.Common.{◌≡◌, ◌⊎◌, ⊎_elim, refl, sym, ◌∙◌, ap, subst, subst₂, ℕ, ◌+◌, ◌≤◌, arith, List, [], ◌∷◌, ◌++◌, Bool, true, false, map, Option, Some, None, inl, inr, bytes_eq, append-nil}
+use Rattle.std.proofs.lemmas.List.{map-append}
 use Rattle.std.proofs.lemmas.List.Sums.{fold-append}
 use Rattle.batch_matrix.specs.declared.state.State.{State}
 use Rattle.batch_model.specs.Lists.{Has}
 use Rattle.batch_recipe.specs.Conditions.{Name, ValueList}
 use Rattle.batch_recipe.specs.Tree.{Place, Phase}
 use Rattle.batch_model.specs.Rest.{Rest, advance, changed_at}
-use Rattle.batch_model.specs.Plant.{Documents, Batch, BatchAct, Plant, place_of}
+use Rattle.batch_model.specs.Plant.{Documents, Batch, BatchAct, Share, units_in, Plant, place_of}
 use Rattle.batch_model.specs.Runs.{Out}
 use Rattle.batch_model.specs.Records.{without, holders_after, holders_told, waiters_after, waiters_told, Active, active_after, active_told, state_after, state_told}
-use Rattle.batch_safety.proofs.Facts.{Fact, holding, awaiting, performing, Standing, held_at, facts, Entry, entry, entries, holders_among}
+use Rattle.batch_safety.proofs.Facts.{Fact, holding, awaiting, performing, Standing, held_at, facts, Entry, entry, entries, holders_among, need, share}
 use Rattle.batch_model.specs.Cleared.{Ranking}
 use Rattle.batch_safety.proofs.ClearedDown.{IsClearedDown}
 use Rattle.batch_model.proofs.Members.{Has-split, Has-left, Has-right}
@@ -18,11 +18,12 @@ use Rattle.batch_safety.proofs.Members.{Has-map}
 use Rattle.batch_safety.proofs.Ranking.{holding-performing, holding-awaiting}
 use Rattle.batch_safety.proofs.Reaching.{advance-facts}
 use Rattle.batch_safety.proofs.Framing.{Frame}
-use Rattle.batch_safety.proofs.Entries.{Agrees, Has-holders, holders-append, agrees-more, agrees-less, length-frame, Has-frame, frame-front, frame-middle, frame-back, name_self}
+use Rattle.batch_safety.proofs.Entries.{Agrees, Has-holders, holders-append, agrees-more, agrees-less, IsOnce, NoneBy, units-append, units-frame, units-one, Has-frame, frame-front, frame-middle, frame-back, name_self}
 use Rattle.batch_safety.proofs.Batches.{NumbersDiffer, only, Has-only, plant-frame, AreOthers}
 use Rattle.batch_safety.proofs.Invariant.{IsFitting, IsSound, IsKept}
 use Rattle.batch_model.specs.Standing.{IsStanding}
 use Rattle.batch_safety.proofs.Invariant.{numbers-of}
+use Rattle.batch_recipe.specs.declared.need.Need.{Need}
 
 pub told-holders : (outs : List Out) (o : Out) (q : Name) → holders_told (outs ++ o ∷ []) q ≡ holders_after q (holders_told outs q) o
 told-holders outs o q = fold-append (holders_after q) [] outs (o ∷ [])
@@ -37,32 +38,34 @@ pub told-state : (outs : List Out) (o : Out) (n : ℕ) → state_told (outs ++ o
 told-state outs o n = fold-append (state_after n) None outs (o ∷ [])
 
 -- the plant in which g has changed batch n and the lines are these
-abbrev pub changed_plant : Plant → ℕ → (Batch → Batch) → (Name → List BatchAct) → Plant
+abbrev pub changed_plant : Plant → ℕ → (Batch → Batch) → (Name → List Share) → Plant
 changed_plant s n g line = record s { batches = map (only n g) s.batches; line = line }
 
 module _ (d : Documents) (rank : Ranking) (outs : List Out) (s : Plant) (sd : IsStanding d s) (k : IsKept d rank outs s) (b : Batch) (i : Has s.batches b)
   where
     -- what is left to show when one batch changes and one line is told of it
     pub kept-after :
-        (o : Out) (g : Batch → Batch) (line : Name → List BatchAct)
+        (o : Out) (g : Batch → Batch) (line : Name → List Share)
         → (g b).number ≡ b.number
         → IsSound d rank (g b)
         → ((n : ℕ) (old : Option State) → (n ≡ b.number → ⊥) → state_after n old o ≡ old)
         → state_after b.number (Some b.state) o ≡ Some (g b).state
         → ((q : Name) → Agrees (holders_after q (holders_told outs q) o) (holders_among q (entries (map (only b.number g) s.batches))))
-        → ((q : Name) → length (holders_among q (entries (map (only b.number g) s.batches))) ≤ d.capacity q)
+        → ((q : Name) → units_in (holders_among q (entries (map (only b.number g) s.batches))) ≤ d.capacity q)
         → ((q : Name) → waiters_after q (s.line q) o ≡ line q)
-        → ((q : Name) (a : BatchAct) → Has (line q) a → Has (entries (map (only b.number g) s.batches)) (a, awaiting q))
+        → ((q : Name) → IsOnce (line q))
+        → ((q : Name) (a : Share) → Has (line q) a → Has (entries (map (only b.number g) s.batches)) (a.act, awaiting (need q a.units)))
         → ((x : Active) → Has (active_after (active_told outs) o) x → Has (entries (map (only b.number g) s.batches)) (x.act, performing x.phase))
-        → ((q : Name) (a : BatchAct) → Has (entries (map (only b.number g) s.batches)) (a, awaiting q) → Has (line q) a)
+        → ((q : Name) (a : Share) → Has (entries (map (only b.number g) s.batches)) (a.act, awaiting (need q a.units)) → Has (line q) a)
         → ((a : BatchAct) (x : Phase) → Has (entries (map (only b.number g) s.batches)) (a, performing x) → Has (active_after (active_told outs) o) (record { act = a; phase = x }))
         → IsKept d rank (outs ++ o ∷ []) (changed_plant s b.number g line)
-    kept-after o g line num sound others own held within lines asked active listed shown =
+    kept-after o g line num sound others own held within lines once asked active listed shown =
         record {
           sound = λ c h. ⊎_elim (λ e. subst (IsSound d rank) (sym e) sound) (λ m. k.sound c m.0) (Has-only s.next_number s.batches b g c (numbers-of d s sd) i h);
           held = λ q. subst (λ z. Agrees z (holders_among q (entries (map (only b.number g) s.batches)))) (sym (told-holders outs o q)) (held q);
           within = within;
           lines = λ q. told-waiters outs o q ∙ ap (λ z. waiters_after q z o) (k.lines q) ∙ lines q;
+          once = once;
           asked = asked;
           active = λ x h. active x (subst (λ z. Has z x) (told-active outs o) h);
           listed = listed;
@@ -113,7 +116,7 @@ tail_at p nothing = []
 tail_at p (also x) = (p, x) ∷ []
 
 -- the entries of the whole plant, with the facts of one act apart
-pub record IsApart (n : ℕ) (p : Place) (names : List Name) (t u : Tail) (before after : List Entry) : Type 0 where
+pub record IsApart (n : ℕ) (p : Place) (names : List Need) (t u : Tail) (before after : List Entry) : Type 0 where
   pub front : List Entry
   pub back : List Entry
   pub was : before ≡ framed front (map (entry n) (held_at p names)) (map (entry n) (tail_at p t)) back
@@ -121,30 +124,34 @@ pub record IsApart (n : ℕ) (p : Place) (names : List Name) (t u : Tail) (befor
   pub not_front : AreOthers (n, p) front
   pub not_back : AreOthers (n, p) back
 
-held-entry : (n : ℕ) (p : Place) (names : List Name) (e : Entry) → Has (map (entry n) (held_at p names)) e → (r : Name) × Has names r × (e ≡ ((n, p), holding r))
+held-entry : (n : ℕ) (p : Place) (names : List Need) (e : Entry) → Has (map (entry n) (held_at p names)) e → (r : Need) × Has names r × (e ≡ ((n, p), holding r))
 held-entry n p names e h =
     let j = Has-map (entry n) (held_at p names) e h in
     let m = Has-map (λ r. let z : Standing = (p, holding r) in z) names j.0 j.1 in
     (m.0, m.1, sym j.2 ∙ sym (ap (entry n) m.2))
 
-tail-holder : (n : ℕ) (p : Place) (q : Name) → holders_among q (map (entry n) (tail_at p (also (holding q)))) ≡ (n, p) ∷ []
-tail-holder n p q = go (bytes_eq q q) (name_self q)
+tail-holder : (n : ℕ) (p : Place) (r : Need) → holders_among r.resource (map (entry n) (tail_at p (also (holding r)))) ≡ share (n, p) r.units ∷ []
+tail-holder n p r = go (bytes_eq r.resource r.resource) (name_self r.resource)
   where
-    go : (c : Bool) → c ≡ true → ◌++◌ {A = BatchAct} (elim c [ true ↦ (n, p) ∷ [] | false ↦ [] ]) [] ≡ (n, p) ∷ []
+    go : (c : Bool) → c ≡ true → ◌++◌ {A = Share} (elim c [ true ↦ share (n, p) r.units ∷ [] | false ↦ [] ]) [] ≡ share (n, p) r.units ∷ []
     go true m = refl
     go false m = absurd cc
 
-pub tail-no_holder : (n : ℕ) (p : Place) (q r : Name) → bytes_eq q r ≡ false → holders_among q (map (entry n) (tail_at p (also (holding r)))) ≡ []
-tail-no_holder n p q r e = go (bytes_eq q r) e
+pub tail-no_holder : (n : ℕ) (p : Place) (q : Name) (r : Need) → bytes_eq q r.resource ≡ false → holders_among q (map (entry n) (tail_at p (also (holding r)))) ≡ []
+tail-no_holder n p q r e = go (bytes_eq q r.resource) e
   where
-    go : (c : Bool) → c ≡ false → ◌++◌ {A = BatchAct} (elim c [ true ↦ (n, p) ∷ [] | false ↦ [] ]) [] ≡ []
+    go : (c : Bool) → c ≡ false → ◌++◌ {A = Share} (elim c [ true ↦ share (n, p) r.units ∷ [] | false ↦ [] ]) [] ≡ []
     go true m = absurd cc
     go false m = refl
 
-same_held : (y z : Name) → holding y ≡ holding z → y ≡ z
+same_held : (y z : Need) → holding y ≡ holding z → y ≡ z
 same_held y z q = cc
 
-module _ (n : ℕ) (p : Place) (names : List Name) (t u : Tail) (before after : List Entry) (x : IsApart n p names t u before after) where
+-- none of the needs is of the resource of r
+abbrev pub Lacks : List Need → Need → Type 0
+Lacks needs r = (x : Need) → Has needs x → x.resource ≡ r.resource → ⊥
+
+module _ (n : ℕ) (p : Place) (names : List Need) (t u : Tail) (before after : List Entry) (x : IsApart n p names t u before after) where
   -- an entry stays, or it was the act's tail
   pub stays : (e : Entry) → Has before e → Has after e ⊎ Has (map (entry n) (tail_at p t)) e
   stays e h =
@@ -167,9 +174,9 @@ module _ (n : ℕ) (p : Place) (names : List Name) (t u : Tail) (before after : 
   -- where neither tail holds anything the holders stay the same
   pub same-holders : (q : Name) → holders_among q (map (entry n) (tail_at p t)) ≡ [] → holders_among q (map (entry n) (tail_at p u)) ≡ [] → holders_among q after ≡ holders_among q before
   same-holders q e g =
-      let f : List BatchAct = holders_among q x.front in
-      let h : List BatchAct = holders_among q (map (entry n) (held_at p names)) in
-      let b : List BatchAct = holders_among q x.back in
+      let f : List Share = holders_among q x.front in
+      let h : List Share = holders_among q (map (entry n) (held_at p names)) in
+      let b : List Share = holders_among q x.back in
       ap (holders_among q) x.is ∙ holders-framed q x.front (map (entry n) (held_at p names)) (map (entry n) (tail_at p u)) x.back
       ∙ ap (λ z. f ++ ((h ++ z) ++ b)) (g ∙ sym e)
       ∙ sym (ap (holders_among q) x.was ∙ holders-framed q x.front (map (entry n) (held_at p names)) (map (entry n) (tail_at p t)) x.back)
@@ -181,61 +188,66 @@ module _ (n : ℕ) (p : Place) (names : List Name) (t u : Tail) (before after : 
   pub holders-now : (q : Name) → holders_among q after ≡ holders_among q x.front ++ ((holders_among q (map (entry n) (held_at p names)) ++ holders_among q (map (entry n) (tail_at p u))) ++ holders_among q x.back)
   holders-now q = ap (holders_among q) x.is ∙ holders-framed q x.front (map (entry n) (held_at p names)) (map (entry n) (tail_at p u)) x.back
 
-  not_holder : (q : Name) (es : List Entry) → AreOthers (n, p) es → Has (holders_among q es) (n, p) → ⊥
-  not_holder q es o h = o ((n, p), holding q) (Has-holders q es (n, p) h) refl
+  not_holder : (q : Name) (es : List Entry) → AreOthers (n, p) es → NoneBy (n, p) (holders_among q es)
+  not_holder q es o y h e = o (y.act, holding (need q y.units)) (Has-holders q es y h) e
+
+  -- what the act holds beside its tail is of other resources
+  not_own : (r : Need) → Lacks names r → NoneBy (n, p) (holders_among r.resource (map (entry n) (held_at p names)))
+  not_own r d y m e =
+      let w = held-entry n p names (y.act, holding (need r.resource y.units)) (Has-holders r.resource (map (entry n) (held_at p names)) y m) in
+      d w.0 w.1 (ap (λ z. z.resource) (sym (same_held (need r.resource y.units) w.0 (ap (λ z. z.1) w.2))))
 
   -- the tail was a share of r, and it is given back
-  pub agrees-released : (r : Name) → t ≡ also (holding r) → u ≡ nothing → (Has names r → ⊥) → (told : List BatchAct) → Agrees told (holders_among r before)
-      → Agrees (without (n, p) told) (holders_among r after) × (length (holders_among r after) ≤ length (holders_among r before))
+  pub agrees-released : (r : Need) → t ≡ also (holding r) → u ≡ nothing → Lacks names r → (told : List Share) → Agrees told (holders_among r.resource before)
+      → Agrees (without (n, p) told) (holders_among r.resource after) × (units_in (holders_among r.resource after) ≤ units_in (holders_among r.resource before))
   agrees-released r e g d told a =
-      let f : List BatchAct = holders_among r x.front in
-      let h : List BatchAct = holders_among r (map (entry n) (held_at p names)) in
-      let b : List BatchAct = holders_among r x.back in
-      let was : holders_among r before ≡ f ++ ((h ++ (n, p) ∷ []) ++ b)
-      = holders-before r ∙ ap (λ z. f ++ ((h ++ holders_among r (map (entry n) (tail_at p z))) ++ b)) e ∙ ap (λ z. f ++ ((h ++ z) ++ b)) (tail-holder n p r) in
-      let is : holders_among r after ≡ f ++ (h ++ b)
-      = holders-now r ∙ ap (λ z. f ++ ((h ++ holders_among r (map (entry n) (tail_at p z))) ++ b)) g ∙ ap (λ z. f ++ (z ++ b)) (append-nil h) in
-      let l₁ : length (f ++ ((h ++ (n, p) ∷ []) ++ b)) ≡ length f + (length (h ++ (n, p) ∷ []) + length b) = length-frame f (h ++ (n, p) ∷ []) b in
-      let l₂ : length (f ++ (h ++ b)) ≡ length f + (length h + length b) = length-frame f h b in
-      let l₃ : length (h ++ (n, p) ∷ []) ≡ length h + 1 = length-append h ((n, p) ∷ []) in
-      let shorter : length (f ++ (h ++ b)) ≤ length (f ++ ((h ++ (n, p) ∷ []) ++ b)) = omega arith in (
+      let f : List Share = holders_among r.resource x.front in
+      let h : List Share = holders_among r.resource (map (entry n) (held_at p names)) in
+      let b : List Share = holders_among r.resource x.back in
+      let o : Share = share (n, p) r.units in
+      let was : holders_among r.resource before ≡ f ++ ((h ++ o ∷ []) ++ b)
+      = holders-before r.resource ∙ ap (λ z. f ++ ((h ++ holders_among r.resource (map (entry n) (tail_at p z))) ++ b)) e ∙ ap (λ z. f ++ ((h ++ z) ++ b)) (tail-holder n p r) in
+      let is : holders_among r.resource after ≡ f ++ (h ++ b)
+      = holders-now r.resource ∙ ap (λ z. f ++ ((h ++ holders_among r.resource (map (entry n) (tail_at p z))) ++ b)) g ∙ ap (λ z. f ++ (z ++ b)) (append-nil h) in
+      let l₁ : units_in (f ++ ((h ++ o ∷ []) ++ b)) ≡ units_in f + (units_in (h ++ o ∷ []) + units_in b) = units-frame f (h ++ o ∷ []) b in
+      let l₂ : units_in (f ++ (h ++ b)) ≡ units_in f + (units_in h + units_in b) = units-frame f h b in
+      let l₃ : units_in (h ++ o ∷ []) ≡ units_in h + units_in (o ∷ []) = units-append h (o ∷ []) in
+      let smaller : units_in (f ++ (h ++ b)) ≤ units_in (f ++ ((h ++ o ∷ []) ++ b)) = omega arith in (
         subst (Agrees (without (n, p) told)) (sym is)
-            (agrees-less (n, p) told f h b (subst (Agrees told) was a) (not_holder r x.front x.not_front)
-            (λ m. (let w = held-entry n p names ((n, p), holding r) (Has-holders r (map (entry n) (held_at p names)) (n, p) m) in
-            d (subst (Has names) (sym (same_held r w.0 (ap (λ z. z.1) w.2))) w.1)))
-            (not_holder r x.back x.not_back)),
-        subst₂ (λ y z. length y ≤ length z) (sym is) (sym was) shorter,
+            (agrees-less o told f h b (subst (Agrees told) was a) (not_holder r.resource x.front x.not_front) (not_own r d) (not_holder r.resource x.back x.not_back)),
+        subst₂ (λ y z. units_in y ≤ units_in z) (sym is) (sym was) smaller,
       )
 
   -- the tail was an ask for r, and it is granted
-  pub agrees-granted : (r : Name) → t ≡ also (awaiting r) → u ≡ also (holding r) → (Has names r → ⊥) → (told : List BatchAct) → Agrees told (holders_among r before)
-      → Agrees (told ++ (n, p) ∷ []) (holders_among r after) × (length (holders_among r after) ≡ suc (length (holders_among r before)))
+  pub agrees-granted : (r : Need) → t ≡ also (awaiting r) → u ≡ also (holding r) → Lacks names r → (told : List Share) → Agrees told (holders_among r.resource before)
+      → Agrees (told ++ share (n, p) r.units ∷ []) (holders_among r.resource after)
+      × (units_in (holders_among r.resource after) ≡ units_in (holders_among r.resource before) + r.units)
   agrees-granted r e g d told a =
-      let f : List BatchAct = holders_among r x.front in
-      let h : List BatchAct = holders_among r (map (entry n) (held_at p names)) in
-      let b : List BatchAct = holders_among r x.back in
-      let was : holders_among r before ≡ f ++ (h ++ b)
-      = holders-before r ∙ ap (λ z. f ++ ((h ++ holders_among r (map (entry n) (tail_at p z))) ++ b)) e ∙ ap (λ z. f ++ (z ++ b)) (append-nil h) in
-      let is : holders_among r after ≡ f ++ ((h ++ (n, p) ∷ []) ++ b)
-      = holders-now r ∙ ap (λ z. f ++ ((h ++ holders_among r (map (entry n) (tail_at p z))) ++ b)) g ∙ ap (λ z. f ++ ((h ++ z) ++ b)) (tail-holder n p r) in
-      let l₁ : length (f ++ ((h ++ (n, p) ∷ []) ++ b)) ≡ length f + (length (h ++ (n, p) ∷ []) + length b) = length-frame f (h ++ (n, p) ∷ []) b in
-      let l₂ : length (f ++ (h ++ b)) ≡ length f + (length h + length b) = length-frame f h b in
-      let l₃ : length (h ++ (n, p) ∷ []) ≡ length h + 1 = length-append h ((n, p) ∷ []) in
-      let longer : length (f ++ ((h ++ (n, p) ∷ []) ++ b)) ≡ suc (length (f ++ (h ++ b))) = omega arith in (
-        subst (Agrees (told ++ (n, p) ∷ [])) (sym is) (agrees-more (n, p) told f h b (subst (Agrees told) was a) (not_holder r x.front x.not_front)
-            (λ m. (let w = held-entry n p names ((n, p), holding r) (Has-holders r (map (entry n) (held_at p names)) (n, p) m) in
-            d (subst (Has names) (sym (same_held r w.0 (ap (λ z. z.1) w.2))) w.1)))
-            (not_holder r x.back x.not_back)),
-        ap (λ z. length z) is ∙ longer ∙ ap (λ z. suc (length z)) (sym was),
+      let f : List Share = holders_among r.resource x.front in
+      let h : List Share = holders_among r.resource (map (entry n) (held_at p names)) in
+      let b : List Share = holders_among r.resource x.back in
+      let o : Share = share (n, p) r.units in
+      let was : holders_among r.resource before ≡ f ++ (h ++ b)
+      = holders-before r.resource ∙ ap (λ z. f ++ ((h ++ holders_among r.resource (map (entry n) (tail_at p z))) ++ b)) e ∙ ap (λ z. f ++ (z ++ b)) (append-nil h) in
+      let is : holders_among r.resource after ≡ f ++ ((h ++ o ∷ []) ++ b)
+      = holders-now r.resource ∙ ap (λ z. f ++ ((h ++ holders_among r.resource (map (entry n) (tail_at p z))) ++ b)) g ∙ ap (λ z. f ++ ((h ++ z) ++ b)) (tail-holder n p r) in
+      let l₁ : units_in (f ++ ((h ++ o ∷ []) ++ b)) ≡ units_in f + (units_in (h ++ o ∷ []) + units_in b) = units-frame f (h ++ o ∷ []) b in
+      let l₂ : units_in (f ++ (h ++ b)) ≡ units_in f + (units_in h + units_in b) = units-frame f h b in
+      let l₃ : units_in (h ++ o ∷ []) ≡ units_in h + units_in (o ∷ []) = units-append h (o ∷ []) in
+      let l₄ : units_in (o ∷ []) ≡ r.units = units-one o in
+      let more : units_in (f ++ ((h ++ o ∷ []) ++ b)) ≡ units_in (f ++ (h ++ b)) + r.units = omega arith in (
+        subst (Agrees (told ++ o ∷ [])) (sym is) (agrees-more o told f h b (subst (Agrees told) was a) (not_holder r.resource x.front x.not_front) (not_own r d)
+            (not_holder r.resource x.back x.not_back)),
+        ap (λ z. units_in z) is ∙ more ∙ ap (λ z. units_in z + r.units) (sym was),
       )
 
 -- the same, seen from after the change
-pub back_again : (n : ℕ) (p : Place) (names : List Name) (t u : Tail) (before after : List Entry) → IsApart n p names t u before after → IsApart n p names u t after before
+pub back_again : (n : ℕ) (p : Place) (names : List Need) (t u : Tail) (before after : List Entry) → IsApart n p names t u before after → IsApart n p names u t after before
 back_again n p names t u before after x = record { front = x.front; back = x.back; was = x.is; is = x.was; not_front = x.not_front; not_back = x.not_back }
 
 -- an act whose facts are holdings awaits nothing
-pub not_awaiting : (n : ℕ) (p : Place) (names : List Name) (r : Name) (u : Tail) (before after : List Entry) → IsApart n p names (also (holding r)) u before after
-    → (a : BatchAct) (y : Name) → Has before (a, awaiting y) → a ≡ (n, p) → ⊥
+pub not_awaiting : (n : ℕ) (p : Place) (names : List Need) (r : Need) (u : Tail) (before after : List Entry) → IsApart n p names (also (holding r)) u before after
+    → (a : BatchAct) (y : Need) → Has before (a, awaiting y) → a ≡ (n, p) → ⊥
 not_awaiting n p names r u before after x a y h e =
     ⊎_elim
     (λ m. ⊎_elim (λ z. x.not_front (a, awaiting y) z e)
@@ -243,8 +255,18 @@ not_awaiting n p names r u before after x a y h e =
     (λ m. ⊎_elim (λ q. holding-awaiting r y (ap (λ v. v.1) q)) (λ q. q) m)
     (split-framed x.front (map (entry n) (held_at p names)) (map (entry n) (tail_at p (also (holding r)))) x.back (a, awaiting y) (subst (λ z. Has z (a, awaiting y)) x.was h))
 
+-- an act whose facts are holdings, and no more, awaits nothing
+pub not_yet_awaiting : (n : ℕ) (p : Place) (names : List Need) (u : Tail) (before after : List Entry) → IsApart n p names nothing u before after
+    → (a : BatchAct) (y : Need) → Has before (a, awaiting y) → a ≡ (n, p) → ⊥
+not_yet_awaiting n p names u before after x a y h e =
+    ⊎_elim
+    (λ m. ⊎_elim (λ z. x.not_front (a, awaiting y) z e)
+    (λ o. ⊎_elim (λ z. (let w = held-entry n p names (a, awaiting y) z in holding-awaiting w.0 y (sym (ap (λ v. v.1) w.2)))) (λ z. x.not_back (a, awaiting y) z e) o) m)
+    (λ m. m)
+    (split-framed x.front (map (entry n) (held_at p names)) [] x.back (a, awaiting y) (subst (λ z. Has z (a, awaiting y)) x.was h))
+
 -- an act whose facts are holdings performs nothing
-pub not_performing : (n : ℕ) (p : Place) (names : List Name) (u : Tail) (before after : List Entry) → IsApart n p names nothing u before after
+pub not_performing : (n : ℕ) (p : Place) (names : List Need) (u : Tail) (before after : List Entry) → IsApart n p names nothing u before after
     → (a : BatchAct) (y : Phase) → Has before (a, performing y) → a ≡ (n, p) → ⊥
 not_performing n p names u before after x a y h e =
     ⊎_elim
@@ -267,11 +289,11 @@ pub change-sound : (d : Documents) (rank : Ranking) (b : Batch) (a : Rest) (g : 
 change-sound d rank b a g f vs s c fits = record { cleared = subst (IsClearedDown d rank) (sym c.recipe) s.cleared; fits = fits }
 
 -- the facts of the act before and after
-pub record Becomes (a : Rest) (f : Rest → Rest) (names : List Name) (t u : Tail) : Type 0 where
+pub record Becomes (a : Rest) (f : Rest → Rest) (names : List Need) (t u : Tail) : Type 0 where
   pub was : facts a ≡ held_at (place_of a) names ++ tail_at (place_of a) t
   pub is : facts (f a) ≡ held_at (place_of a) names ++ tail_at (place_of a) u
 
-pub apart : (next : ℕ) (bs : List Batch) (b : Batch) (a : Rest) (g : Batch → Batch) (f : Rest → Rest) (vs : ValueList) (names : List Name) (t u : Tail)
+pub apart : (next : ℕ) (bs : List Batch) (b : Batch) (a : Rest) (g : Batch → Batch) (f : Rest → Rest) (vs : ValueList) (names : List Need) (t u : Tail)
     → NumbersDiffer next bs → Has bs b → Frame b.rest a → IsChange b a g f vs → Becomes a f names t u
     → IsApart b.number (place_of a) names t u (entries bs) (entries (map (only b.number g) bs))
 apart next bs b a g f vs names t u h i fr c e =

@@ -13,8 +13,10 @@ use Rattle.batch_model.proofs.Parts.{parts-nodes}
 use Rattle.batch_safety.specs.Procedures.{IsOfLevel, IsActOf, AreOfLevel, AreChoicesOf, HasLevels, IsProcedure}
 use Rattle.batch_safety.specs.Premises.{AreDocuments}
 use Rattle.batch_safety.proofs.ClearedDown.{RunsInUnits, RunsInUnitsBelow, RunInUnits, RunSideBySide, ChoicesRunInUnits, AreApart, IsOfferedPhase, IsClearedDown, AreClearedDown}
-use Rattle.batch_safety.proofs.Members.{Each-left, Each-right, Each-image}
+use Rattle.batch_safety.proofs.Members.{Each-left, Each-right, Each-image, map-Has}
 use Rattle.batch_safety.proofs.Ways.{paths-down}
+use Rattle.batch_recipe.specs.declared.need.Need.{Need}
+use Rattle.batch_recipe.specs.Needs.{one_unit, resources_of}
 
 -- Phases run on the unit of their unit procedure
 
@@ -87,7 +89,7 @@ different a b e q = no_both (bytes_eq a b) ((bytes_eq-Decides a b).1 q) e
     no_both true u v = cc
     no_both false u v = cc
 
-branches-apart : (above : List Name) (xs ys : List Phase) → RunApart xs ys → AreApart above xs ys
+branches-apart : (above : List Need) (xs ys : List Phase) → RunApart xs ys → AreApart above xs ys
 branches-apart above xs ys h x y k m u same =
     different x.name y.name (Each-Has (λ y. same_name x.name y.name ≡ false) ys y (Each-Has (λ x. Each (λ y. same_name x.name y.name ≡ false) ys) xs x h k) m) same.1
 
@@ -98,9 +100,9 @@ module _ (cell : Cell) (d : Documents) (rank : Ranking) where
   -- In an operation: all runs on the unit, which is needed above
 
   mutual
-    in-operation : (unit : Name) (p : Place) (asked above : List Name) (t : Tree) → Has above unit → IsOfLevel in_operation unit t
+    in-operation : (unit : Name) (p : Place) (asked : List Name) (above : List Need) (t : Tree) → Has above (one_unit unit) → IsOfLevel in_operation unit t
         → Each Clear (parts in_operation p asked t) → RunsInUnits above t
-    in-operation unit p asked above (act s (runs x)) k h c = subst (Has above) (sym h) k
+    in-operation unit p asked above (act s (runs x)) k h c = subst (λ z. Has above (one_unit z)) (sym h) k
     in-operation unit p asked above (act s (follows name t)) k h c = absurd h
     in-operation unit p asked above skip k h c = tt
     in-operation unit p asked above (seq ts) k h c = in-operation_each unit p asked above 0 ts k h c.1
@@ -108,7 +110,7 @@ module _ (cell : Cell) (d : Documents) (rank : Ranking) where
     in-operation unit p asked above (sel cs) k h c = in-operation_choices unit p asked above 0 cs k h c.1
     in-operation unit p asked above (loop n q t) k h c = in-operation unit (child p 0) asked above t k h c.1
 
-    in-operation_each : (unit : Name) (p : Place) (asked above : List Name) (i : ℕ) (ts : Trees) → Has above unit → AreOfLevel in_operation unit ts
+    in-operation_each : (unit : Name) (p : Place) (asked : List Name) (above : List Need) (i : ℕ) (ts : Trees) → Has above (one_unit unit) → AreOfLevel in_operation unit ts
         → Each Clear (parts_of_each in_operation p asked i ts) → RunInUnits above ts
     in-operation_each unit p asked above i no_trees k h c = tt
     in-operation_each unit p asked above i (tree t ts) k h c = (
@@ -116,7 +118,7 @@ module _ (cell : Cell) (d : Documents) (rank : Ranking) where
       in-operation_each unit p asked above (i + 1) ts k h.1 (Each-right Clear (parts in_operation (child p i) asked t) (parts_of_each in_operation p asked (i + 1) ts) c),
     )
 
-    in-operation_branches : (unit : Name) (p : Place) (asked above : List Name) (i : ℕ) (ts : Trees) → Has above unit → AreOfLevel in_operation unit ts → BranchesRunApart ts
+    in-operation_branches : (unit : Name) (p : Place) (asked : List Name) (above : List Need) (i : ℕ) (ts : Trees) → Has above (one_unit unit) → AreOfLevel in_operation unit ts → BranchesRunApart ts
         → Each Clear (parts_of_each in_operation p asked i ts) → RunSideBySide above ts
     in-operation_branches unit p asked above i no_trees k h b c = tt
     in-operation_branches unit p asked above i (tree t ts) k h b c = (
@@ -125,7 +127,7 @@ module _ (cell : Cell) (d : Documents) (rank : Ranking) where
       in-operation_branches unit p asked above (i + 1) ts k h.1 b.1 (Each-right Clear (parts in_operation (child p i) asked t) (parts_of_each in_operation p asked (i + 1) ts) c),
     )
 
-    in-operation_choices : (unit : Name) (p : Place) (asked above : List Name) (i : ℕ) (cs : Choices) → Has above unit → AreChoicesOf in_operation unit cs
+    in-operation_choices : (unit : Name) (p : Place) (asked : List Name) (above : List Need) (i : ℕ) (cs : Choices) → Has above (one_unit unit) → AreChoicesOf in_operation unit cs
         → Each Clear (parts_of_choices in_operation p asked i cs) → ChoicesRunInUnits above cs
     in-operation_choices unit p asked above i (otherwise t) k h c = in-operation unit (child p i) asked above t k h c
     in-operation_choices unit p asked above i (choice q t cs) k h c = (
@@ -136,18 +138,18 @@ module _ (cell : Cell) (d : Documents) (rank : Ranking) where
   -- In a unit procedure: nothing runs side by side
 
   mutual
-    in-unit_procedure : (unit : Name) (p : Place) (asked above : List Name) (t : Tree) → Has above unit → IsOfLevel in_unit_procedure unit t
+    in-unit_procedure : (unit : Name) (p : Place) (asked : List Name) (above : List Need) (t : Tree) → Has above (one_unit unit) → IsOfLevel in_unit_procedure unit t
         → Each Clear (parts in_unit_procedure p asked t) → RunsInUnits above t
     in-unit_procedure unit p asked above (act s (runs x)) k h c = absurd h
     in-unit_procedure unit p asked above (act s (follows name t)) k h c =
-        in-operation unit (child p 0) (asked ++ s.needs) (s.needs ++ above) t (Has-right s.needs above unit k) h c.1
+        in-operation unit (child p 0) (asked ++ resources_of s.needs) (s.needs ++ above) t (Has-right s.needs above (one_unit unit) k) h c.1
     in-unit_procedure unit p asked above skip k h c = tt
     in-unit_procedure unit p asked above (seq ts) k h c = in-unit_procedure_each unit p asked above 0 ts k h c.1
     in-unit_procedure unit p asked above (par ts) k h c = absurd h.0
     in-unit_procedure unit p asked above (sel cs) k h c = in-unit_procedure_choices unit p asked above 0 cs k h c.1
     in-unit_procedure unit p asked above (loop n q t) k h c = in-unit_procedure unit (child p 0) asked above t k h c.1
 
-    in-unit_procedure_each : (unit : Name) (p : Place) (asked above : List Name) (i : ℕ) (ts : Trees) → Has above unit → AreOfLevel in_unit_procedure unit ts
+    in-unit_procedure_each : (unit : Name) (p : Place) (asked : List Name) (above : List Need) (i : ℕ) (ts : Trees) → Has above (one_unit unit) → AreOfLevel in_unit_procedure unit ts
         → Each Clear (parts_of_each in_unit_procedure p asked i ts) → RunInUnits above ts
     in-unit_procedure_each unit p asked above i no_trees k h c = tt
     in-unit_procedure_each unit p asked above i (tree t ts) k h c = (
@@ -157,7 +159,7 @@ module _ (cell : Cell) (d : Documents) (rank : Ranking) where
           (Each-right Clear (parts in_unit_procedure (child p i) asked t) (parts_of_each in_unit_procedure p asked (i + 1) ts) c),
     )
 
-    in-unit_procedure_choices : (unit : Name) (p : Place) (asked above : List Name) (i : ℕ) (cs : Choices) → Has above unit → AreChoicesOf in_unit_procedure unit cs
+    in-unit_procedure_choices : (unit : Name) (p : Place) (asked : List Name) (above : List Need) (i : ℕ) (cs : Choices) → Has above (one_unit unit) → AreChoicesOf in_unit_procedure unit cs
         → Each Clear (parts_of_choices in_unit_procedure p asked i cs) → ChoicesRunInUnits above cs
     in-unit_procedure_choices unit p asked above i (otherwise t) k h c = in-unit_procedure unit (child p i) asked above t k h c
     in-unit_procedure_choices unit p asked above i (choice q t cs) k h c = (
@@ -184,14 +186,14 @@ module _ (cell : Cell) (d : Documents) (rank : Ranking) where
     elsewhere unit p asked (sel cs) h c = elsewhere_choices unit p asked 0 cs h c.1
     elsewhere unit p asked (loop n q t) h c = elsewhere unit (child p 0) asked t h c.1
 
-    elsewhere_act : (unit : Name) (asked needs : List Name) (w : Task) → IsActOf in_procedure unit needs w → RiseStrictly rank (asked ++ needs) → Each (IsElsewhere asked) (phases_within w)
+    elsewhere_act : (unit : Name) (asked : List Name) (needs : List Need) (w : Task) → IsActOf in_procedure unit needs w → RiseStrictly rank (asked ++ resources_of needs) → Each (IsElsewhere asked) (phases_within w)
     elsewhere_act unit asked needs (runs x) h rise = tt_of needs h
       where
-        tt_of : (needs : List Name) → IsActOf in_procedure unit needs (runs x) → Each (IsElsewhere asked) (x ∷ [])
+        tt_of : (needs : List Need) → IsActOf in_procedure unit needs (runs x) → Each (IsElsewhere asked) (x ∷ [])
         tt_of [] h = absurd h
         tt_of (own ∷ needs) h = absurd h
     elsewhere_act unit asked [] (follows name t) h rise = absurd h
-    elsewhere_act unit asked (own ∷ needs) (follows name t) h rise = elsewhere-below asked needs own (phases t) rise (below-unit own t h)
+    elsewhere_act unit asked (own ∷ needs) (follows name t) h rise = elsewhere-below asked (resources_of needs) own.resource (phases t) rise (below-unit own.resource t h.1)
 
     elsewhere_each : (unit : Name) (p : Place) (asked : List Name) (i : ℕ) (ts : Trees) → AreOfLevel in_procedure unit ts → Each Clear (parts_of_each in_procedure p asked i ts)
         → Each (IsElsewhere asked) (phases_of_each ts)
@@ -209,15 +211,15 @@ module _ (cell : Cell) (d : Documents) (rank : Ranking) where
         (elsewhere unit (child p i) asked t h.0 (Each-left Clear (parts in_procedure (child p i) asked t) (parts_of_choices in_procedure p asked (i + 1) cs) c))
         (elsewhere_choices unit p asked (i + 1) cs h.1 (Each-right Clear (parts in_procedure (child p i) asked t) (parts_of_choices in_procedure p asked (i + 1) cs) c))
 
-  -- all of the one list is on the other
-  abbrev Within : List Name → List Name → Type 0
-  Within above asked = (z : Name) → Has above z → Has asked z
+  -- a resource of which one unit is on the one list is on the other
+  abbrev Within : List Need → List Name → Type 0
+  Within above asked = (z : Name) → Has above (one_unit z) → Has asked z
 
-  branches-elsewhere : (asked above : List Name) (xs ys : List Phase) → Within above asked → Each (IsElsewhere asked) xs → AreApart above xs ys
+  branches-elsewhere : (asked : List Name) (above : List Need) (xs ys : List Phase) → Within above asked → Each (IsElsewhere asked) xs → AreApart above xs ys
   branches-elsewhere asked above xs ys w h x y k m u same = Each-Has (IsElsewhere asked) xs x h k (w x.unit u)
 
   mutual
-    in-procedure : (unit : Name) (p : Place) (asked above : List Name) (t : Tree) → Within above asked → IsOfLevel in_procedure unit t
+    in-procedure : (unit : Name) (p : Place) (asked : List Name) (above : List Need) (t : Tree) → Within above asked → IsOfLevel in_procedure unit t
         → Each Clear (parts in_procedure p asked t) → RunsInUnits above t
     in-procedure unit p asked above (act s w) k h c = in-procedure_act unit p asked above s.needs w h c.1
     in-procedure unit p asked above skip k h c = tt
@@ -226,15 +228,16 @@ module _ (cell : Cell) (d : Documents) (rank : Ranking) where
     in-procedure unit p asked above (sel cs) k h c = in-procedure_choices unit p asked above 0 cs k h c.1
     in-procedure unit p asked above (loop n q t) k h c = in-procedure unit (child p 0) asked above t k h c.1
 
-    in-procedure_act : (unit : Name) (p : Place) (asked above needs : List Name) (w : Task) → IsActOf in_procedure unit needs w
-        → Each Clear (parts_within in_unit_procedure p (asked ++ needs) w) → RunsInUnitsBelow needs above w
+    in-procedure_act : (unit : Name) (p : Place) (asked : List Name) (above needs : List Need) (w : Task) → IsActOf in_procedure unit needs w
+        → Each Clear (parts_within in_unit_procedure p (asked ++ resources_of needs) w) → RunsInUnitsBelow needs above w
     in-procedure_act unit p asked above [] (runs x) h c = absurd h
     in-procedure_act unit p asked above (own ∷ needs) (runs x) h c = absurd h
     in-procedure_act unit p asked above [] (follows name t) h c = absurd h
     in-procedure_act unit p asked above (own ∷ needs) (follows name t) h c =
-        in-unit_procedure own (child p 0) (asked ++ (own ∷ needs)) ((own ∷ needs) ++ above) t (inl refl) h c
+        in-unit_procedure own.resource (child p 0) (asked ++ (own.resource ∷ resources_of needs)) ((own ∷ needs) ++ above) t
+        (inl (ap (λ z. let n : Need = record { resource = own.resource; units = z } in n) h.0)) h.1 c
 
-    in-procedure_each : (unit : Name) (p : Place) (asked above : List Name) (i : ℕ) (ts : Trees) → Within above asked → AreOfLevel in_procedure unit ts
+    in-procedure_each : (unit : Name) (p : Place) (asked : List Name) (above : List Need) (i : ℕ) (ts : Trees) → Within above asked → AreOfLevel in_procedure unit ts
         → Each Clear (parts_of_each in_procedure p asked i ts) → RunInUnits above ts
     in-procedure_each unit p asked above i no_trees k h c = tt
     in-procedure_each unit p asked above i (tree t ts) k h c = (
@@ -242,7 +245,7 @@ module _ (cell : Cell) (d : Documents) (rank : Ranking) where
       in-procedure_each unit p asked above (i + 1) ts k h.1 (Each-right Clear (parts in_procedure (child p i) asked t) (parts_of_each in_procedure p asked (i + 1) ts) c),
     )
 
-    in-procedure_branches : (unit : Name) (p : Place) (asked above : List Name) (i : ℕ) (ts : Trees) → Within above asked → AreOfLevel in_procedure unit ts
+    in-procedure_branches : (unit : Name) (p : Place) (asked : List Name) (above : List Need) (i : ℕ) (ts : Trees) → Within above asked → AreOfLevel in_procedure unit ts
         → Each Clear (parts_of_each in_procedure p asked i ts) → RunSideBySide above ts
     in-procedure_branches unit p asked above i no_trees k h c = tt
     in-procedure_branches unit p asked above i (tree t ts) k h c =
@@ -252,7 +255,7 @@ module _ (cell : Cell) (d : Documents) (rank : Ranking) where
           in-procedure_branches unit p asked above (i + 1) ts k h.1 (Each-right Clear (parts in_procedure (child p i) asked t) (parts_of_each in_procedure p asked (i + 1) ts) c),
         )
 
-    in-procedure_choices : (unit : Name) (p : Place) (asked above : List Name) (i : ℕ) (cs : Choices) → Within above asked → AreChoicesOf in_procedure unit cs
+    in-procedure_choices : (unit : Name) (p : Place) (asked : List Name) (above : List Need) (i : ℕ) (cs : Choices) → Within above asked → AreChoicesOf in_procedure unit cs
         → Each Clear (parts_of_choices in_procedure p asked i cs) → ChoicesRunInUnits above cs
     in-procedure_choices unit p asked above i (otherwise t) k h c = in-procedure unit (child p i) asked above t k h c
     in-procedure_choices unit p asked above i (choice q t cs) k h c = (
@@ -265,7 +268,7 @@ module _ (cell : Cell) (d : Documents) (rank : Ranking) where
   mutual
     phases-offered : (l : Level) (p : Place) (asked : List Name) (t : Tree) → Each Clear (parts l p asked t) → Each (IsOfferedPhase d) (phases t)
     phases-offered l p asked (act s (runs x)) c = (c.0.offered, tt)
-    phases-offered l p asked (act s (follows name t)) c = phases-offered (below l) (child p 0) (asked ++ s.needs) t c.1
+    phases-offered l p asked (act s (follows name t)) c = phases-offered (below l) (child p 0) (asked ++ resources_of s.needs) t c.1
     phases-offered l p asked skip c = tt
     phases-offered l p asked (seq ts) c = phases-offered_each l p asked 0 ts c.1
     phases-offered l p asked (par ts) c = phases-offered_each l p asked 0 ts c.1
@@ -293,11 +296,11 @@ module _ (cell : Cell) (d : Documents) (rank : Ranking) where
     one-user-below : (own : Name) (xs : List Phase) → IsTrue (is_among cell.units own) → Each (RunsOn own) xs → Each HasOneUser xs
     one-user-below own xs u h = Each-map (RunsOn own) HasOneUser (λ x e. ap d.capacity e ∙ exclusive own u) xs h
 
-    one-user_act : (unit : Name) (needs : List Name) (w : Task) → IsActOf in_procedure unit needs w → BeginsWithUnit cell needs → Each HasOneUser (phases_within w)
+    one-user_act : (unit : Name) (needs : List Need) (w : Task) → IsActOf in_procedure unit needs w → BeginsWithUnit cell needs → Each HasOneUser (phases_within w)
     one-user_act unit [] (runs x) h u = absurd h
     one-user_act unit (own ∷ needs) (runs x) h u = absurd h
     one-user_act unit [] (follows name t) h u = absurd h
-    one-user_act unit (own ∷ needs) (follows name t) h u = one-user-below own (phases t) u (below-unit own t h)
+    one-user_act unit (own ∷ needs) (follows name t) h u = one-user-below own.resource (phases t) u (below-unit own.resource t h.1)
 
     mutual
       one-user : (unit : Name) (p : Place) (asked : List Name) (t : Tree) → IsOfLevel in_procedure unit t → Each Clear (parts in_procedure p asked t) → Each HasOneUser (phases t)
@@ -329,7 +332,8 @@ module _ (cell : Cell) (d : Documents) (rank : Ranking) where
     whole-in_units : (t : Tree) → HasLevels t → Each Clear (parts is_procedure (0 ∷ []) [] t) → RunsInUnits [] t
     whole-in_units (act s (runs x)) h c = absurd h
     whole-in_units (act s (follows name t)) h c =
-        in-procedure [] (0 ∷ 0 ∷ []) s.needs (s.needs ++ []) t (λ z k. elim (Has-split s.needs [] z k) [ inl m ↦ m | inr m ↦ absurd m ]) h c.1
+        in-procedure [] (0 ∷ 0 ∷ []) (resources_of s.needs) (s.needs ++ []) t
+        (λ z k. elim (Has-split s.needs [] (one_unit z) k) [ inl m ↦ map-Has (λ n. n.resource) s.needs (one_unit z) m | inr m ↦ absurd m ]) h c.1
     whole-in_units skip h c = tt
     whole-in_units (seq ts) h c = absurd h
     whole-in_units (par ts) h c = absurd h
@@ -338,7 +342,7 @@ module _ (cell : Cell) (d : Documents) (rank : Ranking) where
 
     whole-one-user : (t : Tree) → HasLevels t → Each Clear (parts is_procedure (0 ∷ []) [] t) → Each HasOneUser (phases t)
     whole-one-user (act s (runs x)) h c = absurd h
-    whole-one-user (act s (follows name t)) h c = one-user [] (0 ∷ 0 ∷ []) s.needs t h c.1
+    whole-one-user (act s (follows name t)) h c = one-user [] (0 ∷ 0 ∷ []) (resources_of s.needs) t h c.1
     whole-one-user skip h c = tt
     whole-one-user (seq ts) h c = absurd h
     whole-one-user (par ts) h c = absurd h

@@ -9,17 +9,17 @@ use Rattle.batch_model.specs.Lists.{Has}
 use Rattle.batch_recipe.specs.Conditions.{Name, ValueList}
 use Rattle.batch_recipe.specs.Tree.{Place, Phase}
 use Rattle.batch_model.specs.Rest.{withdrawn}
-use Rattle.batch_model.specs.Plant.{Recipe, Documents, Batch, BatchAct, Plant, in_batch}
+use Rattle.batch_model.specs.Plant.{Recipe, Documents, Batch, BatchAct, Share, units_in, Plant, in_batch}
 use Rattle.batch_model.specs.Events.{Refusal, created, ordered, removed, refused, command_not_accepted, not_idle, Answer, new_batch, with_batch, with_outputs_zero, reset, stopped, commanded, lines_under, ordering, without_batch, removing}
 use Rattle.batch_model.specs.Runs.{Out, reply}
 use Rattle.batch_model.specs.Records.{holders_after, waiters_after, Active, active_after, ends_phase, state_after}
-use Rattle.batch_safety.proofs.Facts.{holding, awaiting, performing, Standing, facts, Entry, entry, entries_of, entries, holder_of, holders_among}
+use Rattle.batch_safety.proofs.Facts.{holding, awaiting, performing, Standing, facts, Entry, entry, entries_of, entries, holder_of, holders_among, need}
 use Rattle.batch_model.specs.Cleared.{Ranking}
 use Rattle.batch_safety.proofs.ClearedDown.{IsClearedDown}
 use Rattle.batch_model.proofs.Members.{Has-split}
 use Rattle.batch_safety.proofs.Members.{map-Has}
 use Rattle.batch_safety.proofs.Reaching.{reach-facts, is_kept, withdrawn-facts}
-use Rattle.batch_safety.proofs.Entries.{Agrees, Has-filter, filter-Has, nat_same, nat_self, nat_differs, holders-append}
+use Rattle.batch_safety.proofs.Entries.{Agrees, once-filter, Has-filter, filter-Has, nat_same, nat_self, nat_differs, holders-append}
 use Rattle.batch_safety.proofs.Batches.{Has-only, below-next, only, only-hit, only-miss, same-batch}
 use Rattle.batch_safety.proofs.Invariant.{IsFitting, NothingAwaited, IsSound, IsKept}
 use Rattle.batch_safety.proofs.Safety.{entry-of, of-entry}
@@ -29,6 +29,7 @@ use Rattle.batch_safety.proofs.Moving.{tells-other, tells-own}
 use Rattle.std.proofs.lemmas.List.{append-nil}
 use Rattle.batch_model.specs.Standing.{IsStanding}
 use Rattle.batch_safety.proofs.Invariant.{numbers-of}
+use Rattle.batch_recipe.specs.declared.need.Need.{Need}
 
 -- Answers: the record with the reply, and the plant
 
@@ -52,6 +53,7 @@ kept-refused d rank outs s x k =
       held = λ q. subst (λ z. Agrees z (holders_among q (entries s.batches))) (sym (told-holders outs o q)) (k.held q);
       within = k.within;
       lines = λ q. told-waiters outs o q ∙ k.lines q;
+      once = k.once;
       asked = k.asked;
       active = λ y h. k.active y (subst (λ z. Has z y) (told-active outs o) h);
       listed = k.listed;
@@ -78,11 +80,12 @@ kept-created d rank outs s r name size vs cleared sd k =
           (λ m. ⊎_elim (λ e. subst (IsSound d rank) e (record { cleared = cleared; fits = none })) (λ e. absurd e) m)
           (Has-split s.batches (n ∷ []) c h);
       held = λ q. subst₂ Agrees (sym (told-holders outs o q)) (ap (holders_among q) (sym same)) (k.held q);
-      within = λ q. subst (λ z. length (holders_among q z) ≤ d.capacity q) (sym same) (k.within q);
+      within = λ q. subst (λ z. units_in (holders_among q z) ≤ d.capacity q) (sym same) (k.within q);
       lines = λ q. told-waiters outs o q ∙ k.lines q;
-      asked = λ q a h. subst (λ z. Has z (a, awaiting q)) (sym same) (k.asked q a h);
+      once = k.once;
+      asked = λ q a h. subst (λ z. Has z (a.act, awaiting (need q a.units))) (sym same) (k.asked q a h);
       active = λ y h. subst (λ z. Has z (y.act, performing y.phase)) (sym same) (k.active y (subst (λ z. Has z y) (told-active outs o) h));
-      listed = λ q a h. k.listed q a (subst (λ z. Has z (a, awaiting q)) same h);
+      listed = λ q a h. k.listed q a (subst (λ z. Has z (a.act, awaiting (need q a.units))) same h);
       shown = λ a y h. subst (λ z. Has z (record { act = a; phase = y })) (sym (told-active outs o)) (k.shown a y (subst (λ z. Has z (a, performing y)) same h));
       states = λ c h. told-state outs o c.number
           ∙ ⊎_elim
@@ -117,11 +120,12 @@ kept-removed d rank outs s b i idle sd k =
     record {
       sound = λ c h. k.sound c ((Has-filter left s.batches c h).0);
       held = λ q. subst₂ Agrees (sym (told-holders outs o q)) (ap (holders_among q) (sym same)) (k.held q);
-      within = λ q. subst (λ z. length (holders_among q z) ≤ d.capacity q) (sym same) (k.within q);
+      within = λ q. subst (λ z. units_in (holders_among q z) ≤ d.capacity q) (sym same) (k.within q);
       lines = λ q. told-waiters outs o q ∙ k.lines q;
-      asked = λ q a h. subst (λ z. Has z (a, awaiting q)) (sym same) (k.asked q a h);
+      once = k.once;
+      asked = λ q a h. subst (λ z. Has z (a.act, awaiting (need q a.units))) (sym same) (k.asked q a h);
       active = λ y h. subst (λ z. Has z (y.act, performing y.phase)) (sym same) (k.active y (subst (λ z. Has z y) (told-active outs o) h));
-      listed = λ q a h. k.listed q a (subst (λ z. Has z (a, awaiting q)) same h);
+      listed = λ q a h. k.listed q a (subst (λ z. Has z (a.act, awaiting (need q a.units))) same h);
       shown = λ a y h. subst (λ z. Has z (record { act = a; phase = y })) (sym (told-active outs o)) (k.shown a y (subst (λ z. Has z (a, performing y)) same h));
       states = λ c h. told-state outs o c.number ∙ k.states c ((Has-filter left s.batches c h).0);
     }
@@ -168,7 +172,7 @@ module _ (d : Documents) (rank : Ranking) (outs : List Out) (s : Plant) (sd : Is
   sound-b = k.sound b i
 
   -- a command that only changes the state, to one in which all facts fit
-  kept-commanded : (c : Command) → ((es : List Standing) → IsFitting (target c) es) → ((q : Name) (ws : List BatchAct) → waiters_after q ws (reply (ordered c b.number (target c))) ≡ ws)
+  kept-commanded : (c : Command) → ((es : List Standing) → IsFitting (target c) es) → ((q : Name) (ws : List Share) → waiters_after q ws (reply (ordered c b.number (target c))) ≡ ws)
       → IsKept d rank (outs ++ reply (ordered c b.number (target c)) ∷ []) (changed_plant s b.number (λ z. record z { state = target c }) s.line)
   kept-commanded c fits wait =
       kept-quiet d rank outs s sd k b i (reply (ordered c b.number (target c))) (λ z. record z { state = target c }) refl
@@ -186,33 +190,34 @@ module _ (d : Documents) (rank : Ranking) (outs : List Out) (s : Plant) (sd : Is
 
   -- a command that ends the asks of the batch
   kept-stopped : (c : Command) → ((es : List Standing) → NothingAwaited es → IsFitting (target c) es)
-      → ((q : Name) (ws : List BatchAct) → waiters_after q ws (reply (ordered c b.number (target c))) ≡ filter (λ a. not (nat_eq a.0 b.number)) ws)
-      → IsKept d rank (outs ++ reply (ordered c b.number (target c)) ∷ []) (changed_plant s b.number (stopped c) (λ q. filter (λ a. not (nat_eq a.0 b.number)) (s.line q)))
+      → ((q : Name) (ws : List Share) → waiters_after q ws (reply (ordered c b.number (target c))) ≡ filter (λ a. not (nat_eq a.act.0 b.number)) ws)
+      → IsKept d rank (outs ++ reply (ordered c b.number (target c)) ∷ []) (changed_plant s b.number (stopped c) (λ q. filter (λ a. not (nat_eq a.act.0 b.number)) (s.line q)))
   kept-stopped c fits wait =
       let o : Out = reply (ordered c b.number (target c)) in
       let n : ℕ = b.number in
       let g : Batch → Batch = stopped c in
       let E' : List Entry = entries (map (only n g) s.batches) in
       let same : (q : Name) → holders_among q E' ≡ holders_among q (entries s.batches) = λ q. holders-only q n g s.batches (λ e h. one q e h (nat_eq e.number n) refl) in
-      kept-after d rank outs s sd k b i o g (λ q. filter (λ a. not (nat_eq a.0 n)) (s.line q)) refl
+      kept-after d rank outs s sd k b i o g (λ q. filter (λ a. not (nat_eq a.act.0 n)) (s.line q)) refl
       (record {
         cleared = sound-b.cleared;
         fits = fits (facts (withdrawn b.rest)) (λ p r h. not_kept p r (subst (λ z. Has z (p, awaiting r)) (withdrawn-facts b.rest) h));
       })
       (order-others c n (target c)) (order-own c n (target c) b.state)
       (λ q. subst (Agrees (Rattle.batch_model.specs.Records.holders_told outs q)) (sym (same q)) (k.held q))
-      (λ q. subst (λ z. length z ≤ d.capacity q) (sym (same q)) (k.within q))
+      (λ q. subst (λ z. units_in z ≤ d.capacity q) (sym (same q)) (k.within q))
       (λ q. wait q (s.line q))
-      (λ q a h. (let m = Has-filter (λ z. not (nat_eq z.0 n)) (s.line q) a h in asks q a m.0 (not_this a.0 n m.1)))
+      (λ q. once-filter (λ a. not (nat_eq a.act.0 n)) (s.line q) (k.once q))
+      (λ q a h. (let m = Has-filter (λ z. not (nat_eq z.act.0 n)) (s.line q) a h in asks q a m.0 (not_this a.act.0 n m.1)))
       (λ x h. runs_on x.act x.phase (k.active x h))
-      (λ q a h. waited q a (entry-of (map (only n g) s.batches) a (awaiting q) h))
+      (λ q a h. waited q a (entry-of (map (only n g) s.batches) a.act (awaiting (need q a.units)) h))
       (λ a x h. ran a x (entry-of (map (only n g) s.batches) a (performing x) h))
     where
       one : (q : Name) (e : Batch) → Has s.batches e → (t : Bool) → nat_eq e.number b.number ≡ t → holders_among q (entries_of (elim t [ true ↦ stopped c e | false ↦ e ])) ≡ holders_among q (entries_of e)
       one q e h true w = ap (λ z. holders_among q (map (entry e.number) z)) (withdrawn-facts e.rest) ∙ kept-holders e.number q (facts e.rest)
       one q e h false w = refl
 
-      not_kept : (p : Place) (r : Name) → Has (filter is_kept (facts b.rest)) (p, awaiting r) → ⊥
+      not_kept : (p : Place) (r : Need) → Has (filter is_kept (facts b.rest)) (p, awaiting r) → ⊥
       not_kept p r h = (let m = Has-filter is_kept (facts b.rest) (p, awaiting r) h in let f : ◌≡◌ {A = Bool} false true = m.1 in cc)
 
       not_this : (m n : ℕ) → not (nat_eq m n) ≡ true → m ≡ n → ⊥
@@ -225,14 +230,14 @@ module _ (d : Documents) (rank : Ranking) (outs : List Out) (s : Plant) (sd : Is
       is_other : (m n : ℕ) → (m ≡ n → ⊥) → not (nat_eq m n) ≡ true
       is_other m n d' = ap not (nat_differs m n d')
 
-      waited : (q : Name) (a : BatchAct) → (e : Batch) × Has (map (only b.number (stopped c)) s.batches) e × (e.number ≡ a.0) × Has (facts e.rest) (a.1, awaiting q)
-          → Has (filter (λ z. not (nat_eq z.0 b.number)) (s.line q)) a
+      waited : (q : Name) (a : Share) → (e : Batch) × Has (map (only b.number (stopped c)) s.batches) e × (e.number ≡ a.act.0) × Has (facts e.rest) (a.act.1, awaiting (need q a.units))
+          → Has (filter (λ z. not (nat_eq z.act.0 b.number)) (s.line q)) a
       waited q a e =
           ⊎_elim
-          (λ m. absurd (not_kept a.1 q (subst (λ z. Has z (a.1, awaiting q)) (ap (λ z. facts z.rest) m ∙ withdrawn-facts b.rest) e.3)))
-          (λ m. filter-Has (λ z. not (nat_eq z.0 b.number)) (s.line q) a
-          (k.listed q a (subst (λ z. Has (entries s.batches) ((z, a.1), awaiting q)) e.2 (of-entry s.batches e.0 a.1 (awaiting q) m.0 e.3)))
-          (is_other a.0 b.number (λ w. m.1 (e.2 ∙ w))))
+          (λ m. absurd (not_kept a.act.1 (need q a.units) (subst (λ z. Has z (a.act.1, awaiting (need q a.units))) (ap (λ z. facts z.rest) m ∙ withdrawn-facts b.rest) e.3)))
+          (λ m. filter-Has (λ z. not (nat_eq z.act.0 b.number)) (s.line q) a
+          (k.listed q a (subst (λ z. Has (entries s.batches) ((z, a.act.1), awaiting (need q a.units))) e.2 (of-entry s.batches e.0 a.act.1 (awaiting (need q a.units)) m.0 e.3)))
+          (is_other a.act.0 b.number (λ w. m.1 (e.2 ∙ w))))
           (Has-only s.next_number s.batches b (stopped c) e.0 (numbers-of d s sd) i e.1)
 
       ran : (a : BatchAct) (x : Phase) → (e : Batch) × Has (map (only b.number (stopped c)) s.batches) e × (e.number ≡ a.0) × Has (facts e.rest) (a.1, performing x)
@@ -252,11 +257,11 @@ module _ (d : Documents) (rank : Ranking) (outs : List Out) (s : Plant) (sd : Is
       stays_this : Has (map (only b.number (stopped c)) s.batches) (stopped c b)
       stays_this = subst (Has (map (only b.number (stopped c)) s.batches)) (only-hit b.number (stopped c) b refl) (map-Has (only b.number (stopped c)) s.batches b i)
 
-      asks : (q : Name) (a : BatchAct) → Has (s.line q) a → (a.0 ≡ b.number → ⊥) → Has (entries (map (only b.number (stopped c)) s.batches)) (a, awaiting q)
+      asks : (q : Name) (a : Share) → Has (s.line q) a → (a.act.0 ≡ b.number → ⊥) → Has (entries (map (only b.number (stopped c)) s.batches)) (a.act, awaiting (need q a.units))
       asks q a h d' =
-          let e = entry-of s.batches a (awaiting q) (k.asked q a h) in
-          subst (λ z. Has (entries (map (only b.number (stopped c)) s.batches)) ((z, a.1), awaiting q)) e.2
-          (of-entry (map (only b.number (stopped c)) s.batches) e.0 a.1 (awaiting q) (stays_other e.0 e.1 (λ w. d' (sym e.2 ∙ w))) e.3)
+          let e = entry-of s.batches a.act (awaiting (need q a.units)) (k.asked q a h) in
+          subst (λ z. Has (entries (map (only b.number (stopped c)) s.batches)) ((z, a.act.1), awaiting (need q a.units))) e.2
+          (of-entry (map (only b.number (stopped c)) s.batches) e.0 a.act.1 (awaiting (need q a.units)) (stays_other e.0 e.1 (λ w. d' (sym e.2 ∙ w))) e.3)
 
       runs_on : (a : BatchAct) (x : Phase) → Has (entries s.batches) (a, performing x) → Has (entries (map (only b.number (stopped c)) s.batches)) (a, performing x)
       runs_on a x h = (let e = entry-of s.batches a (performing x) h in go e.0 e.1 e.2 e.3 (nat_eq e.0.number b.number) refl)

@@ -4,13 +4,14 @@ use Rattle.std.specs.Str.{bytes_eq}
 use Rattle.batch_recipe.specs.Conditions.{Name}
 use Rattle.batch_recipe.specs.Tree.{Place, Phase}
 use Rattle.batch_model.specs.Rest.{Rest, ready, asking, open_act, live, freeing, in_seq, in_par, in_loop, done, Rests, no_rests, rest}
-use Rattle.batch_model.specs.Plant.{Batch, BatchAct}
+use Rattle.batch_model.specs.Plant.{Batch, BatchAct, Share}
+use Rattle.batch_recipe.specs.declared.need.Need.{Need}
 
 pub data Fact : Type 0 where
-  -- a share of the resource is held
-  holding : Name → Fact
-  -- the next share of the resource is asked for
-  awaiting : Name → Fact
+  -- so much of a resource is held
+  holding : Need → Fact
+  -- so much of a resource is asked for
+  awaiting : Need → Fact
   -- the phase is live
   performing : Phase → Fact
 
@@ -18,10 +19,10 @@ pub data Fact : Type 0 where
 abbrev pub Standing : Type 0
 Standing = Place × Fact
 
-abbrev pub held_at : Place → List Name → List Standing
+abbrev pub held_at : Place → List Need → List Standing
 held_at p names = map (λ r. (p, holding r)) names
 
-abbrev pub awaited_at : Place → Option Name → List Standing
+abbrev pub awaited_at : Place → Option Need → List Standing
 awaited_at p None = []
 awaited_at p (Some r) = (p, awaiting r) ∷ []
 
@@ -55,11 +56,18 @@ entries_of b = map (entry b.number) (facts b.rest)
 abbrev pub entries : List Batch → List Entry
 entries bs = flat_map entries_of bs
 
--- the acts that hold a resource
-abbrev pub holder_of : Name → Entry → List BatchAct
-holder_of q (a, holding r) = elim (bytes_eq q r) [ true ↦ a ∷ [] | false ↦ [] ]
+-- so many units of a resource, and as many that an act holds or asks for
+abbrev pub need : Name → ℕ → Need
+need q k = record { resource = q; units = k }
+
+abbrev pub share : BatchAct → ℕ → Share
+share a k = record { act = a; units = k }
+
+-- the shares of a resource that are held
+abbrev pub holder_of : Name → Entry → List Share
+holder_of q (a, holding r) = elim (bytes_eq q r.resource) [ true ↦ share a r.units ∷ [] | false ↦ [] ]
 holder_of q (a, awaiting r) = []
 holder_of q (a, performing x) = []
 
-abbrev pub holders_among : Name → List Entry → List BatchAct
+abbrev pub holders_among : Name → List Entry → List Share
 holders_among q es = flat_map (holder_of q) es

@@ -2,7 +2,6 @@
 use Rattle.std.proofs.Common.{◌+◌, ◌≡◌, refl, sym, ◌∙◌, ap, ap₂, subst, ℕ, arith, List, [], ◌++◌, Bool, true, false, inl, inr, ⊎_elim, bytes_eq, append-nil, append_assoc}
 use Rattle.std.proofs.lemmas.Slice.Eq.{bytes_eq-Decides}
 use Rattle.batch_model.specs.Lists.{Has}
-use Rattle.batch_recipe.specs.Conditions.{Name}
 use Rattle.batch_recipe.specs.Tree.{Place, Step, Tree, act, seq, par, sel, loop, Task, runs, follows, Trees, no_trees, tree, Choices, otherwise, choice}
 use Rattle.batch_model.specs.Rest.{Rest, ready, asking, open_act, live, freeing, in_seq, in_par, in_loop, done, Rests, no_rests, rest, acts, acts_of_each, changed_at, changed_in_each}
 use Rattle.batch_model.specs.Plant.{place_of}
@@ -15,6 +14,8 @@ use Rattle.batch_model.specs.Cleared.{Ranking}
 use Rattle.batch_safety.specs.Ways.{Rises, last_rank, RisesDown, RisesBelow, RiseDown, ChoicesRiseDown}
 use Rattle.batch_model.proofs.Members.{Has-split, Has-left, Has-right}
 use Rattle.batch_safety.proofs.Placing.{IsUnderChild, IsUnderLater, under_child, facts-under, facts-side_by_side, acts-under, acts-below, acts-side_by_side, children_apart, not_above_itself, held-place}
+use Rattle.batch_recipe.specs.declared.need.Need.{Need}
+use Rattle.batch_recipe.specs.Needs.{resources_of}
 
 pub hit : (x : Place) (q r : Rest) → elim (bytes_eq x x) [ true ↦ q | false ↦ r ] ≡ q
 hit x q r = go (bytes_eq x x) ((bytes_eq-Decides x x).1 refl)
@@ -167,7 +168,7 @@ mutual
   frame-chosen p i (choice d c ch) r pl (inr h) a e = frame-chosen p (i + 1) ch r pl.1 h a e
 
 -- the needs of an act
-abbrev pub needs_of : Rest → List Name
+abbrev pub needs_of : Rest → List Need
 needs_of (ready s w k) = s.needs
 needs_of (asking s w k) = s.needs
 needs_of (open_act s r) = s.needs
@@ -176,10 +177,10 @@ needs_of (freeing s k) = s.needs
 needs_of _ = []
 
 abbrev pub NeedsRise : Ranking → Rest → Type 0
-NeedsRise rank a = (low : ℕ) × Rises rank low (needs_of a)
+NeedsRise rank a = (low : ℕ) × Rises rank low (resources_of (needs_of a))
 
-needs-here : (rank : Ranking) (low : ℕ) (s : Step) (r a : Rest) → Rises rank low s.needs → needs_of r ≡ s.needs → r ≡ a → NeedsRise rank a
-needs-here rank low s r a h e q = subst (NeedsRise rank) q (low, subst (Rises rank low) (sym e) h)
+needs-here : (rank : Ranking) (low : ℕ) (s : Step) (r a : Rest) → Rises rank low (resources_of s.needs) → needs_of r ≡ s.needs → r ≡ a → NeedsRise rank a
+needs-here rank low s r a h e q = subst (NeedsRise rank) q (low, subst (λ z. Rises rank low (resources_of z)) (sym e) h)
 
 mutual
   -- the needs of each act have strictly rising ranks
@@ -189,7 +190,7 @@ mutual
   needs-rise rank low (act s w) (asking u v n) rs h a (inl e) = needs-here rank low s (asking u v n) a rs.0 (ap (λ z. z.needs) h.0) e
   needs-rise rank low (act s w) (asking u v n) rs h a (inr e) = absurd e
   needs-rise rank low (act s w) (open_act u r) rs h a (inl e) = needs-here rank low s (open_act u r) a rs.0 (ap (λ z. z.needs) h.0) e
-  needs-rise rank low (act s w) (open_act u r) rs h a (inr e) = needs-rise_below rank (last_rank rank low s.needs) w r rs.1 h.1 a e
+  needs-rise rank low (act s w) (open_act u r) rs h a (inr e) = needs-rise_below rank (last_rank rank low (resources_of s.needs)) w r rs.1 h.1 a e
   needs-rise rank low (act s w) (live u x t) rs h a (inl e) = needs-here rank low s (live u x t) a rs.0 (ap (λ z. z.needs) h.0) e
   needs-rise rank low (act s w) (live u x t) rs h a (inr e) = absurd e
   needs-rise rank low (act s w) (freeing u n) rs h a (inl e) = needs-here rank low s (freeing u n) a rs.0 (ap (λ z. z.needs) h.0) e

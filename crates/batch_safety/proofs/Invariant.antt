@@ -1,24 +1,25 @@
 -- The one fact that every event and every move keeps.
-use Rattle.std.proofs.Common.{◌≡◌, refl, subst, ℕ, ◌<◌, ◌≤◌, arith, List, [], ◌∷◌, true, Some, inl, length}
+use Rattle.std.proofs.Common.{◌≡◌, refl, subst, ℕ, ◌<◌, ◌≤◌, arith, List, [], ◌∷◌, true, Some, inl}
 use Rattle.batch_matrix.specs.declared.state.State.{State}
 use Rattle.batch_matrix.specs.declared.state.State.TheVariants.{Idle, Running, Pausing, Paused, Holding, Held, Restarting, Stopping, Stopped, Aborting, Aborted, Complete}
 use Rattle.batch_model.specs.Lists.{Has}
 use Rattle.batch_recipe.specs.Conditions.{Name}
 use Rattle.batch_recipe.specs.Tree.{Place, Phase}
-use Rattle.batch_model.specs.Plant.{Documents, Batch, BatchAct, Plant}
+use Rattle.batch_model.specs.Plant.{Documents, Batch, BatchAct, Share, units_in, Plant}
 use Rattle.batch_model.specs.Moves.{is_running}
 use Rattle.batch_model.specs.Runs.{Out}
 use Rattle.batch_model.specs.Records.{holders_told, waiters_told, Active, active_told, state_told, IsAtRest}
-use Rattle.batch_safety.proofs.Facts.{awaiting, performing, Standing, facts, entries, holders_among}
+use Rattle.batch_safety.proofs.Facts.{awaiting, performing, Standing, facts, entries, holders_among, need}
 use Rattle.batch_model.specs.Cleared.{Ranking}
 use Rattle.batch_safety.proofs.ClearedDown.{IsClearedDown}
-use Rattle.batch_safety.proofs.Entries.{Agrees}
+use Rattle.batch_safety.proofs.Entries.{Agrees, IsOnce}
 use Rattle.batch_safety.proofs.Batches.{NumbersDiffer}
 use Rattle.batch_model.specs.Standing.{IsStandingBatch, AreNumbered, IsStanding}
 use Rattle.batch_model.proofs.Members.{Each-Has}
+use Rattle.batch_recipe.specs.declared.need.Need.{Need}
 
 abbrev pub NothingAwaited : List Standing → Type 0
-NothingAwaited es = (p : Place) (r : Name) → Has es (p, awaiting r) → ⊥
+NothingAwaited es = (p : Place) (r : Need) → Has es (p, awaiting r) → ⊥
 
 -- in this state a batch may have these facts: none where it is at rest or idle, and no asks where it stops
 abbrev pub IsFitting : State → List Standing → Type 0
@@ -44,11 +45,12 @@ pub record IsSound (d : Documents) (rank : Ranking) (b : Batch) : Type 0 where
 pub record IsKept (d : Documents) (rank : Ranking) (outs : List Out) (s : Plant) : Type 0 where
   pub sound : (b : Batch) → Has s.batches b → IsSound d rank b
   pub held : (q : Name) → Agrees (holders_told outs q) (holders_among q (entries s.batches))
-  pub within : (q : Name) → length (holders_among q (entries s.batches)) ≤ d.capacity q
+  pub within : (q : Name) → units_in (holders_among q (entries s.batches)) ≤ d.capacity q
   pub lines : (q : Name) → waiters_told outs q ≡ s.line q
-  pub asked : (q : Name) (a : BatchAct) → Has (s.line q) a → Has (entries s.batches) (a, awaiting q)
+  pub asked : (q : Name) (a : Share) → Has (s.line q) a → Has (entries s.batches) (a.act, awaiting (need q a.units))
+  pub once : (q : Name) → IsOnce (s.line q)
   pub active : (x : Active) → Has (active_told outs) x → Has (entries s.batches) (x.act, performing x.phase)
-  pub listed : (q : Name) (a : BatchAct) → Has (entries s.batches) (a, awaiting q) → Has (s.line q) a
+  pub listed : (q : Name) (a : Share) → Has (entries s.batches) (a.act, awaiting (need q a.units)) → Has (s.line q) a
   pub shown : (a : BatchAct) (x : Phase) → Has (entries s.batches) (a, performing x) → Has (active_told outs) (record { act = a; phase = x })
   pub states : (b : Batch) → Has s.batches b → state_told outs b.number ≡ Some b.state
 
@@ -91,7 +93,7 @@ fit-fewer Held es less f h = tt
 fit-fewer Restarting es less f h = tt
 
 -- where something is asked for, any facts fit
-pub fit-awaited : (x : State) (es more : List Standing) (p : Place) (r : Name) → Has es (p, awaiting r) → IsFitting x es → IsFitting x more
+pub fit-awaited : (x : State) (es more : List Standing) (p : Place) (r : Need) → Has es (p, awaiting r) → IsFitting x es → IsFitting x more
 fit-awaited Idle es more p r k h = absurd (subst (λ z. Has z (p, awaiting r)) h k)
 fit-awaited Complete es more p r k h = absurd (subst (λ z. Has z (p, awaiting r)) h k)
 fit-awaited Stopped es more p r k h = absurd (subst (λ z. Has z (p, awaiting r)) h k)

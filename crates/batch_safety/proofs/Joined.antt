@@ -3,7 +3,7 @@ use Rattle.batch_model.specs.Documents.{cell_of, documents_of}
 use Rattle.batch_safety.specs.Premises.{AreDocuments}
 use Rattle.batch_safety.specs.Sets.{SetsAreDocuments, ClearedSetsRunSafely}
 use Rattle.batch_safety.proofs.Clearing.{cleared-down}
-use Rattle.batch_safety.proofs.Exclusive.{unit_is_exclusive}
+use Rattle.batch_model.proofs.Exclusive.{unit_is_exclusive}
 use Rattle.batch_safety.proofs.Levels.{recipes_are_procedures}
 use Rattle.batch_safety.proofs.Safe.{safe}
 use Rattle.batch_safety.proofs.Telling.{tells_the_plant}

@@ -18,6 +18,7 @@ use Rattle.batch_model.specs.Cleared.{Level, in_procedure, in_unit_procedure, in
 use Rattle.batch_model.proofs.Members.{find-Has}
 use Rattle.batch_model.proofs.Placed.{procedure_tree-IsPlaced}
 use Rattle.batch_safety.specs.Procedures.{AllowsPar, IsOfLevel, IsActOf, AreOfLevel, AreChoicesOf, HasLevels, TreesAreProcedures, RecipesAreProcedures}
+use Rattle.batch_recipe.specs.declared.need.Need.{Need}
 
 both : (a b : Bool) → (a && b) ≡ true → (a ≡ true) × (b ≡ true)
 both true b e = (refl, e)
@@ -78,25 +79,25 @@ some_chart w = elim w [ Follows c ↦ true | Runs phase values ↦ false ]
 abbrev no_par : Work → Bool
 no_par w = elim w [ Follows c ↦ has_no_par (diagram_of c) | Runs phase values ↦ true ]
 
-phase_step-level : (acts : Name → Place → Tree) (unit name : Name) (p : Place) (o : Option Name) (needs : List Name) (w : Work)
+phase_step-level : (acts : Name → Place → Tree) (unit name : Name) (p : Place) (o : Option Name) (needs : List Need) (w : Work)
     → (not (some_unit o) && not (some_chart w)) ≡ true → IsActOf in_operation unit (asked_by o needs) (task_of acts (unit_below unit o) name p w)
 phase_step-level acts unit name p None needs (Follows c) e = absurd cc
 phase_step-level acts unit name p None needs (Runs phase values) e = refl
 phase_step-level acts unit name p (Some own) needs w e = absurd cc
 
 operation-level : (acts : Name → Name → Place → Tree) → ((unit name : Name) (p : Place) → IsOfLevel in_operation unit (acts unit name p))
-    → (unit name : Name) (p : Place) (o : Option Name) (needs : List Name) (w : Work)
+    → (unit name : Name) (p : Place) (o : Option Name) (needs : List Need) (w : Work)
     → (not (some_unit o) && some_chart w) ≡ true → IsActOf in_unit_procedure unit (asked_by o needs) (task_of (acts (unit_below unit o)) (unit_below unit o) name p w)
 operation-level acts named unit name p None needs (Follows c) e = expanded-level in_operation unit (acts unit) (named unit) (child p 0) (diagram_of c) (λ q. tt)
 operation-level acts named unit name p None needs (Runs phase values) e = absurd cc
 operation-level acts named unit name p (Some own) needs w e = absurd cc
 
 unit_procedure-level : (acts : Name → Name → Place → Tree) → ((unit name : Name) (p : Place) → IsOfLevel in_unit_procedure unit (acts unit name p))
-    → (above unit name : Name) (p : Place) (o : Option Name) (needs : List Name) (w : Work)
+    → (above unit name : Name) (p : Place) (o : Option Name) (needs : List Need) (w : Work)
     → (some_unit o && some_chart w) ≡ true → no_par w ≡ true → IsActOf in_procedure above (asked_by o needs) (task_of (acts (unit_below unit o)) (unit_below unit o) name p w)
 unit_procedure-level acts named above unit name p None needs w e n = absurd cc
 unit_procedure-level acts named above unit name p (Some own) needs (Follows c) e n =
-    expanded-level in_unit_procedure own (acts own) (named own) (child p 0) (diagram_of c) (λ q. absurd cc)
+    (refl, expanded-level in_unit_procedure own (acts own) (named own) (child p 0) (diagram_of c) (λ q. absurd cc))
 unit_procedure-level acts named above unit name p (Some own) needs (Runs phase values) e n = absurd cc
 
 procedure-level : (acts : Name → Name → Place → Tree) → ((unit name : Name) (p : Place) → IsOfLevel in_procedure [] (acts unit name p)) → (a : Act) (p : Place) (o : Option Name) (w : Work)

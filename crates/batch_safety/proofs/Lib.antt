@@ -27,5 +27,4 @@ pub mod Ways
 pub mod Clearing
 pub mod Levels
 pub mod Awaiting
-pub mod Exclusive
 pub mod Joined

@@ -1,5 +1,5 @@
 -- Each move keeps what is kept.
-use Rattle.std.proofs.Common.{◌≡◌, ⊎_elim, refl, sym, ◌∙◌, ap, subst, ℕ, zero, suc, pred, ◌<◌, arith, List, [], ◌∷◌, ◌++◌, Bool, true, false, ◌&&◌, ◌||◌, take, slice_get, Option, Some, None, inl, length, append-nil, nat_lt}
+use Rattle.std.proofs.Common.{◌≡◌, ⊎_elim, refl, sym, ◌∙◌, ap, subst, ℕ, zero, suc, pred, ◌<◌, ◌≤◌, ◌+◌, nat_le, arith, List, [], ◌∷◌, ◌++◌, Bool, true, false, ◌&&◌, ◌||◌, take, slice_get, Option, Some, None, inl, length, append-nil}
 use Rattle.std.proofs.lemmas.List.{map-append}
 use Rattle.batch_matrix.specs.declared.state.State.{State}
 use Rattle.batch_matrix.specs.declared.command.Command.{Command}
@@ -8,7 +8,7 @@ use Rattle.batch_model.specs.Lists.{Has}
 use Rattle.batch_recipe.specs.Conditions.{Name, ValueList}
 use Rattle.batch_recipe.specs.Tree.{Place, Step, Phase, Task, runs, follows, Tree}
 use Rattle.batch_model.specs.Rest.{Rest, ready, asking, open_act, live, freeing, in_seq, in_par, in_loop, done, is_done, acts}
-use Rattle.batch_model.specs.Plant.{Documents, Batch, Plant, in_act, place_of, held_in, holders}
+use Rattle.batch_model.specs.Plant.{Documents, Batch, units_in, Plant, in_act, place_of, held_in, holders}
 use Rattle.batch_model.specs.Moves.{Move, send, release, begin, start, end, ask, grant, is_running, is_stopping, is_stopped, is_quiet, is_empty, passed_on, entering, giving_back, when, is_served, act_move, freed, sent, released, begun, ended, asked, granted, batch_after, after, handed_values}
 use Rattle.batch_model.specs.Runs.{Out, move}
 use Rattle.batch_model.specs.Records.{StartsIdle}
@@ -23,32 +23,33 @@ use Rattle.batch_safety.proofs.Batches.{holders-entries}
 use Rattle.batch_safety.proofs.Invariant.{IsFitting, IsSound, IsKept}
 use Rattle.batch_safety.proofs.Quiet.{quiet-performs_nothing, holding-nothing, no_facts, fit-stopping}
 use Rattle.batch_safety.proofs.Starting.{starts-nothing, starts-idle}
-use Rattle.batch_safety.proofs.Changing.{nothing, also, IsApart, stays, comes, IsChange, change-facts, change-sound, Becomes, not_performing}
+use Rattle.batch_safety.proofs.Changing.{nothing, also, IsApart, stays, comes, IsChange, change-facts, change-sound, Becomes, Lacks, not_performing}
 use Rattle.batch_safety.proofs.Keeping.{kept-quiet, kept-started, kept-asked, kept-granted, kept-released, act_frame, apart-here}
 use Rattle.batch_model.specs.Standing.{IsStandingBatch, IsStanding}
 use Rattle.batch_safety.proofs.Invariant.{standing-of}
+use Rattle.batch_recipe.specs.declared.need.Need.{Need}
 
 -- Lists of needs
 
-take-next : (k : ℕ) (xs : List Name) (r : Name) → slice_get xs k ≡ Some r → take (suc k) xs ≡ take k xs ++ r ∷ []
+take-next : (k : ℕ) (xs : List Need) (r : Need) → slice_get xs k ≡ Some r → take (suc k) xs ≡ take k xs ++ r ∷ []
 take-next k [] r e = absurd cc
 take-next zero (x ∷ xs) r e = (let q : x ≡ r = cc in ap (λ z. z ∷ []) q)
 take-next (suc k) (x ∷ xs) r e = ap (λ z. x ∷ z) (take-next k xs r e)
 
-take-whole : (k : ℕ) (xs : List Name) → slice_get xs k ≡ None → take k xs ≡ xs
+take-whole : (k : ℕ) (xs : List Need) → slice_get xs k ≡ None → take k xs ≡ xs
 take-whole zero [] e = refl
 take-whole (suc k) [] e = refl
 take-whole zero (x ∷ xs) e = absurd cc
 take-whole (suc k) (x ∷ xs) e = ap (λ z. x ∷ z) (take-whole k xs e)
 
-pub take-length : (xs : List Name) → take (length xs) xs ≡ xs
+pub take-length : (xs : List Need) → take (length xs) xs ≡ xs
 take-length [] = refl
 take-length (x ∷ xs) = ap (λ z. x ∷ z) (take-length xs)
 
-held-append : (p : Place) (xs ys : List Name) → held_at p (xs ++ ys) ≡ held_at p xs ++ held_at p ys
+held-append : (p : Place) (xs ys : List Need) → held_at p (xs ++ ys) ≡ held_at p xs ++ held_at p ys
 held-append p xs ys = map-append (λ r. let z : Standing = (p, holding r) in z) xs ys
 
-held-next : (p : Place) (k : ℕ) (xs : List Name) (r : Name) → slice_get xs k ≡ Some r → held_at p (take (suc k) xs) ≡ held_at p (take k xs) ++ (p, holding r) ∷ []
+held-next : (p : Place) (k : ℕ) (xs : List Need) (r : Need) → slice_get xs k ≡ Some r → held_at p (take (suc k) xs) ≡ held_at p (take k xs) ++ (p, holding r) ∷ []
 held-next p k xs r e = ap (held_at p) (take-next k xs r e) ∙ held-append p (take k xs) (r ∷ [])
 
 pub freed-facts : (s : Step) (k : ℕ) → facts (freed s k) ≡ held_at s.place (take k s.needs)
@@ -104,10 +105,11 @@ module _ (d : Documents) (rank : Ranking) (outs : List Out) (s : Plant) (sd : Is
       subst (λ z. Has z e) (sym fr.2) (frame-middle fr.0 (facts a) fr.1 e h)
 
   -- the first k needs of an act lack the next
-  lacks-next : (a : Rest) → Has (acts b.rest) a → (n : ℕ) (r : Name) → slice_get (needs_of a) n ≡ Some r → Has (take n (needs_of a)) r → ⊥
-  lacks-next a j n r e h =
+  lacks-next : (a : Rest) → Has (acts b.rest) a → (n : ℕ) (r : Need) → slice_get (needs_of a) n ≡ Some r → Lacks (take n (needs_of a)) r
+  lacks-next a j n r e x h q =
       let low : NeedsRise (λ q. suc (rank q)) a = needs-rise (λ q. suc (rank q)) 0 b.recipe.procedure b.rest fine.cleared.rising here.stands a j in
-      let no_rise : suc (rank r) < suc (rank r) = rises-next (λ q. suc (rank q)) low.0 n (needs_of a) r r low.1 h e in
+      let no_rise : suc (rank x.resource) < suc (rank r.resource) = rises-next (λ q. suc (rank q)) low.0 n (needs_of a) x r low.1 h e in
+      let same : rank x.resource ≡ rank r.resource = ap rank q in
       absurd (omega arith)
 
   step-send : (p : Step) (x : Phase) (t : State) (c : Command) → Has (acts b.rest) (live p x t) → Stepped d rank outs s (send b.number p.place x c)
@@ -165,7 +167,7 @@ module _ (d : Documents) (rank : Ranking) (outs : List Out) (s : Plant) (sd : Is
             )),
       )
 
-  step-ask : (p : Step) (w : Task) (n : ℕ) (r : Name) → Has (acts b.rest) (ready p w n) → slice_get p.needs n ≡ Some r → is_running b.state ≡ true
+  step-ask : (p : Step) (w : Task) (n : ℕ) (r : Need) → Has (acts b.rest) (ready p w n) → slice_get p.needs n ≡ Some r → is_running b.state ≡ true
       → Stepped d rank outs s (ask b.number p.place r)
   step-ask p w n r j e running =
       let m : Move = ask b.number p.place r in
@@ -176,25 +178,26 @@ module _ (d : Documents) (rank : Ranking) (outs : List Out) (s : Plant) (sd : Is
         starts-nothing d outs (move m) (λ n q y vs e. cc),
       )
 
-  step-grant : (p : Step) (w : Task) (n : ℕ) (r : Name) → Has (acts b.rest) (asking p w n) → slice_get p.needs n ≡ Some r → is_served d s r (b.number, p.place) ≡ true
+  step-grant : (p : Step) (w : Task) (n : ℕ) (r : Need) → Has (acts b.rest) (asking p w n) → slice_get p.needs n ≡ Some r → is_served d s r (b.number, p.place) ≡ true
       → Stepped d rank outs s (grant b.number p.place r)
   step-grant p w n r j e served =
       let m : Move = grant b.number p.place r in
       let a : Rest = asking p w n in
       let ch = change a m granted refl in
       let was : facts a ≡ held_at p.place (take n p.needs) ++ (p.place, awaiting r) ∷ [] = ap (λ z. held_at p.place (take n p.needs) ++ awaited_at p.place z) e in
-      let room : nat_lt (length (holders s r)) (d.capacity r) ≡ true = (both (nat_lt (length (holders s r)) (d.capacity r)) _ served).0 in
-      let same : length (holders s r) ≡ length (holders_among r (entries s.batches)) = ap (λ z. length z) (holders-entries s r) in (
+      let room : nat_le (units_in (holders s r.resource) + r.units) (d.capacity r.resource) ≡ true
+      = (both (nat_le (units_in (holders s r.resource) + r.units) (d.capacity r.resource)) _ served).0 in
+      let same : units_in (holders s r.resource) ≡ units_in (holders_among r.resource (entries s.batches)) = ap (λ z. units_in z) (holders-entries s r.resource) in (
         kept-granted d rank outs s sd k b i a j (batch_after m) granted b.values ch (take n p.needs) r
             (record { was = was; is = held-next p.place n p.needs r e })
-            (let free : length (holders s r) < d.capacity r = grind arith in omega arith)
+            (let free : units_in (holders s r.resource) + r.units ≤ d.capacity r.resource = grind arith in omega arith)
             (own-fact a j (p.place, awaiting r) (subst (λ z. Has z (p.place, awaiting r)) (sym was) (Has-right (held_at p.place (take n p.needs)) ((p.place, awaiting r) ∷ []) (p.place, awaiting r) (inl refl))))
             (lacks-next a j n r e) refl,
         starts-nothing d outs (move m) (λ n q y vs e. cc),
       )
 
   -- a release of the need after the first n, which a holds, and after it the first n
-  step-release : (a : Rest) → Has (acts b.rest) a → (n : ℕ) (r : Name) → slice_get (needs_of a) n ≡ Some r
+  step-release : (a : Rest) → Has (acts b.rest) a → (n : ℕ) (r : Need) → slice_get (needs_of a) n ≡ Some r
       → facts a ≡ held_at (place_of a) (take (suc n) (needs_of a)) → facts (released a) ≡ held_at (place_of a) (take n (needs_of a))
       → Stepped d rank outs s (release b.number (place_of a) r)
   step-release a j n r e was is =
@@ -207,13 +210,13 @@ module _ (d : Documents) (rank : Ranking) (outs : List Out) (s : Plant) (sd : Is
       )
 
   given_back : (a : Rest) → Has (acts b.rest) a → (p : Step) (n : ℕ) (m : Move) → place_of a ≡ p.place → needs_of a ≡ p.needs
-      → ((l : ℕ) (r : Name) → n ≡ suc l → slice_get p.needs l ≡ Some r → facts a ≡ held_at (place_of a) (take (suc l) (needs_of a)))
+      → ((l : ℕ) (r : Need) → n ≡ suc l → slice_get p.needs l ≡ Some r → facts a ≡ held_at (place_of a) (take (suc l) (needs_of a)))
       → ((l : ℕ) → n ≡ suc l → facts (released a) ≡ held_at (place_of a) (take l (needs_of a)))
       → giving_back b p n ≡ Some m → Stepped d rank outs s m
   given_back a j p zero m at needs was is e = absurd (no_move m e)
   given_back a j p (suc l) m at needs was is e = go (slice_get p.needs l) refl e
     where
-      go : (o : Option Name) → slice_get p.needs l ≡ o → ◌≡◌ {A = Option Move} (elim o [ None ↦ None | Some r ↦ Some (release b.number p.place r) ]) (Some m) → Stepped d rank outs s m
+      go : (o : Option Need) → slice_get p.needs l ≡ o → ◌≡◌ {A = Option Move} (elim o [ None ↦ None | Some r ↦ Some (release b.number p.place r) ]) (Some m) → Stepped d rank outs s m
       go None q f = absurd (no_move m f)
       go (Some r) q f =
           subst (Stepped d rank outs s) (ap (λ z. release b.number z r) at ∙ some_move (release b.number p.place r) m f)
@@ -222,7 +225,7 @@ module _ (d : Documents) (rank : Ranking) (outs : List Out) (s : Plant) (sd : Is
   step-ready : (p : Step) (w : Task) (n : ℕ) (m : Move) → Has (acts b.rest) (ready p w n) → act_move d s b (ready p w n) ≡ Some m → IsStanding d (after s m) → Stepped d rank outs s m
   step-ready p w n m j e td = go (is_running b.state) refl e
     where
-      enter : (o : Option Name) → slice_get p.needs n ≡ o → is_running b.state ≡ true → (v : Task) → w ≡ v
+      enter : (o : Option Need) → slice_get p.needs n ≡ o → is_running b.state ≡ true → (v : Task) → w ≡ v
           → ◌≡◌ {A = Option Move}
           (elim o [
             | Some r ↦ Some (ask b.number p.place r)
@@ -251,11 +254,11 @@ module _ (d : Documents) (rank : Ranking) (outs : List Out) (s : Plant) (sd : Is
   step-asking : (p : Step) (w : Task) (n : ℕ) (m : Move) → Has (acts b.rest) (asking p w n) → act_move d s b (asking p w n) ≡ Some m → Stepped d rank outs s m
   step-asking p w n m j e = go (slice_get p.needs n) refl e
     where
-      serve : (r : Name) → slice_get p.needs n ≡ Some r → (t : Bool) → is_served d s r (b.number, p.place) ≡ t → when t (grant b.number p.place r) ≡ Some m → Stepped d rank outs s m
+      serve : (r : Need) → slice_get p.needs n ≡ Some r → (t : Bool) → is_served d s r (b.number, p.place) ≡ t → when t (grant b.number p.place r) ≡ Some m → Stepped d rank outs s m
       serve r q true u f = subst (Stepped d rank outs s) (some_move (grant b.number p.place r) m f) (step-grant p w n r j q u)
       serve r q false u f = absurd (no_move m f)
 
-      go : (o : Option Name) → slice_get p.needs n ≡ o
+      go : (o : Option Need) → slice_get p.needs n ≡ o
           → ◌≡◌ {A = Option Move} (elim o [ None ↦ None | Some r ↦ when (is_served d s r (b.number, p.place)) (grant b.number p.place r) ]) (Some m) → Stepped d rank outs s m
       go None q f = absurd (no_move m f)
       go (Some r) q f = serve r q (is_served d s r (b.number, p.place)) refl f

@@ -1,7 +1,6 @@
 -- All facts of a rest stand at or below the place of its chart.
 use Rattle.std.proofs.Common.{◌+◌, ◌≡◌, sym, ◌∙◌, ap, ℕ, ◌≤◌, arith, List, [], ◌∷◌, ◌++◌, take, slice_get, Option, Some, None, inl, inr, ⊎_elim, append_assoc, append-nil}
 use Rattle.batch_model.specs.Lists.{Has}
-use Rattle.batch_recipe.specs.Conditions.{Name}
 use Rattle.batch_recipe.specs.Tree.{Place, Tree, act, seq, par, sel, loop, Task, runs, follows, Trees, no_trees, tree, Choices, otherwise, choice}
 use Rattle.batch_model.specs.Rest.{Rest, ready, asking, open_act, live, freeing, in_seq, in_par, in_loop, done, Rests, no_rests, rest, acts, acts_of_each}
 use Rattle.batch_model.specs.Plant.{place_of}
@@ -12,6 +11,7 @@ use Rattle.batch_model.specs.Standing.{IsRestOf, IsRestBelow, IsBranch, AreBranc
 use Rattle.batch_model.specs.Placed.{IsPlaced, IsPlacedBelow, ArePlaced, IsChoicePlaced}
 use Rattle.batch_model.proofs.Members.{Has-split}
 use Rattle.batch_safety.proofs.Members.{Has-map}
+use Rattle.batch_recipe.specs.declared.need.Need.{Need}
 
 -- at or below child i of p
 abbrev pub IsUnderChild : Place → ℕ → Place → Type 0
@@ -33,10 +33,10 @@ here p = ([], append-nil p)
 pub is_at : (p q : Place) → q ≡ p → IsAtOrAbove p q
 is_at p q e = ([], append-nil p ∙ sym e)
 
-pub held-place : (p : Place) (names : List Name) (e : Standing) → Has (held_at p names) e → e.0 ≡ p
+pub held-place : (p : Place) (names : List Need) (e : Standing) → Has (held_at p names) e → e.0 ≡ p
 held-place p names e h = let k = Has-map (λ r. let s : Standing = (p, holding r) in s) names e h in ap (λ s. s.0) (sym k.2)
 
-awaited-place : (p : Place) (o : Option Name) (e : Standing) → Has (awaited_at p o) e → e.0 ≡ p
+awaited-place : (p : Place) (o : Option Need) (e : Standing) → Has (awaited_at p o) e → e.0 ≡ p
 awaited-place p None e h = absurd h
 awaited-place p (Some r) e (inl q) = ap (λ s. s.0) (sym q)
 awaited-place p (Some r) e (inr q) = absurd q

@@ -3,7 +3,6 @@ use Rattle.std.proofs.Common.{◌≡◌, ⊎_elim, refl, ap, List, [], ◌∷◌
 use Rattle.batch_matrix.specs.declared.state.State.{State}
 use Rattle.batch_matrix.specs.declared.state.State.TheVariants.{Idle, Running, Pausing, Paused, Holding, Held, Restarting, Stopping, Stopped, Aborting, Aborted, Complete}
 use Rattle.batch_model.specs.Lists.{Has}
-use Rattle.batch_recipe.specs.Conditions.{Name}
 use Rattle.batch_recipe.specs.Tree.{Place, Step, Phase}
 use Rattle.batch_model.specs.Rest.{Rest, ready, asking, open_act, live, freeing, in_seq, in_par, in_loop, done, Rests, no_rests, rest, acts, acts_of_each}
 use Rattle.batch_model.specs.Plant.{held_by, held_in, phase_states}
@@ -14,6 +13,7 @@ use Rattle.batch_safety.proofs.Members.{flat_map-Has}
 use Rattle.batch_safety.proofs.Ranking.{held-holding, held-performing, awaited-holding, awaited-performing, lone-holding}
 use Rattle.batch_safety.proofs.Units.{lone-performing}
 use Rattle.batch_safety.proofs.Invariant.{IsFitting, NothingAwaited, no_members}
+use Rattle.batch_recipe.specs.declared.need.Need.{Need}
 
 abbrev pub LiveAct : List Rest → Phase → Type 0
 LiveAct as' x = (s : Step) × (t : State) × Has as' (live s x t)
@@ -78,11 +78,11 @@ quiet-performs_nothing r e q x h =
     let t = live-state (acts r) a.0 x a.1 a.2 in
     empty-none (phase_states (acts r)) t.0 e t.1
 
-abbrev HoldingAct : List Rest → Name → Type 0
+abbrev HoldingAct : List Rest → Need → Type 0
 HoldingAct as' x = (a : Rest) × Has as' a × Has (held_by a) x
 
 mutual
-  holding-act : (r : Rest) (q : Place) (x : Name) → Has (facts r) (q, holding x) → HoldingAct (acts r) x
+  holding-act : (r : Rest) (q : Place) (x : Need) → Has (facts r) (q, holding x) → HoldingAct (acts r) x
   holding-act (ready s w k) q x h = (ready s w k, inl refl, held-holding s.place (take k s.needs) q x h)
   holding-act (asking s w k) q x h = (
     asking s w k,
@@ -105,19 +105,19 @@ mutual
   holding-act (in_loop n c body r) q x h = holding-act r q x h
   holding-act done q x h = absurd h
 
-  holding-act_of_each : (rs : Rests) (q : Place) (x : Name) → Has (facts_of_each rs) (q, holding x) → HoldingAct (acts_of_each rs) x
+  holding-act_of_each : (rs : Rests) (q : Place) (x : Need) → Has (facts_of_each rs) (q, holding x) → HoldingAct (acts_of_each rs) x
   holding-act_of_each no_rests q x h = absurd h
   holding-act_of_each (rest r rs) q x h =
       ⊎_elim (λ m. let k = holding-act r q x m in (k.0, Has-left (acts r) (acts_of_each rs) k.0 k.1, k.2))
       (λ m. let k = holding-act_of_each rs q x m in (k.0, Has-right (acts r) (acts_of_each rs) k.0 k.1, k.2))
       (Has-split (facts r) (facts_of_each rs) (q, holding x) h)
 
-pub holding-nothing : (r : Rest) → is_empty (held_in r) ≡ true → (q : Place) (x : Name) → Has (facts r) (q, holding x) → ⊥
+pub holding-nothing : (r : Rest) → is_empty (held_in r) ≡ true → (q : Place) (x : Need) → Has (facts r) (q, holding x) → ⊥
 holding-nothing r e q x h =
     let a = holding-act r q x h in
     empty-none (held_in r) x e (flat_map-Has held_by (acts r) a.0 x a.1 a.2)
 
-pub no_facts : (es : List Standing) → NothingAwaited es → ((q : Place) (x : Phase) → Has es (q, performing x) → ⊥) → ((q : Place) (x : Name) → Has es (q, holding x) → ⊥) → es ≡ []
+pub no_facts : (es : List Standing) → NothingAwaited es → ((q : Place) (x : Phase) → Has es (q, performing x) → ⊥) → ((q : Place) (x : Need) → Has es (q, holding x) → ⊥) → es ≡ []
 no_facts es w p h = no_members es none
   where
     none : (e : Standing) → Has es e → ⊥

@@ -1,11 +1,12 @@
 -- Reaching a chart and advancing change no facts; withdrawing takes the asks away.
 use Rattle.std.proofs.Common.{◌≡◌, refl, sym, ◌∙◌, ap, ap₂, ℕ, zero, suc, pred, List, [], ◌∷◌, ◌++◌, Bool, true, false, ◌&&◌, filter, take, slice_get, Option, Some, None, append-nil}
 use Rattle.std.proofs.lemmas.List.Elements.{filter-append}
-use Rattle.batch_recipe.specs.Conditions.{Name, ValueList, holds}
+use Rattle.batch_recipe.specs.Conditions.{ValueList, holds}
 use Rattle.batch_recipe.specs.declared.condition.Cond.{Cond}
 use Rattle.batch_recipe.specs.Tree.{Place, Tree, act, skip, seq, par, sel, loop, Trees, no_trees, tree, Choices, otherwise, choice}
 use Rattle.batch_model.specs.Rest.{Rest, ready, asking, open_act, live, freeing, in_seq, in_par, in_loop, done, Rests, no_rests, rest, is_done, all_done, joined, turning, reach, reach_first, reach_each, reach_chosen, turned, advance, advance_each, withdrawn, withdrawn_each}
 use Rattle.batch_safety.proofs.Facts.{holding, awaiting, performing, Standing, held_at, awaited_at, facts, facts_of_each}
+use Rattle.batch_recipe.specs.declared.need.Need.{Need}
 
 pub done-facts : (r : Rest) → is_done r ≡ true → facts r ≡ []
 done-facts done e = refl
@@ -110,11 +111,11 @@ is_kept (p, awaiting r) = false
 is_kept (p, holding r) = true
 is_kept (p, performing x) = true
 
-held-kept : (p : Place) (names : List Name) → filter is_kept (held_at p names) ≡ held_at p names
+held-kept : (p : Place) (names : List Need) → filter is_kept (held_at p names) ≡ held_at p names
 held-kept p [] = refl
 held-kept p (r ∷ names) = ap (λ xs. (p, holding r) ∷ xs) (held-kept p names)
 
-awaited-kept : (p : Place) (o : Option Name) → filter is_kept (awaited_at p o) ≡ []
+awaited-kept : (p : Place) (o : Option Need) → filter is_kept (awaited_at p o) ≡ []
 awaited-kept p None = refl
 awaited-kept p (Some r) = refl
 

@@ -28,6 +28,7 @@ kept-at_first d rank =
       held = λ q. (refl, λ a h. h, λ a h. h, tt);
       within = λ q. zero-le;
       lines = λ q. refl;
+      once = λ q. tt;
       asked = λ q a h. absurd h;
       active = λ x h. absurd h;
       listed = λ q a h. absurd h;

@@ -3,20 +3,22 @@ use Rattle.std.proofs.Common.{◌≡◌, ◌⊎◌, sym, ◌∙◌, ap, ap₂, s
 use Rattle.batch_matrix.specs.declared.state.State.{State}
 use Rattle.batch_model.specs.Lists.{Has, Each}
 use Rattle.batch_recipe.specs.Tree.{Place}
-use Rattle.batch_model.specs.Plant.{Documents, Batch, BatchAct, Plant}
+use Rattle.batch_model.specs.Plant.{Documents, Batch, BatchAct, Share, acts_in, Plant}
 use Rattle.batch_model.specs.Runs.{Out}
-use Rattle.batch_model.specs.Records.{holders_told, waiters_told, state_told, IsAtRest, scene_told, Waiting, IsWaiting, IsAtOrAbove, PointsTo, PointAlong, HasCapacity, HoldsUnits, StartsIdle, HasNoCircle, RestsEmpty, IsSafeNow}
-use Rattle.batch_safety.proofs.Facts.{Fact, holding, awaiting, performing, Standing, facts, entry, entries_of, entries}
+use Rattle.batch_model.specs.Records.{holders_told, waiters_told, state_told, IsAtRest, scene_told, Waiting, IsWaiting, IsAtOrAbove, StandsBefore, WaitsForHolder, WaitsForOlder, PointsTo, PointAlong, HasCapacity, HoldsUnits, StartsIdle, HasNoCircle, RestsEmpty, IsSafeNow}
+use Rattle.batch_safety.proofs.Facts.{Fact, holding, awaiting, performing, Standing, facts, entry, entries_of, entries, need, share}
 use Rattle.batch_model.specs.Cleared.{Ranking}
 use Rattle.batch_model.proofs.Members.{Has-flat_map}
 use Rattle.batch_safety.proofs.Members.{Has-map, map-Has, flat_map-Has, Has-Each}
 use Rattle.batch_safety.proofs.Ranking.{rank-rises}
 use Rattle.batch_safety.proofs.Units.{unit-held}
-use Rattle.batch_safety.proofs.Entries.{Has-holders, holders-Has}
+use Rattle.batch_safety.proofs.Entries.{IsOnce, Has-holders, holders-Has}
 use Rattle.batch_safety.proofs.Batches.{same-batch}
 use Rattle.batch_safety.proofs.Invariant.{IsSound, IsKept, at_rest-nothing}
 use Rattle.batch_model.specs.Standing.{IsStandingBatch, IsStanding}
 use Rattle.batch_safety.proofs.Invariant.{standing-of, numbers-of}
+use Rattle.batch_recipe.specs.Needs.{one_unit}
+use Rattle.batch_recipe.specs.Conditions.{Name}
 
 -- an entry is a fact of a batch
 pub entry-of : (bs : List Batch) (a : BatchAct) (f : Fact) → Has (entries bs) (a, f) → (b : Batch) × Has bs b × (b.number ≡ a.0) × Has (facts b.rest) (a.1, f)
@@ -32,6 +34,29 @@ entry-of bs a f h =
 pub of-entry : (bs : List Batch) (b : Batch) (p : Place) (f : Fact) → Has bs b → Has (facts b.rest) (p, f) → Has (entries bs) ((b.number, p), f)
 of-entry bs b p f h k = flat_map-Has entries_of bs b ((b.number, p), f) h (map-Has (entry b.number) (facts b.rest) (p, f) k)
 
+-- Places in a line
+
+before-Has : (xs : List BatchAct) (a b : BatchAct) → StandsBefore xs a b → Has xs b
+before-Has [] a b h = absurd h
+before-Has (x ∷ xs) a b (inl p) = inr p.1
+before-Has (x ∷ xs) a b (inr p) = inr (before-Has xs a b p)
+
+-- an act that stands first stands nowhere else
+stands_once : (x : Share) (xs : List Share) → IsOnce (x ∷ xs) → (a : BatchAct) → x.act ≡ a → Has (acts_in xs) a → ⊥
+stands_once x xs h a e k = let m = Has-map (λ z. z.act) xs a k in h.0 m.0 m.1 (m.2 ∙ sym e)
+
+before-on : (xs : List Share) → IsOnce xs → (a b c : BatchAct) → StandsBefore (acts_in xs) a b → StandsBefore (acts_in xs) b c → StandsBefore (acts_in xs) a c
+before-on [] h a b c p q = p
+before-on (x ∷ xs) h a b c (inl p) (inl q) = inl (p.0, q.1)
+before-on (x ∷ xs) h a b c (inl p) (inr q) = inl (p.0, before-Has (acts_in xs) b c q)
+before-on (x ∷ xs) h a b c (inr p) (inl q) = absurd (stands_once x xs h b q.0 (before-Has (acts_in xs) a b p))
+before-on (x ∷ xs) h a b c (inr p) (inr q) = inr (before-on xs h.1 a b c p q)
+
+not_before : (xs : List Share) → IsOnce xs → (a : BatchAct) → StandsBefore (acts_in xs) a a → ⊥
+not_before [] h a p = p
+not_before (x ∷ xs) h a (inl p) = stands_once x xs h a p.0 p.1
+not_before (x ∷ xs) h a (inr p) = not_before xs h.1 a p
+
 module _ (d : Documents) (rank : Ranking) (outs : List Out) (s : Plant) (sd : IsStanding d s) (k : IsKept d rank outs s) where
   within-capacity : HasCapacity d outs
   within-capacity r = subst (λ z. z ≤ d.capacity r) (sym (k.held r).0) (k.within r)
@@ -43,14 +68,15 @@ module _ (d : Documents) (rank : Ranking) (outs : List Out) (s : Plant) (sd : Is
       go e.0 e.1 e.2 (unit-held [] (0 ∷ []) e.0.recipe.procedure e.0.rest sound.cleared.placed sound.cleared.in_units here.stands a.act.1 a.phase e.3)
     where
       go : (b : Batch) → Has s.batches b → b.number ≡ a.act.0
-          → ⊥ ⊎ ((p : Place) × Has (facts b.rest) (p, holding a.phase.unit) × IsAtOrAbove p a.act.1 × (p ≡ a.act.1 → ⊥))
-          → (p : Place) × Has (holders_told outs a.phase.unit) (a.act.0, p) × IsAtOrAbove p a.act.1 × (p ≡ a.act.1 → ⊥)
+          → ⊥ ⊎ ((p : Place) × Has (facts b.rest) (p, holding (one_unit a.phase.unit)) × IsAtOrAbove p a.act.1 × (p ≡ a.act.1 → ⊥))
+          → (p : Place) × Has (acts_in (holders_told outs a.phase.unit)) (a.act.0, p) × IsAtOrAbove p a.act.1 × (p ≡ a.act.1 → ⊥)
       go b i n (inl o) = absurd o
       go b i n (inr o) = (
         o.0,
-        (k.held a.phase.unit).2 (a.act.0, o.0)
-            (holders-Has a.phase.unit (entries s.batches) (a.act.0, o.0)
-            (subst (λ z. Has (entries s.batches) ((z, o.0), holding a.phase.unit)) n (of-entry s.batches b o.0 (holding a.phase.unit) i o.1))),
+        map-Has (λ h. h.act) (holders_told outs a.phase.unit) (share (a.act.0, o.0) 1)
+            ((k.held a.phase.unit).2 (share (a.act.0, o.0) 1)
+            (holders-Has a.phase.unit (entries s.batches) (share (a.act.0, o.0) 1)
+            (subst (λ z. Has (entries s.batches) ((z, o.0), holding (one_unit a.phase.unit))) n (of-entry s.batches b o.0 (holding (one_unit a.phase.unit)) i o.1)))),
         o.2,
         o.3,
       )
@@ -58,27 +84,56 @@ module _ (d : Documents) (rank : Ranking) (outs : List Out) (s : Plant) (sd : Is
   abbrev pub rank_of : Waiting → ℕ
   rank_of w = suc (rank w.resource)
 
-  -- a waiting step has a lower rank than each that it points to
-  pub points-rise : (w v : Waiting) → IsWaiting (scene_told outs) v → PointsTo (scene_told outs) w v → rank_of w < rank_of v
-  points-rise w v h p =
-      let asks = entry-of s.batches v.act (awaiting v.resource) (k.asked v.resource v.act (subst (λ z. Has z v.act) (k.lines v.resource) h)) in
-      let holds = entry-of s.batches (v.act.0, p.0) (holding w.resource) (Has-holders w.resource (entries s.batches) (v.act.0, p.0) ((k.held w.resource).1 (v.act.0, p.0) p.1)) in
-      let same : holds.0 ≡ asks.0 = same-batch s.next_number s.batches holds.0 asks.0 (numbers-of d s sd) holds.1 asks.1 (holds.2 ∙ sym asks.2) in
+  -- a waiting step has a lower rank than each that stands at or below a holder of its resource
+  pub holder-rises : (w v : Waiting) → IsWaiting (scene_told outs) v → WaitsForHolder (scene_told outs) w v → rank_of w < rank_of v
+  holder-rises w v h p =
+      let x = Has-map (λ z. z.act) (waiters_told outs v.resource) v.act h in
+      let y = Has-map (λ z. z.act) (holders_told outs w.resource) (v.act.0, p.0) p.1 in
+      let asks = entry-of s.batches x.0.act (awaiting (need v.resource x.0.units)) (k.asked v.resource x.0 (subst (λ z. Has z x.0) (k.lines v.resource) x.1)) in
+      let holds = entry-of s.batches y.0.act (holding (need w.resource y.0.units)) (Has-holders w.resource (entries s.batches) y.0 ((k.held w.resource).1 y.0 y.1)) in
+      let same : holds.0 ≡ asks.0
+      = same-batch s.next_number s.batches holds.0 asks.0 (numbers-of d s sd) holds.1 asks.1 (holds.2 ∙ ap (λ z. z.0) y.2 ∙ sym (asks.2 ∙ ap (λ z. z.0) x.2)) in
       let sound : IsSound d rank asks.0 = k.sound asks.0 asks.1 in let here : IsStandingBatch d asks.0 = standing-of d s sd asks.0 asks.1 in
-      rank-rises (λ q. suc (rank q)) 0 (0 ∷ []) asks.0.recipe.procedure asks.0.rest sound.cleared.placed sound.cleared.rising here.stands p.0 v.act.1 w.resource v.resource
-      (subst (λ z. Has (facts z.rest) (p.0, holding w.resource)) same holds.3) asks.3 p.2
+      let below : IsAtOrAbove y.0.act.1 x.0.act.1
+      = subst (λ z. IsAtOrAbove z x.0.act.1) (sym (ap (λ z. z.1) y.2)) (subst (λ z. IsAtOrAbove p.0 z) (sym (ap (λ z. z.1) x.2)) p.2) in
+      rank-rises (λ q. suc (rank q)) 0 (0 ∷ []) asks.0.recipe.procedure asks.0.rest sound.cleared.placed sound.cleared.rising here.stands y.0.act.1 x.0.act.1
+      (need w.resource y.0.units) (need v.resource x.0.units)
+      (subst (λ z. Has (facts z.rest) (y.0.act.1, holding (need w.resource y.0.units))) same holds.3) asks.3 below
 
-  along-rises : (w : Waiting) (ws : List Waiting) (last : Waiting) → Each (IsWaiting (scene_told outs)) ws → IsWaiting (scene_told outs) last
-      → PointAlong (scene_told outs) w ws last → rank_of w < rank_of last
-  along-rises w [] last e l h = points-rise w last l h
-  along-rises w (v ∷ ws) last e l h =
-      let one : rank_of w < rank_of v = points-rise w v e.0 h.0 in
-      let more : rank_of v < rank_of last = along-rises v ws last e.1 l h.1 in
-      omega arith
+  -- v's resource has a higher rank than w's, or it is the same one and v's ask is older
+  abbrev Precedes : Waiting → Waiting → Type 0
+  Precedes w v = (rank_of w < rank_of v) ⊎ WaitsForOlder (scene_told outs) w v
+
+  once-told : (r : Name) → IsOnce (waiters_told outs r)
+  once-told r = subst IsOnce (sym (k.lines r)) (k.once r)
+
+  points-on : (w v : Waiting) → IsWaiting (scene_told outs) v → PointsTo (scene_told outs) w v → Precedes w v
+  points-on w v h (inl p) = inl (holder-rises w v h p)
+  points-on w v h (inr p) = inr p
+
+  precedes-on : (u v w : Waiting) → Precedes u v → Precedes v w → Precedes u w
+  precedes-on u v w (inl a) (inl b) = inl (omega (arith, a, b))
+  precedes-on u v w (inl a) (inr b) = inl (let e : rank w.resource ≡ rank v.resource = ap rank b.0 in omega (arith, a, e))
+  precedes-on u v w (inr a) (inl b) = inl (let e : rank v.resource ≡ rank u.resource = ap rank a.0 in omega (arith, b, e))
+  precedes-on u v w (inr a) (inr b) =
+      inr (
+        b.0 ∙ a.0,
+        before-on (waiters_told outs u.resource) (once-told u.resource) w.act v.act u.act
+            (subst (λ z. StandsBefore (acts_in (waiters_told outs z)) w.act v.act) a.0 b.1) a.1,
+      )
+
+  along-precedes : (w : Waiting) (ws : List Waiting) (last : Waiting) → Each (IsWaiting (scene_told outs)) ws → IsWaiting (scene_told outs) last
+      → PointAlong (scene_told outs) w ws last → Precedes w last
+  along-precedes w [] last e l h = points-on w last l h
+  along-precedes w (v ∷ ws) last e l h = precedes-on w v last (points-on w v e.0 h.0) (along-precedes v ws last e.1 l h.1)
+
+  not-itself : (w : Waiting) → Precedes w w → ⊥
+  not-itself w (inl a) = absurd (omega (arith, a))
+  not-itself w (inr a) = not_before (waiters_told outs w.resource) (once-told w.resource) w.act a.1
 
   has-no_circle : HasNoCircle outs
   has-no_circle [] h = h
-  has-no_circle (w ∷ ws) h = let no_rise : rank_of w < rank_of w = along-rises w ws w h.0.1 h.0.0 h.1 in absurd (omega arith)
+  has-no_circle (w ∷ ws) h = not-itself w (along-precedes w ws w h.0.1 h.0.0 h.1)
 
   nothing-at_rest : (n : ℕ) (x : State) → state_told outs n ≡ Some x → IsAtRest x → (a : BatchAct) (f : Fact) → Has (entries s.batches) (a, f) → a.0 ≡ n → ⊥
   nothing-at_rest n x t r a f h e =
@@ -93,8 +148,10 @@ module _ (d : Documents) (rank : Ranking) (outs : List Out) (s : Plant) (sd : Is
 
   rests-empty : RestsEmpty outs
   rests-empty n x t r q = (
-    Has-Each (λ a. a.0 ≡ n → ⊥) (holders_told outs q) (λ a h. nothing-at_rest n x t r a (holding q) (Has-holders q (entries s.batches) a ((k.held q).1 a h))),
-    Has-Each (λ a. a.0 ≡ n → ⊥) (waiters_told outs q) (λ a h. nothing-at_rest n x t r a (awaiting q) (k.asked q a (subst (λ z. Has z a) (k.lines q) h))),
+    Has-Each (λ h. h.act.0 ≡ n → ⊥) (holders_told outs q)
+        (λ a h. nothing-at_rest n x t r a.act (holding (need q a.units)) (Has-holders q (entries s.batches) a ((k.held q).1 a h))),
+    Has-Each (λ h. h.act.0 ≡ n → ⊥) (waiters_told outs q)
+        (λ a h. nothing-at_rest n x t r a.act (awaiting (need q a.units)) (k.asked q a (subst (λ z. Has z a) (k.lines q) h))),
   )
 
   pub safe-now : StartsIdle d outs → IsSafeNow d outs

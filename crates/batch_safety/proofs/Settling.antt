@@ -1,24 +1,25 @@
--- Where no move is possible: what is awaited is held to its capacity, and chains are short.
-use Rattle.std.proofs.Common.{◌≡◌, ⊎_elim, refl, sym, ◌∙◌, ap, ap₂, subst, ℕ, suc, ◌≤◌, ◌<◌, arith, List, [], ◌∷◌, ◌++◌, Bool, true, false, not, ◌&&◌, filter, filter_map, take, slice_get, Option, Some, None, inl, inr, length, bytes_eq, nat_lt}
+-- Where no move is possible: too little is free for the oldest ask, and chains are short.
+use Rattle.std.proofs.Common.{◌≡◌, ⊎_elim, refl, sym, ◌∙◌, ap, ap₂, subst, ℕ, suc, ◌+◌, nat_le, ◌≤◌, ◌<◌, arith, List, [], ◌∷◌, ◌++◌, Bool, true, false, not, ◌&&◌, filter, filter_map, take, slice_get, Option, Some, None, inl, inr, length, bytes_eq}
 use Rattle.std.specs.List.{cons_option}
 use Rattle.batch_model.specs.Lists.{Has}
 use Rattle.batch_recipe.specs.Conditions.{Name}
 use Rattle.batch_recipe.specs.Tree.{Place, Step, Task}
 use Rattle.batch_model.specs.Rest.{Rest, ready, asking, open_act, live, freeing, in_seq, in_par, in_loop, done, Rests, no_rests, rest, acts, acts_of_each}
-use Rattle.batch_model.specs.Plant.{Documents, Batch, BatchAct, Plant, is_same_act, holders}
+use Rattle.batch_model.specs.Plant.{Documents, Batch, BatchAct, Share, units_in, acts_in, Plant, is_same_act, holders}
 use Rattle.batch_model.specs.Moves.{Move, grant, act_move, state_move, batch_moves, possible, least, next, is_earlier, is_served, when}
 use Rattle.batch_model.specs.Runs.{Out}
-use Rattle.batch_model.specs.Records.{scene_of, Waiting, IsWaiting, Link, IsLink, IsChain, StandsUnder}
-use Rattle.batch_safety.proofs.Facts.{awaiting, performing, held_at, awaited_at, facts, facts_of_each, entries, holders_among}
+use Rattle.batch_model.specs.Records.{holders_told, scene_of, Link, IsLink, IsChain, StandsUnder}
+use Rattle.batch_safety.proofs.Facts.{awaiting, performing, held_at, awaited_at, facts, facts_of_each, need}
 use Rattle.batch_model.specs.Cleared.{Ranking}
 use Rattle.batch_model.proofs.Members.{Has-split, Has-left, Has-right}
-use Rattle.batch_safety.proofs.Members.{flat_map-Has}
+use Rattle.batch_safety.proofs.Members.{flat_map-Has, Has-map, map-Has}
 use Rattle.batch_safety.proofs.Ranking.{held-awaiting, awaited-awaiting, lone-awaiting}
 use Rattle.batch_safety.proofs.Entries.{act_self, name_self, name_same, filter-Has, length-filter_lt}
 use Rattle.batch_safety.proofs.Batches.{holders-entries}
 use Rattle.batch_safety.proofs.Invariant.{IsKept}
-use Rattle.batch_safety.proofs.Safety.{entry-of, points-rise}
+use Rattle.batch_safety.proofs.Safety.{entry-of, holder-rises}
 use Rattle.batch_model.specs.Standing.{IsStanding}
+use Rattle.batch_recipe.specs.declared.need.Need.{Need}
 
 -- No move
 
@@ -60,22 +61,22 @@ no_act_move d s e b i a j m f =
 
 -- The act that asks
 
-abbrev pub AskingAct : List Rest → Place → Name → Type 0
+abbrev pub AskingAct : List Rest → Place → Need → Type 0
 AskingAct as' q x = (p : Step) × (w : Task) × (n : ℕ) × Has as' (asking p w n) × (p.place ≡ q) × (slice_get p.needs n ≡ Some x)
 
-asking-left : (xs ys : List Rest) (q : Place) (x : Name) → AskingAct xs q x → AskingAct (xs ++ ys) q x
+asking-left : (xs ys : List Rest) (q : Place) (x : Need) → AskingAct xs q x → AskingAct (xs ++ ys) q x
 asking-left xs ys q x h = (h.0, h.1, h.2, Has-left xs ys (asking h.0 h.1 h.2) h.3, h.4, h.5)
 
-asking-right : (xs ys : List Rest) (q : Place) (x : Name) → AskingAct ys q x → AskingAct (xs ++ ys) q x
+asking-right : (xs ys : List Rest) (q : Place) (x : Need) → AskingAct ys q x → AskingAct (xs ++ ys) q x
 asking-right xs ys q x h = (h.0, h.1, h.2, Has-right xs ys (asking h.0 h.1 h.2) h.3, h.4, h.5)
 
-awaited-place : (p : Place) (o : Option Name) (q : Place) (x : Name) → Has (awaited_at p o) (q, awaiting x) → p ≡ q
+awaited-place : (p : Place) (o : Option Need) (q : Place) (x : Need) → Has (awaited_at p o) (q, awaiting x) → p ≡ q
 awaited-place p None q x h = absurd h
 awaited-place p (Some r) q x (inl e) = ap (λ z. z.0) e
 awaited-place p (Some r) q x (inr h) = absurd h
 
 mutual
-  pub awaiting-act : (r : Rest) (q : Place) (x : Name) → Has (facts r) (q, awaiting x) → AskingAct (acts r) q x
+  pub awaiting-act : (r : Rest) (q : Place) (x : Need) → Has (facts r) (q, awaiting x) → AskingAct (acts r) q x
   awaiting-act (ready s w k) q x h = absurd (held-awaiting s.place (take k s.needs) q x h)
   awaiting-act (asking s w k) q x h =
       ⊎_elim (λ m. absurd (held-awaiting s.place (take k s.needs) q x m))
@@ -92,70 +93,73 @@ mutual
   awaiting-act (in_loop n c body r) q x h = awaiting-act r q x h
   awaiting-act done q x h = absurd h
 
-  awaiting-act_of_each : (rs : Rests) (q : Place) (x : Name) → Has (facts_of_each rs) (q, awaiting x) → AskingAct (acts_of_each rs) q x
+  awaiting-act_of_each : (rs : Rests) (q : Place) (x : Need) → Has (facts_of_each rs) (q, awaiting x) → AskingAct (acts_of_each rs) q x
   awaiting-act_of_each no_rests q x h = absurd h
   awaiting-act_of_each (rest r rs) q x h =
       ⊎_elim (λ m. asking-left (acts r) (acts_of_each rs) q x (awaiting-act r q x m)) (λ m. asking-right (acts r) (acts_of_each rs) q x (awaiting-act_of_each rs q x m))
       (Has-split (facts r) (facts_of_each rs) (q, awaiting x) h)
 
-below : (m n : ℕ) → nat_lt m n ≡ false → n ≤ m
+below : (m n : ℕ) → nat_le m n ≡ false → n < m
 below m n e = grind arith
 
 and-head : (t v : Bool) → v ≡ true → (t && v) ≡ false → t ≡ false
 and-head true v e f = absurd (let c : ◌≡◌ {A = Bool} true false = sym e ∙ f in cc)
 and-head false v e f = refl
 
-abbrev first : List BatchAct → BatchAct → Bool
-first line a = elim line [ [] ↦ false | x ∷ xs ↦ is_same_act x a ]
+abbrev first : List Share → BatchAct → Bool
+first line a = elim line [ [] ↦ false | x ∷ xs ↦ is_same_act x.act a ]
 
 -- an act that asks and isn't granted isn't served
-unserved : (d : Documents) (s : Plant) (b : Batch) (p : Step) (w : Task) (n : ℕ) (q : Name) → slice_get p.needs n ≡ Some q → ((m : Move) → act_move d s b (asking p w n) ≡ Some m → ⊥)
+unserved : (d : Documents) (s : Plant) (b : Batch) (p : Step) (w : Task) (n : ℕ) (q : Need) → slice_get p.needs n ≡ Some q → ((m : Move) → act_move d s b (asking p w n) ≡ Some m → ⊥)
     → is_served d s q (b.number, p.place) ≡ false
 unserved d s b p w n q e no_move = go (slice_get p.needs n) e no_move
   where
-    same_name : (x y : Name) → ◌≡◌ {A = Option Name} (Some x) (Some y) → x ≡ y
-    same_name x y g = cc
+    same_need : (x y : Need) → ◌≡◌ {A = Option Need} (Some x) (Some y) → x ≡ y
+    same_need x y g = cc
 
     serve : (t : Bool) → ((m : Move) → when t (grant b.number p.place q) ≡ Some m → ⊥) → t ≡ false
     serve true f = absurd (f (grant b.number p.place q) refl)
     serve false f = refl
 
-    go : (o : Option Name) → o ≡ Some q
+    go : (o : Option Need) → o ≡ Some q
         → ((m : Move) → ◌≡◌ {A = Option Move} (elim o [ None ↦ None | Some r ↦ when (is_served d s r (b.number, p.place)) (grant b.number p.place r) ]) (Some m) → ⊥)
         → is_served d s q (b.number, p.place) ≡ false
     go None f h = absurd cc
-    go (Some r) f h = serve (is_served d s q (b.number, p.place)) (λ m g. h m (subst (λ z. when (is_served d s z (b.number, p.place)) (grant b.number p.place z) ≡ Some m) (sym (same_name r q f)) g))
+    go (Some r) f h = serve (is_served d s q (b.number, p.place)) (λ m g. h m (subst (λ z. when (is_served d s z (b.number, p.place)) (grant b.number p.place z) ≡ Some m) (sym (same_need r q f)) g))
 
 module _ (d : Documents) (rank : Ranking) (outs : List Out) (s : Plant) (sd : IsStanding d s) (k : IsKept d rank outs s) where
-  -- the first in a line of a settled plant isn't served
-  first-unserved : next d s ≡ None → (q : Name) (a : BatchAct) (more : List BatchAct) → s.line q ≡ a ∷ more → d.capacity q ≤ length (holders s q)
+  -- for the first in a line of a settled plant too little is free
+  first-unserved : next d s ≡ None → (q : Name) (a : Share) (more : List Share) → s.line q ≡ a ∷ more → d.capacity q < units_in (holders s q) + a.units
   first-unserved e q a more f =
-      let b = entry-of s.batches a (awaiting q) (k.asked q a (subst (λ z. Has z a) (sym f) (inl refl))) in
-      let w = awaiting-act b.0.rest a.1 q b.3 in
-      let here : (b.0.number, w.0.place) ≡ a = ap₂ (λ i j. let z : BatchAct = (i, j) in z) b.2 w.4 in
-      below (length (holders s q)) (d.capacity q)
-      (and-head (nat_lt (length (holders s q)) (d.capacity q)) (first (s.line q) (b.0.number, w.0.place))
-      (subst (λ z. first z (b.0.number, w.0.place) ≡ true) (sym f) (subst (λ z. is_same_act a z ≡ true) (sym here) (act_self a)))
-      (unserved d s b.0 w.0 w.1 w.2 q w.5 (no_act_move d s e b.0 b.1 (asking w.0 w.1 w.2) w.3)))
+      let b = entry-of s.batches a.act (awaiting (need q a.units)) (k.asked q a (subst (λ z. Has z a) (sym f) (inl refl))) in
+      let w = awaiting-act b.0.rest a.act.1 (need q a.units) b.3 in
+      let here : (b.0.number, w.0.place) ≡ a.act = ap₂ (λ i j. let z : BatchAct = (i, j) in z) b.2 w.4 in
+      below (units_in (holders s q) + a.units) (d.capacity q)
+      (and-head (nat_le (units_in (holders s q) + a.units) (d.capacity q)) (first (s.line q) (b.0.number, w.0.place))
+      (subst (λ z. first z (b.0.number, w.0.place) ≡ true) (sym f) (subst (λ z. is_same_act a.act z ≡ true) (sym here) (act_self a.act)))
+      (unserved d s b.0 w.0 w.1 w.2 (need q a.units) w.5 (no_act_move d s e b.0 b.1 (asking w.0 w.1 w.2) w.3)))
 
-  -- what is waited for in a settled plant is held to its capacity
-  pub held-to_capacity : next d s ≡ None → (w : Waiting) → IsWaiting (scene_of s) w → length (holders s w.resource) ≡ d.capacity w.resource
-  held-to_capacity e w h =
-      let at_most : length (holders s w.resource) ≤ d.capacity w.resource = subst (λ z. length z ≤ d.capacity w.resource) (sym (holders-entries s w.resource)) (k.within w.resource) in
-      let at_least : d.capacity w.resource ≤ length (holders s w.resource) = go (s.line w.resource) refl h in
-      omega arith
-    where
-      go : (line : List BatchAct) → s.line w.resource ≡ line → Has line w.act → d.capacity w.resource ≤ length (holders s w.resource)
-      go [] f g = absurd g
-      go (a ∷ more) f g = first-unserved e w.resource a more f
+  some-share : (xs : List Share) → 0 < units_in xs → (h : Share) × Has xs h
+  some-share [] l = absurd (omega (arith, l))
+  some-share (x ∷ xs) l = (x, inl refl)
+
+  -- of what is asked for in a settled plant less is free than the oldest ask wants; and where that wants no more than the capacity, somebody holds it
+  pub held-by_others : next d s ≡ None → (q : Name) (a : Share) (more : List Share) → s.line q ≡ a ∷ more → a.units ≤ d.capacity q
+      → (d.capacity q < units_in (holders s q) + a.units) × ((h : Share) × Has (holders s q) h)
+  held-by_others e q a more f fits =
+      let short : d.capacity q < units_in (holders s q) + a.units = first-unserved e q a more f in
+      (short, some-share (holders s q) (omega (arith, short, fits)))
 
   points-on : (l m : Link) → IsLink (scene_of s) l → IsLink (scene_of s) m → StandsUnder l.holder m.waiting → suc (rank l.waiting.resource) < suc (rank m.waiting.resource)
   points-on l m h g u =
-      points-rise d rank outs s sd k l.waiting m.waiting
-      (subst (λ z. Has z m.waiting.act) (sym (k.lines m.waiting.resource)) g.0) (
+      let y = Has-map (λ z. z.act) (holders s l.waiting.resource) l.holder h.1 in
+      holder-rises d rank outs s sd k l.waiting m.waiting
+      (subst (λ z. Has (acts_in z) m.waiting.act) (sym (k.lines m.waiting.resource)) g.0) (
         l.holder.1,
-        (k.held l.waiting.resource).2 (m.waiting.act.0, l.holder.1)
-            (subst (λ z. Has (holders_among l.waiting.resource (entries s.batches)) (z, l.holder.1)) (sym u.0) (subst (λ z. Has z l.holder) (holders-entries s l.waiting.resource) h.1)),
+        subst (λ z. Has (acts_in (holders_told outs l.waiting.resource)) (z, l.holder.1)) (sym u.0)
+            (subst (Has (acts_in (holders_told outs l.waiting.resource))) y.2
+            (map-Has (λ z. z.act) (holders_told outs l.waiting.resource) y.0
+            ((k.held l.waiting.resource).2 y.0 (subst (λ z. Has z y.0) (holders-entries s l.waiting.resource) y.1)))),
         u.1,
       )
 

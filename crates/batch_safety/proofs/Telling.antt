@@ -4,12 +4,12 @@ use Rattle.batch_matrix.specs.declared.state.State.{State}
 use Rattle.batch_model.specs.Lists.{Has}
 use Rattle.batch_recipe.specs.Tree.{Place, Step, Phase}
 use Rattle.batch_model.specs.Rest.{Rest, ready, asking, open_act, live, freeing, in_seq, in_par, in_loop, done, Rests, no_rests, rest, acts, acts_of_each}
-use Rattle.batch_model.specs.Plant.{Documents, Plant, opening}
+use Rattle.batch_model.specs.Plant.{Documents, units_in, Plant, opening}
 use Rattle.batch_model.specs.Events.{Event}
 use Rattle.batch_model.proofs.Led.{opening-stands}
 use Rattle.batch_model.specs.Runs.{Out, Leads}
 use Rattle.batch_safety.proofs.ClearedDown.{AreClearedDown}
-use Rattle.batch_safety.proofs.Facts.{performing, Standing, held_at, awaited_at, facts, facts_of_each, entries, awaiting}
+use Rattle.batch_safety.proofs.Facts.{performing, Standing, held_at, awaited_at, facts, facts_of_each, entries, awaiting, need}
 use Rattle.batch_model.specs.Cleared.{Ranking}
 use Rattle.batch_safety.specs.Telling.{IsTold}
 use Rattle.batch_model.proofs.Members.{Has-split, Has-left, Has-right}
@@ -86,16 +86,16 @@ told : (d : Documents) (rank : Ranking) (outs : List Out) (s : Plant) → IsKept
 told d rank outs s k =
     record {
       held = λ r. (λ a h. subst (λ z. Has z a) (sym (holders-entries s r)) ((k.held r).1 a h), λ a h. (k.held r).2 a (subst (λ z. Has z a) (holders-entries s r) h));
-      held_count = λ r. (k.held r).0 ∙ ap (λ z. Rattle.std.proofs.Common.length z) (sym (holders-entries s r));
+      held_units = λ r. (k.held r).0 ∙ ap (λ z. units_in z) (sym (holders-entries s r));
       lines = k.lines;
       asks = λ r a. (
         λ h.
-            (let e = entry-of s.batches a (awaiting r) (k.asked r a h) in
-            let w = awaiting-act e.0.rest a.1 r e.3 in
+            (let e = entry-of s.batches a.act (awaiting (need r a.units)) (k.asked r a h) in
+            let w = awaiting-act e.0.rest a.act.1 (need r a.units) e.3 in
             (e.0, e.1, e.2, w.0, w.1, w.2, w.3, w.4, w.5)),
         λ h. k.listed r a
-            (Rattle.std.proofs.Common.subst₂ (λ m q. Has (entries s.batches) ((m, q), awaiting r)) h.2 h.7
-            (of-entry s.batches h.0 h.3.place (awaiting r) h.1 (asking-awaits h.0.rest h.3 h.4 h.5 r h.6 h.8))),
+            (Rattle.std.proofs.Common.subst₂ (λ m q. Has (entries s.batches) ((m, q), awaiting (need r a.units))) h.2 h.7
+            (of-entry s.batches h.0 h.3.place (awaiting (need r a.units)) h.1 (asking-awaits h.0.rest h.3 h.4 h.5 (need r a.units) h.6 h.8))),
       );
       ran = λ a x h.
           (let e = entry-of s.batches a (performing x) (k.active (record { act = a; phase = x }) h) in

@@ -16,6 +16,8 @@ use Rattle.batch_model.proofs.Members.{Has-split, Has-left, Has-right}
 use Rattle.batch_safety.proofs.Members.{map-Has}
 use Rattle.batch_safety.proofs.Placing.{IsUnderChild, under, facts-below, not_above_itself}
 use Rattle.batch_safety.proofs.Ranking.{held-performing, awaited-performing}
+use Rattle.batch_recipe.specs.declared.need.Need.{Need}
+use Rattle.batch_recipe.specs.Needs.{one_unit}
 
 same_performing : (x y : Phase) → performing x ≡ performing y → x ≡ y
 same_performing x y e = cc
@@ -25,15 +27,15 @@ lone-performing p y q x (inl e) = (ap (λ s. s.0) e, same_performing y x (ap (λ
 lone-performing p y q x (inr h) = absurd h
 
 -- of a live act's facts
-live-performing : (p : Place) (names : List Name) (y : Phase) (q : Place) (x : Phase) → Has (held_at p names ++ (p, performing y) ∷ []) (q, performing x) → (p ≡ q) × (y ≡ x)
+live-performing : (p : Place) (names : List Need) (y : Phase) (q : Place) (x : Phase) → Has (held_at p names ++ (p, performing y) ∷ []) (q, performing x) → (p ≡ q) × (y ≡ x)
 live-performing p names y q x k =
     ⊎_elim (λ m. absurd (held-performing p names q x m)) (lone-performing p y q x) (Has-split (held_at p names) ((p, performing y) ∷ []) (q, performing x) k)
 
-asking-performing : (p : Place) (names : List Name) (o : Option Name) (q : Place) (x : Phase) → Has (held_at p names ++ awaited_at p o) (q, performing x) → ⊥
+asking-performing : (p : Place) (names : List Need) (o : Option Need) (q : Place) (x : Phase) → Has (held_at p names ++ awaited_at p o) (q, performing x) → ⊥
 asking-performing p names o q x k =
     ⊎_elim (held-performing p names q x) (awaited-performing p o q x) (Has-split (held_at p names) (awaited_at p o) (q, performing x) k)
 
-open-performing : (p : Place) (names : List Name) (r : Rest) (q : Place) (x : Phase) → Has (held_at p names ++ facts r) (q, performing x) → Has (facts r) (q, performing x)
+open-performing : (p : Place) (names : List Need) (r : Rest) (q : Place) (x : Phase) → Has (held_at p names ++ facts r) (q, performing x) → Has (facts r) (q, performing x)
 open-performing p names r q x k =
     ⊎_elim (λ m. absurd (held-performing p names q x m)) (λ m. m) (Has-split (held_at p names) (facts r) (q, performing x) k)
 
@@ -75,18 +77,18 @@ mutual
   performed-chosen (choice d c ch) r (inl h) q x k = Has-left (phases c) (phases_of_choices ch) x (performed-phase c r h q x k)
   performed-chosen (choice d c ch) r (inr h) q x k = Has-right (phases c) (phases_of_choices ch) x (performed-chosen ch r h q x k)
 
--- a resource is held strictly above the place
+-- one unit of a resource is held strictly above the place
 abbrev pub IsHeldAbove : List Standing → Name → Place → Type 0
-IsHeldAbove es unit q = (p : Place) × Has es (p, holding unit) × IsAtOrAbove p q × (p ≡ q → ⊥)
+IsHeldAbove es unit q = (p : Place) × Has es (p, holding (one_unit unit)) × IsAtOrAbove p q × (p ≡ q → ⊥)
 
 apart_from_child : (p : Place) (i : ℕ) (q : Place) → IsUnderChild p i q → p ≡ q → ⊥
 apart_from_child p i q h e = not_above_itself p i q h ([], append-nil q ∙ sym e)
 
 held_above-left : (xs ys : List Standing) (unit : Name) (q : Place) → IsHeldAbove xs unit q → IsHeldAbove (xs ++ ys) unit q
-held_above-left xs ys unit q h = (h.0, Has-left xs ys (h.0, holding unit) h.1, h.2, h.3)
+held_above-left xs ys unit q h = (h.0, Has-left xs ys (h.0, holding (one_unit unit)) h.1, h.2, h.3)
 
 held_above-right : (xs ys : List Standing) (unit : Name) (q : Place) → IsHeldAbove ys unit q → IsHeldAbove (xs ++ ys) unit q
-held_above-right xs ys unit q h = (h.0, Has-right xs ys (h.0, holding unit) h.1, h.2, h.3)
+held_above-right xs ys unit q h = (h.0, Has-right xs ys (h.0, holding (one_unit unit)) h.1, h.2, h.3)
 
 in_branch : {A B C : Type 0} → (B → C) → A ⊎ B → A ⊎ C
 in_branch f (inl a) = inl a
@@ -94,8 +96,8 @@ in_branch f (inr b) = inr (f b)
 
 mutual
   -- the unit of a live phase is needed above the chart, or held above the phase
-  pub unit-held : (above : List Name) (p : Place) (c : Tree) (r : Rest) → IsPlaced p c → RunsInUnits above c → IsRestOf c r
-      → (q : Place) (x : Phase) → Has (facts r) (q, performing x) → Has above x.unit ⊎ IsHeldAbove (facts r) x.unit q
+  pub unit-held : (above : List Need) (p : Place) (c : Tree) (r : Rest) → IsPlaced p c → RunsInUnits above c → IsRestOf c r
+      → (q : Place) (x : Phase) → Has (facts r) (q, performing x) → Has above (one_unit x.unit) ⊎ IsHeldAbove (facts r) x.unit q
   unit-held above p (act s w) (ready u v n) pl iu h q x k = absurd (held-performing u.place (take n u.needs) q x k)
   unit-held above p (act s w) (asking u v n) pl iu h q x k = absurd (asking-performing u.place (take n u.needs) (slice_get u.needs n) q x k)
   unit-held above p (act s w) (open_act u r) pl iu h q x k =
@@ -105,18 +107,18 @@ mutual
       (λ o. ⊎_elim
       (λ i. inr (
         u.place,
-        Has-left (held_at u.place u.needs) (facts r) (u.place, holding x.unit)
-            (map-Has (λ z. let e : Standing = (u.place, holding z) in e) u.needs x.unit (subst (λ z. Has z.needs x.unit) (sym h.0) i)),
+        Has-left (held_at u.place u.needs) (facts r) (u.place, holding (one_unit x.unit))
+            (map-Has (λ z. let e : Standing = (u.place, holding z) in e) u.needs (one_unit x.unit) (subst (λ z. Has z.needs (one_unit x.unit)) (sym h.0) i)),
         subst (λ z. IsAtOrAbove z q) (sym at) (under p 0 q (facts-below p w r pl.1 h.1 (q, performing x) m)),
         λ e. apart_from_child p 0 q (facts-below p w r pl.1 h.1 (q, performing x) m) (sym at ∙ e),
       ))
       (λ i. inl i)
-      (Has-split s.needs above x.unit o))
+      (Has-split s.needs above (one_unit x.unit) o))
       (λ o. inr (held_above-right (held_at u.place u.needs) (facts r) x.unit q o))
       (unit-held_below s.needs above p w r pl.1 iu h.1 q x m)
   unit-held above p (act s w) (live u y t) pl iu h q x k =
       let e = live-performing u.place u.needs y q x k in
-      inl (subst (λ z. Has above z.unit) e.1 (subst (RunsInUnitsBelow s.needs above) h.1 iu))
+      inl (subst (λ z. Has above (one_unit z.unit)) e.1 (subst (RunsInUnitsBelow s.needs above) h.1 iu))
   unit-held above p (act s w) (freeing u n) pl iu h q x k = absurd (held-performing u.place (take n u.needs) q x k)
   unit-held above p (seq cs) (in_seq r ds) pl iu h q x k = unit-held_among above p 0 cs r ds pl iu h q x k
   unit-held above p (par cs) (in_par r) pl iu h q x k = unit-held_side_by_side above p 0 cs r pl iu h q x k
@@ -125,19 +127,19 @@ mutual
   unit-held above p c done pl iu h q x k = absurd k
   unit-held above p _ _ pl iu h q x k = absurd h
 
-  pub unit-held_below : (needs above : List Name) (p : Place) (w : Task) (r : Rest) → IsPlacedBelow p w → RunsInUnitsBelow needs above w → IsRestBelow w r
-      → (q : Place) (x : Phase) → Has (facts r) (q, performing x) → Has (needs ++ above) x.unit ⊎ IsHeldAbove (facts r) x.unit q
+  pub unit-held_below : (needs above : List Need) (p : Place) (w : Task) (r : Rest) → IsPlacedBelow p w → RunsInUnitsBelow needs above w → IsRestBelow w r
+      → (q : Place) (x : Phase) → Has (facts r) (q, performing x) → Has (needs ++ above) (one_unit x.unit) ⊎ IsHeldAbove (facts r) x.unit q
   unit-held_below needs above p (runs y) r pl iu h q x k = absurd h
   unit-held_below needs above p (follows name c) r pl iu h q x k = unit-held (needs ++ above) (child p 0) c r pl iu h q x k
 
-  pub unit-held_among : (above : List Name) (p : Place) (i : ℕ) (cs : Trees) (r : Rest) (ds : Trees) → ArePlaced p i cs → RunInUnits above cs → IsBranch cs r ds
-      → (q : Place) (x : Phase) → Has (facts r) (q, performing x) → Has above x.unit ⊎ IsHeldAbove (facts r) x.unit q
+  pub unit-held_among : (above : List Need) (p : Place) (i : ℕ) (cs : Trees) (r : Rest) (ds : Trees) → ArePlaced p i cs → RunInUnits above cs → IsBranch cs r ds
+      → (q : Place) (x : Phase) → Has (facts r) (q, performing x) → Has above (one_unit x.unit) ⊎ IsHeldAbove (facts r) x.unit q
   unit-held_among above p i no_trees r ds pl iu h q x k = absurd h
   unit-held_among above p i (tree c cs) r ds pl iu (inl h) q x k = unit-held above (child p i) c r pl.0 iu.0 h.0 q x k
   unit-held_among above p i (tree c cs) r ds pl iu (inr h) q x k = unit-held_among above p (i + 1) cs r ds pl.1 iu.1 h q x k
 
-  pub unit-held_side_by_side : (above : List Name) (p : Place) (i : ℕ) (cs : Trees) (r : Rests) → ArePlaced p i cs → RunSideBySide above cs → AreBranches cs r
-      → (q : Place) (x : Phase) → Has (facts_of_each r) (q, performing x) → Has above x.unit ⊎ IsHeldAbove (facts_of_each r) x.unit q
+  pub unit-held_side_by_side : (above : List Need) (p : Place) (i : ℕ) (cs : Trees) (r : Rests) → ArePlaced p i cs → RunSideBySide above cs → AreBranches cs r
+      → (q : Place) (x : Phase) → Has (facts_of_each r) (q, performing x) → Has above (one_unit x.unit) ⊎ IsHeldAbove (facts_of_each r) x.unit q
   unit-held_side_by_side above p i no_trees no_rests pl iu h q x k = absurd k
   unit-held_side_by_side above p i (tree c cs) (rest r more) pl iu h q x k =
       ⊎_elim
@@ -147,16 +149,16 @@ mutual
   unit-held_side_by_side above p i no_trees (rest r more) pl iu h q x k = absurd h
   unit-held_side_by_side above p i (tree c cs) no_rests pl iu h q x k = absurd h
 
-  pub unit-held_chosen : (above : List Name) (p : Place) (i : ℕ) (ch : Choices) (r : Rest) → IsChoicePlaced p i ch → ChoicesRunInUnits above ch → IsChosen ch r
-      → (q : Place) (x : Phase) → Has (facts r) (q, performing x) → Has above x.unit ⊎ IsHeldAbove (facts r) x.unit q
+  pub unit-held_chosen : (above : List Need) (p : Place) (i : ℕ) (ch : Choices) (r : Rest) → IsChoicePlaced p i ch → ChoicesRunInUnits above ch → IsChosen ch r
+      → (q : Place) (x : Phase) → Has (facts r) (q, performing x) → Has above (one_unit x.unit) ⊎ IsHeldAbove (facts r) x.unit q
   unit-held_chosen above p i (otherwise c) r pl iu h q x k = unit-held above (child p i) c r pl iu h q x k
   unit-held_chosen above p i (choice d c ch) r pl iu (inl h) q x k = unit-held above (child p i) c r pl.0 iu.0 h q x k
   unit-held_chosen above p i (choice d c ch) r pl iu (inr h) q x k = unit-held_chosen above p (i + 1) ch r pl.1 iu.1 h q x k
 
--- How many shares of a resource the facts hold
+-- How many units of a resource the facts hold
 
 abbrev pub share : Name → Fact → ℕ
-share u (holding r) = elim (bytes_eq u r) [ true ↦ 1 | false ↦ 0 ]
+share u (holding r) = elim (bytes_eq u r.resource) [ true ↦ r.units | false ↦ 0 ]
 share u (awaiting r) = 0
 share u (performing x) = 0
 
@@ -168,21 +170,21 @@ pub shares-append : (u : Name) (xs ys : List Standing) → shares u (xs ++ ys) �
 shares-append u [] ys = omega arith
 shares-append u (e ∷ xs) ys = let h : shares u (xs ++ ys) ≡ shares u xs + shares u ys = shares-append u xs ys in omega arith
 
-share-self : (u : Name) → share u (holding u) ≡ 1
+share-self : (u : Name) → share u (holding (one_unit u)) ≡ 1
 share-self u = go (bytes_eq u u) ((bytes_eq-Decides u u).1 refl)
   where
     go : (b : Bool) → b ≡ true → ◌≡◌ {A = ℕ} (elim b [ true ↦ 1 | false ↦ 0 ]) 1
     go true e = refl
     go false e = absurd cc
 
-pub Has-shares : (u : Name) (q : Place) (es : List Standing) → Has es (q, holding u) → 1 ≤ shares u es
+pub Has-shares : (u : Name) (q : Place) (es : List Standing) → Has es (q, holding (one_unit u)) → 1 ≤ shares u es
 Has-shares u q [] h = absurd h
 Has-shares u q (e ∷ es) (inl p) = let h : share u e.1 ≡ 1 = ap (λ z. share u z.1) p ∙ share-self u in omega arith
 Has-shares u q (e ∷ es) (inr k) = let h : 1 ≤ shares u es = Has-shares u q es k in omega arith
 
 mutual
-  -- a phase that is live at two places of a batch has two shares of its unit
-  pub twice-held : (above : List Name) (p : Place) (c : Tree) (r : Rest) → IsPlaced p c → RunsInUnits above c → IsRestOf c r
+  -- a phase that is live at two places of a batch holds two units of its unit
+  pub twice-held : (above : List Need) (p : Place) (c : Tree) (r : Rest) → IsPlaced p c → RunsInUnits above c → IsRestOf c r
       → (q o : Place) (x y : Phase) → IsSamePhase x y → (q ≡ o → ⊥) → Has (facts r) (q, performing x) → Has (facts r) (o, performing y) → 2 ≤ shares x.unit (facts r)
   twice-held above p (act s w) (ready u v n) pl iu h q o x y e d k m = absurd (held-performing u.place (take n u.needs) q x k)
   twice-held above p (act s w) (asking u v n) pl iu h q o x y e d k m = absurd (asking-performing u.place (take n u.needs) (slice_get u.needs n) q x k)
@@ -201,31 +203,31 @@ mutual
   twice-held above p c done pl iu h q o x y e d k m = absurd k
   twice-held above p _ _ pl iu h q o x y e d k m = absurd h
 
-  pub twice-held_below : (needs above : List Name) (p : Place) (w : Task) (r : Rest) → IsPlacedBelow p w → RunsInUnitsBelow needs above w → IsRestBelow w r
+  pub twice-held_below : (needs above : List Need) (p : Place) (w : Task) (r : Rest) → IsPlacedBelow p w → RunsInUnitsBelow needs above w → IsRestBelow w r
       → (q o : Place) (x y : Phase) → IsSamePhase x y → (q ≡ o → ⊥) → Has (facts r) (q, performing x) → Has (facts r) (o, performing y) → 2 ≤ shares x.unit (facts r)
   twice-held_below needs above p (runs z) r pl iu h q o x y e d k m = absurd h
   twice-held_below needs above p (follows name c) r pl iu h q o x y e d k m = twice-held (needs ++ above) (child p 0) c r pl iu h q o x y e d k m
 
-  pub twice-held_among : (above : List Name) (p : Place) (i : ℕ) (cs : Trees) (r : Rest) (ds : Trees) → ArePlaced p i cs → RunInUnits above cs → IsBranch cs r ds
+  pub twice-held_among : (above : List Need) (p : Place) (i : ℕ) (cs : Trees) (r : Rest) (ds : Trees) → ArePlaced p i cs → RunInUnits above cs → IsBranch cs r ds
       → (q o : Place) (x y : Phase) → IsSamePhase x y → (q ≡ o → ⊥) → Has (facts r) (q, performing x) → Has (facts r) (o, performing y) → 2 ≤ shares x.unit (facts r)
   twice-held_among above p i no_trees r ds pl iu h q o x y e d k m = absurd h
   twice-held_among above p i (tree c cs) r ds pl iu (inl h) q o x y e d k m = twice-held above (child p i) c r pl.0 iu.0 h.0 q o x y e d k m
   twice-held_among above p i (tree c cs) r ds pl iu (inr h) q o x y e d k m = twice-held_among above p (i + 1) cs r ds pl.1 iu.1 h q o x y e d k m
 
-  pub twice-held_side_by_side : (above : List Name) (p : Place) (i : ℕ) (cs : Trees) (r : Rests) → ArePlaced p i cs → RunSideBySide above cs → AreBranches cs r
+  pub twice-held_side_by_side : (above : List Need) (p : Place) (i : ℕ) (cs : Trees) (r : Rests) → ArePlaced p i cs → RunSideBySide above cs → AreBranches cs r
       → (q o : Place) (x y : Phase) → IsSamePhase x y → (q ≡ o → ⊥) → Has (facts_of_each r) (q, performing x) → Has (facts_of_each r) (o, performing y) → 2 ≤ shares x.unit (facts_of_each r)
   twice-held_side_by_side above p i no_trees no_rests pl iu h q o x y e d k m = absurd k
   twice-held_side_by_side above p i (tree c cs) (rest r more) pl iu h q o x y e d k m =
       let a : shares x.unit (facts r ++ facts_of_each more) ≡ shares x.unit (facts r) + shares x.unit (facts_of_each more) = shares-append x.unit (facts r) (facts_of_each more) in
       let once : (z z' : Phase) (g g' : Place) → IsSamePhase z z' → z.unit ≡ x.unit → Has (facts r) (g, performing z) → Has (facts_of_each more) (g', performing z') → 2 ≤ shares x.unit (facts r ++ facts_of_each more)
       = λ z z' g g' same unit here there.
-      let no : Has above z.unit → ⊥ = λ b. iu.1 z z' (performed-phase c r h.0 g z here) (performed-side_by_side cs more h.1 g' z' there) b same in
+      let no : Has above (one_unit z.unit) → ⊥ = λ b. iu.1 z z' (performed-phase c r h.0 g z here) (performed-side_by_side cs more h.1 g' z' there) b same in
       let one : 1 ≤ shares x.unit (facts r) =
-      ⊎_elim (λ b. absurd (no b)) (λ b. Has-shares x.unit b.0 (facts r) (subst (λ w. Has (facts r) (b.0, holding w)) unit b.1))
+      ⊎_elim (λ b. absurd (no b)) (λ b. Has-shares x.unit b.0 (facts r) (subst (λ w. Has (facts r) (b.0, holding (one_unit w))) unit b.1))
       (unit-held above (child p i) c r pl.0 iu.0 h.0 g z here) in
       let two : 1 ≤ shares x.unit (facts_of_each more) =
-      ⊎_elim (λ b. absurd (no (subst (Has above) (sym same.0) b)))
-      (λ b. Has-shares x.unit b.0 (facts_of_each more) (subst (λ w. Has (facts_of_each more) (b.0, holding w)) (sym same.0 ∙ unit) b.1))
+      ⊎_elim (λ b. absurd (no (subst (λ w. Has above (one_unit w)) (sym same.0) b)))
+      (λ b. Has-shares x.unit b.0 (facts_of_each more) (subst (λ w. Has (facts_of_each more) (b.0, holding (one_unit w))) (sym same.0 ∙ unit) b.1))
       (unit-held_side_by_side above p (i + 1) cs more pl.1 iu.2 h.1 g' z' there) in
       omega arith in
       ⊎_elim
@@ -241,7 +243,7 @@ mutual
   twice-held_side_by_side above p i no_trees (rest r more) pl iu h q o x y e d k m = absurd h
   twice-held_side_by_side above p i (tree c cs) no_rests pl iu h q o x y e d k m = absurd h
 
-  pub twice-held_chosen : (above : List Name) (p : Place) (i : ℕ) (ch : Choices) (r : Rest) → IsChoicePlaced p i ch → ChoicesRunInUnits above ch → IsChosen ch r
+  pub twice-held_chosen : (above : List Need) (p : Place) (i : ℕ) (ch : Choices) (r : Rest) → IsChoicePlaced p i ch → ChoicesRunInUnits above ch → IsChosen ch r
       → (q o : Place) (x y : Phase) → IsSamePhase x y → (q ≡ o → ⊥) → Has (facts r) (q, performing x) → Has (facts r) (o, performing y) → 2 ≤ shares x.unit (facts r)
   twice-held_chosen above p i (otherwise c) r pl iu h q o x y e d k m = twice-held above (child p i) c r pl iu h q o x y e d k m
   twice-held_chosen above p i (choice b c ch) r pl iu (inl h) q o x y e d k m = twice-held above (child p i) c r pl.0 iu.0 h q o x y e d k m

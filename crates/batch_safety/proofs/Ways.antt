@@ -8,6 +8,7 @@ use Rattle.batch_model.specs.Cleared.{Ranking, RiseStrictly}
 use Rattle.batch_safety.specs.Ways.{Rises, last_rank, RisesDown, RisesBelow, RiseDown, ChoicesRiseDown, WaysRise}
 use Rattle.batch_model.proofs.Members.{Each-append, Each-map}
 use Rattle.batch_safety.proofs.Members.{Each-left, Each-right}
+use Rattle.batch_recipe.specs.Needs.{resources_of}
 
 rises-rest : (rank : Ranking) (low : ℕ) (xs ys : List Name) → Rises rank low (xs ++ ys) → Rises rank (last_rank rank low xs) ys
 rises-rest rank low [] ys h = h
@@ -29,8 +30,8 @@ module _ (rank : Ranking) (low : ℕ) where
   mutual
     down : (p : Place) (above : List Name) (c : Tree) → Each (PathRises rank low) (nodes p above c) → RisesDown rank (last_rank rank low above) c
     down p above (act s w) h = (
-      rises-rest rank low above s.needs h.0,
-      subst (λ z. RisesBelow rank z w) (last-append rank low above s.needs) (down_within p (above ++ s.needs) w h.1),
+      rises-rest rank low above (resources_of s.needs) h.0,
+      subst (λ z. RisesBelow rank z w) (last-append rank low above (resources_of s.needs)) (down_within p (above ++ resources_of s.needs) w h.1),
     )
     down p above skip h = tt
     down p above (seq cs) h = down_each p above 0 cs h.1
@@ -64,8 +65,8 @@ module _ (rank : Ranking) (low : ℕ) where
   mutual
     up : (p : Place) (above : List Name) (c : Tree) → Rises rank low above → RisesDown rank (last_rank rank low above) c → Each (PathRises rank low) (nodes p above c)
     up p above (act s w) a h =
-        let whole : Rises rank low (above ++ s.needs) = rises-append rank low above s.needs a h.0 in
-        (whole, up_within p (above ++ s.needs) w whole (subst (λ z. RisesBelow rank z w) (sym (last-append rank low above s.needs)) h.1))
+        let whole : Rises rank low (above ++ resources_of s.needs) = rises-append rank low above (resources_of s.needs) a h.0 in
+        (whole, up_within p (above ++ resources_of s.needs) w whole (subst (λ z. RisesBelow rank z w) (sym (last-append rank low above (resources_of s.needs))) h.1))
     up p above skip a h = (plain above a, tt)
     up p above (seq cs) a h = (plain above a, up_each p above 0 cs a h)
     up p above (par cs) a h = (plain above a, up_each p above 0 cs a h)

@@ -6,19 +6,19 @@ use Rattle.batch_model.specs.Lists.{Has, Each}
 use Rattle.batch_recipe.specs.Conditions.{Name}
 use Rattle.batch_recipe.specs.Tree.{Place, Step, Phase, Tree, act, seq, par, sel, loop, Task, runs, follows, Trees, no_trees, tree, Choices, otherwise, choice}
 use Rattle.batch_model.specs.Rest.{Rest, ready, asking, open_act, live, freeing, in_seq, in_par, in_loop, done, Rests, no_rests, rest, acts, acts_of_each, is_done, all_done}
-use Rattle.batch_model.specs.Plant.{Recipe, Documents, Batch, BatchAct, Plant, opening, place_of}
+use Rattle.batch_model.specs.Plant.{Recipe, Documents, Batch, BatchAct, Share, Plant, opening, place_of, holders}
 use Rattle.batch_model.specs.Moves.{Move, begin, start, end, ask, release, handed_values, entering, giving_back, when, is_running, is_stopping, is_stopped, is_quiet, is_empty, act_move, next}
 use Rattle.batch_model.specs.Runs.{Out}
 use Rattle.batch_model.specs.Cleared.{Cell, is_procedure, IsClearedRecipe, IsCleared}
 use Rattle.batch_model.specs.Standing.{IsStandingBatch, IsStanding}
 use Rattle.batch_model.proofs.Led.{opening-stands, leads-stands}
 use Rattle.batch_safety.specs.Procedures.{IsProcedure}
-use Rattle.batch_safety.proofs.Awaiting.{among-Has, awaited-known}
+use Rattle.batch_safety.proofs.Awaiting.{among-Has, CanBeMet, awaited-known}
 use Rattle.batch_safety.proofs.Clearing.{cleared-down}
 use Rattle.batch_model.specs.Records.{scene_of, Waiting, IsWaiting, IsAtOrAbove, Link, IsLink, IsChain, StandsUnder}
 use Rattle.batch_model.specs.Settled.{IsAdvanced, AreAdvanced}
 use Rattle.batch_recipe.specs.Nodes.{child}
-use Rattle.batch_safety.proofs.Facts.{Fact, holding, awaiting, performing, Standing, held_at, awaited_at, facts, facts_of_each, entries}
+use Rattle.batch_safety.proofs.Facts.{Fact, holding, awaiting, performing, Standing, held_at, awaited_at, facts, facts_of_each, entries, need, share}
 use Rattle.batch_model.specs.Standing.{IsRestOf, IsRestBelow, IsBranch, AreBranches, IsChosen}
 use Rattle.batch_model.specs.Placed.{IsPlaced, IsPlacedBelow, ArePlaced, IsChoicePlaced}
 use Rattle.batch_model.specs.Cleared.{Ranking}
@@ -32,8 +32,10 @@ use Rattle.batch_safety.proofs.Batches.{holders-entries}
 use Rattle.batch_safety.proofs.Invariant.{IsFitting, IsSound, IsKept}
 use Rattle.batch_safety.proofs.Safety.{entry-of, of-entry}
 use Rattle.batch_safety.proofs.Safe.{kept-at_first, kept-along}
-use Rattle.batch_safety.proofs.Settling.{no_act_move, held-to_capacity, short-chain}
+use Rattle.batch_safety.proofs.Settling.{no_act_move, held-by_others, short-chain}
 use Rattle.batch_safety.proofs.Invariant.{standing-of}
+use Rattle.batch_recipe.specs.declared.need.Need.{Need}
+use Rattle.batch_safety.proofs.Members.{Has-map, map-Has}
 
 -- Acts below an open act
 
@@ -145,10 +147,10 @@ mutual
 abbrev ActAt : List Rest → Place → Type 0
 ActAt as' q = (a : Rest) × Has as' a × (place_of a ≡ q)
 
-held-place : (p : Place) (names : List Name) (q : Place) (x : Fact) → Has (held_at p names) (q, x) → p ≡ q
+held-place : (p : Place) (names : List Need) (q : Place) (x : Fact) → Has (held_at p names) (q, x) → p ≡ q
 held-place p names q x h = let k = Rattle.batch_safety.proofs.Members.Has-map (λ r. let z : Standing = (p, holding r) in z) names (q, x) h in ap (λ z. z.0) k.2
 
-awaited-place : (p : Place) (o : Option Name) (q : Place) (x : Fact) → Has (awaited_at p o) (q, x) → p ≡ q
+awaited-place : (p : Place) (o : Option Need) (q : Place) (x : Fact) → Has (awaited_at p o) (q, x) → p ≡ q
 awaited-place p None q x h = absurd h
 awaited-place p (Some r) q x (inl e) = ap (λ z. z.0) e
 awaited-place p (Some r) q x (inr h) = absurd h
@@ -185,7 +187,7 @@ mutual
       (Has-split (facts r) (facts_of_each rs) (q, x) h)
 
 mutual
-  pub asking-awaits : (r : Rest) (p : Step) (w : Task) (n : ℕ) (x : Name) → Has (acts r) (asking p w n) → slice_get p.needs n ≡ Some x → Has (facts r) (p.place, awaiting x)
+  pub asking-awaits : (r : Rest) (p : Step) (w : Task) (n : ℕ) (x : Need) → Has (acts r) (asking p w n) → slice_get p.needs n ≡ Some x → Has (facts r) (p.place, awaiting x)
   asking-awaits (ready u v m) p w n x (inl e) f = absurd cc
   asking-awaits (ready u v m) p w n x (inr e) f = absurd e
   asking-awaits (asking u v m) p w n x (inl e) f =
@@ -204,7 +206,7 @@ mutual
   asking-awaits (in_loop m c body r) p w n x e f = asking-awaits r p w n x e f
   asking-awaits done p w n x e f = absurd e
 
-  asking-awaits_each : (rs : Rests) (p : Step) (w : Task) (n : ℕ) (x : Name) → Has (acts_of_each rs) (asking p w n) → slice_get p.needs n ≡ Some x → Has (facts_of_each rs) (p.place, awaiting x)
+  asking-awaits_each : (rs : Rests) (p : Step) (w : Task) (n : ℕ) (x : Need) → Has (acts_of_each rs) (asking p w n) → slice_get p.needs n ≡ Some x → Has (facts_of_each rs) (p.place, awaiting x)
   asking-awaits_each no_rests p w n x e f = absurd e
   asking-awaits_each (rest r rs) p w n x e f =
       ⊎_elim (λ m. Has-left (facts r) (facts_of_each rs) (p.place, awaiting x) (asking-awaits r p w n x m f))
@@ -219,7 +221,7 @@ no_none m h = h m refl
 ready-moves : (d : Documents) (s : Plant) (b : Batch) (p : Step) (w : Task) (n : ℕ) → is_running b.state ≡ true → ((m : Move) → act_move d s b (ready p w n) ≡ Some m → ⊥) → ⊥
 ready-moves d s b p w n run h = go (is_running b.state) run h
   where
-    enter : (o : Option Name) (v : Task)
+    enter : (o : Option Need) (v : Task)
         → ((m : Move)
         → ◌≡◌ {A = Option Move}
         (elim o [
@@ -241,7 +243,7 @@ ready-moves d s b p w n run h = go (is_running b.state) run h
     go true e f = enter (slice_get p.needs n) w f
     go false e f = absurd cc
 
-get-below : (xs : List Name) (n : ℕ) → n < length xs → (r : Name) × (slice_get xs n ≡ Some r)
+get-below : (xs : List Need) (n : ℕ) → n < length xs → (r : Need) × (slice_get xs n ≡ Some r)
 get-below [] n h = absurd (omega arith)
 get-below (x ∷ xs) zero h = (x, refl)
 get-below (x ∷ xs) (suc n) h = get-below xs n (omega arith)
@@ -253,8 +255,8 @@ freeing-moves d s b p (suc n) h f =
     let g = get-below p.needs n (omega arith) in
     go (slice_get p.needs n) g.0 g.1 f
   where
-    go : (o : Option Name) (r : Name) → o ≡ Some r → ((m : Move) → ◌≡◌ {A = Option Move} (elim o [ None ↦ None | Some x ↦ Some (release b.number p.place x) ]) (Some m) → ⊥) → ⊥
-    go None r e f = (let c : ◌≡◌ {A = Option Name} None (Some r) = e in absurd cc)
+    go : (o : Option Need) (r : Need) → o ≡ Some r → ((m : Move) → ◌≡◌ {A = Option Move} (elim o [ None ↦ None | Some x ↦ Some (release b.number p.place x) ]) (Some m) → ⊥) → ⊥
+    go None r e f = (let c : ◌≡◌ {A = Option Need} None (Some r) = e in absurd cc)
     go (Some x) r e f = no_none (release b.number p.place x) f
 
 open-moves : (d : Documents) (s : Plant) (b : Batch) (p : Step) (r : Rest) → b.state ≡ Running → is_done r ≡ true → ((m : Move) → act_move d s b (open_act p r) ≡ Some m → ⊥) → ⊥
@@ -330,9 +332,10 @@ module _ (d : Documents) (rank : Ranking) (outs : List Out) (s : Plant) (sd : Is
   asks-in_line b i h num p w n j at none =
       let sound : IsSound d rank b = k.sound b i in let here : IsStandingBatch d b = standing-of d s sd b i in
       let fine = fine-act b.rest here.advanced (rest-bounded b.recipe.procedure b.rest here.stands) (asking p w n) j in
-      let r : Name = fine.2.0 in
-      none (record { act = (b.number, p.place); resource = r })
-      (k.listed r (b.number, p.place) (of-entry s.batches b p.place (awaiting r) i (asking-awaits b.rest p w n r j fine.2.1)))
+      let r : Need = fine.2.0 in
+      none (record { act = (b.number, p.place); resource = r.resource })
+      (map-Has (λ z. z.act) (s.line r.resource) (share (b.number, p.place) r.units)
+      (k.listed r.resource (share (b.number, p.place) r.units) (of-entry s.batches b p.place (awaiting r) i (asking-awaits b.rest p w n r j fine.2.1))))
       (num, at)
 
   -- a running batch with a holder under which nobody waits has a live phase there
@@ -361,7 +364,7 @@ module _ (d : Documents) (rank : Ranking) (outs : List Out) (s : Plant) (sd : Is
   runs-on b i run h num (in_loop n c body r) j at none = absurd ((let sound : IsSound d rank b = k.sound b i in let here : IsStandingBatch d b = standing-of d s sd b i in fine-act b.rest here.advanced (rest-bounded b.recipe.procedure b.rest here.stands) (in_loop n c body r) j).0)
   runs-on b i run h num done j at none = absurd ((let sound : IsSound d rank b = k.sound b i in let here : IsStandingBatch d b = standing-of d s sd b i in fine-act b.rest here.advanced (rest-bounded b.recipe.procedure b.rest here.stands) done j).0)
 
-  holder-at_work : (h : BatchAct) (r : Name) → Has (entries s.batches) (h, holding r) → ((v : Waiting) → IsWaiting (scene_of s) v → StandsUnder h v → ⊥) → IsAtWork s h
+  holder-at_work : (h : BatchAct) (r : Need) → Has (entries s.batches) (h, holding r) → ((v : Waiting) → IsWaiting (scene_of s) v → StandsUnder h v → ⊥) → IsAtWork s h
   holder-at_work h r e none =
       let b = entry-of s.batches h (holding r) e in
       (b.0, b.1, b.2, go b.0 b.1 b.2 b.3 b.0.state refl)
@@ -387,18 +390,25 @@ module _ (d : Documents) (rank : Ranking) (outs : List Out) (s : Plant) (sd : Is
 
   pub ends-at_work : (ls : List Link) (l : Link) → IsChain (scene_of s) (ls ++ l ∷ []) → ((v : Waiting) → IsWaiting (scene_of s) v → StandsUnder l.holder v → ⊥) → IsAtWork s l.holder
   ends-at_work ls l h none =
-      holder-at_work l.holder l.waiting.resource
-      (Has-holders l.waiting.resource (entries s.batches) l.holder (subst (λ z. Has z l.holder) (holders-entries s l.waiting.resource) ((last-link ls l h).1))) none
+      let y = Has-map (λ z. z.act) (holders s l.waiting.resource) l.holder (last-link ls l h).1 in
+      holder-at_work l.holder (need l.waiting.resource y.0.units)
+      (subst (λ z. Has (entries s.batches) (z, holding (need l.waiting.resource y.0.units))) y.2
+      (Has-holders l.waiting.resource (entries s.batches) y.0 (subst (λ z. Has z y.0) (holders-entries s l.waiting.resource) y.1))) none
 
--- each resource that is waited for in a plant that is led to is one of the cell's
+-- each ask in a plant that is led to is for a resource of the cell, and for no more than its capacity
+ask-can_be_met : (cell : Cell) (d : Documents) (rank : Ranking) (outs : List Out) (s : Plant) → IsCleared cell d rank → IsStanding d s → IsKept d rank outs s
+    → (r : Name) (a : Share) → Has (s.line r) a → CanBeMet cell d rank (need r a.units)
+ask-can_be_met cell d rank outs s cleared stands k r a h =
+    let e = entry-of s.batches a.act (awaiting (need r a.units)) (k.asked r a h) in
+    let b : IsStandingBatch d e.0 = Each-Has (IsStandingBatch d) s.batches e.0 stands.batches e.1 in
+    awaited-known cell d rank is_procedure (0 ∷ []) [] e.0.recipe.procedure e.0.rest
+    (Each-Has (IsClearedRecipe cell d rank) d.recipes e.0.recipe cleared.recipes b.known) b.stands a.act.1 (need r a.units) e.3
+
 waiting-known : (cell : Cell) (d : Documents) (rank : Ranking) (outs : List Out) (s : Plant) → IsCleared cell d rank → IsStanding d s → IsKept d rank outs s
     → (w : Waiting) → IsWaiting (scene_of s) w → Has cell.resources w.resource
 waiting-known cell d rank outs s cleared stands k w h =
-    let e = entry-of s.batches w.act (awaiting w.resource) (k.asked w.resource w.act h) in
-    let b : IsStandingBatch d e.0 = Each-Has (IsStandingBatch d) s.batches e.0 stands.batches e.1 in
-    among-Has cell.resources w.resource
-    (awaited-known cell d rank is_procedure (0 ∷ []) [] e.0.recipe.procedure e.0.rest
-    (Each-Has (IsClearedRecipe cell d rank) d.recipes e.0.recipe cleared.recipes b.known) b.stands w.act.1 w.resource e.3)
+    let x = Has-map (λ z. z.act) (s.line w.resource) w.act h in
+    among-Has cell.resources w.resource (ask-can_be_met cell d rank outs s cleared stands k w.resource x.0 x.1).0
 
 each-waits : (s : Plant) (ls : List Link) → IsChain (scene_of s) ls → (l : Link) → Has ls l → IsWaiting (scene_of s) l.waiting
 each-waits s [] h l i = absurd i
@@ -415,7 +425,8 @@ nobody_waits_in_vain cell d rank kept cleared es outs t l settled =
     let k : IsKept d rank outs t = kept-along d rank (cleared-down cell d rank kept cleared) [] opening (opening-stands d) (kept-at_first d rank) es outs t l in
     let stands : IsStanding d t = leads-stands d (placed-trees d.recipes kept.procedures) opening t es outs (opening-stands d) l in
     record {
-      held = held-to_capacity d rank outs t stands k settled;
+      held = λ r oldest later f. held-by_others d rank outs t stands k settled r oldest later f
+          (ask-can_be_met cell d rank outs t cleared stands k r oldest (subst (λ z. Has z oldest) (sym f) (inl refl))).1;
       short = λ ls h. short-chain d rank outs t stands k ls cell.resources h (λ m i. waiting-known cell d rank outs t cleared stands k m.waiting (each-waits t ls h m i));
       ends = ends-at_work d rank outs t stands k settled;
     }

@@ -10,6 +10,7 @@ use Rattle.batch_model.specs.Lists.{Each}
 use Rattle.batch_model.specs.Recipes.{recipe_of}
 use Rattle.batch_model.specs.Cleared.{Level, in_procedure, in_unit_procedure, in_operation}
 use Rattle.batch_model.specs.Placed.{IsPlaced}
+use Rattle.batch_recipe.specs.declared.need.Need.{Need}
 
 -- a unit procedure has no `par` in its chart
 abbrev pub AllowsPar : Level → Type 0
@@ -26,9 +27,9 @@ abbrev mutual
   IsOfLevel l unit (sel cs) = AreChoicesOf l unit cs
   IsOfLevel l unit (loop n c t) = IsOfLevel l unit t
 
-  -- a unit procedure's first need is its unit, and phase steps alone run a phase, on that unit
-  pub IsActOf : Level → Name → List Name → Task → Type 0
-  IsActOf in_procedure unit (own ∷ needs) (follows name t) = IsOfLevel in_unit_procedure own t
+  -- a unit procedure's first need is one unit of its unit, and phase steps alone run a phase, on that unit
+  pub IsActOf : Level → Name → List Need → Task → Type 0
+  IsActOf in_procedure unit (own ∷ needs) (follows name t) = (own.units ≡ 1) × IsOfLevel in_unit_procedure own.resource t
   IsActOf in_unit_procedure unit needs (follows name t) = IsOfLevel in_operation unit t
   IsActOf in_operation unit needs (runs phase) = phase.unit ≡ unit
   IsActOf _ _ _ _ = ⊥

@@ -1,17 +1,18 @@
 -- Where no move is possible, whoever waits waits for something.
-use Rattle.std.specs.Prelude.{◌≡◌, ◌⊎◌, ◌≤◌, List, [], ◌∷◌, ◌++◌, length, None, ⊤}
+use Rattle.std.specs.Prelude.{◌≡◌, ◌⊎◌, ◌≤◌, ◌<◌, ◌+◌, List, [], ◌∷◌, ◌++◌, length, None, ⊤}
 use Rattle.batch_matrix.specs.declared.state.State.{State}
 use Rattle.batch_matrix.specs.declared.state.State.TheVariants.{Pausing, Paused, Holding, Held, Restarting, Stopping, Aborting}
 use Rattle.batch_model.specs.Lists.{Has}
 use Rattle.batch_recipe.specs.Tree.{Step, Phase}
 use Rattle.batch_model.specs.Rest.{live, acts}
-use Rattle.batch_model.specs.Plant.{Documents, Batch, BatchAct, Plant, opening, holders}
+use Rattle.batch_model.specs.Plant.{Documents, Batch, BatchAct, Share, units_in, Plant, opening, holders, askers}
 use Rattle.batch_model.specs.Moves.{next}
 use Rattle.batch_model.specs.Events.{Event}
 use Rattle.batch_model.specs.Runs.{Out, Leads}
 use Rattle.batch_model.specs.Records.{scene_of, Waiting, IsWaiting, IsAtOrAbove, Link, IsChain, StandsUnder}
 use Rattle.batch_model.specs.Cleared.{Cell, Ranking, IsCleared}
 use Rattle.batch_safety.specs.Premises.{AreDocuments}
+use Rattle.batch_recipe.specs.Conditions.{Name}
 
 -- the batch isn't simply running
 abbrev pub IsHalting : State → Type 0
@@ -31,8 +32,9 @@ IsAtWork s h =
     × (IsHalting b.state ⊎ ((p : Step) × (x : Phase) × (t : State) × Has (acts b.rest) (live p x t) × IsAtOrAbove h.1 p.place))
 
 pub record WaitsForSomething (cell : Cell) (d : Documents) (s : Plant) : Type 0 where
-  -- what is waited for is held to its capacity
-  pub held : (w : Waiting) → IsWaiting (scene_of s) w → length (holders s w.resource) ≡ d.capacity w.resource
+  -- of what is asked for less is free than its oldest ask wants, and somebody holds it
+  pub held : (r : Name) (oldest : Share) (later : List Share) → askers s r ≡ oldest ∷ later
+      → (d.capacity r < units_in (holders s r) + oldest.units) × ((h : Share) × Has (holders s r) h)
   -- a chain has no more waiting steps than there are resources
   pub short : (ls : List Link) → IsChain (scene_of s) ls → length ls ≤ length cell.resources
   -- where a chain can't be continued, its last holder is at work

@@ -5,6 +5,7 @@ use Rattle.batch_recipe.specs.Nodes.{nodes}
 use Rattle.batch_recipe.specs.Tree.{Place, Tree, act, skip, seq, par, sel, loop, Task, runs, follows, Trees, no_trees, tree, Choices, otherwise, choice}
 use Rattle.batch_model.specs.Lists.{Each}
 use Rattle.batch_model.specs.Cleared.{Ranking, RiseStrictly}
+use Rattle.batch_recipe.specs.Needs.{resources_of}
 
 -- the ranks of the names rise strictly, from above low
 abbrev pub Rises : Ranking → ℕ → List Name → Type 0
@@ -19,7 +20,7 @@ last_rank rank low (r ∷ rs) = last_rank rank (rank r) rs
 abbrev mutual
   -- along every path down, the needs have strictly rising ranks, from above low
   pub RisesDown : Ranking → ℕ → Tree → Type 0
-  RisesDown rank low (act s w) = Rises rank low s.needs × RisesBelow rank (last_rank rank low s.needs) w
+  RisesDown rank low (act s w) = Rises rank low (resources_of s.needs) × RisesBelow rank (last_rank rank low (resources_of s.needs)) w
   RisesDown rank low skip = ⊤
   RisesDown rank low (seq cs) = RiseDown rank low cs
   RisesDown rank low (par cs) = RiseDown rank low cs

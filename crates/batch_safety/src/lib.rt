@@ -19,7 +19,7 @@ pub fn records_are_safe()
     ensures { CanOnlyBeSafe }
 {}
 
-/// Where no move is possible, each step in line waits for a resource that is held to its capacity, no chain has more waiting
+/// Where no move is possible, of each resource that is asked for less is free than its oldest ask wants and somebody holds it, no chain has more waiting
 /// steps than the cell has resources, and where a chain can't be continued its last holder is at work.
 pub fn nobody_waits_in_vain()
     ensures { NobodyWaitsInVain }

@@ -3,6 +3,8 @@ use Rattle.std.specs.Prelude.{ℕ, List, [], ◌∷◌, Some, None, slice_get, c
 use Rattle.batch_recipe.specs.Conditions.{Name}
 use Rattle.batch_recipe.specs.Tree.{Phase, Place, Step, Task, act, follows, runs}
 use Rattle.batch_model.specs.Demo.{unit_procedure, operation, add}
+use Rattle.batch_recipe.specs.declared.need.Need.{Need}
+use Rattle.batch_recipe.specs.Needs.{one_unit}
 
 abbrev pub entry : List (List ℕ) → ℕ → List ℕ
 entry texts n = elim (slice_get texts n) [ None ↦ [] | Some text ↦ text ]
@@ -24,8 +26,8 @@ node_name n = entry (codes "A" ∷ codes "MAKE" ∷ codes "CHARGE" ∷ codes "AD
 abbrev pub place_at : ℕ → Place
 place_at n = entry ((0 ∷ []) ∷ (0 ∷ 0 ∷ []) ∷ (0 ∷ 0 ∷ 0 ∷ []) ∷ (0 ∷ 0 ∷ 0 ∷ 0 ∷ []) ∷ []) n
 
-abbrev pub needs_at : ℕ → List Name
-needs_at n = elim (slice_get ([] ∷ (codes "R1" ∷ []) ∷ []) n) [ None ↦ [] | Some needs ↦ needs ]
+abbrev pub needs_at : ℕ → List Need
+needs_at n = elim (slice_get ([] ∷ (one_unit (codes "R1") ∷ []) ∷ []) n) [ None ↦ [] | Some needs ↦ needs ]
 
 abbrev pub step_at : ℕ → Step
 step_at n = record { place = place_at n; needs = needs_at n }

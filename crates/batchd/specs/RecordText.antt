@@ -1,5 +1,5 @@
 -- The text of the record: a line for each out of the machine.
-use Rattle.std.specs.Prelude.{ℕ, List, [], ◌∷◌, ◌++◌, map, codes, decimal}
+use Rattle.std.specs.Prelude.{ℕ, List, [], ◌∷◌, ◌++◌, map, codes, decimal, nat_lt, true, false}
 use Rattle.batch_matrix.specs.declared.state.State.{State}
 use Rattle.batch_matrix.specs.declared.command.Command.{Command}
 use Rattle.batch_matrix.specs.declared.report.Report.{Report}
@@ -8,6 +8,7 @@ use Rattle.batch_recipe.specs.Tree.{Place}
 use Rattle.batch_model.specs.Moves.{Move, send, state, release, begin, start, end, ask, grant}
 use Rattle.batch_model.specs.Events.{Refusal, unknown_recipe, unknown_batch, command_not_accepted, no_live_phase, report_not_expected, bad_output, bad_size, bad_value, full, not_idle, moves_pending, no_memory, Reply, created, ordered, removed, reported, refused}
 use Rattle.batch_model.specs.Runs.{Out, reply, move}
+use Rattle.batch_recipe.specs.declared.need.Need.{Need}
 
 -- Words
 
@@ -84,17 +85,21 @@ reply_words (reported unit phase word n place x) =
     codes "ok" ∷ codes "report" ∷ unit ∷ phase ∷ report_text word ∷ decimal n ∷ place_text place ∷ state_text x ∷ []
 reply_words (refused why) = codes "refused" ∷ refusal_words why
 
+-- a resource, and after a star how many units of it, where it is more than one
+abbrev pub need_text : Need → List ℕ
+need_text need = elim (nat_lt 1 need.units) [ false ↦ need.resource | true ↦ need.resource ++ codes "*" ++ decimal need.units ]
+
 abbrev pub move_words : Move → List (List ℕ)
 move_words (send n place phase command) =
     codes "send" ∷ decimal n ∷ place_text place ∷ phase.unit ∷ phase.name ∷ command_text command ∷ []
 move_words (state n x) = codes "state" ∷ decimal n ∷ state_text x ∷ []
-move_words (release n place resource) = codes "release" ∷ decimal n ∷ place_text place ∷ resource ∷ []
+move_words (release n place need) = codes "release" ∷ decimal n ∷ place_text place ∷ need_text need ∷ []
 move_words (begin n place name) = codes "begin" ∷ decimal n ∷ place_text place ∷ name ∷ []
 move_words (start n place phase values) =
     codes "start" ∷ decimal n ∷ place_text place ∷ phase.unit ∷ phase.name ∷ value_texts values
 move_words (end n place) = codes "end" ∷ decimal n ∷ place_text place ∷ []
-move_words (ask n place resource) = codes "ask" ∷ decimal n ∷ place_text place ∷ resource ∷ []
-move_words (grant n place resource) = codes "grant" ∷ decimal n ∷ place_text place ∷ resource ∷ []
+move_words (ask n place need) = codes "ask" ∷ decimal n ∷ place_text place ∷ need_text need ∷ []
+move_words (grant n place need) = codes "grant" ∷ decimal n ∷ place_text place ∷ need_text need ∷ []
 
 abbrev pub out_words : Out → List (List ℕ)
 out_words (reply r) = reply_words r

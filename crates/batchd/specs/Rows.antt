@@ -4,7 +4,7 @@ use Rattle.batch_matrix.specs.declared.state.State.{State}
 use Rattle.batch_recipe.specs.Conditions.{Name, same_name}
 use Rattle.batch_model.specs.Rest.{Rest, ready, asking, open_act, live, freeing, done}
 use Rattle.batch_model.specs.Plant as Model
-use Rattle.batch_model.specs.Plant.{Plant, BatchAct}
+use Rattle.batch_model.specs.Plant.{Plant, Share}
 use Rattle.batch_model.specs.Demo.{recipe, add}
 use Rattle.batchd.specs.Recipe.{needs_at, place_at, step_at, task_at}
 use Rattle.batchd.specs.declared.engine.row.Row.{Row}
@@ -32,14 +32,14 @@ rest_of [] = done
 rest_of (row ∷ rows) = rest_at row.stage row.node row.held (rest_of rows)
 
 -- the asks of an act for a resource, before those of the others
-abbrev pub with_ask : Stage → ℕ → ℕ → Name → List BatchAct → List BatchAct
+abbrev pub with_ask : Stage → ℕ → ℕ → Name → List Share → List Share
 with_ask Asking node held resource others =
     elim (slice_get (needs_at node) held)
-    [ None ↦ others | Some need ↦ elim (same_name resource need) [ true ↦ (1, place_at node) ∷ others | false ↦ others ] ]
+    [ None ↦ others | Some need ↦ elim (same_name resource need.resource) [ true ↦ record { act = (1, place_at node); units = need.units } ∷ others | false ↦ others ] ]
 with_ask _ node held resource others = others
 
--- the acts that wait for a resource
-abbrev pub asks_of : List Row → Name → List BatchAct
+-- what stands asked for of a resource
+abbrev pub asks_of : List Row → Name → List Share
 asks_of [] resource = []
 asks_of (row ∷ rows) resource = with_ask row.stage row.node row.held resource (asks_of rows resource)
 

@@ -12,6 +12,7 @@ use Rattle.batchd.specs.declared.engine.line.Line.{Line}
 use Rattle.batchd.specs.declared.engine.out.Out.{Out}
 use Rattle.batchd.specs.declared.engine.refusal.Refusal.{Refusal}
 use Rattle.batchd.specs.declared.engine.reply.Reply.{Reply}
+use Rattle.batch_recipe.specs.Needs.{one_unit}
 
 abbrev pub event_of : Event → Events.Event
 event_of (Event.Create recipe size) = Events.create recipe size
@@ -36,12 +37,12 @@ reply_of (Reply.Refused refusal) = Events.refused (refusal_of refusal)
 
 abbrev pub move_of : Line → Moves.Move
 move_of (Line.State batch state) = Moves.state batch state
-move_of (Line.Release batch node resource) = Moves.release batch (place_at node) (resource_name resource)
+move_of (Line.Release batch node resource) = Moves.release batch (place_at node) (one_unit (resource_name resource))
 move_of (Line.Begin batch node) = Moves.begin batch (place_at node) (node_name node)
 move_of (Line.Start batch node unit phase) = Moves.start batch (place_at node) (phase_of unit phase) []
 move_of (Line.End batch node) = Moves.end batch (place_at node)
-move_of (Line.Ask batch node resource) = Moves.ask batch (place_at node) (resource_name resource)
-move_of (Line.Grant batch node resource) = Moves.grant batch (place_at node) (resource_name resource)
+move_of (Line.Ask batch node resource) = Moves.ask batch (place_at node) (one_unit (resource_name resource))
+move_of (Line.Grant batch node resource) = Moves.grant batch (place_at node) (one_unit (resource_name resource))
 
 abbrev pub out_of : Out → Runs.Out
 out_of (Out.Reply reply) = Runs.reply (reply_of reply)

@@ -92,6 +92,7 @@ fn refusals_of_sets(rt: HostRuntime) -> Result<(), Fail> {
         (at(1, Rule::PhaseNotOffered), "refused V5 N 0.0\n"),
         (at(2, Rule::SamePhaseInParallel), "refused V6 N 0.0.0\n"),
         (at(2, Rule::LoopWithoutPhase), "refused V7 N 0.0.0\n"),
+        (at(3, Rule::ShareAboveCapacity), "refused V9 N 0.0.0.0\n"),
         (Refusal::Memory, "refused V8\n"),
         (Refusal::Recipes, "refused V10\n"),
     ] {

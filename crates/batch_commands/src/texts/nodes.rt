@@ -48,5 +48,6 @@ pub(crate) fn rule_code(rule: Rule) -> &'static str
         Rule::PhaseNotOffered => "V5",
         Rule::SamePhaseInParallel => "V6",
         Rule::LoopWithoutPhase => "V7",
+        Rule::ShareAboveCapacity => "V9",
     }
 }

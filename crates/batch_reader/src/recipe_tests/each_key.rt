@@ -36,7 +36,7 @@ chart = "sel(A<B:A,C/=D:skip,else:A)"
 [[phase]]
 name = "A"
 runs = "else"
-needs = ["par", "A"]
+needs = ["par", "A*2"]
 values = ["D", "A", "B", "A"]
 "#;
 
@@ -45,7 +45,7 @@ const TOLD: &str =
 procedure ALL-1_abcdefghijklmnopqrstuvwxyz None [] Follows(Skip)
 unit_procedure A Some("seq") [] Follows(Seq([Label("A")]))
 operation A None [] Follows(Sel([(Cond { name: "A", op: Less, term: Named("B") }, Label("A")), (Cond { name: "C", op: NotEqual, term: Named("D") }, Skip)], Label("A")))
-phase A None ["par", "A"] Runs { phase: "else", values: ["D", "A", "B", "A"] }
+phase A None ["par", "A"*2] Runs { phase: "else", values: ["D", "A", "B", "A"] }
 "#;
 
 #[test]

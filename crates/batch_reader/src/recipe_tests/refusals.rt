@@ -150,7 +150,7 @@ fn missing_keys(rt: HostRuntime) -> Result<(), Fail> {
     Ok(())
 }
 
-const WITH_A_WRONG_KIND: [Case; 12] = [
+const WITH_A_WRONG_KIND: [Case; 18] = [
     ("procedure = 5\n", TableKind::Procedure, 0),
     (
         "procedure = [{ chart = 'MAKE' }]\n",
@@ -191,6 +191,36 @@ const WITH_A_WRONG_KIND: [Case; 12] = [
     ),
     ("[[phase]]\nname = 'ADD'\nvalues = 5\n", TableKind::Phase, 0),
     ("[[phase]]\nname = 'ADD'\nruns = 5\n", TableKind::Phase, 0),
+    (
+        "[[phase]]\nname = 'ADD'\nneeds = ['HDR*']\n",
+        TableKind::Phase,
+        0,
+    ),
+    (
+        "[[phase]]\nname = 'ADD'\nneeds = ['HDR *2']\n",
+        TableKind::Phase,
+        0,
+    ),
+    (
+        "[[phase]]\nname = 'ADD'\nneeds = ['*2']\n",
+        TableKind::Phase,
+        0,
+    ),
+    (
+        "[[phase]]\nname = 'ADD'\nneeds = ['HDR*2*3']\n",
+        TableKind::Phase,
+        0,
+    ),
+    (
+        "[[phase]]\nname = 'ADD'\nneeds = ['HDR*-1']\n",
+        TableKind::Phase,
+        0,
+    ),
+    (
+        "[[phase]]\nname = 'ADD'\nneeds = ['HDR*00000000000000000001']\n",
+        TableKind::Phase,
+        0,
+    ),
 ];
 
 #[test]

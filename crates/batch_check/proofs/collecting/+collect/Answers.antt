@@ -12,6 +12,7 @@ use Rattle.batch_check.specs.Collecting.{Grows, IsCollected}
 use Rattle.batch_check.proofs.Collects.{IfOk-map, IfOk-both, collected-act, collected-within}
 use Rattle.batch_check.proofs.Branches.{act_runs, act_follows, IsReady-grown, CollectsChart, below_each, below_choices, collects-seq, collects-par, collects-sel, collects-loop, KeepsBranches-more, KeepsChoices-more, KeepsChoices-last}
 use Rattle.batch_check.proofs.collecting.+collect.Goals as goal
+use Rattle.batch_recipe.specs.Needs.{resources_of}
 
 pub collect-collect_act-requires : goal.collect-collect_act-requires
 collect-collect_act-requires t c =
@@ -88,7 +89,7 @@ collect_act-returns-in-Runs-clause-collected t c = λ unit place above.
 pub collect_act-returns-in-Follows-clause-collected :
     goal.collect_act-returns-in-Follows-clause-collected
 collect_act-returns-in-Follows-clause-collected t c =
-    let asked = asked_by c.args.act.now.unit c.args.act.now.needs.items in
+    let asked = resources_of (asked_by c.args.act.now.unit c.args.act.now.needs.items) in
     let old = c.args.edges.now.edges.items in
     let new = c.collect.new.edges.edges.items in
     let mid = c.saturating_add-next.result in

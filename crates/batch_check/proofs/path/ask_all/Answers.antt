@@ -3,11 +3,12 @@ use Rattle.batch_check.specs.Collecting.{HasAsked}
 use Rattle.batch_check.proofs.Asking.{HasAsked-append}
 use Rattle.batch_check.proofs.Collects.{IfOk-map}
 use Rattle.batch_check.proofs.path.ask_all.Goals as goal
+use Rattle.batch_recipe.specs.Needs.{resources_of}
 
 pub returns-in_ok-on_unit-in-Some : goal.returns-in_ok-on_unit-in-Some
 returns-in_ok-on_unit-in-Some c =
     let cell = c.args.cell.now in
-    let needs = c.args.act.now.needs.items in
+    let needs = resources_of c.args.act.now.needs.items in
     rw c.in-Some.is
     (IfOk-map c.ask_each-in-Some.result
     (HasAsked cell c.in_ok-on_unit-in-Some.on_unit c.args.node needs c.ask.new.edges c.ask_each-in-Some.new.edges)

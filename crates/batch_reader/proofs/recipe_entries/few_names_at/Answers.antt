@@ -1,9 +1,10 @@
 use Rattle.std.proofs.Common.{refl}
-use Rattle.batch_reader.proofs.OneEntry.{few_names_refused, few_names_fault-long, few_names_fault-short}
+use Rattle.batch_reader.proofs.OneEntry.{few_refused, few_names_fault-long, few_names_fault-short}
 use Rattle.batch_reader.proofs.recipe_entries.few_names_at.Goals as goal
+use Rattle.batch_reader.specs.Entries.{IsNameItem}
 
 pub returns-then-values-most-clause-refused : goal.returns-then-values-most-clause-refused
-returns-then-values-most-clause-refused c = λ _. few_names_refused _ _ c.in_ok-values.values.now c.args.most c.in_ok-values.ensures.ok c.if-values-most.true
+returns-then-values-most-clause-refused c = λ _. few_refused IsNameItem _ _ c.in_ok-values.values.now c.args.most c.in_ok-values.ensures.ok c.if-values-most.true
 
 pub returns-then-values-most-clause-told : goal.returns-then-values-most-clause-told
 returns-then-values-most-clause-told c =

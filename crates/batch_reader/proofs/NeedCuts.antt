@@ -1,0 +1,30 @@
+-- What a text that is a need says, by where its first star stands.
+use Rattle.std.proofs.Common.{◌≡◌, ℕ, ◌+◌, ◌-◌, List, length, take, drop, position, Option, Some, None, refl, sym, ◌∙◌, subst}
+use Rattle.std.proofs.lemmas.List.{take_rest}
+use Rattle.batch_text.specs.NameText.{IsName}
+use Rattle.batch_recipe.specs.declared.need.Need.{Need}
+use Rattle.batch_reader.specs.NeedText.{IsNeedText, IsNeedCut, IsUnits, is_star}
+
+module _ (text : List ℕ) (found : Option ℕ) (first : found ≡ position is_star text) where
+  cut : (o : Option ℕ) (need : Need) → found ≡ o → IsNeedText text need → IsNeedCut o text need
+  cut o need is h = subst (λ z. IsNeedCut z text need) (sym first ∙ is) h
+
+  said : (o : Option ℕ) (need : Need) → found ≡ o → IsNeedCut o text need → IsNeedText text need
+  said o need is h = subst (λ z. IsNeedCut z text need) (sym is ∙ first) h
+
+  pub name_alone : (need : Need) → found ≡ None → IsNeedText text need → IsName text
+  name_alone need is h = (cut None need is h).0
+
+  pub name_before : (star : ℕ) (need : Need) → found ≡ Some star → IsNeedText text need → IsName (take star text)
+  name_before star need is h = (cut (Some star) need is h).0
+
+  pub units_after : (star : ℕ) (need : Need) → found ≡ Some star → IsNeedText text need → IsUnits (take (length text - (star + 1)) (drop (star + 1) text)) need.units
+  units_after star need is h = subst (λ z. IsUnits z need.units) (sym (take_rest text (star + 1))) (cut (Some star) need is h).2
+
+  pub says_name : (name : List ℕ) → found ≡ None → IsName text × (name ≡ text) → IsNeedText text (record { resource = name; units = 1 })
+  says_name name is h = said None (record { resource = name; units = 1 }) is (h.0, h.1, refl)
+
+  pub says_units : (star : ℕ) (name : List ℕ) (units : ℕ) → found ≡ Some star → IsName (take star text) × (name ≡ take star text)
+      → IsUnits (take (length text - (star + 1)) (drop (star + 1) text)) units → IsNeedText text (record { resource = name; units = units })
+  says_units star name units is h u =
+      said (Some star) (record { resource = name; units = units }) is (h.0, h.1, subst (λ z. IsUnits z units) (take_rest text (star + 1)) u)

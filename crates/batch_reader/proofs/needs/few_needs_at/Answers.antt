@@ -1,0 +1,6 @@
+use Rattle.batch_reader.specs.Entries.{IsNeedItem}
+use Rattle.batch_reader.proofs.OneEntry.{few_refused}
+use Rattle.batch_reader.proofs.needs.few_needs_at.Goals as goal
+
+pub returns-then-values-most-clause-refused : goal.returns-then-values-most-clause-refused
+returns-then-values-most-clause-refused c = λ _. few_refused IsNeedItem _ _ c.in_ok-values.values.now c.args.most c.in_ok-values.ensures.ok c.if-values-most.true

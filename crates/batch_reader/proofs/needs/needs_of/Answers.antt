@@ -1,0 +1,21 @@
+use Rattle.std.proofs.Common.{get_or}
+use Rattle.std.proofs.lemmas.Result.{err_from_is_err_and}
+use Rattle.toml.specs.View.{view}
+use Rattle.batch_reader.proofs.Items.{AllItems_refused, AllItems-turn}
+use Rattle.batch_reader.specs.Entries.{IsNeedItem}
+use Rattle.batch_reader.proofs.needs.needs_of.Goals as goal
+use Rattle.batch_recipe.specs.declared.need.Need.{Need}
+
+pub returns-in_err-need-clause-refused : goal.returns-in_err-need-clause-refused
+returns-in_err-need-clause-refused c =
+    let p = err_from_is_err_and c.from_residual.result c.from_residual.ensures.1 in
+    rw (p.1, p.2) (λ known.
+    let none : (need : Need) → IsNeedItem (view (get_or c.args.values.now c.loop-value.value-index c.value-item.result)) need → ⊥ =
+    rw (← c.value-item.is) (c.in_err-need.ensures.refused known) in
+    AllItems_refused IsNeedItem c.args.values.now c.loop-value.value-index c.value-item.result c.loop-value-test.true none)
+
+pub loop-value-preserved : goal.loop-value-preserved
+loop-value-preserved c =
+    let here : IsNeedItem (view (get_or c.args.values.now c.loop-value.value-index c.value-item.result)) c.in_ok-need.need = rw (← c.value-item.is) c.in_ok-need.ensures.ok in
+    rw c.in_ok-push.ensures.items (AllItems-turn IsNeedItem c.args.values.now c.loop-value.needs.items c.loop-value.value-index c.value-item.result c.in_ok-need.need
+    c.loop-value-test.true c.loop-value.invariant here)

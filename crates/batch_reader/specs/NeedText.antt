@@ -1,0 +1,24 @@
+-- The texts that are needs: the name of a resource, and after a star how many units of it.
+use Rattle.std.specs.Prelude.{◌≡◌, ℕ, ◌+◌, ◌≤◌, Bool, nat_eq, Option, Some, None, List, take, drop, position}
+use Rattle.batch_text.specs.NameText.{IsName}
+use Rattle.batch_text.specs.NumberText.{IsNumber, number_of}
+use Rattle.batch_recipe.specs.declared.need.Need.{Need}
+use Rattle.batch_recipe.specs.declared.need.TheConstants.{MAX_UNITS}
+
+abbrev pub is_star : ℕ → Bool
+is_star byte = nat_eq byte 42
+
+-- the text is the number of units
+pub record IsUnits (text : List ℕ) (units : ℕ) : Type 0 where
+  pub number : IsNumber text
+  pub value : units ≡ number_of text
+  pub some : 1 ≤ units
+  pub few : units ≤ MAX_UNITS
+
+-- where its first star stands the name ends, and the number of units begins after it; without a star it is one unit
+abbrev pub IsNeedCut : Option ℕ → List ℕ → Need → Type 0
+IsNeedCut None text need = IsName text × (need.resource ≡ text) × (need.units ≡ 1)
+IsNeedCut (Some star) text need = IsName (take star text) × (need.resource ≡ take star text) × IsUnits (drop (star + 1) text) need.units
+
+abbrev pub IsNeedText : List ℕ → Need → Type 0
+IsNeedText text need = IsNeedCut (position is_star text) text need

@@ -1,0 +1,122 @@
+//! The needs of acts.
+ghost use Rattle.std.specs.Prelude.{◌≡◌, ◌≢◌, ◌≤◌, ℕ, List, true, position, length, IfOk, IfErr};
+ghost use Rattle.toml.specs.Data.{get_member};
+ghost use Rattle.toml.specs.View.{view, items_view, table_view};
+ghost use Rattle.batch_recipe.specs.Needs.{have_units};
+ghost use Rattle.batch_recipe.specs.declared.need.Need.{Need};
+ghost use Rattle.batch_text.specs.NameText.{IsName};
+ghost use Rattle.batch_reader.specs.Entries.{AllItems, HasFewNeeds, IsNeedItem};
+ghost use Rattle.batch_reader.specs.Faults.{IsAt, IsToldAs};
+ghost use Rattle.batch_reader.specs.NeedText.{IsNeedText, IsUnits, is_star};
+
+use crate::fault::{EntryFault, Spot, TableFault};
+use crate::tables::items_at;
+use batch_recipe::{MAX_UNITS, Need};
+use batch_text::{Name, TextFault, read_number};
+use std::alloc::Global;
+use toml::{Table, Value};
+
+/// The needs in the list at a key, at most so many, and none where the key is missing.
+#[tactic(auto, using(crate::proofs::OneEntry::few_needs))]
+pub(crate) fn few_needs_at(
+    alloc: Global,
+    table: &Table,
+    key: &str,
+    most: usize,
+    spot: Spot,
+) -> Result<Vec<Need>, TableFault>
+    ensures ok { IfOk result (λ needs. HasFewNeeds key.now (table_view table.now) most needs.items) }
+    ensures units { IfOk result (λ needs. have_units needs.items ≡ true) }
+    ensures refused { IfErr result (λ fault. fault ≢ TableFault.Memory
+        → (needs : List Need) → ¬ (HasFewNeeds key.now (table_view table.now) most needs)) }
+    ensures told { IfErr result (IsAt spot) }
+{
+    let values = items_at(table, key, spot)?;
+    if values.len() > most {
+        return Err(TableFault::Entry(spot, EntryFault::OutOfLimit));
+    }
+    needs_of(alloc, values, spot)
+}
+
+/// The needs that some values are, in order.
+#[tactic(auto, using(crate::proofs::OneEntry::needs_have_units))]
+fn needs_of(alloc: Global, values: &[Value], spot: Spot) -> Result<Vec<Need>, TableFault>
+    ensures ok { IfOk result (λ needs. AllItems IsNeedItem (items_view values.now) needs.items) }
+    ensures units { IfOk result (λ needs. have_units needs.items ≡ true) }
+    ensures refused { IfErr result (λ fault. fault ≢ TableFault.Memory
+        → (needs : List Need) → ¬ (AllItems IsNeedItem (items_view values.now) needs)) }
+    ensures told { IfErr result (IsAt spot) }
+{
+    let mut needs = Vec::new(alloc);
+    for value in values {
+        let need = need_of(alloc, value, spot)?;
+        needs.push(need)?;
+    }
+    Ok(needs)
+}
+
+/// The need that a value is.
+fn need_of(alloc: Global, value: &Value, spot: Spot) -> Result<Need, TableFault>
+    ensures ok { IfOk result (λ need. IsNeedItem (view value.now) need) }
+    ensures refused { IfErr result (λ fault. fault ≢ TableFault.Memory
+        → (need : Need) → ¬ (IsNeedItem (view value.now) need)) }
+    ensures told { IfErr result (IsAt spot) }
+{
+    let Some(text) = value.as_str() else {
+        return Err(TableFault::Entry(spot, EntryFault::WrongKind));
+    };
+    read_need(alloc, text.as_bytes(), spot)
+}
+
+/// The need that a text is.
+fn read_need(alloc: Global, text: &[u8], spot: Spot) -> Result<Need, TableFault>
+    ensures ok { IfOk result (λ need. IsNeedText text.now need) }
+    ensures refused { IfErr result (λ fault. fault ≢ TableFault.Memory → (need : Need) → ¬ (IsNeedText text.now need)) }
+    ensures told { IfErr result (IsAt spot) }
+{
+    match first_star(text) {
+        None => {
+            let resource = resource(alloc, text, spot)?;
+            Ok(Need { resource, units: 1 })
+        }
+        Some(star) => {
+            let resource = resource(alloc, &text[..star], spot)?;
+            let units = units(&text[star + 1..], spot)?;
+            Ok(Need { resource, units })
+        }
+    }
+}
+
+/// Where the first star of a text stands.
+fn first_star(text: &[u8]) -> Option<usize>
+    ensures { result ≡ position is_star text.now }
+{
+    text.iter().position(|byte| *byte == b'*')
+}
+
+/// The name that a text is.
+fn resource(alloc: Global, text: &[u8], spot: Spot) -> Result<Name, TableFault>
+    ensures ok { IfOk result (λ name. IsName text.now × (name ≡ text.now)) }
+    ensures refused { IfErr result (λ fault. fault ≢ TableFault.Memory → ¬ (IsName text.now)) }
+    ensures told { IfErr result (IsToldAs spot EntryFault.WrongKind) }
+{
+    match Name::read(alloc, text) {
+        Ok(name) => Ok(name),
+        Err(TextFault::Memory) => Err(TableFault::Memory),
+        Err(_) => Err(TableFault::Entry(spot, EntryFault::WrongKind)),
+    }
+}
+
+/// The number of units that a text is. Another form is of a wrong kind, a number that is too small or too great out of limit.
+fn units(text: &[u8], spot: Spot) -> Result<u32, TableFault>
+    ensures ok { IfOk result (λ units. IsUnits text.now units) }
+    ensures refused { IfErr result (λ fault. (units : ℕ) → ¬ (IsUnits text.now units)) }
+    ensures told { IfErr result (IsAt spot) }
+{
+    match read_number(text, u64::from(MAX_UNITS)) {
+        Ok(0) => Err(TableFault::Entry(spot, EntryFault::OutOfLimit)),
+        Ok(units) => Ok(units as u32),
+        Err(TextFault::OutOfRange) => Err(TableFault::Entry(spot, EntryFault::OutOfLimit)),
+        Err(_) => Err(TableFault::Entry(spot, EntryFault::WrongKind)),
+    }
+}
