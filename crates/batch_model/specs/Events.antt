@@ -11,11 +11,11 @@ use Rattle.batch_matrix.specs.declared.report.PhaseEnd.TheVariants.{Ended, Now, 
 use Rattle.batch_matrix.specs.Matrix.{accepts, target, after_report}
 use Rattle.batch_recipe.specs.Conditions.{Name, ValueList, same_name}
 use Rattle.batch_recipe.specs.Tree.{Place}
+use Rattle.batch_recipe.specs.declared.scaling.TheConstants.{MAX_VALUE}
 use Rattle.batch_model.specs.Rest.{Rest, live, acts, reach, withdrawn}
 use Rattle.batch_model.specs.Plant.{Formula, size_out_of_range, value_out_of_range, scaled, Recipe, Documents, Batch, Share, Plant, batch_at, in_batch, in_act}
 use Rattle.batch_model.specs.Moves.{ended, next}
 use Rattle.batch_model.specs.declared.limits.TheConstants.{LAST_NUMBER}
-use Rattle.batch_recipe.specs.declared.scaling.TheConstants.{MAX_VALUE}
 
 pub data Event : Type 0 where
   create : Name → ℕ → Event
