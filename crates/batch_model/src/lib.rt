@@ -21,7 +21,7 @@ pub use laws::{
     refusals_change_nothing, refusals_have_causes, runs_come_to_rest, settlings_end,
     stands_in_its_chart, trees_are_placed, work_falls,
 };
-pub use limits::{LAST_NUMBER, MAX_LIVE_BATCHES, MAX_RECIPES};
+pub use limits::{LAST_NUMBER, MAX_LIVE_BATCHES, MAX_RECIPES, limits_are_fixed};
 pub use rows::{
     abort_after_stop, abort_reset_start, act_states, choices, crossed_branches_without_circle,
     demo_is_expanded, earlier_state_shows, event_while_moves_pend, fault_holds_the_batch,
