@@ -23,6 +23,7 @@ pub mod Safe
 pub mod Telling
 pub mod Settling
 pub mod Working
+pub mod WorkRows
 pub mod Ways
 pub mod Clearing
 pub mod Levels

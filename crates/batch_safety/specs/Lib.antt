@@ -3,6 +3,7 @@ pub mod Premises
 pub mod Headline
 pub mod Telling
 pub mod Settlement
+pub mod RowsOfSettlement
 pub mod Ways
 pub mod Example
 pub mod Sets
