@@ -75,12 +75,17 @@ fn wants_one_rank_for_each_resource(rt: HostRuntime) -> Result<(), Fail> {
 }
 
 /// The number of the recipe's node at the place.
-fn node_of(cleared: &Cleared, recipe: u16, place: &Place) -> Option<u16> {
-    if usize::from(recipe) < cleared.recipes().len() {
-        cleared.node_of(recipe, place)
-    } else {
-        None
+fn node_of(
+    alloc: Global,
+    cleared: &Cleared,
+    recipe: u16,
+    place: &str,
+) -> Result<Option<u16>, Fail> {
+    let place = Place::read(alloc, place.as_bytes())?;
+    if usize::from(recipe) >= cleared.recipes().len() {
+        return Err(Fail::from("no recipe"));
     }
+    Ok(cleared.node_of(recipe, &place))
 }
 
 #[test]
@@ -96,9 +101,8 @@ fn clears_recipes(rt: HostRuntime) -> Result<(), Fail> {
         ("0.0.0", Some(2), None),
         ("0.1", None, None),
     ] {
-        let at = Place::read(alloc, place.as_bytes())?;
-        assert_eq!(rt; node_of(&cleared, 0, &at), first, "{place}");
-        assert_eq!(rt; node_of(&cleared, 1, &at), second, "{place}");
+        assert_eq!(rt; node_of(alloc, &cleared, 0, place)?, first, "{place}");
+        assert_eq!(rt; node_of(alloc, &cleared, 1, place)?, second, "{place}");
     }
     Ok(())
 }

@@ -7,6 +7,7 @@ use batch_commands::{
 };
 use batch_reader::{DocFault, EntryFault, Spot, TableKind};
 use batch_verify::{Broken, CertFault, Refusal, Rule};
+use std::alloc::Global;
 use std::test::Fail;
 
 const SPOT: Spot = Spot {
@@ -73,12 +74,17 @@ fn certificates(rt: HostRuntime) -> Result<(), Fail> {
     Ok(())
 }
 
-#[test]
-fn refusals_of_sets(rt: HostRuntime) -> Result<(), Fail> {
-    let alloc = rt.alloc();
+/// The text of a refusal of recipe N and a certificate of two lines.
+fn refused(alloc: Global, refusal: Refusal) -> Result<String, Fail> {
     let cell = cell_of(alloc, CELL1)?;
     let recipes = recipes_of(alloc, &[N])?;
     let certificate = certificate_of(alloc, "rank HDR 2\nrank R1 1\n")?;
+    Ok(refusal_text(alloc, &cell, &recipes, &certificate, refusal)?)
+}
+
+#[test]
+fn refusals_of_sets(rt: HostRuntime) -> Result<(), Fail> {
+    let alloc = rt.alloc();
     let at = |node, rule| Refusal::Recipe {
         recipe: 0,
         broken: Broken { node, rule },
@@ -96,23 +102,21 @@ fn refusals_of_sets(rt: HostRuntime) -> Result<(), Fail> {
         (Refusal::Memory, "refused V8\n"),
         (Refusal::Recipes, "refused V10\n"),
     ] {
-        let text = refusal_text(alloc, &cell, &recipes, &certificate, refusal)?;
-        assert_eq!(rt; text.as_str(), want);
+        assert_eq!(rt; refused(alloc, refusal)?.as_str(), want);
     }
     Ok(())
+}
+
+/// The text of a fault of recipe N.
+fn told(alloc: Global, fault: &CheckFault) -> Result<String, Fail> {
+    let cell = cell_of(alloc, CELL1)?;
+    let recipes = recipes_of(alloc, &[N])?;
+    Ok(fault_text(alloc, &cell, &recipes, fault)?)
 }
 
 #[test]
 fn recipes_without_certificate(rt: HostRuntime) -> Result<(), Fail> {
     let alloc = rt.alloc();
-    let cell = cell_of(alloc, CELL1)?;
-    let recipes = recipes_of(alloc, &[N])?;
-    let edge = |earlier, later| Edge {
-        recipe: 0,
-        node: 3,
-        earlier,
-        later,
-    };
     let broken = Broken {
         node: 3,
         rule: Rule::PhaseNotOffered,
@@ -123,13 +127,26 @@ fn recipes_without_certificate(rt: HostRuntime) -> Result<(), Fail> {
             "refused V5 N 0.0.0.0\n",
         ),
         (CheckFault::Recipes, "refused V10\n"),
-        (
-            CheckFault::Circle(vec![in alloc; edge(2, 0), edge(0, 2)]?),
-            "refused C1\nedge N 0.0.0.0 HDR R1\nedge N 0.0.0.0 R1 HDR\n",
-        ),
         (CheckFault::Memory, "refused V8\n"),
     ] {
-        assert_eq!(rt; fault_text(alloc, &cell, &recipes, &fault)?.as_str(), want);
+        assert_eq!(rt; told(alloc, &fault)?.as_str(), want);
     }
+    Ok(())
+}
+
+#[test]
+fn circles(rt: HostRuntime) -> Result<(), Fail> {
+    let alloc = rt.alloc();
+    let edge = |earlier, later| Edge {
+        recipe: 0,
+        node: 3,
+        earlier,
+        later,
+    };
+    let circle = CheckFault::Circle(vec![in alloc; edge(2, 0), edge(0, 2)]?);
+    assert_eq!(rt;
+        told(alloc, &circle)?.as_str(),
+        "refused C1\nedge N 0.0.0.0 HDR R1\nedge N 0.0.0.0 R1 HDR\n"
+    );
     Ok(())
 }
