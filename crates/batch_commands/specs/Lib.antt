@@ -1,4 +1,3 @@
-pub mod CommandLine
 pub mod VerdictTexts
 pub mod Judging
 pub mod Reading
