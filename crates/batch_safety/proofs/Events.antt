@@ -10,7 +10,8 @@ use Rattle.batch_recipe.specs.Conditions.{Name, ValueList}
 use Rattle.batch_recipe.specs.Tree.{Place, Phase}
 use Rattle.batch_model.specs.Rest.{withdrawn}
 use Rattle.batch_model.specs.Plant.{Recipe, Documents, Batch, BatchAct, Share, units_in, Plant, in_batch}
-use Rattle.batch_model.specs.Events.{Refusal, created, ordered, removed, refused, command_not_accepted, not_idle, Answer, new_batch, with_batch, with_outputs_zero, reset, stopped, commanded, lines_under, ordering, without_batch, removing}
+use Rattle.batch_recipe.specs.Values.{with_outputs_zero}
+use Rattle.batch_model.specs.Events.{Refusal, created, ordered, removed, refused, command_not_accepted, not_idle, Answer, new_batch, with_batch, reset, stopped, commanded, lines_under, ordering, without_batch, removing}
 use Rattle.batch_model.specs.Runs.{Out, reply}
 use Rattle.batch_model.specs.Records.{holders_after, waiters_after, Active, active_after, ends_phase, state_after}
 use Rattle.batch_safety.proofs.Facts.{holding, awaiting, performing, Standing, facts, Entry, entry, entries_of, entries, holder_of, holders_among, need}
