@@ -1,20 +1,16 @@
 -- Every record is safe after each of its lines.
-use Rattle.std.proofs.Common.{Some, ◌≡◌, refl, sym, ◌∙◌, ap, subst, subst₂, zero-le, ℕ, List, [], ◌∷◌, ◌++◌, append-nil, append_assoc}
+use Rattle.std.proofs.Common.{◌≡◌, sym, ◌∙◌, ap, subst, ℕ, List, [], ◌∷◌, ◌++◌, append-nil, append_assoc}
 use Rattle.batch_recipe.specs.Conditions.{ValueList}
 use Rattle.batch_recipe.specs.Tree.{Phase, Place}
 use Rattle.batch_model.specs.Plant.{Documents, Plant, opening}
-use Rattle.batch_model.specs.Moves.{Move, start, next, after}
+use Rattle.batch_model.specs.Moves.{start, after}
 use Rattle.batch_model.specs.Events.{Event, Reply}
-use Rattle.batch_model.specs.Placed.{IsPlaced}
-use Rattle.batch_model.specs.Standing.{HasPlacedTrees, IsStanding}
-use Rattle.batch_model.proofs.Members.{Each-map}
-use Rattle.batch_model.proofs.Falling.{next-possible}
-use Rattle.batch_model.proofs.Moving.{possible-stands}
+use Rattle.batch_model.specs.Standing.{IsStanding}
 use Rattle.batch_model.proofs.Led.{opening-stands, reacts-stands}
 use Rattle.batch_model.specs.Runs.{Out, move, reply, Leads}
 use Rattle.batch_model.specs.Records.{StartsIdle, IsSafeNow, IsSafe}
 use Rattle.batch_model.specs.Cleared.{Ranking}
-use Rattle.batch_laws.proofs.ClearedDown.{IsClearedDown, AreClearedDown}
+use Rattle.batch_laws.proofs.ClearedDown.{AreClearedDown}
 use Rattle.batch_laws.proofs.Invariant.{IsKept}
 use Rattle.batch_safety.proofs.Safety.{safe-now}
 use Rattle.batch_laws.proofs.Starting.{starts-nothing}

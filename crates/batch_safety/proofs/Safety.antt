@@ -1,15 +1,14 @@
 -- What is kept makes a record safe.
-use Rattle.std.proofs.Common.{◌≡◌, ◌⊎◌, sym, ◌∙◌, ap, ap₂, subst, ℕ, suc, ◌≤◌, ◌<◌, arith, List, [], ◌∷◌, Option, Some, inl, inr}
+use Rattle.std.proofs.Common.{◌≡◌, ◌⊎◌, sym, ◌∙◌, ap, subst, ℕ, suc, ◌≤◌, ◌<◌, arith, List, [], ◌∷◌, Option, Some, inl, inr}
 use Rattle.batch_matrix.specs.declared.state.State.{State}
 use Rattle.batch_model.specs.Lists.{Has, Each}
 use Rattle.batch_recipe.specs.Tree.{Place}
 use Rattle.batch_model.specs.Plant.{Documents, Batch, BatchAct, Share, acts_in, Plant}
 use Rattle.batch_model.specs.Runs.{Out}
 use Rattle.batch_model.specs.Records.{holders_told, waiters_told, state_told, IsAtRest, scene_told, Waiting, IsWaiting, IsAtOrAbove, StandsBefore, WaitsForHolder, WaitsForOlder, PointsTo, PointAlong, HasCapacity, HoldsUnits, StartsIdle, HasNoCircle, RestsEmpty, IsSafeNow}
-use Rattle.batch_laws.proofs.Facts.{Fact, holding, awaiting, performing, Standing, facts, entry, entries_of, entries, need, share}
+use Rattle.batch_laws.proofs.Facts.{Fact, holding, awaiting, performing, facts, entries, need, share}
 use Rattle.batch_model.specs.Cleared.{Ranking}
-use Rattle.batch_model.proofs.Members.{Has-flat_map}
-use Rattle.batch_laws.proofs.Members.{Has-map, map-Has, flat_map-Has, Has-Each}
+use Rattle.batch_laws.proofs.Members.{Has-map, map-Has, Has-Each}
 use Rattle.batch_laws.proofs.Ranking.{rank-rises}
 use Rattle.batch_laws.proofs.Units.{unit-held}
 use Rattle.batch_laws.proofs.Entries.{IsOnce, Has-holders, holders-Has}

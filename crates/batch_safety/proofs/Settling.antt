@@ -1,19 +1,17 @@
 -- Where no move is possible: too little is free for the oldest ask, and chains are short.
-use Rattle.std.proofs.Common.{◌≡◌, ⊎_elim, refl, sym, ◌∙◌, ap, ap₂, subst, ℕ, suc, ◌+◌, nat_le, ◌≤◌, ◌<◌, arith, List, [], ◌∷◌, ◌++◌, Bool, true, false, not, ◌&&◌, filter, filter_map, take, slice_get, Option, Some, None, inl, inr, length, bytes_eq}
+use Rattle.std.proofs.Common.{◌≡◌, refl, sym, ◌∙◌, ap, ap₂, subst, ℕ, suc, ◌+◌, nat_le, ◌≤◌, ◌<◌, arith, List, [], ◌∷◌, Bool, true, false, not, ◌&&◌, filter, filter_map, slice_get, Option, Some, None, inl, inr, length, bytes_eq}
 use Rattle.std.specs.List.{cons_option}
 use Rattle.batch_model.specs.Lists.{Has}
 use Rattle.batch_recipe.specs.Conditions.{Name}
-use Rattle.batch_recipe.specs.Tree.{Place, Step, Task}
-use Rattle.batch_model.specs.Rest.{Rest, ready, asking, open_act, live, freeing, in_seq, in_par, in_loop, done, Rests, no_rests, rest, acts, acts_of_each}
+use Rattle.batch_recipe.specs.Tree.{Step, Task}
+use Rattle.batch_model.specs.Rest.{Rest, asking, acts}
 use Rattle.batch_model.specs.Plant.{Documents, Batch, BatchAct, Share, units_in, acts_in, Plant, is_same_act, holders}
 use Rattle.batch_model.specs.Moves.{Move, grant, act_move, state_move, batch_moves, possible, least, next, is_earlier, is_served, when}
 use Rattle.batch_model.specs.Runs.{Out}
 use Rattle.batch_model.specs.Records.{holders_told, scene_of, Link, IsLink, IsChain, StandsUnder}
-use Rattle.batch_laws.proofs.Facts.{awaiting, performing, held_at, awaited_at, facts, facts_of_each, need}
+use Rattle.batch_laws.proofs.Facts.{awaiting, need}
 use Rattle.batch_model.specs.Cleared.{Ranking}
-use Rattle.batch_model.proofs.Members.{Has-split, Has-left, Has-right}
 use Rattle.batch_laws.proofs.Members.{flat_map-Has, Has-map, map-Has}
-use Rattle.batch_laws.proofs.Ranking.{held-awaiting, awaited-awaiting, lone-awaiting}
 use Rattle.batch_laws.proofs.Entries.{act_self, name_self, name_same, filter-Has, length-filter_lt}
 use Rattle.batch_laws.proofs.Batches.{holders-entries}
 use Rattle.batch_laws.proofs.Invariant.{IsKept}

@@ -10,7 +10,6 @@ ghost use Rattle.batch_safety.specs.Settlement.{NobodyWaitsInVain};
 pub use batch_laws::{
     premises_can_be_met, records_tell_the_plant, sets_are_documents, trees_have_units, ways_rise,
 };
-
 use batch_verify::Cleared;
 
 /// Every record that a cleared set of recipes leads to is safe after each of its lines, whatever the events and however far
