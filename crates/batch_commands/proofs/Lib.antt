@@ -1,3 +1,4 @@
+pub mod BytesRead
 pub mod Faults
 pub mod Grown
 pub mod RecipesRead
