@@ -1,5 +1,4 @@
-pub mod PlaceTexts
-pub mod ShallowPlaces
+pub mod BytesRead
 pub mod Grown
 pub mod RecipesRead
 pub mod Halted

@@ -1,5 +1,6 @@
 pub mod VerdictTexts
 pub mod Judging
+pub mod Bytes
 pub mod Reading
 pub mod Halting
 pub mod Running

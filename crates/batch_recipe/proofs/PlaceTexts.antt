@@ -3,7 +3,7 @@ use Rattle.std.proofs.Common.{◌≡◌, ℕ, zero, suc, ◌+◌, ◌<◌, ◌�
 use Rattle.std.proofs.lemmas.List.{length-take-le, take_all}
 use Rattle.batch_recipe.specs.Tree.{Place}
 use Rattle.batch_recipe.specs.Nodes.{Node}
-use Rattle.batch_commands.specs.VerdictTexts.{dot_text, place_text}
+use Rattle.batch_recipe.specs.Texts.{dot_text, place_text}
 
 -- the numbers up to and with the one at depth d
 take_next : (p : Place) (d n : ℕ) → slice_get p d ≡ Some n → (d < length p) × (take (d + 1) p ≡ take d p ++ n ∷ [])
