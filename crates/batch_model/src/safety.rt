@@ -40,7 +40,7 @@ pub fn units_told()
     ensures given_back { AllUnitsAreGivenBack }
 {}
 
-/// A wait ends with its grant, or with a stop or an abort of its batch, and with no other command.
+/// A wait ends with its grant, or with a stop or an abort of its batch, and a hold doesn't end it.
 pub fn waits_end()
     ensures grant { GrantEndsWait }
     ensures stop { StopEndsWait }
