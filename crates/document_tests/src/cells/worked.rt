@@ -17,6 +17,18 @@ fn resource(cell: &Cell, number: u16) -> Option<(&str, u32)> {
     }
 }
 
+fn offers(cell: &Cell, unit: u16, phase: &Name) -> bool {
+    unit < cell.units() && cell.offers(unit, phase)
+}
+
+fn phase_number(cell: &Cell, unit: u16, phase: &Name) -> Option<u16> {
+    if unit < cell.units() {
+        cell.phase_number(unit, phase)
+    } else {
+        None
+    }
+}
+
 /// What each name is in the cell: its number, the name and capacity of that number, and its number as a unit.
 fn looked_up(alloc: Global, cell: &Cell, names: &[&str]) -> Result<String, Fail> {
     let mut text = String::new(alloc);
@@ -48,11 +60,8 @@ fn offered(alloc: Global, cell: &Cell, unit: u16, names: &[&str]) -> Result<Stri
 }
 
 fn line_of_phase(alloc: Global, cell: &Cell, unit: u16, phase: &Name) -> Result<String, Fail> {
-    if unit >= cell.units() {
-        return Err(Fail::from("no unit"));
-    }
-    let is_offered = cell.offers(unit, phase);
-    let number = cell.phase_number(unit, phase);
+    let is_offered = offers(cell, unit, phase);
+    let number = phase_number(cell, unit, phase);
     Ok(format!(in alloc; "{phase} {is_offered} {number:?}\n")?)
 }
 
