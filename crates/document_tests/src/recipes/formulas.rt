@@ -121,15 +121,17 @@ fn outputs_are_set_and_cleared(rt: HostRuntime) -> Result<(), Fail> {
     let Ok(mut values) = formula(alloc, &recipe, 1000) else {
         return Err(Fail::from("no values"));
     };
-    let mut outputs = Vec::new(alloc);
-    outputs.push((Name::read(alloc, b"X")?, 1_000_000_000_000))?;
-    assert!(rt; are_outputs(&recipe.outputs, &outputs));
-    values.set_outputs(&outputs);
-    assert!(rt; values.value_of(&outputs[0].0) == Some(1_000_000_000_000));
+    let known = [(Name::read(alloc, b"X")?, 1_000_000_000_000)];
+    assert!(rt; are_outputs(&recipe.outputs, &known));
+    values.set_outputs(&known);
+    assert!(rt; values.value_of(&known[0].0) == Some(1_000_000_000_000));
     values.clear_outputs(&recipe.outputs);
-    assert!(rt; values.value_of(&outputs[0].0) == Some(0));
-    let twice = (Name::read(alloc, b"X")?, 1);
-    outputs.push(twice)?;
-    assert!(rt; !are_outputs(&recipe.outputs, &outputs));
+    assert!(rt; values.value_of(&known[0].0) == Some(0));
+    let above = [(Name::read(alloc, b"X")?, 1_000_000_000_001)];
+    assert!(rt; !are_outputs(&recipe.outputs, &above));
+    let input = [(Name::read(alloc, b"SALT")?, 1)];
+    assert!(rt; !are_outputs(&recipe.outputs, &input));
+    let twice = [(Name::read(alloc, b"X")?, 1), (Name::read(alloc, b"X")?, 1)];
+    assert!(rt; !are_outputs(&recipe.outputs, &twice));
     Ok(())
 }
