@@ -1,0 +1,141 @@
+-- Each act of what remains of a tree is the act of one of its nodes.
+use Rattle.std.proofs.Common.{◌≡◌, ◌⊎◌, inl, inr, ◌<◌, ℕ, zero, suc, ◌+◌, List, [], ◌∷◌, ◌++◌, length, Some, true, false, arith, refl, sym, ◌∙◌, subst, ap}
+use Rattle.std.specs.Prelude.{slice_get}
+use Rattle.batch_recipe.specs.Needs.{resources_of}
+use Rattle.batch_recipe.specs.Conditions.{Name}
+use Rattle.batch_recipe.specs.Nodes as nodes
+use Rattle.batch_recipe.specs.Nodes.{Node, node, nodes_of_each, nodes_of_choices, child, node_count}
+use Rattle.batch_recipe.specs.Tree.{Place, is_before, Step, Task, runs, follows, Tree, act, skip, seq, par, sel, loop, Trees, no_trees, tree, Choices, otherwise, choice}
+use Rattle.batch_recipe.proofs.Order.{counted_nodes, in_order}
+use Rattle.batch_model.specs.Lists.{Has}
+use Rattle.batch_model.specs.Placed.{IsPlaced, ArePlaced, IsChoicePlaced}
+use Rattle.batch_model.specs.Plant.{place_of}
+use Rattle.batch_model.specs.Rest.{Rest, ready, asking, open_act, live, freeing, in_seq, in_par, in_loop, done, Rests, no_rests, rest, acts, acts_of_each}
+use Rattle.batch_model.specs.Standing.{IsRestOf, IsBranch, AreBranches, IsChosen}
+use Rattle.batch_model.proofs.Members.{Has-split}
+use Rattle.batch_chart.specs.NodesOf.{nodes_of, node_at, place_at, step_at, task_at, step_of, task_of}
+use Rattle.batch_chart.proofs.Numbering.{Sits, sits-append, sits-self, order-at}
+use Rattle.batch_chart.proofs.Stepping.{get-or, all-has}
+use Rattle.batch_chart.proofs.Found.{acts-all, AllActs}
+use Rattle.batch_chart.specs.Finding.{wants}
+use Rattle.batch_chart.specs.declared.wanted.Wanted.TheVariants as wanted
+
+pub record IsActOf (ls : List Node) (a : Rest) : Type 0 where
+  pub number : ℕ
+  pub at : Node
+  pub step : Step
+  pub task : Task
+  pub is_at : slice_get ls number ≡ Some at
+  pub here : at.here ≡ act step task
+  pub placed : step.place ≡ at.place
+  pub rest : IsRestOf (act step task) a
+
+module _ (ls : List Node) where
+  own : (s : Step) (w : Task) (a b : Rest) (n : ℕ) (q : Place) (above : List Name) → Sits ls n (nodes.nodes q above (act s w)) → IsPlaced q (act s w) → IsRestOf (act s w) a → a ≡ b → IsActOf ls b
+  own s w a b n q above g p h e =
+      record { number = n; at = node q above (act s w); step = s; task = w; is_at = g.0; here = refl; placed = p.0; rest = subst (IsRestOf (act s w)) e h }
+
+  mutual
+    pub act-of : (t : Tree) (r a : Rest) (n : ℕ) (q : Place) (above : List Name) → Sits ls n (nodes.nodes q above t) → IsPlaced q t → IsRestOf t r → Has (acts r) a → IsActOf ls a
+    act-of (act s w) (ready u v k) a n q above g p h (inl e) = own s w (ready u v k) a n q above g p h e
+    act-of (act s w) (asking u v k) a n q above g p h (inl e) = own s w (asking u v k) a n q above g p h e
+    act-of (act s w) (live u v k) a n q above g p h (inl e) = own s w (live u v k) a n q above g p h e
+    act-of (act s w) (freeing u k) a n q above g p h (inl e) = own s w (freeing u k) a n q above g p h e
+    act-of (act s w) (ready u v k) a n q above g p h (inr m) = absurd m
+    act-of (act s w) (asking u v k) a n q above g p h (inr m) = absurd m
+    act-of (act s w) (live u v k) a n q above g p h (inr m) = absurd m
+    act-of (act s w) (freeing u k) a n q above g p h (inr m) = absurd m
+    act-of (act s (runs x)) (open_act u r) a n q above g p h m = absurd h.1
+    act-of (act s (follows name c)) (open_act u r) a n q above g p h (inl e) = own s (follows name c) (open_act u r) a n q above g p h e
+    act-of (act s (follows name c)) (open_act u r) a n q above g p h (inr m) = act-of c r a (n + 1) (child q 0) (above ++ resources_of s.needs) g.1 p.1 h.1 m
+    act-of (seq cs) (in_seq r ds) a n q above g p h m = branch-of cs r ds a (n + 1) q above 0 g.1 p h m
+    act-of (par cs) (in_par rs) a n q above g p h m = each-of cs rs a (n + 1) q above 0 g.1 p h m
+    act-of (sel ch) r a n q above g p h m = chosen-of ch r a (n + 1) q above 0 g.1 p h m
+    act-of (loop i c body) (in_loop j d b r) a n q above g p h m = act-of body r a (n + 1) (child q 0) above g.1 p h.3 m
+    act-of _ done a n q above g p h m = absurd m
+    act-of _ _ a n q above g p h m = absurd h
+
+    branch-of : (ts : Trees) (r : Rest) (ds : Trees) (a : Rest) (n : ℕ) (q : Place) (above : List Name) (i : ℕ) → Sits ls n (nodes_of_each q above i ts) → ArePlaced q i ts → IsBranch ts r ds → Has (acts r) a → IsActOf ls a
+    branch-of no_trees r ds a n q above i g p h m = absurd h
+    branch-of (tree c cs) r ds a n q above i g p (inl h) m =
+        let parts = sits-append ls n (nodes.nodes (child q i) above c) (nodes_of_each q above (i + 1) cs) g in
+        act-of c r a n (child q i) above parts.0 p.0 h.0 m
+    branch-of (tree c cs) r ds a n q above i g p (inr h) m =
+        let parts = sits-append ls n (nodes.nodes (child q i) above c) (nodes_of_each q above (i + 1) cs) g in
+        branch-of cs r ds a (n + length (nodes.nodes (child q i) above c)) q above (i + 1) parts.1 p.1 h m
+
+    each-of : (ts : Trees) (rs : Rests) (a : Rest) (n : ℕ) (q : Place) (above : List Name) (i : ℕ) → Sits ls n (nodes_of_each q above i ts) → ArePlaced q i ts → AreBranches ts rs → Has (acts_of_each rs) a → IsActOf ls a
+    each-of no_trees no_rests a n q above i g p h m = absurd m
+    each-of (tree c cs) (rest r rs) a n q above i g p h m =
+        let parts = sits-append ls n (nodes.nodes (child q i) above c) (nodes_of_each q above (i + 1) cs) g in
+        elim (Has-split (acts r) (acts_of_each rs) a m) [
+          | inl f ↦ act-of c r a n (child q i) above parts.0 p.0 h.0 f
+          | inr f ↦ each-of cs rs a (n + length (nodes.nodes (child q i) above c)) q above (i + 1) parts.1 p.1 h.1 f
+        ]
+    each-of no_trees (rest r rs) a n q above i g p h m = absurd h
+    each-of (tree c cs) no_rests a n q above i g p h m = absurd h
+
+    chosen-of : (ch : Choices) (r : Rest) (a : Rest) (n : ℕ) (q : Place) (above : List Name) (i : ℕ) → Sits ls n (nodes_of_choices q above i ch) → IsChoicePlaced q i ch → IsChosen ch r → Has (acts r) a → IsActOf ls a
+    chosen-of (otherwise c) r a n q above i g p h m = act-of c r a n (child q i) above g p h m
+    chosen-of (choice x c ch) r a n q above i g p (inl h) m =
+        let parts = sits-append ls n (nodes.nodes (child q i) above c) (nodes_of_choices q above (i + 1) ch) g in
+        act-of c r a n (child q i) above parts.0 p.0 h m
+    chosen-of (choice x c ch) r a n q above i g p (inr h) m =
+        let parts = sits-append ls n (nodes.nodes (child q i) above c) (nodes_of_choices q above (i + 1) ch) g in
+        chosen-of ch r a (n + length (nodes.nodes (child q i) above c)) q above (i + 1) parts.1 p.1 h m
+
+pub of-tree : (t : Tree) (r a : Rest) → IsPlaced (0 ∷ []) t → IsRestOf t r → Has (acts r) a → IsActOf (nodes_of t) a
+of-tree t r a p h m = act-of (nodes_of t) t r a 0 (0 ∷ []) [] (sits-self (nodes_of t)) p h m
+
+below-some : {X : Type 0} (l : List X) (k : ℕ) (x : X) → slice_get l k ≡ Some x → k < length l
+below-some [] k x e = absurd (cc)
+below-some (y ∷ l) zero x e = omega arith
+below-some (y ∷ l) (suc k) x e = (let h = below-some l k x e in omega (arith, h))
+
+-- its place, step and task are those of the node
+pub node-of : (t : Tree) (a : Rest) (g : IsActOf (nodes_of t) a) → (g.number < node_count t) × (g.step.place ≡ place_at t g.number) × (g.step ≡ step_at t g.number) × (g.task ≡ task_at t g.number)
+node-of t a g =
+    let lt = below-some (nodes_of t) g.number g.at g.is_at in
+    let same : Some g.at ≡ Some (node_at t g.number) = sym g.is_at ∙ get-or (nodes_of t) g.number (record { place = []; asked = []; here = skip }) lt in
+    let at : g.at ≡ node_at t g.number = cc in (
+      omega (arith, lt, counted_nodes (0 ∷ []) [] t),
+      g.placed ∙ ap (λ (n : Node). n.place) at,
+      ap step_of (sym g.here) ∙ ap (λ (n : Node). step_of n.here) at,
+      ap task_of (sym g.here) ∙ ap (λ (n : Node). task_of n.here) at,
+    )
+
+-- an act in line stands at a node
+pub asking-at : (t : Tree) (r : Rest) (s : Step) (w : Task) (i : ℕ) → IsPlaced (0 ∷ []) t → IsRestOf t r → Has (acts r) (asking s w i)
+    → (k : ℕ) × (k < node_count t) × (s.place ≡ place_at t k) × (s ≡ step_at t k) × (w ≡ task_at t k) × (i < length s.needs)
+asking-at t r s w i p h m =
+    let g = of-tree t r (asking s w i) p h m in
+    let n = node-of t (asking s w i) g in
+    (g.number, n.0, ap (λ (u : Step). u.place) g.rest.0 ∙ n.1, g.rest.0 ∙ n.2, g.rest.1 ∙ n.3, g.rest.2)
+
+act-place : (s : Step) (w : Task) (a r : Rest) → IsRestOf (act s w) a → Has (acts r) a → (place_of a ≡ s.place) ⊎ (a ≡ done)
+act-place s w (ready u v k) r h m = inl (ap (λ (u : Step). u.place) h.0)
+act-place s w (asking u v k) r h m = inl (ap (λ (u : Step). u.place) h.0)
+act-place s w (open_act u x) r h m = inl (ap (λ (u : Step). u.place) h.0)
+act-place s w (live u v k) r h m = inl (ap (λ (u : Step). u.place) h.0)
+act-place s w (freeing u k) r h m = inl (ap (λ (u : Step). u.place) h.0)
+act-place s w (in_seq x ds) r h m = absurd h
+act-place s w (in_par rs) r h m = absurd h
+act-place s w (in_loop n c t x) r h m = absurd h
+act-place s w done r h m = inr refl
+
+not-done : (a : Rest) (r : Rest) → AllActs (acts r) → Has (acts r) a → a ≡ done → ⊥
+not-done a r all h e = (let d : true ≡ false = sym (all-has (acts r) a all h 0) ∙ ap (wants wanted.Any 0) e in cc)
+
+-- any act stands at the place of a node
+pub stands-at : (t : Tree) (r a : Rest) → IsPlaced (0 ∷ []) t → IsRestOf t r → Has (acts r) a → (k : ℕ) × (k < node_count t) × (place_of a ≡ place_at t k)
+stands-at t r a p h m =
+    let g = of-tree t r a p h m in
+    let n = node-of t a g in
+    (g.number, n.0, elim (act-place g.step g.task a r g.rest m) [ inl e ↦ e | inr d ↦ absurd (not-done a r (acts-all r) m d) ] ∙ n.1)
+
+pub numbers-rise : (t : Tree) (j k : ℕ) → j < k → k < node_count t → is_before (place_at t j) (place_at t k) ≡ true
+numbers-rise t j k l m =
+    let c = counted_nodes (0 ∷ []) [] t in
+    order-at (nodes_of t) (in_order (0 ∷ []) [] t).1 j k (node_at t j) (node_at t k) l
+    (get-or (nodes_of t) j (record { place = []; asked = []; here = skip }) (omega (arith, c, l, m)))
+    (get-or (nodes_of t) k (record { place = []; asked = []; here = skip }) (omega (arith, c, m)))

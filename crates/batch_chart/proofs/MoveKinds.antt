@@ -1,0 +1,185 @@
+-- Which kind of move each act makes, and which move it is.
+use Rattle.std.proofs.Common.{◌≡◌, ◌<◌, ◌≤◌, ℕ, zero, suc, ◌-◌, List, [], ◌∷◌, length, Bool, true, false, ◌&&◌, Some, None, nat_eq, nat_lt, arith, refl, sym, ◌∙◌, ap, ap₂}
+use Rattle.std.specs.Prelude.{slice_get, slice_index_or, Option, ◌||◌, ◌++◌}
+use Rattle.std.proofs.lemmas.Bool.Decides.{nat_tests}
+use Rattle.batch_matrix.specs.declared.state.State.{State}
+use Rattle.batch_matrix.specs.declared.command.Command.{Command}
+use Rattle.batch_matrix.specs.Matrix.{accepts}
+use Rattle.batch_recipe.specs.Conditions.{Name}
+use Rattle.batch_recipe.specs.Tree.{Step, Phase, Task, runs, follows, Tree}
+use Rattle.batch_model.specs.Plant.{Batch, held_in}
+use Rattle.batch_model.specs.Rest.{Rest, ready, asking, open_act, live, freeing, in_seq, in_par, in_loop, done, Rests, no_rests, rest, acts, acts_of_each, is_done, all_done}
+use Rattle.batch_model.specs.Settled.{IsAdvanced, AreAdvanced}
+use Rattle.batch_model.specs.Moves.{Move, send, begin, start, end, ask, release, kind_of, handed_values, passed_on, is_running, is_stopping, is_stopped, is_empty, is_quiet, when, entering, giving_back}
+use Rattle.batch_chart.specs.NodesOf.{no_need}
+use Rattle.batch_chart.specs.Finding.{gives}
+use Rattle.batch_chart.specs.OwnMoves.{own_move, is_kind}
+use Rattle.batch_chart.proofs.Stepping.{get-or}
+
+abbrev pub kind_in : ℕ → Option Move → Bool
+kind_in n None = false
+kind_in n (Some m) = is_kind n m
+
+abbrev pub live_kind : ℕ → Option Command → State → Bool
+live_kind n None x = false
+live_kind n (Some c) x = accepts x c && nat_eq 1 n
+
+pub and-false : (x : Bool) → (x && false) ≡ false
+and-false true = refl
+and-false false = refl
+
+pub and-true : (x : Bool) → (x && true) ≡ x
+and-true true = refl
+and-true false = refl
+
+pub itself : (x : Bool) → elim x as (λ _. Bool) [ true ↦ true | false ↦ false ] ≡ x
+itself true = refl
+itself false = refl
+
+pub same-arms : (x y : Bool) → elim x as (λ _. Bool) [ true ↦ y | false ↦ y ] ≡ y
+same-arms true y = refl
+same-arms false y = refl
+
+empty-append : (l m : List Rest) → is_empty (l ++ m) ≡ (is_empty l && is_empty m)
+empty-append [] m = refl
+empty-append (x ∷ l) m = refl
+
+-- what remains has no act just where it is done
+mutual
+  pub empty-done : (r : Rest) → IsAdvanced r → is_done r ≡ is_empty (acts r)
+  empty-done (ready s w k) h = refl
+  empty-done (asking s w k) h = refl
+  empty-done (open_act s r) h = refl
+  empty-done (live s p x) h = refl
+  empty-done (freeing s k) h = refl
+  empty-done (in_seq r cs) h = sym h.0 ∙ empty-done r h.1
+  empty-done (in_par rs) h = sym h.0 ∙ empty-all rs h.1
+  empty-done (in_loop n c body r) h = sym h.0 ∙ empty-done r h.1
+  empty-done done h = refl
+
+  empty-all : (rs : Rests) → AreAdvanced rs → all_done rs ≡ is_empty (acts_of_each rs)
+  empty-all no_rests h = refl
+  empty-all (rest r rs) h = ap₂ (λ a b. a && b) (empty-done r h.0) (empty-all rs h.1) ∙ sym (empty-append (acts r) (acts_of_each rs))
+
+-- Needs by number
+
+less : (k n : ℕ) → nat_lt k n ≡ true → k < n
+less k n e = grind (arith, nat_tests)
+
+not-less : (k n : ℕ) → nat_lt k n ≡ false → n ≤ k
+not-less k n e = grind (arith, nat_tests)
+
+gives-less : (n k : ℕ) → gives n (suc k) ≡ true → k < n
+gives-less n k e = grind (arith, nat_tests)
+
+gives-not : (n k : ℕ) → gives n (suc k) ≡ false → n ≤ k
+gives-not n k e = grind (arith, nat_tests)
+
+get-none : {X : Type 0} (l : List X) (k : ℕ) → length l ≤ k → slice_get l k ≡ None
+get-none [] k h = refl
+get-none (x ∷ l) zero h = absurd (omega arith)
+get-none (x ∷ l) (suc k) h = get-none l k (omega arith)
+
+module _ (b : Batch) where
+  pub entering-ask : (s : Step) (w : Task) (k : ℕ) → nat_lt k (length s.needs) ≡ true → entering b s w k ≡ Some (ask b.number s.place (slice_index_or s.needs k no_need))
+  entering-ask s w k e =
+      ap (λ o. elim o as (λ _. Option Move) [
+        | Some r ↦ Some (ask b.number s.place r)
+        | None ↦ elim w as (λ _. Option Move) [
+          | runs x ↦ Some (start b.number s.place x (handed_values b.values x.handed))
+          | follows name c ↦ Some (begin b.number s.place name)
+        ]
+      ]) (get-or s.needs k no_need (less k (length s.needs) e))
+
+  pub entering-start : (s : Step) (p : Phase) (k : ℕ) → nat_lt k (length s.needs) ≡ false → entering b s (runs p) k ≡ Some (start b.number s.place p (handed_values b.values p.handed))
+  entering-start s p k e =
+      ap (λ o. elim o as (λ _. Option Move) [
+        | Some r ↦ Some (ask b.number s.place r)
+        | None ↦ Some (start b.number s.place p (handed_values b.values p.handed))
+      ]) (get-none s.needs k (not-less k (length s.needs) e))
+
+  pub entering-begin : (s : Step) (name : Name) (c : Tree) (k : ℕ) → nat_lt k (length s.needs) ≡ false → entering b s (follows name c) k ≡ Some (begin b.number s.place name)
+  entering-begin s name c k e =
+      ap (λ o. elim o as (λ _. Option Move) [
+        | Some r ↦ Some (ask b.number s.place r)
+        | None ↦ Some (begin b.number s.place name)
+      ]) (get-none s.needs k (not-less k (length s.needs) e))
+
+  pub giving-some : (s : Step) (k : ℕ) → gives (length s.needs) k ≡ true → giving_back b s k ≡ Some (release b.number s.place (slice_index_or s.needs (k - 1) no_need))
+  giving-some s zero e = absurd (cc)
+  giving-some s (suc k) e =
+      ap (λ o. elim o as (λ _. Option Move) [ None ↦ None | Some r ↦ Some (release b.number s.place r) ]) (get-or s.needs k no_need (gives-less (length s.needs) k e))
+      ∙ ap (λ i. Some (release b.number s.place (slice_index_or s.needs i no_need))) (let d : k ≡ suc k - 1 = omega arith in d)
+
+  pub giving-none : (s : Step) (k : ℕ) → gives (length s.needs) k ≡ false → giving_back b s k ≡ None
+  giving-none s zero e = refl
+  giving-none s (suc k) e =
+      ap (λ o. elim o as (λ _. Option Move) [ None ↦ None | Some r ↦ Some (release b.number s.place r) ]) (get-none s.needs k (gives-not (length s.needs) k e))
+
+  entering-kind : (n : ℕ) (s : Step) (w : Task) (k : ℕ) → kind_in n (entering b s w k) ≡ elim (nat_lt k (length s.needs)) as (λ _. Bool) [ true ↦ nat_eq 5 n | false ↦ nat_eq 4 n ]
+  entering-kind n s w k = go w (nat_lt k (length s.needs)) refl
+    where
+      go : (w : Task) (t : Bool) → nat_lt k (length s.needs) ≡ t → kind_in n (entering b s w k) ≡ elim t as (λ _. Bool) [ true ↦ nat_eq 5 n | false ↦ nat_eq 4 n ]
+      go w true e = ap (kind_in n) (entering-ask s w k e)
+      go (runs p) false e = ap (kind_in n) (entering-start s p k e)
+      go (follows name c) false e = ap (kind_in n) (entering-begin s name c k e)
+
+  giving-kind : (n : ℕ) (s : Step) (k : ℕ) → kind_in n (giving_back b s k) ≡ (gives (length s.needs) k && nat_eq 3 n)
+  giving-kind n s k = go (gives (length s.needs) k) refl
+    where
+      go : (t : Bool) → gives (length s.needs) k ≡ t → kind_in n (giving_back b s k) ≡ (t && nat_eq 3 n)
+      go true e = ap (kind_in n) (giving-some s k e)
+      go false e = ap (kind_in n) (giving-none s k e)
+
+  when-kind : (n : ℕ) (t : Bool) (m : Move) → kind_in n (when t m) ≡ (t && nat_eq (kind_of m) n)
+  when-kind n true m = refl
+  when-kind n false m = refl
+
+  if-kind : (n : ℕ) (t : Bool) (o : Option Move) → kind_in n (elim t as (λ _. Option Move) [ true ↦ o | false ↦ None ]) ≡ (t && kind_in n o)
+  if-kind n true o = refl
+  if-kind n false o = refl
+
+  pub ready-kind : (n : ℕ) (s : Step) (w : Task) (k : ℕ) → kind_in n (own_move b (ready s w k))
+      ≡ elim (is_running b.state) as (λ _. Bool) [
+        | true ↦ elim (nat_lt k (length s.needs)) as (λ _. Bool) [ true ↦ nat_eq 5 n | false ↦ nat_eq 4 n ]
+        | false ↦ (is_stopping b.state && is_quiet b.rest) && (gives (length s.needs) k && nat_eq 3 n)
+      ]
+  ready-kind n s w k = go (is_running b.state)
+    where
+      go : (t : Bool) → kind_in n (elim t as (λ _. Option Move) [ true ↦ entering b s w k | false ↦ elim (is_stopping b.state && is_quiet b.rest) as (λ _. Option Move) [ true ↦ giving_back b s k | false ↦ None ] ])
+          ≡ elim t as (λ _. Bool) [
+            | true ↦ elim (nat_lt k (length s.needs)) as (λ _. Bool) [ true ↦ nat_eq 5 n | false ↦ nat_eq 4 n ]
+            | false ↦ (is_stopping b.state && is_quiet b.rest) && (gives (length s.needs) k && nat_eq 3 n)
+          ]
+      go true = entering-kind n s w k
+      go false = if-kind n (is_stopping b.state && is_quiet b.rest) (giving_back b s k) ∙ ap (λ z. (is_stopping b.state && is_quiet b.rest) && z) (giving-kind n s k)
+
+  pub open-kind : (n : ℕ) (s : Step) (r : Rest) → kind_in n (own_move b (open_act s r))
+      ≡ elim (is_stopping b.state || is_stopped b.state) as (λ _. Bool) [
+        | false ↦ is_done r && nat_eq 4 n
+        | true ↦ (is_stopping b.state && is_quiet b.rest && is_empty (held_in r)) && (gives (length s.needs) (length s.needs) && nat_eq 3 n)
+      ]
+  open-kind n s r = go (is_stopping b.state || is_stopped b.state)
+    where
+      go : (t : Bool) → kind_in n (elim t as (λ _. Option Move) [
+        | false ↦ when (is_done r) (end b.number s.place)
+        | true ↦ elim (is_stopping b.state && is_quiet b.rest && is_empty (held_in r)) as (λ _. Option Move) [ true ↦ giving_back b s (length s.needs) | false ↦ None ]
+      ])
+          ≡ elim t as (λ _. Bool) [
+            | false ↦ is_done r && nat_eq 4 n
+            | true ↦ (is_stopping b.state && is_quiet b.rest && is_empty (held_in r)) && (gives (length s.needs) (length s.needs) && nat_eq 3 n)
+          ]
+      go false = when-kind n (is_done r) (end b.number s.place)
+      go true =
+          if-kind n (is_stopping b.state && is_quiet b.rest && is_empty (held_in r)) (giving_back b s (length s.needs))
+          ∙ ap (λ z. (is_stopping b.state && is_quiet b.rest && is_empty (held_in r)) && z) (giving-kind n s (length s.needs))
+
+  pub live-kind : (n : ℕ) (s : Step) (p : Phase) (x : State) → kind_in n (own_move b (live s p x)) ≡ live_kind n (passed_on b.state) x
+  live-kind n s p x = go (passed_on b.state)
+    where
+      go : (o : Option Command) → kind_in n (elim o as (λ _. Option Move) [ None ↦ None | Some command ↦ when (accepts x command) (send b.number s.place p command) ]) ≡ live_kind n o x
+      go None = refl
+      go (Some c) = when-kind n (accepts x c) (send b.number s.place p c)
+
+  pub freeing-kind : (n : ℕ) (s : Step) (k : ℕ) → kind_in n (own_move b (freeing s k)) ≡ (gives (length s.needs) k && nat_eq 3 n)
+  freeing-kind n s k = giving-kind n s k

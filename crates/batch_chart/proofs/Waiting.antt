@@ -1,0 +1,236 @@
+-- The first act in line.
+use Rattle.std.proofs.Common.{◌≡◌, ◌⊎◌, inl, inr, ◌<◌, ◌≤◌, ℕ, zero, suc, ◌+◌, List, [], ◌∷◌, ◌++◌, length, Bool, true, false, Some, None, nat_le, nat_lt, arith, refl, sym, ◌∙◌, subst, ap, ap₂}
+use Rattle.std.specs.Prelude.{map, slice_get, ◌&&◌}
+use Rattle.std.proofs.lemmas.Bool.Decides.{nat_tests}
+use Rattle.batch_recipe.specs.Needs.{resources_of}
+use Rattle.batch_recipe.specs.Conditions.{Name}
+use Rattle.batch_recipe.specs.Nodes as nodes
+use Rattle.batch_recipe.specs.Nodes.{node_count, node, nodes_within, nodes_of_each, nodes_of_choices, child}
+use Rattle.batch_recipe.specs.Tree.{Place, is_before, Step, Task, runs, follows, Tree, act, skip, seq, par, sel, loop, Trees, no_trees, tree, Choices, otherwise, choice}
+use Rattle.batch_recipe.proofs.Order.{in_order}
+use Rattle.batch_model.specs.Lists.{Has, Each}
+use Rattle.batch_model.specs.Placed.{IsPlaced, IsPlacedBelow, ArePlaced, IsChoicePlaced, Rises}
+use Rattle.batch_model.specs.Plant.{place_of}
+use Rattle.batch_model.specs.Rest.{Rest, asking, acts, is_done}
+use Rattle.batch_model.proofs.Members.{Each-Has}
+use Rattle.batch_model.proofs.Ordering.{before-asym}
+use Rattle.batch_model.proofs.Rising.{acts-rise}
+use Rattle.batch_chart.specs.declared.node.Node.{Node}
+use Rattle.batch_chart.specs.declared.node.Detail.{Detail}
+use Rattle.batch_chart.specs.declared.stage.Stage.{Stage}
+use Rattle.batch_chart.specs.declared.stage.Stage.TheVariants as stage
+use Rattle.batch_chart.specs.declared.wanted.Wanted.TheVariants as wanted
+use Rattle.batch_chart.specs.Stages.{stage_at}
+use Rattle.batch_chart.specs.Meaning.{meaning, meaning_below, act_as}
+use Rattle.batch_chart.specs.Compiled.{kind_at, is_act_kind}
+use Rattle.batch_chart.specs.Finding.{numbered, wants, first_of}
+use Rattle.batch_chart.specs.NodesOf.{nodes_of, node_at, place_at, step_at, task_at}
+use Rattle.batch_chart.specs.Nexts.{IsFoundFirst}
+use Rattle.batch_chart.specs.Running.{IsLaid, IsAlive, SomeLives, IsAskingAt}
+use Rattle.batch_chart.specs.Charts.{AsksAt, IsFirstWaiting}
+use Rattle.batch_chart.specs.NodesOf.{step_of}
+use Rattle.batch_chart.specs.Needs.{needs_of}
+use Rattle.batch_chart.specs.declared.node.Kind.{Kind}
+use Rattle.batch_chart.specs.declared.node.Kind.TheVariants as kind
+use Rattle.batch_chart.proofs.Stepping.{Fits}
+use Rattle.batch_chart.proofs.Choosing.{chosen-true, chosen-false}
+use Rattle.batch_chart.proofs.Found.{numbered-acts}
+use Rattle.batch_chart.proofs.Numbering.{order-at}
+use Rattle.batch_chart.proofs.Stepping.{node-got, number-at-place, act-place, entry-undone}
+use Rattle.batch_chart.proofs.Joining.{known, first-has}
+
+-- Each act among the nodes carries the place of its node
+
+abbrev CarriesPlace : nodes.Node → Type 0
+CarriesPlace n = (s : Step) (w : Task) → n.here ≡ act s w → s.place ≡ n.place
+
+each-append : (l r : List nodes.Node) → Each CarriesPlace l → Each CarriesPlace r → Each CarriesPlace (l ++ r)
+each-append [] r g h = h
+each-append (x ∷ l) r g h = (g.0, each-append l r g.1 h)
+
+mutual
+  carries : (c : Tree) (q : Place) (above : List Name) → IsPlaced q c → Each CarriesPlace (nodes.nodes q above c)
+  carries (act s w) q above p = (λ u v e. (let f : act s w ≡ act u v = e in let g : s ≡ u = cc in ap (λ (z : Step). z.place) (sym g) ∙ p.0), carries_within w q (above ++ resources_of s.needs) p.1)
+  carries skip q above p = (λ u v e. absurd (cc), tt)
+  carries (seq ts) q above p = (λ u v e. absurd (cc), carries_each ts q above 0 p)
+  carries (par ts) q above p = (λ u v e. absurd (cc), carries_each ts q above 0 p)
+  carries (sel ch) q above p = (λ u v e. absurd (cc), carries_choices ch q above 0 p)
+  carries (loop i c body) q above p = (λ u v e. absurd (cc), carries body (child q 0) above p)
+
+  carries_within : (w : Task) (q : Place) (above : List Name) → IsPlacedBelow q w → Each CarriesPlace (nodes_within q above w)
+  carries_within (runs x) q above p = tt
+  carries_within (follows name c) q above p = carries c (child q 0) above p
+
+  carries_each : (ts : Trees) (q : Place) (above : List Name) (i : ℕ) → ArePlaced q i ts → Each CarriesPlace (nodes_of_each q above i ts)
+  carries_each no_trees q above i p = tt
+  carries_each (tree c ts) q above i p = each-append (nodes.nodes (child q i) above c) (nodes_of_each q above (i + 1) ts) (carries c (child q i) above p.0) (carries_each ts q above (i + 1) p.1)
+
+  carries_choices : (ch : Choices) (q : Place) (above : List Name) (i : ℕ) → IsChoicePlaced q i ch → Each CarriesPlace (nodes_of_choices q above i ch)
+  carries_choices (otherwise c) q above i p = carries c (child q i) above p
+  carries_choices (choice x c ch) q above i p = each-append (nodes.nodes (child q i) above c) (nodes_of_choices q above (i + 1) ch) (carries c (child q i) above p.0) (carries_choices ch q above (i + 1) p.1)
+
+get-has : (l : List nodes.Node) (k : ℕ) (x : nodes.Node) → slice_get l k ≡ Some x → Has l x
+get-has [] k x e = absurd (cc)
+get-has (y ∷ l) zero x e = inl (cc)
+get-has (y ∷ l) (suc k) x e = inr (get-has l k x e)
+
+-- the first that passes has the least number
+
+passes-first : (p : ℕ → Rest → Bool) (l : List (ℕ × Rest)) (k : ℕ) → Rises (map (λ (z : ℕ × Rest). z.1) l) → Some k ≡ first_of p l → (e : ℕ × Rest) → Has l e → p e.0 e.1 ≡ true
+    → (x : ℕ × Rest) × Has l x × (x.0 ≡ k) × ((x ≡ e) ⊎ (is_before (place_of x.1) (place_of e.1) ≡ true))
+passes-first p [] k r f e h t = absurd h
+passes-first p (a ∷ l) k r f e h t = go (p a.0 a.1) refl h (λ g i. passes-first p l k r.1 g e i t)
+  where
+    each-place : (l : List (ℕ × Rest)) → Each (λ b. is_before (place_of a.1) (place_of b) ≡ true) (map (λ (z : ℕ × Rest). z.1) l) → Has l e → is_before (place_of a.1) (place_of e.1) ≡ true
+    each-place [] h i = absurd i
+    each-place (b ∷ l) h (inl q) = subst (λ (z : ℕ × Rest). is_before (place_of a.1) (place_of z.1) ≡ true) q h.0
+    each-place (b ∷ l) h (inr i) = each-place l h.1 i
+
+    go : (b : Bool) → p a.0 a.1 ≡ b → Has (a ∷ l) e → (Some k ≡ first_of p l → Has l e → (x : ℕ × Rest) × Has l x × (x.0 ≡ k) × ((x ≡ e) ⊎ (is_before (place_of x.1) (place_of e.1) ≡ true)))
+        → (x : ℕ × Rest) × Has (a ∷ l) x × (x.0 ≡ k) × ((x ≡ e) ⊎ (is_before (place_of x.1) (place_of e.1) ≡ true))
+    go true q i later =
+        let here : Some k ≡ Some a.0 = f ∙ chosen-true (p a.0 a.1) (Some a.0) (first_of p l) q in
+        (a, inl refl, cc, elim i [ inl s ↦ inl s | inr s ↦ inr (each-place l r.0 s) ])
+    go false q (inl s) later = absurd (let d : true ≡ false = sym t ∙ ap (λ (z : ℕ × Rest). p z.0 z.1) (sym s) ∙ q in cc)
+    go false q (inr s) later =
+        let m = later (f ∙ chosen-false (p a.0 a.1) (Some a.0) (first_of p l) q) s in
+        (m.0, inr m.1, m.2, m.3)
+
+none-passes : (p : ℕ → Rest → Bool) (l : List (ℕ × Rest)) → None ≡ first_of p l → (e : ℕ × Rest) → Has l e → p e.0 e.1 ≡ true → ⊥
+none-passes p [] f e h t = h
+none-passes p (a ∷ l) f e h t = go (p a.0 a.1) refl h (λ g i. none-passes p l g e i t)
+  where
+    go : (b : Bool) → p a.0 a.1 ≡ b → Has (a ∷ l) e → (None ≡ first_of p l → Has l e → ⊥) → ⊥
+    go true q i later = (let d : None ≡ Some a.0 = f ∙ chosen-true (p a.0 a.1) (Some a.0) (first_of p l) q in cc)
+    go false q (inl s) later = (let d : true ≡ false = sym t ∙ ap (λ (z : ℕ × Rest). p z.0 z.1) (sym s) ∙ q in cc)
+    go false q (inr s) later = later (f ∙ chosen-false (p a.0 a.1) (Some a.0) (first_of p l) q) s
+
+wants-it : (from k i n : ℕ) → from ≤ k → i < n → (nat_le from k && nat_lt i n) ≡ true
+wants-it from k i n f l = grind (arith, nat_tests)
+
+module _ (ns : List Node) (ds : List Detail) (xs : List Stage) (t : Tree) (laid : IsLaid ns ds t) (alive : IsAlive t xs) where
+  -- the step of an act with needs carries the place of its node
+  own-place : (k i : ℕ) → k < node_count t → i < length (step_at t k).needs → (step_at t k).place ≡ place_at t k
+  own-place k i lt l = place (node_at t k).here refl l
+    where
+      place : (c : Tree) → (node_at t k).here ≡ c → i < length (step_at t k).needs → (step_at t k).place ≡ place_at t k
+      place (act s w) e l = ap (λ (z : Step). z.place) (ap step_of e) ∙ Each-Has CarriesPlace (nodes_of t) (node_at t k) (carries t (0 ∷ []) [] laid.placed) (get-has (nodes_of t) k (node_at t k) (node-got ns ds t laid k (omega (arith, laid.count, lt)))) s w e
+      place skip e l = absurd (let q : i < 0 = subst (λ z. i < length (step_of z).needs) e l in omega (arith, q))
+      place (seq ts) e l = absurd (let q : i < 0 = subst (λ z. i < length (step_of z).needs) e l in omega (arith, q))
+      place (par ts) e l = absurd (let q : i < 0 = subst (λ z. i < length (step_of z).needs) e l in omega (arith, q))
+      place (sel ch) e l = absurd (let q : i < 0 = subst (λ z. i < length (step_of z).needs) e l in omega (arith, q))
+      place (loop n c body) e l = absurd (let q : i < 0 = subst (λ z. i < length (step_of z).needs) e l in omega (arith, q))
+
+  -- an act of the tree in line is a numbered one
+  asks-here : (k i : ℕ) → AsksAt t (meaning t 0 xs) k i → Has (numbered t 0 xs) (k, asking (step_at t k) (task_at t k) i)
+  asks-here k i h = number-at-place ns ds t laid xs k (asking (step_at t k) (task_at t k) i) (omega (arith, laid.count, h.0)) h.2 (own-place k i h.0 h.1)
+
+  before-none : (from k : ℕ) → IsFoundFirst ns ds xs (wanted.Waiting from) (Some k) → (j i : ℕ) → from ≤ j → j < k → AsksAt t (meaning t 0 xs) j i → ⊥
+  before-none from k found j i f l h =
+      let entry : ℕ × Rest = (j, asking (step_at t j) (task_at t j) i) in
+      let m = passes-first (wants (wanted.Waiting from)) (numbered t 0 xs) k
+      (subst Rises (sym (numbered-acts xs t 0)) (acts-rise (0 ∷ []) t (meaning t 0 xs) laid.placed alive.stands))
+      (found.means t laid) (j, asking (step_at t j) (task_at t j) i) (asks-here j i h) (wants-it from j i (length (step_at t j).needs) f h.1) in
+      elim m.3 [
+        | inl s ↦ (let e : m.0.0 ≡ j = ap (λ (z : ℕ × Rest). z.0) s in omega (arith, e, m.2, l))
+        | inr s ↦ apart m.0 m.1 m.2 (subst (λ q. is_before (place_of m.0.1) q ≡ true) (own-place j i h.0 h.1) s)
+      ]
+    where
+      apart : (x : ℕ × Rest) → Has (numbered t 0 xs) x → x.0 ≡ k → is_before (place_of x.1) (place_at t j) ≡ true → ⊥
+      apart x hx e s =
+          let g = known ns ds xs t laid x hx in
+          let lt : k < length ns = omega (arith, g.within, e) in
+          let placed : place_of x.1 ≡ place_at t k =
+          ap place_of g.is ∙ act-place g.step g.task (meaning_below g.task (x.0 + 1) xs) (stage_at xs x.0) (ap is_done (sym g.is) ∙ entry-undone ns ds t laid xs x g.among) ∙ sym g.place ∙ ap (place_at t) e in
+          let order : is_before (place_at t j) (place_at t k) ≡ true =
+          order-at (nodes_of t) (in_order (0 ∷ []) [] t).1 j k (node_at t j) (node_at t k) l (node-got ns ds t laid j (omega (arith, lt, l))) (node-got ns ds t laid k lt) in
+          let d : true ≡ false = sym (subst (λ q. is_before q (place_at t j) ≡ true) placed s) ∙ before-asym (place_at t j) (place_at t k) order in
+          cc
+
+  after-none : (from : ℕ) → IsFoundFirst ns ds xs (wanted.Waiting from) None → (j i : ℕ) → from ≤ j → AsksAt t (meaning t 0 xs) j i → ⊥
+  after-none from found j i f h =
+      none-passes (wants (wanted.Waiting from)) (numbered t 0 xs) (found.means t laid) (j, asking (step_at t j) (task_at t j) i) (asks-here j i h) (wants-it from j i (length (step_at t j).needs) f h.1)
+
+  abbrev Sees : ℕ → ℕ → Step → Task → Stage → Type 0
+  Sees from n s w y = (i : ℕ) × (y ≡ stage.Asking i) × (from ≤ n) × (i < length s.needs)
+
+  both : (from n i k : ℕ) → (nat_le from n && nat_lt i k) ≡ true → (from ≤ n) × (i < k)
+  both from n i k e = (grind (arith, nat_tests), grind (arith, nat_tests))
+
+  sees : (from n : ℕ) (s : Step) (w : Task) (r : Rest) (y : Stage) → wants (wanted.Waiting from) n (act_as s w r y) ≡ true → Sees from n s w y
+  sees from n s w r (stage.Asking i) e = (i, refl, (both from n i (length s.needs) e).0, (both from n i (length s.needs) e).1)
+  sees from n s w r stage.Finished e = absurd (cc)
+  sees from n s w r (stage.Ready h) e = absurd (cc)
+  sees from n s (runs p) r stage.Open e = absurd (cc)
+  sees from n s (follows name c) r stage.Open e = absurd (cc)
+  sees from n s (runs p) r (stage.Live x) e = absurd (cc)
+  sees from n s (follows name c) r (stage.Live x) e = absurd (cc)
+  sees from n s w r (stage.Freeing zero) e = absurd (cc)
+  sees from n s w r (stage.Freeing (suc h)) e = absurd (cc)
+  sees from n s w r (stage.Turning h) e = absurd (cc)
+
+  fits-act : (κ : Kind) (s : Step) (w : Task) → Fits κ s w → (is_act_kind κ ≡ true) × (length s.needs ≡ needs_of κ)
+  fits-act (kind.Phase j d) s (runs p) h = (refl, h)
+  fits-act (kind.Act j) s (follows name c) h = (refl, h)
+  fits-act (kind.Phase j d) s (follows name c) h = absurd h
+  fits-act (kind.Act j) s (runs p) h = absurd h
+  fits-act kind.Skip s w h = absurd h
+  fits-act kind.Seq s w h = absurd h
+  fits-act kind.Par s w h = absurd h
+  fits-act (kind.Sel d) s w h = absurd h
+  fits-act (kind.Loop j d) s w h = absurd h
+
+  record Found (from k : ℕ) : Type 0 where
+    pub need : ℕ
+    pub is : stage_at xs k ≡ stage.Asking need
+    pub onwards : from ≤ k
+    pub asks : AsksAt t (meaning t 0 xs) k need
+    pub waits : IsAskingAt ns xs k
+
+  found-at : (from k : ℕ) → IsFoundFirst ns ds xs (wanted.Waiting from) (Some k) → Found from k
+  found-at from k found =
+      let m = first-has (wants (wanted.Waiting from)) (numbered t 0 xs) k (found.means t laid) in
+      go m.0 m.1 m.2 m.3
+    where
+      go : (x : ℕ × Rest) → Has (numbered t 0 xs) x → x.0 ≡ k → wants (wanted.Waiting from) x.0 x.1 ≡ true → Found from k
+      go x hx e test =
+          let g = known ns ds xs t laid x hx in
+          let v = sees from x.0 g.step g.task (meaning_below g.task (x.0 + 1) xs) (stage_at xs x.0) (ap (wants (wanted.Waiting from) x.0) (sym g.is) ∙ test) in
+          let f = fits-act (kind_at ns x.0) g.step g.task g.fits in
+          let a : x.1 ≡ asking g.step g.task v.0 = g.is ∙ ap (act_as g.step g.task (meaning_below g.task (x.0 + 1) xs)) v.1 in
+          subst (Found from) e record {
+            need = v.0;
+            is = v.1;
+            onwards = v.2;
+            asks = (
+              omega (arith, g.within, laid.count),
+              subst (λ (s : Step). v.0 < length s.needs) (sym g.own_step) v.3,
+              subst (Has (acts (meaning t 0 xs))) (a ∙ ap₂ (λ s w. asking s w v.0) (sym g.own_step) (sym g.own_task)) g.among,
+            );
+            waits = (v.0, g.within, f.0, omega (arith, v.3, f.1), v.1);
+          }
+
+module _ (ns : List Node) (ds : List Detail) (xs : List Stage) (from : ℕ) (lives : SomeLives ns ds xs) where
+  pub waiting-some : (k n i : ℕ) → IsFoundFirst ns ds xs (wanted.Waiting from) (Some k) → n ≡ k → stage_at xs n ≡ stage.Asking i → IsFirstWaiting ns ds xs from (Some (k, i))
+  waiting-some k n i found same was =
+      let f = found-at ns ds xs lives.0 lives.1 lives.2 from k found in
+      record {
+        some = (
+          f.onwards,
+          λ t laid alive. (let g = found-at ns ds xs t laid alive from k found in
+              let e : stage.Asking g.need ≡ stage.Asking i = sym g.is ∙ ap (stage_at xs) (sym same) ∙ was in
+              let q : g.need ≡ i = cc in
+              subst (AsksAt t (meaning t 0 xs) k) q g.asks),
+        );
+        before = λ t laid alive j h a l s. before-none ns ds xs t laid alive from k found j h a l s;
+        none = λ e. absurd (cc);
+        waits = f.waits;
+        small = omega (arith, f.asks.0, lives.1.small);
+      }
+
+  pub waiting-none : IsFoundFirst ns ds xs (wanted.Waiting from) None → IsFirstWaiting ns ds xs from None
+  waiting-none found =
+      record { some = tt; before = tt; none = λ e t laid alive j i a h. after-none ns ds xs t laid alive from found j i a h; waits = tt; small = tt }
+
+  pub waiting-never : (k n : ℕ) → IsFoundFirst ns ds xs (wanted.Waiting from) (Some k) → n ≡ k → ((i : ℕ) → stage_at xs n ≡ stage.Asking i → ⊥) → ⊥
+  waiting-never k n found same never = (let f = found-at ns ds xs lives.0 lives.1 lives.2 from k found in never f.need (ap (stage_at xs) same ∙ f.is))
