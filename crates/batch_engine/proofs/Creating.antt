@@ -22,7 +22,7 @@ use Rattle.batch_arbiter.specs.Allocation.{Claim, Allocation, shares_of, line_of
 use Rattle.batch_chart.specs.NodesOf.{needs_in, place_at}
 use Rattle.batch_chart.specs.Charts.{IsRunningOf, remains}
 use Rattle.batch_engine.specs.declared.batch.Batch.{Batch}
-use Rattle.batch_engine.specs.View.{EngineView, documents, recipe_at, tree_at, batch_of, share_of, acts_of, place_in, number_of, line_in, line_at, plant_of}
+use Rattle.batch_engine.specs.View.{EngineView, documents, recipe_at, tree_at, batch_of, share_of, acts_of, place_in, number_of, line_in, line_at, plant_of, tree_of}
 use Rattle.batch_engine.specs.Kept.{IsRunningBatch, HasRoom, IsKept, needs_of_all}
 use Rattle.batch_engine.specs.Creates.{IsCreate}
 use Rattle.batch_engine.proofs.Told.{told, standing}
@@ -57,7 +57,7 @@ react-create v recipe name size vs o =
 module _ (c : ClearedSet) (b : Batch) where
   place-more : (bs : List Batch) (n j : ℕ) → (n ≡ b.number → ⊥) → place_in c (bs ++ b ∷ []) n j ≡ place_in c bs n j
   place-more [] n j d = chosen-false (nat_eq b.number n) _ _ (test-other b.number n (λ e. d (sym e)))
-  place-more (x ∷ bs) n j d = ap (λ r. let z : Place = elim (nat_eq x.number n) [ true ↦ place_at (tree_at c x.recipe) j | false ↦ r ] in z) (place-more bs n j d)
+  place-more (x ∷ bs) n j d = ap (λ r. let z : Place = elim (nat_eq x.number n) [ true ↦ place_at (tree_of c x) j | false ↦ r ] in z) (place-more bs n j d)
 
   acts-more : (bs : List Batch) (xs : List Claim) → ((x : Claim) → Has xs x → x.batch ≡ b.number → ⊥) → acts_of c (bs ++ b ∷ []) xs ≡ acts_of c bs xs
   acts-more bs [] h = refl
@@ -143,7 +143,7 @@ module _ (v : EngineView) (k : IsKept v) where
         ))
         (record { capacities = k.cell.capacities; shares = k.cell.shares; lines = k.cell.lines })
         (λ n q e. subst IsOnce (sym (lines-more n q e)) (k.once n q e))
-        (omega (arith, enough, sum_by_push (λ (z : Batch). needs_in (tree_at v.cleared z.recipe)) v.batches b, ap (λ r. needs_in (tree_at v.cleared r)) of_recipe))
+        (omega (arith, enough, sum_by_push (λ (z : Batch). needs_in (tree_of v.cleared z)) v.batches b, ap (λ r. needs_in (tree_at v.cleared r)) of_recipe))
 
   -- where no batch is made, more room changes nothing of the plant
   pub room-kept : (room : ℕ) → v.allocation.room ≤ room → IsKept (with v v.batches v.next_number (record (v.allocation) { room = room }))
@@ -151,6 +151,7 @@ module _ (v : EngineView) (k : IsKept v) where
       record {
         cleared = k.cleared;
         charts = k.charts;
+        numbers = k.numbers;
         batches = k.batches;
         cell = record { capacities = k.cell.capacities; shares = k.cell.shares; lines = k.cell.lines };
         tracked = record {

@@ -4,7 +4,6 @@ use Rattle.std.specs.Prelude.{option_map, slice_get, ◌⊎◌}
 use Rattle.std.specs.List.{filter_map, cons_option}
 use Rattle.std.proofs.lemmas.Bool.{cases_eq}
 use Rattle.std.proofs.lemmas.Option.{slice_get-get_or}
-use Rattle.batch_recipe.specs.Needs.{one_unit}
 use Rattle.batch_recipe.specs.declared.need.Need.{Need}
 use Rattle.batch_recipe.specs.Tree.{Place, Step, Task, Tree, is_before}
 use Rattle.batch_model.specs.Lists.{Has, Each}
@@ -19,12 +18,12 @@ use Rattle.batch_model.proofs.Members.{Has-filter_map}
 use Rattle.batch_model.proofs.Ordering.{least-IsFirst}
 use Rattle.batch_model.proofs.Falling.{one_act}
 use Rattle.batch_model.proofs.Rising.{acts-rise}
-use Rattle.batch_chart.specs.NodesOf.{place_at, step_at, task_at, need_at}
+use Rattle.batch_chart.specs.NodesOf.{no_need, place_at, step_at, task_at, need_at}
 use Rattle.batch_recipe.specs.Nodes.{node_count}
 use Rattle.batch_chart.specs.OwnMoves.{grant_move, grants}
 use Rattle.batch_chart.specs.Charts.{AsksAt}
 use Rattle.batch_engine.proofs.Nodes.{numbers-rise, either}
-use Rattle.batch_engine.proofs.Owed.{asking_acts_stand_at_nodes}
+use Rattle.batch_chart.proofs.ActsOf.{asking-at}
 
 filter_map-Has : {X Y : Type 0} (f : X → Option Y) (xs : List X) (x : X) (y : Y) → Has xs x → f x ≡ Some y → Has (filter_map f xs) y
 filter_map-Has f [] x y h e = absurd h
@@ -81,12 +80,12 @@ module _ (c : Documents) (s : Plant) (b : Model.Batch) (t : Tree) (placed : IsPl
   Served k i = is_served c s (need_at t k i) (b.number, place_at t k) ≡ true
 
   need-got : (k i : ℕ) → i < length (step_at t k).needs → slice_get (step_at t k).needs i ≡ Some (need_at t k i)
-  need-got k i l = slice_get-get_or (step_at t k).needs i (one_unit []) l
+  need-got k i l = slice_get-get_or (step_at t k).needs i no_need l
 
   -- where the acts in line stand
   pub asks-node : (m : Move) (g : Granted c s b m) → (k : ℕ) × (AsksAt t b.rest k g.held) × (g.step ≡ step_at t k) × (g.task ≡ task_at t k) × (g.step.place ≡ place_at t k) × (g.need ≡ need_at t k g.held)
   asks-node m g =
-      let n = asking_acts_stand_at_nodes t b.rest g.step g.task g.held placed stands g.has in
+      let n = asking-at t b.rest g.step g.task g.held placed stands g.has in
       let few : g.held < length (step_at t n.0).needs = subst (λ (z : Step). g.held < length z.needs) n.3 n.5 in
       let has : Has (acts b.rest) (asking (step_at t n.0) (task_at t n.0) g.held) = subst₂ (λ (x : Step) (y : Task). Has (acts b.rest) (asking x y g.held)) n.3 n.4 g.has in
       let got : ◌≡◌ {A = Option Need} (Some g.need) (Some (need_at t n.0 g.held)) = sym g.at ∙ ap (λ (z : Step). slice_get z.needs g.held) n.3 ∙ need-got n.0 g.held few in

@@ -3,7 +3,6 @@ use Rattle.std.proofs.Common.{◌≡◌, ◌<◌, ◌≤◌, ◌+◌, refl, sym,
 use Rattle.std.specs.Prelude.{slice_get, option_map, Contains}
 use Rattle.batch_recipe.specs.Conditions.{Name, same_name}
 use Rattle.batch_recipe.specs.Tree.{Place, Tree}
-use Rattle.batch_recipe.specs.Needs.{one_unit}
 use Rattle.batch_recipe.specs.declared.need.Need.{Need}
 use Rattle.batch_matrix.specs.declared.state.State as states
 use Rattle.batch_model.specs.Lists.{Has, Each}
@@ -22,16 +21,16 @@ use Rattle.batch_safety.proofs.Entries.{IsOnce, same_act, act_self, filter-Has, 
 use Rattle.batch_safety.specs.Telling.{IsTold}
 use Rattle.batch_arbiter.specs.Allocation.{Claim, Allocation, shares_of, line_of, asked, granted, released, is_claim, IsHeld, next_grant, next_in, batch_node, capacity_of, resource_count}
 use Rattle.batch_arbiter.proofs.Cells.{length-capacities}
-use Rattle.batch_chart.specs.NodesOf.{place_at, step_at, task_at, need_at}
+use Rattle.batch_chart.specs.NodesOf.{no_need, place_at, step_at, task_at, need_at}
 use Rattle.batch_recipe.specs.Nodes.{node_count}
-use Rattle.batch_chart.specs.Charts.{IsRunningOf, AsksAt, remains}
-use Rattle.batch_chart.specs.Seen.{move_of, StandsFor}
+use Rattle.batch_chart.specs.Charts.{IsRunningOf, AsksAt, remains, StandsFor}
+use Rattle.batch_chart.specs.Seen.{move_of}
 use Rattle.batch_chart.specs.declared.chart_move.Move.{Move}
 use Rattle.batch_chart.specs.declared.chart_move.Move.TheVariants.{Send, State, Release, Begin, Start, End, Ask}
 use Rattle.batch_chart.specs.declared.running.Running.{Running}
 use Rattle.batch_engine.specs.declared.batch.Batch.{Batch}
 use Rattle.batch_engine.specs.View as View
-use Rattle.batch_engine.specs.View.{EngineView, documents, tree_at, act_of, share_of, acts_of, names_of, number_of, line_in, line_at, plant_of}
+use Rattle.batch_engine.specs.View.{EngineView, documents, act_of, share_of, acts_of, names_of, number_of, line_in, line_at, plant_of, tree_of}
 use Rattle.batch_engine.specs.Kept.{IsKept}
 use Rattle.batch_engine.specs.Steps.{IsNext, IsQuiet, Makes}
 use Rattle.batch_engine.proofs.Told.{told, safe, standing}
@@ -133,7 +132,7 @@ Has-taken (x ∷ xs) (suc i) d h = inr (Has-taken xs i d (omega arith))
 
 module _ (v : EngineView) (k : IsKept v) (i : ℕ) (b : Batch) (at : slice_get v.batches i ≡ Some b) where
   abbrev tree : Tree
-  tree = tree_at v.cleared b.recipe
+  tree = tree_of v.cleared b
 
   abbrev model : Model.Batch
   model = View.batch_of v.cleared b
@@ -144,11 +143,11 @@ module _ (v : EngineView) (k : IsKept v) (i : ℕ) (b : Batch) (at : slice_get v
 
   abbrev pub MadeChart : Move → Running → Type 0
   MadeChart m r =
-      IsRunningOf (tree_at v.cleared b.recipe) r
-      × ((d : Model.Batch) → d.rest ≡ remains (tree_at v.cleared b.recipe) b.running → d.values ≡ b.values → remains (tree_at v.cleared b.recipe) r ≡ (batch_after (move_of (tree_at v.cleared b.recipe) d m) d).rest)
+      IsRunningOf (tree_of v.cleared b) r
+      × ((d : Model.Batch) → d.rest ≡ remains (tree_of v.cleared b) b.running → d.values ≡ b.values → remains (tree_of v.cleared b) r ≡ (batch_after (move_of (tree_of v.cleared b) d m) d).rest)
 
-  is-move : (m : Move) (r : Running) → Runs m → MadeChart m r → IsNext v (move_of (tree_at v.cleared b.recipe) (View.batch_of v.cleared b) m)
-      → IsMove v i b (record b { running = r }) (move_of (tree_at v.cleared b.recipe) (View.batch_of v.cleared b) m)
+  is-move : (m : Move) (r : Running) → Runs m → MadeChart m r → IsNext v (move_of (tree_of v.cleared b) (View.batch_of v.cleared b) m)
+      → IsMove v i b (record b { running = r }) (move_of (tree_of v.cleared b) (View.batch_of v.cleared b) m)
   is-move m r run made is =
       record {
         at = at;
@@ -156,8 +155,8 @@ module _ (v : EngineView) (k : IsKept v) (i : ℕ) (b : Batch) (at : slice_get v
         recipe = refl;
         runs = made.0;
         is = is;
-        of_batch = of-batch (tree_at v.cleared b.recipe) (View.batch_of v.cleared b) m;
-        becomes = after-rest (tree_at v.cleared b.recipe) (View.batch_of v.cleared b) m run (remains (tree_at v.cleared b.recipe) r) (made.1 (View.batch_of v.cleared b) refl refl);
+        of_batch = of-batch (tree_of v.cleared b) (View.batch_of v.cleared b) m;
+        becomes = after-rest (tree_of v.cleared b) (View.batch_of v.cleared b) m run (remains (tree_of v.cleared b) r) (made.1 (View.batch_of v.cleared b) refl refl);
       }
 
   -- the batch changes its state
@@ -179,16 +178,16 @@ module _ (v : EngineView) (k : IsKept v) (i : ℕ) (b : Batch) (at : slice_get v
       }
 
   -- the chart makes a move that needs nothing of the arbiter
-  pub run-quiet : (m : Move) (r : Running) → IsQuiet m → MadeChart m r → IsNext v (move_of (tree_at v.cleared b.recipe) (View.batch_of v.cleared b) m)
-      → Becomes v (changed v i (record b { running = r }) v.allocation) (move_of (tree_at v.cleared b.recipe) (View.batch_of v.cleared b) m)
+  pub run-quiet : (m : Move) (r : Running) → IsQuiet m → MadeChart m r → IsNext v (move_of (tree_of v.cleared b) (View.batch_of v.cleared b) m)
+      → Becomes v (changed v i (record b { running = r }) v.allocation) (move_of (tree_of v.cleared b) (View.batch_of v.cleared b) m)
   run-quiet m r quiet made is =
-      let l : Moves.Move = move_of (tree_at v.cleared b.recipe) (View.batch_of v.cleared b) m in
+      let l : Moves.Move = move_of (tree_of v.cleared b) (View.batch_of v.cleared b) m in
       let t : IsMove v i b (record b { running = r }) l = is-move m r (quiet-runs m quiet) made is in
       record {
-        kept = kept-after v k i b (record b { running = r }) l t v.allocation (λ name. quiet-line (tree_at v.cleared b.recipe) (View.batch_of v.cleared b) m quiet (line_in v) name)
-            (λ name q e. quiet-holders (tree_at v.cleared b.recipe) (View.batch_of v.cleared b) m quiet name (acts_of v.cleared v.batches (shares_of v.allocation q))) k.cell k.once
+        kept = kept-after v k i b (record b { running = r }) l t v.allocation (λ name. quiet-line (tree_of v.cleared b) (View.batch_of v.cleared b) m quiet (line_in v) name)
+            (λ name q e. quiet-holders (tree_of v.cleared b) (View.batch_of v.cleared b) m quiet name (acts_of v.cleared v.batches (shares_of v.allocation q))) k.cell k.once
             (room-quiet v i b (record b { running = r }) at refl k.room);
-        plant = plant-after v k i b (record b { running = r }) l t v.allocation (λ name. quiet-line (tree_at v.cleared b.recipe) (View.batch_of v.cleared b) m quiet (line_in v) name);
+        plant = plant-after v k i b (record b { running = r }) l t v.allocation (λ name. quiet-line (tree_of v.cleared b) (View.batch_of v.cleared b) m quiet (line_in v) name);
       }
 
   -- a resource's number is one that the arbiter has
@@ -200,35 +199,35 @@ module _ (v : EngineView) (k : IsKept v) (i : ℕ) (b : Batch) (at : slice_get v
   in-lists name q e = Rattle.std.proofs.lemmas.Option.slice_get_within (names_of v.cleared) q name (named v.cleared name q e)
 
   -- who is ready stands in no line
-  pub not-in-line : (node need q : ℕ) → node < node_count (tree_at v.cleared b.recipe) → need < length (step_at (tree_at v.cleared b.recipe) node).needs
-      → Has (acts (remains (tree_at v.cleared b.recipe) b.running)) (ready (step_at (tree_at v.cleared b.recipe) node) (task_at (tree_at v.cleared b.recipe) node) need)
-      → number_of v.cleared (need_at (tree_at v.cleared b.recipe) node need).resource ≡ Some q
-      → (y : Share) → Has (acts_of v.cleared v.batches (line_of v.allocation q)) y → y.act ≡ (b.number, place_at (tree_at v.cleared b.recipe) node) → ⊥
+  pub not-in-line : (node need q : ℕ) → node < node_count (tree_of v.cleared b) → need < length (step_at (tree_of v.cleared b) node).needs
+      → Has (acts (remains (tree_of v.cleared b) b.running)) (ready (step_at (tree_of v.cleared b) node) (task_at (tree_of v.cleared b) node) need)
+      → number_of v.cleared (need_at (tree_of v.cleared b) node need).resource ≡ Some q
+      → (y : Share) → Has (acts_of v.cleared v.batches (line_of v.allocation q)) y → y.act ≡ (b.number, place_at (tree_of v.cleared b) node) → ⊥
   not-in-line node need q few few' here e y h is =
-      let name : Name = (need_at (tree_at v.cleared b.recipe) node need).resource in
+      let name : Name = (need_at (tree_of v.cleared b) node need).resource in
       let asks = ((told v k).asks name y).0 (subst (λ (xs : List Share). Has xs y) (sym (ap (line_at v) e)) h) in
       let same : asks.0 ≡ View.batch_of v.cleared b = one_batch v.next_number (plant_of v).batches asks.0 (View.batch_of v.cleared b) (standing v k).numbers asks.1 (Has-batch_of v.cleared v.batches b (has v k i b at)) (asks.2 ∙ ap (λ (z : BatchAct). z.0) is) in
-      let there : Has (acts (remains (tree_at v.cleared b.recipe) b.running)) (asking asks.3 asks.4 asks.5) = subst (λ (d : Model.Batch). Has (acts d.rest) (asking asks.3 asks.4 asks.5)) same asks.6 in
-      let one : ready (step_at (tree_at v.cleared b.recipe) node) (task_at (tree_at v.cleared b.recipe) node) need ≡ asking asks.3 asks.4 asks.5 =
-      one_act (acts (remains (tree_at v.cleared b.recipe) b.running)) (ready (step_at (tree_at v.cleared b.recipe) node) (task_at (tree_at v.cleared b.recipe) node) need) (asking asks.3 asks.4 asks.5)
-      (acts-rise (0 ∷ []) (tree_at v.cleared b.recipe) (remains (tree_at v.cleared b.recipe) b.running) (tree-placed v k i b at) (batch-runs v k i b at).runs.stands) here there
-      (step-place (tree_at v.cleared b.recipe) node (tree-placed v k i b at) few (omega (arith, few')) ∙ sym (asks.7 ∙ ap (λ (z : BatchAct). z.1) is)) in
+      let there : Has (acts (remains (tree_of v.cleared b) b.running)) (asking asks.3 asks.4 asks.5) = subst (λ (d : Model.Batch). Has (acts d.rest) (asking asks.3 asks.4 asks.5)) same asks.6 in
+      let one : ready (step_at (tree_of v.cleared b) node) (task_at (tree_of v.cleared b) node) need ≡ asking asks.3 asks.4 asks.5 =
+      one_act (acts (remains (tree_of v.cleared b) b.running)) (ready (step_at (tree_of v.cleared b) node) (task_at (tree_of v.cleared b) node) need) (asking asks.3 asks.4 asks.5)
+      (acts-rise (0 ∷ []) (tree_of v.cleared b) (remains (tree_of v.cleared b) b.running) (tree-placed v k i b at) (batch-runs v k i b at).runs.stands) here there
+      (step-place (tree_of v.cleared b) node (tree-placed v k i b at) few (omega (arith, few')) ∙ sym (asks.7 ∙ ap (λ (z : BatchAct). z.1) is)) in
       cc
 
-  pub claim-place : (node units : ℕ) → act_of v.cleared v.batches (record { batch = b.number; node = node; units = units }) ≡ (b.number, place_at (tree_at v.cleared b.recipe) node)
+  pub claim-place : (node units : ℕ) → act_of v.cleared v.batches (record { batch = b.number; node = node; units = units }) ≡ (b.number, place_at (tree_of v.cleared b) node)
   claim-place node units = claim-act v k i b at (record { batch = b.number; node = node; units = units }) node refl
 
   -- an act joins a line
-  pub ask-made : (node need q : ℕ) (r : Running) → StandsFor (tree_at v.cleared b.recipe) (remains (tree_at v.cleared b.recipe) b.running) (Ask node need)
-      → number_of v.cleared (need_at (tree_at v.cleared b.recipe) node need).resource ≡ Some q → MadeChart (Ask node need) r
-      → IsNext v (move_of (tree_at v.cleared b.recipe) (View.batch_of v.cleared b) (Ask node need)) → 0 < v.allocation.room
-      → Becomes v (changed v i (record b { running = r }) (asked q (record { batch = b.number; node = node; units = (need_at (tree_at v.cleared b.recipe) node need).units }) v.allocation)) (move_of (tree_at v.cleared b.recipe) (View.batch_of v.cleared b) (Ask node need))
+  pub ask-made : (node need q : ℕ) (r : Running) → StandsFor (tree_of v.cleared b) (remains (tree_of v.cleared b) b.running) (Ask node need)
+      → number_of v.cleared (need_at (tree_of v.cleared b) node need).resource ≡ Some q → MadeChart (Ask node need) r
+      → IsNext v (move_of (tree_of v.cleared b) (View.batch_of v.cleared b) (Ask node need)) → 0 < v.allocation.room
+      → Becomes v (changed v i (record b { running = r }) (asked q (record { batch = b.number; node = node; units = (need_at (tree_of v.cleared b) node need).units }) v.allocation)) (move_of (tree_of v.cleared b) (View.batch_of v.cleared b) (Ask node need))
   ask-made node need q r s e made is some =
-      let name : Need = need_at (tree_at v.cleared b.recipe) node need in
-      let x : Claim = record { batch = b.number; node = node; units = (need_at (tree_at v.cleared b.recipe) node need).units } in
-      let a : BatchAct = (b.number, place_at (tree_at v.cleared b.recipe) node) in
+      let name : Need = need_at (tree_of v.cleared b) node need in
+      let x : Claim = record { batch = b.number; node = node; units = (need_at (tree_of v.cleared b) node need).units } in
+      let a : BatchAct = (b.number, place_at (tree_of v.cleared b) node) in
       let is-share : share_of v.cleared v.batches x ≡ record { act = a; units = name.units } = ap (λ (z : BatchAct). let w : Share = record { act = z; units = x.units } in w) (claim-place node x.units) in
-      let l : Moves.Move = move_of (tree_at v.cleared b.recipe) (View.batch_of v.cleared b) (Ask node need) in
+      let l : Moves.Move = move_of (tree_of v.cleared b) (View.batch_of v.cleared b) (Ask node need) in
       let t : IsMove v i b (record b { running = r }) l = is-move (Ask node need) r tt made is in
       record {
         kept = kept-after v k i b (record b { running = r }) l t (asked q x v.allocation) (lines-asked v k.cell q name e x a is-share) (λ name q e. refl)
@@ -239,8 +238,8 @@ module _ (v : EngineView) (k : IsKept v) (i : ℕ) (b : Batch) (at : slice_get v
       }
 
   -- whose share is released
-  same-claim : (node : ℕ) → node < node_count (tree_at v.cleared b.recipe) → (x : Claim) → is_claim b.number node x ≡ is_same_act (act_of v.cleared v.batches x) (b.number, place_at (tree_at v.cleared b.recipe) node)
-  same-claim node few x = go (is_same_act (act_of v.cleared v.batches x) (b.number, place_at (tree_at v.cleared b.recipe) node)) refl
+  same-claim : (node : ℕ) → node < node_count (tree_of v.cleared b) → (x : Claim) → is_claim b.number node x ≡ is_same_act (act_of v.cleared v.batches x) (b.number, place_at (tree_of v.cleared b) node)
+  same-claim node few x = go (is_same_act (act_of v.cleared v.batches x) (b.number, place_at (tree_of v.cleared b) node)) refl
     where
       test : (m n : ℕ) → m ≡ n → nat_eq m n ≡ true
       test m n e = grind arith
@@ -262,28 +261,28 @@ module _ (v : EngineView) (k : IsKept v) (i : ℕ) (b : Batch) (at : slice_get v
       no true h = absurd (h refl)
       no false h = refl
 
-      go : (t : Bool) → is_same_act (act_of v.cleared v.batches x) (b.number, place_at (tree_at v.cleared b.recipe) node) ≡ t → is_claim b.number node x ≡ t
+      go : (t : Bool) → is_same_act (act_of v.cleared v.batches x) (b.number, place_at (tree_of v.cleared b) node) ≡ t → is_claim b.number node x ≡ t
       go true e =
-          let n : batch_node x ≡ (b.number, node) = act-claim v k i b at x node few (same_act (act_of v.cleared v.batches x) (b.number, place_at (tree_at v.cleared b.recipe) node) e) in
+          let n : batch_node x ≡ (b.number, node) = act-claim v k i b at x node few (same_act (act_of v.cleared v.batches x) (b.number, place_at (tree_of v.cleared b) node) e) in
           both-true (nat_eq x.batch b.number) (nat_eq x.node node) (test x.batch b.number (ap (λ (z : ℕ × ℕ). z.0) n)) (test x.node node (ap (λ (z : ℕ × ℕ). z.1) n))
       go false e =
           no (is_claim b.number node x) (λ h.
           let s : (nat_eq x.batch b.number ≡ true) × (nat_eq x.node node ≡ true) = split (nat_eq x.batch b.number) (nat_eq x.node node) h in
           let n : batch_node x ≡ (b.number, node) = ap₂ (λ y z. let w : ℕ × ℕ = (y, z) in w) (untest x.batch b.number s.0) (untest x.node node s.1) in
-          let f : is_same_act (act_of v.cleared v.batches x) (b.number, place_at (tree_at v.cleared b.recipe) node) ≡ true =
+          let f : is_same_act (act_of v.cleared v.batches x) (b.number, place_at (tree_of v.cleared b) node) ≡ true =
           subst (λ (z : BatchAct). is_same_act (act_of v.cleared v.batches x) z ≡ true) (claim-act v k i b at x node n) (act_self (act_of v.cleared v.batches x)) in
           let g : ◌≡◌ {A = Bool} true false = sym f ∙ e in absurd cc)
 
   -- who holds a need has a share of it
-  pub held-share : (node need q : ℕ) → StandsFor (tree_at v.cleared b.recipe) (remains (tree_at v.cleared b.recipe) b.running) (Release node need)
-      → number_of v.cleared (need_at (tree_at v.cleared b.recipe) node need).resource ≡ Some q → IsHeld v.allocation q b.number node
+  pub held-share : (node need q : ℕ) → StandsFor (tree_of v.cleared b) (remains (tree_of v.cleared b) b.running) (Release node need)
+      → number_of v.cleared (need_at (tree_of v.cleared b) node need).resource ≡ Some q → IsHeld v.allocation q b.number node
   held-share node need q s e =
-      let name : Need = need_at (tree_at v.cleared b.recipe) node need in
-      let a : BatchAct = (b.number, place_at (tree_at v.cleared b.recipe) node) in
+      let name : Need = need_at (tree_of v.cleared b) node need in
+      let a : BatchAct = (b.number, place_at (tree_of v.cleared b) node) in
       let act : Rest = s.2.0 in
       let one : suc need ≡ need + 1 = omega arith in
-      let taken : Has (take (need + 1) (step_at (tree_at v.cleared b.recipe) node).needs) name =
-      subst (λ n. Has (take n (step_at (tree_at v.cleared b.recipe) node).needs) name) one (Has-taken (step_at (tree_at v.cleared b.recipe) node).needs need (one_unit []) s.1) in
+      let taken : Has (take (need + 1) (step_at (tree_of v.cleared b) node).needs) name =
+      subst (λ n. Has (take n (step_at (tree_of v.cleared b) node).needs) name) one (Has-taken (step_at (tree_of v.cleared b) node).needs need no_need s.1) in
       let mineof : Share = record { act = a; units = name.units } in
       let holds : Has (filter (λ r. same_name name.resource r.resource) (held_by act)) name =
       filter-Has (λ (r : Need). same_name name.resource r.resource) (held_by act) name (subst (λ (xs : List Need). Has xs name) (sym s.2.3) taken) (name_self name.resource) in
@@ -293,7 +292,7 @@ module _ (v : EngineView) (k : IsKept v) (i : ℕ) (b : Batch) (at : slice_get v
       let held : Has (holders (plant_of v) name.resource) mineof =
       Has-in-flat (λ (d : Model.Batch). flat_map (λ y. map (λ (r : Need). let z : Share = record { act = (d.number, place_of y); units = r.units } in z) (filter (λ r. same_name name.resource r.resource) (held_by y))) (acts d.rest)) (plant_of v).batches (View.batch_of v.cleared b) mineof
       (Has-batch_of v.cleared v.batches b (has v k i b at))
-      (Has-in-flat (λ y. map (λ (r : Need). let z : Share = record { act = (b.number, place_of y); units = r.units } in z) (filter (λ r. same_name name.resource r.resource) (held_by y))) (acts (remains (tree_at v.cleared b.recipe) b.running)) act mineof s.2.1 mine) in
+      (Has-in-flat (λ y. map (λ (r : Need). let z : Share = record { act = (b.number, place_of y); units = r.units } in z) (filter (λ r. same_name name.resource r.resource) (held_by y))) (acts (remains (tree_of v.cleared b) b.running)) act mineof s.2.1 mine) in
       let share : Has (acts_of v.cleared v.batches (shares_of v.allocation q)) mineof = subst (λ (xs : List Share). Has xs mineof) (sym (k.tracked.shares q name.resource e)) (((told v k).held name.resource).1 mineof held) in
       let x = Has-mapped (share_of v.cleared v.batches) (shares_of v.allocation q) mineof share in
       let n : batch_node x.0 ≡ (b.number, node) = act-claim v k i b at x.0 node s.0 (ap (λ (z : Share). z.act) x.2) in
@@ -302,17 +301,17 @@ module _ (v : EngineView) (k : IsKept v) (i : ℕ) (b : Batch) (at : slice_get v
       (x.0.units, Has-Contains (shares_of v.allocation q) (record { batch = b.number; node = node; units = x.0.units }) (subst (Has (shares_of v.allocation q)) is x.1))
 
   -- a resource is given back
-  pub release-made : (node need q : ℕ) (r : Running) → StandsFor (tree_at v.cleared b.recipe) (remains (tree_at v.cleared b.recipe) b.running) (Release node need)
-      → number_of v.cleared (need_at (tree_at v.cleared b.recipe) node need).resource ≡ Some q → MadeChart (Release node need) r
-      → IsNext v (move_of (tree_at v.cleared b.recipe) (View.batch_of v.cleared b) (Release node need))
-      → Becomes v (changed v i (record b { running = r }) (released q b.number node v.allocation)) (move_of (tree_at v.cleared b.recipe) (View.batch_of v.cleared b) (Release node need))
+  pub release-made : (node need q : ℕ) (r : Running) → StandsFor (tree_of v.cleared b) (remains (tree_of v.cleared b) b.running) (Release node need)
+      → number_of v.cleared (need_at (tree_of v.cleared b) node need).resource ≡ Some q → MadeChart (Release node need) r
+      → IsNext v (move_of (tree_of v.cleared b) (View.batch_of v.cleared b) (Release node need))
+      → Becomes v (changed v i (record b { running = r }) (released q b.number node v.allocation)) (move_of (tree_of v.cleared b) (View.batch_of v.cleared b) (Release node need))
   release-made node need q r s e made is =
-      let name : Need = need_at (tree_at v.cleared b.recipe) node need in
-      let l : Moves.Move = move_of (tree_at v.cleared b.recipe) (View.batch_of v.cleared b) (Release node need) in
+      let name : Need = need_at (tree_of v.cleared b) node need in
+      let l : Moves.Move = move_of (tree_of v.cleared b) (View.batch_of v.cleared b) (Release node need) in
       let t : IsMove v i b (record b { running = r }) l = is-move (Release node need) r tt made is in
       record {
         kept = kept-after v k i b (record b { running = r }) l t (released q b.number node v.allocation) (λ name. lines name)
-            (shares-released v k.cell q name e b.number node (place_at (tree_at v.cleared b.recipe) node) (subst IsOnce (sym (k.tracked.shares q name.resource e)) ((safe v k).held name.resource).3) (same-claim node s.0))
+            (shares-released v k.cell q name e b.number node (place_at (tree_of v.cleared b) node) (subst IsOnce (sym (k.tracked.shares q name.resource e)) ((safe v k).held name.resource).3) (same-claim node s.0))
             (cell-released v k.cell q name e b.number node) k.once
             (room-released v i b (record b { running = r }) at refl k.room q b.number node (omega (arith, k.cell.shares, in-lists name.resource q e)));
         plant = plant-after v k i b (record b { running = r }) l t (released q b.number node v.allocation) (λ name. lines name);
@@ -326,21 +325,21 @@ module _ (v : EngineView) (k : IsKept v) (i : ℕ) (b : Batch) (at : slice_get v
           go (Some j) = refl
 
   -- the act first in line gets its need
-  pub grant-made : (node need q : ℕ) (r : Running) → AsksAt (tree_at v.cleared b.recipe) (remains (tree_at v.cleared b.recipe) b.running) node need
-      → number_of v.cleared (need_at (tree_at v.cleared b.recipe) node need).resource ≡ Some q → option_map batch_node (next_grant v.allocation q) ≡ Some (b.number, node)
-      → IsRunningOf (tree_at v.cleared b.recipe) r
-      → ((vs : List (Name × ℕ)) → remains (tree_at v.cleared b.recipe) r ≡ advance vs (changed_at (place_at (tree_at v.cleared b.recipe) node) Moves.granted (remains (tree_at v.cleared b.recipe) b.running)))
-      → IsNext v (Moves.grant b.number (place_at (tree_at v.cleared b.recipe) node) (need_at (tree_at v.cleared b.recipe) node need))
-      → Becomes v (changed v i (record b { running = r }) (granted q (next_grant v.allocation q) v.allocation)) (Moves.grant b.number (place_at (tree_at v.cleared b.recipe) node) (need_at (tree_at v.cleared b.recipe) node need))
+  pub grant-made : (node need q : ℕ) (r : Running) → AsksAt (tree_of v.cleared b) (remains (tree_of v.cleared b) b.running) node need
+      → number_of v.cleared (need_at (tree_of v.cleared b) node need).resource ≡ Some q → option_map batch_node (next_grant v.allocation q) ≡ Some (b.number, node)
+      → IsRunningOf (tree_of v.cleared b) r
+      → ((vs : List (Name × ℕ)) → remains (tree_of v.cleared b) r ≡ advance vs (changed_at (place_at (tree_of v.cleared b) node) Moves.granted (remains (tree_of v.cleared b) b.running)))
+      → IsNext v (Moves.grant b.number (place_at (tree_of v.cleared b) node) (need_at (tree_of v.cleared b) node need))
+      → Becomes v (changed v i (record b { running = r }) (granted q (next_grant v.allocation q) v.allocation)) (Moves.grant b.number (place_at (tree_of v.cleared b) node) (need_at (tree_of v.cleared b) node need))
   grant-made node need q r asks e first runs goes is =
-      let name : Need = need_at (tree_at v.cleared b.recipe) node need in
-      let a : BatchAct = (b.number, place_at (tree_at v.cleared b.recipe) node) in
+      let name : Need = need_at (tree_of v.cleared b) node need in
+      let a : BatchAct = (b.number, place_at (tree_of v.cleared b) node) in
       let f = first-of-line (capacity_of v.allocation q) (shares_of v.allocation q) (line_of v.allocation q) b.number node first in
       let x : Claim = f.0 in
       let in-line : Has (line_of v.allocation q) x = subst (λ (xs : List Claim). Has xs x) (sym f.2) (inl refl) in
       let here : share_of v.cleared v.batches x ≡ record { act = a; units = name.units } =
       ap₂ (λ (z : BatchAct) u. let w : Share = record { act = z; units = u } in w) (claim-act v k i b at x node f.4) (line-units v k i b at node need q asks e x in-line f.4) in
-      let l : Moves.Move = Moves.grant b.number (place_at (tree_at v.cleared b.recipe) node) name in
+      let l : Moves.Move = Moves.grant b.number (place_at (tree_of v.cleared b) node) name in
       let t : IsMove v i b (record b { running = r }) l = record {
         at = at;
         number = refl;

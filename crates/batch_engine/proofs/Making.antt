@@ -16,7 +16,7 @@ use Rattle.batch_verify.specs.ClearedSet.{ClearedSet}
 use Rattle.batch_arbiter.specs.Allocation.{Claim, without_first}
 use Rattle.batch_chart.specs.NodesOf.{place_at}
 use Rattle.batch_engine.specs.declared.batch.Batch.{Batch}
-use Rattle.batch_engine.specs.View.{EngineView, tree_at, batch_of, share_of, acts_of, place_in, names_of, number_of}
+use Rattle.batch_engine.specs.View.{EngineView, tree_at, batch_of, share_of, acts_of, place_in, names_of, number_of, tree_of}
 use Rattle.batch_engine.proofs.Batches.{chosen-true, chosen-false, later-number}
 use Rattle.batch_engine.proofs.Finding.{Has-get, named}
 
@@ -46,7 +46,7 @@ module _ (c : ClearedSet) (next : ℕ) (b' : Batch) where
       ap₂ (λ m r. let z : Place = elim (nat_eq m n) [ true ↦ place_at (tree_at c r) j | false ↦ place_in c bs n j ] in z)
       (p ∙ sym (ap (λ (z : Batch). z.number) f)) (q ∙ sym (ap (λ (z : Batch). z.recipe) f))
   place-same (x ∷ bs) (suc i) b e p q n j =
-      ap (λ r. let z : Place = elim (nat_eq x.number n) [ true ↦ place_at (tree_at c x.recipe) j | false ↦ r ] in z) (place-same bs i b e p q n j)
+      ap (λ r. let z : Place = elim (nat_eq x.number n) [ true ↦ place_at (tree_of c x) j | false ↦ r ] in z) (place-same bs i b e p q n j)
 
   pub acts-same : (bs : List Batch) (i : ℕ) (b : Batch) → slice_get bs i ≡ Some b → b'.number ≡ b.number → b'.recipe ≡ b.recipe → (xs : List Claim)
       → acts_of c (set bs i b') xs ≡ acts_of c bs xs

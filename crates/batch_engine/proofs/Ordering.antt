@@ -14,7 +14,7 @@ use Rattle.batch_matrix.specs.declared.state.State.TheVariants.{Idle}
 use Rattle.batch_recipe.specs.Conditions.{ValueList}
 use Rattle.batch_model.specs.Rest.{withdrawn, reach}
 use Rattle.batch_model.specs.Events.{with_outputs_zero}
-use Rattle.batch_engine.specs.View.{recipe_at}
+use Rattle.batch_engine.specs.View.{tree_of, recipe_made}
 use Rattle.batch_model.specs.Plant as Model
 use Rattle.batch_model.specs.Plant.{Share, Plant, batch_at, in_batch}
 use Rattle.batch_model.specs.Moves.{Move, next}
@@ -55,7 +55,7 @@ pub record Ordered (v : EngineView) (w : EngineView) (command : Command) (n : �
   pub reacts : Reacts (documents v.cleared) (plant_of v) (order command n) (ordered command n (target command)) (plant_of w)
 
 module _ (v : EngineView) (k : IsKept v) (i : ℕ) (command : Command) (n : ℕ) (o : IsOrder v i command n) (b' : Batch)
-    (number : b'.number ≡ o.batch.number) (recipe : b'.recipe ≡ o.batch.recipe) (runs : IsRunningOf (tree_at v.cleared o.batch.recipe) b'.running)
+    (number : b'.number ≡ o.batch.number) (recipe : b'.recipe ≡ o.batch.recipe) (runs : IsRunningOf (tree_of v.cleared o.batch) b'.running)
     (becomes : batch_of v.cleared b' ≡ commanded command (batch_of v.cleared o.batch)) (a' : Allocation)
     (lines : (name : Name) → line_in (record v { allocation = a' }) name ≡ lines_under command o.batch.number (line_in v) name) where
   line-same : (name : Name) → line_in (changed v i b' a') name ≡ line_in (record v { allocation = a' }) name
@@ -179,7 +179,7 @@ all-parted p (x ∷ xss) =
     )
 
 module _ (v : EngineView) (k : IsKept v) (i : ℕ) (command : Command) (n : ℕ) (o : IsOrder v i command n) (ends : EndsAsks command) (r : Running)
-    (runs : IsRunningOf (tree_at v.cleared o.batch.recipe) r) (rest : remains (tree_at v.cleared o.batch.recipe) r ≡ withdrawn (remains (tree_at v.cleared o.batch.recipe) o.batch.running)) where
+    (runs : IsRunningOf (tree_of v.cleared o.batch) r) (rest : remains (tree_of v.cleared o.batch) r ≡ withdrawn (remains (tree_of v.cleared o.batch) o.batch.running)) where
   abbrev less : Allocation
   less = Arbiter.withdrawn o.batch.number v.allocation
 
@@ -212,12 +212,12 @@ module _ (v : EngineView) (k : IsKept v) (i : ℕ) (command : Command) (n : ℕ)
       (omega (arith, k.room, needs-same v.cleared v.batches i o.batch b' o.at refl, all-parted (is_of_batch o.batch.number) v.allocation.lines))
 
 -- the procedure is reached anew
-pub reset-made : (v : EngineView) → IsKept v → (i n : ℕ) (o : IsOrder v i Reset n) (r : Running) (vs : ValueList) → vs ≡ with_outputs_zero (recipe_at v.cleared o.batch.recipe).outputs o.batch.values
-    → IsRunningOf (tree_at v.cleared o.batch.recipe) r → ((ws : ValueList) → remains (tree_at v.cleared o.batch.recipe) r ≡ reach ws (tree_at v.cleared o.batch.recipe))
+pub reset-made : (v : EngineView) → IsKept v → (i n : ℕ) (o : IsOrder v i Reset n) (r : Running) (vs : ValueList) → vs ≡ with_outputs_zero (recipe_made v.cleared o.batch).outputs o.batch.values
+    → IsRunningOf (tree_of v.cleared o.batch) r → ((ws : ValueList) → remains (tree_of v.cleared o.batch) r ≡ reach ws (tree_of v.cleared o.batch))
     → Ordered v (changed v i (record (o.batch) { values = vs; state = Idle; running = r }) v.allocation) Reset n
 reset-made v k i n o r vs e runs rest =
     let b' : Batch = record (o.batch) { values = vs; state = Idle; running = r } in
     order-made v k i Reset n o b' refl refl runs
     (ap₂ (λ ws z. let d : Model.Batch = record (batch_of v.cleared o.batch) { values = ws; state = Idle; rest = z } in d) e
-    (rest (with_outputs_zero (recipe_at v.cleared o.batch.recipe).outputs o.batch.values)))
+    (rest (with_outputs_zero (recipe_made v.cleared o.batch).outputs o.batch.values)))
     v.allocation (λ name. refl) (λ q. refl) k.cell k.once (room-quiet v i o.batch b' o.at refl k.room)

@@ -25,7 +25,7 @@ use Rattle.batch_verify.specs.ClearedSet.{ClearedSet}
 use Rattle.batch_arbiter.specs.Allocation.{Claim, Allocation, shares_of, line_of}
 use Rattle.batch_chart.specs.NodesOf.{needs_in, place_at}
 use Rattle.batch_engine.specs.declared.batch.Batch.{Batch}
-use Rattle.batch_engine.specs.View.{EngineView, documents, tree_at, batch_of, act_of, share_of, acts_of, place_in, number_of, line_in, line_at, plant_of}
+use Rattle.batch_engine.specs.View.{EngineView, documents, batch_of, act_of, share_of, acts_of, place_in, number_of, line_in, line_at, plant_of, tree_of}
 use Rattle.batch_engine.specs.Kept.{IsRunningBatch, HasRoom, IsKept, needs_of_all}
 use Rattle.batch_engine.proofs.Told.{told, safe, standing}
 use Rattle.batch_engine.proofs.Batches.{chosen-true, chosen-false, later-number, Has-batch_of}
@@ -94,7 +94,7 @@ module _ (c : ClearedSet) where
   place-less (x ∷ bs) zero b e n j d =
       let g : x ≡ b = cc in
       sym (chosen-false (nat_eq x.number n) _ _ (test-other x.number n (λ q. d (sym q ∙ ap (λ (z : Batch). z.number) g))))
-  place-less (x ∷ bs) (suc i) b e n j d = ap (λ r. let z : Place = elim (nat_eq x.number n) [ true ↦ place_at (tree_at c x.recipe) j | false ↦ r ] in z) (place-less bs i b e n j d)
+  place-less (x ∷ bs) (suc i) b e n j d = ap (λ r. let z : Place = elim (nat_eq x.number n) [ true ↦ place_at (tree_of c x) j | false ↦ r ] in z) (place-less bs i b e n j d)
 
   pub acts-less : (bs : List Batch) (i : ℕ) (b : Batch) → slice_get bs i ≡ Some b → (xs : List Claim) → ((x : Claim) → Has xs x → x.batch ≡ b.number → ⊥)
       → acts_of c (remove bs i) xs ≡ acts_of c bs xs
@@ -112,9 +112,9 @@ Each-remove P (x ∷ xs) (suc i) h = (h.0, Each-remove P xs i h.1)
 needs-less : (c : ClearedSet) (bs : List Batch) (i : ℕ) → needs_of_all c (remove bs i) ≤ needs_of_all c bs
 needs-less c [] zero = omega arith
 needs-less c [] (suc i) = omega arith
-needs-less c (x ∷ bs) zero = omega (arith, sum_by-cons (λ (z : Batch). needs_in (tree_at c z.recipe)) x bs)
+needs-less c (x ∷ bs) zero = omega (arith, sum_by-cons (λ (z : Batch). needs_in (tree_of c z)) x bs)
 needs-less c (x ∷ bs) (suc i) =
-    omega (arith, needs-less c bs i, sum_by-cons (λ (z : Batch). needs_in (tree_at c z.recipe)) x bs, sum_by-cons (λ (z : Batch). needs_in (tree_at c z.recipe)) x (remove bs i))
+    omega (arith, needs-less c bs i, sum_by-cons (λ (z : Batch). needs_in (tree_of c z)) x bs, sum_by-cons (λ (z : Batch). needs_in (tree_of c z)) x (remove bs i))
 
 module _ (v : EngineView) (k : IsKept v) (i : ℕ) (b : Batch) (at : slice_get v.batches i ≡ Some b) (idle : b.state ≡ Idle) where
   -- an idle batch has no facts

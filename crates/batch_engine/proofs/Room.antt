@@ -7,7 +7,7 @@ use Rattle.batch_verify.specs.ClearedSet.{ClearedSet}
 use Rattle.batch_arbiter.specs.Allocation.{Claim, Allocation, shares_of, line_of, asked, granted, released, without_first, is_claim}
 use Rattle.batch_chart.specs.NodesOf.{needs_in}
 use Rattle.batch_engine.specs.declared.batch.Batch.{Batch}
-use Rattle.batch_engine.specs.View.{EngineView, tree_at}
+use Rattle.batch_engine.specs.View.{EngineView, tree_at, tree_of}
 use Rattle.batch_engine.specs.Kept.{claims, needs_of_all, HasRoom}
 use Rattle.batch_engine.proofs.Stepping.{changed}
 
@@ -16,10 +16,10 @@ pub needs-same : (c : ClearedSet) (bs : List Batch) (i : ℕ) (b b' : Batch) →
 needs-same c [] i b b' e r = absurd cc
 needs-same c (x ∷ bs) zero b b' e r =
     let f : x ≡ b = cc in
-    let n : needs_in (tree_at c b'.recipe) ≡ needs_in (tree_at c x.recipe) = ap (λ (z : ℕ). needs_in (tree_at c z)) (r ∙ ap (λ (z : Batch). z.recipe) (sym f)) in
-    omega (arith, sum_by-cons (λ (z : Batch). needs_in (tree_at c z.recipe)) b' bs, sum_by-cons (λ (z : Batch). needs_in (tree_at c z.recipe)) x bs, n)
+    let n : needs_in (tree_of c b') ≡ needs_in (tree_of c x) = ap (λ (z : ℕ). needs_in (tree_at c z)) (r ∙ ap (λ (z : Batch). z.recipe) (sym f)) in
+    omega (arith, sum_by-cons (λ (z : Batch). needs_in (tree_of c z)) b' bs, sum_by-cons (λ (z : Batch). needs_in (tree_of c z)) x bs, n)
 needs-same c (x ∷ bs) (suc i) b b' e r =
-    omega (arith, sum_by-cons (λ (z : Batch). needs_in (tree_at c z.recipe)) x (set bs i b'), sum_by-cons (λ (z : Batch). needs_in (tree_at c z.recipe)) x bs, needs-same c bs i b b' e r)
+    omega (arith, sum_by-cons (λ (z : Batch). needs_in (tree_of c z)) x (set bs i b'), sum_by-cons (λ (z : Batch). needs_in (tree_of c z)) x bs, needs-same c bs i b b' e r)
 
 without-length : (p : Claim → Bool) (xs : List Claim) → length xs ≤ length (without_first p xs) + 1
 without-length p [] = omega arith

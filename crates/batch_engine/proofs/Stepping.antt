@@ -17,7 +17,7 @@ use Rattle.batch_arbiter.specs.Allocation.{Claim, Allocation, shares_of, line_of
 use Rattle.batch_chart.specs.Charts.{IsRunningOf}
 use Rattle.batch_engine.specs.declared.batch.Batch.{Batch}
 use Rattle.batch_engine.specs.View as View
-use Rattle.batch_engine.specs.View.{EngineView, documents, tree_at, act_of, acts_of, names_of, number_of, line_in, line_at, plant_of}
+use Rattle.batch_engine.specs.View.{EngineView, documents, tree_at, act_of, acts_of, names_of, number_of, line_in, line_at, plant_of, tree_of}
 use Rattle.batch_engine.specs.Kept.{IsTracked, IsOfCell, IsRunningBatch, HasRoom, IsKept}
 use Rattle.batch_engine.specs.Steps.{IsNext}
 use Rattle.batch_engine.proofs.Told.{standing}
@@ -37,7 +37,7 @@ pub record IsMove (v : EngineView) (i : ℕ) (b b' : Batch) (m : Move) : Type 0 
   pub at : slice_get v.batches i ≡ Some b
   pub number : b'.number ≡ b.number
   pub recipe : b'.recipe ≡ b.recipe
-  pub runs : IsRunningOf (tree_at v.cleared b.recipe) b'.running
+  pub runs : IsRunningOf (tree_of v.cleared b) b'.running
   pub is : IsNext v m
   pub of_batch : batch_of m ≡ b.number
   pub becomes : View.batch_of v.cleared b' ≡ batch_after m (View.batch_of v.cleared b)
@@ -79,6 +79,7 @@ module _ (v : EngineView) (k : IsKept v) (i : ℕ) (b b' : Batch) (m : Move) (t 
       record {
         cleared = k.cleared;
         charts = k.charts;
+        numbers = k.numbers;
         batches = Each-set (IsRunningBatch v.cleared) v.batches i b' k.batches
             (record {
               known = subst (λ r. r < length v.cleared.recipes) (sym t.recipe) (Rattle.batch_engine.proofs.Finding.batch-runs v k i b t.at).known;

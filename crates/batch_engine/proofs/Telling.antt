@@ -1,60 +1,148 @@
 -- What a line tells of a move.
-use Rattle.std.proofs.Common.{◌≡◌, ◌<◌, refl, sym, ◌∙◌, ap, ap₂, subst, ℕ, List, [], ◌∷◌, Bool, true, false, Option, Some, None, inl, inr, arith, map, nat_eq}
-use Rattle.std.specs.Prelude.{slice_get}
-use Rattle.std.proofs.lemmas.Option.{get_or_from_slice_get}
+use Rattle.std.proofs.Common.{◌≡◌, ◌<◌, refl, sym, ◌∙◌, ap, ap₂, subst, ℕ, zero, suc, List, [], ◌∷◌, Option, Some, None, arith, length, get_or}
+use Rattle.std.specs.Prelude.{slice_get, option_map, unwrap_or, map}
+use Rattle.std.specs.List.{zip}
+use Rattle.std.proofs.lemmas.Option.{get_or_from_slice_get, slice_get-get_or, slice_get-map}
+use Rattle.batch_matrix.specs.declared.command.Command.{Command}
 use Rattle.batch_recipe.specs.Conditions.{Name, ValueList}
+use Rattle.batch_recipe.specs.Nodes.{Node}
+use Rattle.batch_recipe.specs.Procedure.{procedure_nodes, procedure_tree}
+use Rattle.batch_recipe.specs.Tree.{Place, Phase, Tree, act, skip, seq, par, sel, loop, runs, follows}
 use Rattle.batch_recipe.specs.declared.need.Need.{Need}
-use Rattle.batch_model.specs.Lists.{Has}
+use Rattle.batch_recipe.specs.declared.recipe.Recipe.{Recipe}
 use Rattle.batch_model.specs.Moves as Moves
 use Rattle.batch_model.specs.Moves.{handed_values}
-use Rattle.batch_model.specs.Standing.{AreNumbered}
+use Rattle.batch_model.specs.Plant as Model
+use Rattle.batch_model.specs.Recipes.{recipe_of}
 use Rattle.batch_verify.specs.ClearedSet.{ClearedSet}
-use Rattle.batch_chart.specs.NodesOf.{place_at, phase_at, need_at}
+use Rattle.batch_chart.specs.NodesOf as Tree
+use Rattle.batch_chart.specs.NodesOf.{nodes_of, need_at, task_of}
 use Rattle.batch_chart.specs.Seen.{move_of}
-use Rattle.batch_chart.specs.declared.chart_move.Move.{Move}
 use Rattle.batch_chart.specs.declared.chart_move.Move.TheVariants as Chart
 use Rattle.batch_engine.specs.declared.batch.Batch.{Batch}
-use Rattle.batch_engine.specs.declared.line.Line.{Line}
 use Rattle.batch_engine.specs.declared.line.Line.TheVariants as Lines
-use Rattle.batch_engine.specs.View.{EngineView, tree_at, batch_of, number_of, names_of}
+use Rattle.batch_engine.specs.Names as Names
+use Rattle.batch_engine.specs.Surface as Surface
+use Rattle.batch_engine.specs.View.{EngineView, batch_of, number_of, names_of, recipe_at, tree_at, no_recipe, tree_of}
 use Rattle.batch_engine.specs.Kept.{IsKept}
-use Rattle.batch_engine.specs.Surface.{line_move, name_of, values_in}
-use Rattle.batch_engine.proofs.Told.{standing}
-use Rattle.batch_engine.proofs.Batches.{chosen-true, chosen-false, later-number}
-use Rattle.batch_engine.proofs.Finding.{has, named}
+use Rattle.batch_engine.proofs.Finding.{named, batch-runs}
 
-test-self : (n : ℕ) → nat_eq n n ≡ true
-test-self n = grind arith
+-- What is told of a node, and what its tree has there
 
-test-other : (m n : ℕ) → m < n → nat_eq m n ≡ false
-test-other m n l = grind arith
+place-seen : (ns : List Node) (k : ℕ) → Names.place_of (slice_get ns k) ≡ (get_or ns k (record { place = []; asked = []; here = skip })).place
+place-seen [] k = refl
+place-seen (n ∷ ns) zero = refl
+place-seen (n ∷ ns) (suc k) = place-seen ns k
 
-pub values-in : (c : ClearedSet) (next : ℕ) (bs : List Batch) (b : Batch) → AreNumbered next (map (batch_of c) bs) → Has bs b → values_in bs b.number ≡ b.values
-values-in c next [] b n h = absurd h
-values-in c next (x ∷ bs) b n (inl e) = chosen-true (nat_eq x.number b.number) _ _ (subst (λ (z : Batch). nat_eq x.number z.number ≡ true) e (test-self x.number)) ∙ ap (λ (z : Batch). z.values) e
-values-in c next (x ∷ bs) b n (inr h) = chosen-false (nat_eq x.number b.number) _ _ (test-other x.number b.number (later-number c next x bs b n h)) ∙ values-in c next bs b n.2 h
+name-here : (t : Tree) → Names.name_in t ≡ Tree.name_in (task_of t)
+name-here (act s (runs p)) = refl
+name-here (act s (follows name t)) = refl
+name-here skip = refl
+name-here (seq ts) = refl
+name-here (par ts) = refl
+name-here (sel cs) = refl
+name-here (loop n c t) = refl
 
-pub name-of : (c : ClearedSet) (name : Name) (q : ℕ) → number_of c name ≡ Some q → name_of c q ≡ name
-name-of c name q e = get_or_from_slice_get (names_of c) q name [] (named c name q e)
+name-seen : (ns : List Node) (k : ℕ) → Names.name_of (slice_get ns k) ≡ Tree.name_in (task_of (get_or ns k (record { place = []; asked = []; here = skip })).here)
+name-seen [] k = refl
+name-seen (n ∷ ns) zero = name-here n.here
+name-seen (n ∷ ns) (suc k) = name-seen ns k
+
+handed-here : (t : Tree) → Names.handed_in t ≡ (Tree.phase_in (task_of t)).handed
+handed-here (act s (runs p)) = refl
+handed-here (act s (follows name t)) = refl
+handed-here skip = refl
+handed-here (seq ts) = refl
+handed-here (par ts) = refl
+handed-here (sel cs) = refl
+handed-here (loop n c t) = refl
+
+handed-seen : (ns : List Node) (k : ℕ) → Names.handed_of (slice_get ns k) ≡ (Tree.phase_in (task_of (get_or ns k (record { place = []; asked = []; here = skip })).here)).handed
+handed-seen [] k = refl
+handed-seen (n ∷ ns) zero = handed-here n.here
+handed-seen (n ∷ ns) (suc k) = handed-seen ns k
+
+module _ (c : ClearedSet) (recipe : ℕ) (r : Recipe) (at : slice_get c.recipes recipe ≡ Some r) where
+  pub tree-is : tree_at c recipe ≡ procedure_tree r.acts
+  tree-is =
+      ap (λ (z : Model.Recipe). z.procedure)
+      (get_or_from_slice_get (map recipe_of c.recipes) recipe (recipe_of r) no_recipe (slice_get-map recipe_of c.recipes recipe ∙ ap (option_map recipe_of) at))
+
+  pub node-is : (k : ℕ) → Names.node_at c recipe k ≡ Names.node_of k r
+  node-is k = ap (λ (o : Option Recipe). let n : Option Node = elim o [ None ↦ None | Some z ↦ Names.node_of k z ] in n) at
+
+  node-seen : (k : ℕ) → Names.node_at c recipe k ≡ slice_get (nodes_of (tree_at c recipe)) k
+  node-seen k = node-is k ∙ sym (ap (λ t. slice_get (nodes_of t) k) tree-is)
+
+  pub place-told : (k : ℕ) → Names.place_at c recipe k ≡ Tree.place_at (tree_at c recipe) k
+  place-told k = ap Names.place_of (node-seen k) ∙ place-seen (nodes_of (tree_at c recipe)) k
+
+  pub name-told : (k : ℕ) → Names.name_at c recipe k ≡ Tree.name_at (tree_at c recipe) k
+  name-told k = ap Names.name_of (node-seen k) ∙ name-seen (nodes_of (tree_at c recipe)) k
+
+  pub handed-told : (k : ℕ) → Names.handed_at c recipe k ≡ (Tree.phase_at (tree_at c recipe) k).handed
+  handed-told k = ap Names.handed_of (node-seen k) ∙ handed-seen (nodes_of (tree_at c recipe)) k
+
+pub some-at : (rs : List Recipe) (k : ℕ) → k < length rs → (r : Recipe) × (slice_get rs k ≡ Some r)
+some-at [] k l = absurd (omega arith)
+some-at (r ∷ rs) zero l = (r, refl)
+some-at (r ∷ rs) (suc k) l = some-at rs k (omega arith)
+
+pub resource-told : (c : ClearedSet) (name : Name) (q : ℕ) → number_of c name ≡ Some q → Names.resource_name c q ≡ name
+resource-told c name q e = ap (λ (o : Option Name). unwrap_or o []) (named c name q e)
+
+-- Lines of the batch at an index
 
 module _ (v : EngineView) (k : IsKept v) (i : ℕ) (b : Batch) (at : slice_get v.batches i ≡ Some b) where
-  pub start-told : (n : ℕ) → line_move v (Lines.Start b.number b.recipe n) ≡ move_of (tree_at v.cleared b.recipe) (batch_of v.cleared b) (Chart.Start n)
-  start-told n =
-      ap (λ (vs : ValueList). Moves.start b.number (place_at (tree_at v.cleared b.recipe) n) (phase_at (tree_at v.cleared b.recipe) n) (handed_values vs (phase_at (tree_at v.cleared b.recipe) n).handed))
-      (values-in v.cleared v.next_number v.batches b (standing v k).numbers (has v k i b at))
+  pub recipe-here : (r : Recipe) × (slice_get v.cleared.recipes b.recipe ≡ Some r)
+  recipe-here = some-at v.cleared.recipes b.recipe (batch-runs v k i b at).known
 
-  need-told : (n need q u : ℕ) → number_of v.cleared (need_at (tree_at v.cleared b.recipe) n need).resource ≡ Some q → (need_at (tree_at v.cleared b.recipe) n need).units ≡ u
-      → (let r : Need = record { resource = name_of v.cleared q; units = u } in r) ≡ need_at (tree_at v.cleared b.recipe) n need
-  need-told n need q u e f = ap₂ (λ x y. let r : Need = record { resource = x; units = y } in r) (name-of v.cleared (need_at (tree_at v.cleared b.recipe) n need).resource q e) (sym f)
+  pub place-here : (n : ℕ) → Names.place_at v.cleared b.recipe n ≡ Tree.place_at (tree_of v.cleared b) n
+  place-here n = place-told v.cleared b.recipe recipe-here.0 recipe-here.1 n
 
-  pub ask-told : (n need q u : ℕ) → number_of v.cleared (need_at (tree_at v.cleared b.recipe) n need).resource ≡ Some q → (need_at (tree_at v.cleared b.recipe) n need).units ≡ u
-      → line_move v (Lines.Ask b.number b.recipe n q u) ≡ move_of (tree_at v.cleared b.recipe) (batch_of v.cleared b) (Chart.Ask n need)
-  ask-told n need q u e f = ap (Moves.ask b.number (place_at (tree_at v.cleared b.recipe) n)) (need-told n need q u e f)
+  phase-here : (n u f : ℕ) → Names.resource_name v.cleared u ≡ (Tree.phase_at (tree_of v.cleared b) n).unit → Names.phase_name v.cleared u f ≡ (Tree.phase_at (tree_of v.cleared b) n).name
+      → Names.phase_at v.cleared b.recipe n u f ≡ Tree.phase_at (tree_of v.cleared b) n
+  phase-here n u f unit name =
+      ap₂ (λ x y. let p : Phase = record { unit = x; name = y; handed = Names.handed_at v.cleared b.recipe n } in p) unit name
+      ∙ ap (λ (z : List Name). let p : Phase = record { unit = (Tree.phase_at (tree_of v.cleared b) n).unit; name = (Tree.phase_at (tree_of v.cleared b) n).name; handed = z } in p)
+      (handed-told v.cleared b.recipe recipe-here.0 recipe-here.1 n)
 
-  pub release-told : (n need q u : ℕ) → number_of v.cleared (need_at (tree_at v.cleared b.recipe) n need).resource ≡ Some q → (need_at (tree_at v.cleared b.recipe) n need).units ≡ u
-      → line_move v (Lines.Release b.number b.recipe n q u) ≡ move_of (tree_at v.cleared b.recipe) (batch_of v.cleared b) (Chart.Release n need)
-  release-told n need q u e f = ap (Moves.release b.number (place_at (tree_at v.cleared b.recipe) n)) (need-told n need q u e f)
+  need-here : (n need q u : ℕ) → number_of v.cleared (need_at (tree_of v.cleared b) n need).resource ≡ Some q → (need_at (tree_of v.cleared b) n need).units ≡ u
+      → Names.need_of v.cleared q u ≡ need_at (tree_of v.cleared b) n need
+  need-here n need q u e f =
+      ap₂ (λ x y. let r : Need = record { resource = x; units = y } in r) (resource-told v.cleared (need_at (tree_of v.cleared b) n need).resource q e) (sym f)
 
-  pub grant-told : (n need q u : ℕ) → number_of v.cleared (need_at (tree_at v.cleared b.recipe) n need).resource ≡ Some q → (need_at (tree_at v.cleared b.recipe) n need).units ≡ u
-      → line_move v (Lines.Grant b.number b.recipe n q u) ≡ Moves.grant b.number (place_at (tree_at v.cleared b.recipe) n) (need_at (tree_at v.cleared b.recipe) n need)
-  grant-told n need q u e f = ap (Moves.grant b.number (place_at (tree_at v.cleared b.recipe) n)) (need-told n need q u e f)
+  pub send-told : (n u f : ℕ) (command : Command)
+      → Names.resource_name v.cleared u ≡ (Tree.phase_at (tree_of v.cleared b) n).unit → Names.phase_name v.cleared u f ≡ (Tree.phase_at (tree_of v.cleared b) n).name
+      → Surface.move_of v.cleared (Lines.Send b.number b.recipe n u f command) ≡ move_of (tree_of v.cleared b) (batch_of v.cleared b) (Chart.Send n command)
+  send-told n u f command unit name = ap₂ (λ p x. Moves.send b.number p x command) (place-here n) (phase-here n u f unit name)
+
+  pub start-told : (n u f : ℕ) (values : List ℕ)
+      → Names.resource_name v.cleared u ≡ (Tree.phase_at (tree_of v.cleared b) n).unit → Names.phase_name v.cleared u f ≡ (Tree.phase_at (tree_of v.cleared b) n).name
+      → zip (Names.handed_of (Names.node_of n recipe-here.0)) values ≡ handed_values b.values (Names.handed_of (Names.node_of n recipe-here.0))
+      → Surface.move_of v.cleared (Lines.Start b.number b.recipe n u f values) ≡ move_of (tree_of v.cleared b) (batch_of v.cleared b) (Chart.Start n)
+  start-told n u f values unit name handed =
+      ap₂ (λ p x. Moves.start b.number p x (zip (Names.handed_at v.cleared b.recipe n) values)) (place-here n) (phase-here n u f unit name)
+      ∙ ap (Moves.start b.number (Tree.place_at (tree_of v.cleared b) n) (Tree.phase_at (tree_of v.cleared b) n))
+      (ap (λ (o : Option Node). zip (Names.handed_of o) values) (node-is v.cleared b.recipe recipe-here.0 recipe-here.1 n)
+      ∙ handed
+      ∙ ap (λ (o : Option Node). handed_values b.values (Names.handed_of o)) (sym (node-is v.cleared b.recipe recipe-here.0 recipe-here.1 n))
+      ∙ ap (handed_values b.values) (handed-told v.cleared b.recipe recipe-here.0 recipe-here.1 n))
+
+  pub begin-told : (n : ℕ) → Surface.move_of v.cleared (Lines.Begin b.number b.recipe n) ≡ move_of (tree_of v.cleared b) (batch_of v.cleared b) (Chart.Begin n)
+  begin-told n = ap₂ (Moves.begin b.number) (place-here n) (name-told v.cleared b.recipe recipe-here.0 recipe-here.1 n)
+
+  pub end-told : (n : ℕ) → Surface.move_of v.cleared (Lines.End b.number b.recipe n) ≡ move_of (tree_of v.cleared b) (batch_of v.cleared b) (Chart.End n)
+  end-told n = ap (Moves.end b.number) (place-here n)
+
+  pub ask-told : (n need q u : ℕ) → number_of v.cleared (need_at (tree_of v.cleared b) n need).resource ≡ Some q → (need_at (tree_of v.cleared b) n need).units ≡ u
+      → Surface.move_of v.cleared (Lines.Ask b.number b.recipe n q u) ≡ move_of (tree_of v.cleared b) (batch_of v.cleared b) (Chart.Ask n need)
+  ask-told n need q u e f = ap₂ (Moves.ask b.number) (place-here n) (need-here n need q u e f)
+
+  pub release-told : (n need q u : ℕ) → number_of v.cleared (need_at (tree_of v.cleared b) n need).resource ≡ Some q → (need_at (tree_of v.cleared b) n need).units ≡ u
+      → Surface.move_of v.cleared (Lines.Release b.number b.recipe n q u) ≡ move_of (tree_of v.cleared b) (batch_of v.cleared b) (Chart.Release n need)
+  release-told n need q u e f = ap₂ (Moves.release b.number) (place-here n) (need-here n need q u e f)
+
+  pub grant-told : (n need q u : ℕ) → number_of v.cleared (need_at (tree_of v.cleared b) n need).resource ≡ Some q → (need_at (tree_of v.cleared b) n need).units ≡ u
+      → Surface.move_of v.cleared (Lines.Grant b.number b.recipe n q u) ≡ Moves.grant b.number (Tree.place_at (tree_of v.cleared b) n) (need_at (tree_of v.cleared b) n need)
+  grant-told n need q u e f = ap₂ (Moves.grant b.number) (place-here n) (need-here n need q u e f)

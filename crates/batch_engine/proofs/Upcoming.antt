@@ -1,5 +1,5 @@
 -- The next step of the engine is the next move of the plant.
-use Rattle.std.proofs.Common.{◌≡◌, ◌<◌, ◌≤◌, refl, sym, ◌∙◌, ap, subst, ℕ, zero, suc, List, [], ◌∷◌, ◌++◌, Option, Some, None, inl, inr, arith, length, map, get_or}
+use Rattle.std.proofs.Common.{◌≡◌, ◌<◌, ◌≤◌, refl, sym, ◌∙◌, ap, subst, ℕ, zero, suc, List, [], ◌∷◌, ◌++◌, Option, Some, None, inl, inr, arith, length, map, get_or, Bool, true, false}
 use Rattle.std.specs.Prelude.{option_map, slice_get}
 use Rattle.std.proofs.lemmas.List.{map-append}
 use Rattle.std.proofs.lemmas.Option.{slice_get-get_or}
@@ -7,22 +7,22 @@ use Rattle.batch_recipe.specs.Tree.{Tree}
 use Rattle.batch_model.specs.Lists.{Has, Each}
 use Rattle.batch_model.specs.Plant as Model
 use Rattle.batch_model.specs.Moves as Moves
-use Rattle.batch_model.specs.Moves.{least, batch_moves, next}
+use Rattle.batch_model.specs.Moves.{least, batch_moves, next, is_earlier}
 use Rattle.batch_chart.specs.OwnMoves.{grants, own_next}
 use Rattle.batch_chart.specs.Seen.{move_of}
 use Rattle.batch_chart.specs.declared.chart_move.Move.{Move}
 use Rattle.batch_engine.specs.declared.batch.Batch.{Batch}
 use Rattle.batch_engine.specs.declared.step.Step.{Step}
 use Rattle.batch_engine.specs.declared.step.Step.TheVariants.{Own, Grant}
-use Rattle.batch_engine.specs.View.{EngineView, documents, tree_at, batch_of, plant_of}
+use Rattle.batch_engine.specs.View.{EngineView, documents, batch_of, plant_of, tree_of}
 use Rattle.batch_engine.specs.Kept.{IsKept}
 use Rattle.batch_engine.specs.Steps.{IsOwnStep, IsGrantStep, IsStep, HasNoMove, IsLeastAt, IsNext, IsFirstGrant}
 use Rattle.batch_engine.proofs.Choosing.{next-first, next-none}
-use Rattle.batch_engine.proofs.Owed.{own_moves_come_first, own_moves_alone}
+use Rattle.batch_chart.proofs.Earliest.{own-first-elim}
 use Rattle.batch_engine.proofs.Told.{standing}
 
 pub step-map : (v : EngineView) (P Q : Moves.Move → Type 0) → ((m : Moves.Move) → P m → Q m) → (s : Step) → IsStep v P s → IsStep v Q s
-step-map v P Q f (Own i m) g = record { batch = g.batch; chart = g.chart; here = g.here; can = g.can; about = g.about; is = f (move_of (tree_at v.cleared g.batch.recipe) (batch_of v.cleared g.batch) m) g.is }
+step-map v P Q f (Own i m) g = record { batch = g.batch; chart = g.chart; here = g.here; can = g.can; about = g.about; is = f (move_of (tree_of v.cleared g.batch) (batch_of v.cleared g.batch) m) g.is }
 step-map v P Q f (Grant i node resource units) g =
     record {
       batch = g.batch;
@@ -76,12 +76,25 @@ module _ (v : EngineView) (k : IsKept v) where
       (all-at (λ b. batch_moves (documents v.cleared) (plant_of v) (batch_of v.cleared b) ≡ []) v.batches
       (λ j b e. none-at j b e (h j (Rattle.std.proofs.lemmas.Option.slice_get_within v.batches j b e)))))
 
+-- nothing is least in an empty list alone
+least-nothing : (ms : List Moves.Move) → least ms ≡ None → ms ≡ []
+least-nothing [] e = refl
+least-nothing (m ∷ ms) e = absurd (go (least ms) e)
+  where
+    some : (t : Bool) (l : Moves.Move) → elim t [ true ↦ Some l | false ↦ Some m ] ≡ None → ⊥
+    some true l f = cc
+    some false l f = cc
+
+    go : (o : Option Moves.Move) → elim o [ None ↦ Some m | Some l ↦ elim (is_earlier l m) [ true ↦ Some l | false ↦ Some m ] ] ≡ None → ⊥
+    go None f = cc
+    go (Some l) f = some (is_earlier l m) l f
+
 pub own-least : (v : EngineView) (i : ℕ) (b : Batch) (m : Moves.Move) → slice_get v.batches i ≡ Some b → own_next (batch_of v.cleared b) ≡ Some m → IsLeastAt v i m
 own-least v i b m at e =
     record {
       batch = b;
       at = at;
-      least_is = own_moves_come_first (documents v.cleared) (plant_of v) (batch_of v.cleared b)
+      least_is = own-first-elim (documents v.cleared) (plant_of v) (batch_of v.cleared b)
           ∙ ap (λ (o : Option Moves.Move). let r : Option Moves.Move = elim o [ Some l ↦ Some l | None ↦ least (grants (documents v.cleared) (plant_of v) (batch_of v.cleared b)) ] in r) e;
     }
 
@@ -91,10 +104,18 @@ grant-least v i b m at e f =
     record {
       batch = b;
       at = at;
-      least_is = own_moves_come_first (documents v.cleared) (plant_of v) (batch_of v.cleared b)
+      least_is = own-first-elim (documents v.cleared) (plant_of v) (batch_of v.cleared b)
           ∙ ap (λ (o : Option Moves.Move). let r : Option Moves.Move = elim o [ Some l ↦ Some l | None ↦ least (grants (documents v.cleared) (plant_of v) (batch_of v.cleared b)) ] in r) e ∙ f;
     }
 
 pub no-move : (v : EngineView) (i : ℕ) (b : Batch) → slice_get v.batches i ≡ Some b → own_next (batch_of v.cleared b) ≡ None
     → grants (documents v.cleared) (plant_of v) (batch_of v.cleared b) ≡ [] → HasNoMove v i
-no-move v i b at e f = record { batch = b; at = at; none = own_moves_alone (documents v.cleared) (plant_of v) (batch_of v.cleared b) e ∙ f }
+no-move v i b at e f =
+    record {
+      batch = b;
+      at = at;
+      none = least-nothing (batch_moves (documents v.cleared) (plant_of v) (batch_of v.cleared b))
+          (own-first-elim (documents v.cleared) (plant_of v) (batch_of v.cleared b)
+          ∙ ap (λ (o : Option Moves.Move). let r : Option Moves.Move = elim o [ Some l ↦ Some l | None ↦ least (grants (documents v.cleared) (plant_of v) (batch_of v.cleared b)) ] in r) e
+          ∙ ap least f);
+    }

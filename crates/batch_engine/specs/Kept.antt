@@ -19,7 +19,8 @@ use Rattle.batch_chart.specs.NodesOf.{needs_in}
 use Rattle.batch_chart.specs.Charts.{IsChartOf, IsRunningOf}
 use Rattle.batch_chart.specs.declared.compiled.Compiled.{Compiled}
 use Rattle.batch_engine.specs.declared.batch.Batch.{Batch}
-use Rattle.batch_engine.specs.View.{EngineView, documents, tree_at, act_of, acts_of, names_of, number_of, plant_of}
+use Rattle.batch_engine.specs.Numbered.{AreRecipesNumbered}
+use Rattle.batch_engine.specs.View.{EngineView, documents, tree_at, act_of, acts_of, names_of, number_of, plant_of, tree_of}
 
 -- there is a record that leads to the plant, and the shares are what it tells, each in the order in which it was granted
 pub record IsTracked (v : EngineView) : Type 0 where
@@ -47,7 +48,7 @@ pub record AreCompiled (c : ClearedSet) (charts : List Compiled) : Type 0 where
 -- the batch makes one of the recipes, and its chart runs
 pub record IsRunningBatch (c : ClearedSet) (b : Batch) : Type 0 where
   pub known : b.recipe < length c.recipes
-  pub runs : IsRunningOf (tree_at c b.recipe) b.running
+  pub runs : IsRunningOf (tree_of c b) b.running
 
 -- how many shares are held, and how many asks stand in line
 abbrev pub claims : Allocation → ℕ
@@ -55,7 +56,7 @@ claims a = sum_by (λ xs. length xs) a.shares + sum_by (λ xs. length xs) a.line
 
 -- how many needs the acts of all batches have
 abbrev pub needs_of_all : ClearedSet → List Batch → ℕ
-needs_of_all c bs = sum_by (λ b. needs_in (tree_at c b.recipe)) bs
+needs_of_all c bs = sum_by (λ b. needs_in (tree_of c b)) bs
 
 -- room is made for all needs of all batches
 abbrev pub HasRoom : EngineView → Type 0
@@ -64,6 +65,7 @@ HasRoom v = needs_of_all v.cleared v.batches ≤ v.allocation.room + claims v.al
 pub record IsKept (v : EngineView) : Type 0 where
   pub cleared : CanBeCleared (cell_of v.cleared.cell) (documents v.cleared)
   pub charts : AreCompiled v.cleared v.charts
+  pub numbers : AreRecipesNumbered v.cleared.cell v.cleared.recipes v.numbers
   pub batches : Each (IsRunningBatch v.cleared) v.batches
   pub cell : IsOfCell v.cleared v.allocation
   pub tracked : IsTracked v

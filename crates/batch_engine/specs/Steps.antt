@@ -4,17 +4,20 @@ use Rattle.batch_recipe.specs.Conditions.{Name}
 use Rattle.batch_model.specs.Moves as Model
 use Rattle.batch_model.specs.Moves.{next, after, least, batch_moves, grant}
 use Rattle.batch_arbiter.specs.Allocation.{next_grant, batch_node}
-use Rattle.batch_chart.specs.NodesOf.{place_at, step_at, need_at}
+use Rattle.batch_chart.specs.NodesOf.{place_at, step_at, need_at, phase_at}
 use Rattle.batch_recipe.specs.Nodes.{node_count}
-use Rattle.batch_chart.specs.Charts.{CanMake, IsWaiting, AsksAt, remains}
-use Rattle.batch_chart.specs.Seen.{move_of, StandsFor}
+use Rattle.batch_chart.specs.Charts.{CanMake, IsWaiting, AsksAt, remains, StandsFor}
+use Rattle.batch_chart.specs.Seen.{move_of}
 use Rattle.batch_chart.specs.declared.compiled.Compiled.{Compiled}
 use Rattle.batch_chart.specs.declared.chart_move.Move.{Move}
 use Rattle.batch_chart.specs.declared.chart_move.Move.TheVariants.{Send, Begin, Start, End}
 use Rattle.batch_engine.specs.declared.batch.Batch.{Batch}
+use Rattle.batch_engine.specs.declared.line.Line.{Line}
 use Rattle.batch_engine.specs.declared.step.Step.{Step}
 use Rattle.batch_engine.specs.declared.step.Step.TheVariants.{Own, Grant}
-use Rattle.batch_engine.specs.View.{EngineView, documents, tree_at, batch_of, names_of, number_of, plant_of}
+use Rattle.batch_engine.specs.Names.{resource_name, phase_name}
+use Rattle.batch_engine.specs.Surface as Surface
+use Rattle.batch_engine.specs.View.{EngineView, documents, batch_of, names_of, number_of, plant_of, tree_of}
 
 -- the batch at an index, and the compiled chart of its recipe
 pub record BatchAt (v : EngineView) (i : ℕ) (b : Batch) (chart : Compiled) : Type 0 where
@@ -27,8 +30,8 @@ pub record IsOwnStep (v : EngineView) (told : Model.Move → Type 0) (i : ℕ) (
   pub chart : Compiled
   pub here : BatchAt v i batch chart
   pub can : CanMake chart batch.running m
-  pub about : StandsFor (tree_at v.cleared batch.recipe) (remains (tree_at v.cleared batch.recipe) batch.running) m
-  pub is : told (move_of (tree_at v.cleared batch.recipe) (batch_of v.cleared batch) m)
+  pub about : StandsFor (tree_of v.cleared batch) (remains (tree_of v.cleared batch) batch.running) m
+  pub is : told (move_of (tree_of v.cleared batch) (batch_of v.cleared batch) m)
 
 -- the act at a node of the batch is given a resource, which the arbiter would give to it
 pub record IsGrantStep (v : EngineView) (told : Model.Move → Type 0) (i node resource units : ℕ) : Type 0 where
@@ -37,11 +40,11 @@ pub record IsGrantStep (v : EngineView) (told : Model.Move → Type 0) (i node r
   pub here : BatchAt v i batch chart
   pub waits : IsWaiting chart batch.running node
   pub need : ℕ
-  pub asks : AsksAt (tree_at v.cleared batch.recipe) (remains (tree_at v.cleared batch.recipe) batch.running) node need
-  pub number : number_of v.cleared (need_at (tree_at v.cleared batch.recipe) node need).resource ≡ Some resource
-  pub units_are : (need_at (tree_at v.cleared batch.recipe) node need).units ≡ units
+  pub asks : AsksAt (tree_of v.cleared batch) (remains (tree_of v.cleared batch) batch.running) node need
+  pub number : number_of v.cleared (need_at (tree_of v.cleared batch) node need).resource ≡ Some resource
+  pub units_are : (need_at (tree_of v.cleared batch) node need).units ≡ units
   pub first : option_map batch_node (next_grant v.allocation resource) ≡ Some (batch.number, node)
-  pub is : told (grant batch.number (place_at (tree_at v.cleared batch.recipe) node) (need_at (tree_at v.cleared batch.recipe) node need))
+  pub is : told (grant batch.number (place_at (tree_of v.cleared batch) node) (need_at (tree_of v.cleared batch) node need))
 
 abbrev pub IsStep : EngineView → (Model.Move → Type 0) → Step → Type 0
 IsStep v told (Own i m) = IsOwnStep v told i m
@@ -99,9 +102,23 @@ MakesNext old new = (m : Model.Move) → IsNext old m → Makes old new m
 -- the act at the node of the batch has this need
 abbrev pub IsNeedAt : EngineView → ℕ → ℕ → ℕ → Type 0
 IsNeedAt v i node need =
-    (b : Batch) × (slice_get v.batches i ≡ Some b) × (node < node_count (tree_at v.cleared b.recipe)) × (need < length (step_at (tree_at v.cleared b.recipe) node).needs)
+    (b : Batch) × (slice_get v.batches i ≡ Some b) × (node < node_count (tree_of v.cleared b)) × (need < length (step_at (tree_of v.cleared b) node).needs)
 
 -- this is the number of the resource that the act at the node of the batch needs, and how many units of it
 abbrev pub IsNumberAt : EngineView → ℕ → ℕ → ℕ → ℕ → ℕ → Type 0
 IsNumberAt v i node need resource units =
-    (b : Batch) → slice_get v.batches i ≡ Some b → (number_of v.cleared (need_at (tree_at v.cleared b.recipe) node need).resource ≡ Some resource) × ((need_at (tree_at v.cleared b.recipe) node need).units ≡ units)
+    (b : Batch) → slice_get v.batches i ≡ Some b → (number_of v.cleared (need_at (tree_of v.cleared b) node need).resource ≡ Some resource) × ((need_at (tree_of v.cleared b) node need).units ≡ units)
+
+-- the batch at an index has an act at this node
+abbrev pub IsNodeAt : EngineView → ℕ → ℕ → Type 0
+IsNodeAt v i node = (b : Batch) × (slice_get v.batches i ≡ Some b) × (node < node_count (tree_of v.cleared b))
+
+-- these are the numbers of the phase that the act at the node of the batch runs
+abbrev pub IsPhaseAt : EngineView → ℕ → ℕ → ℕ → ℕ → Type 0
+IsPhaseAt v i node unit phase =
+    (b : Batch) → slice_get v.batches i ≡ Some b
+    → (resource_name v.cleared unit ≡ (phase_at (tree_of v.cleared b) node).unit) × (phase_name v.cleared unit phase ≡ (phase_at (tree_of v.cleared b) node).name)
+
+-- the line tells of this move of the batch at an index
+abbrev pub Tells : EngineView → ℕ → Move → Line → Type 0
+Tells v i m line = (b : Batch) → slice_get v.batches i ≡ Some b → Surface.move_of v.cleared line ≡ move_of (tree_of v.cleared b) (batch_of v.cleared b) m

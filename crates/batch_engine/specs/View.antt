@@ -13,19 +13,21 @@ use Rattle.batch_chart.specs.NodesOf.{place_at}
 use Rattle.batch_chart.specs.Charts.{remains}
 use Rattle.batch_chart.specs.declared.compiled.Compiled.{Compiled}
 use Rattle.batch_engine.specs.declared.batch.Batch.{Batch}
+use Rattle.batch_engine.specs.declared.numbers.RecipeNumbers.{RecipeNumbers}
 
 pub record EngineView : Type 0 where
   pub cleared : ClearedSet
   -- of each recipe, by its number
   pub charts : List Compiled
+  pub numbers : List RecipeNumbers
   -- by rising number
   pub batches : List Batch
   pub next_number : ℕ
   pub allocation : Allocation
 
-abbrev pub seen : ClearedSet → List Compiled → List Batch → ℕ → Allocation → EngineView
-seen cleared charts batches next_number allocation =
-    record { cleared = cleared; charts = charts; batches = batches; next_number = next_number; allocation = allocation }
+abbrev pub seen : ClearedSet → List Compiled → List RecipeNumbers → List Batch → ℕ → Allocation → EngineView
+seen cleared charts numbers batches next_number allocation =
+    record { cleared = cleared; charts = charts; numbers = numbers; batches = batches; next_number = next_number; allocation = allocation }
 
 -- the definitions' documents
 abbrev pub documents : ClearedSet → Documents
@@ -41,21 +43,29 @@ recipe_at c k = slice_index_or (documents c).recipes k no_recipe
 abbrev pub tree_at : ClearedSet → ℕ → Tree
 tree_at c k = (recipe_at c k).procedure
 
+-- the recipe that a batch makes
+abbrev pub recipe_made : ClearedSet → Batch → Model.Recipe
+recipe_made c b = recipe_at c b.recipe
+
+-- the expanded tree of the recipe that a batch makes
+abbrev pub tree_of : ClearedSet → Batch → Tree
+tree_of c b = (recipe_made c b).procedure
+
 abbrev pub batch_of : ClearedSet → Batch → Model.Batch
 batch_of c b =
     record {
       number = b.number;
-      recipe = recipe_at c b.recipe;
+      recipe = recipe_made c b;
       size = b.size;
       values = b.values;
       state = b.state;
-      rest = remains (tree_at c b.recipe) b.running;
+      rest = remains (tree_of c b) b.running;
     }
 
 -- the place of a node of the batch with this number
 abbrev pub place_in : ClearedSet → List Batch → ℕ → ℕ → Place
 place_in c [] n k = []
-place_in c (b ∷ bs) n k = elim (nat_eq b.number n) [ true ↦ place_at (tree_at c b.recipe) k | false ↦ place_in c bs n k ]
+place_in c (b ∷ bs) n k = elim (nat_eq b.number n) [ true ↦ place_at (tree_of c b) k | false ↦ place_in c bs n k ]
 
 -- the act that a claim is for
 abbrev pub act_of : ClearedSet → List Batch → Claim → BatchAct

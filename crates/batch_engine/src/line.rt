@@ -1,19 +1,26 @@
-//! Record lines of moves.
+//! The moves that the engine makes by itself.
 use batch_matrix::{Command, State};
+use batch_recipe::MAX_VALUES;
 
-/// A move that the engine made by itself, as its record line tells it. Recipe, node and resource go by their numbers.
+/// A move, by numbers: of its batch, mostly of the recipe and the node of an act, of a unit and its phase, of a resource and how
+/// many units of its capacity.
 #[derive(Clone, Copy, Debug, PartialEq, Eq)]
 pub enum Line {
+    /// A phase is told to do something.
     Send {
         batch: u64,
         recipe: u16,
         node: u16,
+        unit: u16,
+        phase: u16,
         command: Command,
     },
+    /// The batch changes its state.
     State {
         batch: u64,
         state: State,
     },
+    /// An act gives back what it held for one of its needs.
     Release {
         batch: u64,
         recipe: u16,
@@ -21,21 +28,28 @@ pub enum Line {
         resource: u16,
         units: u32,
     },
+    /// An act that is no phase step begins.
     Begin {
         batch: u64,
         recipe: u16,
         node: u16,
     },
+    /// A phase starts. Its act names the values that it is handed; what stands after these is 0.
     Start {
         batch: u64,
         recipe: u16,
         node: u16,
+        unit: u16,
+        phase: u16,
+        values: [u64; MAX_VALUES],
     },
+    /// An act that is no phase step ends.
     End {
         batch: u64,
         recipe: u16,
         node: u16,
     },
+    /// An act asks for units of a resource.
     Ask {
         batch: u64,
         recipe: u16,
@@ -43,6 +57,7 @@ pub enum Line {
         resource: u16,
         units: u32,
     },
+    /// An act is given the units that it asked for.
     Grant {
         batch: u64,
         recipe: u16,
