@@ -50,7 +50,7 @@ pub sits-self : (ls : List Node) → Sits ls 0 ls
 sits-self ls = sits-from ls 0 ls (λ i x e. ap (slice_get ls) (let e : 0 + i ≡ i = omega arith in e) ∙ e)
 
 -- places rise with the numbers
-all-get : (P : Node → Type 0) (ls : List Node) (i : ℕ) (x : Node) → AllByRecursion P ls → slice_get ls i ≡ Some x → P x
+pub all-get : (P : Node → Type 0) (ls : List Node) (i : ℕ) (x : Node) → AllByRecursion P ls → slice_get ls i ≡ Some x → P x
 all-get P [] i x h e = absurd (cc)
 all-get P (y ∷ ls) zero x h e = let same : y ≡ x = cc in subst P same h.0
 all-get P (y ∷ ls) (suc i) x h e = all-get P ls i x h.1 e
@@ -64,14 +64,14 @@ order-at (z ∷ ls) h zero (suc j) x y lt e f =
 order-at (z ∷ ls) h (suc i) zero x y lt e f = absurd (omega arith)
 order-at (z ∷ ls) h (suc i) (suc j) x y lt e f = order-at ls h.1 i j x y (omega arith) e f
 
-not-same : (q p : Place) → q ≢ p → same_place q p ≡ false
+pub not-same : (q p : Place) → q ≢ p → same_place q p ≡ false
 not-same q p ne = go (same_place q p) refl
   where
     go : (b : Bool) → same_place q p ≡ b → b ≡ false
     go true e = absurd (ne (to_same_place q p e))
     go false e = refl
 
-before-differ : (q p : Place) → is_before q p ≡ true → q ≢ p
+pub before-differ : (q p : Place) → is_before q p ≡ true → q ≢ p
 before-differ q p h e =
     let no : is_before q p ≡ false = subst (λ z. is_before q z ≡ false) e (before-irrefl q) in
     absurd cc
@@ -179,7 +179,7 @@ module _ (ls : List Node) (ns : List chart.Node) (ds : List Detail) (xs : List S
   one x e (inr q) = absurd q
 
   -- an act's own rest, or one of those below it
-  has-entry : (n : ℕ) (s : Step) (w : Task) (r : Rest) (x : Stage) (below : List (ℕ × Rest)) (e : ℕ × Rest) → Has (entries n (act_as s w r x) below) e → (e ≡ (n, act_as s w r x)) ⊎ Has below e
+  pub has-entry : (n : ℕ) (s : Step) (w : Task) (r : Rest) (x : Stage) (below : List (ℕ × Rest)) (e : ℕ × Rest) → Has (entries n (act_as s w r x) below) e → (e ≡ (n, act_as s w r x)) ⊎ Has below e
   has-entry n s w r stage.Finished below e h = absurd h
   has-entry n s w r (stage.Ready k) below e h = inl (one (n, ready s w k) e h)
   has-entry n s w r (stage.Asking k) below e h = inl (one (n, asking s w k) e h)
@@ -191,15 +191,15 @@ module _ (ls : List Node) (ns : List chart.Node) (ds : List Detail) (xs : List S
   has-entry n s w r (stage.Freeing k) below e h = inl (has-freed n s k below e h)
   has-entry n s w r (stage.Turning k) below e h = absurd h
 
-  if-begun : (b : Bool) (l : List (ℕ × Rest)) (e : ℕ × Rest) → Has (elim b as (λ _. List (ℕ × Rest)) [ true ↦ l | false ↦ [] ]) e → Has l e
+  pub if-begun : (b : Bool) (l : List (ℕ × Rest)) (e : ℕ × Rest) → Has (elim b as (λ _. List (ℕ × Rest)) [ true ↦ l | false ↦ [] ]) e → Has l e
   if-begun true l e h = h
   if-begun false l e h = absurd h
 
-  either : (b : Bool) (l r : List (ℕ × Rest)) (e : ℕ × Rest) → Has (elim b as (λ _. List (ℕ × Rest)) [ true ↦ l | false ↦ r ]) e → Has l e ⊎ Has r e
+  pub either : (b : Bool) (l r : List (ℕ × Rest)) (e : ℕ × Rest) → Has (elim b as (λ _. List (ℕ × Rest)) [ true ↦ l | false ↦ r ]) e → Has l e ⊎ Has r e
   either true l r e h = inl h
   either false l r e h = inr h
 
-  if-turning : (o : Option ℕ) (l : List (ℕ × Rest)) (e : ℕ × Rest) → Has (entries_in o l) e → Has l e
+  pub if-turning : (o : Option ℕ) (l : List (ℕ × Rest)) (e : ℕ × Rest) → Has (entries_in o l) e → Has l e
   if-turning None l e h = absurd h
   if-turning (Some k) l e h = h
 

@@ -41,7 +41,7 @@ use Rattle.batch_chart.proofs.Joining.{known, first-has}
 
 -- Each act among the nodes carries the place of its node
 
-abbrev CarriesPlace : nodes.Node → Type 0
+abbrev pub CarriesPlace : nodes.Node → Type 0
 CarriesPlace n = (s : Step) (w : Task) → n.here ≡ act s w → s.place ≡ n.place
 
 each-append : (l r : List nodes.Node) → Each CarriesPlace l → Each CarriesPlace r → Each CarriesPlace (l ++ r)
@@ -49,7 +49,7 @@ each-append [] r g h = h
 each-append (x ∷ l) r g h = (g.0, each-append l r g.1 h)
 
 mutual
-  carries : (c : Tree) (q : Place) (above : List Name) → IsPlaced q c → Each CarriesPlace (nodes.nodes q above c)
+  pub carries : (c : Tree) (q : Place) (above : List Name) → IsPlaced q c → Each CarriesPlace (nodes.nodes q above c)
   carries (act s w) q above p = (λ u v e. (let f : act s w ≡ act u v = e in let g : s ≡ u = cc in ap (λ (z : Step). z.place) (sym g) ∙ p.0), carries_within w q (above ++ resources_of s.needs) p.1)
   carries skip q above p = (λ u v e. absurd (cc), tt)
   carries (seq ts) q above p = (λ u v e. absurd (cc), carries_each ts q above 0 p)

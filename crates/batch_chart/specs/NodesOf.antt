@@ -1,5 +1,5 @@
 -- The nodes of an expanded tree, by number.
-use Rattle.std.specs.Prelude.{ℕ, ◌+◌, List, [], ◌∷◌, length, slice_index_or}
+use Rattle.std.specs.Prelude.{ℕ, ◌+◌, List, [], ◌∷◌, length, Option, Some, None, slice_index_or}
 use Rattle.batch_recipe.specs.Conditions.{Name}
 use Rattle.batch_recipe.specs.declared.need.Need.{Need}
 use Rattle.batch_recipe.specs.Tree.{Place, Step, Phase, Task, runs, follows, Tree, act, skip, seq, par, sel, loop, Trees, no_trees, tree, Choices, otherwise, choice}
@@ -55,6 +55,15 @@ phase_at t k = phase_in (task_at t k)
 
 abbrev pub name_at : Tree → ℕ → Name
 name_at t k = name_in (task_at t k)
+
+-- the names of unit and phase of a phase step
+abbrev pub phase_names : Task → Option (Name × Name)
+phase_names (runs p) = Some (p.unit, p.name)
+phase_names (follows name c) = None
+
+abbrev pub phase_named : Tree → Option (Name × Name)
+phase_named (act s w) = phase_names w
+phase_named _ = None
 
 -- how many needs all acts of the tree have
 abbrev mutual

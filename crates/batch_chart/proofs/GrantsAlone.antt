@@ -1,0 +1,53 @@
+-- A batch that makes no move of its own can only be granted what it asks for.
+use Rattle.std.proofs.Common.{◌≡◌, List, [], ◌∷◌, Bool, true, false, Some, None, refl, sym, ◌∙◌, ap, ap₂}
+use Rattle.std.specs.Prelude.{Option}
+use Rattle.std.specs.List.{filter_map, cons_option}
+use Rattle.batch_model.specs.Plant.{Documents, Batch, Plant}
+use Rattle.batch_model.specs.Rest.{Rest, ready, asking, open_act, live, freeing, in_seq, in_par, in_loop, done, acts}
+use Rattle.batch_model.specs.Moves.{Move, act_move, state_move, batch_moves, is_earlier, least}
+use Rattle.batch_chart.specs.OwnMoves.{own_move, own_moves, own_next, grant_move, grants}
+
+least-empty : (ms : List Move) → least ms ≡ None → ms ≡ []
+least-empty [] e = refl
+least-empty (m ∷ ms) e = absurd (go (least ms) e)
+  where
+    two : (b : Bool) (l : Move) → elim b as (λ _. Option Move) [ true ↦ Some l | false ↦ Some m ] ≡ None → ⊥
+    two true l e = cc
+    two false l e = cc
+
+    go : (o : Option Move) → elim o as (λ _. Option Move) [ None ↦ Some m | Some l ↦ elim (is_earlier l m) as (λ _. Option Move) [ true ↦ Some l | false ↦ Some m ] ] ≡ None → ⊥
+    go None e = cc
+    go (Some l) e = two (is_earlier l m) l e
+
+module _ (c : Documents) (s : Plant) (b : Batch) where
+  abbrev Alone : List Rest → Type 0
+  Alone as' = filter_map (own_move b) as' ≡ [] → filter_map (act_move c s b) as' ≡ filter_map (grant_move c s b) as'
+
+  owns-nothing : (a : Rest) (as' : List Rest) → act_move c s b a ≡ own_move b a → grant_move c s b a ≡ None → Alone as' → Alone (a ∷ as')
+  owns-nothing a as' e f rec h =
+      ap (λ o. cons_option o (filter_map (act_move c s b) as')) e ∙ go (own_move b a) h
+      ∙ sym (ap (λ o. cons_option o (filter_map (grant_move c s b) as')) f)
+    where
+      go : (o : Option Move) → cons_option o (filter_map (own_move b) as') ≡ [] → cons_option o (filter_map (act_move c s b) as') ≡ filter_map (grant_move c s b) as'
+      go None q = rec q
+      go (Some m) q = absurd (cc)
+
+  alone : (as' : List Rest) → Alone as'
+  alone [] h = refl
+  alone (ready p w k ∷ as') h = owns-nothing (ready p w k) as' refl refl (alone as') h
+  alone (asking p w k ∷ as') h = ap (cons_option (grant_move c s b (asking p w k))) (alone as' h)
+  alone (open_act p r ∷ as') h = owns-nothing (open_act p r) as' refl refl (alone as') h
+  alone (live p x t ∷ as') h = owns-nothing (live p x t) as' refl refl (alone as') h
+  alone (freeing p k ∷ as') h = owns-nothing (freeing p k) as' refl refl (alone as') h
+  alone (in_seq r cs ∷ as') h = owns-nothing (in_seq r cs) as' refl refl (alone as') h
+  alone (in_par rs ∷ as') h = owns-nothing (in_par rs) as' refl refl (alone as') h
+  alone (in_loop n x t r ∷ as') h = owns-nothing (in_loop n x t r) as' refl refl (alone as') h
+  alone (done ∷ as') h = owns-nothing done as' refl refl (alone as') h
+
+  pub grants-alone : own_next b ≡ None → batch_moves c s b ≡ grants c s b
+  grants-alone h = go (state_move b) (least-empty (own_moves b) h)
+    where
+      go : (o : Option Move) → elim o as (λ _. List Move) [ None ↦ filter_map (own_move b) (acts b.rest) | Some m ↦ m ∷ filter_map (own_move b) (acts b.rest) ] ≡ []
+          → elim o as (λ _. List Move) [ None ↦ filter_map (act_move c s b) (acts b.rest) | Some m ↦ m ∷ filter_map (act_move c s b) (acts b.rest) ] ≡ grants c s b
+      go None q = alone (acts b.rest) q
+      go (Some m) q = absurd (cc)

@@ -1,0 +1,170 @@
+-- Each node of the tree stands at its number, and how many needs they have together.
+use Rattle.std.proofs.Common.{◌≡◌, inl, inr, ◌<◌, ◌≤◌, ℕ, zero, suc, ◌+◌, List, [], ◌∷◌, ◌++◌, length, Bool, true, false, Some, None, arith, refl, sym, ◌∙◌, subst, ap}
+use Rattle.std.specs.Prelude.{⊤, slice_get, slice_index_or, Option}
+use Rattle.std.proofs.lemmas.Bool.{cases_lt}
+use Rattle.batch_recipe.specs.Conditions.{Name}
+use Rattle.batch_recipe.specs.Needs.{resources_of}
+use Rattle.batch_recipe.specs.Nodes as nodes
+use Rattle.batch_recipe.specs.Nodes.{node_count, count_of_each, count_of_choices, nodes_within, nodes_of_each, nodes_of_choices, child}
+use Rattle.batch_recipe.specs.Tree.{Place, Step, Phase, Task, runs, follows, Tree, act, skip, seq, par, sel, loop, Trees, no_trees, tree, Choices, otherwise, choice}
+use Rattle.batch_recipe.proofs.Order.{counted_nodes}
+use Rattle.batch_chart.specs.declared.node.Node.{Node}
+use Rattle.batch_chart.specs.declared.node.Kind.{Kind}
+use Rattle.batch_chart.specs.declared.node.Kind.TheVariants as kind
+use Rattle.batch_chart.specs.declared.node.Detail.{Detail}
+use Rattle.batch_chart.specs.Compiled.{kind_at, Stands, StandsAct, AreStanding, AreChoices, names_in}
+use Rattle.batch_chart.specs.Needs.{needs_of, needs_to}
+use Rattle.batch_chart.specs.NodesOf.{nodes_of, node_at, step_of, needs_in, needs_below, needs_of_each, needs_of_choices, phase_named}
+use Rattle.batch_chart.specs.Running.{IsLaid}
+use Rattle.batch_chart.proofs.Stepping.{node-got}
+
+abbrev no_entry : Node
+no_entry = record { kind = kind.Skip; end = 0 }
+
+abbrev no_node : nodes.Node
+no_node = record { place = []; asked = []; here = skip }
+
+past-end : {X : Type 0} (l : List X) (k : ℕ) (d : X) → length l ≤ k → slice_index_or l k d ≡ d
+past-end [] k d h = refl
+past-end (x ∷ l) zero d h = absurd (omega arith)
+past-end (x ∷ l) (suc k) d h = past-end l k d (omega arith)
+
+module _ (ns : List Node) (ds : List Detail) where
+  no-node : (t : Tree) → IsLaid ns ds t → (k : ℕ) → length ns ≤ k → length (nodes_of t) ≤ k
+  no-node t laid k le = omega (arith, le, laid.count, counted_nodes (0 ∷ []) [] t)
+
+  abbrev AllStand : ℕ → List nodes.Node → Type 0
+  AllStand n [] = ⊤
+  AllStand n (m ∷ l) = Stands ns ds n m.here × AllStand (n + 1) l
+
+  append : (n : ℕ) (l r : List nodes.Node) → AllStand n l → AllStand (n + length l) r → AllStand n (l ++ r)
+  append n [] r g h = (let e : n + 0 ≡ n = omega arith in subst (λ z. AllStand z r) e h)
+  append n (m ∷ l) r g h = (let e : n + length (m ∷ l) ≡ n + 1 + length l = omega arith in (g.0, append (n + 1) l r g.1 (subst (λ z. AllStand z r) e h)))
+
+  mutual
+    all-stand : (c : Tree) (n : ℕ) (q : Place) (above : List Name) → Stands ns ds n c → AllStand n (nodes.nodes q above c)
+    all-stand (act s w) n q above h = (h, below-stand s w n q (above ++ resources_of s.needs) h)
+    all-stand skip n q above h = (h, tt)
+    all-stand (seq ts) n q above h = (h, each-stand ts (n + 1) (n + node_count (seq ts)) q above 0 h.1)
+    all-stand (par ts) n q above h = (h, each-stand ts (n + 1) (n + node_count (par ts)) q above 0 h.1)
+    all-stand (sel ch) n q above h = (h, choices-stand ch h.0 (n + 1) (n + node_count (sel ch)) q above 0 h.2)
+    all-stand (loop i p body) n q above h = (h, all-stand body (n + 1) (child q 0) above h.3)
+
+    below-stand : (s : Step) (w : Task) (n : ℕ) (q : Place) (above : List Name) → StandsAct ns ds n s w → AllStand (n + 1) (nodes_within q above w)
+    below-stand s (runs p) n q above h = tt
+    below-stand s (follows name c) n q above h = all-stand c (n + 1) (child q 0) above h.1
+
+    each-stand : (ts : Trees) (n m : ℕ) (q : Place) (above : List Name) (i : ℕ) → AreStanding ns ds n m ts → AllStand n (nodes_of_each q above i ts)
+    each-stand no_trees n m q above i h = tt
+    each-stand (tree c ts) n m q above i h =
+        append n (nodes.nodes (child q i) above c) (nodes_of_each q above (i + 1) ts) (all-stand c n (child q i) above h.0)
+        (subst (λ z. AllStand (n + z) (nodes_of_each q above (i + 1) ts)) (sym (counted_nodes (child q i) above c)) (each-stand ts (n + node_count c) m q above (i + 1) h.1))
+
+    choices-stand : (ch : Choices) (d n m : ℕ) (q : Place) (above : List Name) (i : ℕ) → AreChoices ns ds d n m ch → AllStand n (nodes_of_choices q above i ch)
+    choices-stand (otherwise c) d n m q above i h = all-stand c n (child q i) above h.0
+    choices-stand (choice p c ch) d n m q above i h =
+        append n (nodes.nodes (child q i) above c) (nodes_of_choices q above (i + 1) ch) (all-stand c n (child q i) above h.1)
+        (subst (λ z. AllStand (n + z) (nodes_of_choices q above (i + 1) ch)) (sym (counted_nodes (child q i) above c)) (choices-stand ch (d + 1) (n + node_count c) m q above (i + 1) h.2))
+
+  got : (l : List nodes.Node) (n k : ℕ) (m : nodes.Node) → AllStand n l → slice_get l k ≡ Some m → Stands ns ds (n + k) m.here
+  got [] n k m g e = absurd (cc)
+  got (x ∷ l) n zero m g e = (let same : x ≡ m = cc in let z : n ≡ n + 0 = omega arith in subst (λ i. Stands ns ds i m.here) z (subst (λ (y : nodes.Node). Stands ns ds n y.here) same g.0))
+  got (x ∷ l) n (suc k) m g e = (let z : n + 1 + k ≡ n + suc k = omega arith in subst (λ i. Stands ns ds i m.here) z (got l (n + 1) k m g.1 e))
+
+  pub node-stands : (t : Tree) → IsLaid ns ds t → (k : ℕ) → k < length ns → Stands ns ds k (node_at t k).here
+  node-stands t laid k lt =
+      let z : 0 + k ≡ k = omega arith in
+      subst (λ i. Stands ns ds i (node_at t k).here) z (got (nodes_of t) 0 k (node_at t k) (all-stand t 0 (0 ∷ []) [] laid.stands) (node-got ns ds t laid k lt))
+
+  -- how many needs an act at a node has
+  needs-here : (k : ℕ) (c : Tree) → Stands ns ds k c → needs_of (kind_at ns k) ≡ length (step_of c).needs
+  needs-here k (act s (runs p)) h = ap needs_of h.1.1
+  needs-here k (act s (follows name c)) h = ap needs_of h.0.1
+  needs-here k skip h = ap needs_of h.1
+  needs-here k (seq ts) h = ap needs_of h.0.1
+  needs-here k (par ts) h = ap needs_of h.0.1
+  needs-here k (sel ch) h = ap needs_of h.1.1
+  needs-here k (loop i p body) h = ap needs_of h.1.1
+
+  pub needs-known : (t : Tree) → IsLaid ns ds t → (k : ℕ) → needs_of (kind_at ns k) ≡ length (step_of (node_at t k).here).needs
+  needs-known t laid k = elim (cases_lt k (length ns)) [
+    | inl lt ↦ needs-here k (node_at t k).here (node-stands t laid k lt)
+    | inr le ↦ ap (λ (z : Node). needs_of z.kind) (past-end ns k no_entry le) ∙ sym (ap (λ (z : nodes.Node). length (step_of z.here).needs) (past-end (nodes_of t) k no_node (no-node t laid k le)))
+  ]
+
+  -- which phase an act at a node runs
+  abbrev phase_kind : Kind → Option (Name × Name)
+  phase_kind (kind.Phase j i) = names_in (slice_get ds i)
+  phase_kind _ = None
+
+  phase-here : (k : ℕ) (c : Tree) → Stands ns ds k c → phase_kind (kind_at ns k) ≡ phase_named c
+  phase-here k (act s (runs p)) h = ap phase_kind h.1.1 ∙ ap names_in h.2
+  phase-here k (act s (follows name c)) h = ap phase_kind h.0.1
+  phase-here k skip h = ap phase_kind h.1
+  phase-here k (seq ts) h = ap phase_kind h.0.1
+  phase-here k (par ts) h = ap phase_kind h.0.1
+  phase-here k (sel ch) h = ap phase_kind h.1.1
+  phase-here k (loop n p body) h = ap phase_kind h.1.1
+
+  phase-known : (t : Tree) → IsLaid ns ds t → (k : ℕ) → phase_kind (kind_at ns k) ≡ phase_named (node_at t k).here
+  phase-known t laid k = elim (cases_lt k (length ns)) [
+    | inl lt ↦ phase-here k (node_at t k).here (node-stands t laid k lt)
+    | inr le ↦ ap (λ (z : Node). phase_kind z.kind) (past-end ns k no_entry le) ∙ sym (ap (λ (z : nodes.Node). phase_named z.here) (past-end (nodes_of t) k no_node (no-node t laid k le)))
+  ]
+
+  pub runs-phase : (t : Tree) → IsLaid ns ds t → (j i k : ℕ) (o : Option (Name × Name)) → kind_at ns k ≡ kind.Phase j i → o ≡ names_in (slice_get ds i) → o ≡ phase_named (node_at t k).here
+  runs-phase t laid j i k o e f = f ∙ sym (ap phase_kind e) ∙ phase-known t laid k
+
+  pub runs-none : (t : Tree) → IsLaid ns ds t → (k : ℕ) (κ : Kind) → κ ≡ kind_at ns k → ((j i : ℕ) → κ ≡ kind.Phase j i → ⊥) → None ≡ phase_named (node_at t k).here
+  runs-none t laid k κ e other = sym (none κ other) ∙ ap phase_kind e ∙ phase-known t laid k
+    where
+      none : (κ : Kind) → ((j i : ℕ) → κ ≡ kind.Phase j i → ⊥) → phase_kind κ ≡ None
+      none (kind.Phase j i) other = absurd (other j i refl)
+      none (kind.Act j) other = refl
+      none kind.Skip other = refl
+      none kind.Seq other = refl
+      none kind.Par other = refl
+      none (kind.Sel i) other = refl
+      none (kind.Loop j i) other = refl
+
+  -- the needs of all
+
+  pub needs-step : (n : ℕ) → needs_to ns (n + 1) ≡ needs_to ns n + needs_of (kind_at ns n)
+  needs-step n = let e : n + 1 ≡ suc n = omega arith in ap (needs_to ns) e
+
+  head : (n m v r : ℕ) → needs_of (kind_at ns n) ≡ v → needs_to ns m ≡ needs_to ns (n + 1) + r → needs_to ns m ≡ needs_to ns n + (v + r)
+  head n m v r k e = omega (arith, e, needs-step n, k)
+
+  above : (n m r : ℕ) → needs_of (kind_at ns n) ≡ 0 → needs_to ns m ≡ needs_to ns (n + 1) + r → needs_to ns m ≡ needs_to ns n + r
+  above n m r k e = omega (arith, e, needs-step n, k)
+
+  at-end : (i j : ℕ) → i ≡ j → needs_to ns i ≡ needs_to ns j
+  at-end i j e = ap (needs_to ns) e
+
+  mutual
+    sum-of : (c : Tree) (n : ℕ) → Stands ns ds n c → needs_to ns (n + node_count c) ≡ needs_to ns n + needs_in c
+    sum-of (act s (runs p)) n h = head n (n + (1 + 0)) (length s.needs) 0 (ap needs_of h.1.1) (omega (arith, at-end (n + (1 + 0)) (n + 1) (omega arith)))
+    sum-of (act s (follows name c)) n h =
+        head n (n + (1 + node_count c)) (length s.needs) (needs_in c) (ap needs_of h.0.1)
+        (at-end (n + (1 + node_count c)) (n + 1 + node_count c) (omega arith) ∙ sum-of c (n + 1) h.1)
+    sum-of skip n h = above n (n + 1) 0 (ap needs_of h.1) (omega arith)
+    sum-of (seq ts) n h = above n (n + node_count (seq ts)) (needs_of_each ts) (ap needs_of h.0.1) (sum-each ts (n + 1) (n + node_count (seq ts)) h.1)
+    sum-of (par ts) n h = above n (n + node_count (par ts)) (needs_of_each ts) (ap needs_of h.0.1) (sum-each ts (n + 1) (n + node_count (par ts)) h.1)
+    sum-of (sel ch) n h = above n (n + node_count (sel ch)) (needs_of_choices ch) (ap needs_of h.1.1) (sum-choices ch h.0 (n + 1) (n + node_count (sel ch)) h.2)
+    sum-of (loop i p body) n h =
+        above n (n + (1 + node_count body)) (needs_in body) (ap needs_of h.1.1)
+        (at-end (n + (1 + node_count body)) (n + 1 + node_count body) (omega arith) ∙ sum-of body (n + 1) h.3)
+
+    sum-each : (ts : Trees) (n m : ℕ) → AreStanding ns ds n m ts → needs_to ns m ≡ needs_to ns n + needs_of_each ts
+    sum-each no_trees n m h = omega (arith, at-end n m h)
+    sum-each (tree c ts) n m h = omega (arith, sum-of c n h.0, sum-each ts (n + node_count c) m h.1)
+
+    sum-choices : (ch : Choices) (d n m : ℕ) → AreChoices ns ds d n m ch → needs_to ns m ≡ needs_to ns n + needs_of_choices ch
+    sum-choices (otherwise c) d n m h = omega (arith, sum-of c n h.0, at-end (n + node_count c) m h.1)
+    sum-choices (choice p c ch) d n m h = omega (arith, sum-of c n h.1, sum-choices ch (d + 1) (n + node_count c) m h.2)
+
+  nothing-yet : needs_to ns 0 ≡ 0
+  nothing-yet = refl
+
+  pub all-needs : (t : Tree) → IsLaid ns ds t → needs_to ns (length ns) ≡ needs_in t
+  all-needs t laid = omega (arith, at-end (length ns) (0 + node_count t) (omega (arith, laid.count)), sum-of t 0 laid.stands, nothing-yet)

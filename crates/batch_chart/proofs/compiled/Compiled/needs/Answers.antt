@@ -1,0 +1,8 @@
+use Rattle.std.proofs.Common.{ap, ◌∙◌}
+use Rattle.std.specs.Prelude.{length}
+use Rattle.batch_chart.proofs.NodesStand.{all-needs}
+use Rattle.batch_chart.specs.Needs.{needs_to}
+use Rattle.batch_chart.proofs.compiled.Compiled.needs.Goals as goal
+
+pub returns : goal.returns
+returns c t laid = (let h = rw (c.deref.ensures.value) at c.needs_among.ensures in h) ∙ all-needs _ _ t laid

@@ -1,0 +1,9 @@
+use Rattle.std.proofs.Common.{sym}
+use Rattle.batch_chart.proofs.NodesStand.{runs-phase, runs-none}
+use Rattle.batch_chart.proofs.compiled.Compiled.phase_of.Goals as goal
+
+pub returns-in-Phase : goal.returns-in-Phase
+returns-in-Phase c t laid = runs-phase _ _ t laid _ _ _ _ (let h = rw (c.deref.ensures.value) at c.in-Phase.ensures in sym h) (let h = rw (c.deref-in-Phase.ensures.value) at c.phase_names.ensures in h)
+
+pub returns-in_default : goal.returns-in_default
+returns-in_default c t laid = runs-none _ _ t laid _ _ (let h = rw (c.deref.ensures.value) at c.kind_of.ensures in h) c.in_default.not-Phase

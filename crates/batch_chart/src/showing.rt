@@ -1,0 +1,104 @@
+//! The states that acts show.
+ghost use Rattle.std.specs.Prelude.{◌≡◌};
+ghost use Rattle.batch_chart.specs.Compiled.{IsCompiled, is_act_kind};
+ghost use Rattle.batch_chart.specs.Running.{SomeLives};
+ghost use Rattle.batch_chart.specs.Showing.{IsFirstShown, IsShown, IsStateAt};
+
+use crate::finding::first;
+use crate::next_moves::find;
+use crate::node::{Detail, Kind, Node};
+use crate::stage::Stage;
+use crate::wanted::Wanted;
+use batch_matrix::State;
+
+/// The states by which an open act shows its live phases, the gravest first.
+const GRAVEST: [State; 8] = [
+    State::Aborting,
+    State::Stopping,
+    State::Holding,
+    State::Restarting,
+    State::Pausing,
+    State::Held,
+    State::Paused,
+    State::Running,
+];
+
+/// The first of the states that a live phase of the chart at n has.
+fn first_shown(
+    nodes: &[Node],
+    details: &[Detail],
+    stages: &[Stage],
+    n: usize,
+    states: &[State],
+) -> Option<State>
+    requires { IsCompiled nodes.now details.now stages.now n }
+    ensures { IsFirstShown nodes.now details.now n stages.now states.now result }
+{
+    match states.split_first() {
+        None => None,
+        Some((state, later)) => {
+            if first(nodes, details, stages, Wanted::In(*state), n).is_some() {
+                Some(*state)
+            } else {
+                first_shown(nodes, details, stages, n, later)
+            }
+        }
+    }
+}
+
+/// The state that an open act above the chart at n shows, in a batch of this state.
+fn shown(nodes: &[Node], details: &[Detail], stages: &[Stage], n: usize, state: State) -> State
+    requires { IsCompiled nodes.now details.now stages.now n }
+    ensures { IsShown nodes.now details.now n stages.now state result }
+{
+    match first(nodes, details, stages, Wanted::Live, n) {
+        None => state,
+        Some(live) => match first_shown(nodes, details, stages, n, &GRAVEST) {
+            Some(gravest) => gravest,
+            None => match stages[live] {
+                Stage::Live(own) => own,
+                _ => state,
+            },
+        },
+    }
+}
+
+fn is_act(kind: Kind) -> bool
+    ensures { result ≡ is_act_kind kind }
+{
+    match kind {
+        Kind::Phase { .. } | Kind::Act { .. } => true,
+        Kind::Skip | Kind::Seq | Kind::Par | Kind::Sel { .. } | Kind::Loop { .. } => false,
+    }
+}
+
+/// The state that the act at the node shows, in a batch of this state.
+pub fn state_at(
+    nodes: &[Node],
+    details: &[Detail],
+    stages: &[Stage],
+    node: u16,
+    state: State,
+) -> Option<State>
+    requires { SomeLives nodes.now details.now stages.now }
+    ensures { IsStateAt nodes.now details.now stages.now node state result }
+{
+    let n = usize::from(node);
+    if n == 0 {
+        return Some(state);
+    }
+    if n >= nodes.len() {
+        return None;
+    }
+    if !is_act(nodes[n].kind) {
+        return None;
+    }
+    if find(nodes, details, stages, Wanted::At(n)).is_none() {
+        return Some(State::Idle);
+    }
+    match stages[n] {
+        Stage::Live(own) => Some(own),
+        Stage::Open => Some(shown(nodes, details, stages, n + 1, state)),
+        _ => Some(State::Idle),
+    }
+}
