@@ -79,15 +79,16 @@ or-true false b e f = e
 pub offering-unit : (units : List Name) (ms : List Module) (unit phase : Name) → list_all (has_declared_unit units) ms ≡ true
     → list_any (same_name phase) (unit_phases ms unit) ≡ true → list_any (same_name unit) units ≡ true
 offering-unit units [] unit phase d h = absurd cc
-offering-unit units (m ∷ ms) unit phase d h = go (belongs_to unit m) refl
+offering-unit units (m ∷ ms) unit phase d h = go (belongs_to unit m) refl (offering-unit units ms unit phase)
   where
     declared : (has_declared_unit units m ≡ true) × (list_all (has_declared_unit units) ms ≡ true)
     declared = both-true (has_declared_unit units m) (list_all (has_declared_unit units) ms) d
 
-    go : (b : Bool) → belongs_to unit m ≡ b → list_any (same_name unit) units ≡ true
-    go true e = own-unit units unit m.unit e declared.0
-    go false e =
-        offering-unit units ms unit phase declared.1
+    go : (b : Bool) → belongs_to unit m ≡ b
+        → (list_all (has_declared_unit units) ms ≡ true → list_any (same_name phase) (unit_phases ms unit) ≡ true → list_any (same_name unit) units ≡ true) → list_any (same_name unit) units ≡ true
+    go true e later = own-unit units unit m.unit e declared.0
+    go false e later =
+        later declared.1
         (subst (λ (ns : List Name). list_any (same_name phase) (ns ++ unit_phases ms unit) ≡ true)
         (ap (λ (t : Bool). let ns : List Name = if t then m.phases.items else [] in ns) e) h)
 
@@ -113,6 +114,12 @@ module _ (cell : Cell) (unit phase : Name) (offers : list_any (same_name phase) 
       ap (phase_among cell phase) unit-number.1
       ∙ ap (λ (o : Option ℕ). let x : PhaseNumber = record { unit = unit-number.0; phase = unwrap_or o 0 } in x) phase-among.1
 
+abbrev free_names : Cell → List Name
+free_names cell = map (λ (m : Module). m.name) (filter is_free cell.modules.items)
+
+abbrev shared_names : Cell → List Name
+shared_names cell = map (λ (s : Shared). s.name) cell.shared.items
+
 slice_get-front : (xs ys : List Name) (q : ℕ) (x : Name) → slice_get xs q ≡ Some x → slice_get (xs ++ ys) q ≡ Some x
 slice_get-front [] ys q x e = absurd cc
 slice_get-front (z ∷ xs) ys zero x e = e
@@ -131,7 +138,9 @@ phase-named c p offers =
     let u = unit-number c.cell p.unit p.name offers in
     let q = phase-among c.cell p.unit p.name offers in
     let at : slice_get (units_of c.cell) u.0 ≡ Some p.unit = name-at (units_of c.cell) p.unit u.0 u.1 in
-    let resource : Names.resource_name c u.0 ≡ p.unit = ap (λ (o : Option Name). unwrap_or o []) (slice_get-front (units_of c.cell) _ u.0 p.unit at) in
+    let resource : Names.resource_name c u.0 ≡ p.unit = 
+      ap (λ (o : Option Name). unwrap_or o [])
+      (slice_get-front (units_of c.cell ++ free_names c.cell) (shared_names c.cell) u.0 p.unit (slice_get-front (units_of c.cell) (free_names c.cell) u.0 p.unit at)) in
     let named : Names.phase_name c u.0 q.0 ≡ p.name =
       ap (λ (t : Bool). let z : Name = if t then unwrap_or (slice_get (phases_of c.cell u.0) q.0) [] else [] in z)
       (within-yes u.0 (length (units_of c.cell)) (slice_get_within (units_of c.cell) u.0 p.unit at))
@@ -233,6 +242,6 @@ few-resources cell =
       length-map cell.units.items (λ (u : Unit). u.name),
       length-map (filter is_free cell.modules.items) (λ (m : Module). m.name),
       length-map cell.shared.items (λ (s : Shared). s.name),
-      length-append (map (λ (u : Unit). u.name) cell.units.items) (map (λ (m : Module). m.name) (filter is_free cell.modules.items) ++ map (λ (s : Shared). s.name) cell.shared.items),
-      length-append (map (λ (m : Module). m.name) (filter is_free cell.modules.items)) (map (λ (s : Shared). s.name) cell.shared.items),
+      length-append (units_of cell ++ free_names cell) (shared_names cell),
+      length-append (units_of cell) (free_names cell),
     )

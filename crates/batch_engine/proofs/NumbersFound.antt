@@ -9,34 +9,58 @@ use Rattle.batch_recipe.specs.Conditions.{Name}
 use Rattle.batch_recipe.specs.Expanding.{asked_by, act_tree, named_tree}
 use Rattle.batch_recipe.specs.Nodes.{Node, node_count}
 use Rattle.batch_recipe.specs.Procedure.{procedure_nodes, procedure_tree, tables_from}
-use Rattle.batch_recipe.specs.Tree.{Place, Tree, act, skip, seq, par, sel, loop}
+use Rattle.batch_recipe.specs.Tree.{Place, Tree, act, skip, seq, par, sel, loop, runs, follows}
 use Rattle.batch_recipe.specs.declared.act.Act.{Act}
 use Rattle.batch_recipe.specs.declared.acts.Acts.{Acts}
 use Rattle.batch_recipe.specs.declared.need.Need.{Need}
 use Rattle.batch_recipe.specs.declared.recipe.Recipe.{Recipe}
 use Rattle.batch_recipe.proofs.NodeActs.{procedure_acts_are}
-use Rattle.batch_chart.specs.NodesOf.{node_at, step_of, step_at, need_at, no_need}
-use Rattle.batch_engine.specs.Numbered.{AreActsNumbered, IsActNumbered, IsOfAct, need_number}
+use Rattle.batch_chart.specs.NodesOf.{node_at, phase_named, step_of, step_at, need_at, no_need}
+use Rattle.batch_engine.specs.Numbered.{AreActsNumbered, IsActNumbered, IsOfAct, need_number, phase_in, phase_number}
 use Rattle.batch_engine.specs.View.{EngineView, tree_at}
 use Rattle.batch_engine.specs.Kept.{IsKept}
 use Rattle.batch_engine.specs.declared.numbers.ActNumbers.{ActNumbers}
 use Rattle.batch_engine.specs.declared.numbers.NeedNumber.{NeedNumber}
 use Rattle.batch_engine.specs.declared.numbers.RecipeNumbers.{RecipeNumbers}
+use Rattle.batch_engine.specs.declared.numbers.TheConstants.{NO_PHASE}
 use Rattle.batch_engine.specs.declared.batch.Batch.{Batch}
 use Rattle.batch_engine.proofs.Finding.{batch-runs}
 use Rattle.batch_engine.proofs.Telling.{some-at, tree-is}
 
--- one more need
-pub asked-more : (f : Need → NeedNumber) (u : Option Name) (xs : List Need) (i : ℕ) (x : Need) → i < length xs → get_or xs i x ≡ x
-    → map f (asked_by u (take (i + 1) xs)) ≡ map f (asked_by u (take i xs)) ++ f x ∷ []
-asked-more f u xs i x l e = go u
-  where
-    more : map f (take (i + 1) xs) ≡ map f (take i xs) ++ f x ∷ []
-    more = ap (map f) (take_more xs i x l ∙ ap (λ y. take i xs ++ y ∷ []) e) ∙ map-append f (take i xs) (x ∷ [])
+-- the unit's need, and those after it
+pub asked-all : (f : Need → NeedNumber) (u : Option Name) (xs : List Need) → map f (asked_by u []) ++ map f xs ≡ map f (asked_by u xs)
+asked-all f None xs = refl
+asked-all f (Some unit) xs = refl
 
-    go : (u : Option Name) → map f (asked_by u (take (i + 1) xs)) ≡ map f (asked_by u (take i xs)) ++ f x ∷ []
-    go None = more
-    go (Some unit) = ap (λ ys. f (record { resource = unit; units = 1 }) ∷ ys) more
+abbrev name_first : Option (Name × Name) → Name
+name_first None = []
+name_first (Some x) = x.0
+
+abbrev name_second : Option (Name × Name) → Name
+name_second None = []
+name_second (Some x) = x.1
+
+-- the phase that is named at a node, if one is
+pub named-task : (cell : Cell) (t : Tree) (unit phase : Name) → phase_named t ≡ Some (unit, phase) → phase_number cell unit phase ≡ phase_in cell t
+named-task cell (act s (runs p)) unit phase e =
+    let u : p.unit ≡ unit = ap name_first e in
+    let n : p.name ≡ phase = ap name_second e in
+    ap₂ (phase_number cell) (sym u) (sym n)
+named-task cell (act s (follows name t)) unit phase e = absurd cc
+named-task cell skip unit phase e = absurd cc
+named-task cell (seq ts) unit phase e = absurd cc
+named-task cell (par ts) unit phase e = absurd cc
+named-task cell (sel cs) unit phase e = absurd cc
+named-task cell (loop n c t) unit phase e = absurd cc
+
+pub unnamed-task : (cell : Cell) (t : Tree) → phase_named t ≡ None → NO_PHASE ≡ phase_in cell t
+unnamed-task cell (act s (runs p)) e = absurd cc
+unnamed-task cell (act s (follows name t)) e = refl
+unnamed-task cell skip e = refl
+unnamed-task cell (seq ts) e = refl
+unnamed-task cell (par ts) e = refl
+unnamed-task cell (sel cs) e = refl
+unnamed-task cell (loop n c t) e = refl
 
 -- The act at a node
 
@@ -83,3 +107,23 @@ need-among cell here x i d n h e l =
       sym e ∙ ap (λ xs. slice_get xs i) h.needs ∙ slice_get-map (need_number cell) (step_of here).needs i
       ∙ ap (option_map (need_number cell)) (slice_get-get_or (step_of here).needs i d l) in
     cc
+
+-- Tables that grow
+
+pub no-act-numbered : (cell : Cell) (t : Tree) (x : ActNumbers) → IsNoAct t → x.needs.items ≡ [] → x.phase ≡ NO_PHASE → IsActNumbered cell t x
+no-act-numbered cell (act s w) x h e f = absurd h
+no-act-numbered cell skip x h e f = record { needs = e; phase = f }
+no-act-numbered cell (seq ts) x h e f = record { needs = e; phase = f }
+no-act-numbered cell (par ts) x h e f = record { needs = e; phase = f }
+no-act-numbered cell (sel cs) x h e f = record { needs = e; phase = f }
+no-act-numbered cell (loop n c t) x h e f = record { needs = e; phase = f }
+
+pub act-numbered : (cell : Cell) (a : Act) (t : Tree) (x : ActNumbers) → IsOfAct a t → x.needs.items ≡ map (need_number cell) (asked_by a.unit a.needs.items) → x.phase ≡ phase_in cell t → IsActNumbered cell t x
+act-numbered cell a t x h e f = record { needs = e ∙ ap (λ (z : Tree). map (need_number cell) (step_of z).needs) (sym h.3); phase = f }
+
+pub pushed : {X : Type 0} (P : ℕ → X → Type 0) (xs : List X) (y : X) → ((k : ℕ) (x : X) → slice_get xs k ≡ Some x → P k x) → P (length xs) y
+    → (k : ℕ) (x : X) → slice_get (xs ++ y ∷ []) k ≡ Some x → P k x
+pushed P [] y h p zero x e = let same : y ≡ x = cc in subst (P 0) same p
+pushed P [] y h p (suc k) x e = absurd cc
+pushed P (z ∷ xs) y h p zero x e = h 0 x e
+pushed P (z ∷ xs) y h p (suc k) x e = pushed (λ k. P (suc k)) xs y (λ k. h (suc k)) p k x e

@@ -2,7 +2,7 @@
 use Rattle.std.proofs.Common.{◌≡◌, ◌<◌, refl, sym, ◌∙◌, ap, ap₂, subst, ℕ, zero, suc, List, [], ◌∷◌, Option, Some, None, arith, length, get_or}
 use Rattle.std.specs.Prelude.{slice_get, option_map, unwrap_or, map}
 use Rattle.std.specs.List.{zip}
-use Rattle.std.proofs.lemmas.Option.{get_or_from_slice_get, slice_get-get_or, slice_get-map}
+use Rattle.std.proofs.lemmas.Option.{get_or_from_slice_get, slice_get-get_or, slice_get-map, slice_get_read}
 use Rattle.batch_matrix.specs.declared.command.Command.{Command}
 use Rattle.batch_recipe.specs.Conditions.{Name, ValueList}
 use Rattle.batch_recipe.specs.Nodes.{Node}
@@ -68,6 +68,12 @@ module _ (c : ClearedSet) (recipe : ℕ) (r : Recipe) (at : slice_get c.recipes 
       ap (λ (z : Model.Recipe). z.procedure)
       (get_or_from_slice_get (map recipe_of c.recipes) recipe (recipe_of r) no_recipe (slice_get-map recipe_of c.recipes recipe ∙ ap (option_map recipe_of) at))
 
+  pub recipe-named : Names.recipe_name c recipe ≡ (recipe_at c recipe).name
+  recipe-named =
+      ap (λ (o : Option Recipe). unwrap_or (option_map Names.name_of_recipe o) []) at
+      ∙ sym (ap (λ (z : Model.Recipe). z.name)
+      (get_or_from_slice_get (map recipe_of c.recipes) recipe (recipe_of r) no_recipe (slice_get-map recipe_of c.recipes recipe ∙ ap (option_map recipe_of) at)))
+
   pub node-is : (k : ℕ) → Names.node_at c recipe k ≡ Names.node_of k r
   node-is k = ap (λ (o : Option Recipe). let n : Option Node = elim o [ None ↦ None | Some z ↦ Names.node_of k z ] in n) at
 
@@ -90,6 +96,9 @@ some-at (r ∷ rs) (suc k) l = some-at rs k (omega arith)
 
 pub resource-told : (c : ClearedSet) (name : Name) (q : ℕ) → number_of c name ≡ Some q → Names.resource_name c q ≡ name
 resource-told c name q e = ap (λ (o : Option Name). unwrap_or o []) (named c name q e)
+
+pub got-recipe : (rs xs : List Recipe) (j q : ℕ) (r : Recipe) → rs ≡ xs → j ≡ q → q < length xs → r ≡ get_or rs j r → slice_get xs q ≡ Some r
+got-recipe rs xs j q r e f l h = slice_get_read xs (length xs) q r refl l (h ∙ ap₂ (λ zs k. get_or zs k r) e f)
 
 -- Lines of the batch at an index
 
@@ -117,17 +126,17 @@ module _ (v : EngineView) (k : IsKept v) (i : ℕ) (b : Batch) (at : slice_get v
       → Surface.move_of v.cleared (Lines.Send b.number b.recipe n u f command) ≡ move_of (tree_of v.cleared b) (batch_of v.cleared b) (Chart.Send n command)
   send-told n u f command unit name = ap₂ (λ p x. Moves.send b.number p x command) (place-here n) (phase-here n u f unit name)
 
-  pub start-told : (n u f : ℕ) (values : List ℕ)
+  pub start-told : (r : Recipe) → slice_get v.cleared.recipes b.recipe ≡ Some r → (n u f : ℕ) (values : List ℕ)
       → Names.resource_name v.cleared u ≡ (Tree.phase_at (tree_of v.cleared b) n).unit → Names.phase_name v.cleared u f ≡ (Tree.phase_at (tree_of v.cleared b) n).name
-      → zip (Names.handed_of (Names.node_of n recipe-here.0)) values ≡ handed_values b.values (Names.handed_of (Names.node_of n recipe-here.0))
+      → zip (Names.handed_of (Names.node_of n r)) values ≡ handed_values b.values (Names.handed_of (Names.node_of n r))
       → Surface.move_of v.cleared (Lines.Start b.number b.recipe n u f values) ≡ move_of (tree_of v.cleared b) (batch_of v.cleared b) (Chart.Start n)
-  start-told n u f values unit name handed =
+  start-told r read n u f values unit name handed =
       ap₂ (λ p x. Moves.start b.number p x (zip (Names.handed_at v.cleared b.recipe n) values)) (place-here n) (phase-here n u f unit name)
       ∙ ap (Moves.start b.number (Tree.place_at (tree_of v.cleared b) n) (Tree.phase_at (tree_of v.cleared b) n))
-      (ap (λ (o : Option Node). zip (Names.handed_of o) values) (node-is v.cleared b.recipe recipe-here.0 recipe-here.1 n)
+      (ap (λ (o : Option Node). zip (Names.handed_of o) values) (node-is v.cleared b.recipe r read n)
       ∙ handed
-      ∙ ap (λ (o : Option Node). handed_values b.values (Names.handed_of o)) (sym (node-is v.cleared b.recipe recipe-here.0 recipe-here.1 n))
-      ∙ ap (handed_values b.values) (handed-told v.cleared b.recipe recipe-here.0 recipe-here.1 n))
+      ∙ ap (λ (o : Option Node). handed_values b.values (Names.handed_of o)) (sym (node-is v.cleared b.recipe r read n))
+      ∙ ap (handed_values b.values) (handed-told v.cleared b.recipe r read n))
 
   pub begin-told : (n : ℕ) → Surface.move_of v.cleared (Lines.Begin b.number b.recipe n) ≡ move_of (tree_of v.cleared b) (batch_of v.cleared b) (Chart.Begin n)
   begin-told n = ap₂ (Moves.begin b.number) (place-here n) (name-told v.cleared b.recipe recipe-here.0 recipe-here.1 n)

@@ -81,11 +81,11 @@ least-nothing : (ms : List Moves.Move) → least ms ≡ None → ms ≡ []
 least-nothing [] e = refl
 least-nothing (m ∷ ms) e = absurd (go (least ms) e)
   where
-    some : (t : Bool) (l : Moves.Move) → elim t [ true ↦ Some l | false ↦ Some m ] ≡ None → ⊥
+    some : (t : Bool) (l : Moves.Move) → ◌≡◌ {A = Option Moves.Move} (elim t [ true ↦ Some l | false ↦ Some m ]) None → ⊥
     some true l f = cc
     some false l f = cc
 
-    go : (o : Option Moves.Move) → elim o [ None ↦ Some m | Some l ↦ elim (is_earlier l m) [ true ↦ Some l | false ↦ Some m ] ] ≡ None → ⊥
+    go : (o : Option Moves.Move) → ◌≡◌ {A = Option Moves.Move} (elim o [ None ↦ Some m | Some l ↦ elim (is_earlier l m) [ true ↦ Some l | false ↦ Some m ] ]) None → ⊥
     go None f = cc
     go (Some l) f = some (is_earlier l m) l f
 

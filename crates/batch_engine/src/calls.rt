@@ -28,7 +28,8 @@ fn compile(alloc: Global, recipes: &[Recipe]) -> Result<Vec<Compiled>, AllocErro
 {
     let mut charts = Vec::new(alloc);
     for recipe in recipes {
-        charts.push(Compiled::new(alloc, recipe)?)?;
+        let chart = Compiled::new(alloc, recipe)?;
+        charts.push(chart)?;
     }
     Ok(charts)
 }

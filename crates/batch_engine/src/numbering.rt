@@ -1,5 +1,5 @@
 //! Looking up the numbers of what recipes name.
-ghost use Rattle.std.specs.Prelude.{◌≡◌, ◌<◌, [], IfOk, length, map};
+ghost use Rattle.std.specs.Prelude.{◌≡◌, ◌<◌, ◌++◌, [], IfOk, length, map};
 ghost use Rattle.batch_chart.specs.Charts.{IsChartOf};
 ghost use Rattle.batch_chart.specs.NodesOf.{node_at};
 ghost use Rattle.batch_recipe.specs.Expanding.{asked_by};
@@ -12,7 +12,7 @@ ghost use Rattle.batch_engine.specs.Numbered.{AreActsNumbered, AreRecipesNumbere
 use crate::numbers::{ActNumbers, NO_PHASE, NeedNumber, PhaseNumber, RecipeNumbers};
 use batch_cell::Cell;
 use batch_chart::Compiled;
-use batch_recipe::{Act, Recipe, act_at, node_count};
+use batch_recipe::{Act, Need, Recipe, act_at, node_count};
 use batch_text::Name;
 use std::alloc::{AllocError, Global};
 
@@ -44,15 +44,28 @@ fn number_unit(
     }
 }
 
+/// Adds what an act needs after its unit.
+fn number_each(
+    cell: &Cell,
+    numbers: Vec<NeedNumber>,
+    needs: &[Need],
+) -> Result<Vec<NeedNumber>, AllocError>
+    ensures { IfOk result (λ all. all.items ≡ numbers.items ++ map (need_number cell.now) needs.now) }
+{
+    let mut numbers = numbers;
+    for need in needs {
+        numbers.push(number_need(cell, &need.resource, need.units))?;
+    }
+    Ok(numbers)
+}
+
 /// All that an act asks for.
 fn number_needs(alloc: Global, cell: &Cell, act: &Act) -> Result<Vec<NeedNumber>, AllocError>
     ensures { IfOk result (λ numbers. numbers.items ≡ map (need_number cell.now) (asked_by act.now.unit act.now.needs.items)) }
 {
-    let mut numbers = number_unit(alloc, cell, &act.unit)?;
-    for need in &act.needs {
-        numbers.push(number_need(cell, &need.resource, need.units))?;
-    }
-    Ok(numbers)
+    let unit = number_unit(alloc, cell, &act.unit)?;
+    let needs = number_each(cell, unit, &act.needs)?;
+    Ok(needs)
 }
 
 /// A phase of a unit.
@@ -96,10 +109,9 @@ fn number_act(
             phase: NO_PHASE,
         });
     };
-    Ok(ActNumbers {
-        needs: number_needs(alloc, cell, act)?,
-        phase: number_task(cell, chart, node),
-    })
+    let needs = number_needs(alloc, cell, act)?;
+    let phase = number_task(cell, chart, node);
+    Ok(ActNumbers { needs, phase })
 }
 
 /// What all acts of a recipe need and run.
@@ -109,7 +121,8 @@ fn number_recipe(alloc: Global, cell: &Cell, recipe: &Recipe, chart: &Compiled) 
 {
     let mut acts = Vec::new(alloc);
     for node in 0..node_count(recipe) {
-        acts.push(number_act(alloc, cell, recipe, chart, node)?)?;
+        let act = number_act(alloc, cell, recipe, chart, node)?;
+        acts.push(act)?;
     }
     Ok(RecipeNumbers {
         acts,
@@ -130,7 +143,8 @@ pub fn number_recipes(
 {
     let mut numbers = Vec::new(alloc);
     for index in 0..recipes.len() {
-        numbers.push(number_recipe(alloc, cell, &recipes[index], &charts[index])?)?;
+        let recipe = number_recipe(alloc, cell, &recipes[index], &charts[index])?;
+        numbers.push(recipe)?;
     }
     Ok(numbers)
 }

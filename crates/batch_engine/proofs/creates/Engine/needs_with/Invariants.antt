@@ -1,9 +1,0 @@
-use Rattle.std.proofs.Common.{◌≡◌, ◌+◌, take}
-use Rattle.batch_chart.specs.NodesOf.{needs_in}
-use Rattle.batch_engine.specs.View.{tree_at}
-use Rattle.batch_engine.specs.Kept.{needs_of_all}
-use Rattle.batch_engine.proofs.creates.Engine.needs_with.Given as goal
-
--- the needs of the batches so far
-abbrev pub invariant-loop-batch : goal.invariant-loop-batch
-invariant-loop-batch l = l.needs ≡ needs_of_all l.self.cleared (take l.batch-index l.self.batches) + needs_in (tree_at l.self.cleared l.recipe)

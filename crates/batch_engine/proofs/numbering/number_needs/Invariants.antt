@@ -1,8 +1,0 @@
-use Rattle.std.proofs.Common.{◌≡◌, map, take}
-use Rattle.batch_recipe.specs.Expanding.{asked_by}
-use Rattle.batch_engine.specs.Numbered.{need_number}
-use Rattle.batch_engine.proofs.numbering.number_needs.Given as goal
-
--- the needs so far are numbered
-abbrev pub invariant-loop-need : goal.invariant-loop-need
-invariant-loop-need l = l.numbers.items ≡ map (need_number l.cell) (asked_by l.act.unit (take l.need-index l.act.needs.items))
