@@ -14,7 +14,8 @@ use Rattle.batch_model.specs.Lists.{Has}
 use Rattle.batch_model.specs.Rest.{reach}
 use Rattle.batch_model.specs.Plant.{Formula, size_out_of_range, value_out_of_range, scaled, Recipe, Documents, Batch, Share, Plant, batch_at, in_batch}
 use Rattle.batch_model.specs.Moves.{Move, next}
-use Rattle.batch_model.specs.Events.{Event, create, order, remove, report, ordered, removed, reported, refused, unknown_recipe, unknown_batch, command_not_accepted, no_live_phase, report_not_expected, bad_output, full, not_idle, moves_pending, Answer, is_full, new_batch, with_batch, creating, with_values, with_outputs_zero, stopped, commanded, lines_under, ordering, without_batch, removing, LivePhase, live_phase, are_outputs, phase_after, batch_state_after, batch_reported, reporting, judged, react}
+use Rattle.batch_recipe.specs.Values.{with_values, with_outputs_zero, are_outputs}
+use Rattle.batch_model.specs.Events.{Event, create, order, remove, report, ordered, removed, reported, refused, unknown_recipe, unknown_batch, command_not_accepted, no_live_phase, report_not_expected, bad_output, full, not_idle, moves_pending, Answer, is_full, new_batch, with_batch, creating, stopped, commanded, lines_under, ordering, without_batch, removing, LivePhase, live_phase, phase_after, batch_state_after, batch_reported, reporting, judged, react}
 use Rattle.batch_model.specs.Standing.{IsStandingBatch, IsStanding}
 use Rattle.batch_model.proofs.Members.{Each-append, Each-filter, find-Has}
 use Rattle.batch_model.proofs.Advancing.{reach-advanced, withdrawn-advanced}

@@ -10,7 +10,8 @@ use Rattle.batch_matrix.specs.Matrix.{accepts, target, after_report}
 use Rattle.batch_recipe.specs.Conditions.{Name, ValueList, same_name}
 use Rattle.batch_model.specs.Plant.{Formula, size_out_of_range, value_out_of_range, scaled, Recipe, Documents, Batch, Plant, batch_at, in_batch}
 use Rattle.batch_model.specs.Moves.{Move, next}
-use Rattle.batch_model.specs.Events.{Event, create, order, remove, report, Reply, created, ordered, removed, reported, refused, Refusal, unknown_recipe, unknown_batch, command_not_accepted, no_live_phase, report_not_expected, bad_output, full, not_idle, moves_pending, no_memory, Answer, is_full, creating, commanded, lines_under, ordering, without_batch, removing, LivePhase, live_phase, are_outputs, batch_state_after, batch_reported, reporting, judged, react}
+use Rattle.batch_recipe.specs.Values.{are_outputs}
+use Rattle.batch_model.specs.Events.{Event, create, order, remove, report, Reply, created, ordered, removed, reported, refused, Refusal, unknown_recipe, unknown_batch, command_not_accepted, no_live_phase, report_not_expected, bad_output, full, not_idle, moves_pending, no_memory, Answer, is_full, creating, commanded, lines_under, ordering, without_batch, removing, LivePhase, live_phase, batch_state_after, batch_reported, reporting, judged, react}
 use Rattle.batch_model.specs.Runs.{IsCreated, Reacts}
 use Rattle.batch_model.specs.Laws.{IsCreate, HasCause}
 use Rattle.batch_model.specs.declared.limits.TheConstants.{LAST_NUMBER}

@@ -10,12 +10,12 @@ use Rattle.batch_matrix.specs.declared.report.PhaseEnd.{PhaseEnd}
 use Rattle.batch_matrix.specs.declared.report.PhaseEnd.TheVariants.{Ended, Now, Same}
 use Rattle.batch_matrix.specs.Matrix.{accepts, target, after_report}
 use Rattle.batch_recipe.specs.Conditions.{Name, ValueList, same_name}
+use Rattle.batch_recipe.specs.Values.{with_values, with_outputs_zero, are_outputs}
 use Rattle.batch_recipe.specs.Tree.{Place}
 use Rattle.batch_model.specs.Rest.{Rest, live, acts, reach, withdrawn}
 use Rattle.batch_model.specs.Plant.{Formula, size_out_of_range, value_out_of_range, scaled, Recipe, Documents, Batch, Share, Plant, batch_at, in_batch, in_act}
 use Rattle.batch_model.specs.Moves.{ended, next}
 use Rattle.batch_model.specs.declared.limits.TheConstants.{LAST_NUMBER}
-use Rattle.batch_recipe.specs.declared.scaling.TheConstants.{MAX_VALUE}
 
 pub data Event : Type 0 where
   create : Name → ℕ → Event
@@ -70,16 +70,6 @@ creating s r size (value_out_of_range name) = (refused (bad_value name), s)
 creating s r size (scaled vs) = (created s.next_number r.name size, with_batch s r size vs)
 
 -- Commands
-
-abbrev pub with_value : Name → ℕ → ValueList → ValueList
-with_value name n vs = map (λ v. elim (same_name v.0 name) [ true ↦ (name, n) | false ↦ v ]) vs
-
-abbrev pub with_values : ValueList → ValueList → ValueList
-with_values [] vs = vs
-with_values (o ∷ os) vs = with_values os (with_value o.0 o.1 vs)
-
-abbrev pub with_outputs_zero : List Name → ValueList → ValueList
-with_outputs_zero names vs = with_values (map (λ name. (name, 0)) names) vs
 
 -- the procedure is reached anew, and the outputs are 0
 abbrev pub reset : Batch → Batch
@@ -146,12 +136,6 @@ live_in b unit name (_ ∷ more) = live_in b unit name more
 abbrev pub live_phase : List Batch → Name → Name → Option LivePhase
 live_phase [] unit name = None
 live_phase (b ∷ bs) unit name = elim (live_in b unit name (acts b.rest)) [ Some l ↦ Some l | None ↦ live_phase bs unit name ]
-
--- each is an output of the recipe, named once, with a value in range
-abbrev pub are_outputs : List Name → ValueList → Bool
-are_outputs names [] = true
-are_outputs names (o ∷ os) =
-    list_any (same_name o.0) names && not (list_any (λ q. same_name q.0 o.0) os) && nat_le o.1 MAX_VALUE && are_outputs names os
 
 abbrev pub now : State → Rest → Rest
 now y (live p x t) = live p x y

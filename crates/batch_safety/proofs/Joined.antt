@@ -1,16 +1,12 @@
--- The laws for the documents of a cell and recipes.
+-- The promise for the documents of a cell and recipes.
 use Rattle.batch_model.specs.Documents.{cell_of, documents_of}
-use Rattle.batch_safety.specs.Premises.{AreDocuments}
-use Rattle.batch_safety.specs.Sets.{SetsAreDocuments, ClearedSetsRunSafely}
-use Rattle.batch_safety.proofs.Clearing.{cleared-down}
-use Rattle.batch_model.proofs.Exclusive.{unit_is_exclusive}
-use Rattle.batch_safety.proofs.Levels.{recipes_are_procedures}
+use Rattle.batch_laws.specs.Premises.{AreDocuments}
+use Rattle.batch_safety.specs.Sets.{ClearedSetsRunSafely}
+use Rattle.batch_laws.proofs.Clearing.{cleared-down}
+use Rattle.batch_laws.proofs.Sets.{sets_are_documents}
 use Rattle.batch_safety.proofs.Safe.{safe}
-use Rattle.batch_safety.proofs.Telling.{tells_the_plant}
+use Rattle.batch_laws.proofs.Telling.{tells_the_plant}
 use Rattle.batch_safety.proofs.Working.{nobody_waits_in_vain}
-
-pub sets_are_documents : SetsAreDocuments
-sets_are_documents c recipes = record { exclusive = unit_is_exclusive c; procedures = recipes_are_procedures recipes }
 
 pub cleared_sets_run_safely : ClearedSetsRunSafely
 cleared_sets_run_safely c recipes (rank, cleared) =

@@ -1,40 +1,22 @@
 -- Every record is safe after each of its lines.
-use Rattle.std.proofs.Common.{Some, ◌≡◌, refl, sym, ◌∙◌, ap, subst, subst₂, zero-le, ℕ, List, [], ◌∷◌, ◌++◌, append-nil, append_assoc}
+use Rattle.std.proofs.Common.{◌≡◌, sym, ◌∙◌, ap, subst, ℕ, List, [], ◌∷◌, ◌++◌, append-nil, append_assoc}
 use Rattle.batch_recipe.specs.Conditions.{ValueList}
 use Rattle.batch_recipe.specs.Tree.{Phase, Place}
 use Rattle.batch_model.specs.Plant.{Documents, Plant, opening}
-use Rattle.batch_model.specs.Moves.{Move, start, next, after}
+use Rattle.batch_model.specs.Moves.{start, after}
 use Rattle.batch_model.specs.Events.{Event, Reply}
-use Rattle.batch_model.specs.Placed.{IsPlaced}
-use Rattle.batch_model.specs.Standing.{HasPlacedTrees, IsStanding}
-use Rattle.batch_model.proofs.Members.{Each-map}
-use Rattle.batch_model.proofs.Falling.{next-possible}
-use Rattle.batch_model.proofs.Moving.{possible-stands}
+use Rattle.batch_model.specs.Standing.{IsStanding}
 use Rattle.batch_model.proofs.Led.{opening-stands, reacts-stands}
 use Rattle.batch_model.specs.Runs.{Out, move, reply, Leads}
 use Rattle.batch_model.specs.Records.{StartsIdle, IsSafeNow, IsSafe}
 use Rattle.batch_model.specs.Cleared.{Ranking}
-use Rattle.batch_safety.proofs.ClearedDown.{IsClearedDown, AreClearedDown}
-use Rattle.batch_safety.proofs.Invariant.{IsKept}
+use Rattle.batch_laws.proofs.ClearedDown.{AreClearedDown}
+use Rattle.batch_laws.proofs.Invariant.{IsKept}
 use Rattle.batch_safety.proofs.Safety.{safe-now}
-use Rattle.batch_safety.proofs.Starting.{starts-nothing}
-use Rattle.batch_safety.proofs.Moving.{move-step}
-use Rattle.batch_safety.proofs.Reports.{reply-step}
-
-pub kept-at_first : (d : Documents) (rank : Ranking) → IsKept d rank [] opening
-kept-at_first d rank =
-    record {
-      sound = λ b h. absurd h;
-      held = λ q. (refl, λ a h. h, λ a h. h, tt);
-      within = λ q. zero-le;
-      lines = λ q. refl;
-      once = λ q. tt;
-      asked = λ q a h. absurd h;
-      active = λ x h. absurd h;
-      listed = λ q a h. absurd h;
-      shown = λ a x h. absurd h;
-      states = λ b h. absurd h;
-    }
+use Rattle.batch_laws.proofs.Starting.{starts-nothing}
+use Rattle.batch_laws.proofs.Moving.{move-step}
+use Rattle.batch_laws.proofs.Reports.{reply-step}
+use Rattle.batch_laws.proofs.Along.{kept-at_first, moved-stands}
 
 no_line : (before : List Out) (o : Out) → ◌≡◌ {A = List Out} [] (before ++ o ∷ []) → ⊥
 no_line [] o e = cc
@@ -53,13 +35,7 @@ reply_no_start r n p x vs e = cc
 no_front : (o : Out) (xs : List Out) → ◌≡◌ {A = List Out} (o ∷ xs) [] → ⊥
 no_front o xs e = cc
 
-pub placed-trees : (d : Documents) (rank : Ranking) → AreClearedDown d rank → HasPlacedTrees d
-placed-trees d rank cleared = Each-map (IsClearedDown d rank) (λ r. IsPlaced (0 ∷ []) r.procedure) (λ r k. k.placed) d.recipes cleared.recipes
-
 module _ (d : Documents) (rank : Ranking) (cleared : AreClearedDown d rank) where
-  moved-stands : (s : Plant) (m : Move) → IsStanding d s → next d s ≡ Some m → IsStanding d (after s m)
-  moved-stands s m sd e = possible-stands d s m (placed-trees d rank cleared) sd (next-possible d s m e)
-
   safe-along : (told : List Out) (s : Plant) → IsStanding d s → IsKept d rank told s → StartsIdle d told → (es : List Event) (outs : List Out) (t : Plant) → Leads d s es outs t
       → (front more : List Out) → front ++ more ≡ outs → IsSafeNow d (told ++ front)
   safe-along told s sd k st es outs t l [] more e = subst (IsSafeNow d) (sym (append-nil told)) (safe-now d rank told s sd k st)
@@ -67,7 +43,7 @@ module _ (d : Documents) (rank : Ranking) (cleared : AreClearedDown d rank) wher
   safe-along told s sd k st (v ∷ es) [] t l (o ∷ front) more e = absurd l
   safe-along told s sd k st es (move m ∷ outs) t l (o ∷ front) more e =
       let q = same_first o (move m) (front ++ more) outs e in
-      let td = moved-stands s m sd l.0 in
+      let td = moved-stands d rank cleared s m sd l.0 in
       let step = move-step d rank told s sd k m l.0 td in
       subst (IsSafeNow d) (append_assoc told (move m ∷ []) front ∙ ap (λ z. told ++ z ∷ front) (sym q.0))
       (safe-along (told ++ move m ∷ []) (after s m) td step.0 step.1 es outs t l.1 front more q.1)
@@ -80,16 +56,3 @@ module _ (d : Documents) (rank : Ranking) (cleared : AreClearedDown d rank) wher
 
 pub safe : (d : Documents) (rank : Ranking) → AreClearedDown d rank → (es : List Event) (outs : List Out) (t : Plant) → Leads d opening es outs t → IsSafe d outs
 safe d rank cleared es outs t l front more e = safe-along d rank cleared [] opening (opening-stands d) (kept-at_first d rank) (starts-at_first d) es outs t l front more e
-
--- what is kept is kept along the whole record
-pub kept-along : (d : Documents) (rank : Ranking) → AreClearedDown d rank → (told : List Out) (s : Plant) → IsStanding d s → IsKept d rank told s → (es : List Event) (outs : List Out) (t : Plant) → Leads d s es outs t
-    → IsKept d rank (told ++ outs) t
-kept-along d rank cleared told s sd k [] [] t l = subst₂ (λ y z. IsKept d rank y z) (sym (append-nil told)) l k
-kept-along d rank cleared told s sd k (v ∷ es) [] t l = absurd l
-kept-along d rank cleared told s sd k es (move m ∷ outs) t l =
-    subst (λ z. IsKept d rank z t) (append_assoc told (move m ∷ []) outs)
-    (let td = moved-stands d rank cleared s m sd l.0 in kept-along d rank cleared (told ++ move m ∷ []) (after s m) td (move-step d rank told s sd k m l.0 td).0 es outs t l.1)
-kept-along d rank cleared told s sd k [] (reply r ∷ outs) t l = absurd l
-kept-along d rank cleared told s sd k (v ∷ es) (reply r ∷ outs) t l =
-    subst (λ z. IsKept d rank z t) (append_assoc told (reply r ∷ []) outs)
-    (kept-along d rank cleared (told ++ reply r ∷ []) l.0 (reacts-stands d s l.0 v r sd l.1) (reply-step d rank cleared told s sd k v r l.0 l.1) es outs t l.2)

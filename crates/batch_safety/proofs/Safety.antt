@@ -1,38 +1,23 @@
 -- What is kept makes a record safe.
-use Rattle.std.proofs.Common.{◌≡◌, ◌⊎◌, sym, ◌∙◌, ap, ap₂, subst, ℕ, suc, ◌≤◌, ◌<◌, arith, List, [], ◌∷◌, Option, Some, inl, inr}
+use Rattle.std.proofs.Common.{◌≡◌, ◌⊎◌, sym, ◌∙◌, ap, subst, ℕ, suc, ◌≤◌, ◌<◌, arith, List, [], ◌∷◌, Option, Some, inl, inr}
 use Rattle.batch_matrix.specs.declared.state.State.{State}
 use Rattle.batch_model.specs.Lists.{Has, Each}
 use Rattle.batch_recipe.specs.Tree.{Place}
 use Rattle.batch_model.specs.Plant.{Documents, Batch, BatchAct, Share, acts_in, Plant}
 use Rattle.batch_model.specs.Runs.{Out}
 use Rattle.batch_model.specs.Records.{holders_told, waiters_told, state_told, IsAtRest, scene_told, Waiting, IsWaiting, IsAtOrAbove, StandsBefore, WaitsForHolder, WaitsForOlder, PointsTo, PointAlong, HasCapacity, HoldsUnits, StartsIdle, HasNoCircle, RestsEmpty, IsSafeNow}
-use Rattle.batch_safety.proofs.Facts.{Fact, holding, awaiting, performing, Standing, facts, entry, entries_of, entries, need, share}
+use Rattle.batch_laws.proofs.Facts.{Fact, holding, awaiting, performing, facts, entries, need, share}
 use Rattle.batch_model.specs.Cleared.{Ranking}
-use Rattle.batch_model.proofs.Members.{Has-flat_map}
-use Rattle.batch_safety.proofs.Members.{Has-map, map-Has, flat_map-Has, Has-Each}
-use Rattle.batch_safety.proofs.Ranking.{rank-rises}
-use Rattle.batch_safety.proofs.Units.{unit-held}
-use Rattle.batch_safety.proofs.Entries.{IsOnce, Has-holders, holders-Has}
-use Rattle.batch_safety.proofs.Batches.{same-batch}
-use Rattle.batch_safety.proofs.Invariant.{IsSound, IsKept, at_rest-nothing}
+use Rattle.batch_laws.proofs.Members.{Has-map, map-Has, Has-Each}
+use Rattle.batch_laws.proofs.Ranking.{rank-rises}
+use Rattle.batch_laws.proofs.Units.{unit-held}
+use Rattle.batch_laws.proofs.Entries.{IsOnce, Has-holders, holders-Has}
+use Rattle.batch_laws.proofs.Batches.{entry-of, of-entry, same-batch}
+use Rattle.batch_laws.proofs.Invariant.{IsSound, IsKept, at_rest-nothing}
 use Rattle.batch_model.specs.Standing.{IsStandingBatch, IsStanding}
-use Rattle.batch_safety.proofs.Invariant.{standing-of, numbers-of}
+use Rattle.batch_laws.proofs.Invariant.{standing-of, numbers-of}
 use Rattle.batch_recipe.specs.Needs.{one_unit}
 use Rattle.batch_recipe.specs.Conditions.{Name}
-
--- an entry is a fact of a batch
-pub entry-of : (bs : List Batch) (a : BatchAct) (f : Fact) → Has (entries bs) (a, f) → (b : Batch) × Has bs b × (b.number ≡ a.0) × Has (facts b.rest) (a.1, f)
-entry-of bs a f h =
-    let k = Has-flat_map entries_of bs (a, f) h in
-    let m = Has-map (entry k.0.number) (facts k.0.rest) (a, f) k.2 in (
-      k.0,
-      k.1,
-      ap (λ z. z.0.0) m.2,
-      subst (Has (facts k.0.rest)) (ap₂ (λ x y. let z : Standing = (x, y) in z) (ap (λ z. z.0.1) m.2) (ap (λ z. z.1) m.2)) m.1,
-    )
-
-pub of-entry : (bs : List Batch) (b : Batch) (p : Place) (f : Fact) → Has bs b → Has (facts b.rest) (p, f) → Has (entries bs) ((b.number, p), f)
-of-entry bs b p f h k = flat_map-Has entries_of bs b ((b.number, p), f) h (map-Has (entry b.number) (facts b.rest) (p, f) k)
 
 -- Places in a line
 

@@ -1,23 +1,23 @@
 -- Where no move is possible: too little is free for the oldest ask, and chains are short.
-use Rattle.std.proofs.Common.{◌≡◌, ⊎_elim, refl, sym, ◌∙◌, ap, ap₂, subst, ℕ, suc, ◌+◌, nat_le, ◌≤◌, ◌<◌, arith, List, [], ◌∷◌, ◌++◌, Bool, true, false, not, ◌&&◌, filter, filter_map, take, slice_get, Option, Some, None, inl, inr, length, bytes_eq}
+use Rattle.std.proofs.Common.{◌≡◌, refl, sym, ◌∙◌, ap, ap₂, subst, ℕ, suc, ◌+◌, nat_le, ◌≤◌, ◌<◌, arith, List, [], ◌∷◌, Bool, true, false, not, ◌&&◌, filter, filter_map, slice_get, Option, Some, None, inl, inr, length, bytes_eq}
 use Rattle.std.specs.List.{cons_option}
 use Rattle.batch_model.specs.Lists.{Has}
 use Rattle.batch_recipe.specs.Conditions.{Name}
-use Rattle.batch_recipe.specs.Tree.{Place, Step, Task}
-use Rattle.batch_model.specs.Rest.{Rest, ready, asking, open_act, live, freeing, in_seq, in_par, in_loop, done, Rests, no_rests, rest, acts, acts_of_each}
+use Rattle.batch_recipe.specs.Tree.{Step, Task}
+use Rattle.batch_model.specs.Rest.{Rest, asking, acts}
 use Rattle.batch_model.specs.Plant.{Documents, Batch, BatchAct, Share, units_in, acts_in, Plant, is_same_act, holders}
 use Rattle.batch_model.specs.Moves.{Move, grant, act_move, state_move, batch_moves, possible, least, next, is_earlier, is_served, when}
 use Rattle.batch_model.specs.Runs.{Out}
 use Rattle.batch_model.specs.Records.{holders_told, scene_of, Link, IsLink, IsChain, StandsUnder}
-use Rattle.batch_safety.proofs.Facts.{awaiting, performing, held_at, awaited_at, facts, facts_of_each, need}
+use Rattle.batch_laws.proofs.Facts.{awaiting, need}
 use Rattle.batch_model.specs.Cleared.{Ranking}
-use Rattle.batch_model.proofs.Members.{Has-split, Has-left, Has-right}
-use Rattle.batch_safety.proofs.Members.{flat_map-Has, Has-map, map-Has}
-use Rattle.batch_safety.proofs.Ranking.{held-awaiting, awaited-awaiting, lone-awaiting}
-use Rattle.batch_safety.proofs.Entries.{act_self, name_self, name_same, filter-Has, length-filter_lt}
-use Rattle.batch_safety.proofs.Batches.{holders-entries}
-use Rattle.batch_safety.proofs.Invariant.{IsKept}
-use Rattle.batch_safety.proofs.Safety.{entry-of, holder-rises}
+use Rattle.batch_laws.proofs.Members.{flat_map-Has, Has-map, map-Has}
+use Rattle.batch_laws.proofs.Entries.{act_self, name_self, name_same, filter-Has, length-filter_lt}
+use Rattle.batch_laws.proofs.Batches.{holders-entries}
+use Rattle.batch_laws.proofs.Invariant.{IsKept}
+use Rattle.batch_laws.proofs.Batches.{entry-of}
+use Rattle.batch_laws.proofs.Asking.{awaiting-act}
+use Rattle.batch_safety.proofs.Safety.{holder-rises}
 use Rattle.batch_model.specs.Standing.{IsStanding}
 use Rattle.batch_recipe.specs.declared.need.Need.{Need}
 
@@ -58,46 +58,6 @@ no_act_move d s e b i a j m f =
         → Has (elim o [ None ↦ filter_map (act_move d s b) (acts b.rest) | Some l ↦ l ∷ filter_map (act_move d s b) (acts b.rest) ]) m
     go None h = h
     go (Some l) h = inr h
-
--- The act that asks
-
-abbrev pub AskingAct : List Rest → Place → Need → Type 0
-AskingAct as' q x = (p : Step) × (w : Task) × (n : ℕ) × Has as' (asking p w n) × (p.place ≡ q) × (slice_get p.needs n ≡ Some x)
-
-asking-left : (xs ys : List Rest) (q : Place) (x : Need) → AskingAct xs q x → AskingAct (xs ++ ys) q x
-asking-left xs ys q x h = (h.0, h.1, h.2, Has-left xs ys (asking h.0 h.1 h.2) h.3, h.4, h.5)
-
-asking-right : (xs ys : List Rest) (q : Place) (x : Need) → AskingAct ys q x → AskingAct (xs ++ ys) q x
-asking-right xs ys q x h = (h.0, h.1, h.2, Has-right xs ys (asking h.0 h.1 h.2) h.3, h.4, h.5)
-
-awaited-place : (p : Place) (o : Option Need) (q : Place) (x : Need) → Has (awaited_at p o) (q, awaiting x) → p ≡ q
-awaited-place p None q x h = absurd h
-awaited-place p (Some r) q x (inl e) = ap (λ z. z.0) e
-awaited-place p (Some r) q x (inr h) = absurd h
-
-mutual
-  pub awaiting-act : (r : Rest) (q : Place) (x : Need) → Has (facts r) (q, awaiting x) → AskingAct (acts r) q x
-  awaiting-act (ready s w k) q x h = absurd (held-awaiting s.place (take k s.needs) q x h)
-  awaiting-act (asking s w k) q x h =
-      ⊎_elim (λ m. absurd (held-awaiting s.place (take k s.needs) q x m))
-      (λ m. (s, w, k, inl refl, awaited-place s.place (slice_get s.needs k) q x m, awaited-awaiting s.place (slice_get s.needs k) q x m))
-      (Has-split (held_at s.place (take k s.needs)) (awaited_at s.place (slice_get s.needs k)) (q, awaiting x) h)
-  awaiting-act (open_act s r) q x h =
-      ⊎_elim (λ m. absurd (held-awaiting s.place s.needs q x m)) (λ m. let k = awaiting-act r q x m in (k.0, k.1, k.2, inr k.3, k.4, k.5))
-      (Has-split (held_at s.place s.needs) (facts r) (q, awaiting x) h)
-  awaiting-act (live s y t) q x h =
-      absurd (⊎_elim (held-awaiting s.place s.needs q x) (lone-awaiting s.place y q x) (Has-split (held_at s.place s.needs) ((s.place, performing y) ∷ []) (q, awaiting x) h))
-  awaiting-act (freeing s k) q x h = absurd (held-awaiting s.place (take k s.needs) q x h)
-  awaiting-act (in_seq r cs) q x h = awaiting-act r q x h
-  awaiting-act (in_par rs) q x h = awaiting-act_of_each rs q x h
-  awaiting-act (in_loop n c body r) q x h = awaiting-act r q x h
-  awaiting-act done q x h = absurd h
-
-  awaiting-act_of_each : (rs : Rests) (q : Place) (x : Need) → Has (facts_of_each rs) (q, awaiting x) → AskingAct (acts_of_each rs) q x
-  awaiting-act_of_each no_rests q x h = absurd h
-  awaiting-act_of_each (rest r rs) q x h =
-      ⊎_elim (λ m. asking-left (acts r) (acts_of_each rs) q x (awaiting-act r q x m)) (λ m. asking-right (acts r) (acts_of_each rs) q x (awaiting-act_of_each rs q x m))
-      (Has-split (facts r) (facts_of_each rs) (q, awaiting x) h)
 
 below : (m n : ℕ) → nat_le m n ≡ false → n < m
 below m n e = grind arith

@@ -12,30 +12,31 @@ use Rattle.batch_model.specs.Runs.{Out}
 use Rattle.batch_model.specs.Cleared.{Cell, is_procedure, IsClearedRecipe, IsCleared}
 use Rattle.batch_model.specs.Standing.{IsStandingBatch, IsStanding}
 use Rattle.batch_model.proofs.Led.{opening-stands, leads-stands}
-use Rattle.batch_safety.specs.Procedures.{IsProcedure}
+use Rattle.batch_laws.specs.Procedures.{IsProcedure}
 use Rattle.batch_safety.proofs.Awaiting.{among-Has, CanBeMet, awaited-known}
-use Rattle.batch_safety.proofs.Clearing.{cleared-down}
+use Rattle.batch_laws.proofs.Clearing.{cleared-down}
 use Rattle.batch_model.specs.Records.{scene_of, Waiting, IsWaiting, IsAtOrAbove, Link, IsLink, IsChain, StandsUnder}
 use Rattle.batch_model.specs.Settled.{IsAdvanced, AreAdvanced}
 use Rattle.batch_recipe.specs.Nodes.{child}
-use Rattle.batch_safety.proofs.Facts.{Fact, holding, awaiting, performing, Standing, held_at, awaited_at, facts, facts_of_each, entries, need, share}
+use Rattle.batch_laws.proofs.Facts.{Fact, holding, awaiting, performing, Standing, held_at, awaited_at, facts, facts_of_each, entries, need, share}
 use Rattle.batch_model.specs.Standing.{IsRestOf, IsRestBelow, IsBranch, AreBranches, IsChosen}
 use Rattle.batch_model.specs.Placed.{IsPlaced, IsPlacedBelow, ArePlaced, IsChoicePlaced}
 use Rattle.batch_model.specs.Cleared.{Ranking}
 use Rattle.batch_safety.specs.Settlement.{IsHalting, IsAtWork, NobodyWaitsInVain}
 use Rattle.batch_model.proofs.Members.{Has-split, Has-left, Has-right, Each-Has, Each-map}
-use Rattle.batch_safety.proofs.Placing.{acts-below, under}
-use Rattle.batch_safety.proofs.Framing.{at_or_above}
+use Rattle.batch_laws.proofs.Placing.{acts-below, under}
+use Rattle.batch_laws.proofs.Framing.{at_or_above}
+use Rattle.batch_laws.proofs.Asking.{asking-awaits}
 use Rattle.batch_safety.proofs.Bounding.{IsBounded, AreBounded, rest-bounded}
-use Rattle.batch_safety.proofs.Entries.{Has-holders}
-use Rattle.batch_safety.proofs.Batches.{holders-entries}
-use Rattle.batch_safety.proofs.Invariant.{IsFitting, IsSound, IsKept}
-use Rattle.batch_safety.proofs.Safety.{entry-of, of-entry}
-use Rattle.batch_safety.proofs.Safe.{kept-at_first, kept-along}
+use Rattle.batch_laws.proofs.Entries.{Has-holders}
+use Rattle.batch_laws.proofs.Batches.{holders-entries}
+use Rattle.batch_laws.proofs.Invariant.{IsFitting, IsSound, IsKept}
+use Rattle.batch_laws.proofs.Batches.{entry-of, of-entry}
+use Rattle.batch_laws.proofs.Along.{kept-at_first, kept-along}
 use Rattle.batch_safety.proofs.Settling.{no_act_move, held-by_others, short-chain}
-use Rattle.batch_safety.proofs.Invariant.{standing-of}
+use Rattle.batch_laws.proofs.Invariant.{standing-of}
 use Rattle.batch_recipe.specs.declared.need.Need.{Need}
-use Rattle.batch_safety.proofs.Members.{Has-map, map-Has}
+use Rattle.batch_laws.proofs.Members.{Has-map, map-Has}
 
 -- Acts below an open act
 
@@ -148,7 +149,7 @@ abbrev ActAt : List Rest → Place → Type 0
 ActAt as' q = (a : Rest) × Has as' a × (place_of a ≡ q)
 
 held-place : (p : Place) (names : List Need) (q : Place) (x : Fact) → Has (held_at p names) (q, x) → p ≡ q
-held-place p names q x h = let k = Rattle.batch_safety.proofs.Members.Has-map (λ r. let z : Standing = (p, holding r) in z) names (q, x) h in ap (λ z. z.0) k.2
+held-place p names q x h = let k = Rattle.batch_laws.proofs.Members.Has-map (λ r. let z : Standing = (p, holding r) in z) names (q, x) h in ap (λ z. z.0) k.2
 
 awaited-place : (p : Place) (o : Option Need) (q : Place) (x : Fact) → Has (awaited_at p o) (q, x) → p ≡ q
 awaited-place p None q x h = absurd h
@@ -185,33 +186,6 @@ mutual
       ⊎_elim (λ m. let k = act-of r q x m in (k.0, Has-left (acts r) (acts_of_each rs) k.0 k.1, k.2))
       (λ m. let k = act-of_each rs q x m in (k.0, Has-right (acts r) (acts_of_each rs) k.0 k.1, k.2))
       (Has-split (facts r) (facts_of_each rs) (q, x) h)
-
-mutual
-  pub asking-awaits : (r : Rest) (p : Step) (w : Task) (n : ℕ) (x : Need) → Has (acts r) (asking p w n) → slice_get p.needs n ≡ Some x → Has (facts r) (p.place, awaiting x)
-  asking-awaits (ready u v m) p w n x (inl e) f = absurd cc
-  asking-awaits (ready u v m) p w n x (inr e) f = absurd e
-  asking-awaits (asking u v m) p w n x (inl e) f =
-      subst (λ z. Has (facts z) (p.place, awaiting x)) (sym e)
-      (Has-right (held_at p.place (take n p.needs)) (awaited_at p.place (slice_get p.needs n)) (p.place, awaiting x)
-      (subst (λ z. Has (awaited_at p.place z) (p.place, awaiting x)) (sym f) (inl refl)))
-  asking-awaits (asking u v m) p w n x (inr e) f = absurd e
-  asking-awaits (open_act u r) p w n x (inl e) f = absurd cc
-  asking-awaits (open_act u r) p w n x (inr e) f = Has-right (held_at u.place u.needs) (facts r) (p.place, awaiting x) (asking-awaits r p w n x e f)
-  asking-awaits (live u y t) p w n x (inl e) f = absurd cc
-  asking-awaits (live u y t) p w n x (inr e) f = absurd e
-  asking-awaits (freeing u m) p w n x (inl e) f = absurd cc
-  asking-awaits (freeing u m) p w n x (inr e) f = absurd e
-  asking-awaits (in_seq r cs) p w n x e f = asking-awaits r p w n x e f
-  asking-awaits (in_par rs) p w n x e f = asking-awaits_each rs p w n x e f
-  asking-awaits (in_loop m c body r) p w n x e f = asking-awaits r p w n x e f
-  asking-awaits done p w n x e f = absurd e
-
-  asking-awaits_each : (rs : Rests) (p : Step) (w : Task) (n : ℕ) (x : Need) → Has (acts_of_each rs) (asking p w n) → slice_get p.needs n ≡ Some x → Has (facts_of_each rs) (p.place, awaiting x)
-  asking-awaits_each no_rests p w n x e f = absurd e
-  asking-awaits_each (rest r rs) p w n x e f =
-      ⊎_elim (λ m. Has-left (facts r) (facts_of_each rs) (p.place, awaiting x) (asking-awaits r p w n x m f))
-      (λ m. Has-right (facts r) (facts_of_each rs) (p.place, awaiting x) (asking-awaits_each rs p w n x m f))
-      (Has-split (acts r) (acts_of_each rs) (asking p w n) e)
 
 -- Acts of a running batch that always have a move
 

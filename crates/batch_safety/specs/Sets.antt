@@ -1,4 +1,4 @@
--- Sets of recipes for a cell, as they are read from documents, and what clearance promises of them.
+-- What clearance promises of the recipes of a cell, as they are read from documents.
 use Rattle.std.specs.Prelude.{◌≡◌, List, None}
 use Rattle.batch_cell.specs.declared.cell.Cell as equipment
 use Rattle.batch_recipe.specs.declared.recipe.Recipe as document
@@ -9,13 +9,8 @@ use Rattle.batch_model.specs.Runs.{Out, Leads}
 use Rattle.batch_model.specs.Records.{IsSafe}
 use Rattle.batch_model.specs.Cleared.{CanBeCleared}
 use Rattle.batch_model.specs.Documents.{cell_of, documents_of}
-use Rattle.batch_safety.specs.Premises.{AreDocuments}
 use Rattle.batch_safety.specs.Settlement.{WaitsForSomething}
-use Rattle.batch_safety.specs.Telling.{IsTold}
-
--- whatever the cell and the recipes, what the laws ask beside clearance holds of them
-abbrev pub SetsAreDocuments : Type 0
-SetsAreDocuments = (c : equipment.Cell) (recipes : List document.Recipe) → AreDocuments (cell_of c) (documents_of c recipes)
+use Rattle.batch_laws.specs.Telling.{IsTold}
 
 -- what is promised of every record that the recipes lead to in the cell
 pub record RunsSafely (c : equipment.Cell) (recipes : List document.Recipe) : Type 0 where

@@ -11,7 +11,7 @@ use Rattle.batch_model.specs.Events.{Event}
 use Rattle.batch_model.specs.Runs.{Out, Leads}
 use Rattle.batch_model.specs.Records.{scene_of, Waiting, IsWaiting, IsAtOrAbove, Link, IsChain, StandsUnder}
 use Rattle.batch_model.specs.Cleared.{Cell, Ranking, IsCleared}
-use Rattle.batch_safety.specs.Premises.{AreDocuments}
+use Rattle.batch_laws.specs.Premises.{AreDocuments}
 use Rattle.batch_recipe.specs.Conditions.{Name}
 
 -- the batch isn't simply running

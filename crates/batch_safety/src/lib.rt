@@ -3,14 +3,13 @@
 //! Nothing runs here. The functions are empty: their contracts are the laws.
 #![tactic(auto)]
 
-ghost use Rattle.batch_safety.specs.Example.{PremisesCanBeMet};
 ghost use Rattle.batch_safety.specs.Headline.{CanOnlyBeSafe};
-ghost use Rattle.batch_safety.specs.Procedures.{RecipesAreProcedures, TreesAreProcedures};
-ghost use Rattle.batch_safety.specs.Sets.{ClearedSetsRunSafely, RunsSafely, SetsAreDocuments};
+ghost use Rattle.batch_safety.specs.Sets.{ClearedSetsRunSafely, RunsSafely};
 ghost use Rattle.batch_safety.specs.Settlement.{NobodyWaitsInVain};
-ghost use Rattle.batch_safety.specs.Telling.{TellsThePlant};
-ghost use Rattle.batch_safety.specs.Ways.{WaysRise};
 
+pub use batch_laws::{
+    premises_can_be_met, records_tell_the_plant, sets_are_documents, trees_have_units, ways_rise,
+};
 use batch_verify::Cleared;
 
 /// Every record that a cleared set of recipes leads to is safe after each of its lines, whatever the events and however far
@@ -25,34 +24,7 @@ pub fn nobody_waits_in_vain()
     ensures { NobodyWaitsInVain }
 {}
 
-/// Such a record tells just who holds, asks for and runs what in the plant that it leads to, and the state of each batch.
-pub fn records_tell_the_plant()
-    ensures { TellsThePlant }
-{}
-
-/// Ranks rise along the path of each node, as the rules of clearance say, exactly where they rise on the way down.
-pub fn ways_rise()
-    ensures { WaysRise }
-{}
-
-/// The expanded tree of every recipe has the levels of a procedure: each phase runs on the unit of its unit procedure, which
-/// that asks for first.
-pub fn trees_have_units()
-    ensures trees { TreesAreProcedures }
-    ensures recipes { RecipesAreProcedures }
-{}
-
-/// There are documents that meet the premises of these laws.
-pub fn premises_can_be_met()
-    ensures { PremisesCanBeMet }
-{}
-
-/// What these laws ask of documents beside clearance holds of every cell and of all recipes, since their types keep it.
-pub fn sets_are_documents()
-    ensures { SetsAreDocuments }
-{}
-
-/// So recipes that clearance accepts for a cell run safely.
+/// Recipes that clearance accepts for a cell run safely in it.
 pub fn cleared_sets_run_safely()
     ensures { ClearedSetsRunSafely }
 {}

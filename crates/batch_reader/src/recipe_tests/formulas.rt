@@ -1,7 +1,8 @@
 //! The values that recipe documents give to batches.
 use super::{ADD, CHARGE, MAKE, PROCEDURE, document};
 use crate::read_recipe;
-use batch_recipe::{FormulaFault, formula};
+use batch_recipe::{FormulaFault, are_outputs, formula};
+use batch_text::Name;
 use std::alloc::Global;
 use std::test::Fail;
 
@@ -16,8 +17,8 @@ fn given(alloc: Global, parts: [&str; 5], size: u64) -> Result<String, Fail> {
             }
         }
         Err(FormulaFault::Size) => text.push_str("F1")?,
-        Err(FormulaFault::OutOfRange(name)) => {
-            text.push_str(format!(in alloc; "F2 {name}")?.as_str())?;
+        Err(FormulaFault::OutOfRange { number, name }) => {
+            text.push_str(format!(in alloc; "F2 {number} {name}")?.as_str())?;
         }
         Err(FormulaFault::Memory) => text.push_str("F3")?,
     }
@@ -35,8 +36,8 @@ fn scaled_quantity(rt: HostRuntime) -> Result<(), Fail> {
         (1, "QTY=0;"),
         (500, "QTY=167;"),
         (1503, "QTY=500;"),
-        (1504, "F2 QTY"),
-        (1_000_000_000, "F2 QTY"),
+        (1504, "F2 0 QTY"),
+        (1_000_000_000, "F2 0 QTY"),
         (1_000_000_001, "F1"),
     ] {
         let found = given(rt.alloc(), [INPUT, PROCEDURE, MAKE, CHARGE, HANDED], size)?;
@@ -92,15 +93,36 @@ max = 12
 #[test]
 fn several_values(rt: HostRuntime) -> Result<(), Fail> {
     for (size, wanted) in [
-        (50, "F2 HEAT"),
+        (50, "F2 2 HEAT"),
         (500, "WATER=500;SALT=2;HEAT=4;X=0;"),
         (1000, "WATER=1000;SALT=3;HEAT=7;X=0;"),
-        (2000, "F2 HEAT"),
-        (5000, "F2 SALT"),
-        (6000, "F2 WATER"),
+        (2000, "F2 2 HEAT"),
+        (5000, "F2 1 SALT"),
+        (6000, "F2 0 WATER"),
     ] {
         let found = given(rt.alloc(), [SEVERAL, PROCEDURE, MAKE, CHARGE, ADD], size)?;
         assert!(rt; found.as_str() == wanted, "{size}");
     }
+    Ok(())
+}
+
+#[test]
+fn outputs_are_set_and_cleared(rt: HostRuntime) -> Result<(), Fail> {
+    let alloc = rt.alloc();
+    let parts = [SEVERAL, PROCEDURE, MAKE, CHARGE, ADD];
+    let recipe = read_recipe(alloc, document(alloc, "F", parts)?.as_bytes())?;
+    let Ok(mut values) = formula(alloc, &recipe, 1000) else {
+        return Err(Fail::from("no values"));
+    };
+    let mut outputs = Vec::new(alloc);
+    outputs.push((Name::read(alloc, b"X")?, 1_000_000_000_000))?;
+    assert!(rt; are_outputs(&recipe.outputs, &outputs));
+    values.set_outputs(&outputs);
+    assert!(rt; values.value_of(&outputs[0].0) == Some(1_000_000_000_000));
+    values.clear_outputs(&recipe.outputs);
+    assert!(rt; values.value_of(&outputs[0].0) == Some(0));
+    let twice = (Name::read(alloc, b"X")?, 1);
+    outputs.push(twice)?;
+    assert!(rt; !are_outputs(&recipe.outputs, &outputs));
     Ok(())
 }

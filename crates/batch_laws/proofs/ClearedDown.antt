@@ -1,0 +1,58 @@
+-- Clearance, by recursion down the trees, as the proofs use it.
+use Rattle.std.specs.Prelude.{◌≡◌, suc, List, [], ◌∷◌, ◌++◌, IsTrue, ⊤}
+use Rattle.batch_model.specs.Lists.{Has, Each}
+use Rattle.batch_recipe.specs.Tree.{Phase, Task, runs, follows, Tree, act, skip, seq, par, sel, loop, Trees, no_trees, tree, Choices, otherwise, choice}
+use Rattle.batch_model.specs.Placed.{IsPlaced}
+use Rattle.batch_model.specs.Plant.{Documents, Recipe}
+use Rattle.batch_model.specs.Cleared.{Ranking, phases, phases_of_each}
+use Rattle.batch_laws.specs.Ways.{RisesDown}
+use Rattle.batch_recipe.specs.declared.need.Need.{Need}
+use Rattle.batch_recipe.specs.Needs.{one_unit}
+
+abbrev pub IsOfferedPhase : Documents → Phase → Type 0
+IsOfferedPhase d x = IsTrue (d.offers x.unit x.name)
+
+abbrev pub IsSamePhase : Phase → Phase → Type 0
+IsSamePhase x y = (x.unit ≡ y.unit) × (x.name ≡ y.name)
+
+-- no phase of one chart is a phase of the other on a unit of which one is needed above
+abbrev pub AreApart : List Need → List Phase → List Phase → Type 0
+AreApart above xs ys = (x y : Phase) → Has xs x → Has ys y → Has above (one_unit x.unit) → IsSamePhase x y → ⊥
+
+abbrev mutual
+  -- each phase runs on a unit that an act above it needs, and no two branches of one `par` run the same phase
+  -- of a unit that is needed above; `above` has the needs of all acts above the chart
+  pub RunsInUnits : List Need → Tree → Type 0
+  RunsInUnits above (act s w) = RunsInUnitsBelow s.needs above w
+  RunsInUnits above skip = ⊤
+  RunsInUnits above (seq cs) = RunInUnits above cs
+  RunsInUnits above (par cs) = RunSideBySide above cs
+  RunsInUnits above (sel ch) = ChoicesRunInUnits above ch
+  RunsInUnits above (loop n c body) = RunsInUnits above body
+
+  pub RunsInUnitsBelow : List Need → List Need → Task → Type 0
+  RunsInUnitsBelow needs above (runs x) = Has above (one_unit x.unit)
+  RunsInUnitsBelow needs above (follows name c) = RunsInUnits (needs ++ above) c
+
+  pub RunInUnits : List Need → Trees → Type 0
+  RunInUnits above no_trees = ⊤
+  RunInUnits above (tree c cs) = RunsInUnits above c × RunInUnits above cs
+
+  pub RunSideBySide : List Need → Trees → Type 0
+  RunSideBySide above no_trees = ⊤
+  RunSideBySide above (tree c cs) =
+      RunsInUnits above c × AreApart above (phases c) (phases_of_each cs) × RunSideBySide above cs
+
+  pub ChoicesRunInUnits : List Need → Choices → Type 0
+  ChoicesRunInUnits above (otherwise c) = RunsInUnits above c
+  ChoicesRunInUnits above (choice d c ch) = RunsInUnits above c × ChoicesRunInUnits above ch
+
+pub record IsClearedDown (d : Documents) (rank : Ranking) (r : Recipe) : Type 0 where
+  pub placed : IsPlaced (0 ∷ []) r.procedure
+  pub rising : RisesDown (λ q. suc (rank q)) 0 r.procedure
+  pub in_units : RunsInUnits [] r.procedure
+  pub offered : Each (IsOfferedPhase d) (phases r.procedure)
+  pub single : Each (λ x. d.capacity x.unit ≡ 1) (phases r.procedure)
+
+pub record AreClearedDown (d : Documents) (rank : Ranking) : Type 0 where
+  pub recipes : Each (IsClearedDown d rank) d.recipes

@@ -1,0 +1,285 @@
+-- Holders among entries, and what a record tells of them.
+use Rattle.std.proofs.Common.{◌≡◌, refl, sym, ◌∙◌, ap, ap₂, subst, ℕ, ◌+◌, ◌≤◌, ◌<◌, arith, List, [], ◌∷◌, ◌++◌, Bool, true, false, cond, not, ◌&&◌, filter, inl, inr, ◌⊎◌, ⊎_elim, length, bytes_eq, nat_eq}
+use Rattle.std.proofs.lemmas.List.Sums.{sum_by-append, sum_by-cons}
+use Rattle.std.proofs.lemmas.Slice.Eq.{bytes_eq-Decides}
+use Rattle.std.proofs.lemmas.Grind.{flat_map-append}
+use Rattle.batch_model.specs.Lists.{Has}
+use Rattle.batch_recipe.specs.Conditions.{Name}
+use Rattle.batch_model.specs.Plant.{BatchAct, Share, units_in, is_same_act}
+use Rattle.batch_model.specs.Records.{without}
+use Rattle.batch_laws.proofs.Facts.{holding, awaiting, performing, Entry, holder_of, holders_among, need, share}
+use Rattle.batch_model.proofs.Members.{Has-split, Has-left, Has-right}
+use Rattle.batch_recipe.specs.declared.need.Need.{Need}
+
+pub nat_same : (m n : ℕ) → nat_eq m n ≡ true → m ≡ n
+nat_same m n e = grind arith
+
+pub nat_self : (n : ℕ) → nat_eq n n ≡ true
+nat_self n = grind arith
+
+pub nat_differs : (m n : ℕ) → (m ≡ n → ⊥) → nat_eq m n ≡ false
+nat_differs m n d = go (nat_eq m n) refl
+  where
+    go : (b : Bool) → nat_eq m n ≡ b → b ≡ false
+    go true e = absurd (d (nat_same m n e))
+    go false e = refl
+
+pub name_self : (r : Name) → bytes_eq r r ≡ true
+name_self r = (bytes_eq-Decides r r).1 refl
+
+pub name_same : (q r : Name) → bytes_eq q r ≡ true → q ≡ r
+name_same q r e = (bytes_eq-Decides q r).0 e
+
+both : (a b : Bool) → (a && b) ≡ true → (a ≡ true) × (b ≡ true)
+both true true e = (refl, refl)
+both true false e = absurd cc
+both false b e = absurd cc
+
+and-true : (a b : Bool) → a ≡ true → b ≡ true → (a && b) ≡ true
+and-true true true e f = refl
+and-true true false e f = absurd cc
+and-true false b e f = absurd cc
+
+pub same_act : (a b : BatchAct) → is_same_act a b ≡ true → a ≡ b
+same_act a b e =
+    let h : (nat_eq a.0 b.0 ≡ true) × (bytes_eq a.1 b.1 ≡ true) = both (nat_eq a.0 b.0) (bytes_eq a.1 b.1) e in
+    ap₂ (λ x y. let z : BatchAct = (x, y) in z) (nat_same a.0 b.0 h.0) (name_same a.1 b.1 h.1)
+
+pub act_self : (a : BatchAct) → is_same_act a a ≡ true
+act_self a = and-true (nat_eq a.0 a.0) (bytes_eq a.1 a.1) (nat_self a.0) (name_self a.1)
+
+-- Filtered lists
+
+pub Has-filter : {X : Type 0} (p : X → Bool) (xs : List X) (x : X) → Has (filter p xs) x → Has xs x × (p x ≡ true)
+Has-filter p [] x h = absurd h
+Has-filter p (y ∷ xs) x h = go (p y) refl h (Has-filter p xs x)
+  where
+    go : (b : Bool) → p y ≡ b → Has (cond b (y ∷ filter p xs) (filter p xs)) x → (Has (filter p xs) x → Has xs x × (p x ≡ true)) → Has (y ∷ xs) x × (p x ≡ true)
+    go true e (inl q) f = (inl q, ap p (sym q) ∙ e)
+    go true e (inr k) f = let m = f k in (inr m.0, m.1)
+    go false e k f = let m = f k in (inr m.0, m.1)
+
+pub filter-Has : {X : Type 0} (p : X → Bool) (xs : List X) (x : X) → Has xs x → p x ≡ true → Has (filter p xs) x
+filter-Has p [] x h e = absurd h
+filter-Has p (y ∷ xs) x (inl q) e = go (p y) (ap p q ∙ e)
+  where
+    go : (b : Bool) → b ≡ true → Has (cond b (y ∷ filter p xs) (filter p xs)) x
+    go true f = inl q
+    go false f = absurd cc
+filter-Has p (y ∷ xs) x (inr h) e = go (p y) (filter-Has p xs x h e)
+  where
+    go : (b : Bool) → Has (filter p xs) x → Has (cond b (y ∷ filter p xs) (filter p xs)) x
+    go true f = inr f
+    go false f = f
+
+length-filter_le : {X : Type 0} (p : X → Bool) (xs : List X) → length (filter p xs) ≤ length xs
+length-filter_le p [] = omega arith
+length-filter_le p (y ∷ xs) = go (p y) (length-filter_le p xs)
+  where
+    go : (b : Bool) → length (filter p xs) ≤ length xs → length (cond b (y ∷ filter p xs) (filter p xs)) ≤ length (y ∷ xs)
+    go true h = omega arith
+    go false h = omega arith
+
+pub length-filter_lt : {X : Type 0} (p : X → Bool) (xs : List X) (x : X) → Has xs x → p x ≡ false → length (filter p xs) < length xs
+length-filter_lt p [] x h e = absurd h
+length-filter_lt p (y ∷ xs) x (inl q) e = go (p y) (ap p q ∙ e) (length-filter_le p xs)
+  where
+    go : (b : Bool) → b ≡ false → length (filter p xs) ≤ length xs → length (cond b (y ∷ filter p xs) (filter p xs)) < length (y ∷ xs)
+    go true f h = absurd cc
+    go false f h = omega arith
+length-filter_lt p (y ∷ xs) x (inr k) e = go (p y) (length-filter_lt p xs x k e)
+  where
+    go : (b : Bool) → length (filter p xs) < length xs → length (cond b (y ∷ filter p xs) (filter p xs)) < length (y ∷ xs)
+    go true h = omega arith
+    go false h = omega arith
+
+not_true : (b : Bool) → b ≡ true → not b ≡ false
+not_true true e = refl
+not_true false e = absurd cc
+
+pub Has-without : (a : BatchAct) (xs : List Share) (x : Share) → Has (without a xs) x → Has xs x × (x.act ≡ a → ⊥)
+Has-without a xs x h =
+    let k = Has-filter (λ b. not (is_same_act b.act a)) xs x h in (
+      k.0,
+      λ e. absurd (let f : not (is_same_act x.act a) ≡ false = not_true (is_same_act x.act a) (subst (λ z. is_same_act x.act z ≡ true) e (act_self x.act)) in
+          let g : not (is_same_act x.act a) ≡ true = k.1 in let t : ◌≡◌ {A = Bool} true false = sym g ∙ f in cc),
+    )
+
+pub differs : (x a : BatchAct) → (x ≡ a → ⊥) → not (is_same_act x a) ≡ true
+differs x a d = go (is_same_act x a) refl
+  where
+    go : (b : Bool) → is_same_act x a ≡ b → not b ≡ true
+    go true e = absurd (d (same_act x a e))
+    go false e = refl
+
+pub without-Has : (a : BatchAct) (xs : List Share) (x : Share) → Has xs x → (x.act ≡ a → ⊥) → Has (without a xs) x
+without-Has a xs x h d = filter-Has (λ b. not (is_same_act b.act a)) xs x h (differs x.act a d)
+
+-- Holders
+
+pub Has-holders : (q : Name) (es : List Entry) (a : Share) → Has (holders_among q es) a → Has es (a.act, holding (need q a.units))
+Has-holders q [] a h = absurd h
+Has-holders q (e ∷ es) a h =
+    ⊎_elim (λ k. inl (one e k)) (λ k. inr (Has-holders q es a k)) (Has-split (holder_of q e) (holders_among q es) a h)
+  where
+    pick : (c : BatchAct) (r : Need) (b : Bool) → bytes_eq q r.resource ≡ b → Has (elim b [ true ↦ share c r.units ∷ [] | false ↦ [] ]) a
+        → ◌≡◌ {A = Entry} (c, holding r) (a.act, holding (need q a.units))
+    pick c r true f (inl p) =
+        ap (λ z. let e : Entry = (c, holding (need z r.units)) in e) (sym (name_same q r.resource f))
+        ∙ ap (λ z. let e : Entry = (z.act, holding (need q z.units)) in e) p
+    pick c r true f (inr p) = absurd p
+    pick c r false f p = absurd p
+
+    one : (z : Entry) → Has (holder_of q z) a → z ≡ (a.act, holding (need q a.units))
+    one (c, holding r) k = pick c r (bytes_eq q r.resource) refl k
+    one (c, awaiting r) k = absurd k
+    one (c, performing x) k = absurd k
+
+pub holders-Has : (q : Name) (es : List Entry) (a : Share) → Has es (a.act, holding (need q a.units)) → Has (holders_among q es) a
+holders-Has q [] a h = absurd h
+holders-Has q (e ∷ es) a (inl p) = Has-left (holder_of q e) (holders_among q es) a (subst (λ z. Has (holder_of q z) a) (sym p) (go (bytes_eq q q) (name_self q)))
+  where
+    go : (b : Bool) → b ≡ true → Has (elim b [ true ↦ a ∷ [] | false ↦ [] ]) a
+    go true f = inl refl
+    go false f = absurd cc
+holders-Has q (e ∷ es) a (inr k) = Has-right (holder_of q e) (holders_among q es) a (holders-Has q es a k)
+
+pub holders-append : (q : Name) (xs ys : List Entry) → holders_among q (xs ++ ys) ≡ holders_among q xs ++ holders_among q ys
+holders-append q xs ys = flat_map-append (holder_of q) xs ys
+
+-- no act comes twice
+abbrev pub IsOnce : List Share → Type 0
+IsOnce [] = Unit {0}
+IsOnce (x ∷ xs) = ((y : Share) → Has xs y → y.act ≡ x.act → ⊥) × IsOnce xs
+
+pub once-snoc : (a : Share) (xs : List Share) → IsOnce xs → ((y : Share) → Has xs y → y.act ≡ a.act → ⊥) → IsOnce (xs ++ a ∷ [])
+once-snoc a [] h d = (λ y k. absurd k, tt)
+once-snoc a (x ∷ xs) h d = (
+  λ y k e. ⊎_elim (λ m. h.0 y m e) (λ m. ⊎_elim (λ q. d x (inl refl) (sym e ∙ sym (ap (λ z. z.act) q))) (λ q. q) m) (Has-split xs (a ∷ []) y k),
+  once-snoc a xs h.1 (λ y k. d y (inr k)),
+)
+
+pub once-filter : (p : Share → Bool) (xs : List Share) → IsOnce xs → IsOnce (filter p xs)
+once-filter p [] h = tt
+once-filter p (x ∷ xs) h = go (p x) (once-filter p xs h.1)
+  where
+    go : (t : Bool) → IsOnce (filter p xs) → IsOnce (cond t (x ∷ filter p xs) (filter p xs))
+    go true m = (λ y k. h.0 y ((Has-filter p xs y k).0), m)
+    go false m = m
+
+-- Units
+
+pub units-append : (xs ys : List Share) → units_in (xs ++ ys) ≡ units_in xs + units_in ys
+units-append xs ys = sum_by-append (λ h. h.units) xs ys
+
+pub units-cons : (x : Share) (xs : List Share) → units_in (x ∷ xs) ≡ x.units + units_in xs
+units-cons x xs = sum_by-cons (λ h. h.units) x xs
+
+units-kept : (p : Share → Bool) (xs : List Share) → ((x : Share) → Has xs x → p x ≡ true) → units_in (filter p xs) ≡ units_in xs
+units-kept p [] h = refl
+units-kept p (x ∷ xs) h = go (p x) (h x (inl refl)) (units-kept p xs (λ y k. h y (inr k)))
+  where
+    go : (t : Bool) → t ≡ true → units_in (filter p xs) ≡ units_in xs → units_in (cond t (x ∷ filter p xs) (filter p xs)) ≡ units_in (x ∷ xs)
+    go true e f =
+        let l : units_in (x ∷ filter p xs) ≡ x.units + units_in (filter p xs) = units-cons x (filter p xs) in
+        let r : units_in (x ∷ xs) ≡ x.units + units_in xs = units-cons x xs in
+        omega arith
+    go false e f = absurd cc
+
+-- taking away what is there once takes away its units
+units-without_once : (a : Share) (xs : List Share) → IsOnce xs → Has xs a → a.units + units_in (without a.act xs) ≡ units_in xs
+units-without_once a [] h k = absurd k
+units-without_once a (x ∷ xs) h (inl e) = go (is_same_act x.act a.act) (subst (λ z. is_same_act x.act z.act ≡ true) e (act_self x.act))
+  where
+    others : units_in (filter (λ b. not (is_same_act b.act a.act)) xs) ≡ units_in xs
+    others = units-kept (λ b. not (is_same_act b.act a.act)) xs (λ y k. differs y.act a.act (λ q. h.0 y k (q ∙ sym (ap (λ z. z.act) e))))
+
+    go : (t : Bool) → t ≡ true
+        → a.units + units_in (cond (not t) (x ∷ filter (λ b. not (is_same_act b.act a.act)) xs) (filter (λ b. not (is_same_act b.act a.act)) xs)) ≡ units_in (x ∷ xs)
+    go true f =
+        let l : units_in (x ∷ xs) ≡ x.units + units_in xs = units-cons x xs in
+        let q : x.units ≡ a.units = ap (λ z. z.units) e in
+        let o : units_in (filter (λ b. not (is_same_act b.act a.act)) xs) ≡ units_in xs = others in
+        omega arith
+    go false f = absurd cc
+units-without_once a (x ∷ xs) h (inr k) = go (not (is_same_act x.act a.act)) (differs x.act a.act (λ q. h.0 a k (sym q))) (units-without_once a xs h.1 k)
+  where
+    go : (t : Bool) → t ≡ true → a.units + units_in (filter (λ b. not (is_same_act b.act a.act)) xs) ≡ units_in xs
+        → a.units + units_in (cond t (x ∷ filter (λ b. not (is_same_act b.act a.act)) xs) (filter (λ b. not (is_same_act b.act a.act)) xs)) ≡ units_in (x ∷ xs)
+    go true f m =
+        let l : units_in (x ∷ filter (λ b. not (is_same_act b.act a.act)) xs) ≡ x.units + units_in (filter (λ b. not (is_same_act b.act a.act)) xs)
+        = units-cons x (filter (λ b. not (is_same_act b.act a.act)) xs) in
+        let r : units_in (x ∷ xs) ≡ x.units + units_in xs = units-cons x xs in
+        omega arith
+    go false f m = absurd cc
+
+-- told has the same members as now, each once, and as many units
+abbrev pub Agrees : List Share → List Share → Type 0
+Agrees told now = (units_in told ≡ units_in now) × ((a : Share) → Has told a → Has now a) × ((a : Share) → Has now a → Has told a) × IsOnce told
+
+pub units-frame : (f m b : List Share) → units_in (f ++ (m ++ b)) ≡ units_in f + (units_in m + units_in b)
+units-frame f m b = units-append f (m ++ b) ∙ ap (λ z. units_in f + z) (units-append m b)
+
+pub units-one : (a : Share) → units_in (a ∷ []) ≡ a.units
+units-one a = let l : units_in (a ∷ []) ≡ a.units + units_in [] = units-cons a [] in omega arith
+
+pub Has-frame : {X : Type 0} (f m b : List X) (x : X) → Has (f ++ (m ++ b)) x → Has f x ⊎ (Has m x ⊎ Has b x)
+Has-frame f m b x h = ⊎_elim (λ k. inl k) (λ k. inr (Has-split m b x k)) (Has-split f (m ++ b) x h)
+
+pub frame-front : {X : Type 0} (f m b : List X) (x : X) → Has f x → Has (f ++ (m ++ b)) x
+frame-front f m b x h = Has-left f (m ++ b) x h
+
+pub frame-middle : {X : Type 0} (f m b : List X) (x : X) → Has m x → Has (f ++ (m ++ b)) x
+frame-middle f m b x h = Has-right f (m ++ b) x (Has-left m b x h)
+
+pub frame-back : {X : Type 0} (f m b : List X) (x : X) → Has b x → Has (f ++ (m ++ b)) x
+frame-back f m b x h = Has-right f (m ++ b) x (Has-right m b x h)
+
+-- nobody of these is the act
+abbrev pub NoneBy : BatchAct → List Share → Type 0
+NoneBy a xs = (y : Share) → Has xs y → y.act ≡ a → ⊥
+
+-- a grant adds a holder
+pub agrees-more : (a : Share) (told f m b : List Share) → Agrees told (f ++ (m ++ b)) → NoneBy a.act f → NoneBy a.act m → NoneBy a.act b → Agrees (told ++ a ∷ []) (f ++ ((m ++ a ∷ []) ++ b))
+agrees-more a told f m b h nf nm nb =
+    let e : units_in (told ++ a ∷ []) ≡ units_in told + units_in (a ∷ []) = units-append told (a ∷ []) in
+    let e' : units_in (f ++ (m ++ b)) ≡ units_in f + (units_in m + units_in b) = units-frame f m b in
+    let e'' : units_in (f ++ ((m ++ a ∷ []) ++ b)) ≡ units_in f + (units_in (m ++ a ∷ []) + units_in b) = units-frame f (m ++ a ∷ []) b in
+    let e₄ : units_in (m ++ a ∷ []) ≡ units_in m + units_in (a ∷ []) = units-append m (a ∷ []) in
+    let le : units_in told ≡ units_in (f ++ (m ++ b)) = h.0 in (
+      omega arith,
+      λ x k. ⊎_elim
+          (λ n. ⊎_elim (frame-front f (m ++ a ∷ []) b x) (λ o. ⊎_elim (λ p. frame-middle f (m ++ a ∷ []) b x (Has-left m (a ∷ []) x p)) (frame-back f (m ++ a ∷ []) b x) o) (Has-frame f m b x (h.1 x n)))
+          (λ n. frame-middle f (m ++ a ∷ []) b x (Has-right m (a ∷ []) x n)) (Has-split told (a ∷ []) x k),
+      λ x k. ⊎_elim (λ n. Has-left told (a ∷ []) x (h.2 x (frame-front f m b x n)))
+          (λ n. ⊎_elim
+          (λ o. ⊎_elim (λ p. Has-left told (a ∷ []) x (h.2 x (frame-middle f m b x p))) (λ p. Has-right told (a ∷ []) x p) (Has-split m (a ∷ []) x o))
+          (λ o. Has-left told (a ∷ []) x (h.2 x (frame-back f m b x o))) n)
+          (Has-frame f (m ++ a ∷ []) b x k),
+      once-snoc a told h.3 (λ y k. ⊎_elim (nf y) (λ z. ⊎_elim (nm y) (nb y) z) (Has-frame f m b y (h.1 y k))),
+    )
+
+-- a release takes the holder away
+pub agrees-less : (a : Share) (told f m b : List Share) → Agrees told (f ++ ((m ++ a ∷ []) ++ b)) → NoneBy a.act f → NoneBy a.act m → NoneBy a.act b
+    → Agrees (without a.act told) (f ++ (m ++ b))
+agrees-less a told f m b h nf nm nb =
+    let e' : units_in (f ++ (m ++ b)) ≡ units_in f + (units_in m + units_in b) = units-frame f m b in
+    let e'' : units_in (f ++ ((m ++ a ∷ []) ++ b)) ≡ units_in f + (units_in (m ++ a ∷ []) + units_in b) = units-frame f (m ++ a ∷ []) b in
+    let e₄ : units_in (m ++ a ∷ []) ≡ units_in m + units_in (a ∷ []) = units-append m (a ∷ []) in
+    let one : units_in (a ∷ []) ≡ a.units = units-one a in
+    let le : units_in told ≡ units_in (f ++ ((m ++ a ∷ []) ++ b)) = h.0 in
+    let lt : a.units + units_in (without a.act told) ≡ units_in told = units-without_once a told h.3 (h.2 a (frame-middle f (m ++ a ∷ []) b a (Has-right m (a ∷ []) a (inl refl)))) in (
+      omega arith,
+      λ x k. let w = Has-without a.act told x k in
+          ⊎_elim (frame-front f m b x)
+          (λ o. ⊎_elim
+          (λ p. ⊎_elim (frame-middle f m b x) (λ z. ⊎_elim (λ q. absurd (w.1 (ap (λ v. v.act) (sym q)))) (λ q. absurd q) z) (Has-split m (a ∷ []) x p))
+          (frame-back f m b x) o)
+          (Has-frame f (m ++ a ∷ []) b x (h.1 x w.0)),
+      λ x k. ⊎_elim (λ n. without-Has a.act told x (h.2 x (frame-front f (m ++ a ∷ []) b x n)) (nf x n))
+          (λ n. ⊎_elim
+          (λ o. without-Has a.act told x (h.2 x (frame-middle f (m ++ a ∷ []) b x (Has-left m (a ∷ []) x o))) (nm x o))
+          (λ o. without-Has a.act told x (h.2 x (frame-back f (m ++ a ∷ []) b x o)) (nb x o)) n)
+          (Has-frame f m b x k),
+      once-filter (λ z. not (is_same_act z.act a.act)) told h.3,
+    )

@@ -1,0 +1,328 @@
+-- Each move keeps what is kept.
+use Rattle.std.proofs.Common.{◌≡◌, ⊎_elim, refl, sym, ◌∙◌, ap, subst, ℕ, zero, suc, pred, ◌<◌, ◌≤◌, ◌+◌, nat_le, arith, List, [], ◌∷◌, ◌++◌, Bool, true, false, ◌&&◌, ◌||◌, take, slice_get, Option, Some, None, inl, length, append-nil}
+use Rattle.std.proofs.lemmas.List.{map-append}
+use Rattle.batch_matrix.specs.declared.state.State.{State}
+use Rattle.batch_matrix.specs.declared.command.Command.{Command}
+use Rattle.batch_matrix.specs.Matrix.{accepts}
+use Rattle.batch_model.specs.Lists.{Has}
+use Rattle.batch_recipe.specs.Conditions.{Name, ValueList}
+use Rattle.batch_recipe.specs.Tree.{Place, Step, Phase, Task, runs, follows, Tree}
+use Rattle.batch_model.specs.Rest.{Rest, ready, asking, open_act, live, freeing, in_seq, in_par, in_loop, done, is_done, acts}
+use Rattle.batch_model.specs.Plant.{Documents, Batch, units_in, Plant, in_act, place_of, held_in, holders}
+use Rattle.batch_model.specs.Moves.{Move, send, release, begin, start, end, ask, grant, is_running, is_stopping, is_stopped, is_quiet, is_empty, passed_on, entering, giving_back, when, is_served, act_move, freed, sent, released, begun, ended, asked, granted, batch_after, after, handed_values}
+use Rattle.batch_model.specs.Runs.{Out, move}
+use Rattle.batch_model.specs.Records.{StartsIdle}
+use Rattle.batch_laws.proofs.Facts.{holding, awaiting, performing, Standing, held_at, awaited_at, facts, Entry, entries, holders_among}
+use Rattle.batch_model.specs.Cleared.{Ranking}
+use Rattle.batch_model.proofs.Members.{Has-right}
+use Rattle.batch_laws.proofs.Reaching.{reach-facts, done-facts}
+use Rattle.batch_laws.proofs.Ranking.{rises-next}
+use Rattle.batch_laws.proofs.Framing.{Frame, frame, needs_of, NeedsRise, needs-rise}
+use Rattle.batch_laws.proofs.Entries.{frame-middle}
+use Rattle.batch_laws.proofs.Batches.{holders-entries}
+use Rattle.batch_laws.proofs.Invariant.{IsFitting, IsSound, IsKept}
+use Rattle.batch_laws.proofs.Quiet.{quiet-performs_nothing, holding-nothing, no_facts, fit-stopping}
+use Rattle.batch_laws.proofs.Starting.{starts-nothing, starts-idle}
+use Rattle.batch_laws.proofs.Changing.{nothing, also, IsApart, stays, comes, IsChange, change-facts, change-sound, Becomes, Lacks, not_performing}
+use Rattle.batch_laws.proofs.Keeping.{kept-quiet, kept-started, kept-asked, kept-granted, kept-released, act_frame, apart-here}
+use Rattle.batch_model.specs.Standing.{IsStandingBatch, IsStanding}
+use Rattle.batch_laws.proofs.Invariant.{standing-of}
+use Rattle.batch_recipe.specs.declared.need.Need.{Need}
+
+-- Lists of needs
+
+take-next : (k : ℕ) (xs : List Need) (r : Need) → slice_get xs k ≡ Some r → take (suc k) xs ≡ take k xs ++ r ∷ []
+take-next k [] r e = absurd cc
+take-next zero (x ∷ xs) r e = (let q : x ≡ r = cc in ap (λ z. z ∷ []) q)
+take-next (suc k) (x ∷ xs) r e = ap (λ z. x ∷ z) (take-next k xs r e)
+
+take-whole : (k : ℕ) (xs : List Need) → slice_get xs k ≡ None → take k xs ≡ xs
+take-whole zero [] e = refl
+take-whole (suc k) [] e = refl
+take-whole zero (x ∷ xs) e = absurd cc
+take-whole (suc k) (x ∷ xs) e = ap (λ z. x ∷ z) (take-whole k xs e)
+
+pub take-length : (xs : List Need) → take (length xs) xs ≡ xs
+take-length [] = refl
+take-length (x ∷ xs) = ap (λ z. x ∷ z) (take-length xs)
+
+held-append : (p : Place) (xs ys : List Need) → held_at p (xs ++ ys) ≡ held_at p xs ++ held_at p ys
+held-append p xs ys = map-append (λ r. let z : Standing = (p, holding r) in z) xs ys
+
+held-next : (p : Place) (k : ℕ) (xs : List Need) (r : Need) → slice_get xs k ≡ Some r → held_at p (take (suc k) xs) ≡ held_at p (take k xs) ++ (p, holding r) ∷ []
+held-next p k xs r e = ap (held_at p) (take-next k xs r e) ∙ held-append p (take k xs) (r ∷ [])
+
+pub freed-facts : (s : Step) (k : ℕ) → facts (freed s k) ≡ held_at s.place (take k s.needs)
+freed-facts s zero = refl
+freed-facts s (suc k) = refl
+
+both : (a b : Bool) → (a && b) ≡ true → (a ≡ true) × (b ≡ true)
+both true true e = (refl, refl)
+both true false e = absurd cc
+both false b e = absurd cc
+
+-- what a move must bring about
+abbrev pub Stepped : Documents → Ranking → List Out → Plant → Move → Type 0
+Stepped d rank outs s m = IsKept d rank (outs ++ move m ∷ []) (after s m) × StartsIdle d (outs ++ move m ∷ [])
+
+some_move : (m l : Move) → ◌≡◌ {A = Option Move} (Some m) (Some l) → m ≡ l
+some_move m l e = cc
+
+no_move : (l : Move) → ◌≡◌ {A = Option Move} None (Some l) → ⊥
+no_move l e = cc
+
+module _ (d : Documents) (rank : Ranking) (outs : List Out) (s : Plant) (sd : IsStanding d s) (k : IsKept d rank outs s) (b : Batch) (i : Has s.batches b) where
+  fine : IsSound d rank b
+  fine = k.sound b i
+
+  here : IsStandingBatch d b
+  here = standing-of d s sd b i
+
+  -- the change that a move makes to its batch
+  change : (a : Rest) (m : Move) (f : Rest → Rest) → batch_after m b ≡ in_act (place_of a) f b → IsChange b a (batch_after m) f b.values
+  change a m f e =
+      record {
+        number = ap (λ z. z.number) e;
+        recipe = ap (λ z. z.recipe) e;
+        goes_on = ap (λ z. z.rest) e;
+      }
+
+  step-quiet : (a : Rest) → Has (acts b.rest) a → (g : Batch → Batch) (f : Rest → Rest) → IsChange b a g f b.values → facts (f a) ≡ facts a → (g b).state ≡ b.state
+      → facts (g b).rest ≡ facts b.rest
+  step-quiet a j g f c e same =
+      let fr : Frame b.rest a = act_frame d rank outs s sd k b i a j g f b.values c in
+      change-facts b a g f b.values c ∙ fr.3 f ∙ ap (λ z. fr.0 ++ (z ++ fr.1)) e ∙ sym fr.2
+
+  sound-quiet : (a : Rest) → Has (acts b.rest) a → (g : Batch → Batch) (f : Rest → Rest) → IsChange b a g f b.values → facts (f a) ≡ facts a → (g b).state ≡ b.state → IsSound d rank (g b)
+  sound-quiet a j g f c e same =
+      change-sound d rank b a g f b.values fine c
+      (subst (λ z. IsFitting z (facts (g b).rest)) (sym same) (subst (IsFitting b.state) (sym (step-quiet a j g f c e same)) fine.fits))
+
+  -- the facts of an act are facts of its batch
+  own-fact : (a : Rest) → Has (acts b.rest) a → (e : Standing) → Has (facts a) e → Has (facts b.rest) e
+  own-fact a j e h =
+      let fr : Frame b.rest a = frame (0 ∷ []) b.recipe.procedure b.rest fine.cleared.placed here.stands a j in
+      subst (λ z. Has z e) (sym fr.2) (frame-middle fr.0 (facts a) fr.1 e h)
+
+  -- the first k needs of an act lack the next
+  lacks-next : (a : Rest) → Has (acts b.rest) a → (n : ℕ) (r : Need) → slice_get (needs_of a) n ≡ Some r → Lacks (take n (needs_of a)) r
+  lacks-next a j n r e x h q =
+      let low : NeedsRise (λ q. suc (rank q)) a = needs-rise (λ q. suc (rank q)) 0 b.recipe.procedure b.rest fine.cleared.rising here.stands a j in
+      let no_rise : suc (rank x.resource) < suc (rank r.resource) = rises-next (λ q. suc (rank q)) low.0 n (needs_of a) x r low.1 h e in
+      let same : rank x.resource ≡ rank r.resource = ap rank q in
+      absurd (omega arith)
+
+  step-send : (p : Step) (x : Phase) (t : State) (c : Command) → Has (acts b.rest) (live p x t) → Stepped d rank outs s (send b.number p.place x c)
+  step-send p x t c j =
+      let m : Move = send b.number p.place x c in
+      let ch = change (live p x t) m (sent c) refl in (
+        kept-quiet d rank outs s sd k b i (move m) (batch_after m) refl (sound-quiet (live p x t) j (batch_after m) (sent c) ch refl refl)
+            (step-quiet (live p x t) j (batch_after m) (sent c) ch refl refl) (λ n old q. refl, refl) (λ q hs. refl) (λ q ws. refl) (λ xs. refl),
+        starts-nothing d outs (move m) (λ n q y vs e. cc),
+      )
+
+  step-begin : (p : Step) (name : Name) (c : Tree) (n : ℕ) → Has (acts b.rest) (ready p (follows name c) n) → slice_get p.needs n ≡ None → Stepped d rank outs s (begin b.number p.place name)
+  step-begin p name c n j e =
+      let m : Move = begin b.number p.place name in
+      let a : Rest = ready p (follows name c) n in
+      let ch = change a m (begun b.values) refl in
+      let same : facts (begun b.values a) ≡ facts a
+      = ap (λ z. held_at p.place p.needs ++ z) (reach-facts b.values c) ∙ append-nil (held_at p.place p.needs) ∙ ap (held_at p.place) (sym (take-whole n p.needs e)) in (
+        kept-quiet d rank outs s sd k b i (move m) (batch_after m) refl (sound-quiet a j (batch_after m) (begun b.values) ch same refl)
+            (step-quiet a j (batch_after m) (begun b.values) ch same refl) (λ n old q. refl, refl) (λ q hs. refl) (λ q ws. refl) (λ xs. refl),
+        starts-nothing d outs (move m) (λ n q y vs e. cc),
+      )
+
+  step-end : (p : Step) (r : Rest) → Has (acts b.rest) (open_act p r) → is_done r ≡ true → Stepped d rank outs s (end b.number p.place)
+  step-end p r j e =
+      let m : Move = end b.number p.place in
+      let a : Rest = open_act p r in
+      let ch = change a m ended refl in
+      let same : facts (ended a) ≡ facts a
+      = freed-facts p (length p.needs) ∙ ap (held_at p.place) (take-length p.needs) ∙ sym (append-nil (held_at p.place p.needs)) ∙ ap (λ z. held_at p.place p.needs ++ z) (sym (done-facts r e)) in (
+        kept-quiet d rank outs s sd k b i (move m) (batch_after m) refl (sound-quiet a j (batch_after m) ended ch same refl)
+            (step-quiet a j (batch_after m) ended ch same refl) (λ n old q. refl, refl) (λ q hs. refl) (λ q ws. refl) (λ xs. refl),
+        starts-nothing d outs (move m) (λ n q y vs e. cc),
+      )
+
+  step-start : (p : Step) (x : Phase) (n : ℕ) (vs : ValueList) → Has (acts b.rest) (ready p (runs x) n) → slice_get p.needs n ≡ None → is_running b.state ≡ true
+      → IsStanding d (after s (start b.number p.place x vs)) → Stepped d rank outs s (start b.number p.place x vs)
+  step-start p x n vs j e running td =
+      let m : Move = start b.number p.place x vs in
+      let a : Rest = ready p (runs x) n in
+      let ch = change a m (begun b.values) refl in
+      let becomes : Becomes a (begun b.values) p.needs nothing (also (performing x))
+      = record { was = ap (held_at p.place) (take-whole n p.needs e) ∙ sym (append-nil (held_at p.place p.needs)); is = refl } in
+      let kept : IsKept d rank (outs ++ move m ∷ []) (after s m) = kept-started d rank outs s sd k b i a j (batch_after m) (begun b.values) b.values ch p.needs x vs becomes running refl in
+      let E : List Entry = entries s.batches in
+      let E' : List Entry = entries (after s m).batches in
+      let ap' : IsApart b.number p.place p.needs nothing (also (performing x)) E E'
+      = apart-here d rank outs s sd k b i a j (batch_after m) (begun b.values) b.values ch p.needs nothing (also (performing x)) becomes in (
+        kept,
+        starts-idle d rank outs s (after s m) b.number p.place x vs sd k td kept
+            (comes b.number p.place p.needs nothing (also (performing x)) E E' ap' ((b.number, p.place), performing x) (inl refl))
+            (λ c y h. (
+              ⊎_elim (λ z. z) (λ z. absurd z) (stays b.number p.place p.needs nothing (also (performing x)) E E' ap' (c, performing y) h),
+              λ q. not_performing b.number p.place p.needs (also (performing x)) E E' ap' c y h q,
+            )),
+      )
+
+  step-ask : (p : Step) (w : Task) (n : ℕ) (r : Need) → Has (acts b.rest) (ready p w n) → slice_get p.needs n ≡ Some r → is_running b.state ≡ true
+      → Stepped d rank outs s (ask b.number p.place r)
+  step-ask p w n r j e running =
+      let m : Move = ask b.number p.place r in
+      let a : Rest = ready p w n in
+      let ch = change a m asked refl in (
+        kept-asked d rank outs s sd k b i a j (batch_after m) asked b.values ch (take n p.needs) r
+            (record { was = sym (append-nil (held_at p.place (take n p.needs))); is = ap (λ z. held_at p.place (take n p.needs) ++ awaited_at p.place z) e }) running refl,
+        starts-nothing d outs (move m) (λ n q y vs e. cc),
+      )
+
+  step-grant : (p : Step) (w : Task) (n : ℕ) (r : Need) → Has (acts b.rest) (asking p w n) → slice_get p.needs n ≡ Some r → is_served d s r (b.number, p.place) ≡ true
+      → Stepped d rank outs s (grant b.number p.place r)
+  step-grant p w n r j e served =
+      let m : Move = grant b.number p.place r in
+      let a : Rest = asking p w n in
+      let ch = change a m granted refl in
+      let was : facts a ≡ held_at p.place (take n p.needs) ++ (p.place, awaiting r) ∷ [] = ap (λ z. held_at p.place (take n p.needs) ++ awaited_at p.place z) e in
+      let room : nat_le (units_in (holders s r.resource) + r.units) (d.capacity r.resource) ≡ true
+      = (both (nat_le (units_in (holders s r.resource) + r.units) (d.capacity r.resource)) _ served).0 in
+      let same : units_in (holders s r.resource) ≡ units_in (holders_among r.resource (entries s.batches)) = ap (λ z. units_in z) (holders-entries s r.resource) in (
+        kept-granted d rank outs s sd k b i a j (batch_after m) granted b.values ch (take n p.needs) r
+            (record { was = was; is = held-next p.place n p.needs r e })
+            (let free : units_in (holders s r.resource) + r.units ≤ d.capacity r.resource = grind arith in omega arith)
+            (own-fact a j (p.place, awaiting r) (subst (λ z. Has z (p.place, awaiting r)) (sym was) (Has-right (held_at p.place (take n p.needs)) ((p.place, awaiting r) ∷ []) (p.place, awaiting r) (inl refl))))
+            (lacks-next a j n r e) refl,
+        starts-nothing d outs (move m) (λ n q y vs e. cc),
+      )
+
+  -- a release of the need after the first n, which a holds, and after it the first n
+  step-release : (a : Rest) → Has (acts b.rest) a → (n : ℕ) (r : Need) → slice_get (needs_of a) n ≡ Some r
+      → facts a ≡ held_at (place_of a) (take (suc n) (needs_of a)) → facts (released a) ≡ held_at (place_of a) (take n (needs_of a))
+      → Stepped d rank outs s (release b.number (place_of a) r)
+  step-release a j n r e was is =
+      let m : Move = release b.number (place_of a) r in
+      let ch = change a m released refl in (
+        kept-released d rank outs s sd k b i a j (batch_after m) released b.values ch (take n (needs_of a)) r
+            (record { was = was ∙ held-next (place_of a) n (needs_of a) r e; is = is ∙ sym (append-nil (held_at (place_of a) (take n (needs_of a)))) })
+            (lacks-next a j n r e) refl,
+        starts-nothing d outs (move m) (λ n q y vs e. cc),
+      )
+
+  given_back : (a : Rest) → Has (acts b.rest) a → (p : Step) (n : ℕ) (m : Move) → place_of a ≡ p.place → needs_of a ≡ p.needs
+      → ((l : ℕ) (r : Need) → n ≡ suc l → slice_get p.needs l ≡ Some r → facts a ≡ held_at (place_of a) (take (suc l) (needs_of a)))
+      → ((l : ℕ) → n ≡ suc l → facts (released a) ≡ held_at (place_of a) (take l (needs_of a)))
+      → giving_back b p n ≡ Some m → Stepped d rank outs s m
+  given_back a j p zero m at needs was is e = absurd (no_move m e)
+  given_back a j p (suc l) m at needs was is e = go (slice_get p.needs l) refl e
+    where
+      go : (o : Option Need) → slice_get p.needs l ≡ o → ◌≡◌ {A = Option Move} (elim o [ None ↦ None | Some r ↦ Some (release b.number p.place r) ]) (Some m) → Stepped d rank outs s m
+      go None q f = absurd (no_move m f)
+      go (Some r) q f =
+          subst (Stepped d rank outs s) (ap (λ z. release b.number z r) at ∙ some_move (release b.number p.place r) m f)
+          (step-release a j l r (ap (λ z. slice_get z l) needs ∙ q) (was l r refl q) (is l refl))
+
+  step-ready : (p : Step) (w : Task) (n : ℕ) (m : Move) → Has (acts b.rest) (ready p w n) → act_move d s b (ready p w n) ≡ Some m → IsStanding d (after s m) → Stepped d rank outs s m
+  step-ready p w n m j e td = go (is_running b.state) refl e
+    where
+      enter : (o : Option Need) → slice_get p.needs n ≡ o → is_running b.state ≡ true → (v : Task) → w ≡ v
+          → ◌≡◌ {A = Option Move}
+          (elim o [
+            | Some r ↦ Some (ask b.number p.place r)
+            | None ↦ elim v [ runs x ↦ Some (start b.number p.place x (handed_values b.values x.handed)) | follows name c ↦ Some (begin b.number p.place name) ]
+          ])
+          (Some m)
+          → Stepped d rank outs s m
+      enter (Some r) q run v u f = subst (Stepped d rank outs s) (some_move (ask b.number p.place r) m f) (step-ask p w n r j q run)
+      enter None q run (runs x) u f =
+          let made : start b.number p.place x (handed_values b.values x.handed) ≡ m = some_move (start b.number p.place x (handed_values b.values x.handed)) m f in
+          subst (Stepped d rank outs s) made
+          (step-start p x n (handed_values b.values x.handed) (subst (λ z. Has (acts b.rest) (ready p z n)) u j) q run (subst (λ z. IsStanding d (after s z)) (sym made) td))
+      enter None q run (follows name c) u f =
+          subst (Stepped d rank outs s) (some_move (begin b.number p.place name) m f) (step-begin p name c n (subst (λ z. Has (acts b.rest) (ready p z n)) u j) q)
+
+      back : (t : Bool) → ◌≡◌ {A = Option Move} (elim t [ true ↦ giving_back b p n | false ↦ None ]) (Some m) → Stepped d rank outs s m
+      back true f = given_back (ready p w n) j p n m refl refl (λ l r q g. ap (λ z. held_at p.place (take z p.needs)) q) (λ l q. ap (λ z. held_at p.place (take (pred z) p.needs)) q) f
+      back false f = absurd (no_move m f)
+
+      go : (t : Bool) → is_running b.state ≡ t
+          → ◌≡◌ {A = Option Move} (elim t [ true ↦ entering b p w n | false ↦ elim (is_stopping b.state && is_quiet b.rest) [ true ↦ giving_back b p n | false ↦ None ] ]) (Some m)
+          → Stepped d rank outs s m
+      go true q f = enter (slice_get p.needs n) refl q w refl f
+      go false q f = back (is_stopping b.state && is_quiet b.rest) f
+
+  step-asking : (p : Step) (w : Task) (n : ℕ) (m : Move) → Has (acts b.rest) (asking p w n) → act_move d s b (asking p w n) ≡ Some m → Stepped d rank outs s m
+  step-asking p w n m j e = go (slice_get p.needs n) refl e
+    where
+      serve : (r : Need) → slice_get p.needs n ≡ Some r → (t : Bool) → is_served d s r (b.number, p.place) ≡ t → when t (grant b.number p.place r) ≡ Some m → Stepped d rank outs s m
+      serve r q true u f = subst (Stepped d rank outs s) (some_move (grant b.number p.place r) m f) (step-grant p w n r j q u)
+      serve r q false u f = absurd (no_move m f)
+
+      go : (o : Option Need) → slice_get p.needs n ≡ o
+          → ◌≡◌ {A = Option Move} (elim o [ None ↦ None | Some r ↦ when (is_served d s r (b.number, p.place)) (grant b.number p.place r) ]) (Some m) → Stepped d rank outs s m
+      go None q f = absurd (no_move m f)
+      go (Some r) q f = serve r q (is_served d s r (b.number, p.place)) refl f
+
+  -- below an open act that gives back its needs there are no facts
+  nothing_below : (p : Step) (r : Rest) → Has (acts b.rest) (open_act p r) → is_stopping b.state ≡ true → is_quiet b.rest ≡ true → is_empty (held_in r) ≡ true → facts r ≡ []
+  nothing_below p r j stopping quiet empty =
+      no_facts (facts r)
+      (λ q x h. fit-stopping b.state (facts b.rest) stopping fine.fits q x (own-fact (open_act p r) j (q, awaiting x) (Has-right (held_at p.place p.needs) (facts r) (q, awaiting x) h)))
+      (λ q x h. quiet-performs_nothing b.rest quiet q x (own-fact (open_act p r) j (q, performing x) (Has-right (held_at p.place p.needs) (facts r) (q, performing x) h)))
+      (holding-nothing r empty)
+
+  step-open : (p : Step) (r : Rest) (m : Move) → Has (acts b.rest) (open_act p r) → act_move d s b (open_act p r) ≡ Some m → Stepped d rank outs s m
+  step-open p r m j e = go (is_stopping b.state || is_stopped b.state) e
+    where
+      finish : (t : Bool) → is_done r ≡ t → when t (end b.number p.place) ≡ Some m → Stepped d rank outs s m
+      finish true q f = subst (Stepped d rank outs s) (some_move (end b.number p.place) m f) (step-end p r j q)
+      finish false q f = absurd (no_move m f)
+
+      back : (t : Bool) → (is_stopping b.state && is_quiet b.rest && is_empty (held_in r)) ≡ t
+          → ◌≡◌ {A = Option Move} (elim t [ true ↦ giving_back b p (length p.needs) | false ↦ None ]) (Some m) → Stepped d rank outs s m
+      back true q f =
+          let one = both (is_stopping b.state && is_quiet b.rest) (is_empty (held_in r)) q in
+          let two = both (is_stopping b.state) (is_quiet b.rest) one.0 in
+          let none : facts r ≡ [] = nothing_below p r j two.0 two.1 one.1 in
+          given_back (open_act p r) j p (length p.needs) m refl refl
+          (λ l x g h. ap (λ z. held_at p.place p.needs ++ z) none ∙ append-nil (held_at p.place p.needs) ∙ ap (held_at p.place) (sym (take-length p.needs)) ∙ ap (λ z. held_at p.place (take z p.needs)) g)
+          (λ l g. freed-facts p (pred (length p.needs)) ∙ ap (λ z. held_at p.place (take (pred z) p.needs)) g) f
+      back false q f = absurd (no_move m f)
+
+      go : (t : Bool)
+          → ◌≡◌ {A = Option Move}
+          (elim t [
+            | false ↦ when (is_done r) (end b.number p.place)
+            | true ↦ elim (is_stopping b.state && is_quiet b.rest && is_empty (held_in r)) [ true ↦ giving_back b p (length p.needs) | false ↦ None ]
+          ])
+          (Some m)
+          → Stepped d rank outs s m
+      go false f = finish (is_done r) refl f
+      go true f = back (is_stopping b.state && is_quiet b.rest && is_empty (held_in r)) refl f
+
+  step-live : (p : Step) (x : Phase) (t : State) (m : Move) → Has (acts b.rest) (live p x t) → act_move d s b (live p x t) ≡ Some m → Stepped d rank outs s m
+  step-live p x t m j e = go (passed_on b.state) e
+    where
+      pass : (c : Command) (u : Bool) → when u (send b.number p.place x c) ≡ Some m → Stepped d rank outs s m
+      pass c true f = subst (Stepped d rank outs s) (some_move (send b.number p.place x c) m f) (step-send p x t c j)
+      pass c false f = absurd (no_move m f)
+
+      go : (o : Option Command) → ◌≡◌ {A = Option Move} (elim o [ None ↦ None | Some c ↦ when (accepts t c) (send b.number p.place x c) ]) (Some m) → Stepped d rank outs s m
+      go None f = absurd (no_move m f)
+      go (Some c) f = pass c (accepts t c) f
+
+  step-freeing : (p : Step) (n : ℕ) (m : Move) → Has (acts b.rest) (freeing p n) → act_move d s b (freeing p n) ≡ Some m → Stepped d rank outs s m
+  step-freeing p n m j e =
+      given_back (freeing p n) j p n m refl refl (λ l r q g. ap (λ z. held_at p.place (take z p.needs)) q)
+      (λ l q. freed-facts p (pred n) ∙ ap (λ z. held_at p.place (take (pred z) p.needs)) q) e
+
+  pub act-step : (a : Rest) (m : Move) → Has (acts b.rest) a → act_move d s b a ≡ Some m → IsStanding d (after s m) → Stepped d rank outs s m
+  act-step (ready p w n) m j e td = step-ready p w n m j e td
+  act-step (asking p w n) m j e td = step-asking p w n m j e
+  act-step (open_act p r) m j e td = step-open p r m j e
+  act-step (live p x t) m j e td = step-live p x t m j e
+  act-step (freeing p n) m j e td = step-freeing p n m j e
+  act-step (in_seq r cs) m j e td = absurd (no_move m e)
+  act-step (in_par rs) m j e td = absurd (no_move m e)
+  act-step (in_loop n c body r) m j e td = absurd (no_move m e)
+  act-step done m j e td = absurd (no_move m e)

@@ -1,0 +1,113 @@
+-- The next move keeps what is kept.
+use Rattle.std.proofs.Common.{◌≡◌, refl, sym, subst, ℕ, List, [], ◌∷◌, Bool, true, false, ◌&&◌, Option, Some, None, inl, inr, nat_eq, filter_map}
+use Rattle.batch_matrix.specs.declared.state.State.{State}
+use Rattle.batch_matrix.specs.declared.state.State.TheVariants.{Idle, Running, Pausing, Paused, Holding, Held, Restarting, Stopping, Stopped, Aborting, Aborted, Complete}
+use Rattle.batch_matrix.specs.Matrix.{ends_as}
+use Rattle.batch_model.specs.Lists.{Has}
+use Rattle.batch_recipe.specs.Tree.{Place}
+use Rattle.batch_model.specs.Rest.{Rest, acts}
+use Rattle.batch_model.specs.Plant.{Documents, Batch, Plant, held_in}
+use Rattle.batch_model.specs.Moves.{after, Move, state, is_quiet, is_empty, is_reached, act_move, state_move, batch_moves, next, batch_after}
+use Rattle.batch_model.specs.Runs.{Out, move}
+use Rattle.batch_laws.proofs.Facts.{Standing, facts}
+use Rattle.batch_model.specs.Cleared.{Ranking}
+use Rattle.batch_model.proofs.Falling.{next-possible}
+use Rattle.batch_model.proofs.Members.{Has-filter_map, Has-flat_map}
+use Rattle.batch_laws.proofs.Reaching.{done-facts}
+use Rattle.batch_laws.proofs.Entries.{nat_self, nat_differs}
+use Rattle.batch_laws.proofs.Invariant.{IsFitting, IsSound, IsKept}
+use Rattle.batch_laws.proofs.Quiet.{quiet-performs_nothing, holding-nothing, no_facts}
+use Rattle.batch_laws.proofs.Starting.{starts-nothing}
+use Rattle.batch_laws.proofs.Keeping.{kept-quiet}
+use Rattle.batch_laws.proofs.MoveSteps.{Stepped, act-step}
+use Rattle.batch_model.specs.Standing.{IsStandingBatch, IsStanding}
+use Rattle.batch_laws.proofs.Invariant.{standing-of}
+
+-- A line that tells the state of one batch
+
+pub tells-other : (n m : ℕ) (new old : Option State) → (m ≡ n → ⊥) → ◌≡◌ {A = Option State} (elim (nat_eq n m) [ true ↦ new | false ↦ old ]) old
+tells-other n m new old d = go (nat_eq n m) (nat_differs n m (λ e. d (sym e)))
+  where
+    go : (t : Bool) → t ≡ false → ◌≡◌ {A = Option State} (elim t [ true ↦ new | false ↦ old ]) old
+    go true e = absurd cc
+    go false e = refl
+
+pub tells-own : (n : ℕ) (new old : Option State) → ◌≡◌ {A = Option State} (elim (nat_eq n n) [ true ↦ new | false ↦ old ]) new
+tells-own n new old = go (nat_eq n n) (nat_self n)
+  where
+    go : (t : Bool) → t ≡ true → ◌≡◌ {A = Option State} (elim t [ true ↦ new | false ↦ old ]) new
+    go true e = refl
+    go false e = absurd cc
+
+both : (a b : Bool) → (a && b) ≡ true → (a ≡ true) × (b ≡ true)
+both true true e = (refl, refl)
+both true false e = absurd cc
+both false b e = absurd cc
+
+same_some : (x y : State) → ◌≡◌ {A = Option State} (Some x) (Some y) → x ≡ y
+same_some x y e = cc
+
+nothing_left : (r : Rest) → (is_quiet r && is_empty (held_in r)) ≡ true → ((p : Place) (x : _) → Has (facts r) (p, Rattle.batch_laws.proofs.Facts.awaiting x) → ⊥) → facts r ≡ []
+nothing_left r e h =
+    let q = both (is_quiet r) (is_empty (held_in r)) e in
+    no_facts (facts r) h (quiet-performs_nothing r q.0) (holding-nothing r q.1)
+
+-- what a state ends as fits what it waited for
+fit-reached : (x y : State) (r : Rest) → is_reached x r ≡ true → ends_as x ≡ Some y → IsFitting x (facts r) → IsFitting y (facts r)
+fit-reached Running y r e f h = subst (λ z. IsFitting z (facts r)) (same_some Complete y f) (done-facts r e)
+fit-reached Pausing y r e f h = subst (λ z. IsFitting z (facts r)) (same_some Paused y f) tt
+fit-reached Holding y r e f h = subst (λ z. IsFitting z (facts r)) (same_some Held y f) tt
+fit-reached Restarting y r e f h = subst (λ z. IsFitting z (facts r)) (same_some Running y f) tt
+fit-reached Stopping y r e f h = subst (λ z. IsFitting z (facts r)) (same_some Stopped y f) (nothing_left r e h)
+fit-reached Aborting y r e f h = subst (λ z. IsFitting z (facts r)) (same_some Aborted y f) (nothing_left r e h)
+fit-reached Idle y r e f h = absurd cc
+fit-reached Paused y r e f h = absurd cc
+fit-reached Held y r e f h = absurd cc
+fit-reached Stopped y r e f h = absurd cc
+fit-reached Aborted y r e f h = absurd cc
+fit-reached Complete y r e f h = absurd cc
+
+some_move : (m l : Move) → ◌≡◌ {A = Option Move} (Some m) (Some l) → m ≡ l
+some_move m l e = cc
+
+no_move : (l : Move) → ◌≡◌ {A = Option Move} None (Some l) → ⊥
+no_move l e = cc
+
+module _ (d : Documents) (rank : Ranking) (outs : List Out) (s : Plant) (sd : IsStanding d s) (k : IsKept d rank outs s) where
+  state-step : (b : Batch) → Has s.batches b → (m : Move) → state_move b ≡ Some m → Stepped d rank outs s m
+  state-step b i m e = go (is_reached b.state b.rest) refl e
+    where
+      made : (x : State) → is_reached b.state b.rest ≡ true → ends_as b.state ≡ Some x → Stepped d rank outs s (state b.number x)
+      made x r q =
+          let sound : IsSound d rank b = k.sound b i in let here : IsStandingBatch d b = standing-of d s sd b i in (
+            kept-quiet d rank outs s sd k b i (move (state b.number x)) (batch_after (state b.number x)) refl
+                (record { cleared = sound.cleared; fits = fit-reached b.state x b.rest r q sound.fits })
+                refl (λ n old w. tells-other b.number n (Some x) old w, tells-own b.number (Some x) (Some b.state)) (λ q hs. refl) (λ q ws. refl) (λ xs. refl),
+            starts-nothing d outs (move (state b.number x)) (λ n q y vs e. cc),
+          )
+
+      ends : (o : Option State) → ends_as b.state ≡ o → is_reached b.state b.rest ≡ true → ◌≡◌ {A = Option Move} (elim o [ None ↦ None | Some x ↦ Some (state b.number x) ]) (Some m) → Stepped d rank outs s m
+      ends None q r f = absurd (no_move m f)
+      ends (Some x) q r f = subst (Stepped d rank outs s) (some_move (state b.number x) m f) (made x r q)
+
+      go : (t : Bool) → is_reached b.state b.rest ≡ t
+          → ◌≡◌ {A = Option Move} (elim t [ false ↦ None | true ↦ elim (ends_as b.state) [ None ↦ None | Some x ↦ Some (state b.number x) ] ]) (Some m) → Stepped d rank outs s m
+      go false r f = absurd (no_move m f)
+      go true r f = ends (ends_as b.state) refl r f
+
+  batch-step : (b : Batch) → Has s.batches b → (m : Move) → Has (batch_moves d s b) m → IsStanding d (after s m) → Stepped d rank outs s m
+  batch-step b i m h td = go (state_move b) refl h
+    where
+      of_act : Has (filter_map (act_move d s b) (acts b.rest)) m → Stepped d rank outs s m
+      of_act j = let a = Has-filter_map (act_move d s b) (acts b.rest) m j in act-step d rank outs s sd k b i a.0 m a.1 a.2 td
+
+      go : (o : Option Move) → state_move b ≡ o
+          → Has (elim o [ None ↦ filter_map (act_move d s b) (acts b.rest) | Some l ↦ l ∷ filter_map (act_move d s b) (acts b.rest) ]) m → Stepped d rank outs s m
+      go None e j = of_act j
+      go (Some l) e (inl q) = subst (Stepped d rank outs s) q (state-step b i l e)
+      go (Some l) e (inr j) = of_act j
+
+  pub move-step : (m : Move) → next d s ≡ Some m → IsStanding d (after s m) → Stepped d rank outs s m
+  move-step m e td =
+      let b = Has-flat_map (batch_moves d s) s.batches m (next-possible d s m e) in
+      batch-step b.0 b.1 m b.2 td

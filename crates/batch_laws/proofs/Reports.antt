@@ -1,0 +1,356 @@
+-- Each report keeps what is kept, and so does each event.
+use Rattle.std.proofs.Common.{◌≡◌, refl, sym, ◌∙◌, ap, subst, subst₂, ℕ, List, [], ◌∷◌, ◌++◌, Bool, true, false, not, ◌&&◌, filter, find, Option, Some, None, inl, inr, nat_eq, length, bytes_eq}
+use Rattle.batch_matrix.specs.declared.state.State.{State}
+use Rattle.batch_matrix.specs.declared.state.State.TheVariants.{Idle, Running, Pausing, Paused, Holding, Held, Restarting, Stopping, Stopped, Aborting, Aborted, Complete}
+use Rattle.batch_matrix.specs.declared.command.Command.TheVariants.{Hold}
+use Rattle.batch_matrix.specs.declared.report.Report.{Report}
+use Rattle.batch_matrix.specs.declared.report.PhaseEnd.{PhaseEnd}
+use Rattle.batch_matrix.specs.declared.report.PhaseEnd.TheVariants.{Ended, Now, Same}
+use Rattle.batch_matrix.specs.Matrix.{accepts, after_report}
+use Rattle.batch_model.specs.Lists.{Has}
+use Rattle.batch_recipe.specs.Conditions.{Name, ValueList}
+use Rattle.batch_recipe.specs.Tree.{Place, Phase, Step}
+use Rattle.batch_model.specs.Rest.{Rest, ready, asking, open_act, live, freeing, in_seq, in_par, in_loop, done, acts}
+use Rattle.batch_model.specs.Plant.{Formula, size_out_of_range, value_out_of_range, scaled, Recipe, Documents, Batch, BatchAct, Plant, batch_at, in_batch, in_act, place_of}
+use Rattle.batch_model.specs.Moves.{Move, ended, next}
+use Rattle.batch_recipe.specs.Values.{with_values, are_outputs}
+use Rattle.batch_model.specs.Events.{Event, create, order, remove, report, Reply, reported, refused, unknown_recipe, unknown_batch, no_live_phase, report_not_expected, bad_output, bad_size, bad_value, full, moves_pending, no_memory, is_full, creating, ordering, removing, LivePhase, live_in, live_phase, now, batch_state_after, batch_reported, reporting, judged, react}
+use Rattle.batch_model.specs.Runs.{Out, reply, Reacts}
+use Rattle.batch_model.specs.Records.{Active, active_after, ends_phase}
+use Rattle.batch_laws.proofs.Facts.{Standing, held_at, facts}
+use Rattle.batch_model.specs.Cleared.{Ranking}
+use Rattle.batch_laws.proofs.ClearedDown.{IsClearedDown, AreClearedDown}
+use Rattle.batch_model.proofs.Members.{Each-Has}
+use Rattle.batch_laws.proofs.Invariant.{IsFitting, IsKept}
+use Rattle.batch_laws.proofs.Changing.{changed_plant, IsChange, change-facts, change-sound}
+use Rattle.batch_laws.proofs.Keeping.{kept-quiet, kept-finished, act_frame, TellsState}
+use Rattle.batch_laws.proofs.MoveSteps.{freed-facts, take-length}
+use Rattle.batch_laws.proofs.Events.{Answered, find-Has, kept-refused, kept-created, ordering-step, removing-step}
+use Rattle.batch_laws.proofs.Moving.{tells-other, tells-own}
+use Rattle.std.proofs.lemmas.List.{append-nil}
+use Rattle.batch_model.specs.Standing.{IsStanding}
+
+-- Reports
+
+ended-word : (t : State) (word : Report) → after_report t word ≡ Some Ended → ends_phase word ≡ true
+ended-word t Report.Done e = refl
+ended-word Idle Report.Paused e = absurd cc
+ended-word Running Report.Paused e = absurd cc
+ended-word Pausing Report.Paused e = absurd cc
+ended-word Paused Report.Paused e = absurd cc
+ended-word Holding Report.Paused e = absurd cc
+ended-word Held Report.Paused e = absurd cc
+ended-word Restarting Report.Paused e = absurd cc
+ended-word Stopping Report.Paused e = absurd cc
+ended-word Stopped Report.Paused e = absurd cc
+ended-word Aborting Report.Paused e = absurd cc
+ended-word Aborted Report.Paused e = absurd cc
+ended-word Complete Report.Paused e = absurd cc
+ended-word Idle Report.Held e = absurd cc
+ended-word Running Report.Held e = absurd cc
+ended-word Pausing Report.Held e = absurd cc
+ended-word Paused Report.Held e = absurd cc
+ended-word Holding Report.Held e = absurd cc
+ended-word Held Report.Held e = absurd cc
+ended-word Restarting Report.Held e = absurd cc
+ended-word Stopping Report.Held e = absurd cc
+ended-word Stopped Report.Held e = absurd cc
+ended-word Aborting Report.Held e = absurd cc
+ended-word Aborted Report.Held e = absurd cc
+ended-word Complete Report.Held e = absurd cc
+ended-word Idle Report.Running e = absurd cc
+ended-word Running Report.Running e = absurd cc
+ended-word Pausing Report.Running e = absurd cc
+ended-word Paused Report.Running e = absurd cc
+ended-word Holding Report.Running e = absurd cc
+ended-word Held Report.Running e = absurd cc
+ended-word Restarting Report.Running e = absurd cc
+ended-word Stopping Report.Running e = absurd cc
+ended-word Stopped Report.Running e = absurd cc
+ended-word Aborting Report.Running e = absurd cc
+ended-word Aborted Report.Running e = absurd cc
+ended-word Complete Report.Running e = absurd cc
+ended-word t Report.Stopped e = refl
+ended-word t Report.Aborted e = refl
+ended-word Idle Report.Fault e = absurd cc
+ended-word Running Report.Fault e = absurd cc
+ended-word Pausing Report.Fault e = absurd cc
+ended-word Paused Report.Fault e = absurd cc
+ended-word Holding Report.Fault e = absurd cc
+ended-word Held Report.Fault e = absurd cc
+ended-word Restarting Report.Fault e = absurd cc
+ended-word Stopping Report.Fault e = absurd cc
+ended-word Stopped Report.Fault e = absurd cc
+ended-word Aborting Report.Fault e = absurd cc
+ended-word Aborted Report.Fault e = absurd cc
+ended-word Complete Report.Fault e = absurd cc
+
+now-word : (t y : State) (word : Report) → after_report t word ≡ Some (Now y) → ends_phase word ≡ false
+now-word Idle y Report.Done e = absurd cc
+now-word Running y Report.Done e = absurd cc
+now-word Pausing y Report.Done e = absurd cc
+now-word Paused y Report.Done e = absurd cc
+now-word Holding y Report.Done e = absurd cc
+now-word Held y Report.Done e = absurd cc
+now-word Restarting y Report.Done e = absurd cc
+now-word Stopping y Report.Done e = absurd cc
+now-word Stopped y Report.Done e = absurd cc
+now-word Aborting y Report.Done e = absurd cc
+now-word Aborted y Report.Done e = absurd cc
+now-word Complete y Report.Done e = absurd cc
+now-word t y Report.Paused e = refl
+now-word t y Report.Held e = refl
+now-word t y Report.Running e = refl
+now-word Idle y Report.Stopped e = absurd cc
+now-word Running y Report.Stopped e = absurd cc
+now-word Pausing y Report.Stopped e = absurd cc
+now-word Paused y Report.Stopped e = absurd cc
+now-word Holding y Report.Stopped e = absurd cc
+now-word Held y Report.Stopped e = absurd cc
+now-word Restarting y Report.Stopped e = absurd cc
+now-word Stopping y Report.Stopped e = absurd cc
+now-word Stopped y Report.Stopped e = absurd cc
+now-word Aborting y Report.Stopped e = absurd cc
+now-word Aborted y Report.Stopped e = absurd cc
+now-word Complete y Report.Stopped e = absurd cc
+now-word Idle y Report.Aborted e = absurd cc
+now-word Running y Report.Aborted e = absurd cc
+now-word Pausing y Report.Aborted e = absurd cc
+now-word Paused y Report.Aborted e = absurd cc
+now-word Holding y Report.Aborted e = absurd cc
+now-word Held y Report.Aborted e = absurd cc
+now-word Restarting y Report.Aborted e = absurd cc
+now-word Stopping y Report.Aborted e = absurd cc
+now-word Stopped y Report.Aborted e = absurd cc
+now-word Aborting y Report.Aborted e = absurd cc
+now-word Aborted y Report.Aborted e = absurd cc
+now-word Complete y Report.Aborted e = absurd cc
+now-word t y Report.Fault e = refl
+
+same-word : (t : State) (word : Report) → after_report t word ≡ Some Same → ends_phase word ≡ false
+same-word Idle Report.Done e = absurd cc
+same-word Running Report.Done e = absurd cc
+same-word Pausing Report.Done e = absurd cc
+same-word Paused Report.Done e = absurd cc
+same-word Holding Report.Done e = absurd cc
+same-word Held Report.Done e = absurd cc
+same-word Restarting Report.Done e = absurd cc
+same-word Stopping Report.Done e = absurd cc
+same-word Stopped Report.Done e = absurd cc
+same-word Aborting Report.Done e = absurd cc
+same-word Aborted Report.Done e = absurd cc
+same-word Complete Report.Done e = absurd cc
+same-word t Report.Paused e = refl
+same-word t Report.Held e = refl
+same-word t Report.Running e = refl
+same-word Idle Report.Stopped e = absurd cc
+same-word Running Report.Stopped e = absurd cc
+same-word Pausing Report.Stopped e = absurd cc
+same-word Paused Report.Stopped e = absurd cc
+same-word Holding Report.Stopped e = absurd cc
+same-word Held Report.Stopped e = absurd cc
+same-word Restarting Report.Stopped e = absurd cc
+same-word Stopping Report.Stopped e = absurd cc
+same-word Stopped Report.Stopped e = absurd cc
+same-word Aborting Report.Stopped e = absurd cc
+same-word Aborted Report.Stopped e = absurd cc
+same-word Complete Report.Stopped e = absurd cc
+same-word Idle Report.Aborted e = absurd cc
+same-word Running Report.Aborted e = absurd cc
+same-word Pausing Report.Aborted e = absurd cc
+same-word Paused Report.Aborted e = absurd cc
+same-word Holding Report.Aborted e = absurd cc
+same-word Held Report.Aborted e = absurd cc
+same-word Restarting Report.Aborted e = absurd cc
+same-word Stopping Report.Aborted e = absurd cc
+same-word Stopped Report.Aborted e = absurd cc
+same-word Aborting Report.Aborted e = absurd cc
+same-word Aborted Report.Aborted e = absurd cc
+same-word Complete Report.Aborted e = absurd cc
+same-word t Report.Fault e = refl
+
+ended-state : (word : Report) (x : State) → ends_phase word ≡ true → batch_state_after word x ≡ x
+ended-state Report.Done x e = refl
+ended-state Report.Paused x e = refl
+ended-state Report.Held x e = refl
+ended-state Report.Running x e = refl
+ended-state Report.Stopped x e = refl
+ended-state Report.Aborted x e = refl
+ended-state Report.Fault x e = absurd cc
+
+fit-fault : (x : State) (es : List Standing) (t : Bool) → IsFitting x es → IsFitting (elim t [ true ↦ Holding | false ↦ x ]) es
+fit-fault x es true h = tt
+fit-fault x es false h = h
+
+fit-reported : (word : Report) (x : State) (es : List Standing) → IsFitting x es → IsFitting (batch_state_after word x) es
+fit-reported Report.Done x es h = h
+fit-reported Report.Paused x es h = h
+fit-reported Report.Held x es h = h
+fit-reported Report.Running x es h = h
+fit-reported Report.Stopped x es h = h
+fit-reported Report.Aborted x es h = h
+fit-reported Report.Fault x es h = fit-fault x es (accepts x Hold) h
+
+-- A live phase that is found
+
+abbrev IsFound : Batch → List Rest → LivePhase → Type 0
+IsFound b as' l = (p : Step) × (x : Phase) × Has as' (live p x l.state) × (p.place ≡ l.place) × (l.batch ≡ b)
+
+found-later : (b : Batch) (a : Rest) (as' : List Rest) (l : LivePhase) → IsFound b as' l → IsFound b (a ∷ as') l
+found-later b a as' l h = (h.0, h.1, inr h.2, h.3, h.4)
+
+live_in-found : (b : Batch) (unit name : Name) (as' : List Rest) (l : LivePhase) → live_in b unit name as' ≡ Some l → IsFound b as' l
+live_in-found b unit name [] l e = absurd cc
+live_in-found b unit name (live p x t ∷ as') l e = go (bytes_eq x.unit unit && bytes_eq x.name name) e (live_in-found b unit name as' l)
+  where
+    same : (y z : LivePhase) → ◌≡◌ {A = Option LivePhase} (Some y) (Some z) → y ≡ z
+    same y z q = cc
+
+    go : (u : Bool) → ◌≡◌ {A = Option LivePhase} (elim u [ true ↦ Some (record { batch = b; place = p.place; state = t }) | false ↦ live_in b unit name as' ]) (Some l)
+        → (live_in b unit name as' ≡ Some l → IsFound b as' l) → IsFound b (live p x t ∷ as') l
+    go true q f =
+        let w : record { batch = b; place = p.place; state = t } ≡ l = same (record { batch = b; place = p.place; state = t }) l q in
+        subst (IsFound b (live p x t ∷ as')) w (p, x, inl refl, refl, refl)
+    go false q f = found-later b (live p x t) as' l (f q)
+live_in-found b unit name (ready p w n ∷ as') l e = found-later b (ready p w n) as' l (live_in-found b unit name as' l e)
+live_in-found b unit name (asking p w n ∷ as') l e = found-later b (asking p w n) as' l (live_in-found b unit name as' l e)
+live_in-found b unit name (open_act p r ∷ as') l e = found-later b (open_act p r) as' l (live_in-found b unit name as' l e)
+live_in-found b unit name (freeing p n ∷ as') l e = found-later b (freeing p n) as' l (live_in-found b unit name as' l e)
+live_in-found b unit name (in_seq r cs ∷ as') l e = found-later b (in_seq r cs) as' l (live_in-found b unit name as' l e)
+live_in-found b unit name (in_par rs ∷ as') l e = found-later b (in_par rs) as' l (live_in-found b unit name as' l e)
+live_in-found b unit name (in_loop n c body r ∷ as') l e = found-later b (in_loop n c body r) as' l (live_in-found b unit name as' l e)
+live_in-found b unit name (done ∷ as') l e = found-later b done as' l (live_in-found b unit name as' l e)
+
+live_phase-found : (bs : List Batch) (unit name : Name) (l : LivePhase) → live_phase bs unit name ≡ Some l → (b : Batch) × Has bs b × IsFound b (acts b.rest) l
+live_phase-found [] unit name l e = absurd cc
+live_phase-found (b ∷ bs) unit name l e = go (live_in b unit name (acts b.rest)) refl e (live_phase-found bs unit name l)
+  where
+    same : (y z : LivePhase) → ◌≡◌ {A = Option LivePhase} (Some y) (Some z) → y ≡ z
+    same y z q = cc
+
+    go : (o : Option LivePhase) → live_in b unit name (acts b.rest) ≡ o → ◌≡◌ {A = Option LivePhase} (elim o [ Some y ↦ Some y | None ↦ live_phase bs unit name ]) (Some l)
+        → (live_phase bs unit name ≡ Some l → (c : Batch) × Has bs c × IsFound c (acts c.rest) l) → (c : Batch) × Has (b ∷ bs) c × IsFound c (acts c.rest) l
+    go (Some y) q f h = (b, inl refl, live_in-found b unit name (acts b.rest) l (q ∙ f))
+    go None q f h = let m = h f in (m.0, inr m.1, m.2)
+
+not_ending : (word : Report) (unit name : Name) (n : ℕ) (p : Place) (x : State) (xs : List Active) → ends_phase word ≡ false → active_after xs (reply (reported unit name word n p x)) ≡ xs
+not_ending word unit name n p x xs e = go (ends_phase word) e
+  where
+    go : (t : Bool) → t ≡ false → ◌≡◌ {A = List Active} (elim t [ true ↦ filter (λ a. not (Rattle.batch_model.specs.Plant.is_same_act a.act (n, p))) xs | false ↦ xs ]) xs
+    go true q = absurd cc
+    go false q = refl
+
+module _ (d : Documents) (rank : Ranking) (outs : List Out) (s : Plant) (sd : IsStanding d s) (k : IsKept d rank outs s) (b : Batch) (i : Has s.batches b)
+    (unit name : Name) (word : Report) (outputs : ValueList) (p : Step) (x : Phase) (t : State) (j : Has (acts b.rest) (live p x t)) where
+  abbrev then_state : State
+  then_state = batch_state_after word b.state
+
+  tells : TellsState (reply (reported unit name word b.number p.place then_state)) b.number b.state then_state
+  tells = (λ m old q. tells-other b.number m (Some then_state) old q, tells-own b.number (Some then_state) (Some b.state))
+
+  -- a report that leaves the phase live
+  kept-reported : (e : PhaseEnd) (f : Rest → Rest) → IsChange b (live p x t) (batch_reported word outputs p.place e) f (with_values outputs b.values)
+      → facts (f (live p x t)) ≡ facts (live p x t) → ends_phase word ≡ false
+      → IsKept d rank (outs ++ reply (reported unit name word b.number p.place then_state) ∷ []) (changed_plant s b.number (batch_reported word outputs p.place e) s.line)
+  kept-reported e f c same ends =
+      let g : Batch → Batch = batch_reported word outputs p.place e in
+      let fr = act_frame d rank outs s sd k b i (live p x t) j g f (with_values outputs b.values) c in
+      let quiet : facts (g b).rest ≡ facts b.rest
+      = change-facts b (live p x t) g f (with_values outputs b.values) c ∙ fr.3 f ∙ ap (λ z. fr.0 ++ (z ++ fr.1)) same ∙ sym fr.2 in
+      kept-quiet d rank outs s sd k b i (reply (reported unit name word b.number p.place then_state)) g refl
+      (change-sound d rank b (live p x t) g f (with_values outputs b.values) (k.sound b i) c
+      (fit-reported word b.state (facts (g b).rest) (subst (IsFitting b.state) (sym quiet) (k.sound b i).fits)))
+      quiet tells (λ q hs. refl) (λ q ws. refl) (λ xs. not_ending word unit name b.number p.place then_state xs ends)
+
+  reported-step : (e : PhaseEnd) → after_report t word ≡ Some e
+      → IsKept d rank (outs ++ reply (reported unit name word b.number p.place then_state) ∷ []) (changed_plant s b.number (batch_reported word outputs p.place e) s.line)
+  reported-step Ended q =
+      let ends : ends_phase word ≡ true = ended-word t word q in
+      kept-finished d rank outs s sd k b i (live p x t) j (batch_reported word outputs p.place Ended) ended (with_values outputs b.values)
+      (record { number = refl; recipe = refl; goes_on = refl })
+      p.needs x unit name word then_state
+      (record { was = refl; is = freed-facts p (length p.needs) ∙ ap (held_at p.place) (take-length p.needs) ∙ sym (append-nil (held_at p.place p.needs)) })
+      ends (ended-state word b.state ends) tells
+  reported-step (Now y) q =
+      kept-reported (Now y) (now y) (record { number = refl; recipe = refl; goes_on = refl }) refl (now-word t y word q)
+  reported-step Same q =
+      kept-reported Same (λ r. r) (record { number = refl; recipe = refl; goes_on = refl }) refl (same-word t word q)
+
+module _ (d : Documents) (rank : Ranking) (cleared : AreClearedDown d rank) (outs : List Out) (s : Plant) (sd : IsStanding d s) (k : IsKept d rank outs s) where
+  reporting-step : (unit name : Name) (word : Report) (outputs : ValueList) (b : Batch) → Has s.batches b → (l : LivePhase) → IsFound b (acts b.rest) l
+      → Answered d rank outs (reporting s unit name word outputs l)
+  reporting-step unit name word outputs b i l h = go (after_report l.state word) refl
+    where
+      at_place : (e : PhaseEnd) → after_report l.state word ≡ Some e
+          → Answered d rank outs (reported unit name word l.batch.number l.place (batch_state_after word l.batch.state), in_batch l.batch.number (batch_reported word outputs l.place e) s)
+      at_place e q =
+          subst (λ z. Answered d rank outs (reported unit name word z.number l.place (batch_state_after word z.state), in_batch z.number (batch_reported word outputs l.place e) s)) (sym h.4)
+          (subst (λ z. Answered d rank outs (reported unit name word b.number z (batch_state_after word b.state), in_batch b.number (batch_reported word outputs z e) s)) h.3
+          (reported-step d rank outs s sd k b i unit name word outputs h.0 h.1 l.state h.2 e q))
+
+      outs_of : (e : PhaseEnd) → after_report l.state word ≡ Some e → (t : Bool)
+          → Answered d rank outs
+          (elim t [
+            | false ↦ (refused bad_output, s)
+            | true ↦ (reported unit name word l.batch.number l.place (batch_state_after word l.batch.state), in_batch l.batch.number (batch_reported word outputs l.place e) s)
+          ])
+      outs_of e q false = kept-refused d rank outs s bad_output k
+      outs_of e q true = at_place e q
+
+      go : (o : Option PhaseEnd) → after_report l.state word ≡ o
+          → Answered d rank outs
+          (elim o [
+            | None ↦ (refused (report_not_expected l.state), s)
+            | Some e ↦
+                elim (are_outputs l.batch.recipe.outputs outputs) [
+                  | false ↦ (refused bad_output, s)
+                  | true ↦ (reported unit name word l.batch.number l.place (batch_state_after word l.batch.state), in_batch l.batch.number (batch_reported word outputs l.place e) s)
+                ]
+          ])
+      go None q = kept-refused d rank outs s (report_not_expected l.state) k
+      go (Some e) q = outs_of e q (are_outputs l.batch.recipe.outputs outputs)
+
+  creating-step : (r : Recipe) (size : ℕ) → Has d.recipes r → (f : Formula) → Answered d rank outs (creating s r size f)
+  creating-step r size h size_out_of_range = kept-refused d rank outs s bad_size k
+  creating-step r size h (value_out_of_range name) = kept-refused d rank outs s (bad_value name) k
+  creating-step r size h (scaled vs) = kept-created d rank outs s r r.name size vs (Each-Has (IsClearedDown d rank) d.recipes r cleared.recipes h) sd k
+
+  judged-step : (e : Event) → Answered d rank outs (judged d s e)
+  judged-step (create name size) = go (find (λ r. bytes_eq r.name name) d.recipes) refl
+    where
+      room : (r : Recipe) → Has d.recipes r → (t : Bool) → Answered d rank outs (elim t [ true ↦ (refused full, s) | false ↦ creating s r size (r.formula size) ])
+      room r h true = kept-refused d rank outs s full k
+      room r h false = creating-step r size h (r.formula size)
+
+      go : (o : Option Recipe) → find (λ r. bytes_eq r.name name) d.recipes ≡ o
+          → Answered d rank outs (elim o [ None ↦ (refused unknown_recipe, s) | Some r ↦ elim (is_full d s) [ true ↦ (refused full, s) | false ↦ creating s r size (r.formula size) ] ])
+      go None q = kept-refused d rank outs s unknown_recipe k
+      go (Some r) q = room r ((find-Has (λ r. bytes_eq r.name name) d.recipes r q).0) (is_full d s)
+  judged-step (order command n) = go (batch_at s n) refl
+    where
+      go : (o : Option Batch) → batch_at s n ≡ o → Answered d rank outs (elim o [ None ↦ (refused unknown_batch, s) | Some b ↦ ordering s command b ])
+      go None q = kept-refused d rank outs s unknown_batch k
+      go (Some b) q = ordering-step d rank outs s sd k b ((find-Has (λ b. nat_eq b.number n) s.batches b q).0) command
+  judged-step (remove n) = go (batch_at s n) refl
+    where
+      go : (o : Option Batch) → batch_at s n ≡ o → Answered d rank outs (elim o [ None ↦ (refused unknown_batch, s) | Some b ↦ removing s b ])
+      go None q = kept-refused d rank outs s unknown_batch k
+      go (Some b) q = removing-step d rank outs s sd k b ((find-Has (λ b. nat_eq b.number n) s.batches b q).0)
+  judged-step (report unit name word outputs) = go (live_phase s.batches unit name) refl
+    where
+      go : (o : Option LivePhase) → live_phase s.batches unit name ≡ o
+          → Answered d rank outs (elim o [ None ↦ (refused no_live_phase, s) | Some l ↦ reporting s unit name word outputs l ])
+      go None q = kept-refused d rank outs s no_live_phase k
+      go (Some l) q = let m = live_phase-found s.batches unit name l q in reporting-step unit name word outputs m.0 m.1 l m.2
+
+  react-step : (e : Event) → Answered d rank outs (react d s e)
+  react-step e = go (next d s)
+    where
+      go : (o : Option Move) → Answered d rank outs (elim o [ Some m ↦ (refused moves_pending, s) | None ↦ judged d s e ])
+      go (Some m) = kept-refused d rank outs s moves_pending k
+      go None = judged-step e
+
+  -- every reply keeps what is kept
+  pub reply-step : (e : Event) (r : Reply) (t : Plant) → Reacts d s e r t → IsKept d rank (outs ++ reply r ∷ []) t
+  reply-step e r t (inl q) = subst (Answered d rank outs) q (react-step e)
+  reply-step e r t (inr q) = subst₂ (λ y z. IsKept d rank (outs ++ reply y ∷ []) z) (sym q.1) (sym q.2) (kept-refused d rank outs s no_memory k)

@@ -1,0 +1,6 @@
+pub mod Procedures
+pub mod Premises
+pub mod Telling
+pub mod Ways
+pub mod Sets
+pub mod Example

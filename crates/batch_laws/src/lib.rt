@@ -1,0 +1,39 @@
+//! Laws of the definitions of batch_model, on which the promise and the engine both stand: what is kept along every record, and
+//! what a record so tells of the plant that it leads to.
+//!
+//! Nothing runs here. The functions are empty: their contracts are the laws.
+#![tactic(auto)]
+
+ghost use Rattle.batch_laws.specs.Example.{PremisesCanBeMet};
+ghost use Rattle.batch_laws.specs.Procedures.{RecipesAreProcedures, TreesAreProcedures};
+ghost use Rattle.batch_laws.specs.Sets.{SetsAreDocuments};
+ghost use Rattle.batch_laws.specs.Telling.{TellsThePlant};
+ghost use Rattle.batch_laws.specs.Ways.{WaysRise};
+
+/// A record that a cleared set of recipes leads to tells just who holds, asks for and runs what in the plant that it leads to,
+/// and the state of each batch.
+pub fn records_tell_the_plant()
+    ensures { TellsThePlant }
+{}
+
+/// Ranks rise along the path of each node, as the rules of clearance say, exactly where they rise on the way down.
+pub fn ways_rise()
+    ensures { WaysRise }
+{}
+
+/// The expanded tree of every recipe has the levels of a procedure: each phase runs on the unit of its unit procedure, which
+/// that asks for first.
+pub fn trees_have_units()
+    ensures trees { TreesAreProcedures }
+    ensures recipes { RecipesAreProcedures }
+{}
+
+/// There are documents that meet the premises of these laws.
+pub fn premises_can_be_met()
+    ensures { PremisesCanBeMet }
+{}
+
+/// What these laws ask of documents beside clearance holds of every cell and of all recipes, since their types keep it.
+pub fn sets_are_documents()
+    ensures { SetsAreDocuments }
+{}

@@ -1,0 +1,22 @@
+-- The values of a batch when outputs are set, and which outputs a report may set.
+use Rattle.std.specs.Prelude.{ℕ, List, [], ◌∷◌, map, Bool, true, false, ◌&&◌, not, nat_le}
+use Rattle.std.specs.List.{list_any}
+use Rattle.batch_recipe.specs.Conditions.{Name, ValueList, same_name}
+use Rattle.batch_recipe.specs.declared.scaling.TheConstants.{MAX_VALUE}
+
+-- what has the name has this value
+abbrev pub with_value : Name → ℕ → ValueList → ValueList
+with_value name n vs = map (λ v. elim (same_name v.0 name) [ true ↦ (name, n) | false ↦ v ]) vs
+
+abbrev pub with_values : ValueList → ValueList → ValueList
+with_values [] vs = vs
+with_values (o ∷ os) vs = with_values os (with_value o.0 o.1 vs)
+
+abbrev pub with_outputs_zero : List Name → ValueList → ValueList
+with_outputs_zero names vs = with_values (map (λ name. (name, 0)) names) vs
+
+-- each is an output of the recipe, named once, with a value in range
+abbrev pub are_outputs : List Name → ValueList → Bool
+are_outputs names [] = true
+are_outputs names (o ∷ os) =
+    list_any (same_name o.0) names && not (list_any (λ q. same_name q.0 o.0) os) && nat_le o.1 MAX_VALUE && are_outputs names os

@@ -1,0 +1,106 @@
+//! The values of a batch by name, and the outputs that reports name.
+ghost use Rattle.std.specs.Prelude.{◌≡◌};
+ghost use Rattle.std.specs.List.{list_any};
+ghost use Rattle.batch_recipe.specs.Conditions.{same_name, value_of};
+ghost use Rattle.batch_recipe.specs.Values.{are_outputs, with_outputs_zero, with_value, with_values};
+
+use crate::scaling::MAX_VALUE;
+use batch_text::Name;
+use std::marker::Model;
+
+/// The values of a batch, by name: inputs, parameters and outputs.
+#[derive(Debug, Drop)]
+pub struct Values {
+    /// Names and values in the order inputs, parameters, outputs.
+    pub entries: Vec<(Name, u64)>,
+}
+
+impl Model for Values {
+    ghost use Rattle.std.specs.Prelude.{List, ℕ};
+
+    ghost Value = { List (List ℕ × ℕ) };
+
+    ghost view = { λ values. values.entries.items };
+}
+
+impl Values {
+    /// Values that are looked up in this order: where a name stands twice, its first value counts.
+    pub fn new(entries: Vec<(Name, u64)>) -> Values
+        ensures { result ≡ entries.items }
+    {
+        Values { entries }
+    }
+
+    /// The value with this name.
+    pub fn value_of(&self, name: &Name) -> Option<u64>
+        ensures { result ≡ value_of self.now name.now }
+    {
+        self.entries
+            .iter()
+            .find(|entry| entry.0 == *name)
+            .map(|entry| entry.1)
+    }
+
+    /// Sets what has this name to the value. Where nothing has it, nothing changes.
+    pub fn set(&mut self, name: &Name, value: u64)
+        ensures { self.new ≡ with_value name.now value self.old }
+    {
+        set_entries(&mut self.entries, name, value);
+    }
+
+    /// Sets each of these outputs, as a report names them.
+    pub fn set_outputs(&mut self, outputs: &[(Name, u64)])
+        ensures { self.new ≡ with_values outputs.now self.old }
+    {
+        for output in outputs {
+            self.set(&output.0, output.1);
+        }
+    }
+
+    /// Sets the outputs with these names to 0, as before the batch ran.
+    pub fn clear_outputs(&mut self, names: &[Name])
+        ensures { self.new ≡ with_outputs_zero names.now self.old }
+    {
+        for name in names {
+            self.set(name, 0);
+        }
+    }
+}
+
+/// Sets the entries with this name.
+fn set_entries(entries: &mut [(Name, u64)], name: &Name, value: u64)
+    ensures { entries.new ≡ with_value name.now value entries.old }
+{
+    for index in 0..entries.len() {
+        if entries[index].0 == *name {
+            entries[index].1 = value;
+        }
+    }
+}
+
+/// Whether a report may set these outputs of a recipe: each is one of the names, none is named twice, and no value is above
+/// `MAX_VALUE`.
+pub fn are_outputs(names: &[Name], outputs: &[(Name, u64)]) -> bool
+    ensures { result ≡ are_outputs names.now outputs.now }
+{
+    for (index, output) in outputs.iter().enumerate() {
+        let is_output = is_among(&output.0, names);
+        let is_named_again = is_named(&output.0, &outputs[index + 1..]);
+        if !is_output || is_named_again || output.1 > MAX_VALUE {
+            return false;
+        }
+    }
+    true
+}
+
+fn is_among(name: &Name, names: &[Name]) -> bool
+    ensures { result ≡ list_any (same_name name.now) names.now }
+{
+    names.iter().any(|known| *name == *known)
+}
+
+fn is_named(name: &Name, outputs: &[(Name, u64)]) -> bool
+    ensures { result ≡ list_any (λ output. same_name output.0 name.now) outputs.now }
+{
+    outputs.iter().any(|output| output.0 == *name)
+}
