@@ -12,7 +12,7 @@ use Rattle.batch_model.specs.Moves.{Move, ask, grant, release, line_after}
 use Rattle.batch_model.specs.Runs.{move}
 use Rattle.batch_model.specs.Records.{without, holders_after}
 use Rattle.batch_model.proofs.Members.{Each-append, Has-split}
-use Rattle.batch_safety.proofs.Entries.{IsOnce, once-snoc}
+use Rattle.batch_laws.proofs.Entries.{IsOnce, once-snoc}
 use Rattle.batch_verify.specs.ClearedSet.{ClearedSet}
 use Rattle.batch_arbiter.specs.Allocation.{Claim, Allocation, shares_of, line_of, asked, granted, released, without_first, is_claim, next_in, next_grant, batch_node, held_units}
 use Rattle.batch_engine.specs.declared.batch.Batch.{Batch}
@@ -42,7 +42,7 @@ is-same : (x y : Name) (P : Type 0) → (x ≡ y → P) → ((x ≡ y → ⊥) �
 is-same x y P same apart = go (same_name x y) refl
   where
     go : (t : Bool) → same_name x y ≡ t → P
-    go true e = same (Rattle.batch_safety.proofs.Entries.name_same x y e)
+    go true e = same (Rattle.batch_laws.proofs.Entries.name_same x y e)
     go false e = apart (λ s. absurd (let f : same_name x y ≡ true = name-yes x y s in let g : ◌≡◌ {A = Bool} true false = sym f ∙ e in cc))
 
 module _ (v : EngineView) (cell : IsOfCell v.cleared v.allocation) (q : ℕ) (need : Need) (e : number_of v.cleared need.resource ≡ Some q) where

@@ -20,7 +20,7 @@ use Rattle.batch_model.specs.Rest.{asking, acts}
 use Rattle.batch_model.proofs.Falling.{one_act}
 use Rattle.batch_model.proofs.Rising.{acts-rise}
 use Rattle.batch_model.proofs.Members.{Each-Has}
-use Rattle.batch_safety.proofs.Entries.{name_same}
+use Rattle.batch_laws.proofs.Entries.{name_same}
 use Rattle.batch_verify.specs.ClearedSet.{ClearedSet}
 use Rattle.batch_arbiter.specs.Allocation.{Claim, shares_of, line_of, next_grant, batch_node}
 use Rattle.batch_chart.specs.NodesOf.{no_need, place_at, need_at, step_at, task_at}

@@ -10,7 +10,7 @@ use Rattle.batch_model.specs.Placed.{IsPlaced}
 use Rattle.batch_model.specs.Plant as Model
 use Rattle.batch_model.specs.Rest.{Rest, live, acts}
 use Rattle.batch_model.specs.Standing.{IsRestOf}
-use Rattle.batch_safety.proofs.Entries.{name_same}
+use Rattle.batch_laws.proofs.Entries.{name_same}
 use Rattle.batch_chart.specs.NodesOf.{place_at, phase_at, phase_in}
 use Rattle.batch_chart.proofs.ActsOf.{of-tree, node-of}
 use Rattle.batch_engine.proofs.Nodes.{same-node}

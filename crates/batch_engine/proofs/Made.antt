@@ -17,8 +17,8 @@ use Rattle.batch_model.proofs.Batches.{one_batch}
 use Rattle.batch_model.proofs.Falling.{one_act}
 use Rattle.batch_model.proofs.Rising.{acts-rise}
 use Rattle.batch_model.proofs.Members.{Has-left, Has-right}
-use Rattle.batch_safety.proofs.Entries.{IsOnce, same_act, act_self, filter-Has, name_self}
-use Rattle.batch_safety.specs.Telling.{IsTold}
+use Rattle.batch_laws.proofs.Entries.{IsOnce, same_act, act_self, filter-Has, name_self}
+use Rattle.batch_laws.specs.Telling.{IsTold}
 use Rattle.batch_arbiter.specs.Allocation.{Claim, Allocation, shares_of, line_of, asked, granted, released, is_claim, IsHeld, next_grant, next_in, batch_node, capacity_of, resource_count}
 use Rattle.batch_arbiter.proofs.Cells.{length-capacities}
 use Rattle.batch_chart.specs.NodesOf.{no_need, place_at, step_at, task_at, need_at}

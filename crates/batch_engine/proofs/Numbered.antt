@@ -25,7 +25,7 @@ use Rattle.batch_model.specs.Lists.{Has, Each}
 use Rattle.batch_model.specs.Plant as Model
 use Rattle.batch_model.proofs.Members.{Each-map}
 use Rattle.batch_model.proofs.Parts.{parts-nodes}
-use Rattle.batch_safety.proofs.Entries.{name_same}
+use Rattle.batch_laws.proofs.Entries.{name_same}
 use Rattle.batch_verify.specs.ClearedSet.{ClearedSet}
 use Rattle.batch_arbiter.proofs.Positions.{NonePasses, NonePasses-position}
 use Rattle.batch_chart.specs.NodesOf.{nodes_of, node_at, step_of, step_at, task_of, task_at, need_at, no_need, phase_at, phase_in}

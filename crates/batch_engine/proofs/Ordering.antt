@@ -13,7 +13,7 @@ use Rattle.batch_model.specs.Lists.{Has, Each}
 use Rattle.batch_matrix.specs.declared.state.State.TheVariants.{Idle}
 use Rattle.batch_recipe.specs.Conditions.{ValueList}
 use Rattle.batch_model.specs.Rest.{withdrawn, reach}
-use Rattle.batch_model.specs.Events.{with_outputs_zero}
+use Rattle.batch_recipe.specs.Values.{with_outputs_zero}
 use Rattle.batch_engine.specs.View.{tree_of, recipe_made}
 use Rattle.batch_model.specs.Plant as Model
 use Rattle.batch_model.specs.Plant.{Share, Plant, batch_at, in_batch}
@@ -21,7 +21,7 @@ use Rattle.batch_model.specs.Moves.{Move, next}
 use Rattle.batch_model.specs.Events.{Reply, order, ordered, refused, moves_pending, unknown_batch, command_not_accepted, commanded, lines_under, ordering, judged, react, Answer}
 use Rattle.batch_model.specs.Runs.{Reacts}
 use Rattle.batch_model.proofs.Members.{Each-filter}
-use Rattle.batch_safety.proofs.Entries.{IsOnce, once-filter}
+use Rattle.batch_laws.proofs.Entries.{IsOnce, once-filter}
 use Rattle.batch_arbiter.specs.Allocation as Arbiter
 use Rattle.batch_arbiter.specs.Allocation.{Claim, Allocation, shares_of, line_of, is_of_batch}
 use Rattle.batch_chart.specs.Charts.{IsRunningOf, remains}

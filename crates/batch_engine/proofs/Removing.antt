@@ -16,11 +16,10 @@ use Rattle.batch_model.specs.Events.{removed, refused, moves_pending, unknown_ba
 use Rattle.batch_model.specs.Runs.{Reacts}
 use Rattle.batch_model.specs.Standing.{AreNumbered}
 use Rattle.batch_model.proofs.Batches.{one_batch}
-use Rattle.batch_safety.proofs.Entries.{IsOnce, Has-holders}
-use Rattle.batch_safety.proofs.Facts.{Fact, holding, awaiting, facts, entries}
-use Rattle.batch_safety.proofs.Batches.{holders-entries}
-use Rattle.batch_safety.proofs.Invariant.{IsFitting}
-use Rattle.batch_safety.proofs.Safety.{entry-of}
+use Rattle.batch_laws.proofs.Entries.{IsOnce, Has-holders}
+use Rattle.batch_laws.proofs.Facts.{Fact, holding, awaiting, facts, entries}
+use Rattle.batch_laws.proofs.Batches.{holders-entries, entry-of}
+use Rattle.batch_laws.proofs.Invariant.{IsFitting}
 use Rattle.batch_verify.specs.ClearedSet.{ClearedSet}
 use Rattle.batch_arbiter.specs.Allocation.{Claim, Allocation, shares_of, line_of}
 use Rattle.batch_chart.specs.NodesOf.{needs_in, place_at}

@@ -13,8 +13,8 @@ use Rattle.batch_model.specs.Moves.{is_served}
 use Rattle.batch_model.specs.Documents.{capacity_of}
 use Rattle.batch_cell.specs.LookUps.{capacities_of}
 use Rattle.batch_model.specs.Records.{holders_told}
-use Rattle.batch_safety.specs.Telling.{IsTold}
-use Rattle.batch_safety.proofs.Entries.{act_self, same_act, units-cons}
+use Rattle.batch_laws.specs.Telling.{IsTold}
+use Rattle.batch_laws.proofs.Entries.{act_self, same_act, units-cons}
 use Rattle.batch_arbiter.specs.Allocation.{Claim, Allocation, line_of, shares_of, held_units, next_in, next_grant, batch_node}
 use Rattle.batch_engine.specs.View.{EngineView, documents, act_of, acts_of, names_of, number_of, line_in, line_at, place_in, plant_of}
 use Rattle.batch_engine.specs.Kept.{IsKept}

@@ -12,7 +12,7 @@ use Rattle.batch_model.specs.Records.{holders_after, holders_told}
 use Rattle.batch_model.proofs.Batches.{only}
 use Rattle.batch_model.proofs.Leading.{Leads-move}
 use Rattle.batch_model.proofs.Telling.{holders_told-last}
-use Rattle.batch_safety.proofs.Entries.{IsOnce}
+use Rattle.batch_laws.proofs.Entries.{IsOnce}
 use Rattle.batch_arbiter.specs.Allocation.{Claim, Allocation, shares_of, line_of}
 use Rattle.batch_chart.specs.Charts.{IsRunningOf}
 use Rattle.batch_engine.specs.declared.batch.Batch.{Batch}

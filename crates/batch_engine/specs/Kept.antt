@@ -12,7 +12,7 @@ use Rattle.batch_model.specs.Plant.{BatchAct, Plant, opening}
 use Rattle.batch_model.specs.Events.{Event}
 use Rattle.batch_model.specs.Runs.{Out, Leads}
 use Rattle.batch_model.specs.Records.{holders_told}
-use Rattle.batch_safety.proofs.Entries.{IsOnce}
+use Rattle.batch_laws.proofs.Entries.{IsOnce}
 use Rattle.batch_verify.specs.ClearedSet.{ClearedSet}
 use Rattle.batch_arbiter.specs.Allocation.{Claim, Allocation, line_of, shares_of, resource_count}
 use Rattle.batch_chart.specs.NodesOf.{needs_in}

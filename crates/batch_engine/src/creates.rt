@@ -37,7 +37,10 @@ fn values_for(alloc: Global, recipe: &Recipe, size: u64) -> Result<Values, BadVa
     match formula(alloc, recipe, size) {
         Ok(values) => Ok(values),
         Err(FormulaFault::Size) => Err(BadValues::Size),
-        Err(FormulaFault::OutOfRange(name)) => Err(BadValues::OutOfRange(0)),
+        Err(FormulaFault::OutOfRange {
+            number,
+            name: _name,
+        }) => Err(BadValues::OutOfRange(number)),
         Err(FormulaFault::Memory) => Err(BadValues::Memory),
     }
 }

@@ -3,7 +3,6 @@ ghost use Rattle.std.specs.Prelude.{◌≡◌, None, nat_eq, position};
 ghost use Rattle.batch_matrix.specs.Matrix.{target};
 ghost use Rattle.batch_matrix.specs.declared.command.Command.TheVariants as Command;
 ghost use Rattle.batch_model.specs.Events as Events;
-ghost use Rattle.batch_model.specs.Events.{with_outputs_zero};
 ghost use Rattle.batch_model.specs.Moves.{next};
 ghost use Rattle.batch_engine.specs.Answered.{IsAnswered};
 ghost use Rattle.batch_engine.specs.Orders.{EndsAsks, IsOrder, IsOrdered, IsPlain};
@@ -11,7 +10,6 @@ ghost use Rattle.batch_engine.specs.View.{documents, plant_of};
 
 use crate::batch::Batch;
 use crate::engine::Engine;
-use crate::outputs::clear_outputs;
 use crate::refusal::Refusal;
 use crate::reply::Reply;
 use batch_matrix::{Command, State, after};
@@ -63,7 +61,7 @@ impl Engine {
         let batch = &mut self.batches[index];
         let chart = &self.charts[usize::from(batch.recipe)];
         let recipe = &self.cleared.recipes()[usize::from(batch.recipe)];
-        clear_outputs(&mut batch.values, &recipe.outputs);
+        batch.values.clear_outputs(&recipe.outputs);
         batch.state = State::Idle;
         batch.running.reset(chart);
     }

@@ -10,10 +10,10 @@ ghost use Rattle.batch_engine.specs.View.{documents, plant_of};
 use crate::engine::Engine;
 use crate::event::PhaseReport;
 use crate::numbers::PhaseNumber;
-use crate::outputs::{are_outputs, set_outputs};
 use crate::refusal::Refusal;
 use crate::reply::Reply;
 use batch_matrix::{Command, Report, State, after, after_report};
+use batch_recipe::are_outputs;
 use batch_text::Name;
 
 /// The state of a batch after a report: a fault takes it to Holding where its state accepts hold.
@@ -64,7 +64,7 @@ impl Engine {
         let batch = &mut self.batches[index];
         let number = batch.number;
         let chart = &self.charts[usize::from(batch.recipe)];
-        set_outputs(&mut batch.values, &report.outputs);
+        batch.values.set_outputs(&report.outputs);
         let next = state_after(report.word, batch.state);
         batch.state = next;
         batch

@@ -19,7 +19,7 @@ use Rattle.batch_engine.proofs.Stepping.{changed}
 use Rattle.batch_engine.proofs.Ordering.{Ordered, enter-made, stop-made, reset-made}
 use Rattle.batch_engine.proofs.OrderAnswers.{order-at, order-batch, closed-kept', closed-ordered}
 use Rattle.batch_recipe.specs.Conditions.{ValueList}
-use Rattle.batch_model.specs.Events.{with_outputs_zero}
+use Rattle.batch_recipe.specs.Values.{with_outputs_zero}
 use Rattle.batch_engine.specs.View.{recipe_at}
 use Rattle.batch_engine.proofs.Finding.{recipe-read}
 use Rattle.batch_engine.proofs.engine.Engine.reset.Goals as goal
@@ -54,16 +54,16 @@ invariant_of-self c =
     let outputs : (recipe_made v.cleared b).outputs ≡ c.deref.result.now =
     ap (λ (z : Rattle.batch_model.specs.Plant.Recipe). z.outputs) (recipe-read v.cleared c.recipes.result.now c.from-2.result b.recipe c.index-recipes-from.result (c.recipes.ensures.value ∙ ap (λ (z : EngineView). z.cleared.recipes) c.self.view_is) c.from-2.ensures known c.index-recipes-from.is)
     ∙ sym c.deref.ensures.value in
-    let values : c.clear_outputs.new.values ≡ with_outputs_zero (recipe_made v.cleared b).outputs b.values = c.clear_outputs.ensures ∙ ap (λ z. with_outputs_zero z b.values) (sym outputs) in
-    let b' : Batch = record b { values = c.clear_outputs.new.values; state = Idle; running = c.reset.new.self } in
+    let values : c.clear_outputs.new.self ≡ with_outputs_zero (recipe_made v.cleared b).outputs b.values = c.clear_outputs.ensures ∙ ap (λ z. with_outputs_zero z b.values) (sym outputs) in
+    let b' : Batch = record b { values = c.clear_outputs.new.self; state = Idle; running = c.reset.new.self } in
     let made = λ (ws : ValueList). c.reset.ensures (tree_of v.cleared b) ws (kept.charts.each b.recipe x compiled) (batch-runs v kept i b at).runs in
-    let r : Ordered v (changed v i (record (o.batch) { values = c.clear_outputs.new.values; state = Idle; running = c.reset.new.self }) v.allocation) Reset n =
-      reset-made v kept i n o c.reset.new.self c.clear_outputs.new.values
-      (subst (λ (z : Batch). c.clear_outputs.new.values ≡ with_outputs_zero (recipe_made v.cleared z).outputs z.values) (sym is) values)
+    let r : Ordered v (changed v i (record (o.batch) { values = c.clear_outputs.new.self; state = Idle; running = c.reset.new.self }) v.allocation) Reset n =
+      reset-made v kept i n o c.reset.new.self c.clear_outputs.new.self
+      (subst (λ (z : Batch). c.clear_outputs.new.self ≡ with_outputs_zero (recipe_made v.cleared z).outputs z.values) (sym is) values)
       (subst (λ (z : Batch). Rattle.batch_chart.specs.Charts.IsRunningOf (tree_of v.cleared z) c.reset.new.self) (sym is) (made []).0)
       (λ ws. subst (λ (z : Batch). Rattle.batch_chart.specs.Charts.remains (tree_of v.cleared z) c.reset.new.self ≡ Rattle.batch_model.specs.Rest.reach ws (tree_of v.cleared z)) (sym is) (made ws).1) in
     let s : Ordered v (changed v i b' v.allocation) Reset n =
-    subst (λ (z : Batch). Ordered v (changed v i (record z { values = c.clear_outputs.new.values; state = Idle; running = c.reset.new.self }) v.allocation) Reset n) is r in
+    subst (λ (z : Batch). Ordered v (changed v i (record z { values = c.clear_outputs.new.self; state = Idle; running = c.reset.new.self }) v.allocation) Reset n) is r in
     let a : Ordered v (changed v i b' c.self.inside.arbiter) Reset n =
     subst (λ (z : Allocation). Ordered v (changed v i b' z) Reset n) (sym (ap (λ (z : EngineView). z.allocation) c.self.view_is)) s in
     closed-kept' v _ i b' c.self.inside.arbiter Reset n c.self.view_is a
@@ -84,16 +84,16 @@ returns c =
     let outputs : (recipe_made v.cleared b).outputs ≡ c.deref.result.now =
     ap (λ (z : Rattle.batch_model.specs.Plant.Recipe). z.outputs) (recipe-read v.cleared c.recipes.result.now c.from-2.result b.recipe c.index-recipes-from.result (c.recipes.ensures.value ∙ ap (λ (z : EngineView). z.cleared.recipes) c.self.view_is) c.from-2.ensures known c.index-recipes-from.is)
     ∙ sym c.deref.ensures.value in
-    let values : c.clear_outputs.new.values ≡ with_outputs_zero (recipe_made v.cleared b).outputs b.values = c.clear_outputs.ensures ∙ ap (λ z. with_outputs_zero z b.values) (sym outputs) in
-    let b' : Batch = record b { values = c.clear_outputs.new.values; state = Idle; running = c.reset.new.self } in
+    let values : c.clear_outputs.new.self ≡ with_outputs_zero (recipe_made v.cleared b).outputs b.values = c.clear_outputs.ensures ∙ ap (λ z. with_outputs_zero z b.values) (sym outputs) in
+    let b' : Batch = record b { values = c.clear_outputs.new.self; state = Idle; running = c.reset.new.self } in
     let made = λ (ws : ValueList). c.reset.ensures (tree_of v.cleared b) ws (kept.charts.each b.recipe x compiled) (batch-runs v kept i b at).runs in
-    let r : Ordered v (changed v i (record (o.batch) { values = c.clear_outputs.new.values; state = Idle; running = c.reset.new.self }) v.allocation) Reset n =
-      reset-made v kept i n o c.reset.new.self c.clear_outputs.new.values
-      (subst (λ (z : Batch). c.clear_outputs.new.values ≡ with_outputs_zero (recipe_made v.cleared z).outputs z.values) (sym is) values)
+    let r : Ordered v (changed v i (record (o.batch) { values = c.clear_outputs.new.self; state = Idle; running = c.reset.new.self }) v.allocation) Reset n =
+      reset-made v kept i n o c.reset.new.self c.clear_outputs.new.self
+      (subst (λ (z : Batch). c.clear_outputs.new.self ≡ with_outputs_zero (recipe_made v.cleared z).outputs z.values) (sym is) values)
       (subst (λ (z : Batch). Rattle.batch_chart.specs.Charts.IsRunningOf (tree_of v.cleared z) c.reset.new.self) (sym is) (made []).0)
       (λ ws. subst (λ (z : Batch). Rattle.batch_chart.specs.Charts.remains (tree_of v.cleared z) c.reset.new.self ≡ Rattle.batch_model.specs.Rest.reach ws (tree_of v.cleared z)) (sym is) (made ws).1) in
     let s : Ordered v (changed v i b' v.allocation) Reset n =
-    subst (λ (z : Batch). Ordered v (changed v i (record z { values = c.clear_outputs.new.values; state = Idle; running = c.reset.new.self }) v.allocation) Reset n) is r in
+    subst (λ (z : Batch). Ordered v (changed v i (record z { values = c.clear_outputs.new.self; state = Idle; running = c.reset.new.self }) v.allocation) Reset n) is r in
     let a : Ordered v (changed v i b' c.self.inside.arbiter) Reset n =
     subst (λ (z : Allocation). Ordered v (changed v i b' z) Reset n) (sym (ap (λ (z : EngineView). z.allocation) c.self.view_is)) s in
     closed-ordered v _ i b' c.self.inside.arbiter Reset n c.self.view_is a
