@@ -1,8 +1,6 @@
 //! The check of a set of recipes: the least ranking of a cell's resources that clears them, or why there is none.
 #![tactic(auto)]
 
-#[cfg(test)]
-mod check_tests;
 mod checking;
 mod circle;
 mod collecting;
@@ -15,8 +13,6 @@ mod naming;
 mod path;
 mod raising;
 mod ranking;
-#[cfg(test)]
-mod tests;
 mod turning;
 
 pub use checking::check;

@@ -1,9 +1,6 @@
-pub mod Faults
-pub mod PlaceTexts
-pub mod ShallowPlaces
+pub mod BytesRead
 pub mod Grown
 pub mod RecipesRead
-pub mod CommandRows
 pub mod Halted
 pub mod CertificatesAreRead
 pub mod Outcomes

@@ -6,7 +6,7 @@ use Rattle.batch_commands.specs.Halting.{HaltsCheck, HaltsVerify}
 use Rattle.batch_commands.specs.Judging.{IsHalt}
 use Rattle.batch_commands.specs.Reading.{ChecksDocuments, Gives, VerifiesDocuments}
 use Rattle.batch_commands.specs.Running.{IsOutcome}
-use Rattle.batch_commands.specs.declared.command.Command.TheVariants.{Check, Verify}
+use Rattle.batch_words.specs.declared.command.Command.TheVariants.{Check, Verify}
 use Rattle.batch_commands.specs.declared.verdict.Halt.{Halt}
 use Rattle.batch_commands.specs.declared.verdict.Verdict.{Verdict}
 

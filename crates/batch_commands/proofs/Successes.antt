@@ -5,13 +5,13 @@ use Rattle.clap.specs.Kinds.{IsAmong}
 use Rattle.clap.specs.Walk.{Row, Text}
 use Rattle.clap.specs.declared.error.kind.ErrorKind.{ErrorKind}
 use Rattle.clap.specs.Words.{fault_of, subcommand_of}
-use Rattle.batch_commands.specs.CommandLine.{IsCommandOf, program_app, word_of, words_of}
+use Rattle.batch_words.specs.CommandLine.{IsCommandOf, program_app, word_of, words_of}
 use Rattle.batch_commands.specs.Judging.{IsVerified, status_of}
 use Rattle.batch_commands.specs.Reading.{Gives}
 use Rattle.batch_commands.specs.Running.{IsNamed, IsOutcome, IsPrinted, IsRun, IsTold, Stream, serves, judges, helps, misuses, starves}
 use Rattle.batch_commands.specs.Statuses.{IsSuccess, NoCommandServes, SuccessIsTold}
-use Rattle.batch_commands.specs.declared.command.Command.{Command}
-use Rattle.batch_commands.specs.declared.command.Command.TheVariants.{Serve, Check, Verify}
+use Rattle.batch_words.specs.declared.command.Command.{Command}
+use Rattle.batch_words.specs.declared.command.Command.TheVariants.{Serve, Check, Verify}
 use Rattle.batch_commands.specs.declared.verdict.Ending.{Ending}
 use Rattle.batch_commands.specs.declared.verdict.Ending.TheVariants.{Accepted, Refused, OutOfMemory}
 use Rattle.batch_commands.specs.declared.verdict.Halt.{Halt}

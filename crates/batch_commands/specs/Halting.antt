@@ -3,8 +3,8 @@ use Rattle.std.specs.Prelude.{◌≡◌, ℕ, List, [], ◌∷◌, Some, ◌⊎�
 use Rattle.batch_cell.specs.declared.cell.Cell.{Cell}
 use Rattle.batch_recipe.specs.declared.recipe.Recipe.{Recipe}
 use Rattle.batch_verify.specs.CertificateText.{Rank}
-use Rattle.batch_commands.specs.Judging.{RefusesCell, RefusesCertificate, RefusesRecipe}
-use Rattle.batch_commands.specs.Reading.{Gives, IsUnread, ReadsCell, ReadsCertificate, ReadsRecipe}
+use Rattle.batch_commands.specs.Judging.{RefusesCell, RefusesCertificate, RefusesRecipe, RefusesSet}
+use Rattle.batch_commands.specs.Reading.{AreRead, Gives, IsUnread, ReadsCell, ReadsCertificate, ReadsRecipe}
 use Rattle.batch_commands.specs.declared.verdict.Halt.{Halt}
 use Rattle.batch_commands.specs.declared.verdict.Halt.TheVariants.{Memory}
 
@@ -34,3 +34,9 @@ HaltsVerify gives cell certificate recipes h =
     HaltsAtCell gives cell h
     ⊎ ((c : Cell) × ReadsCell gives cell c
     × (HaltsAtCertificate gives certificate h ⊎ ((ranks : List Rank) × ReadsCertificate gives certificate ranks × HaltsAtRecipes gives recipes h)))
+
+-- the same of the documents of a set, or all are read and the set isn't cleared
+abbrev pub HaltsClearing : Gives → List ℕ → List ℕ → List (List ℕ) → Halt → Type 0
+HaltsClearing gives cell certificate paths h =
+    HaltsVerify gives cell certificate paths h
+    ⊎ ((c : Cell) × (ranks : List Rank) × (rs : List Recipe) × AreRead gives cell certificate paths c ranks rs × RefusesSet c rs ranks h)

@@ -100,6 +100,16 @@ IsVerified c rs ranks text Refused =
     × (text ≡ refusal_text c rs ranks refusal)
 IsVerified c rs ranks text OutOfMemory = text ≡ refusal_text c rs ranks set.Memory
 
+-- the certificate ranks each resource once, and its ranks clear the recipes
+abbrev pub IsClearedBy : Cell → List Recipe → List Rank → Type 0
+IsClearedBy c rs ranks = RanksAll (cell_of c) ranks × IsCleared (cell_of c) (documents_of c rs) (rank_of ranks)
+
+-- it doesn't, or memory for the judgement ran out, and the verdict says so, unless there was no memory for the verdict
+abbrev pub RefusesSet : Cell → List Recipe → List Rank → Halt → Type 0
+RefusesSet c rs ranks (halt.Refused verdict) = (verdict.ending ≢ Accepted) × IsVerified c rs ranks (string_bytes verdict.text) verdict.ending
+RefusesSet c rs ranks (halt.Unread message) = ⊥
+RefusesSet c rs ranks halt.Memory = ⊤
+
 -- what is printed of recipes alone: a text that is read as the least ranks, in order of name, and is not too long for a file,
 -- or why there are none
 abbrev pub IsChecked : Cell → List Recipe → List ℕ → Ending → Type 0

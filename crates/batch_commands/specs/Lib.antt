@@ -1,6 +1,6 @@
-pub mod CommandLine
 pub mod VerdictTexts
 pub mod Judging
+pub mod Bytes
 pub mod Reading
 pub mod Halting
 pub mod Running

@@ -5,7 +5,8 @@ use Rattle.batch_recipe.specs.declared.recipe.Recipe.{Recipe}
 use Rattle.batch_reader.specs.CellDocument.{IsCellDocument}
 use Rattle.batch_reader.specs.RecipeDocument.{IsRecipeDocument}
 use Rattle.batch_verify.specs.CertificateText.{Rank, IsCertificateText}
-use Rattle.batch_commands.specs.Judging.{IsChecked, IsVerified}
+use Rattle.batch_verify.specs.ClearedSet.{ClearedSet}
+use Rattle.batch_commands.specs.Judging.{IsChecked, IsClearedBy, IsVerified}
 use Rattle.batch_commands.specs.declared.verdict.Ending.{Ending}
 use Rattle.batch_commands.specs.declared.verdict.Halt.{Halt}
 use Rattle.batch_commands.specs.declared.verdict.Halt.TheVariants.{Refused, Unread, Memory}
@@ -42,6 +43,18 @@ pub record ChecksDocuments (gives : Gives) (cell : List ℕ) (paths : List (List
   pub cell_read : ReadsCell gives cell equipment
   pub recipes_read : ReadsRecipes gives paths recipes
   pub judged : IsChecked equipment recipes text ending
+
+-- the documents at these paths are the cell, a certificate of these ranks, and the recipes
+pub record AreRead (gives : Gives) (cell certificate : List ℕ) (paths : List (List ℕ)) (equipment : Cell) (ranks : List Rank) (recipes : List Recipe) : Type 0 where
+  pub cell_read : ReadsCell gives cell equipment
+  pub certificate_read : ReadsCertificate gives certificate ranks
+  pub recipes_read : ReadsRecipes gives paths recipes
+
+-- they make this set, which their certificate clears
+pub record AreCleared (gives : Gives) (cell certificate : List ℕ) (paths : List (List ℕ)) (set : ClearedSet) : Type 0 where
+  pub ranks : List Rank
+  pub read : AreRead gives cell certificate paths set.cell ranks set.recipes
+  pub cleared : IsClearedBy set.cell set.recipes ranks
 
 -- the verdict of `verify` on the documents at these paths
 pub record VerifiesDocuments (gives : Gives) (cell certificate : List ℕ) (paths : List (List ℕ)) (text : List ℕ) (ending : Ending) : Type 0 where

@@ -8,12 +8,12 @@ use Rattle.clap.specs.Walk.{Text}
 use Rattle.clap.specs.Words.{fault_of, subcommand_of}
 use Rattle.clap.specs.declared.error.kind.ErrorKind.{ErrorKind}
 use Rattle.clap.specs.declared.error.kind.ErrorKind.TheVariants.{DisplayHelp}
-use Rattle.batch_commands.specs.CommandLine.{IsCommandOf, program_app}
+use Rattle.batch_words.specs.CommandLine.{IsCommandOf, program_app}
 use Rattle.batch_commands.specs.Halting.{HaltsCheck, HaltsVerify}
 use Rattle.batch_commands.specs.Judging.{IsHalt, status_of}
 use Rattle.batch_commands.specs.Reading.{ChecksDocuments, Gives, VerifiesDocuments}
-use Rattle.batch_commands.specs.declared.command.Command.{Command}
-use Rattle.batch_commands.specs.declared.command.Command.TheVariants.{Serve, Check, Verify}
+use Rattle.batch_words.specs.declared.command.Command.{Command}
+use Rattle.batch_words.specs.declared.command.Command.TheVariants.{Serve, Check, Verify}
 use Rattle.batch_commands.specs.declared.verdict.Halt.{Halt}
 use Rattle.batch_commands.specs.declared.verdict.Halt.TheVariants as halt
 use Rattle.batch_commands.specs.declared.verdict.Verdict.{Verdict}

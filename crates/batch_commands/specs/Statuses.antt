@@ -11,8 +11,8 @@ use Rattle.batch_verify.specs.Ranked.{rank_of, RanksAll}
 use Rattle.batch_commands.specs.Reading.{ChecksDocuments, Gives, ReadsCell, ReadsCertificate, ReadsRecipes}
 use Rattle.batch_commands.specs.Running.{IsNamed, IsRun, Stream, memory_status}
 use Rattle.batch_commands.specs.VerdictTexts.{accepted_text}
-use Rattle.batch_commands.specs.declared.command.Command.{Command}
-use Rattle.batch_commands.specs.declared.command.Command.TheVariants.{Serve, Check, Verify}
+use Rattle.batch_words.specs.declared.command.Command.{Command}
+use Rattle.batch_words.specs.declared.command.Command.TheVariants.{Serve, Check, Verify}
 use Rattle.batch_commands.specs.declared.verdict.Ending.TheVariants.{Accepted}
 
 -- the documents at these paths are a cell, a certificate that ranks each of its resources once, and recipes that are cleared

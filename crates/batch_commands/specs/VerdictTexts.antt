@@ -1,11 +1,11 @@
 -- The texts of the program's verdicts.
-use Rattle.std.specs.Prelude.{ℕ, zero, suc, ◌+◌, List, [], ◌∷◌, ◌++◌, codes, decimal, slice_get, unwrap_or, option_map}
+use Rattle.std.specs.Prelude.{ℕ, ◌+◌, List, [], ◌∷◌, ◌++◌, codes, decimal, slice_get, unwrap_or, option_map}
 use Rattle.std.specs.List.{flat_map}
 use Rattle.batch_cell.specs.LookUps.{resources_of}
 use Rattle.batch_cell.specs.declared.cell.Cell.{Cell}
-use Rattle.batch_recipe.specs.Tree.{Place}
 use Rattle.batch_recipe.specs.Nodes.{Node}
 use Rattle.batch_recipe.specs.Procedure.{procedure_nodes}
+use Rattle.batch_recipe.specs.Texts.{line_text, place_text}
 use Rattle.batch_recipe.specs.declared.recipe.Recipe.{Recipe}
 use Rattle.batch_reader.specs.Words.{spot_text}
 use Rattle.batch_reader.specs.declared.fault.DocFault.{DocFault}
@@ -22,12 +22,6 @@ use Rattle.batch_verify.specs.declared.rule.Rule.TheVariants.{UnknownResource, P
 use Rattle.batch_check.specs.declared.edge.Edge.{Edge}
 use Rattle.batch_check.specs.declared.fault.CheckFault.{CheckFault}
 use Rattle.batch_check.specs.declared.fault.CheckFault.TheVariants as check
-
--- the words with one space between, and a line feed
-abbrev pub line_text : List (List ℕ) → List ℕ
-line_text [] = codes "\n"
-line_text (word ∷ []) = word ++ codes "\n"
-line_text (word ∷ next ∷ others) = word ++ (codes " " ++ line_text (next ∷ others))
 
 abbrev pub refused : List (List ℕ) → List ℕ
 refused words = line_text (codes "refused" ∷ words)
@@ -58,17 +52,6 @@ abbrev pub document_text : List ℕ → DocFault → List ℕ
 document_text path fault = refused (document_words path fault)
 
 -- Places
-
--- what stands before the number at this depth
-abbrev pub dot_text : ℕ → List ℕ
-dot_text zero = []
-dot_text (suc depth) = codes "."
-
--- the numbers of a place, with dots between
-abbrev pub place_text : Place → List ℕ
-place_text [] = []
-place_text (n ∷ []) = decimal n
-place_text (n ∷ m ∷ below) = decimal n ++ (codes "." ++ place_text (m ∷ below))
 
 -- where the node with this number is
 abbrev pub place_of : Recipe → ℕ → List ℕ

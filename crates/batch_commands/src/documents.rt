@@ -1,17 +1,18 @@
 //! Reading and judging documents, each before the next.
 ghost use Rattle.std.specs.Prelude.{◌≡◌, ℕ, List, Option, map, IfOk, IfErr, string_bytes};
-ghost use Rattle.batch_commands.specs.Halting.{HaltsAtCell, HaltsAtCertificate, HaltsAtRecipe, HaltsAtRecipes, HaltsCheck, HaltsVerify};
+ghost use Rattle.batch_commands.specs.Halting.{HaltsAtCell, HaltsAtCertificate, HaltsAtRecipe, HaltsAtRecipes, HaltsCheck, HaltsClearing, HaltsVerify};
 ghost use Rattle.batch_commands.specs.Judging.{IsHalt};
-ghost use Rattle.batch_commands.specs.Reading.{ChecksDocuments, IsUnread, ReadsCell, ReadsCertificate, ReadsRecipe, ReadsRecipes, VerifiesDocuments};
+ghost use Rattle.batch_commands.specs.Reading.{AreCleared, AreRead, ChecksDocuments, IsUnread, ReadsCell, ReadsCertificate, ReadsRecipe, ReadsRecipes, VerifiesDocuments};
 
 use crate::judging::{
-    MAX_CERTIFICATE_LEN, check_recipes, judge_cell, judge_certificate, judge_recipe, verify_recipes,
+    MAX_CERTIFICATE_LEN, check_recipes, clear_recipes, judge_cell, judge_certificate, judge_recipe,
+    verify_recipes,
 };
 use crate::verdict::{Halt, Verdict};
 use batch_cell::Cell;
 use batch_reader::MAX_DOCUMENT_LEN;
 use batch_recipe::Recipe;
-use batch_verify::Certificate;
+use batch_verify::{Certificate, Cleared};
 use std::alloc::Global;
 
 /// Where documents are read from.
@@ -55,10 +56,57 @@ pub fn verify_documents<D: Documents>(
     ensures halts { IfErr result IsHalt }
     ensures halted { IfErr result (HaltsVerify (D.gives documents.now) cell.now certificate.now (map string_bytes recipes.now)) }
 {
+    let read = read_set(alloc, documents, cell, certificate, recipes)?;
+    Ok(verify_recipes(alloc, read.cell, read.recipes, &read.certificate)?)
+}
+
+/// The set that the documents at these paths make, cleared by the certificate among them.
+///
+/// The first document that can't be read or is refused ends it, and then recipes that aren't cleared, with the verdict that
+/// `verify` prints.
+pub fn clear_documents<D: Documents>(
+    alloc: Global,
+    documents: &D,
+    cell: &str,
+    certificate: &str,
+    recipes: &[String],
+) -> Result<Cleared, Halt>
+    ensures cleared { IfOk result (AreCleared (D.gives documents.now) cell.now certificate.now (map string_bytes recipes.now)) }
+    ensures halts { IfErr result IsHalt }
+    ensures halted { IfErr result (HaltsClearing (D.gives documents.now) cell.now certificate.now (map string_bytes recipes.now)) }
+{
+    let read = read_set(alloc, documents, cell, certificate, recipes)?;
+    clear_recipes(alloc, read.cell, read.recipes, &read.certificate)
+}
+
+/// What the documents of a set say.
+#[derive(Drop)]
+struct DocumentSet {
+    cell: Cell,
+    certificate: Certificate,
+    recipes: Vec<Recipe>,
+}
+
+fn read_set<D: Documents>(
+    alloc: Global,
+    documents: &D,
+    cell: &str,
+    certificate: &str,
+    recipes: &[String],
+) -> Result<DocumentSet, Halt>
+    ensures read { IfOk result (λ set. AreRead (D.gives documents.now) cell.now certificate.now (map string_bytes recipes.now)
+        set.cell set.certificate.ranks.items set.recipes.items) }
+    ensures halts { IfErr result IsHalt }
+    ensures halted { IfErr result (HaltsVerify (D.gives documents.now) cell.now certificate.now (map string_bytes recipes.now)) }
+{
     let cell = read_cell(alloc, documents, cell)?;
     let certificate = read_certificate(alloc, documents, certificate)?;
     let recipes = read_recipes(alloc, documents, recipes)?;
-    Ok(verify_recipes(alloc, cell, recipes, &certificate)?)
+    Ok(DocumentSet {
+        cell,
+        certificate,
+        recipes,
+    })
 }
 
 fn read_cell<D: Documents>(alloc: Global, documents: &D, path: &str) -> Result<Cell, Halt>

@@ -3,11 +3,11 @@ ghost use Rattle.std.specs.Prelude.{⊤};
 ghost use Rattle.batch_commands.specs.Reading.{IsUnread};
 
 use crate::documents::Documents;
+use crate::reading::{ReadFault, read_document};
 use crate::verdict::Halt;
 use std::alloc::Global;
-use std::io::{ErrorKind, Read};
+use std::fs;
 use std::rt::Files;
-use std::{fs, io};
 
 /// The files that the runtime opens. No contract says what they hold.
 #[derive(Drop)]
@@ -18,27 +18,30 @@ impl<R: Files> Documents for FilesOf<'_, R> {
 
     fn read(&self, alloc: Global, path: &str, limit: usize) -> Result<Vec<u8>, Halt> {
         match read_file(self.0, alloc, path, limit) {
-            Ok(bytes) => Ok(bytes),
-            Err(error) => Err(unread(alloc, path, &error)),
+            Ok(bytes) | Err(ReadFault::Long(bytes)) => Ok(bytes),
+            Err(fault) => Err(unread(alloc, path, &fault)),
         }
     }
 }
 
-fn read_file<R: Files>(rt: &R, alloc: Global, path: &str, limit: usize) -> io::Result<Vec<u8>> {
-    let file = fs::open(rt, path)?;
-    let mut bytes = Vec::new(alloc);
-    file.take((limit as u64).saturating_add(1))
-        .read_to_end(&mut bytes)?;
-    Ok(bytes)
+fn read_file<R: Files>(
+    rt: &R,
+    alloc: Global,
+    path: &str,
+    limit: usize,
+) -> Result<Vec<u8>, ReadFault> {
+    let mut file = fs::open(rt, path)?;
+    read_document(alloc, &mut file, limit)
 }
 
-fn unread(alloc: Global, path: &str, error: &io::Error) -> Halt
+/// Names the file and the cause.
+fn unread(alloc: Global, path: &str, fault: &ReadFault) -> Halt
     ensures { IsUnread (λ _ _. ⊤) path.now result }
 {
-    if error.kind() == ErrorKind::OutOfMemory {
+    if matches!(fault, ReadFault::Memory) {
         return Halt::Memory;
     }
-    match format!(in alloc; "{path}: {error}\n") {
+    match format!(in alloc; "{path}: {fault}\n") {
         Ok(text) => Halt::Unread(text),
         Err(_) => Halt::Memory,
     }

@@ -4,7 +4,7 @@ ghost use Rattle.batch_reader.specs.CellDocument.{IsCellDocument};
 ghost use Rattle.batch_reader.specs.RecipeDocument.{IsRecipeDocument};
 ghost use Rattle.batch_verify.specs.CertificateText.{IsCertificateText};
 ghost use Rattle.batch_commands.specs.VerdictTexts.{certificate_refused, document_text};
-ghost use Rattle.batch_commands.specs.Judging.{HaltsWith, IsChecked, IsHalt, IsVerified, RefusesCell, RefusesCertificate, RefusesRecipe, certificate_ending, document_ending};
+ghost use Rattle.batch_commands.specs.Judging.{HaltsWith, IsChecked, IsClearedBy, IsHalt, IsVerified, RefusesCell, RefusesCertificate, RefusesRecipe, RefusesSet, certificate_ending, document_ending};
 
 use crate::texts::{
     certificate_refused, certificate_text, document_text, fault_text, refusal_text,
@@ -14,7 +14,7 @@ use batch_cell::Cell;
 use batch_check::{CheckFault, check};
 use batch_reader::{DocFault, read_cell, read_recipe};
 use batch_recipe::Recipe;
-use batch_verify::{CertFault, Certificate, Refusal, read_certificate, verify};
+use batch_verify::{CertFault, Certificate, Cleared, Refusal, read_certificate, verify};
 use std::alloc::{AllocError, Global};
 
 /// The longest file of a certificate, in bytes.
@@ -124,12 +124,34 @@ pub fn verify_recipes(
     ensures { IfOk result
         (λ verdict. IsVerified cell recipes.items certificate.now.ranks.items (string_bytes verdict.text) verdict.ending) }
 {
-    match verify(alloc, cell, recipes, certificate) {
+    match clear_recipes(alloc, cell, recipes, certificate) {
         Ok(_) => Ok(Verdict {
             text: String::from_str(alloc, "accepted\n")?,
             ending: Ending::Accepted,
         }),
-        Err(rejected) => Ok(Verdict {
+        Err(Halt::Refused(verdict)) => Ok(verdict),
+        Err(_) => Err(AllocError),
+    }
+}
+
+/// The cell and the recipes, cleared by the certificate.
+///
+/// Recipes that it doesn't clear are refused with the verdict that `verify` prints, and want of memory for the judgement is
+/// refused as well. Where there is no memory for that text the error is [`Halt::Memory`].
+pub fn clear_recipes(
+    alloc: Global,
+    cell: Cell,
+    recipes: Vec<Recipe>,
+    certificate: &Certificate,
+) -> Result<Cleared, Halt>
+    ensures set { IfOk result (λ cleared. (cleared.cell ≡ cell) × (cleared.recipes ≡ recipes.items)) }
+    ensures cleared { OnOk result (IsClearedBy cell recipes.items certificate.now.ranks.items) }
+    ensures refused { IfErr result (RefusesSet cell recipes.items certificate.now.ranks.items) }
+    ensures halts { IfErr result IsHalt }
+{
+    match verify(alloc, cell, recipes, certificate) {
+        Ok(cleared) => Ok(cleared),
+        Err(rejected) => Err(Halt::Refused(Verdict {
             text: refusal_text(
                 alloc,
                 &rejected.cell,
@@ -141,6 +163,6 @@ pub fn verify_recipes(
                 Refusal::Memory => Ending::OutOfMemory,
                 _ => Ending::Refused,
             },
-        }),
+        })),
     }
 }

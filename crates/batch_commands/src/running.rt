@@ -1,12 +1,11 @@
 //! Running the program's commands.
-ghost use Rattle.std.specs.Prelude.{◌≡◌, IfSome, map, string_bytes};
+ghost use Rattle.std.specs.Prelude.{◌≡◌, ◌≤◌, IfSome, map, string_bytes};
 ghost use Rattle.batch_commands.specs.Running.{IsExitStatus, IsPrinted, IsRun, IsTold};
 
-use crate::command::{Command, CommandFault};
 use crate::documents::{Documents, check_documents, verify_documents};
 use crate::files::FilesOf;
 use crate::verdict::{Halt, Verdict};
-use crate::words::parse;
+use batch_words::{Command, CommandFault, parse};
 use std::alloc::Global;
 use std::io::{ErrorKind, Write};
 use std::process::ExitCode;
@@ -35,19 +34,23 @@ pub fn run(rt: &HostRuntime) -> Option<ExitCode>
 {
     let mut errors = rt.stderr();
     let status = match words_of(rt) {
-        Ok(words) => run_words(
-            rt.alloc(),
-            &words,
-            &FilesOf(rt),
-            &mut rt.stdout(),
-            &mut errors,
-        )?,
+        Ok(words) => run_on_files(rt, &words)?,
         Err(error) if error.kind() == ErrorKind::OutOfMemory => {
             complain(&mut errors, OUT_OF_MEMORY, NO_MEMORY)
         }
         Err(_) => complain(&mut errors, "an argument is no text\n", USAGE),
     };
     Some(ExitCode::from(status))
+}
+
+/// Runs the command that the words name over the files and the streams of the process, and gives the exit status, or None
+/// where the program is to serve.
+pub fn run_on_files(rt: &HostRuntime, words: &[String]) -> Option<u8>
+    ensures { IfSome result (λ status. status ≤ 4) }
+{
+    let mut output = rt.stdout();
+    let mut errors = rt.stderr();
+    run_words(rt.alloc(), words, &FilesOf(rt), &mut output, &mut errors)
 }
 
 /// The words after the program's name.

@@ -13,8 +13,6 @@ mod signs;
 mod stack;
 mod state;
 mod steps;
-#[cfg(test)]
-mod tests;
 mod tokens;
 mod want;
 mod word;

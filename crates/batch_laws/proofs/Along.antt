@@ -20,7 +20,7 @@ pub kept-at_first : (d : Documents) (rank : Ranking) → IsKept d rank [] openin
 kept-at_first d rank =
     record {
       sound = λ b h. absurd h;
-      held = λ q. (refl, λ a h. h, λ a h. h, tt);
+      held = λ q. (λ amount. refl, λ a h. h, λ a h. h, tt);
       within = λ q. zero-le;
       lines = λ q. refl;
       once = λ q. tt;

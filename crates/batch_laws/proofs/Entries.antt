@@ -1,5 +1,5 @@
 -- Holders among entries, and what a record tells of them.
-use Rattle.std.proofs.Common.{◌≡◌, refl, sym, ◌∙◌, ap, ap₂, subst, ℕ, ◌+◌, ◌≤◌, ◌<◌, arith, List, [], ◌∷◌, ◌++◌, Bool, true, false, cond, not, ◌&&◌, filter, inl, inr, ◌⊎◌, ⊎_elim, length, bytes_eq, nat_eq}
+use Rattle.std.proofs.Common.{◌≡◌, refl, sym, ◌∙◌, ap, ap₂, subst, ℕ, ◌+◌, ◌≤◌, ◌<◌, arith, List, [], ◌∷◌, ◌++◌, Bool, true, false, cond, not, ◌&&◌, filter, inl, inr, ◌⊎◌, ⊎_elim, length, sum_by, bytes_eq, nat_eq}
 use Rattle.std.proofs.lemmas.List.Sums.{sum_by-append, sum_by-cons}
 use Rattle.std.proofs.lemmas.Slice.Eq.{bytes_eq-Decides}
 use Rattle.std.proofs.lemmas.Grind.{flat_map-append}
@@ -167,61 +167,78 @@ once-filter p (x ∷ xs) h = go (p x) (once-filter p xs h.1)
     go true m = (λ y k. h.0 y ((Has-filter p xs y k).0), m)
     go false m = m
 
--- Units
+-- Sums over shares, of their units or of anything else that is counted of a share
+
+module _ (amount : Share → ℕ) where
+  pub sums-append : (xs ys : List Share) → sum_by amount (xs ++ ys) ≡ sum_by amount xs + sum_by amount ys
+  sums-append xs ys = sum_by-append amount xs ys
+
+  pub sums-cons : (x : Share) (xs : List Share) → sum_by amount (x ∷ xs) ≡ amount x + sum_by amount xs
+  sums-cons x xs = sum_by-cons amount x xs
+
+  pub sums-one : (a : Share) → sum_by amount (a ∷ []) ≡ amount a
+  sums-one a = let l : sum_by amount (a ∷ []) ≡ amount a + sum_by amount [] = sums-cons a [] in omega arith
+
+  pub sums-frame : (f m b : List Share) → sum_by amount (f ++ (m ++ b)) ≡ sum_by amount f + (sum_by amount m + sum_by amount b)
+  sums-frame f m b = sums-append f (m ++ b) ∙ ap (λ z. sum_by amount f + z) (sums-append m b)
+
+  sums-kept : (p : Share → Bool) (xs : List Share) → ((x : Share) → Has xs x → p x ≡ true) → sum_by amount (filter p xs) ≡ sum_by amount xs
+  sums-kept p [] h = refl
+  sums-kept p (x ∷ xs) h = go (p x) (h x (inl refl)) (sums-kept p xs (λ y k. h y (inr k)))
+    where
+      go : (t : Bool) → t ≡ true → sum_by amount (filter p xs) ≡ sum_by amount xs → sum_by amount (cond t (x ∷ filter p xs) (filter p xs)) ≡ sum_by amount (x ∷ xs)
+      go true e f =
+          let l : sum_by amount (x ∷ filter p xs) ≡ amount x + sum_by amount (filter p xs) = sums-cons x (filter p xs) in
+          let r : sum_by amount (x ∷ xs) ≡ amount x + sum_by amount xs = sums-cons x xs in
+          omega arith
+      go false e f = absurd cc
+
+  -- taking away what is there once takes away its amount
+  pub sums-without_once : (a : Share) (xs : List Share) → IsOnce xs → Has xs a → amount a + sum_by amount (without a.act xs) ≡ sum_by amount xs
+  sums-without_once a [] h k = absurd k
+  sums-without_once a (x ∷ xs) h (inl e) = go (is_same_act x.act a.act) (subst (λ z. is_same_act x.act z.act ≡ true) e (act_self x.act))
+    where
+      others : sum_by amount (filter (λ b. not (is_same_act b.act a.act)) xs) ≡ sum_by amount xs
+      others = sums-kept (λ b. not (is_same_act b.act a.act)) xs (λ y k. differs y.act a.act (λ q. h.0 y k (q ∙ sym (ap (λ z. z.act) e))))
+
+      go : (t : Bool) → t ≡ true
+          → amount a + sum_by amount (cond (not t) (x ∷ filter (λ b. not (is_same_act b.act a.act)) xs) (filter (λ b. not (is_same_act b.act a.act)) xs)) ≡ sum_by amount (x ∷ xs)
+      go true f =
+          let l : sum_by amount (x ∷ xs) ≡ amount x + sum_by amount xs = sums-cons x xs in
+          let q : amount x ≡ amount a = ap amount e in
+          let o : sum_by amount (filter (λ b. not (is_same_act b.act a.act)) xs) ≡ sum_by amount xs = others in
+          omega arith
+      go false f = absurd cc
+  sums-without_once a (x ∷ xs) h (inr k) = go (not (is_same_act x.act a.act)) (differs x.act a.act (λ q. h.0 a k (sym q))) (sums-without_once a xs h.1 k)
+    where
+      go : (t : Bool) → t ≡ true → amount a + sum_by amount (filter (λ b. not (is_same_act b.act a.act)) xs) ≡ sum_by amount xs
+          → amount a + sum_by amount (cond t (x ∷ filter (λ b. not (is_same_act b.act a.act)) xs) (filter (λ b. not (is_same_act b.act a.act)) xs)) ≡ sum_by amount (x ∷ xs)
+      go true f m =
+          let l : sum_by amount (x ∷ filter (λ b. not (is_same_act b.act a.act)) xs) ≡ amount x + sum_by amount (filter (λ b. not (is_same_act b.act a.act)) xs)
+          = sums-cons x (filter (λ b. not (is_same_act b.act a.act)) xs) in
+          let r : sum_by amount (x ∷ xs) ≡ amount x + sum_by amount xs = sums-cons x xs in
+          omega arith
+      go false f m = absurd cc
 
 pub units-append : (xs ys : List Share) → units_in (xs ++ ys) ≡ units_in xs + units_in ys
-units-append xs ys = sum_by-append (λ h. h.units) xs ys
+units-append = sums-append (λ h. h.units)
 
 pub units-cons : (x : Share) (xs : List Share) → units_in (x ∷ xs) ≡ x.units + units_in xs
-units-cons x xs = sum_by-cons (λ h. h.units) x xs
-
-units-kept : (p : Share → Bool) (xs : List Share) → ((x : Share) → Has xs x → p x ≡ true) → units_in (filter p xs) ≡ units_in xs
-units-kept p [] h = refl
-units-kept p (x ∷ xs) h = go (p x) (h x (inl refl)) (units-kept p xs (λ y k. h y (inr k)))
-  where
-    go : (t : Bool) → t ≡ true → units_in (filter p xs) ≡ units_in xs → units_in (cond t (x ∷ filter p xs) (filter p xs)) ≡ units_in (x ∷ xs)
-    go true e f =
-        let l : units_in (x ∷ filter p xs) ≡ x.units + units_in (filter p xs) = units-cons x (filter p xs) in
-        let r : units_in (x ∷ xs) ≡ x.units + units_in xs = units-cons x xs in
-        omega arith
-    go false e f = absurd cc
-
--- taking away what is there once takes away its units
-units-without_once : (a : Share) (xs : List Share) → IsOnce xs → Has xs a → a.units + units_in (without a.act xs) ≡ units_in xs
-units-without_once a [] h k = absurd k
-units-without_once a (x ∷ xs) h (inl e) = go (is_same_act x.act a.act) (subst (λ z. is_same_act x.act z.act ≡ true) e (act_self x.act))
-  where
-    others : units_in (filter (λ b. not (is_same_act b.act a.act)) xs) ≡ units_in xs
-    others = units-kept (λ b. not (is_same_act b.act a.act)) xs (λ y k. differs y.act a.act (λ q. h.0 y k (q ∙ sym (ap (λ z. z.act) e))))
-
-    go : (t : Bool) → t ≡ true
-        → a.units + units_in (cond (not t) (x ∷ filter (λ b. not (is_same_act b.act a.act)) xs) (filter (λ b. not (is_same_act b.act a.act)) xs)) ≡ units_in (x ∷ xs)
-    go true f =
-        let l : units_in (x ∷ xs) ≡ x.units + units_in xs = units-cons x xs in
-        let q : x.units ≡ a.units = ap (λ z. z.units) e in
-        let o : units_in (filter (λ b. not (is_same_act b.act a.act)) xs) ≡ units_in xs = others in
-        omega arith
-    go false f = absurd cc
-units-without_once a (x ∷ xs) h (inr k) = go (not (is_same_act x.act a.act)) (differs x.act a.act (λ q. h.0 a k (sym q))) (units-without_once a xs h.1 k)
-  where
-    go : (t : Bool) → t ≡ true → a.units + units_in (filter (λ b. not (is_same_act b.act a.act)) xs) ≡ units_in xs
-        → a.units + units_in (cond t (x ∷ filter (λ b. not (is_same_act b.act a.act)) xs) (filter (λ b. not (is_same_act b.act a.act)) xs)) ≡ units_in (x ∷ xs)
-    go true f m =
-        let l : units_in (x ∷ filter (λ b. not (is_same_act b.act a.act)) xs) ≡ x.units + units_in (filter (λ b. not (is_same_act b.act a.act)) xs)
-        = units-cons x (filter (λ b. not (is_same_act b.act a.act)) xs) in
-        let r : units_in (x ∷ xs) ≡ x.units + units_in xs = units-cons x xs in
-        omega arith
-    go false f m = absurd cc
-
--- told has the same members as now, each once, and as many units
-abbrev pub Agrees : List Share → List Share → Type 0
-Agrees told now = (units_in told ≡ units_in now) × ((a : Share) → Has told a → Has now a) × ((a : Share) → Has now a → Has told a) × IsOnce told
-
-pub units-frame : (f m b : List Share) → units_in (f ++ (m ++ b)) ≡ units_in f + (units_in m + units_in b)
-units-frame f m b = units-append f (m ++ b) ∙ ap (λ z. units_in f + z) (units-append m b)
+units-cons = sums-cons (λ h. h.units)
 
 pub units-one : (a : Share) → units_in (a ∷ []) ≡ a.units
-units-one a = let l : units_in (a ∷ []) ≡ a.units + units_in [] = units-cons a [] in omega arith
+units-one = sums-one (λ h. h.units)
+
+pub units-frame : (f m b : List Share) → units_in (f ++ (m ++ b)) ≡ units_in f + (units_in m + units_in b)
+units-frame = sums-frame (λ h. h.units)
+
+pub length-sums : (xs : List Share) → length xs ≡ sum_by (λ h. 1) xs
+length-sums [] = refl
+length-sums (x ∷ xs) = let l : sum_by (λ (h : Share). 1) (x ∷ xs) ≡ 1 + sum_by (λ (h : Share). 1) xs = sums-cons (λ h. 1) x xs in omega (arith, length-sums xs)
+
+-- told has the same members as now, each once, and they add up to the same, whatever is counted of a share
+abbrev pub Agrees : List Share → List Share → Type 0
+Agrees told now = ((amount : Share → ℕ) → sum_by amount told ≡ sum_by amount now) × ((a : Share) → Has told a → Has now a) × ((a : Share) → Has now a → Has told a) × IsOnce told
 
 pub Has-frame : {X : Type 0} (f m b : List X) (x : X) → Has (f ++ (m ++ b)) x → Has f x ⊎ (Has m x ⊎ Has b x)
 Has-frame f m b x h = ⊎_elim (λ k. inl k) (λ k. inr (Has-split m b x k)) (Has-split f (m ++ b) x h)
@@ -241,45 +258,48 @@ NoneBy a xs = (y : Share) → Has xs y → y.act ≡ a → ⊥
 
 -- a grant adds a holder
 pub agrees-more : (a : Share) (told f m b : List Share) → Agrees told (f ++ (m ++ b)) → NoneBy a.act f → NoneBy a.act m → NoneBy a.act b → Agrees (told ++ a ∷ []) (f ++ ((m ++ a ∷ []) ++ b))
-agrees-more a told f m b h nf nm nb =
-    let e : units_in (told ++ a ∷ []) ≡ units_in told + units_in (a ∷ []) = units-append told (a ∷ []) in
-    let e' : units_in (f ++ (m ++ b)) ≡ units_in f + (units_in m + units_in b) = units-frame f m b in
-    let e'' : units_in (f ++ ((m ++ a ∷ []) ++ b)) ≡ units_in f + (units_in (m ++ a ∷ []) + units_in b) = units-frame f (m ++ a ∷ []) b in
-    let e₄ : units_in (m ++ a ∷ []) ≡ units_in m + units_in (a ∷ []) = units-append m (a ∷ []) in
-    let le : units_in told ≡ units_in (f ++ (m ++ b)) = h.0 in (
-      omega arith,
-      λ x k. ⊎_elim
-          (λ n. ⊎_elim (frame-front f (m ++ a ∷ []) b x) (λ o. ⊎_elim (λ p. frame-middle f (m ++ a ∷ []) b x (Has-left m (a ∷ []) x p)) (frame-back f (m ++ a ∷ []) b x) o) (Has-frame f m b x (h.1 x n)))
-          (λ n. frame-middle f (m ++ a ∷ []) b x (Has-right m (a ∷ []) x n)) (Has-split told (a ∷ []) x k),
-      λ x k. ⊎_elim (λ n. Has-left told (a ∷ []) x (h.2 x (frame-front f m b x n)))
-          (λ n. ⊎_elim
-          (λ o. ⊎_elim (λ p. Has-left told (a ∷ []) x (h.2 x (frame-middle f m b x p))) (λ p. Has-right told (a ∷ []) x p) (Has-split m (a ∷ []) x o))
-          (λ o. Has-left told (a ∷ []) x (h.2 x (frame-back f m b x o))) n)
-          (Has-frame f (m ++ a ∷ []) b x k),
-      once-snoc a told h.3 (λ y k. ⊎_elim (nf y) (λ z. ⊎_elim (nm y) (nb y) z) (Has-frame f m b y (h.1 y k))),
-    )
+agrees-more a told f m b h nf nm nb = (
+  λ amount.
+      (let e : sum_by amount (told ++ a ∷ []) ≡ sum_by amount told + sum_by amount (a ∷ []) = sums-append amount told (a ∷ []) in
+      let was : sum_by amount (f ++ (m ++ b)) ≡ sum_by amount f + (sum_by amount m + sum_by amount b) = sums-frame amount f m b in
+      let is : sum_by amount (f ++ ((m ++ a ∷ []) ++ b)) ≡ sum_by amount f + (sum_by amount (m ++ a ∷ []) + sum_by amount b) = sums-frame amount f (m ++ a ∷ []) b in
+      let more : sum_by amount (m ++ a ∷ []) ≡ sum_by amount m + sum_by amount (a ∷ []) = sums-append amount m (a ∷ []) in
+      let same : sum_by amount told ≡ sum_by amount (f ++ (m ++ b)) = h.0 amount in
+      omega arith),
+  λ x k. ⊎_elim
+      (λ n. ⊎_elim (frame-front f (m ++ a ∷ []) b x) (λ o. ⊎_elim (λ p. frame-middle f (m ++ a ∷ []) b x (Has-left m (a ∷ []) x p)) (frame-back f (m ++ a ∷ []) b x) o) (Has-frame f m b x (h.1 x n)))
+      (λ n. frame-middle f (m ++ a ∷ []) b x (Has-right m (a ∷ []) x n)) (Has-split told (a ∷ []) x k),
+  λ x k. ⊎_elim (λ n. Has-left told (a ∷ []) x (h.2 x (frame-front f m b x n)))
+      (λ n. ⊎_elim
+      (λ o. ⊎_elim (λ p. Has-left told (a ∷ []) x (h.2 x (frame-middle f m b x p))) (λ p. Has-right told (a ∷ []) x p) (Has-split m (a ∷ []) x o))
+      (λ o. Has-left told (a ∷ []) x (h.2 x (frame-back f m b x o))) n)
+      (Has-frame f (m ++ a ∷ []) b x k),
+  once-snoc a told h.3 (λ y k. ⊎_elim (nf y) (λ z. ⊎_elim (nm y) (nb y) z) (Has-frame f m b y (h.1 y k))),
+)
 
 -- a release takes the holder away
 pub agrees-less : (a : Share) (told f m b : List Share) → Agrees told (f ++ ((m ++ a ∷ []) ++ b)) → NoneBy a.act f → NoneBy a.act m → NoneBy a.act b
     → Agrees (without a.act told) (f ++ (m ++ b))
-agrees-less a told f m b h nf nm nb =
-    let e' : units_in (f ++ (m ++ b)) ≡ units_in f + (units_in m + units_in b) = units-frame f m b in
-    let e'' : units_in (f ++ ((m ++ a ∷ []) ++ b)) ≡ units_in f + (units_in (m ++ a ∷ []) + units_in b) = units-frame f (m ++ a ∷ []) b in
-    let e₄ : units_in (m ++ a ∷ []) ≡ units_in m + units_in (a ∷ []) = units-append m (a ∷ []) in
-    let one : units_in (a ∷ []) ≡ a.units = units-one a in
-    let le : units_in told ≡ units_in (f ++ ((m ++ a ∷ []) ++ b)) = h.0 in
-    let lt : a.units + units_in (without a.act told) ≡ units_in told = units-without_once a told h.3 (h.2 a (frame-middle f (m ++ a ∷ []) b a (Has-right m (a ∷ []) a (inl refl)))) in (
-      omega arith,
-      λ x k. let w = Has-without a.act told x k in
-          ⊎_elim (frame-front f m b x)
-          (λ o. ⊎_elim
-          (λ p. ⊎_elim (frame-middle f m b x) (λ z. ⊎_elim (λ q. absurd (w.1 (ap (λ v. v.act) (sym q)))) (λ q. absurd q) z) (Has-split m (a ∷ []) x p))
-          (frame-back f m b x) o)
-          (Has-frame f (m ++ a ∷ []) b x (h.1 x w.0)),
-      λ x k. ⊎_elim (λ n. without-Has a.act told x (h.2 x (frame-front f (m ++ a ∷ []) b x n)) (nf x n))
-          (λ n. ⊎_elim
-          (λ o. without-Has a.act told x (h.2 x (frame-middle f (m ++ a ∷ []) b x (Has-left m (a ∷ []) x o))) (nm x o))
-          (λ o. without-Has a.act told x (h.2 x (frame-back f (m ++ a ∷ []) b x o)) (nb x o)) n)
-          (Has-frame f m b x k),
-      once-filter (λ z. not (is_same_act z.act a.act)) told h.3,
-    )
+agrees-less a told f m b h nf nm nb = (
+  λ amount.
+      (let is : sum_by amount (f ++ (m ++ b)) ≡ sum_by amount f + (sum_by amount m + sum_by amount b) = sums-frame amount f m b in
+      let was : sum_by amount (f ++ ((m ++ a ∷ []) ++ b)) ≡ sum_by amount f + (sum_by amount (m ++ a ∷ []) + sum_by amount b) = sums-frame amount f (m ++ a ∷ []) b in
+      let more : sum_by amount (m ++ a ∷ []) ≡ sum_by amount m + sum_by amount (a ∷ []) = sums-append amount m (a ∷ []) in
+      let one : sum_by amount (a ∷ []) ≡ amount a = sums-one amount a in
+      let same : sum_by amount told ≡ sum_by amount (f ++ ((m ++ a ∷ []) ++ b)) = h.0 amount in
+      let less : amount a + sum_by amount (without a.act told) ≡ sum_by amount told
+      = sums-without_once amount a told h.3 (h.2 a (frame-middle f (m ++ a ∷ []) b a (Has-right m (a ∷ []) a (inl refl)))) in
+      omega arith),
+  λ x k. let w = Has-without a.act told x k in
+      ⊎_elim (frame-front f m b x)
+      (λ o. ⊎_elim
+      (λ p. ⊎_elim (frame-middle f m b x) (λ z. ⊎_elim (λ q. absurd (w.1 (ap (λ v. v.act) (sym q)))) (λ q. absurd q) z) (Has-split m (a ∷ []) x p))
+      (frame-back f m b x) o)
+      (Has-frame f (m ++ a ∷ []) b x (h.1 x w.0)),
+  λ x k. ⊎_elim (λ n. without-Has a.act told x (h.2 x (frame-front f (m ++ a ∷ []) b x n)) (nf x n))
+      (λ n. ⊎_elim
+      (λ o. without-Has a.act told x (h.2 x (frame-middle f (m ++ a ∷ []) b x (Has-left m (a ∷ []) x o))) (nm x o))
+      (λ o. without-Has a.act told x (h.2 x (frame-back f (m ++ a ∷ []) b x o)) (nb x o)) n)
+      (Has-frame f m b x k),
+  once-filter (λ z. not (is_same_act z.act a.act)) told h.3,
+)

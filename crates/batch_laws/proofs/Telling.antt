@@ -1,10 +1,11 @@
 -- A record tells just what stands in the plant that it leads to.
-use Rattle.std.proofs.Common.{◌≡◌, ⊎_elim, refl, sym, ◌∙◌, ap, subst, ℕ, List, [], ◌∷◌, ◌++◌, take, slice_get, inl, inr}
+use Rattle.std.proofs.Common.{◌≡◌, ⊎_elim, sym, ◌∙◌, ap, subst, List, [], ◌∷◌, ◌++◌, take, slice_get, sum_by, inl, inr}
 use Rattle.batch_matrix.specs.declared.state.State.{State}
 use Rattle.batch_model.specs.Lists.{Has}
 use Rattle.batch_recipe.specs.Tree.{Place, Step, Phase}
 use Rattle.batch_model.specs.Rest.{Rest, ready, asking, open_act, live, freeing, in_seq, in_par, in_loop, done, Rests, no_rests, rest, acts, acts_of_each}
-use Rattle.batch_model.specs.Plant.{Documents, units_in, Plant, opening}
+use Rattle.batch_model.specs.Plant.{Documents, Share, units_in, Plant, opening, holders}
+use Rattle.batch_model.specs.Records.{holders_told}
 use Rattle.batch_model.specs.Events.{Event}
 use Rattle.batch_model.proofs.Led.{opening-stands}
 use Rattle.batch_model.specs.Runs.{Out, Leads}
@@ -20,6 +21,7 @@ use Rattle.batch_laws.proofs.Invariant.{IsKept}
 use Rattle.batch_laws.proofs.Batches.{entry-of, of-entry}
 use Rattle.batch_laws.proofs.Asking.{awaiting-act, asking-awaits}
 use Rattle.batch_laws.proofs.Along.{kept-at_first, kept-along}
+use Rattle.batch_laws.proofs.Entries.{length-sums}
 
 abbrev LiveAt : List Rest → Place → Phase → Type 0
 LiveAt as' q x = (p : Step) × (t : State) × Has as' (live p x t) × (p.place ≡ q)
@@ -85,7 +87,9 @@ told : (d : Documents) (rank : Ranking) (outs : List Out) (s : Plant) → IsKept
 told d rank outs s k =
     record {
       held = λ r. (λ a h. subst (λ z. Has z a) (sym (holders-entries s r)) ((k.held r).1 a h), λ a h. (k.held r).2 a (subst (λ z. Has z a) (holders-entries s r) h));
-      held_units = λ r. (k.held r).0 ∙ ap (λ z. units_in z) (sym (holders-entries s r));
+      held_count = λ r.
+          length-sums (holders_told outs r) ∙ (k.held r).0 (λ h. 1) ∙ ap (λ z. sum_by (λ (h : Share). 1) z) (sym (holders-entries s r)) ∙ sym (length-sums (holders s r));
+      held_units = λ r. (k.held r).0 (λ h. h.units) ∙ ap (λ z. units_in z) (sym (holders-entries s r));
       lines = k.lines;
       asks = λ r a. (
         λ h.

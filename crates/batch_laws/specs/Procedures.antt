@@ -6,11 +6,11 @@ use Rattle.batch_recipe.specs.Procedure.{procedure_tree}
 use Rattle.batch_recipe.specs.WellFormed.{are_kinds, is_well_formed}
 use Rattle.batch_recipe.specs.declared.acts.Acts.{Acts}
 use Rattle.batch_recipe.specs.declared.recipe.Recipe as document
+use Rattle.batch_recipe.specs.declared.need.Need.{Need}
 use Rattle.batch_model.specs.Lists.{Each}
 use Rattle.batch_model.specs.Recipes.{recipe_of}
 use Rattle.batch_model.specs.Cleared.{Level, in_procedure, in_unit_procedure, in_operation}
 use Rattle.batch_model.specs.Placed.{IsPlaced}
-use Rattle.batch_recipe.specs.declared.need.Need.{Need}
 
 -- a unit procedure has no `par` in its chart
 abbrev pub AllowsPar : Level → Type 0

@@ -1,15 +1,15 @@
 -- A record tells just what stands in the plant that it leads to.
-use Rattle.std.specs.Prelude.{◌≡◌, List, Some, ◌↔◌, slice_get, ℕ}
+use Rattle.std.specs.Prelude.{◌≡◌, List, length, Some, ◌↔◌, slice_get, ℕ}
 use Rattle.batch_matrix.specs.declared.state.State.{State}
 use Rattle.batch_model.specs.Lists.{Has}
-use Rattle.batch_recipe.specs.Conditions.{Name}
-use Rattle.batch_recipe.specs.Tree.{Step, Phase, Task}
 use Rattle.batch_model.specs.Rest.{live, asking, acts}
 use Rattle.batch_model.specs.Plant.{Documents, Batch, BatchAct, Share, units_in, Plant, opening, holders, askers}
 use Rattle.batch_model.specs.Events.{Event}
 use Rattle.batch_model.specs.Runs.{Out, Leads}
 use Rattle.batch_model.specs.Records.{holders_told, waiters_told, active_told, state_told}
 use Rattle.batch_model.specs.Cleared.{Cell, Ranking, IsCleared}
+use Rattle.batch_recipe.specs.Conditions.{Name}
+use Rattle.batch_recipe.specs.Tree.{Step, Phase, Task}
 use Rattle.batch_laws.specs.Premises.{AreDocuments}
 use Rattle.batch_recipe.specs.declared.need.Need.{Need}
 
@@ -28,6 +28,7 @@ IsAskingAt s a r =
 
 pub record IsTold (outs : List Out) (s : Plant) : Type 0 where
   pub held : (r : Name) → HaveSame (holders_told outs r) (holders s r)
+  pub held_count : (r : Name) → length (holders_told outs r) ≡ length (holders s r)
   pub held_units : (r : Name) → units_in (holders_told outs r) ≡ units_in (holders s r)
   pub lines : (r : Name) → waiters_told outs r ≡ askers s r
   pub asks : (r : Name) (a : Share) → Has (askers s r) a ↔ IsAskingAt s a.act (record { resource = r; units = a.units })

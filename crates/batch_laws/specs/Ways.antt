@@ -3,9 +3,9 @@ use Rattle.std.specs.Prelude.{◌↔◌, ℕ, suc, ◌<◌, List, [], ◌∷◌,
 use Rattle.batch_recipe.specs.Conditions.{Name}
 use Rattle.batch_recipe.specs.Nodes.{nodes}
 use Rattle.batch_recipe.specs.Tree.{Place, Tree, act, skip, seq, par, sel, loop, Task, runs, follows, Trees, no_trees, tree, Choices, otherwise, choice}
+use Rattle.batch_recipe.specs.Needs.{resources_of}
 use Rattle.batch_model.specs.Lists.{Each}
 use Rattle.batch_model.specs.Cleared.{Ranking, RiseStrictly}
-use Rattle.batch_recipe.specs.Needs.{resources_of}
 
 -- the ranks of the names rise strictly, from above low
 abbrev pub Rises : Ranking → ℕ → List Name → Type 0

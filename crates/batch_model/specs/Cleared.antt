@@ -4,11 +4,11 @@ use Rattle.batch_recipe.specs.Conditions.{Name, same_name}
 use Rattle.batch_recipe.specs.Tree.{Place, Phase, Tree, act, skip, seq, par, sel, loop, Task, runs, follows, Trees, no_trees, tree, Choices, otherwise, choice}
 use Rattle.batch_recipe.specs.Nodes.{Node, node, child, needs_of}
 use Rattle.batch_recipe.specs.WellFormed.{is_among, are_distinct}
+use Rattle.batch_recipe.specs.Needs.{resources_of}
+use Rattle.batch_recipe.specs.declared.need.Need.{Need}
 use Rattle.batch_model.specs.Lists.{Each}
 use Rattle.batch_model.specs.Plant.{Recipe, Documents}
 use Rattle.batch_model.specs.declared.limits.TheConstants.{MAX_RECIPES}
-use Rattle.batch_recipe.specs.Needs.{resources_of}
-use Rattle.batch_recipe.specs.declared.need.Need.{Need}
 
 -- what a process cell has, by name
 pub record Cell : Type 0 where

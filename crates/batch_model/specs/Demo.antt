@@ -3,9 +3,9 @@ use Rattle.std.specs.Prelude.{ℕ, [], ◌∷◌, Bool, true, false, ◌&&◌, �
 use Rattle.batch_recipe.specs.Conditions.{Name, same_name}
 use Rattle.batch_recipe.specs.Formula.{is_size}
 use Rattle.batch_recipe.specs.Tree.{Phase, Tree, act, runs, follows}
+use Rattle.batch_recipe.specs.Needs.{one_unit}
 use Rattle.batch_model.specs.Plant.{Formula, size_out_of_range, scaled, Recipe, Documents}
 use Rattle.batch_model.specs.declared.limits.TheConstants.{MAX_LIVE_BATCHES}
-use Rattle.batch_recipe.specs.Needs.{one_unit}
 
 -- both units offer the three phases
 abbrev pub offers : Name → Name → Bool

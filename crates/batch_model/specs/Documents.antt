@@ -15,7 +15,7 @@ use Rattle.batch_model.specs.declared.limits.TheConstants.{MAX_LIVE_BATCHES}
 abbrev pub cell_of : equipment.Cell → Cell
 cell_of c = record { units = units_of c; resources = resources_of c }
 
--- how many steps may hold the resource with this name at once; none where there is no such resource
+-- how many units of the resource with this name may be held at once; none where there is no such resource
 abbrev pub capacity_of : equipment.Cell → Name → ℕ
 capacity_of c name = elim (position (same_name name) (resources_of c)) [ None ↦ 0 | Some number ↦ slice_index_or (capacities_of c) number 0 ]
 

@@ -1,6 +1,5 @@
 -- The events that come from outside, and what the plant replies and becomes.
-use Rattle.std.specs.Prelude.{ℕ, suc, List, [], ◌∷◌, ◌++◌, length, map, filter, find, Bool, true, false, ◌&&◌, ◌||◌, not, Option, Some, None, nat_eq, nat_lt, nat_le}
-use Rattle.std.specs.List.{list_any}
+use Rattle.std.specs.Prelude.{ℕ, suc, List, [], ◌∷◌, ◌++◌, length, filter, find, Bool, true, false, ◌&&◌, ◌||◌, not, Option, Some, None, nat_eq, nat_lt, nat_le}
 use Rattle.batch_matrix.specs.declared.state.State.{State}
 use Rattle.batch_matrix.specs.declared.state.State.TheVariants.{Idle, Holding}
 use Rattle.batch_matrix.specs.declared.command.Command.{Command}
@@ -12,6 +11,7 @@ use Rattle.batch_matrix.specs.Matrix.{accepts, target, after_report}
 use Rattle.batch_recipe.specs.Conditions.{Name, ValueList, same_name}
 use Rattle.batch_recipe.specs.Values.{with_values, with_outputs_zero, are_outputs}
 use Rattle.batch_recipe.specs.Tree.{Place}
+use Rattle.batch_recipe.specs.declared.scaling.TheConstants.{MAX_VALUE}
 use Rattle.batch_model.specs.Rest.{Rest, live, acts, reach, withdrawn}
 use Rattle.batch_model.specs.Plant.{Formula, size_out_of_range, value_out_of_range, scaled, Recipe, Documents, Batch, Share, Plant, batch_at, in_batch, in_act}
 use Rattle.batch_model.specs.Moves.{ended, next}

@@ -20,4 +20,5 @@ pub mod RowsOfCommands
 pub mod RowsOfReports
 pub mod RowsOfActStates
 pub mod RowsOfClearance
+pub mod RowsOfSafety
 pub mod Documents

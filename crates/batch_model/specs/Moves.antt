@@ -8,9 +8,9 @@ use Rattle.batch_matrix.specs.declared.command.Command.TheVariants.{Pause, Resum
 use Rattle.batch_matrix.specs.Matrix.{accepts, target, ends_as}
 use Rattle.batch_recipe.specs.Conditions.{Name, ValueList, value_or_0, same_name}
 use Rattle.batch_recipe.specs.Tree.{Place, is_before, Step, Phase, Task, runs, follows}
+use Rattle.batch_recipe.specs.declared.need.Need.{Need}
 use Rattle.batch_model.specs.Rest.{Rest, ready, asking, open_act, live, freeing, done, is_done, acts, reach}
 use Rattle.batch_model.specs.Plant.{Documents, Batch, BatchAct, Share, units_in, Plant, is_same_act, in_batch, in_act, held_in, phase_states, holders}
-use Rattle.batch_recipe.specs.declared.need.Need.{Need}
 
 -- a move is what its record line says: the number of its batch, mostly the place of an act, and what is done there
 pub data Move : Type 0 where

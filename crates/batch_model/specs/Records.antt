@@ -5,12 +5,12 @@ use Rattle.batch_matrix.specs.declared.state.State.TheVariants.{Idle, Stopped, A
 use Rattle.batch_matrix.specs.declared.command.Command.TheVariants.{Stop, Abort}
 use Rattle.batch_matrix.specs.declared.report.Report.{Report}
 use Rattle.batch_model.specs.Lists.{Has, Each}
-use Rattle.batch_recipe.specs.Conditions.{Name, same_name}
-use Rattle.batch_recipe.specs.Tree.{Place, Phase}
 use Rattle.batch_model.specs.Plant.{Documents, BatchAct, Share, units_in, acts_in, Plant, is_same_act, holders, askers}
 use Rattle.batch_model.specs.Moves.{state, release, start, ask, grant}
 use Rattle.batch_model.specs.Events.{created, ordered, reported}
 use Rattle.batch_model.specs.Runs.{Out, reply, move}
+use Rattle.batch_recipe.specs.Conditions.{Name, same_name}
+use Rattle.batch_recipe.specs.Tree.{Place, Phase}
 
 abbrev pub without : BatchAct → List Share → List Share
 without a shares = filter (λ b. not (is_same_act b.act a)) shares

@@ -11,10 +11,10 @@ use Rattle.batch_recipe.specs.Nodes.{child}
 use Rattle.batch_recipe.specs.Scale as scale
 use Rattle.batch_recipe.specs.Tree as node
 use Rattle.batch_recipe.specs.Tree.{Place, Tree, act, runs, follows}
-use Rattle.batch_model.specs.Plant.{Formula, size_out_of_range, value_out_of_range, scaled, Recipe, Documents}
-use Rattle.batch_model.specs.Demo as demo
 use Rattle.batch_recipe.specs.Needs.{one_unit}
 use Rattle.batch_recipe.specs.declared.need.Need.{Need}
+use Rattle.batch_model.specs.Plant.{Formula, size_out_of_range, value_out_of_range, scaled, Recipe, Documents}
+use Rattle.batch_model.specs.Demo as demo
 
 -- Names
 

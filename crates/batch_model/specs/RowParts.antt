@@ -5,12 +5,12 @@ use Rattle.batch_matrix.specs.declared.command.Command.TheVariants.{Start}
 use Rattle.batch_matrix.specs.declared.report.Report.{Report}
 use Rattle.batch_recipe.specs.Conditions.{Name}
 use Rattle.batch_recipe.specs.Tree.{Place, Phase}
+use Rattle.batch_recipe.specs.Needs.{one_unit}
 use Rattle.batch_model.specs.Plant.{Documents, Plant, opening}
 use Rattle.batch_model.specs.Moves.{release, begin, end, ask, grant, state, start}
 use Rattle.batch_model.specs.Events.{Event, create, report, created, ordered, reported, refused, Refusal, react}
 use Rattle.batch_model.specs.Runs.{Out, reply, move, settling, work_left}
 use Rattle.batch_model.specs.RowDocuments.{r1, add, name_a, make, charge}
-use Rattle.batch_recipe.specs.Needs.{one_unit}
 
 -- Places, each called by its child numbers
 

@@ -2,12 +2,12 @@
 use Rattle.std.specs.Prelude.{◌<◌, List, [], ◌∷◌, length, true, false, codes}
 use Rattle.batch_recipe.specs.Conditions.{Name, same_name}
 use Rattle.batch_recipe.specs.Diagram.{Diagram, label, skip, seq, par, sel, loop, otherwise, when, diagrams_of}
+use Rattle.batch_recipe.specs.Needs.{one_unit}
+use Rattle.batch_recipe.specs.declared.need.Need.{Need}
 use Rattle.batch_model.specs.Plant.{Recipe, Documents}
 use Rattle.batch_model.specs.RowDocuments.{r1, r2, hdr, steam, add, make, charge, Entry, phase_step, chart_act, recipe_with, recipe_with_x, add_step, making, x_above_0, x_is_1, recipe_p, recipe_q, recipe_j, cell, narrow_cell, recipe_y}
 use Rattle.batch_model.specs.Demo as demo
 use Rattle.batch_model.specs.Cleared.{Cell, Ranking, IsCleared, CanBeCleared}
-use Rattle.batch_recipe.specs.Needs.{one_unit}
-use Rattle.batch_recipe.specs.declared.need.Need.{Need}
 
 -- the demo cell
 abbrev pub equipment : Cell

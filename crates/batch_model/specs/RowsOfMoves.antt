@@ -124,10 +124,10 @@ SharedCapacity =
     ∷ starts 1 p00001 r1 heat
     ∷ []))
 
--- the second step wants both units and is granted them at once; until then the third, which wants one, doesn't pass it
 abbrev pub both_units : Need
 both_units = record { resource = steam; units = 2 }
 
+-- the second step wants both units and is granted them at once; until then the third, which wants one, doesn't pass it
 abbrev pub SmallAskDoesNotPass : Type 0
 SmallAskDoesNotPass =
     run cell (create (codes "Y") 1000 ∷ order Start 1 ∷ add_done ∷ [])

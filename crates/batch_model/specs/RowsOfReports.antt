@@ -4,10 +4,9 @@ use Rattle.batch_matrix.specs.declared.state.State.TheVariants.{Idle, Running, H
 use Rattle.batch_matrix.specs.declared.command.Command.TheVariants.{Start, Pause, Hold, Stop, Reset}
 use Rattle.batch_matrix.specs.declared.report.Report.{Report}
 use Rattle.batch_recipe.specs.Conditions.{Name, ValueList, value_of}
-use Rattle.batch_model.specs.Demo.{demo}
 use Rattle.batch_model.specs.Plant.{batch_at}
 use Rattle.batch_model.specs.Moves.{send, state, start}
-use Rattle.batch_model.specs.Events.{Event, create, order, report, created, ordered, reported, refused, unknown_recipe, unknown_batch, command_not_accepted, no_live_phase, bad_output, bad_size, bad_value, full, react}
+use Rattle.batch_model.specs.Events.{Event, create, order, report, created, ordered, reported, refused, unknown_recipe, unknown_batch, command_not_accepted, no_live_phase, bad_output, bad_size, bad_value, react}
 use Rattle.batch_model.specs.Runs.{reply, move, run}
 use Rattle.batch_model.specs.RowDocuments.{r1, add, heat, x_name, quantity, name_a, make, charge, cook, cell}
 use Rattle.batch_model.specs.RowParts.{p0000, p00000, p00001, create_a, says, add_done, on, starts, refuses, opened, created_a, opened_a, finished_a, settled_after}
@@ -112,22 +111,18 @@ GreatestValueIsTaken = value_after (create_f 1503 ∷ []) quantity ≡ Some 500
 
 -- Refused events
 
--- the demo with one batch at most: each refusal before and after its creation
-abbrev pub OneBatchAtATime : Type 0
-OneBatchAtATime =
-    run demo
-    (order Start 1 ∷ create name_a 0 ∷ create (codes "B") 1 ∷ create_a ∷ create_a ∷ add_done ∷ order Start 1 ∷ order Start 1 ∷ [])
+-- before a batch is created, before it is started and while it runs
+abbrev pub RefusedEvents : Type 0
+RefusedEvents =
+    run cell
+    (order Start 1 ∷ create name_a 0 ∷ create (codes "ZZ") 0 ∷ create_a ∷ order Start 9 ∷ order Pause 1 ∷ add_done ∷ order Start 1 ∷ order Start 1 ∷ [])
     ≡ (refuses unknown_batch
     ∷ refuses bad_size
     ∷ refuses unknown_recipe
     ∷ created_a 1
-    ∷ refuses full
+    ∷ refuses unknown_batch
+    ∷ refuses (command_not_accepted Idle)
     ∷ refuses no_live_phase
     ∷ opened_a 1
     (refuses (command_not_accepted Running)
     ∷ []))
-
-abbrev pub RefusedEvents : Type 0
-RefusedEvents =
-    run cell (create_a ∷ order Start 9 ∷ order Pause 1 ∷ create (codes "ZZ") 1 ∷ [])
-    ≡ (created_a 1 ∷ refuses unknown_batch ∷ refuses (command_not_accepted Idle) ∷ refuses unknown_recipe ∷ [])

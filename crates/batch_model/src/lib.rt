@@ -8,6 +8,7 @@ mod clearance;
 mod laws;
 mod limits;
 mod rows;
+mod safety;
 
 pub use clearance::{
     act_runs_what_its_chart_runs, crossed_branches_are_cleared, each_branch_runs_a_phase,
@@ -21,7 +22,7 @@ pub use laws::{
     refusals_change_nothing, refusals_have_causes, runs_come_to_rest, settlings_end,
     stands_in_its_chart, trees_are_placed, work_falls,
 };
-pub use limits::{LAST_NUMBER, MAX_LIVE_BATCHES, MAX_RECIPES};
+pub use limits::{LAST_NUMBER, MAX_LIVE_BATCHES, MAX_RECIPES, limits_are_fixed};
 pub use rows::{
     abort_after_stop, abort_reset_start, act_states, choices, crossed_branches_without_circle,
     demo_is_expanded, earlier_state_shows, event_while_moves_pend, fault_holds_the_batch,
@@ -29,4 +30,8 @@ pub use rows::{
     one_batch_to_complete, outputs, pause_and_resume, refused_events, release_before_begin,
     report_twice, scaled_quantity, second_batch_waits, shared_capacity, shares_of_several_units,
     stop_withdraws_asks, thousand_turns,
+};
+pub use safety::{
+    chains_go_on, held_past_capacity, not_empty_at_rest, phases_end, started_wrongly, steps_point,
+    unit_not_held_above, units_told, waiting_in_a_circle, waits_end,
 };

@@ -54,7 +54,6 @@ ghost use Rattle.batch_model.specs.RowsOfReports.{
   ScaledQuantity,
   FormulaRefusals,
   GreatestValueIsTaken,
-  OneBatchAtATime,
   RefusedEvents,
 };
 ghost use Rattle.batch_model.specs.RowsOfActStates.{
@@ -101,7 +100,7 @@ pub fn shared_capacity()
     ensures { SharedCapacity }
 {}
 
-/// A step that wants several units is granted them at once, and those behind it in line wait.
+/// A step that wants several units is granted them at once and gives them back at once; those behind it in line wait.
 pub fn shares_of_several_units()
     ensures no_passing { SmallAskDoesNotPass }
     ensures all_back { ReleaseGivesAllBack }
@@ -215,8 +214,7 @@ pub fn scaled_quantity()
 
 /// Events that are refused for want of a batch, a recipe or a live phase, or by the batch's state.
 pub fn refused_events()
-    ensures one_batch { OneBatchAtATime }
-    ensures by_name { RefusedEvents }
+    ensures { RefusedEvents }
 {}
 
 /// Of two phases beneath an act, the state that stands first is shown.

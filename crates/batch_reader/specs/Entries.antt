@@ -6,9 +6,9 @@ use Rattle.std.specs.Option.{option_map_or}
 use Rattle.toml.specs.Data.{Data, Items, no_items, item, Members, no_members, member, get_member, as_str, as_integer, as_bool, as_array, as_table}
 use Rattle.batch_text.specs.NameText.{IsName}
 use Rattle.batch_recipe.specs.Diagram.{Diagram}
+use Rattle.batch_recipe.specs.declared.need.Need.{Need}
 use Rattle.batch_grammar.specs.ChartGrammar.{IsChart, IsLabel}
 use Rattle.batch_grammar.specs.declared.reading.TheConstants.{MAX_CHART_LEN}
-use Rattle.batch_recipe.specs.declared.need.Need.{Need}
 use Rattle.batch_reader.specs.NeedText.{IsNeedText}
 
 -- each key of the table is one of these

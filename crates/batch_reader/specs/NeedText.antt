@@ -5,10 +5,11 @@ use Rattle.batch_text.specs.NumberText.{IsNumber, number_of}
 use Rattle.batch_recipe.specs.declared.need.Need.{Need}
 use Rattle.batch_recipe.specs.declared.need.TheConstants.{MAX_UNITS}
 
+-- the byte is `*`
 abbrev pub is_star : ℕ → Bool
 is_star byte = nat_eq byte 42
 
--- the text is the number of units
+-- the text is the number of units, which is in range
 pub record IsUnits (text : List ℕ) (units : ℕ) : Type 0 where
   pub number : IsNumber text
   pub value : units ≡ number_of text

@@ -4,8 +4,6 @@
 mod act_tables;
 mod cell_document;
 mod cell_tables;
-#[cfg(test)]
-mod cell_tests;
 mod chart_entry;
 mod chart_names;
 mod document;
@@ -19,8 +17,6 @@ mod recipe_checks;
 mod recipe_document;
 mod recipe_entries;
 mod recipe_names;
-#[cfg(test)]
-mod recipe_tests;
 mod resources;
 mod tables;
 mod value_tables;

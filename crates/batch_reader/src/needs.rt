@@ -1,6 +1,5 @@
-//! The needs of acts.
-ghost use Rattle.std.specs.Prelude.{◌≡◌, ◌≢◌, ◌≤◌, ℕ, List, true, position, length, IfOk, IfErr};
-ghost use Rattle.toml.specs.Data.{get_member};
+//! The needs of acts: each a resource, and how many units of its capacity.
+ghost use Rattle.std.specs.Prelude.{◌≡◌, ◌≢◌, ℕ, List, true, position, IfOk, IfErr};
 ghost use Rattle.toml.specs.View.{view, items_view, table_view};
 ghost use Rattle.batch_recipe.specs.Needs.{have_units};
 ghost use Rattle.batch_recipe.specs.declared.need.Need.{Need};
@@ -68,7 +67,7 @@ fn need_of(alloc: Global, value: &Value, spot: Spot) -> Result<Need, TableFault>
     read_need(alloc, text.as_bytes(), spot)
 }
 
-/// The need that a text is.
+/// The need that a text is: a resource, of which it is one unit, or so many after a star.
 fn read_need(alloc: Global, text: &[u8], spot: Spot) -> Result<Need, TableFault>
     ensures ok { IfOk result (λ need. IsNeedText text.now need) }
     ensures refused { IfErr result (λ fault. fault ≢ TableFault.Memory → (need : Need) → ¬ (IsNeedText text.now need)) }
@@ -76,12 +75,12 @@ fn read_need(alloc: Global, text: &[u8], spot: Spot) -> Result<Need, TableFault>
 {
     match first_star(text) {
         None => {
-            let resource = resource(alloc, text, spot)?;
+            let resource = read_resource(alloc, text, spot)?;
             Ok(Need { resource, units: 1 })
         }
         Some(star) => {
-            let resource = resource(alloc, &text[..star], spot)?;
-            let units = units(&text[star + 1..], spot)?;
+            let resource = read_resource(alloc, &text[..star], spot)?;
+            let units = read_units(&text[star + 1..], spot)?;
             Ok(Need { resource, units })
         }
     }
@@ -94,8 +93,8 @@ fn first_star(text: &[u8]) -> Option<usize>
     text.iter().position(|byte| *byte == b'*')
 }
 
-/// The name that a text is.
-fn resource(alloc: Global, text: &[u8], spot: Spot) -> Result<Name, TableFault>
+/// The resource that a text names.
+fn read_resource(alloc: Global, text: &[u8], spot: Spot) -> Result<Name, TableFault>
     ensures ok { IfOk result (λ name. IsName text.now × (name ≡ text.now)) }
     ensures refused { IfErr result (λ fault. fault ≢ TableFault.Memory → ¬ (IsName text.now)) }
     ensures told { IfErr result (IsToldAs spot EntryFault.WrongKind) }
@@ -108,7 +107,7 @@ fn resource(alloc: Global, text: &[u8], spot: Spot) -> Result<Name, TableFault>
 }
 
 /// The number of units that a text is. Another form is of a wrong kind, a number that is too small or too great out of limit.
-fn units(text: &[u8], spot: Spot) -> Result<u32, TableFault>
+fn read_units(text: &[u8], spot: Spot) -> Result<u32, TableFault>
     ensures ok { IfOk result (λ units. IsUnits text.now units) }
     ensures refused { IfErr result (λ fault. (units : ℕ) → ¬ (IsUnits text.now units)) }
     ensures told { IfErr result (IsAt spot) }

@@ -13,6 +13,6 @@ one_unit resource = record { resource = resource; units = 1 }
 abbrev pub resources_of : List Need → List Name
 resources_of needs = map (λ n. n.resource) needs
 
--- each need is at least one unit, and no more than a need may be
+-- each need is for at least one unit, and for no more than one need may be
 abbrev pub have_units : List Need → Bool
 have_units needs = list_all (λ n. nat_le 1 n.units && nat_le n.units MAX_UNITS) needs

@@ -44,7 +44,7 @@ not_before (x ∷ xs) h a (inr p) = not_before xs h.1 a p
 
 module _ (d : Documents) (rank : Ranking) (outs : List Out) (s : Plant) (sd : IsStanding d s) (k : IsKept d rank outs s) where
   within-capacity : HasCapacity d outs
-  within-capacity r = subst (λ z. z ≤ d.capacity r) (sym (k.held r).0) (k.within r)
+  within-capacity r = subst (λ z. z ≤ d.capacity r) (sym ((k.held r).0 (λ h. h.units))) (k.within r)
 
   holds-units : HoldsUnits outs
   holds-units a h =

@@ -3,13 +3,13 @@ use Rattle.std.specs.Prelude.{◌≡◌, ◌⊎◌, ◌≤◌, ◌<◌, ◌+◌,
 use Rattle.batch_matrix.specs.declared.state.State.{State}
 use Rattle.batch_matrix.specs.declared.state.State.TheVariants.{Pausing, Paused, Holding, Held, Restarting, Stopping, Aborting}
 use Rattle.batch_model.specs.Lists.{Has}
-use Rattle.batch_recipe.specs.Tree.{Step, Phase}
 use Rattle.batch_model.specs.Rest.{live, acts}
 use Rattle.batch_model.specs.Plant.{Documents, Batch, BatchAct, Share, units_in, Plant, opening, holders, askers}
 use Rattle.batch_model.specs.Moves.{next}
 use Rattle.batch_model.specs.Events.{Event}
 use Rattle.batch_model.specs.Runs.{Out, Leads}
 use Rattle.batch_model.specs.Records.{scene_of, Waiting, IsWaiting, IsAtOrAbove, Link, IsChain, StandsUnder}
+use Rattle.batch_recipe.specs.Tree.{Step, Phase}
 use Rattle.batch_model.specs.Cleared.{Cell, Ranking, IsCleared}
 use Rattle.batch_laws.specs.Premises.{AreDocuments}
 use Rattle.batch_recipe.specs.Conditions.{Name}
@@ -32,7 +32,7 @@ IsAtWork s h =
     × (IsHalting b.state ⊎ ((p : Step) × (x : Phase) × (t : State) × Has (acts b.rest) (live p x t) × IsAtOrAbove h.1 p.place))
 
 pub record WaitsForSomething (cell : Cell) (d : Documents) (s : Plant) : Type 0 where
-  -- of what is asked for less is free than its oldest ask wants, and somebody holds it
+  -- of each resource that is asked for, less is free than its oldest ask wants, and somebody holds it
   pub held : (r : Name) (oldest : Share) (later : List Share) → askers s r ≡ oldest ∷ later
       → (d.capacity r < units_in (holders s r) + oldest.units) × ((h : Share) × Has (holders s r) h)
   -- a chain has no more waiting steps than there are resources

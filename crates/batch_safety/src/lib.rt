@@ -3,6 +3,8 @@
 //! Nothing runs here. The functions are empty: their contracts are the laws.
 #![tactic(auto)]
 
+mod rows;
+
 ghost use Rattle.batch_safety.specs.Headline.{CanOnlyBeSafe};
 ghost use Rattle.batch_safety.specs.Sets.{ClearedSetsRunSafely, RunsSafely};
 ghost use Rattle.batch_safety.specs.Settlement.{NobodyWaitsInVain};
@@ -11,6 +13,7 @@ pub use batch_laws::{
     premises_can_be_met, records_tell_the_plant, sets_are_documents, trees_have_units, ways_rise,
 };
 use batch_verify::Cleared;
+pub use rows::{holders_at_work, waits_for_nothing};
 
 /// Every record that a cleared set of recipes leads to is safe after each of its lines, whatever the events and however far
 /// the moves that they make possible have been made.
@@ -18,8 +21,9 @@ pub fn records_are_safe()
     ensures { CanOnlyBeSafe }
 {}
 
-/// Where no move is possible, of each resource that is asked for less is free than its oldest ask wants and somebody holds it, no chain has more waiting
-/// steps than the cell has resources, and where a chain can't be continued its last holder is at work.
+/// Where no move is possible, of each resource that is asked for less is free than its oldest ask wants, and somebody holds
+/// it; no chain has more waiting steps than the cell has resources; and where a chain can't be continued its last holder is
+/// at work.
 pub fn nobody_waits_in_vain()
     ensures { NobodyWaitsInVain }
 {}

@@ -4,7 +4,6 @@ pub mod NameLemmas
 pub mod RankLemmas
 pub mod RecipeLemmas
 pub mod Clearing
-pub mod SmallCell
 pub mod Finding
 pub mod Ranks
 pub mod Phases

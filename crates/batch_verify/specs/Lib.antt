@@ -1,6 +1,5 @@
 pub mod CertificateText
 pub mod ClearedSet
-pub mod IdleRecipe
 pub mod Judging
 pub mod Ranked
 pub mod Refusals

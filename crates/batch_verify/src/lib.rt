@@ -3,12 +3,8 @@
 
 mod apart;
 mod certificate;
-#[cfg(test)]
-mod certificate_tests;
 mod cleared;
 mod judgement;
-#[cfg(test)]
-mod judgement_tests;
 mod laws;
 mod lines;
 mod names;

@@ -1,6 +1,6 @@
 -- What a move makes of a batch in any of its situations.
 use Rattle.std.proofs.Common.{◌≡◌, List, [], ◌∷◌, ◌++◌, Option, Some, None, option_map, IfSome, sym}
-use Rattle.batch_model.specs.Demo.{demo}
+use Rattle.batchd.specs.DemoDocuments.{demo}
 use Rattle.batch_model.specs.Events as Events
 use Rattle.batch_model.specs.Moves.{next}
 use Rattle.batch_model.specs.Plant.{Plant, opening}

@@ -7,11 +7,12 @@ use Rattle.batch_matrix.specs.declared.command.Command.TheVariants as Command
 use Rattle.batch_matrix.specs.declared.report.Report.TheVariants as Report
 use Rattle.batch_recipe.specs.Conditions.{Name, same_name}
 use Rattle.batch_recipe.specs.Formula.{is_size}
-use Rattle.batch_model.specs.Demo.{demo, formula}
+use Rattle.batch_model.specs.Demo.{formula}
+use Rattle.batchd.specs.DemoDocuments.{demo}
 use Rattle.batch_model.specs.Plant.{Formula, scaled, size_out_of_range}
 use Rattle.batch_model.specs.Events as Events
 use Rattle.batch_model.specs.Moves.{next}
-use Rattle.batch_model.specs.declared.limits.TheConstants.{MAX_LIVE_BATCHES}
+use Rattle.batchd.specs.declared.engine.batch.TheConstants.{MAX_BATCHES}
 use Rattle.batchd.specs.Answering.{IsAnswered}
 use Rattle.batchd.specs.Rows.{BatchRows, plant_of}
 use Rattle.batchd.specs.RowSteps.{end_reply, live_row, named_row, rows_ended, with_ended}
@@ -25,7 +26,7 @@ formula-of : (size : ℕ) → is_size size ≡ true → formula size ≡ scaled 
 formula-of size fits = ap (λ b. elim b as (λ _. Formula) [ true ↦ scaled [] | false ↦ size_out_of_range ]) fits
 
 pub creates : (old : Option BatchRows) (recipe : Name) (size : ℕ) (rows : List Row)
-    → length (plant_of old).batches < MAX_LIVE_BATCHES → recipe ≡ codes "A" → is_size size ≡ true → rows ≡ rows_in created
+    → length (plant_of old).batches < MAX_BATCHES → recipe ≡ codes "A" → is_size size ≡ true → rows ≡ rows_in created
     → IsAnswered old (Events.create recipe size) (Reply.Created 1 0 size) (Some (record { size = size; state = State.Idle; rows = rows }))
 creates None recipe size rows room name fits is = record {
   reacts = rw (name, is) (rw (formula-of size fits) (inl refl));

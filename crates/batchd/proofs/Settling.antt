@@ -1,6 +1,6 @@
 -- Moves end: from each situation the machine comes to rest, and each move lowers the work left.
 use Rattle.std.proofs.Common.{◌≡◌, ◌<◌, refl, sym, subst, ap, ◌∙◌, ℕ, zero, suc, List, [], ◌∷◌, Option, Some, None, option_map, lit<}
-use Rattle.batch_model.specs.Demo.{demo}
+use Rattle.batchd.specs.DemoDocuments.{demo}
 use Rattle.batch_model.specs.Moves.{Move, after, next}
 use Rattle.batch_model.specs.Plant.{Documents, Plant}
 use Rattle.batch_model.specs.Runs.{work_left}

@@ -2,7 +2,7 @@
 use Rattle.std.proofs.Common.{◌≡◌, refl, sym, subst, ℕ, Some, option_map, arith}
 use Rattle.std.proofs.lemmas.Grind.{common_steps}
 use Rattle.batch_model.specs.Moves.{next}
-use Rattle.batch_model.specs.Demo.{demo}
+use Rattle.batchd.specs.DemoDocuments.{demo}
 use Rattle.batchd.specs.Surface.{move_of, plant_after}
 use Rattle.batchd.specs.Rows.{BatchRows, plant_of}
 use Rattle.batchd.specs.RowSteps.{advanced, upcoming_line}

@@ -1,6 +1,6 @@
 -- What an event makes of the engine's batch.
 use Rattle.std.specs.Prelude.{◌≡◌, Option, option_map, ⊤}
-use Rattle.batch_model.specs.Demo.{demo}
+use Rattle.batchd.specs.DemoDocuments.{demo}
 use Rattle.batch_model.specs.Events as Events
 use Rattle.batch_model.specs.Events.{react}
 use Rattle.batch_model.specs.Runs.{IsCreated, Reacts}

@@ -1,3 +1,4 @@
+pub mod DemoDocuments
 pub mod Recipe
 pub mod Surface
 pub mod Rows

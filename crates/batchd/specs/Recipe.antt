@@ -2,9 +2,9 @@
 use Rattle.std.specs.Prelude.{ℕ, List, [], ◌∷◌, Some, None, slice_get, codes}
 use Rattle.batch_recipe.specs.Conditions.{Name}
 use Rattle.batch_recipe.specs.Tree.{Phase, Place, Step, Task, act, follows, runs}
-use Rattle.batch_model.specs.Demo.{unit_procedure, operation, add}
 use Rattle.batch_recipe.specs.declared.need.Need.{Need}
 use Rattle.batch_recipe.specs.Needs.{one_unit}
+use Rattle.batch_model.specs.Demo.{unit_procedure, operation, add}
 
 abbrev pub entry : List (List ℕ) → ℕ → List ℕ
 entry texts n = elim (slice_get texts n) [ None ↦ [] | Some text ↦ text ]

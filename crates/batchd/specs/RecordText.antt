@@ -5,10 +5,10 @@ use Rattle.batch_matrix.specs.declared.command.Command.{Command}
 use Rattle.batch_matrix.specs.declared.report.Report.{Report}
 use Rattle.batch_recipe.specs.Conditions.{ValueList}
 use Rattle.batch_recipe.specs.Tree.{Place}
+use Rattle.batch_recipe.specs.declared.need.Need.{Need}
 use Rattle.batch_model.specs.Moves.{Move, send, state, release, begin, start, end, ask, grant}
 use Rattle.batch_model.specs.Events.{Refusal, unknown_recipe, unknown_batch, command_not_accepted, no_live_phase, report_not_expected, bad_output, bad_size, bad_value, full, not_idle, moves_pending, no_memory, Reply, created, ordered, removed, reported, refused}
 use Rattle.batch_model.specs.Runs.{Out, reply, move}
-use Rattle.batch_recipe.specs.declared.need.Need.{Need}
 
 -- Words
 

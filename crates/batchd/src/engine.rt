@@ -14,7 +14,7 @@ mod stage;
 mod tests;
 
 ghost use Rattle.std.specs.Prelude.{◌≡◌, ◌++◌, ◌∷◌, [], ◌↔◌, IsTrue, None, IfSome, List, option_map};
-ghost use Rattle.batch_model.specs.Demo.{demo};
+ghost use Rattle.batchd.specs.DemoDocuments.{demo};
 ghost use Rattle.batch_model.specs.Events as Events;
 ghost use Rattle.batch_model.specs.Events.{react};
 ghost use Rattle.batch_model.specs.Moves.{next};

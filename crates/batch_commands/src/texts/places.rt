@@ -1,6 +1,7 @@
 //! Places of nodes.
 ghost use Rattle.std.specs.Prelude.{◌≡◌, ◌++◌, IfOk, OnOk, string_bytes, decimal};
-ghost use Rattle.batch_commands.specs.VerdictTexts.{dot_text, place_of};
+ghost use Rattle.batch_recipe.specs.Texts.{dot_text};
+ghost use Rattle.batch_commands.specs.VerdictTexts.{place_of};
 
 use batch_recipe::{MAX_NODES, Recipe, place_at};
 use std::alloc::{AllocError, Global};

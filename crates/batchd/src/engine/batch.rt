@@ -12,6 +12,9 @@ use crate::engine::rows::{live_row, make_move, reached_count, set_stage};
 use crate::engine::stage::Stage;
 use batch_matrix::State;
 
+/// The most batches that this engine keeps.
+pub const MAX_BATCHES: u64 = 1;
+
 /// The number of the only batch.
 pub const NUMBER: u64 = 1;
 

@@ -2,20 +2,19 @@
 ghost use Rattle.std.specs.Prelude.{◌≡◌, None, [], length};
 ghost use Rattle.batch_matrix.specs.declared.command.Command.TheVariants as Commands;
 ghost use Rattle.batch_matrix.specs.declared.report.Report.TheVariants as Reports;
-ghost use Rattle.batch_model.specs.Demo.{demo};
+ghost use Rattle.batchd.specs.DemoDocuments.{demo};
 ghost use Rattle.batch_model.specs.Events as Events;
 ghost use Rattle.batch_model.specs.Moves.{next};
 ghost use Rattle.batchd.specs.Answering.{IsAnswered, batch_rows};
 ghost use Rattle.batchd.specs.Rows.{plant_of};
 ghost use Rattle.batchd.specs.Situation.{IsReachable};
 
-use crate::engine::batch::{Batch, NUMBER};
+use crate::engine::batch::{Batch, MAX_BATCHES, NUMBER};
 use crate::engine::recipe::{RECIPE, is_phase, is_recipe, is_size};
 use crate::engine::refusal::Refusal;
 use crate::engine::reply::Reply;
 use crate::engine::rows::first_rows;
 use batch_matrix::{Command, State, after};
-use batch_model::MAX_LIVE_BATCHES;
 use batch_text::Name;
 use std::alloc::Global;
 
@@ -35,7 +34,7 @@ pub fn create(alloc: Global, batch: &mut Option<Batch>, recipe: &Name, size: u64
     if !is_recipe(recipe) {
         return Reply::Refused(Refusal::UnknownRecipe);
     }
-    if live_batches(batch) >= MAX_LIVE_BATCHES {
+    if live_batches(batch) >= MAX_BATCHES {
         return Reply::Refused(Refusal::Full);
     }
     if !is_size(size) {

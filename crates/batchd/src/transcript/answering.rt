@@ -1,7 +1,7 @@
 //! Answering one line.
 ghost use Rattle.std.specs.Prelude.{◌≡◌, ◌∷◌, [], List, OnOk, OnErr, map, flat_map, codes};
 ghost use Rattle.std.specs.Io.KnownBytes.{Appends};
-ghost use Rattle.batch_model.specs.Demo.{demo};
+ghost use Rattle.batchd.specs.DemoDocuments.{demo};
 ghost use Rattle.batch_model.specs.Moves.{Move};
 ghost use Rattle.batch_model.specs.Plant.{Plant};
 ghost use Rattle.batch_model.specs.Runs.{Out as MachineOut, move};

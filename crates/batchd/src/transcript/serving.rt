@@ -1,7 +1,7 @@
 //! Serving a reader and a writer.
 ghost use Rattle.std.specs.Prelude.{◌≡◌, ◌≤◌, ◌++◌, ℕ, List, Option, take, length, MatchResult, OnOk, IfSome, IsErrOf};
 ghost use Rattle.std.specs.Io.KnownBytes.{Keeps, IsAtEnd};
-ghost use Rattle.batch_model.specs.Demo.{demo};
+ghost use Rattle.batchd.specs.DemoDocuments.{demo};
 ghost use Rattle.batch_model.specs.Plant.{Plant};
 ghost use Rattle.batchd.specs.Rows.{plant_of};
 ghost use Rattle.batchd.specs.Serving.{IsServed, IsCutOff};

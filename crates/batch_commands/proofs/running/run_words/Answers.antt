@@ -1,11 +1,11 @@
 use Rattle.std.proofs.Common.{subst, map, string_bytes}
 use Rattle.std.proofs.KnownBytes.{Keeps-refl}
-use Rattle.batch_commands.specs.CommandLine.{IsFaultOf, program_app}
+use Rattle.batch_words.specs.CommandLine.{IsFaultOf, program_app}
 use Rattle.clap.specs.Words.{fault_of}
 use Rattle.batch_commands.specs.Running.{IsNamed, serves, judges, helps, misuses, starves}
-use Rattle.batch_commands.specs.declared.command.Command.{Command}
-use Rattle.batch_commands.specs.declared.command.Command.TheVariants.{Check, Verify}
-use Rattle.batch_commands.specs.declared.command.CommandFault.{CommandFault}
+use Rattle.batch_words.specs.declared.command.Command.{Command}
+use Rattle.batch_words.specs.declared.command.Command.TheVariants.{Check, Verify}
+use Rattle.batch_words.specs.declared.command.CommandFault.{CommandFault}
 use Rattle.batch_commands.proofs.Outcomes.{outcome_of_check, outcome_of_verify}
 use Rattle.batch_commands.proofs.running.run_words.Goals as goal
 

@@ -1,5 +1,5 @@
 use Rattle.std.proofs.Common.{rules}
-use Rattle.batch_model.specs.Demo.{demo}
+use Rattle.batchd.specs.DemoDocuments.{demo}
 use Rattle.batch_model.specs.Plant.{opening}
 use Rattle.batch_model.proofs.Leading.{Leads-reply}
 use Rattle.batchd.proofs.engine.Engine.accept.Goals as goal

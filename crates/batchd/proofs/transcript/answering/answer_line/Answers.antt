@@ -1,4 +1,4 @@
-use Rattle.batch_model.specs.Demo.{demo}
+use Rattle.batchd.specs.DemoDocuments.{demo}
 use Rattle.batchd.proofs.AnswersWritten.{quiet, event_ok, event_err, refused_ok, refused_err}
 use Rattle.batchd.proofs.transcript.answering.answer_line.Goals as goal
 

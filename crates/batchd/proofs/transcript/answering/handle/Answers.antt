@@ -1,5 +1,5 @@
 use Rattle.std.proofs.lemmas.Result.{err_from_is_err_and}
-use Rattle.batch_model.specs.Demo.{demo}
+use Rattle.batchd.specs.DemoDocuments.{demo}
 use Rattle.batchd.proofs.AnswersWritten.{reply_part, handled_ok, handled_err}
 use Rattle.batchd.proofs.Settling.{settle}
 use Rattle.batchd.proofs.transcript.answering.handle.Goals as goal

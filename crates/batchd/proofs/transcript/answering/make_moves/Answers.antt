@@ -1,7 +1,7 @@
 use Rattle.std.proofs.Common.{sym}
 use Rattle.std.proofs.KnownBytes.{Appends-nil}
 use Rattle.std.proofs.lemmas.Result.{err_from_is_err_and}
-use Rattle.batch_model.specs.Demo.{demo}
+use Rattle.batchd.specs.DemoDocuments.{demo}
 use Rattle.batchd.proofs.MovesWritten.{none_written, one_more, all_written, part_written}
 use Rattle.batchd.proofs.Settling.{settle, falls}
 use Rattle.batchd.proofs.transcript.answering.make_moves.Goals as goal

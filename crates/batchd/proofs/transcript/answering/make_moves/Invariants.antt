@@ -1,4 +1,4 @@
-use Rattle.batch_model.specs.Demo.{demo}
+use Rattle.batchd.specs.DemoDocuments.{demo}
 use Rattle.batch_model.specs.Runs.{work_left}
 use Rattle.batchd.specs.Rows.{plant_of}
 use Rattle.batchd.specs.Situation.{IsReachable}

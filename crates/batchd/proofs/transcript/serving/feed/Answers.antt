@@ -1,6 +1,6 @@
 use Rattle.std.proofs.Common.{◌≡◌, eqb, false, get_or, rules, tests}
 use Rattle.std.proofs.lemmas.Result.{err_from_is_err_and}
-use Rattle.batch_model.specs.Demo.{demo}
+use Rattle.batchd.specs.DemoDocuments.{demo}
 use Rattle.batchd.proofs.ServingLemmas.{byte_in_piece, line_in_piece, cut_in_piece}
 use Rattle.batchd.proofs.transcript.serving.feed.Goals as goal
 use Rattle.batchd.proofs.transcript.serving.feed.Goals.{then-byte-eq10+in_ok-answer_line, else-byte-eq10}

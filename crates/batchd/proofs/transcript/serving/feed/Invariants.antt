@@ -1,5 +1,5 @@
 use Rattle.std.proofs.Common.{ℕ, List, ◌++◌, take, Option}
-use Rattle.batch_model.specs.Demo.{demo}
+use Rattle.batchd.specs.DemoDocuments.{demo}
 use Rattle.batch_model.specs.Plant.{Plant}
 use Rattle.batchd.specs.Rows.{plant_of}
 use Rattle.batchd.specs.Serving.{IsServed}

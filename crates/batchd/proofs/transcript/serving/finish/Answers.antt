@@ -1,5 +1,5 @@
 use Rattle.std.proofs.lemmas.Result.{err_from_is_err_and}
-use Rattle.batch_model.specs.Demo.{demo}
+use Rattle.batchd.specs.DemoDocuments.{demo}
 use Rattle.batchd.proofs.ServingLemmas.{served_last, cut_last, writes_kept, handed_on}
 use Rattle.batchd.proofs.transcript.serving.finish.Goals as goal
 

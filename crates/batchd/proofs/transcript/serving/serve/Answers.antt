@@ -1,6 +1,6 @@
 use Rattle.std.proofs.Common.{[], ◌<◌, length, rules, arith}
 use Rattle.std.proofs.KnownBytes.{Consumes-nil, Consumes-kept, Consumes-trans}
-use Rattle.batch_model.specs.Demo.{demo}
+use Rattle.batchd.specs.DemoDocuments.{demo}
 use Rattle.batchd.proofs.ServingLemmas.{served_start, served_kept, whole_so_far, nothing_more, all_of_input, cut_at_end, cut_of_input, cut_between, enough, one_more}
 use Rattle.batchd.proofs.transcript.serving.serve.Goals as goal
 

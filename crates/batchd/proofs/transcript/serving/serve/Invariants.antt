@@ -1,6 +1,6 @@
 use Rattle.std.proofs.Common.{ℕ, ◌≤◌, List, length}
 use Rattle.std.specs.Io.KnownBytes.{Consumes}
-use Rattle.batch_model.specs.Demo.{demo}
+use Rattle.batchd.specs.DemoDocuments.{demo}
 use Rattle.batchd.specs.Rows.{plant_of}
 use Rattle.batchd.specs.Serving.{IsServed}
 use Rattle.batchd.specs.Situation.{IsReachable}

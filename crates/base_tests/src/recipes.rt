@@ -1,0 +1,5 @@
+//! Acts, the nodes that they expand to, and values.
+
+mod acts;
+mod parts;
+mod values;

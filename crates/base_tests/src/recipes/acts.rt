@@ -1,0 +1,130 @@
+//! Example acts, and the nodes that they expand to.
+use super::parts::{above_zero, act, label, labels, step, table};
+use batch_recipe::{Act, Acts, Chart, Level, MAX_NODES, act_named, count_nodes};
+use batch_text::Name;
+use std::alloc::Global;
+use std::test::Fail;
+
+#[test]
+fn levels_lie_below_one_another(rt: HostRuntime) {
+    assert_eq!(rt; Level::UnitProcedures.below(), Some(Level::Operations));
+    assert_eq!(rt; Level::Operations.below(), Some(Level::Phases));
+    assert_eq!(rt; Level::Phases.below(), None);
+}
+
+#[test]
+fn looks_labels_up(rt: HostRuntime) -> Result<(), Fail> {
+    let alloc = rt.alloc();
+    let heat = Name::read(alloc, b"HEAT")?;
+    let acts = acts(alloc, label(alloc, b"MAKE")?, label(alloc, b"ADD")?)?;
+    for (level, first, has_heat) in [
+        (Level::UnitProcedures, "MAKE", false),
+        (Level::Operations, "CHARGE", false),
+        (Level::Phases, "ADD", true),
+    ] {
+        let table = acts.table(level);
+        assert!(rt; first_name(table) == Some(first), "{first}");
+        assert!(rt; has_act(table, &heat) == has_heat, "{first}");
+    }
+    Ok(())
+}
+
+fn has_act(table: &[Act], name: &Name) -> bool {
+    act_named(table, name).is_some_and(|act| act.name == *name)
+}
+
+#[test]
+fn counts_labels_and_turns(rt: HostRuntime) -> Result<(), Fail> {
+    let alloc = rt.alloc();
+    assert_eq!(rt; count_of(alloc, label(alloc, b"ADD")?)?, Some(4));
+    assert_eq!(rt; count_of(alloc, turns(alloc)?)?, Some(5));
+    Ok(())
+}
+
+#[test]
+fn counts_branches(rt: HostRuntime) -> Result<(), Fail> {
+    let alloc = rt.alloc();
+    assert_eq!(rt; count_of(alloc, branches(alloc)?)?, Some(8));
+    let selection = selection(alloc)?;
+    assert_eq!(rt; count(alloc, selection, label(alloc, b"ADD")?)?, Some(8));
+    Ok(())
+}
+
+#[test]
+fn counts_up_to_the_limit(rt: HostRuntime) -> Result<(), Fail> {
+    let alloc = rt.alloc();
+    let most = Chart::Seq(labels(alloc, b"MAKE", 23)?);
+    assert_eq!(rt;
+        count(alloc, most, Chart::Seq(labels(alloc, b"ADD", 175)?))?,
+        Some(MAX_NODES)
+    );
+    let mut parts = labels(alloc, b"MAKE", 23)?;
+    parts.push(Chart::Skip)?;
+    let charge = Chart::Seq(labels(alloc, b"ADD", 175)?);
+    assert_eq!(rt; count(alloc, Chart::Seq(parts), charge)?, None);
+    Ok(())
+}
+
+fn first_name(table: &[Act]) -> Option<&str> {
+    table.first().map(|act| act.name.text())
+}
+
+/// The nodes where the procedure follows MAKE, and its operation this chart.
+fn count_of(alloc: Global, charge: Chart) -> Result<Option<u16>, Fail> {
+    count(alloc, label(alloc, b"MAKE")?, charge)
+}
+
+fn count(alloc: Global, procedure: Chart, charge: Chart) -> Result<Option<u16>, Fail> {
+    let acts = acts(alloc, procedure, charge)?;
+    Ok(count_nodes(&acts))
+}
+
+/// ADD, up to 1,000 times.
+fn turns(alloc: Global) -> Result<Chart, Fail> {
+    let until = above_zero(alloc)?;
+    let body = label(alloc, b"ADD")?;
+    Ok(Chart::Loop(1000, until, Box::new(alloc, body)?))
+}
+
+/// ADD beside nothing and then HEAT.
+fn branches(alloc: Global) -> Result<Chart, Fail> {
+    let heat = label(alloc, b"HEAT")?;
+    let second = Chart::Seq(vec![in alloc; Chart::Skip, heat]?);
+    let first = label(alloc, b"ADD")?;
+    Ok(Chart::Par(vec![in alloc; first, second]?))
+}
+
+/// MAKE, or else MAKE.
+fn selection(alloc: Global) -> Result<Chart, Fail> {
+    let condition = above_zero(alloc)?;
+    let make = label(alloc, b"MAKE")?;
+    let choices = vec![in alloc; (condition, make)]?;
+    let last = label(alloc, b"MAKE")?;
+    Ok(Chart::Sel(choices, Box::new(alloc, last)?))
+}
+
+fn phases(alloc: Global) -> Result<Vec<Act>, Fail> {
+    let add = step(alloc, b"ADD", b"ADD", Vec::new(alloc))?;
+    let heat = step(alloc, b"HEAT", b"HEAT", Vec::new(alloc))?;
+    Ok(vec![in alloc; add, heat]?)
+}
+
+/// MAKE on R1, with CHARGE.
+fn unit_procedures(alloc: Global) -> Result<Vec<Act>, Fail> {
+    let chart = label(alloc, b"CHARGE")?;
+    let unit = Name::read(alloc, b"R1")?;
+    table(alloc, b"MAKE", Some(unit), chart)
+}
+
+/// A procedure, MAKE on R1 with CHARGE, and the phases ADD and HEAT.
+fn acts(alloc: Global, procedure: Chart, charge: Chart) -> Result<Acts, Fail> {
+    let operations = table(alloc, b"CHARGE", None, charge)?;
+    let procedure = act(alloc, b"A", None, procedure)?;
+    let unit_procedures = unit_procedures(alloc)?;
+    Ok(Acts {
+        procedure,
+        unit_procedures,
+        operations,
+        phases: phases(alloc)?,
+    })
+}

@@ -1,0 +1,61 @@
+//! Worked values.
+use batch_recipe::{Cond, Op, Term, Values, scale};
+use batch_text::Name;
+use std::alloc::Global;
+use std::test::Fail;
+
+#[test]
+fn scales_to_the_nearest(rt: HostRuntime) {
+    assert_eq!(rt; scale(1, 1, 2), 1);
+    assert_eq!(rt; scale(1, 1, 3), 0);
+    assert_eq!(rt;
+        scale(1_000_000_000_000, 1_000_000_000, 1),
+        1_000_000_000_000_000_000_000
+    );
+    assert_eq!(rt; scale(333, 500, 1000), 167);
+}
+
+#[test]
+fn compares_numbers(rt: HostRuntime) {
+    let cases: [(Op, bool, bool, bool); 6] = [
+        (Op::Less, true, false, false),
+        (Op::AtMost, true, true, false),
+        (Op::Equal, false, true, false),
+        (Op::NotEqual, true, false, true),
+        (Op::AtLeast, false, true, true),
+        (Op::Greater, false, false, true),
+    ];
+    for (op, below, same, above) in cases {
+        assert_eq!(rt; op.compares(1, 2), below, "{op:?}");
+        assert_eq!(rt; op.compares(2, 2), same, "{op:?}");
+        assert_eq!(rt; op.compares(3, 2), above, "{op:?}");
+    }
+}
+
+#[test]
+fn holds_by_the_values(rt: HostRuntime) -> Result<(), Fail> {
+    let alloc = rt.alloc();
+    let entries = vec![in alloc;
+        (Name::read(alloc, b"X")?, 1),
+        (Name::read(alloc, b"Y")?, 3),
+    ]?;
+    let values = Values::new(entries);
+    assert_eq!(rt; value_of(alloc, &values, "Y")?, Some(3));
+    assert_eq!(rt; value_of(alloc, &values, "Z")?, None);
+    assert!(rt; holds(alloc, &values, Op::Equal, Term::Number(1))?);
+    assert!(rt; !holds(alloc, &values, Op::Greater, Term::Number(1))?);
+    let other = Term::Named(Name::read(alloc, b"Y")?);
+    assert!(rt; holds(alloc, &values, Op::Less, other)?);
+    Ok(())
+}
+
+fn value_of(alloc: Global, values: &Values, name: &str) -> Result<Option<u64>, Fail> {
+    Ok(values.value_of(&Name::read(alloc, name.as_bytes())?))
+}
+
+/// Whether the condition of X holds.
+fn holds(alloc: Global, values: &Values, op: Op, term: Term) -> Result<bool, Fail> {
+    let name = Name::read(alloc, b"X")?;
+    let condition = Cond { name, op, term };
+    Ok(condition.holds(values))
+}

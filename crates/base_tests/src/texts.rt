@@ -1,0 +1,158 @@
+use batch_text::{Name, Place, TextFault, is_name, is_name_byte, read_number};
+use std::collections::HashSet;
+use std::test::Fail;
+
+#[test]
+fn reads_names(rt: HostRuntime) -> Result<(), Fail> {
+    let alloc = rt.alloc();
+    for text in ["A", "R1_a-9", "abcdefghijklmnopqrstuvwxyz_-0189"] {
+        let name = Name::read(alloc, text.as_bytes())?;
+        assert_eq!(rt; name.text(), text);
+        assert!(rt; name.copy(alloc)? == name, "{text}");
+        assert!(rt; is_name(text.as_bytes()), "{text}");
+    }
+    Ok(())
+}
+
+#[test]
+fn refuses_what_is_no_name(rt: HostRuntime) {
+    let cases: [(&[u8], TextFault); 10] = [
+        (b"", TextFault::Empty),
+        (b"1R", TextFault::BadByte),
+        (b"_R", TextFault::BadByte),
+        (b"-R", TextFault::BadByte),
+        (b"a b", TextFault::BadByte),
+        (b"a.b", TextFault::BadByte),
+        (b"caf\xC3\xA9", TextFault::BadByte),
+        (b"a\n", TextFault::BadByte),
+        (b"abcdefghijklmnopqrstuvwxyz_-01890", TextFault::TooLong),
+        (b"abcdefghijklmnopqrstuvwxyz_-0189.", TextFault::BadByte),
+    ];
+    for (bytes, fault) in cases {
+        assert!(rt;
+            Name::read(rt.alloc(), bytes).err() == Some(fault),
+            "{bytes:?}"
+        );
+        assert!(rt; !is_name(bytes), "{bytes:?}");
+    }
+}
+
+#[test]
+fn tells_the_bytes_of_names(rt: HostRuntime) {
+    for byte in *b"azAZ09_-" {
+        assert!(rt; is_name_byte(byte), "{byte}");
+    }
+    for byte in *b"@[`{/: .\x00\x7F\xE9" {
+        assert!(rt; !is_name_byte(byte), "{byte}");
+    }
+}
+
+#[test]
+fn names_compare_as_their_bytes(rt: HostRuntime) -> Result<(), Fail> {
+    let alloc = rt.alloc();
+    let add = Name::read(alloc, b"ADD")?;
+    let adds = Name::read(alloc, b"ADDS")?;
+    let heat = Name::read(alloc, b"HEAT")?;
+    assert!(rt; add < adds && adds < heat && add != adds);
+    let mut names = HashSet::new(alloc);
+    names.insert(add.copy(alloc)?)?;
+    assert!(rt; names.contains(&add) && !names.contains(&heat));
+    assert_eq!(rt;
+        format!(in alloc; "{add} {adds:?}")?.as_str(),
+        "ADD \"ADDS\""
+    );
+    Ok(())
+}
+
+#[test]
+fn reads_numbers(rt: HostRuntime) {
+    let cases: [(&[u8], u64, u64); 6] = [
+        (b"0", 0, 0),
+        (b"12", 12, 12),
+        (b"0012", 12, 12),
+        (b"0000000000000000007", 7, 7),
+        (b"1000000000000", 1000000000000, 1000000000000),
+        (b"9999999999999999999", u64::MAX, 9999999999999999999),
+    ];
+    for (bytes, max, number) in cases {
+        assert!(rt; read_number(bytes, max) == Ok(number), "{number}");
+    }
+}
+
+#[test]
+fn refuses_what_is_no_number(rt: HostRuntime) {
+    let cases: [(&[u8], u64, TextFault); 11] = [
+        (b"", 12, TextFault::Empty),
+        (b"1.", 12, TextFault::BadByte),
+        (b"+1", 12, TextFault::BadByte),
+        (b"-1", 12, TextFault::BadByte),
+        (b" 1", 12, TextFault::BadByte),
+        (b"1a", 12, TextFault::BadByte),
+        (b"0000000000000000000a", 12, TextFault::BadByte),
+        (b"00000000000000000001", 12, TextFault::TooLong),
+        (b"18446744073709551615", u64::MAX, TextFault::TooLong),
+        (b"13", 12, TextFault::OutOfRange),
+        (
+            b"9999999999999999999",
+            9999999999999999998,
+            TextFault::OutOfRange,
+        ),
+    ];
+    for (bytes, max, fault) in cases {
+        assert!(rt; read_number(bytes, max) == Err(fault), "{bytes:?}");
+    }
+}
+
+#[test]
+fn reads_places(rt: HostRuntime) -> Result<(), Fail> {
+    let alloc = rt.alloc();
+    let cases: [(&[u8], &[u16]); 4] = [
+        (b"0", &[0]),
+        (b"0.0.1", &[0, 0, 1]),
+        (b"0.4095.17", &[0, 4095, 17]),
+        (b"0.0000000000000000012", &[0, 12]),
+    ];
+    for (bytes, numbers) in cases {
+        let place = Place::read(alloc, bytes)?;
+        assert!(rt; place.numbers() == numbers, "{bytes:?}");
+        assert!(rt; place == Place::read(alloc, bytes)?, "{bytes:?}");
+    }
+    assert!(rt; Place::read(alloc, b"0.1")? != Place::read(alloc, b"0.2")?);
+    assert_eq!(rt; Place::read(alloc, &zeros::<199>())?.numbers().len(), 100);
+    Ok(())
+}
+
+#[test]
+fn refuses_what_is_no_place(rt: HostRuntime) {
+    let cases: [(&[u8], TextFault); 10] = [
+        (b"", TextFault::Empty),
+        (b".", TextFault::BadByte),
+        (b".0", TextFault::BadByte),
+        (b"0.", TextFault::BadByte),
+        (b"0..1", TextFault::BadByte),
+        (b"0.4096.a", TextFault::BadByte),
+        (b"0,1", TextFault::BadByte),
+        (b"4096.00000000000000000001", TextFault::TooLong),
+        (&zeros::<201>(), TextFault::TooLong),
+        (b"0.4096", TextFault::OutOfRange),
+    ];
+    for (bytes, fault) in cases {
+        assert!(rt;
+            Place::read(rt.alloc(), bytes).err() == Some(fault),
+            "{bytes:?}"
+        );
+    }
+}
+
+/// Zeros with a dot between, in so many bytes.
+fn zeros<const LEN: usize>() -> [u8; LEN] {
+    let mut bytes = [b'0'; LEN];
+    let mut is_dot = false;
+    for byte in &mut bytes {
+        if is_dot {
+            *byte = b'.';
+        }
+        is_dot = !is_dot;
+    }
+    bytes
+}

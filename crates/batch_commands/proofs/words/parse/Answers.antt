@@ -1,5 +1,0 @@
-use Rattle.batch_commands.proofs.Faults.{fault_from_kind}
-use Rattle.batch_commands.proofs.words.parse.Goals as goal
-
-pub returns-in-Err-clause-fault : goal.returns-in-Err-clause-fault
-returns-in-Err-clause-fault c = fault_from_kind _ c.in-Err.error c.fault_from.result c.in-Err.ensures.kinds c.fault_from.ensures

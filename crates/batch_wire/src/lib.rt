@@ -1,0 +1,19 @@
+//! Event lines and record lines.
+#![tactic(auto)]
+
+mod event_line;
+mod fault;
+mod names;
+mod places;
+mod record_line;
+mod report_line;
+mod rows;
+mod words;
+mod writing;
+
+pub use event_line::{MAX_LINE_LEN, read_event};
+pub use fault::{WireFault, WriteFault};
+pub use record_line::write_out;
+pub use report_line::MAX_PAIRS;
+pub use rows::{limits, record_lines};
+pub use writing::write_all;

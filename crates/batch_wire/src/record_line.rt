@@ -1,0 +1,537 @@
+//! Writing a line of the record.
+ghost use Rattle.std.specs.Prelude.{◌≡◌, ◌∷◌, [], ◌++◌, codes, decimal};
+ghost use Rattle.std.specs.List.{zip};
+ghost use Rattle.batch_recipe.specs.Texts.{line_text, place_text};
+ghost use Rattle.batch_engine.specs.Names.{handed_at, phase_name, place_at, resource_name};
+ghost use Rattle.batch_engine.specs.Surface.{out_of, reply_of, move_of, refusal_of};
+ghost use Rattle.batch_engine.specs.declared.line.Line.TheVariants as lines;
+ghost use Rattle.batch_engine.specs.declared.reply.Reply.TheVariants as replies;
+ghost use Rattle.batch_wire.specs.Pieces.{before, phase_front, values_text};
+ghost use Rattle.batch_wire.specs.RecordText.{out_text, reply_words, refusal_words, move_words, state_text, command_text, report_text, value_text, need_text};
+ghost use Rattle.batch_wire.specs.Written.{Writes};
+
+use crate::fault::WriteFault;
+use crate::names::{act_name, handed_names, phase_name, recipe_name, resource_name, value_name};
+use crate::places::write_place;
+use crate::writing::{write_all, write_pieces};
+use batch_engine::{Line, Out, Refusal, Reply};
+use batch_matrix::{Command, Report, State};
+use batch_recipe::MAX_VALUES;
+use batch_text::Name;
+use batch_verify::Cleared;
+use itoa::Buffer;
+use std::io::Write;
+
+/// Writes the line of the record that tells the out. It takes no memory.
+pub fn write_out<W: Write>(out: &Out, cleared: &Cleared, writer: &mut W) -> Result<(), WriteFault>
+    ensures { Writes (W.contents writer.old) (W.contents writer.new) result (out_text (out_of cleared.now out.now)) }
+{
+    match *out {
+        Out::Reply(reply) => write_reply(reply, cleared, writer),
+        Out::Move(line) => write_move(line, cleared, writer),
+    }
+}
+
+fn write_reply<W: Write>(reply: Reply, cleared: &Cleared, writer: &mut W) -> Result<(), WriteFault>
+    ensures { Writes (W.contents writer.old) (W.contents writer.new) result (line_text (reply_words (reply_of cleared.now reply))) }
+{
+    match reply {
+        Reply::Created {
+            batch,
+            recipe,
+            size,
+        } => write_created(batch, recipe_name(cleared, recipe), size, writer),
+        Reply::Ordered {
+            command,
+            batch,
+            state,
+        } => write_ordered(command, batch, state, writer),
+        Reply::Removed { batch } => write_removed(batch, writer),
+        Reply::Reported {
+            unit,
+            phase,
+            word,
+            batch,
+            recipe,
+            node,
+            state,
+        } => write_reported(
+            unit, phase, word, batch, cleared, recipe, node, state, writer,
+        ),
+        Reply::Refused(refusal) => write_refusal(refusal, cleared, writer),
+    }
+}
+
+fn write_created<W: Write>(
+    batch: u64,
+    recipe: &[u8],
+    size: u64,
+    writer: &mut W,
+) -> Result<(), WriteFault>
+    ensures { Writes (W.contents writer.old) (W.contents writer.new) result
+        (line_text (codes "created" ∷ decimal batch ∷ recipe.now ∷ decimal size ∷ [])) }
+{
+    let mut batch_digits = Buffer::new();
+    let mut size_digits = Buffer::new();
+    write_pieces(
+        writer,
+        &[
+            b"created ",
+            batch_digits.format(batch).as_bytes(),
+            b" ",
+            recipe,
+            b" ",
+            size_digits.format(size).as_bytes(),
+            b"\n",
+        ],
+    )
+}
+
+fn write_ordered<W: Write>(
+    command: Command,
+    batch: u64,
+    state: State,
+    writer: &mut W,
+) -> Result<(), WriteFault>
+    ensures { Writes (W.contents writer.old) (W.contents writer.new) result
+        (line_text (codes "ok" ∷ command_text command ∷ decimal batch ∷ state_text state ∷ [])) }
+{
+    let mut digits = Buffer::new();
+    write_pieces(
+        writer,
+        &[
+            b"ok ",
+            command_text(command),
+            b" ",
+            digits.format(batch).as_bytes(),
+            b" ",
+            state_text(state),
+            b"\n",
+        ],
+    )
+}
+
+fn write_removed<W: Write>(batch: u64, writer: &mut W) -> Result<(), WriteFault>
+    ensures { Writes (W.contents writer.old) (W.contents writer.new) result
+        (line_text (codes "ok" ∷ codes "remove" ∷ decimal batch ∷ [])) }
+{
+    let mut digits = Buffer::new();
+    write_pieces(
+        writer,
+        &[b"ok remove ", digits.format(batch).as_bytes(), b"\n"],
+    )
+}
+
+fn write_reported<W: Write>(
+    unit: u16,
+    phase: u16,
+    word: Report,
+    batch: u64,
+    cleared: &Cleared,
+    recipe: u16,
+    node: u16,
+    state: State,
+    writer: &mut W,
+) -> Result<(), WriteFault>
+    ensures { Writes (W.contents writer.old) (W.contents writer.new) result
+        (line_text (reply_words (reply_of cleared.now (replies.Reported unit phase word batch recipe node state)))) }
+{
+    let mut digits = Buffer::new();
+    write_pieces(
+        writer,
+        &[
+            b"ok report ",
+            resource_name(cleared, unit),
+            b" ",
+            phase_name(cleared, unit, phase),
+            b" ",
+        ],
+    )?;
+    write_placed(
+        &[
+            report_text(word),
+            b" ",
+            digits.format(batch).as_bytes(),
+            b" ",
+        ],
+        cleared,
+        recipe,
+        node,
+        &[b" ", state_text(state), b"\n"],
+        writer,
+    )
+}
+
+fn write_refusal<W: Write>(
+    refusal: Refusal,
+    cleared: &Cleared,
+    writer: &mut W,
+) -> Result<(), WriteFault>
+    ensures { Writes (W.contents writer.old) (W.contents writer.new) result
+        (line_text (codes "refused" ∷ refusal_words (refusal_of cleared.now refusal))) }
+{
+    match refusal {
+        Refusal::UnknownRecipe => write_all(writer, b"refused E1\n"),
+        Refusal::UnknownBatch => write_all(writer, b"refused E2\n"),
+        Refusal::CommandNotAccepted(state) => {
+            write_pieces(writer, &[b"refused E3 ", state_text(state), b"\n"])
+        }
+        Refusal::NoLivePhase => write_all(writer, b"refused E4\n"),
+        Refusal::ReportNotExpected(state) => {
+            write_pieces(writer, &[b"refused E5 ", state_text(state), b"\n"])
+        }
+        Refusal::BadOutput => write_all(writer, b"refused E6\n"),
+        Refusal::BadSize => write_all(writer, b"refused E7 F1\n"),
+        Refusal::BadValue { recipe, value } => {
+            let name = value_name(cleared, recipe, value);
+            write_pieces(writer, &[b"refused E7 F2 ", name, b"\n"])
+        }
+        Refusal::Full => write_all(writer, b"refused E8\n"),
+        Refusal::NotIdle(state) => {
+            write_pieces(writer, &[b"refused E9 ", state_text(state), b"\n"])
+        }
+        Refusal::MovesPending => write_all(writer, b"refused E10\n"),
+        Refusal::Memory => write_all(writer, b"refused E11\n"),
+    }
+}
+
+fn write_move<W: Write>(line: Line, cleared: &Cleared, writer: &mut W) -> Result<(), WriteFault>
+    ensures { Writes (W.contents writer.old) (W.contents writer.new) result (line_text (move_words (move_of cleared.now line))) }
+{
+    match line {
+        Line::Send {
+            batch,
+            recipe,
+            node,
+            unit,
+            phase,
+            command,
+        } => write_send(batch, cleared, recipe, node, unit, phase, command, writer),
+        Line::State { batch, state } => write_state(batch, state, writer),
+        Line::Release {
+            batch,
+            recipe,
+            node,
+            resource,
+            units,
+        } => {
+            let name = resource_name(cleared, resource);
+            write_need(
+                b"release", batch, cleared, recipe, node, name, units, writer,
+            )
+        }
+        Line::Begin {
+            batch,
+            recipe,
+            node,
+        } => {
+            let name = act_name(cleared, recipe, node);
+            write_step(b"begin", batch, cleared, recipe, node, name, writer)
+        }
+        Line::Start {
+            batch,
+            recipe,
+            node,
+            unit,
+            phase,
+            values,
+        } => write_start(batch, cleared, recipe, node, unit, phase, values, writer),
+        Line::End {
+            batch,
+            recipe,
+            node,
+        } => write_end(batch, cleared, recipe, node, writer),
+        Line::Ask {
+            batch,
+            recipe,
+            node,
+            resource,
+            units,
+        } => {
+            let name = resource_name(cleared, resource);
+            write_need(b"ask", batch, cleared, recipe, node, name, units, writer)
+        }
+        Line::Grant {
+            batch,
+            recipe,
+            node,
+            resource,
+            units,
+        } => {
+            let name = resource_name(cleared, resource);
+            write_need(b"grant", batch, cleared, recipe, node, name, units, writer)
+        }
+    }
+}
+
+fn write_send<W: Write>(
+    batch: u64,
+    cleared: &Cleared,
+    recipe: u16,
+    node: u16,
+    unit: u16,
+    phase: u16,
+    command: Command,
+    writer: &mut W,
+) -> Result<(), WriteFault>
+    ensures { Writes (W.contents writer.old) (W.contents writer.new) result
+        (line_text (move_words (move_of cleared.now (lines.Send batch recipe node unit phase command)))) }
+{
+    write_phase_front(b"send", batch, cleared, recipe, node, unit, phase, writer)?;
+    write_pieces(writer, &[b" ", command_text(command), b"\n"])
+}
+
+fn write_state<W: Write>(batch: u64, state: State, writer: &mut W) -> Result<(), WriteFault>
+    ensures { Writes (W.contents writer.old) (W.contents writer.new) result
+        (line_text (codes "state" ∷ decimal batch ∷ state_text state ∷ [])) }
+{
+    let mut digits = Buffer::new();
+    write_pieces(
+        writer,
+        &[
+            b"state ",
+            digits.format(batch).as_bytes(),
+            b" ",
+            state_text(state),
+            b"\n",
+        ],
+    )
+}
+
+fn write_end<W: Write>(
+    batch: u64,
+    cleared: &Cleared,
+    recipe: u16,
+    node: u16,
+    writer: &mut W,
+) -> Result<(), WriteFault>
+    ensures { Writes (W.contents writer.old) (W.contents writer.new) result
+        (line_text (codes "end" ∷ decimal batch ∷ place_text (place_at cleared.now recipe node) ∷ [])) }
+{
+    let mut digits = Buffer::new();
+    write_placed(
+        &[b"end ", digits.format(batch).as_bytes(), b" "],
+        cleared,
+        recipe,
+        node,
+        &[b"\n"],
+        writer,
+    )
+}
+
+/// Writes what a move tells of a step: the word, the batch, the step's place and a name.
+fn write_step<W: Write>(
+    word: &'static [u8],
+    batch: u64,
+    cleared: &Cleared,
+    recipe: u16,
+    node: u16,
+    name: &[u8],
+    writer: &mut W,
+) -> Result<(), WriteFault>
+    ensures { Writes (W.contents writer.old) (W.contents writer.new) result
+        (line_text (word.now ∷ decimal batch ∷ place_text (place_at cleared.now recipe node) ∷ name.now ∷ [])) }
+{
+    let mut digits = Buffer::new();
+    write_placed(
+        &[word, b" ", digits.format(batch).as_bytes(), b" "],
+        cleared,
+        recipe,
+        node,
+        &[b" ", name, b"\n"],
+        writer,
+    )
+}
+
+/// Writes what a move tells of a need: the word, the batch, the act's place, the resource, and how many units of it where it is
+/// more than one.
+fn write_need<W: Write>(
+    word: &'static [u8],
+    batch: u64,
+    cleared: &Cleared,
+    recipe: u16,
+    node: u16,
+    resource: &[u8],
+    units: u32,
+    writer: &mut W,
+) -> Result<(), WriteFault>
+    ensures { Writes (W.contents writer.old) (W.contents writer.new) result
+        (line_text (word.now ∷ decimal batch ∷ place_text (place_at cleared.now recipe node) ∷ need_text (record { resource = resource.now; units = units }) ∷ [])) }
+{
+    if units <= 1 {
+        return write_step(word, batch, cleared, recipe, node, resource, writer);
+    }
+    let mut batch_digits = Buffer::new();
+    let mut unit_digits = Buffer::new();
+    write_placed(
+        &[word, b" ", batch_digits.format(batch).as_bytes(), b" "],
+        cleared,
+        recipe,
+        node,
+        &[
+            b" ",
+            resource,
+            b"*",
+            unit_digits.format(units).as_bytes(),
+            b"\n",
+        ],
+        writer,
+    )
+}
+
+fn write_start<W: Write>(
+    batch: u64,
+    cleared: &Cleared,
+    recipe: u16,
+    node: u16,
+    unit: u16,
+    phase: u16,
+    values: [u64; MAX_VALUES],
+    writer: &mut W,
+) -> Result<(), WriteFault>
+    ensures { Writes (W.contents writer.old) (W.contents writer.new) result
+        (line_text (move_words (move_of cleared.now (lines.Start batch recipe node unit phase values)))) }
+{
+    write_phase_front(b"start", batch, cleared, recipe, node, unit, phase, writer)?;
+    write_handed(cleared, recipe, node, values, writer)?;
+    write_all(writer, b"\n")
+}
+
+/// Writes what a line of a phase step begins with: the word, the batch, the step's place, the unit and its phase.
+fn write_phase_front<W: Write>(
+    word: &'static [u8],
+    batch: u64,
+    cleared: &Cleared,
+    recipe: u16,
+    node: u16,
+    unit: u16,
+    phase: u16,
+    writer: &mut W,
+) -> Result<(), WriteFault>
+    ensures { Writes (W.contents writer.old) (W.contents writer.new) result
+        (phase_front word.now batch (place_at cleared.now recipe node) (resource_name cleared.now unit) (phase_name cleared.now unit phase)) }
+{
+    let mut digits = Buffer::new();
+    write_placed(
+        &[word, b" ", digits.format(batch).as_bytes(), b" "],
+        cleared,
+        recipe,
+        node,
+        &[
+            b" ",
+            resource_name(cleared, unit),
+            b" ",
+            phase_name(cleared, unit, phase),
+        ],
+        writer,
+    )
+}
+
+/// Writes pieces, the place of a node, and pieces behind it.
+fn write_placed<W: Write>(
+    head: &[&[u8]],
+    cleared: &Cleared,
+    recipe: u16,
+    node: u16,
+    tail: &[&[u8]],
+    writer: &mut W,
+) -> Result<(), WriteFault>
+    ensures { Writes (W.contents writer.old) (W.contents writer.new) result
+        (before head.now (place_text (place_at cleared.now recipe node) ++ before tail.now [])) }
+{
+    write_pieces(writer, head)?;
+    write_place(cleared, recipe, node, writer)?;
+    write_pieces(writer, tail)
+}
+
+/// Writes the values that a phase step hands its phase, each behind a space.
+fn write_handed<W: Write>(
+    cleared: &Cleared,
+    recipe: u16,
+    node: u16,
+    values: [u64; MAX_VALUES],
+    writer: &mut W,
+) -> Result<(), WriteFault>
+    ensures { Writes (W.contents writer.old) (W.contents writer.new) result
+        (values_text (zip (handed_at cleared.now recipe node) values)) }
+{
+    match cleared.recipes().get(usize::from(recipe)) {
+        Some(recipe) => match handed_names(recipe, node) {
+            Some(names) => write_values(names, values, writer),
+            None => write_all(writer, b""),
+        },
+        None => write_all(writer, b""),
+    }
+}
+
+/// Writes the names beside the values, as far as there are both.
+fn write_values<W: Write>(
+    names: &[Name],
+    values: [u64; MAX_VALUES],
+    writer: &mut W,
+) -> Result<(), WriteFault>
+    ensures { Writes (W.contents writer.old) (W.contents writer.new) result (values_text (zip names.now values)) }
+{
+    for i in 0..MAX_VALUES {
+        match names.get(i) {
+            Some(name) => write_value(name.text().as_bytes(), values[i], writer)?,
+            None => break,
+        }
+    }
+    Ok(())
+}
+
+fn write_value<W: Write>(name: &[u8], value: u64, writer: &mut W) -> Result<(), WriteFault>
+    ensures { Writes (W.contents writer.old) (W.contents writer.new) result (codes " " ++ value_text (name.now, value)) }
+{
+    let mut digits = Buffer::new();
+    write_pieces(writer, &[b" ", name, b"=", digits.format(value).as_bytes()])
+}
+
+fn state_text(state: State) -> &'static [u8]
+    ensures { result.now ≡ state_text state }
+{
+    match state {
+        State::Idle => b"idle",
+        State::Running => b"running",
+        State::Pausing => b"pausing",
+        State::Paused => b"paused",
+        State::Holding => b"holding",
+        State::Held => b"held",
+        State::Restarting => b"restarting",
+        State::Stopping => b"stopping",
+        State::Stopped => b"stopped",
+        State::Aborting => b"aborting",
+        State::Aborted => b"aborted",
+        State::Complete => b"complete",
+    }
+}
+
+fn command_text(command: Command) -> &'static [u8]
+    ensures { result.now ≡ command_text command }
+{
+    match command {
+        Command::Start => b"start",
+        Command::Pause => b"pause",
+        Command::Resume => b"resume",
+        Command::Hold => b"hold",
+        Command::Restart => b"restart",
+        Command::Stop => b"stop",
+        Command::Abort => b"abort",
+        Command::Reset => b"reset",
+    }
+}
+
+fn report_text(word: Report) -> &'static [u8]
+    ensures { result.now ≡ report_text word }
+{
+    match word {
+        Report::Done => b"done",
+        Report::Paused => b"paused",
+        Report::Held => b"held",
+        Report::Running => b"running",
+        Report::Stopped => b"stopped",
+        Report::Aborted => b"aborted",
+        Report::Fault => b"fault",
+    }
+}

@@ -1,0 +1,24 @@
+//! Lines of the record, worked out, and the limits of event lines. The functions are empty: their contracts are the lines and the limits.
+ghost use Rattle.std.specs.Prelude.{◌≡◌};
+ghost use Rattle.batch_wire.specs.RowsOfText.{SentCommand, HandedValues, AskedUnits, ReleasedUnit, CommandReply, RemoveReply, FaultReply, RefusedReport, RefusedOutput, RefusedValue, RefusedRemoval};
+ghost use Rattle.batch_wire.specs.declared.event_line.TheConstants.{MAX_LINE_LEN};
+ghost use Rattle.batch_wire.specs.declared.report_line.TheConstants.{MAX_PAIRS};
+
+pub fn record_lines()
+    ensures sent_command { SentCommand }
+    ensures handed_values { HandedValues }
+    ensures asked_units { AskedUnits }
+    ensures released_unit { ReleasedUnit }
+    ensures command_reply { CommandReply }
+    ensures remove_reply { RemoveReply }
+    ensures fault_reply { FaultReply }
+    ensures refused_report { RefusedReport }
+    ensures refused_output { RefusedOutput }
+    ensures refused_value { RefusedValue }
+    ensures refused_removal { RefusedRemoval }
+{}
+
+pub fn limits()
+    ensures line { MAX_LINE_LEN ≡ 1024 }
+    ensures pairs { MAX_PAIRS ≡ 16 }
+{}

@@ -1,0 +1,54 @@
+-- Command lines that are written out, computed in the definitions.
+use Rattle.std.proofs.Common.{◌≡◌, List, [], ◌∷◌, Option, Some, None, codes, refl, option_map}
+use Rattle.clap.specs.Faults.{fault_of}
+use Rattle.clap.specs.Simple.{subcommand_of}
+use Rattle.clap.specs.Walk.{Text, Row}
+use Rattle.clap.specs.declared.error.kind.ErrorKind.TheVariants.{DisplayHelp, InvalidSubcommand, MissingRequiredArgument, UnknownArgument}
+use Rattle.clap.proofs.OnLiterals.{clap_on_literals}
+use Rattle.batch_words.specs.CommandLine.{program_app, word_of, words_of}
+
+abbrev check_line : List Text
+check_line = codes "check" ∷ codes "c" ∷ codes "r" ∷ codes "s" ∷ []
+
+abbrev verify_line : List Text
+verify_line = codes "verify" ∷ codes "c" ∷ codes "k" ∷ []
+
+-- the name, the cell, the certificate and the recipes of the command that was entered
+abbrev entered_words : Option (Text × List Row) → Option (Text × Text × Text × List Text)
+entered_words = option_map (λ p. (p.0, word_of (codes "CELL") p.1, word_of (codes "CERT") p.1, words_of (codes "RECIPE") p.1))
+
+no_words : subcommand_of program_app [] ≡ None
+unfolding clap_on_literals
+no_words = refl
+
+no_words_taken : fault_of program_app [] ≡ []
+unfolding clap_on_literals
+no_words_taken = refl
+
+check_entered : entered_words (subcommand_of program_app check_line) ≡ Some (codes "check", codes "c", [], codes "r" ∷ codes "s" ∷ [])
+unfolding clap_on_literals
+check_entered = refl
+
+check_taken : fault_of program_app check_line ≡ []
+unfolding clap_on_literals
+check_taken = refl
+
+verify_entered : entered_words (subcommand_of program_app verify_line) ≡ Some (codes "verify", codes "c", codes "k", [])
+unfolding clap_on_literals
+verify_entered = refl
+
+verify_taken : fault_of program_app verify_line ≡ []
+unfolding clap_on_literals
+verify_taken = refl
+
+run_is_unknown : fault_of program_app (codes "run" ∷ []) ≡ UnknownArgument ∷ InvalidSubcommand ∷ []
+unfolding clap_on_literals
+run_is_unknown = refl
+
+cell_is_missing : fault_of program_app (codes "check" ∷ []) ≡ MissingRequiredArgument ∷ []
+unfolding clap_on_literals
+cell_is_missing = refl
+
+help_is_shown : fault_of program_app (codes "--help" ∷ []) ≡ DisplayHelp ∷ []
+unfolding clap_on_literals
+help_is_shown = refl

@@ -1,0 +1,54 @@
+//! What the program is asked to do.
+ghost use Rattle.std.specs.Prelude.{◌≡◌};
+ghost use Rattle.batch_words.specs.declared.command.CommandFault.TheVariants.{Memory};
+
+use std::alloc::{AllocError, AllocFailed};
+use thiserror::Error;
+
+/// A command of the program, with the paths of its documents.
+#[derive(Debug, Drop)]
+pub enum Command {
+    /// To serve event lines from standard input.
+    Serve,
+    /// To find a certificate for the recipes.
+    Check {
+        cell: String,
+        recipes: Vec<String>,
+    },
+    /// To check a certificate for the recipes.
+    Verify {
+        cell: String,
+        certificate: String,
+        recipes: Vec<String>,
+    },
+}
+
+/// Why the words are no command.
+#[derive(Debug, Error, Drop)]
+pub enum CommandFault {
+    /// Help was asked for, with the help's text.
+    #[error("{0}")]
+    Help(String),
+    /// The words are no command, with a text that says what is wrong with them.
+    #[error("{0}")]
+    Usage(String),
+    /// Memory ran out while the words were read, or for the text of another fault.
+    #[error("out of memory")]
+    Memory,
+}
+
+impl From<AllocError> for CommandFault {
+    ghost from_gives = { λ _ fault. fault ≡ Memory };
+
+    fn from(_error: AllocError) -> CommandFault {
+        CommandFault::Memory
+    }
+}
+
+impl<T: Drop> From<AllocFailed<T>> for CommandFault {
+    ghost from_gives = { λ _ fault. fault ≡ Memory };
+
+    fn from(_error: AllocFailed<T>) -> CommandFault {
+        CommandFault::Memory
+    }
+}

@@ -1,0 +1,85 @@
+//! The command line.
+use batch_words::{Command, CommandFault, parse};
+use std::alloc::{AllocError, Global};
+use std::process::Abort;
+
+fn parsed(rt: &(impl Abort + AllocGlobal), words: &[&str]) -> Result<Command, CommandFault> {
+    let mut owned = Vec::new(rt.alloc());
+    for word in words {
+        let word = String::from_str(rt.alloc(), word).expect(rt, "memory");
+        owned.push(word).expect(rt, "memory");
+    }
+    parse(rt.alloc(), owned.as_slice())
+}
+
+fn told(alloc: Global, command: &Command) -> Result<String, AllocError> {
+    match command {
+        Command::Serve => String::from_str(alloc, "serve"),
+        Command::Check { cell, recipes } => format!(in alloc; "check {cell} {recipes:?}"),
+        Command::Verify {
+            cell,
+            certificate,
+            recipes,
+        } => format!(in alloc; "verify {cell} {certificate} {recipes:?}"),
+    }
+}
+
+fn kind(fault: &CommandFault) -> &'static str {
+    match fault {
+        CommandFault::Help(_) => "help",
+        CommandFault::Usage(_) => "usage",
+        CommandFault::Memory => "memory",
+    }
+}
+
+/// The command in its words, or why there is none, without the text.
+fn summary(rt: &(impl Abort + AllocGlobal), words: &[&str]) -> String {
+    let summary = match parsed(rt, words) {
+        Ok(command) => told(rt.alloc(), &command),
+        Err(fault) => String::from_str(rt.alloc(), kind(&fault)),
+    };
+    summary.expect(rt, "memory")
+}
+
+#[test]
+fn commands(rt: HostRuntime) {
+    assert_eq!(rt; summary(&rt, &[]).as_str(), "serve");
+    assert_eq!(rt;
+        summary(&rt, &["check", "c", "r", "s"]).as_str(),
+        "check c [\"r\", \"s\"]"
+    );
+    assert_eq!(rt; summary(&rt, &["check", "c"]).as_str(), "check c []");
+    assert_eq!(rt;
+        summary(&rt, &["verify", "c", "k", "r"]).as_str(),
+        "verify c k [\"r\"]"
+    );
+    assert_eq!(rt;
+        summary(&rt, &["verify", "c", "k"]).as_str(),
+        "verify c k []"
+    );
+}
+
+#[test]
+fn faults_of_usage(rt: HostRuntime) {
+    assert_eq!(rt; summary(&rt, &["run", "c", "k"]).as_str(), "usage");
+    assert_eq!(rt; summary(&rt, &["plant"]).as_str(), "usage");
+    assert_eq!(rt; summary(&rt, &["help"]).as_str(), "usage");
+    assert_eq!(rt; summary(&rt, &[""]).as_str(), "usage");
+    assert_eq!(rt; summary(&rt, &["check"]).as_str(), "usage");
+    assert_eq!(rt; summary(&rt, &["verify", "c"]).as_str(), "usage");
+    assert_eq!(rt; summary(&rt, &["check", "c", "--fast"]).as_str(), "usage");
+    assert_eq!(rt; summary(&rt, &["--fast"]).as_str(), "usage");
+}
+
+#[test]
+fn help(rt: HostRuntime) {
+    assert_eq!(rt; summary(&rt, &["--help"]).as_str(), "help");
+    assert_eq!(rt; summary(&rt, &["check", "-h"]).as_str(), "help");
+    let Err(CommandFault::Help(text)) = parsed(&rt, &["verify", "--help"]) else {
+        panic!(rt; "no help");
+    };
+    assert!(rt;
+        text.contains("Usage: batchd verify <CELL> <CERT> [RECIPE]..."),
+        "{text}"
+    );
+}

@@ -1,0 +1,130 @@
+//! The least ranks of resources that are asked for one after another, and the circles that leave none.
+use crate::reading::{cell_of, recipe_of};
+use batch_check::check;
+use batch_commands::check_recipes;
+use std::alloc::{AllocError, Global};
+use std::test::Fail;
+
+/// A cell of one unit and five shared resources.
+const CELL: &str = r#"cell = "C"
+[[unit]]
+name = "U"
+[[module]]
+name = "M"
+unit = "U"
+phases = ["ADD"]
+[[shared]]
+name = "A"
+capacity = 1
+[[shared]]
+name = "B"
+capacity = 1
+[[shared]]
+name = "C"
+capacity = 1
+[[shared]]
+name = "D"
+capacity = 1
+[[shared]]
+name = "E"
+capacity = 1
+"#;
+
+/// Two resources, of which the second is asked for while the first is held.
+type Pair = (&'static str, &'static str);
+
+/// A recipe with a phase step for each pair, up to the operation's chart.
+const HEAD: &str = r#"recipe = "X"
+version = "1"
+basis = 1
+[procedure]
+chart = "MAKE"
+[[unit_procedure]]
+name = "MAKE"
+unit = "U"
+chart = "CHARGE"
+[[operation]]
+name = "CHARGE"
+chart = "seq("#;
+
+fn document(alloc: Global, pairs: &[Pair]) -> Result<String, AllocError> {
+    let mut chart = String::from_str(alloc, HEAD)?;
+    let mut phases = String::new(alloc);
+    let mut comma = "";
+    for (first, second) in pairs {
+        let label = format!(in alloc; "{comma}{first}-{second}")?;
+        chart.push_str(label.as_str())?;
+        let step = format!(in alloc;
+            "[[phase]]\nname = '{first}-{second}'\nruns = 'ADD'\nneeds = ['{first}', '{second}']\n"
+        )?;
+        phases.push_str(step.as_str())?;
+        comma = ", ";
+    }
+    chart.push_str(")\"\n")?;
+    chart.push_str(phases.as_str())?;
+    Ok(chart)
+}
+
+/// What `check` prints of a recipe whose steps ask for these.
+fn checked(alloc: Global, pairs: &[Pair]) -> Result<String, Fail> {
+    let cell = cell_of(alloc, CELL)?;
+    let recipe = recipe_of(alloc, document(alloc, pairs)?.as_str())?;
+    Ok(check_recipes(alloc, &cell, &[recipe])?.text)
+}
+
+#[test]
+fn without_recipes_all_ranks_are_one(rt: HostRuntime) -> Result<(), Fail> {
+    let alloc = rt.alloc();
+    let cell = cell_of(alloc, "cell = \"C\"\n[[unit]]\nname = \"R1\"\n")?;
+    let certificate = check(alloc, &cell, &[])?;
+    let told = format!(in alloc; "{:?}", certificate.ranks)?;
+    assert_eq!(rt; told.as_str(), "[(\"R1\", 1)]");
+    Ok(())
+}
+
+#[test]
+fn ranks_rise_along_a_chain(rt: HostRuntime) -> Result<(), Fail> {
+    let chains: [([Pair; 3], &str); 3] = [
+        (
+            [("A", "B"), ("B", "C"), ("C", "D")],
+            "rank A 2\nrank B 3\nrank C 4\nrank D 5\nrank E 1\nrank U 1\n",
+        ),
+        (
+            [("B", "A"), ("C", "B"), ("D", "C")],
+            "rank A 5\nrank B 4\nrank C 3\nrank D 2\nrank E 1\nrank U 1\n",
+        ),
+        (
+            [("C", "A"), ("D", "C"), ("E", "B")],
+            "rank A 4\nrank B 3\nrank C 3\nrank D 2\nrank E 2\nrank U 1\n",
+        ),
+    ];
+    for (pairs, ranks) in chains {
+        assert_eq!(rt; checked(rt.alloc(), &pairs)?.as_str(), ranks);
+    }
+    Ok(())
+}
+
+#[test]
+fn the_longer_side_of_a_diamond_decides(rt: HostRuntime) -> Result<(), Fail> {
+    let pairs = [("A", "E"), ("D", "E"), ("A", "B"), ("B", "D"), ("A", "C")];
+    assert_eq!(rt;
+        checked(rt.alloc(), &pairs)?.as_str(),
+        "rank A 2\nrank B 3\nrank C 3\nrank D 4\nrank E 5\nrank U 1\n"
+    );
+    Ok(())
+}
+
+#[test]
+fn a_circle_leaves_out_what_leads_to_it(rt: HostRuntime) -> Result<(), Fail> {
+    let pairs = [("A", "B"), ("B", "C"), ("C", "D"), ("D", "B")];
+    assert_eq!(rt;
+        checked(rt.alloc(), &pairs)?.as_str(),
+        "refused C1\nedge X 0.0.0.0.1 B C\nedge X 0.0.0.0.2 C D\nedge X 0.0.0.0.3 D B\n"
+    );
+    let pairs = [("A", "B"), ("C", "C")];
+    assert_eq!(rt;
+        checked(rt.alloc(), &pairs)?.as_str(),
+        "refused C1\nedge X 0.0.0.0.1 C C\n"
+    );
+    Ok(())
+}

@@ -1,0 +1,43 @@
+//! Cell documents: worked examples, and documents that are refused or at their limits.
+
+mod limits;
+mod refusals;
+mod worked;
+
+use crate::reading::{cell_refusal, refused_at};
+use batch_reader::{EntryFault, TableKind};
+use std::alloc::{AllocError, Global};
+
+/// The cell of the worked examples, up to the capacity of its steam.
+const DEMO: &str = "cell = \"DEMO\"
+[[unit]]
+name = \"R1\"
+[[unit]]
+name = \"R2\"
+[[module]]
+name = \"M1\"
+unit = \"R1\"
+phases = [\"ADD\", \"HEAT\", \"DRAIN\"]
+[[module]]
+name = \"M2\"
+unit = \"R2\"
+phases = [\"ADD\", \"HEAT\", \"DRAIN\"]
+[[shared]]
+name = \"HDR\"
+capacity = 1
+[[shared]]
+name = \"STEAM\"
+capacity = ";
+
+/// A cell of one unit.
+const HEAD: &str = "cell = \"C\"\n[[unit]]\nname = \"U\"\n";
+
+/// The cell of the worked examples, whose steam has this capacity.
+fn demo(alloc: Global, steam: &str) -> Result<String, AllocError> {
+    format!(in alloc; "{DEMO}{steam}\n")
+}
+
+/// Whether the document is refused for this fault of this table.
+fn refuses(alloc: Global, text: &str, kind: TableKind, entry: usize, fault: EntryFault) -> bool {
+    cell_refusal(alloc, text) == refused_at(kind, entry, fault)
+}

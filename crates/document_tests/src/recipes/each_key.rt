@@ -1,0 +1,57 @@
+//! A document with each key that may be missing.
+use super::told::told;
+use crate::reading::recipe_of;
+use std::test::Fail;
+
+const WHOLE: &str = r#"recipe = "ALL-1_abcdefghijklmnopqrstuvwxyz"
+version = "2.0 b"
+product = "brine"
+author = ""
+info = "é"
+basis = 1000000000
+procedure = { chart = "skip", needs = [] }
+[[input]]
+name = "A"
+value = 1000000000000
+min = 1000000000000
+max = 1000000000000
+fixed = true
+[[parameter]]
+name = "B"
+value = 0
+min = 0
+max = 0
+fixed = false
+[[output]]
+name = "C"
+[[output]]
+name = "D"
+[[unit_procedure]]
+name = "A"
+unit = "seq"
+chart = "seq(A)"
+[[operation]]
+name = "A"
+chart = "sel(A<B:A,C/=D:skip,else:A)"
+[[phase]]
+name = "A"
+runs = "else"
+needs = ["par", "A*2"]
+values = ["D", "A", "B", "A"]
+"#;
+
+const TOLD: &str =
+    r#""2.0 b" Some("brine") Some("") Some("é") 1000000000 [Quantity { name: "A", value: 1000000000000, min: 1000000000000, max: 1000000000000, fixed: true }] [Quantity { name: "B", value: 0, min: 0, max: 0, fixed: false }] ["C", "D"]
+procedure ALL-1_abcdefghijklmnopqrstuvwxyz None [] Follows(Skip)
+unit_procedure A Some("seq") [] Follows(Seq([Label("A")]))
+operation A None [] Follows(Sel([(Cond { name: "A", op: Less, term: Named("B") }, Label("A")), (Cond { name: "C", op: NotEqual, term: Named("D") }, Skip)], Label("A")))
+phase A None ["par", "A"*2] Runs { phase: "else", values: ["D", "A", "B", "A"] }
+"#;
+
+#[test]
+fn reads_each_key(rt: HostRuntime) -> Result<(), Fail> {
+    let alloc = rt.alloc();
+    let recipe = recipe_of(alloc, WHOLE)?;
+    assert!(rt; told(alloc, &recipe)?.as_str() == TOLD);
+    Ok(())
+}

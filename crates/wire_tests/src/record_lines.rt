@@ -1,0 +1,385 @@
+use batch_cell::Cell;
+use batch_engine::{Line, Out, Refusal, Reply};
+use batch_matrix::{Command, Report, State};
+use batch_reader::{read_cell, read_recipe};
+use batch_recipe::Recipe;
+use batch_verify::{Certificate, Cleared, read_certificate, verify};
+use batch_wire::{WriteFault, record_lines, write_out};
+use std::alloc::Global;
+use std::io;
+use std::io::{ErrorKind, Write};
+use std::test::Fail;
+
+const CELL: &str = "cell = \"DEMO\"
+[[unit]]
+name = \"R1\"
+[[unit]]
+name = \"R2\"
+[[module]]
+name = \"M1\"
+unit = \"R1\"
+phases = [\"ADD\", \"HEAT\", \"DRAIN\"]
+[[module]]
+name = \"M2\"
+unit = \"R2\"
+phases = [\"WASH\"]
+[[shared]]
+name = \"HDR\"
+capacity = 1
+[[shared]]
+name = \"STEAM\"
+capacity = 2
+";
+
+const RECIPE: &str = "recipe = \"P\"
+version = \"1\"
+basis = 1000
+[[input]]
+name = \"QTY\"
+value = 1
+min = 0
+max = 5
+[[parameter]]
+name = \"T\"
+value = 2
+min = 0
+max = 5
+[[output]]
+name = \"X\"
+[procedure]
+chart = \"U\"
+[[unit_procedure]]
+name = \"U\"
+unit = \"R1\"
+chart = \"O\"
+[[operation]]
+name = \"O\"
+chart = \"par(ADDH, seq(DRAIN, HEATS))\"
+[[phase]]
+name = \"ADDH\"
+runs = \"ADD\"
+needs = [\"HDR\"]
+values = [\"QTY\", \"T\", \"X\"]
+[[phase]]
+name = \"DRAIN\"
+[[phase]]
+name = \"HEATS\"
+runs = \"HEAT\"
+needs = [\"STEAM\"]
+";
+
+const CERTIFICATE: &str = "rank HDR 2
+rank R1 1
+rank R2 1
+rank STEAM 2
+";
+
+fn cell_of(alloc: Global, document: &str) -> Result<Cell, Fail> {
+    Ok(read_cell(alloc, document.as_bytes()).map_err(|_| "cell")?)
+}
+
+fn recipe_of(alloc: Global, document: &str) -> Result<Recipe, Fail> {
+    Ok(read_recipe(alloc, document.as_bytes()).map_err(|_| "recipe")?)
+}
+
+fn certificate_of(alloc: Global, text: &str) -> Result<Certificate, Fail> {
+    Ok(read_certificate(alloc, text.as_bytes())?)
+}
+
+fn cleared(alloc: Global) -> Result<Cleared, Fail> {
+    let cell = cell_of(alloc, CELL)?;
+    let recipes = vec![in alloc; recipe_of(alloc, RECIPE)?]?;
+    let certificate = certificate_of(alloc, CERTIFICATE)?;
+    Ok(
+        verify(alloc, cell, recipes, &certificate)
+            .ok()
+            .ok_or("rejected")?,
+    )
+}
+
+/// The line of the record that tells the out.
+fn line_of(alloc: Global, cleared: &Cleared, out: Out) -> Result<String, Fail> {
+    let mut record = Vec::new(alloc);
+    write_out(&out, cleared, &mut record)?;
+    Ok(String::from_utf8(record).map_err(|_| "bytes")?)
+}
+
+/// Takes one byte a call, and fails at one call.
+#[derive(Drop)]
+struct Narrow {
+    taken: Vec<u8>,
+    calls: usize,
+    fails_at: usize,
+}
+
+impl Write for Narrow {
+    fn write(&mut self, buf: &[u8]) -> io::Result<usize> {
+        self.calls = self.calls.saturating_add(1);
+        if self.calls == self.fails_at {
+            return Err(io::Error::from(ErrorKind::Other));
+        }
+        match buf.first() {
+            Some(byte) => {
+                self.taken.push(*byte)?;
+                Ok(1)
+            }
+            None => Ok(0),
+        }
+    }
+
+    fn flush(&mut self) -> io::Result<()> {
+        Ok(())
+    }
+}
+
+/// What is written before the call that fails.
+fn front_of(
+    alloc: Global,
+    cleared: &Cleared,
+    out: Out,
+    fails_at: usize,
+) -> Result<Result<String, String>, Fail> {
+    let mut narrow = Narrow {
+        taken: Vec::new(alloc),
+        calls: 0,
+        fails_at,
+    };
+    let written = write_out(&out, cleared, &mut narrow);
+    let text = String::from_utf8(narrow.taken).map_err(|_| "bytes")?;
+    Ok(match written {
+        Ok(()) => Ok(text),
+        Err(WriteFault) => Err(text),
+    })
+}
+
+#[test]
+fn replies(rt: HostRuntime) -> Result<(), Fail> {
+    let alloc = rt.alloc();
+    let cleared = cleared(alloc)?;
+    let cases: [(Reply, &str); 17] = [
+        (
+            Reply::Created {
+                batch: 1,
+                recipe: 0,
+                size: 1000,
+            },
+            "created 1 P 1000\n",
+        ),
+        (
+            Reply::Ordered {
+                command: Command::Restart,
+                batch: 2,
+                state: State::Restarting,
+            },
+            "ok restart 2 restarting\n",
+        ),
+        (Reply::Removed { batch: 12 }, "ok remove 12\n"),
+        (
+            Reply::Reported {
+                unit: 0,
+                phase: 1,
+                word: Report::Fault,
+                batch: 3,
+                recipe: 0,
+                node: 7,
+                state: State::Holding,
+            },
+            "ok report R1 HEAT fault 3 0.0.0.0.1.1 holding\n",
+        ),
+        (Reply::Refused(Refusal::UnknownRecipe), "refused E1\n"),
+        (Reply::Refused(Refusal::UnknownBatch), "refused E2\n"),
+        (
+            Reply::Refused(Refusal::CommandNotAccepted(State::Idle)),
+            "refused E3 idle\n",
+        ),
+        (Reply::Refused(Refusal::NoLivePhase), "refused E4\n"),
+        (
+            Reply::Refused(Refusal::ReportNotExpected(State::Aborting)),
+            "refused E5 aborting\n",
+        ),
+        (Reply::Refused(Refusal::BadOutput), "refused E6\n"),
+        (Reply::Refused(Refusal::BadSize), "refused E7 F1\n"),
+        (
+            Reply::Refused(Refusal::BadValue {
+                recipe: 0,
+                value: 0,
+            }),
+            "refused E7 F2 QTY\n",
+        ),
+        (
+            Reply::Refused(Refusal::BadValue {
+                recipe: 0,
+                value: 1,
+            }),
+            "refused E7 F2 T\n",
+        ),
+        (Reply::Refused(Refusal::Full), "refused E8\n"),
+        (
+            Reply::Refused(Refusal::NotIdle(State::Complete)),
+            "refused E9 complete\n",
+        ),
+        (Reply::Refused(Refusal::MovesPending), "refused E10\n"),
+        (Reply::Refused(Refusal::Memory), "refused E11\n"),
+    ];
+    for (reply, want) in cases {
+        let line = line_of(alloc, &cleared, Out::Reply(reply))?;
+        assert_eq!(rt; line.as_str(), want);
+    }
+    Ok(())
+}
+
+#[test]
+fn moves(rt: HostRuntime) -> Result<(), Fail> {
+    let alloc = rt.alloc();
+    let cleared = cleared(alloc)?;
+    let cases: [(Line, &str); 12] = [
+        (
+            Line::Send {
+                batch: 1,
+                recipe: 0,
+                node: 6,
+                unit: 0,
+                phase: 2,
+                command: Command::Hold,
+            },
+            "send 1 0.0.0.0.1.0 R1 DRAIN hold\n",
+        ),
+        (
+            Line::State {
+                batch: 1,
+                state: State::Paused,
+            },
+            "state 1 paused\n",
+        ),
+        (
+            Line::Release {
+                batch: 1,
+                recipe: 0,
+                node: 1,
+                resource: 0,
+                units: 1,
+            },
+            "release 1 0.0 R1\n",
+        ),
+        (
+            Line::Begin {
+                batch: 1,
+                recipe: 0,
+                node: 0,
+            },
+            "begin 1 0 P\n",
+        ),
+        (
+            Line::Begin {
+                batch: 1,
+                recipe: 0,
+                node: 2,
+            },
+            "begin 1 0.0.0 O\n",
+        ),
+        (
+            Line::Start {
+                batch: 1,
+                recipe: 0,
+                node: 4,
+                unit: 0,
+                phase: 0,
+                values: [7, 0, 1_000_000_000_000, 9],
+            },
+            "start 1 0.0.0.0.0 R1 ADD QTY=7 T=0 X=1000000000000\n",
+        ),
+        (
+            Line::Start {
+                batch: 1,
+                recipe: 0,
+                node: 6,
+                unit: 0,
+                phase: 2,
+                values: [7; 4],
+            },
+            "start 1 0.0.0.0.1.0 R1 DRAIN\n",
+        ),
+        (
+            Line::End {
+                batch: 1,
+                recipe: 0,
+                node: 2,
+            },
+            "end 1 0.0.0\n",
+        ),
+        (
+            Line::Ask {
+                batch: 1,
+                recipe: 0,
+                node: 7,
+                resource: 3,
+                units: 2,
+            },
+            "ask 1 0.0.0.0.1.1 STEAM*2\n",
+        ),
+        (
+            Line::Grant {
+                batch: 1_000_000_000_000,
+                recipe: 0,
+                node: 4,
+                resource: 2,
+                units: 1_000,
+            },
+            "grant 1000000000000 0.0.0.0.0 HDR*1000\n",
+        ),
+        (
+            Line::Release {
+                batch: 1,
+                recipe: 0,
+                node: 7,
+                resource: 3,
+                units: 10,
+            },
+            "release 1 0.0.0.0.1.1 STEAM*10\n",
+        ),
+        // Numbers that name nothing.
+        (
+            Line::Send {
+                batch: 1,
+                recipe: 1,
+                node: 0,
+                unit: 4,
+                phase: 0,
+                command: Command::Stop,
+            },
+            "send 1    stop\n",
+        ),
+    ];
+    for (line, want) in cases {
+        let line = line_of(alloc, &cleared, Out::Move(line))?;
+        assert_eq!(rt; line.as_str(), want);
+    }
+    Ok(())
+}
+
+#[test]
+fn writer_fails(rt: HostRuntime) -> Result<(), Fail> {
+    let alloc = rt.alloc();
+    record_lines();
+    let cleared = cleared(alloc)?;
+    let out = Out::Move(Line::End {
+        batch: 1,
+        recipe: 0,
+        node: 2,
+    });
+    for (fails_at, want) in [
+        (0, Ok("end 1 0.0.0\n")),
+        (1, Err("")),
+        (9, Err("end 1 0.")),
+        (12, Err("end 1 0.0.0")),
+        (13, Ok("end 1 0.0.0\n")),
+    ] {
+        let front = front_of(alloc, &cleared, out, fails_at)?;
+        let told = match &front {
+            Ok(text) => Ok(text.as_str()),
+            Err(text) => Err(text.as_str()),
+        };
+        assert_eq!(rt; told, want, "{fails_at}");
+    }
+    Ok(())
+}
