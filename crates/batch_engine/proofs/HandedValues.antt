@@ -1,6 +1,6 @@
 -- The values that phases are handed.
 use Rattle.std.proofs.Common.{◌≡◌, ◌<◌, ◌≤◌, refl, sym, ◌∙◌, ap, ap₂, subst, ℕ, zero, suc, List, [], ◌∷◌, Bool, true, false, cond, ◌&&◌, Option, Some, None, inl, inr, arith, ◌+◌, length, get_or, set, find, nat_le}
-use Rattle.std.specs.Prelude.{slice_get}
+use Rattle.std.specs.Prelude.{slice_get, unwrap_or}
 use Rattle.std.proofs.lemmas.Bool.{cases_lt}
 use Rattle.std.proofs.lemmas.List.{get_or-set_same, get_or-set_other}
 use Rattle.std.specs.Global.{Vec}
@@ -32,6 +32,10 @@ zip-values vs [] xs l h = refl
 zip-values vs (n ∷ ns) [] l h = absurd (omega arith)
 zip-values vs (n ∷ ns) (x ∷ xs) l h =
     ap₂ (λ (y : ℕ) ys. (let e : Name × ℕ = (n, y) in e) ∷ ys) (h 0 (omega arith)) (zip-values vs ns xs (omega arith) (λ k m. h (suc k) (omega arith)))
+
+pub or-zero : (o : Option ℕ) → unwrap_or o 0 ≡ (let n : ℕ = elim o [ None ↦ 0 | Some n ↦ n ] in n)
+or-zero None = refl
+or-zero (Some n) = refl
 
 -- one more value
 pub set-value : (vs : ValueList) (ns : List Name) (xs : List ℕ) (i x : ℕ) → i < length xs → x ≡ value_or_0 vs (get_or ns i []) → ((k : ℕ) → k < i → get_or xs k 0 ≡ value_or_0 vs (get_or ns k []))
