@@ -94,19 +94,19 @@ state-nowhere d p placed stands none =
     let away : (n : Node) → Has (nodes_of t) n → n.place ≡ p → ⊥ = λ n h. all-has (λ (n : Node). n.place ≢ p) (nodes_of t) n none h in
     let not-root : same_place p root ≡ false = name-no p root (λ e. away (node (0 ∷ []) [] t) (root-node t) (sym e)) in
     let no-act : find (λ a. same_place (place_of a) p) (acts d.rest) ≡ None =
-      find-none place_of p (acts d.rest)
-      (λ a h e. (let k = stands-at t d.rest a placed stands h in
-      away (node_at t k.0) (Has-get (nodes_of t) k.0 (node_at t k.0) (slice_get-get_or (nodes_of t) k.0 _ (omega (arith, k.1, counted_nodes (0 ∷ []) [] t)))) (sym k.2 ∙ e))) in
+    find-none place_of p (acts d.rest)
+    (λ a h e. (let k = stands-at t d.rest a placed stands h in
+    away (node_at t k.0) (Has-get (nodes_of t) k.0 (node_at t k.0) (slice_get-get_or (nodes_of t) k.0 _ (omega (arith, k.1, counted_nodes (0 ∷ []) [] t)))) (sym k.2 ∙ e))) in
     let no-step : find (λ s. same_place s.place p) (steps t) ≡ None =
-      find-none (λ (s : Step). s.place) p (steps t) (λ s h e. (let n = step-node (0 ∷ []) [] t s placed h in away n.0 n.1 (n.2 ∙ e))) in
+    find-none (λ (s : Step). s.place) p (steps t) (λ s h e. (let n = step-node (0 ∷ []) [] t s placed h in away n.0 n.1 (n.2 ∙ e))) in
     ap
     (λ (b : Bool).
-      (let r : Option State =
-        elim b [
-          | true ↦ Some d.state
-          | false ↦ elim (find (λ a. same_place (place_of a) p) (acts d.rest)) [ Some a ↦ Some (act_state d.state a) | None ↦ elim (find (λ s. same_place s.place p) (steps t)) [ None ↦ None | Some s ↦ Some Idle ] ]
-        ] in
-      r))
+    (let r : Option State =
+    elim b [
+      | true ↦ Some d.state
+      | false ↦ elim (find (λ a. same_place (place_of a) p) (acts d.rest)) [ Some a ↦ Some (act_state d.state a) | None ↦ elim (find (λ s. same_place s.place p) (steps t)) [ None ↦ None | Some s ↦ Some Idle ] ]
+    ] in
+    r))
     not-root
     ∙ ap (λ (o : Option Rest). (let r : Option State = elim o [ Some a ↦ Some (act_state d.state a) | None ↦ elim (find (λ s. same_place s.place p) (steps t)) [ None ↦ None | Some s ↦ Some Idle ] ] in r)) no-act
     ∙ ap (λ (o : Option Step). (let r : Option State = elim o [ None ↦ None | Some s ↦ Some Idle ] in r)) no-step

@@ -41,11 +41,11 @@ or-zero (Some n) = refl
 pub set-value : (vs : ValueList) (ns : List Name) (xs : List ℕ) (i x : ℕ) → i < length xs → x ≡ value_or_0 vs (get_or ns i []) → ((k : ℕ) → k < i → get_or xs k 0 ≡ value_or_0 vs (get_or ns k []))
     → (k : ℕ) → k < i + 1 → get_or (set xs i x) k 0 ≡ value_or_0 vs (get_or ns k [])
 set-value vs ns xs i x small is below k l = elim (cases_lt k i) [
-    | inl less ↦ get_or-set_other xs i k x 0 (omega (arith, less)) ∙ below k less
-    | inr more ↦
-        let same : i ≡ k = omega (arith, l, more) in
-        subst (λ j. get_or (set xs i x) j 0 ≡ value_or_0 vs (get_or ns j [])) same (get_or-set_same xs i x 0 small ∙ is)
-  ]
+  | inl less ↦ get_or-set_other xs i k x 0 (omega (arith, less)) ∙ below k less
+  | inr more ↦
+      let same : i ≡ k = omega (arith, l, more) in
+      subst (λ j. get_or (set xs i x) j 0 ≡ value_or_0 vs (get_or ns j [])) same (get_or-set_same xs i x 0 small ∙ is)
+]
 
 -- What an act hands on
 
@@ -151,7 +151,7 @@ named-work : (vs : List Name) (acts : Acts) (table : Level) (name : Name) (a : A
 named-work vs acts UnitProcedures name a w f = (
   act_names acts.operations.items,
   (both (is_work (act_names acts.operations.items) vs a) (follows_no_par a)
-  (find-all (λ z. same_name z.name name) (λ u. is_work (act_names acts.operations.items) vs u && follows_no_par u) acts.unit_procedures.items a f w.unit_procedures)).0,
+      (find-all (λ z. same_name z.name name) (λ u. is_work (act_names acts.operations.items) vs u && follows_no_par u) acts.unit_procedures.items a f w.unit_procedures)).0,
 )
 named-work vs acts Operations name a w f = (
   act_names acts.phases.items,
@@ -185,13 +185,13 @@ few-handed r k a phase values e f =
 pub told-handed : (r : Recipe) (k : ℕ) (a : Option Act) → (k < length (procedure_nodes r.acts) → slice_get (procedure_acts r.acts) k ≡ Some a)
     → (length (procedure_nodes r.acts) ≤ k → a ≡ None) → handed_of (node_of k r) ≡ act_handed a
 told-handed r k a within gone = elim (cases_lt k (length (procedure_nodes r.acts))) [
-    | inr h ↦ past-handed r k h ∙ sym (ap act_handed (gone h))
-    | inl h ↦ act-handed r k a (within h)
-  ]
+  | inr h ↦ past-handed r k h ∙ sym (ap act_handed (gone h))
+  | inl h ↦ act-handed r k a (within h)
+]
 
 pub told-few : (r : Recipe) (k : ℕ) (a : Act) (phase : Name) (values : Vec Name) → (k < length (procedure_nodes r.acts) → slice_get (procedure_acts r.acts) k ≡ Some (Some a))
     → (length (procedure_nodes r.acts) ≤ k → ⊥) → a.work ≡ Runs phase values → length values.items ≤ MAX_VALUES
 told-few r k a phase values within gone e = elim (cases_lt k (length (procedure_nodes r.acts))) [
-    | inr h ↦ absurd (gone h)
-    | inl h ↦ few-handed r k a phase values (within h) e
-  ]
+  | inr h ↦ absurd (gone h)
+  | inl h ↦ few-handed r k a phase values (within h) e
+]

@@ -138,13 +138,13 @@ phase-named c p offers =
     let u = unit-number c.cell p.unit p.name offers in
     let q = phase-among c.cell p.unit p.name offers in
     let at : slice_get (units_of c.cell) u.0 ≡ Some p.unit = name-at (units_of c.cell) p.unit u.0 u.1 in
-    let resource : Names.resource_name c u.0 ≡ p.unit = 
-      ap (λ (o : Option Name). unwrap_or o [])
-      (slice_get-front (units_of c.cell ++ free_names c.cell) (shared_names c.cell) u.0 p.unit (slice_get-front (units_of c.cell) (free_names c.cell) u.0 p.unit at)) in
+    let resource : Names.resource_name c u.0 ≡ p.unit =
+    ap (λ (o : Option Name). unwrap_or o [])
+    (slice_get-front (units_of c.cell ++ free_names c.cell) (shared_names c.cell) u.0 p.unit (slice_get-front (units_of c.cell) (free_names c.cell) u.0 p.unit at)) in
     let named : Names.phase_name c u.0 q.0 ≡ p.name =
-      ap (λ (t : Bool). let z : Name = if t then unwrap_or (slice_get (phases_of c.cell u.0) q.0) [] else [] in z)
-      (within-yes u.0 (length (units_of c.cell)) (slice_get_within (units_of c.cell) u.0 p.unit at))
-      ∙ ap (λ (o : Option Name). unwrap_or o []) (name-at (phases_of c.cell u.0) p.name q.0 q.1) in
+    ap (λ (t : Bool). let z : Name = if t then unwrap_or (slice_get (phases_of c.cell u.0) q.0) [] else [] in z)
+    (within-yes u.0 (length (units_of c.cell)) (slice_get_within (units_of c.cell) u.0 p.unit at))
+    ∙ ap (λ (o : Option Name). unwrap_or o []) (name-at (phases_of c.cell u.0) p.name q.0 q.1) in
     subst (λ (x : PhaseNumber). (Names.resource_name c x.unit ≡ p.unit) × (Names.phase_name c x.unit x.phase ≡ p.name))
     (sym (numbered-phase c.cell p.unit p.name offers)) (resource, named)
 
@@ -170,12 +170,12 @@ module _ (c : ClearedSet) (cleared : CanBeCleared (cell_of c.cell) (documents c)
   node-named k l =
       let r : Model.Recipe = recipe_at c recipe in
       let clear : Each (IsClear (cell_of c.cell) (documents c) cleared.0) (procedure_parts r) =
-        Each-at (λ (r : Model.Recipe). Each (IsClear (cell_of c.cell) (documents c) cleared.0) (procedure_parts r)) (documents c).recipes recipe no_recipe cleared.1.recipes known in
+      Each-at (λ (r : Model.Recipe). Each (IsClear (cell_of c.cell) (documents c) cleared.0) (procedure_parts r)) (documents c).recipes recipe no_recipe cleared.1.recipes known in
       let parts-named : Each (λ (x : Part). IsNamed c x.node.here) (procedure_parts r) =
-        Each-map (IsClear (cell_of c.cell) (documents c) cleared.0) (λ (x : Part). IsNamed c x.node.here) (λ x h. (h.known, h.offered)) (procedure_parts r) clear in
+      Each-map (IsClear (cell_of c.cell) (documents c) cleared.0) (λ (x : Part). IsNamed c x.node.here) (λ x h. (h.known, h.offered)) (procedure_parts r) clear in
       let all : Each (λ (n : Node). IsNamed c n.here) (nodes_of (tree_at c recipe)) =
-        subst (Each (λ (n : Node). IsNamed c n.here)) (parts-nodes is_procedure (0 ∷ []) [] (tree_at c recipe))
-        (Each-mapped (λ (n : Node). IsNamed c n.here) (λ (x : Part). x.node) (procedure_parts r) parts-named) in
+      subst (Each (λ (n : Node). IsNamed c n.here)) (parts-nodes is_procedure (0 ∷ []) [] (tree_at c recipe))
+      (Each-mapped (λ (n : Node). IsNamed c n.here) (λ (x : Part). x.node) (procedure_parts r) parts-named) in
       Each-at (λ (n : Node). IsNamed c n.here) (nodes_of (tree_at c recipe)) k (record { place = []; asked = []; here = skip }) all
       (omega (arith, l, counted_nodes (0 ∷ []) [] (tree_at c recipe)))
 
@@ -185,16 +185,16 @@ module _ (c : ClearedSet) (cleared : CanBeCleared (cell_of c.cell) (documents c)
   need-numbered k i l m =
       let n : Need = need_at (tree_at c recipe) k i in
       let here : Each (λ (need : Need). IsTrue (is_among (resources_of c.cell) need.resource)) (step_at (tree_at c recipe) k).needs =
-        subst (Each (λ (need : Need). IsTrue (is_among (resources_of c.cell) need.resource))) (needs-same (node_at (tree_at c recipe) k).here) (node-named k l).0 in
+      subst (Each (λ (need : Need). IsTrue (is_among (resources_of c.cell) need.resource))) (needs-same (node_at (tree_at c recipe) k).here) (node-named k l).0 in
       let among : IsTrue (is_among (resources_of c.cell) n.resource) =
-        Each-at (λ (need : Need). IsTrue (is_among (resources_of c.cell) need.resource)) (step_at (tree_at c recipe) k).needs i no_need here m in
+      Each-at (λ (need : Need). IsTrue (is_among (resources_of c.cell) need.resource)) (step_at (tree_at c recipe) k).needs i no_need here m in
       let q = any-position (same_name n.resource) (resources_of c.cell) among in
       q.1 ∙ ap Some (sym (ap (λ (o : Option ℕ). unwrap_or o 0) q.1))
 
   -- so are those that stand for a phase; at any other node they name nothing
   pub phase-numbered : (few : length (resources_of c.cell) < 65535) (fewer : length (units_of c.cell) < 65535) (k : ℕ) → k < node_count (tree_at c recipe)
       → (let x = Numbers.phase_in c.cell (node_at (tree_at c recipe) k).here in let p = phase_at (tree_at c recipe) k in
-        (Names.resource_name c x.unit ≡ p.unit) × (Names.phase_name c x.unit x.phase ≡ p.name))
+      (Names.resource_name c x.unit ≡ p.unit) × (Names.phase_name c x.unit x.phase ≡ p.name))
   phase-numbered few fewer k l = go (node_at (tree_at c recipe) k).here (node-named k l).1
     where
       past : (names : List Name) (q : ℕ) → length names < q → slice_get names q ≡ None

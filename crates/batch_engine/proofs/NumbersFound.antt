@@ -104,8 +104,8 @@ pub need-among : (cell : Cell) (here : Tree) (x : ActNumbers) (i : ℕ) (d : Nee
     → n ≡ need_number cell (get_or (step_of here).needs i d)
 need-among cell here x i d n h e l =
     let got : ◌≡◌ {A = Option NeedNumber} (Some n) (Some (need_number cell (get_or (step_of here).needs i d))) =
-      sym e ∙ ap (λ xs. slice_get xs i) h.needs ∙ slice_get-map (need_number cell) (step_of here).needs i
-      ∙ ap (option_map (need_number cell)) (slice_get-get_or (step_of here).needs i d l) in
+    sym e ∙ ap (λ xs. slice_get xs i) h.needs ∙ slice_get-map (need_number cell) (step_of here).needs i
+    ∙ ap (option_map (need_number cell)) (slice_get-get_or (step_of here).needs i d l) in
     cc
 
 -- Tables that grow

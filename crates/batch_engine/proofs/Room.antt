@@ -67,4 +67,3 @@ module _ (v : EngineView) (i : ℕ) (b b' : Batch) (at : slice_get v.batches i �
         sum_by-set (λ (xs : List Claim). length xs) v.allocation.shares q (without_first (is_claim n node) (shares_of v.allocation q)) [] few,
         without-length (is_claim n node) (shares_of v.allocation q),
       )
-

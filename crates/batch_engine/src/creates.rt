@@ -37,10 +37,12 @@ fn values_for(alloc: Global, recipe: &Recipe, size: u64) -> Result<Values, BadVa
     match formula(alloc, recipe, size) {
         Ok(values) => Ok(values),
         Err(FormulaFault::Size) => Err(BadValues::Size),
-        Err(FormulaFault::OutOfRange {
-            number,
-            name: _name,
-        }) => Err(BadValues::OutOfRange(number)),
+        Err(
+            FormulaFault::OutOfRange {
+                number,
+                name: _name,
+            },
+        ) => Err(BadValues::OutOfRange(number)),
         Err(FormulaFault::Memory) => Err(BadValues::Memory),
     }
 }
@@ -123,7 +125,10 @@ impl Engine {
             Ok(values) => self.add(name, recipe as u16, size, values),
             Err(BadValues::Size) => Reply::Refused(Refusal::BadSize),
             Err(BadValues::OutOfRange(value)) => {
-                Reply::Refused(Refusal::BadValue { recipe: recipe as u16, value })
+                Reply::Refused(Refusal::BadValue {
+                    recipe: recipe as u16,
+                    value,
+                })
             }
             Err(BadValues::Memory) => Reply::Refused(Refusal::Memory),
         }

@@ -115,7 +115,12 @@ fn number_act(
 }
 
 /// What all acts of a recipe need and run.
-fn number_recipe(alloc: Global, cell: &Cell, recipe: &Recipe, chart: &Compiled) -> Result<RecipeNumbers, AllocError>
+fn number_recipe(
+    alloc: Global,
+    cell: &Cell,
+    recipe: &Recipe,
+    chart: &Compiled,
+) -> Result<RecipeNumbers, AllocError>
     requires { IsChartOf (procedure_tree recipe.now.acts) chart.now }
     ensures { IfOk result (λ numbers. AreActsNumbered cell.now (procedure_tree recipe.now.acts) numbers) }
 {

@@ -22,8 +22,8 @@ returns-in-Runs c =
 pub returns-in-Follows : goal.returns-in-Follows
 returns-in-Follows c =
     let e : handed_of (node_of c.args.node c.args.recipe.now) ≡ [] =
-      told-handed c.args.recipe.now c.args.node (Some c.in-Some.act.now) c.in-Some.ensures.act (λ h. absurd (let bad : true ≡ false = c.in-Some.ensures.past h in cc))
-      ∙ ap handed_with c.in-Follows.is in
+    told-handed c.args.recipe.now c.args.node (Some c.in-Some.act.now) c.in-Some.ensures.act (λ h. absurd (let bad : true ≡ false = c.in-Some.ensures.past h in cc))
+    ∙ ap handed_with c.in-Follows.is in
     rw e refl
 
 pub returns-in-None : goal.returns-in-None

@@ -17,8 +17,8 @@ loop-node-preserved c =
     let t = procedure_tree c.args.recipe.now.acts in
     let x : ActNumbers = c.in_ok-act.act in
     let each : (k : ℕ) (y : ActNumbers) → slice_get (c.loop-node.acts.items ++ x ∷ []) k ≡ Some y → IsActNumbered c.args.cell.now (node_at t k).here y =
-      pushed (λ k y. IsActNumbered c.args.cell.now (node_at t k).here y) c.loop-node.acts.items x c.loop-node.invariant.1
-      (subst (λ k. IsActNumbered c.args.cell.now (node_at t k).here x) (sym c.loop-node.invariant.0) c.in_ok-act.ensures) in (
+    pushed (λ k y. IsActNumbered c.args.cell.now (node_at t k).here y) c.loop-node.acts.items x c.loop-node.invariant.1
+    (subst (λ k. IsActNumbered c.args.cell.now (node_at t k).here x) (sym c.loop-node.invariant.0) c.in_ok-act.ensures) in (
       omega (arith, ap (λ (xs : List ActNumbers). length xs) c.in_ok-push.ensures.items, length-append c.loop-node.acts.items (x ∷ []), c.loop-node.invariant.0),
       subst (λ (xs : List ActNumbers). (k : ℕ) (y : ActNumbers) → slice_get xs k ≡ Some y → IsActNumbered c.args.cell.now (node_at t k).here y) (sym c.in_ok-push.ensures.items) each,
       omega (arith, c.loop-node-test.true, c.node_count-node-end.ensures),

@@ -32,13 +32,13 @@ loop-index-preserved c =
     let few : i < length recipes = omega (arith, c.loop-index-test.true) in
     let at : slice_get recipes i ≡ Some r = slice_get_read recipes (length recipes) i r refl few c.index-recipes-index.is in
     let own : (s : Recipe) → slice_get recipes i ≡ Some s → AreActsNumbered cell (procedure_tree s.acts) x =
-      λ s e. subst (λ (z : Recipe). AreActsNumbered cell (procedure_tree z.acts) x) (same-at recipes i r s at e) c.in_ok-recipe.ensures in
+    λ s e. subst (λ (z : Recipe). AreActsNumbered cell (procedure_tree z.acts) x) (same-at recipes i r s at e) c.in_ok-recipe.ensures in
     let each : (k : ℕ) (y : RecipeNumbers) → slice_get (c.loop-index.numbers.items ++ x ∷ []) k ≡ Some y → (s : Recipe) → slice_get recipes k ≡ Some s → AreActsNumbered cell (procedure_tree s.acts) y =
-      pushed (λ k y. (s : Recipe) → slice_get recipes k ≡ Some s → AreActsNumbered cell (procedure_tree s.acts) y) c.loop-index.numbers.items x c.loop-index.invariant.1
-      (subst (λ k. (s : Recipe) → slice_get recipes k ≡ Some s → AreActsNumbered cell (procedure_tree s.acts) x) (sym c.loop-index.invariant.0) own) in (
+    pushed (λ k y. (s : Recipe) → slice_get recipes k ≡ Some s → AreActsNumbered cell (procedure_tree s.acts) y) c.loop-index.numbers.items x c.loop-index.invariant.1
+    (subst (λ k. (s : Recipe) → slice_get recipes k ≡ Some s → AreActsNumbered cell (procedure_tree s.acts) x) (sym c.loop-index.invariant.0) own) in (
       omega (arith, ap (λ (xs : List RecipeNumbers). length xs) c.in_ok-push.ensures.items, length-append c.loop-index.numbers.items (x ∷ []), c.loop-index.invariant.0),
       subst (λ (xs : List RecipeNumbers). (k : ℕ) (y : RecipeNumbers) → slice_get xs k ≡ Some y → (s : Recipe) → slice_get recipes k ≡ Some s → AreActsNumbered cell (procedure_tree s.acts) y)
-      (sym c.in_ok-push.ensures.items) each,
+          (sym c.in_ok-push.ensures.items) each,
       omega (arith, few),
     )
 

@@ -91,8 +91,8 @@ invariant_of-self c =
     let is : IsNext v m = step-is v c.args.index b at (Chart.Ask c.args.node c.args.need) g in
     let made = c.make.ensures (tree_of v.cleared b) (kept.charts.each b.recipe x compiled) (batch-runs v kept c.args.index b at).runs in
     let r : Becomes v (changed v c.args.index (record b { running = c.make.new.self }) (asked c.args.resource (record { batch = b.number; node = c.args.node; units = (need_at (tree_of v.cleared b) c.args.node c.args.need).units }) v.allocation)) m =
-      ask-made v kept c.args.index b at c.args.node c.args.need c.args.resource c.make.new.self (step-about v c.args.index b at (Chart.Ask c.args.node c.args.need) g) number made is
-      (room-for-ask v kept c.args.index b at c.args.node c.args.need c.args.resource (step-about v c.args.index b at (Chart.Ask c.args.node c.args.need) g) number is) in
+    ask-made v kept c.args.index b at c.args.node c.args.need c.args.resource c.make.new.self (step-about v c.args.index b at (Chart.Ask c.args.node c.args.need) g) number made is
+    (room-for-ask v kept c.args.index b at c.args.node c.args.need c.args.resource (step-about v c.args.index b at (Chart.Ask c.args.node c.args.need) g) number is) in
     let first : Batch = c.index.result.now in
     let at_first : slice_get v.batches c.args.index ≡ Some first = got-batch v _ c.args.index first c.self.view_is (slice_get_within v.batches c.args.index g.batch g.here.at) c.index.ensures in
     let same : b ≡ first = same-at v.batches c.args.index b first at at_first in
@@ -116,8 +116,8 @@ returns c =
     let is : IsNext v m = step-is v c.args.index b at (Chart.Ask c.args.node c.args.need) g in
     let made = c.make.ensures (tree_of v.cleared b) (kept.charts.each b.recipe x compiled) (batch-runs v kept c.args.index b at).runs in
     let r : Becomes v (changed v c.args.index (record b { running = c.make.new.self }) (asked c.args.resource (record { batch = b.number; node = c.args.node; units = (need_at (tree_of v.cleared b) c.args.node c.args.need).units }) v.allocation)) m =
-      ask-made v kept c.args.index b at c.args.node c.args.need c.args.resource c.make.new.self (step-about v c.args.index b at (Chart.Ask c.args.node c.args.need) g) number made is
-      (room-for-ask v kept c.args.index b at c.args.node c.args.need c.args.resource (step-about v c.args.index b at (Chart.Ask c.args.node c.args.need) g) number is) in
+    ask-made v kept c.args.index b at c.args.node c.args.need c.args.resource c.make.new.self (step-about v c.args.index b at (Chart.Ask c.args.node c.args.need) g) number made is
+    (room-for-ask v kept c.args.index b at c.args.node c.args.need c.args.resource (step-about v c.args.index b at (Chart.Ask c.args.node c.args.need) g) number is) in
     let first : Batch = c.index.result.now in
     let at_first : slice_get v.batches c.args.index ≡ Some first = got-batch v _ c.args.index first c.self.view_is (slice_get_within v.batches c.args.index g.batch g.here.at) c.index.ensures in
     let same : b ≡ first = same-at v.batches c.args.index b first at at_first in

@@ -106,10 +106,10 @@ returns-in-Err-OutOfRange c =
     let values : IsValuesFor r c.args.size (Err (OutOfRange c.in-Err-OutOfRange.value)) = subst (λ e. IsValuesFor r c.args.size (Err e)) c.in-Err-OutOfRange.field-0-is (subst (IsValuesFor r c.args.size) c.in-Err-OutOfRange.is c.values_for.ensures) in
     let k : ℕ = c.in-Err-OutOfRange.value in
     let called : value_name v.cleared c.in-Some.recipe k ≡ values.0.name =
-      ap (λ (m : Option document.Recipe). unwrap_or (option_map (name_of_value k) m) []) read
-      ∙ ap (λ (m : Option Quantity). unwrap_or (option_map quantity_name m) []) values.1 in
+    ap (λ (m : Option document.Recipe). unwrap_or (option_map (name_of_value k) m) []) read
+    ∙ ap (λ (m : Option Quantity). unwrap_or (option_map quantity_name m) []) values.1 in
     let reacts : Reacts (documents v.cleared) (plant_of v) (Events.create name c.args.size) (Events.refused (Events.bad_value values.0.name)) (plant_of v) =
-      inl (judge-values v name c.args.size (recipe_at v.cleared c.in-Some.recipe) c.requires found (Model.value_out_of_range values.0.name) free (ap (λ (z : Model.Recipe). z.formula c.args.size) here ∙ values.2)) in
+    inl (judge-values v name c.args.size (recipe_at v.cleared c.in-Some.recipe) c.requires found (Model.value_out_of_range values.0.name) free (ap (λ (z : Model.Recipe). z.formula c.args.size) here ∙ values.2)) in
     record { cleared = refl; reacts = subst (λ (n : Name). Reacts (documents v.cleared) (plant_of v) (Events.create name c.args.size) (Events.refused (Events.bad_value n)) (plant_of v)) (sym called) reacts }
 
 pub returns-in-Err-Memory : goal.returns-in-Err-Memory

@@ -24,7 +24,7 @@ resource_at-resource-requires c =
     let at : slice_get v.batches c.args.index ≡ Some b = got-batch v _ c.args.index b c.self.view_is c.requires c.index-batch.ensures in
     let compiled : slice_get v.charts b.recipe ≡ Some x = got-chart v _ c.from.result b.recipe x c.self.view_is c.from.ensures (in-charts v kept c.args.index b at) c.index-chart.ensures in
     let asks : AsksAt (tree_of v.cleared b) (remains (tree_of v.cleared b) b.running) c.in-Some.node c.in-Some.need =
-      c.in-Some.ensures.some.1 (tree_of v.cleared b) (kept.charts.each b.recipe x compiled) (batch-runs v kept c.args.index b at).runs in
+    c.in-Some.ensures.some.1 (tree_of v.cleared b) (kept.charts.each b.recipe x compiled) (batch-runs v kept c.args.index b at).runs in
     (b, at, asks.0, asks.1)
 
 pub returns-then-serves : goal.returns-then-serves

@@ -51,10 +51,10 @@ returns c =
     let numbered : AreActsNumbered v.cleared.cell (tree_of v.cleared b) x = numbers-here v kept b.recipe x found in
     let a : ActNumbers = c.index-act.result.now in
     let here : slice_get x.acts.items c.args.node ≡ Some a =
-      slice_get_read x.acts.items (length x.acts.items) c.args.node a refl (omega (arith, few, numbered.count)) (c.index-act.ensures ∙ ap (λ k. get_or x.acts.items k a) c.from-2.ensures) in
+    slice_get_read x.acts.items (length x.acts.items) c.args.node a refl (omega (arith, few, numbered.count)) (c.index-act.ensures ∙ ap (λ k. get_or x.acts.items k a) c.from-2.ensures) in
     let of_act : IsActNumbered v.cleared.cell (node_at (tree_of v.cleared b) c.args.node).here a = numbered.each c.args.node a here in
     let named : (resource_name v.cleared a.phase.unit ≡ (phase_at (tree_of v.cleared b) c.args.node).unit) × (phase_name v.cleared a.phase.unit a.phase.phase ≡ (phase_at (tree_of v.cleared b) c.args.node).name) =
-      subst (λ (p : PhaseNumber). (resource_name v.cleared p.unit ≡ (phase_at (tree_of v.cleared b) c.args.node).unit) × (phase_name v.cleared p.unit p.phase ≡ (phase_at (tree_of v.cleared b) c.args.node).name))
-      (sym of_act.phase) (phase-numbered v.cleared kept.cleared b.recipe (in-recipes v kept c.args.index b at) (few-resources v.cleared.cell) (few-units v.cleared.cell) c.args.node few) in
+    subst (λ (p : PhaseNumber). (resource_name v.cleared p.unit ≡ (phase_at (tree_of v.cleared b) c.args.node).unit) × (phase_name v.cleared p.unit p.phase ≡ (phase_at (tree_of v.cleared b) c.args.node).name))
+    (sym of_act.phase) (phase-numbered v.cleared kept.cleared b.recipe (in-recipes v kept c.args.index b at) (few-resources v.cleared.cell) (few-units v.cleared.cell) c.args.node few) in
     λ d e. at-same v.batches c.args.index b d
-      (λ (z : Batch). (resource_name v.cleared a.phase.unit ≡ (phase_at (tree_of v.cleared z) c.args.node).unit) × (phase_name v.cleared a.phase.unit a.phase.phase ≡ (phase_at (tree_of v.cleared z) c.args.node).name)) at e named
+    (λ (z : Batch). (resource_name v.cleared a.phase.unit ≡ (phase_at (tree_of v.cleared z) c.args.node).unit) × (phase_name v.cleared a.phase.unit a.phase.phase ≡ (phase_at (tree_of v.cleared z) c.args.node).name)) at e named

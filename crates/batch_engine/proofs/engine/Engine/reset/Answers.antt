@@ -58,10 +58,10 @@ invariant_of-self c =
     let b' : Batch = record b { values = c.clear_outputs.new.self; state = Idle; running = c.reset.new.self } in
     let made = λ (ws : ValueList). c.reset.ensures (tree_of v.cleared b) ws (kept.charts.each b.recipe x compiled) (batch-runs v kept i b at).runs in
     let r : Ordered v (changed v i (record (o.batch) { values = c.clear_outputs.new.self; state = Idle; running = c.reset.new.self }) v.allocation) Reset n =
-      reset-made v kept i n o c.reset.new.self c.clear_outputs.new.self
-      (subst (λ (z : Batch). c.clear_outputs.new.self ≡ with_outputs_zero (recipe_made v.cleared z).outputs z.values) (sym is) values)
-      (subst (λ (z : Batch). Rattle.batch_chart.specs.Charts.IsRunningOf (tree_of v.cleared z) c.reset.new.self) (sym is) (made []).0)
-      (λ ws. subst (λ (z : Batch). Rattle.batch_chart.specs.Charts.remains (tree_of v.cleared z) c.reset.new.self ≡ Rattle.batch_model.specs.Rest.reach ws (tree_of v.cleared z)) (sym is) (made ws).1) in
+    reset-made v kept i n o c.reset.new.self c.clear_outputs.new.self
+    (subst (λ (z : Batch). c.clear_outputs.new.self ≡ with_outputs_zero (recipe_made v.cleared z).outputs z.values) (sym is) values)
+    (subst (λ (z : Batch). Rattle.batch_chart.specs.Charts.IsRunningOf (tree_of v.cleared z) c.reset.new.self) (sym is) (made []).0)
+    (λ ws. subst (λ (z : Batch). Rattle.batch_chart.specs.Charts.remains (tree_of v.cleared z) c.reset.new.self ≡ Rattle.batch_model.specs.Rest.reach ws (tree_of v.cleared z)) (sym is) (made ws).1) in
     let s : Ordered v (changed v i b' v.allocation) Reset n =
     subst (λ (z : Batch). Ordered v (changed v i (record z { values = c.clear_outputs.new.self; state = Idle; running = c.reset.new.self }) v.allocation) Reset n) is r in
     let a : Ordered v (changed v i b' c.self.inside.arbiter) Reset n =
@@ -88,10 +88,10 @@ returns c =
     let b' : Batch = record b { values = c.clear_outputs.new.self; state = Idle; running = c.reset.new.self } in
     let made = λ (ws : ValueList). c.reset.ensures (tree_of v.cleared b) ws (kept.charts.each b.recipe x compiled) (batch-runs v kept i b at).runs in
     let r : Ordered v (changed v i (record (o.batch) { values = c.clear_outputs.new.self; state = Idle; running = c.reset.new.self }) v.allocation) Reset n =
-      reset-made v kept i n o c.reset.new.self c.clear_outputs.new.self
-      (subst (λ (z : Batch). c.clear_outputs.new.self ≡ with_outputs_zero (recipe_made v.cleared z).outputs z.values) (sym is) values)
-      (subst (λ (z : Batch). Rattle.batch_chart.specs.Charts.IsRunningOf (tree_of v.cleared z) c.reset.new.self) (sym is) (made []).0)
-      (λ ws. subst (λ (z : Batch). Rattle.batch_chart.specs.Charts.remains (tree_of v.cleared z) c.reset.new.self ≡ Rattle.batch_model.specs.Rest.reach ws (tree_of v.cleared z)) (sym is) (made ws).1) in
+    reset-made v kept i n o c.reset.new.self c.clear_outputs.new.self
+    (subst (λ (z : Batch). c.clear_outputs.new.self ≡ with_outputs_zero (recipe_made v.cleared z).outputs z.values) (sym is) values)
+    (subst (λ (z : Batch). Rattle.batch_chart.specs.Charts.IsRunningOf (tree_of v.cleared z) c.reset.new.self) (sym is) (made []).0)
+    (λ ws. subst (λ (z : Batch). Rattle.batch_chart.specs.Charts.remains (tree_of v.cleared z) c.reset.new.self ≡ Rattle.batch_model.specs.Rest.reach ws (tree_of v.cleared z)) (sym is) (made ws).1) in
     let s : Ordered v (changed v i b' v.allocation) Reset n =
     subst (λ (z : Batch). Ordered v (changed v i (record z { values = c.clear_outputs.new.self; state = Idle; running = c.reset.new.self }) v.allocation) Reset n) is r in
     let a : Ordered v (changed v i b' c.self.inside.arbiter) Reset n =

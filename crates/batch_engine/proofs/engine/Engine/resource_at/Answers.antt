@@ -51,10 +51,10 @@ index-wanted-requires c =
     let numbered : AreActsNumbered v.cleared.cell (tree_of v.cleared b) x = numbers-here v kept b.recipe x found in
     let a : ActNumbers = c.index-act.result.now in
     let here : slice_get x.acts.items c.args.node ≡ Some a =
-      slice_get_read x.acts.items (length x.acts.items) c.args.node a refl (omega (arith, few, numbered.count)) (c.index-act.ensures ∙ ap (λ k. get_or x.acts.items k a) c.from-2.ensures) in
+    slice_get_read x.acts.items (length x.acts.items) c.args.node a refl (omega (arith, few, numbered.count)) (c.index-act.ensures ∙ ap (λ k. get_or x.acts.items k a) c.from-2.ensures) in
     let of_act : IsActNumbered v.cleared.cell (node_at (tree_of v.cleared b) c.args.node).here a = numbered.each c.args.node a here in
     let less : c.args.need < length (step_at (tree_of v.cleared b) c.args.node).needs =
-      at-same v.batches c.args.index c.requires.0 b (λ (z : Batch). c.args.need < length (step_at (tree_of v.cleared z) c.args.node).needs) c.requires.1 at c.requires.3 in
+    at-same v.batches c.args.index c.requires.0 b (λ (z : Batch). c.args.need < length (step_at (tree_of v.cleared z) c.args.node).needs) c.requires.1 at c.requires.3 in
     omega (arith, less, ap (λ (xs : List NeedNumber). length xs) of_act.needs, Rattle.std.proofs.lemmas.List.length-map (step_at (tree_of v.cleared b) c.args.node).needs (need_number v.cleared.cell), c.from-3.ensures, a.needs.ok.0)
 
 pub returns : goal.returns
@@ -69,20 +69,20 @@ returns c =
     let numbered : AreActsNumbered v.cleared.cell (tree_of v.cleared b) x = numbers-here v kept b.recipe x found in
     let a : ActNumbers = c.index-act.result.now in
     let here : slice_get x.acts.items c.args.node ≡ Some a =
-      slice_get_read x.acts.items (length x.acts.items) c.args.node a refl (omega (arith, few, numbered.count)) (c.index-act.ensures ∙ ap (λ k. get_or x.acts.items k a) c.from-2.ensures) in
+    slice_get_read x.acts.items (length x.acts.items) c.args.node a refl (omega (arith, few, numbered.count)) (c.index-act.ensures ∙ ap (λ k. get_or x.acts.items k a) c.from-2.ensures) in
     let of_act : IsActNumbered v.cleared.cell (node_at (tree_of v.cleared b) c.args.node).here a = numbered.each c.args.node a here in
     let less : c.args.need < length (step_at (tree_of v.cleared b) c.args.node).needs =
-      at-same v.batches c.args.index c.requires.0 b (λ (z : Batch). c.args.need < length (step_at (tree_of v.cleared z) c.args.node).needs) c.requires.1 at c.requires.3 in
+    at-same v.batches c.args.index c.requires.0 b (λ (z : Batch). c.args.need < length (step_at (tree_of v.cleared z) c.args.node).needs) c.requires.1 at c.requires.3 in
     let n : NeedNumber = c.index-wanted.result.now in
     let same-length : length a.needs.items ≡ length (step_at (tree_of v.cleared b) c.args.node).needs =
-      ap (λ (xs : List NeedNumber). length xs) of_act.needs ∙ Rattle.std.proofs.lemmas.List.length-map (step_at (tree_of v.cleared b) c.args.node).needs (need_number v.cleared.cell) in
+    ap (λ (xs : List NeedNumber). length xs) of_act.needs ∙ Rattle.std.proofs.lemmas.List.length-map (step_at (tree_of v.cleared b) c.args.node).needs (need_number v.cleared.cell) in
     let got : slice_get a.needs.items c.args.need ≡ Some n =
-      slice_get_read a.needs.items (length a.needs.items) c.args.need n refl (omega (arith, less, same-length)) (c.index-wanted.ensures ∙ ap (λ k. get_or a.needs.items k n) c.from-3.ensures) in
+    slice_get_read a.needs.items (length a.needs.items) c.args.need n refl (omega (arith, less, same-length)) (c.index-wanted.ensures ∙ ap (λ k. get_or a.needs.items k n) c.from-3.ensures) in
     let is : n ≡ need_number v.cleared.cell (need_at (tree_of v.cleared b) c.args.node c.args.need) =
-      need-among v.cleared.cell (node_at (tree_of v.cleared b) c.args.node).here a c.args.need no_need n of_act got less in
+    need-among v.cleared.cell (node_at (tree_of v.cleared b) c.args.node).here a c.args.need no_need n of_act got less in
     let told : (number_of v.cleared (need_at (tree_of v.cleared b) c.args.node c.args.need).resource ≡ Some n.resource) × ((need_at (tree_of v.cleared b) c.args.node c.args.need).units ≡ n.units) = (
       need-numbered v.cleared kept.cleared b.recipe (in-recipes v kept c.args.index b at) c.args.node c.args.need few less ∙ ap (λ (z : NeedNumber). let o : Option ℕ = Some z.resource in o) (sym is),
       sym (ap (λ (z : NeedNumber). z.units) is),
     ) in
     λ d e. at-same v.batches c.args.index b d
-      (λ (z : Batch). (number_of v.cleared (need_at (tree_of v.cleared z) c.args.node c.args.need).resource ≡ Some n.resource) × ((need_at (tree_of v.cleared z) c.args.node c.args.need).units ≡ n.units)) at e told
+    (λ (z : Batch). (number_of v.cleared (need_at (tree_of v.cleared z) c.args.node c.args.need).resource ≡ Some n.resource) × ((need_at (tree_of v.cleared z) c.args.node c.args.need).units ≡ n.units)) at e told

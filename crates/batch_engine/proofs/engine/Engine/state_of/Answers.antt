@@ -40,7 +40,7 @@ returns-in_default-node_of c =
     let t : Tree = tree_of v.cleared b in
     let tree : t ≡ procedure_tree r.0.acts = tree-is v.cleared b.recipe r.0 r.1 in
     let shown : Rattle.batch_model.specs.ActStates.state_of (plant_of v) c.args.batch c.args.place.now ≡ state_in (batch_of v.cleared b) c.args.place.now =
-      ap (λ (o : Option Model.Batch). let s : Option State = elim o [ None ↦ None | Some d ↦ state_in d c.args.place.now ] in s) (f.is ∙ ap (λ (z : Batch). Some (batch_of v.cleared z)) same) in
+    ap (λ (o : Option Model.Batch). let s : Option State = elim o [ None ↦ None | Some d ↦ state_in d c.args.place.now ] in s) (f.is ∙ ap (λ (z : Batch). Some (batch_of v.cleared z)) same) in
     let none : NoNodeAt (nodes_of t) c.args.place.now = subst (λ (z : Tree). NoNodeAt (nodes_of z) c.args.place.now) (sym tree) (c.in_default-node_of.ensures.none r.0 read refl) in
     sym (shown ∙ state-nowhere (batch_of v.cleared b) c.args.place.now (tree-placed v kept c.in-Some.index b at) (batch-runs v kept c.in-Some.index b at).runs.stands none)
 
@@ -57,7 +57,7 @@ state_at-requires c =
     let t : Tree = tree_of v.cleared b in
     let tree : t ≡ procedure_tree r.0.acts = tree-is v.cleared b.recipe r.0 r.1 in
     let shown : Rattle.batch_model.specs.ActStates.state_of (plant_of v) c.args.batch c.args.place.now ≡ state_in (batch_of v.cleared b) c.args.place.now =
-      ap (λ (o : Option Model.Batch). let s : Option State = elim o [ None ↦ None | Some d ↦ state_in d c.args.place.now ] in s) (f.is ∙ ap (λ (z : Batch). Some (batch_of v.cleared z)) same) in
+    ap (λ (o : Option Model.Batch). let s : Option State = elim o [ None ↦ None | Some d ↦ state_in d c.args.place.now ] in s) (f.is ∙ ap (λ (z : Batch). Some (batch_of v.cleared z)) same) in
     let x : Compiled = c.index-chart.result.now in
     let compiled : slice_get v.charts b.recipe ≡ Some x = got-chart v _ c.from.result b.recipe x c.self.view_is c.from.ensures (in-charts v kept c.in-Some.index b at) c.index-chart.ensures in
     runs-here v kept c.in-Some.index b at x compiled
@@ -75,7 +75,7 @@ returns c =
     let t : Tree = tree_of v.cleared b in
     let tree : t ≡ procedure_tree r.0.acts = tree-is v.cleared b.recipe r.0 r.1 in
     let shown : Rattle.batch_model.specs.ActStates.state_of (plant_of v) c.args.batch c.args.place.now ≡ state_in (batch_of v.cleared b) c.args.place.now =
-      ap (λ (o : Option Model.Batch). let s : Option State = elim o [ None ↦ None | Some d ↦ state_in d c.args.place.now ] in s) (f.is ∙ ap (λ (z : Batch). Some (batch_of v.cleared z)) same) in
+    ap (λ (o : Option Model.Batch). let s : Option State = elim o [ None ↦ None | Some d ↦ state_in d c.args.place.now ] in s) (f.is ∙ ap (λ (z : Batch). Some (batch_of v.cleared z)) same) in
     let x : Compiled = c.index-chart.result.now in
     let compiled : slice_get v.charts b.recipe ≡ Some x = got-chart v _ c.from.result b.recipe x c.self.view_is c.from.ensures (in-charts v kept c.in-Some.index b at) c.index-chart.ensures in
     let node : ℕ = c.in-Some-node_of.node in

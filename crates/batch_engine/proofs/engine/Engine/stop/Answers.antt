@@ -33,9 +33,9 @@ invariant_of-self c =
     let b' : Batch = record b { state = c.args.state; running = c.stop_all.new.self } in
     let made = c.stop_all.ensures (tree_of v.cleared b) (batch-runs v kept i b at).runs in
     let r : Ordered v (changed v i (record (o.batch) { state = target c.args.command; running = c.stop_all.new.self }) (Arbiter.withdrawn o.batch.number v.allocation)) c.args.command n =
-      stop-made v kept i c.args.command n o c.requires.ends c.stop_all.new.self
-      (subst (λ (z : Batch). Rattle.batch_chart.specs.Charts.IsRunningOf (tree_of v.cleared z) c.stop_all.new.self) (sym is) made.0)
-      (subst (λ (z : Batch). Rattle.batch_chart.specs.Charts.remains (tree_of v.cleared z) c.stop_all.new.self ≡ Rattle.batch_model.specs.Rest.withdrawn (Rattle.batch_chart.specs.Charts.remains (tree_of v.cleared z) z.running)) (sym is) made.1) in
+    stop-made v kept i c.args.command n o c.requires.ends c.stop_all.new.self
+    (subst (λ (z : Batch). Rattle.batch_chart.specs.Charts.IsRunningOf (tree_of v.cleared z) c.stop_all.new.self) (sym is) made.0)
+    (subst (λ (z : Batch). Rattle.batch_chart.specs.Charts.remains (tree_of v.cleared z) c.stop_all.new.self ≡ Rattle.batch_model.specs.Rest.withdrawn (Rattle.batch_chart.specs.Charts.remains (tree_of v.cleared z) z.running)) (sym is) made.1) in
     let s : Ordered v (changed v i b' (Arbiter.withdrawn o.batch.number v.allocation)) c.args.command n =
     subst (λ (x : State). Ordered v (changed v i (record b { state = x; running = c.stop_all.new.self }) (Arbiter.withdrawn o.batch.number v.allocation)) c.args.command n) (sym c.requires.target)
     (subst (λ (z : Batch). Ordered v (changed v i (record z { state = target c.args.command; running = c.stop_all.new.self }) (Arbiter.withdrawn o.batch.number v.allocation)) c.args.command n) is r) in
@@ -57,9 +57,9 @@ returns c =
     let b' : Batch = record b { state = c.args.state; running = c.stop_all.new.self } in
     let made = c.stop_all.ensures (tree_of v.cleared b) (batch-runs v kept i b at).runs in
     let r : Ordered v (changed v i (record (o.batch) { state = target c.args.command; running = c.stop_all.new.self }) (Arbiter.withdrawn o.batch.number v.allocation)) c.args.command n =
-      stop-made v kept i c.args.command n o c.requires.ends c.stop_all.new.self
-      (subst (λ (z : Batch). Rattle.batch_chart.specs.Charts.IsRunningOf (tree_of v.cleared z) c.stop_all.new.self) (sym is) made.0)
-      (subst (λ (z : Batch). Rattle.batch_chart.specs.Charts.remains (tree_of v.cleared z) c.stop_all.new.self ≡ Rattle.batch_model.specs.Rest.withdrawn (Rattle.batch_chart.specs.Charts.remains (tree_of v.cleared z) z.running)) (sym is) made.1) in
+    stop-made v kept i c.args.command n o c.requires.ends c.stop_all.new.self
+    (subst (λ (z : Batch). Rattle.batch_chart.specs.Charts.IsRunningOf (tree_of v.cleared z) c.stop_all.new.self) (sym is) made.0)
+    (subst (λ (z : Batch). Rattle.batch_chart.specs.Charts.remains (tree_of v.cleared z) c.stop_all.new.self ≡ Rattle.batch_model.specs.Rest.withdrawn (Rattle.batch_chart.specs.Charts.remains (tree_of v.cleared z) z.running)) (sym is) made.1) in
     let s : Ordered v (changed v i b' (Arbiter.withdrawn o.batch.number v.allocation)) c.args.command n =
     subst (λ (x : State). Ordered v (changed v i (record b { state = x; running = c.stop_all.new.self }) (Arbiter.withdrawn o.batch.number v.allocation)) c.args.command n) (sym c.requires.target)
     (subst (λ (z : Batch). Ordered v (changed v i (record z { state = target c.args.command; running = c.stop_all.new.self }) (Arbiter.withdrawn o.batch.number v.allocation)) c.args.command n) is r) in
