@@ -1,0 +1,206 @@
+-- A batch is made.
+use Rattle.std.proofs.Common.{◌≡◌, ◌<◌, ◌≤◌, ◌+◌, refl, sym, ◌∙◌, ap, ap₂, subst, ℕ, zero, suc, List, [], ◌∷◌, ◌++◌, Bool, true, false, Option, Some, None, inl, inr, arith, length, map, find, nat_eq}
+use Rattle.std.specs.Prelude.{slice_get, sum_by}
+use Rattle.std.proofs.lemmas.List.{map-append}
+use Rattle.std.proofs.lemmas.List.Sums.{sum_by_push}
+use Rattle.batch_matrix.specs.declared.state.State.TheVariants.{Idle}
+use Rattle.batch_recipe.specs.Conditions.{Name, ValueList, same_name}
+use Rattle.batch_recipe.specs.Tree.{Place}
+use Rattle.batch_recipe.specs.declared.need.Need.{Need}
+use Rattle.batch_model.specs.Lists.{Has, Each}
+use Rattle.batch_model.specs.Rest.{reach}
+use Rattle.batch_model.specs.Plant as Model
+use Rattle.batch_model.specs.Plant.{Formula, scaled, Share, Plant, holders}
+use Rattle.batch_model.specs.Moves.{Move, next}
+use Rattle.batch_model.specs.Events.{create, created, refused, moves_pending, unknown_recipe, full, no_memory, is_full, creating, with_batch, new_batch, judged, react, Answer}
+use Rattle.batch_model.specs.Runs.{Reacts}
+use Rattle.batch_model.specs.Standing.{AreNumbered}
+use Rattle.batch_model.proofs.Members.{Each-append, Each-Has, Has-flat_map}
+use Rattle.batch_laws.proofs.Entries.{IsOnce}
+use Rattle.batch_verify.specs.ClearedSet.{ClearedSet}
+use Rattle.batch_arbiter.specs.Allocation.{Claim, Allocation, shares_of, line_of}
+use Rattle.batch_chart.specs.NodesOf.{needs_in, place_at}
+use Rattle.batch_chart.specs.Charts.{IsRunningOf, remains}
+use Rattle.batch_engine.specs.declared.batch.Batch.{Batch}
+use Rattle.batch_engine.specs.View.{EngineView, documents, recipe_at, tree_at, batch_of, share_of, acts_of, place_in, number_of, line_in, line_at, plant_of, tree_of}
+use Rattle.batch_engine.specs.Kept.{IsRunningBatch, HasRoom, IsKept, needs_of_all}
+use Rattle.batch_engine.specs.Creates.{IsCreate}
+use Rattle.batch_engine.proofs.Told.{told, standing}
+use Rattle.batch_engine.proofs.Batches.{chosen-false}
+use Rattle.batch_engine.proofs.Making.{fun_ext}
+use Rattle.batch_engine.proofs.Made.{Has-mapped}
+use Rattle.batch_engine.proofs.Reacting.{with, event-kept}
+
+test-other : (m n : ℕ) → (m ≡ n → ⊥) → nat_eq m n ≡ false
+test-other m n d = go (nat_eq m n) refl
+  where
+    same : (i j : ℕ) → nat_eq i j ≡ true → i ≡ j
+    same i j e = grind arith
+
+    go : (b : Bool) → nat_eq m n ≡ b → b ≡ false
+    go true e = absurd (d (same m n e))
+    go false e = refl
+
+-- the machine's answer to a create that makes a batch
+pub react-create : (v : EngineView) (recipe : ℕ) (name : Name) (size : ℕ) (vs : ValueList) (o : IsCreate v recipe name size vs)
+    → react (documents v.cleared) (plant_of v) (create name size)
+    ≡ (created v.next_number (recipe_at v.cleared recipe).name size, with_batch (plant_of v) (recipe_at v.cleared recipe) size vs)
+react-create v recipe name size vs o =
+    ap (λ (m : Option Move). let a : Answer = elim m [ Some l ↦ (refused moves_pending, plant_of v) | None ↦ judged (documents v.cleared) (plant_of v) (create name size) ] in a) o.settled
+    ∙ ap (λ (x : Option Model.Recipe). let a : Answer = elim x [
+      | None ↦ (refused unknown_recipe, plant_of v)
+      | Some r ↦ elim (is_full (documents v.cleared) (plant_of v)) [ true ↦ (refused full, plant_of v) | false ↦ creating (plant_of v) r size (r.formula size) ]
+    ] in a) o.found
+    ∙ ap (λ (t : Bool). let a : Answer = elim t [ true ↦ (refused full, plant_of v) | false ↦ creating (plant_of v) (recipe_at v.cleared recipe) size ((recipe_at v.cleared recipe).formula size) ] in a) o.free
+    ∙ ap (λ (f : Formula). creating (plant_of v) (recipe_at v.cleared recipe) size f) o.formula
+
+module _ (c : ClearedSet) (b : Batch) where
+  place-more : (bs : List Batch) (n j : ℕ) → (n ≡ b.number → ⊥) → place_in c (bs ++ b ∷ []) n j ≡ place_in c bs n j
+  place-more [] n j d = chosen-false (nat_eq b.number n) _ _ (test-other b.number n (λ e. d (sym e)))
+  place-more (x ∷ bs) n j d = ap (λ r. let z : Place = elim (nat_eq x.number n) [ true ↦ place_at (tree_of c x) j | false ↦ r ] in z) (place-more bs n j d)
+
+  acts-more : (bs : List Batch) (xs : List Claim) → ((x : Claim) → Has xs x → x.batch ≡ b.number → ⊥) → acts_of c (bs ++ b ∷ []) xs ≡ acts_of c bs xs
+  acts-more bs [] h = refl
+  acts-more bs (x ∷ xs) h =
+      ap₂ (λ y ys. y ∷ ys) (ap (λ (z : Place). let y : Share = record { act = (x.batch, z); units = x.units } in y) (place-more bs x.batch x.node (h x (inl refl))))
+      (acts-more bs xs (λ y k. h y (inr k)))
+
+pub Has-acts : (f : Claim → Share) (xs : List Claim) (x : Claim) → Has xs x → Has (map f xs) (f x)
+Has-acts f [] x h = absurd h
+Has-acts f (y ∷ xs) x (inl e) = inl (ap f e)
+Has-acts f (y ∷ xs) x (inr h) = inr (Has-acts f xs x h)
+
+module _ (v : EngineView) (k : IsKept v) where
+  -- whoever holds or waits is of a batch that there is
+  pub waiter-below : (name : Name) (q : ℕ) → number_of v.cleared name ≡ Some q → (x : Claim) → Has (line_of v.allocation q) x → x.batch < v.next_number
+  waiter-below name q e x h =
+      let a : Share = share_of v.cleared v.batches x in
+      let asks = ((told v k).asks name a).0 (subst (λ (xs : List Share). Has xs a) (sym (ap (line_at v) e)) (Has-acts (share_of v.cleared v.batches) (line_of v.allocation q) x h)) in
+      below-next v.next_number (plant_of v).batches asks.0 x.batch (standing v k).numbers asks.1 asks.2
+    where
+      below-next : (next : ℕ) (bs : List Model.Batch) (b : Model.Batch) (n : ℕ) → AreNumbered next bs → Has bs b → b.number ≡ n → n < next
+      below-next next [] b n h i e = absurd i
+      below-next next (d ∷ bs) b n h (inl p) e = omega (arith, h.0, ap (λ (z : Model.Batch). z.number) p, e)
+      below-next next (d ∷ bs) b n h (inr i) e = below-next next bs b n h.2 i e
+
+  pub holder-below : (name : Name) (q : ℕ) → number_of v.cleared name ≡ Some q → (x : Claim) → Has (shares_of v.allocation q) x → x.batch < v.next_number
+  holder-below name q e x h =
+      let a : Share = share_of v.cleared v.batches x in
+      let t : Has (holders (plant_of v) name) a = ((told v k).held name).0 a (subst (λ (xs : List Share). Has xs a) (k.tracked.shares q name e) (Has-acts (share_of v.cleared v.batches) (shares_of v.allocation q) x h)) in
+      let d = Has-flat_map (λ (b : Model.Batch). Rattle.std.proofs.Common.flat_map (λ y. map (λ (r : Need). let z : Share = record { act = (b.number, Model.place_of y); units = r.units } in z) (Rattle.std.proofs.Common.filter (λ r. same_name name r.resource) (Model.held_by y))) (Rattle.batch_model.specs.Rest.acts b.rest)) (plant_of v).batches a t in
+      let m = Has-flat_map (λ y. map (λ (r : Need). let z : Share = record { act = (d.0.number, Model.place_of y); units = r.units } in z) (Rattle.std.proofs.Common.filter (λ r. same_name name r.resource) (Model.held_by y))) (Rattle.batch_model.specs.Rest.acts d.0.rest) a d.2 in
+      let r = Has-mapped (λ (r : Need). let z : Share = record { act = (d.0.number, Model.place_of m.0); units = r.units } in z) (Rattle.std.proofs.Common.filter (λ r. same_name name r.resource) (Model.held_by m.0)) a m.2 in
+      below-next v.next_number (plant_of v).batches d.0 x.batch (standing v k).numbers d.1 (ap (λ (z : Share). z.act.0) r.2)
+    where
+      below-next : (next : ℕ) (bs : List Model.Batch) (b : Model.Batch) (n : ℕ) → AreNumbered next bs → Has bs b → b.number ≡ n → n < next
+      below-next next [] b n h i e = absurd i
+      below-next next (d ∷ bs) b n h (inl p) e = omega (arith, h.0, ap (λ (z : Model.Batch). z.number) p, e)
+      below-next next (d ∷ bs) b n h (inr i) e = below-next next bs b n h.2 i e
+
+  -- the batch that is made
+  module _ (recipe : ℕ) (name : Name) (size : ℕ) (vs : ValueList) (o : IsCreate v recipe name size vs) (b : Batch) (room : ℕ)
+      (number : b.number ≡ v.next_number) (of_recipe : b.recipe ≡ recipe) (runs : IsRunningOf (tree_at v.cleared recipe) b.running)
+      (new : batch_of v.cleared b ≡ new_batch v.next_number (recipe_at v.cleared recipe) size vs)
+      (enough : needs_of_all v.cleared v.batches + needs_in (tree_at v.cleared recipe) ≤ room) where
+    abbrev after_create : EngineView
+    after_create = with v (v.batches ++ b ∷ []) (v.next_number + 1) (record (v.allocation) { room = room })
+
+    lines-more : (n : Name) (q : ℕ) → number_of v.cleared n ≡ Some q → acts_of v.cleared (v.batches ++ b ∷ []) (line_of v.allocation q) ≡ acts_of v.cleared v.batches (line_of v.allocation q)
+    lines-more n q e = acts-more v.cleared b v.batches (line_of v.allocation q) (λ x h i. absurd (omega (arith, waiter-below n q e x h, i, number)))
+
+    shares-more : (n : Name) (q : ℕ) → number_of v.cleared n ≡ Some q → acts_of v.cleared (v.batches ++ b ∷ []) (shares_of v.allocation q) ≡ acts_of v.cleared v.batches (shares_of v.allocation q)
+    shares-more n q e = acts-more v.cleared b v.batches (shares_of v.allocation q) (λ x h i. absurd (omega (arith, holder-below n q e x h, i, number)))
+
+    line-more : (n : Name) → line_in (with v (v.batches ++ b ∷ []) (v.next_number + 1) (record (v.allocation) { room = room })) n ≡ line_in v n
+    line-more n = go (number_of v.cleared n) refl
+      where
+        go : (m : Option ℕ) → number_of v.cleared n ≡ m → line_at (with v (v.batches ++ b ∷ []) (v.next_number + 1) (record (v.allocation) { room = room })) m ≡ line_at v m
+        go None e = refl
+        go (Some q) e = lines-more n q e
+
+    plant-more : plant_of (with v (v.batches ++ b ∷ []) (v.next_number + 1) (record (v.allocation) { room = room })) ≡ with_batch (plant_of v) (recipe_at v.cleared recipe) size vs
+    plant-more =
+        let one : v.next_number + 1 ≡ suc v.next_number = omega arith in
+        ap₂ (λ (bs : List Model.Batch) (l : Name → List Share). let p : Plant = record { batches = bs; next_number = v.next_number + 1; line = l } in p)
+        (map-append (batch_of v.cleared) v.batches (b ∷ []) ∙ ap (λ (d : Model.Batch). map (batch_of v.cleared) v.batches ++ d ∷ []) new)
+        (fun_ext line-more)
+        ∙ ap (λ n. let p : Plant = record { batches = map (batch_of v.cleared) v.batches ++ new_batch v.next_number (recipe_at v.cleared recipe) size vs ∷ []; next_number = n; line = line_in v } in p) one
+
+    pub create-reacts : Reacts (documents v.cleared) (plant_of v) (create name size) (created v.next_number (recipe_at v.cleared recipe).name size)
+        (plant_of (with v (v.batches ++ b ∷ []) (v.next_number + 1) (record (v.allocation) { room = room })))
+    create-reacts = inl (react-create v recipe name size vs o ∙ ap (λ (s : Plant). let a : Answer = (created v.next_number (recipe_at v.cleared recipe).name size, s) in a) (sym plant-more))
+
+    pub create-kept : IsKept (with v (v.batches ++ b ∷ []) (v.next_number + 1) (record (v.allocation) { room = room }))
+    create-kept =
+        event-kept v k (v.batches ++ b ∷ []) (v.next_number + 1) (record (v.allocation) { room = room }) (create name size) (created v.next_number (recipe_at v.cleared recipe).name size) create-reacts
+        shares-more
+        (Each-append (IsRunningBatch v.cleared) v.batches (b ∷ []) k.batches (
+          record {
+            known = subst (λ r. r < length v.cleared.recipes) (sym of_recipe) o.known;
+            runs = subst (λ r. IsRunningOf (tree_at v.cleared r) b.running) (sym of_recipe) runs;
+          },
+          tt,
+        ))
+        (record { capacities = k.cell.capacities; shares = k.cell.shares; lines = k.cell.lines })
+        (λ n q e. subst IsOnce (sym (lines-more n q e)) (k.once n q e))
+        (omega (arith, enough, sum_by_push (λ (z : Batch). needs_in (tree_of v.cleared z)) v.batches b, ap (λ r. needs_in (tree_at v.cleared r)) of_recipe))
+
+  -- where no batch is made, more room changes nothing of the plant
+  pub room-kept : (room : ℕ) → v.allocation.room ≤ room → IsKept (with v v.batches v.next_number (record (v.allocation) { room = room }))
+  room-kept room more =
+      record {
+        cleared = k.cleared;
+        charts = k.charts;
+        numbers = k.numbers;
+        batches = k.batches;
+        cell = record { capacities = k.cell.capacities; shares = k.cell.shares; lines = k.cell.lines };
+        tracked = record {
+          events = k.tracked.events;
+          outs = k.tracked.outs;
+          leads = subst (Rattle.batch_model.specs.Runs.Leads (documents v.cleared) Model.opening k.tracked.events k.tracked.outs) (sym same) k.tracked.leads;
+          shares = k.tracked.shares;
+        };
+        once = k.once;
+        room = omega (arith, k.room, more);
+      }
+    where
+      line : (n : Name) → line_in (with v v.batches v.next_number (record (v.allocation) { room = room })) n ≡ line_in v n
+      line n = go (number_of v.cleared n)
+        where
+          go : (m : Option ℕ) → line_at (with v v.batches v.next_number (record (v.allocation) { room = room })) m ≡ line_at v m
+          go None = refl
+          go (Some q) = refl
+
+      same : plant_of (with v v.batches v.next_number (record (v.allocation) { room = room })) ≡ plant_of v
+      same = ap (λ (l : Name → List Share). let p : Plant = record { batches = map (batch_of v.cleared) v.batches; next_number = v.next_number; line = l } in p) (fun_ext line)
+
+-- A create that is refused
+
+pub create-unknown : (v : EngineView) (name : Name) (size : ℕ) → next (documents v.cleared) (plant_of v) ≡ None → find (λ (r : Model.Recipe). same_name r.name name) (documents v.cleared).recipes ≡ None
+    → Reacts (documents v.cleared) (plant_of v) (create name size) (refused unknown_recipe) (plant_of v)
+create-unknown v name size settled none =
+    inl (ap (λ (m : Option Move). let a : Answer = elim m [ Some l ↦ (refused moves_pending, plant_of v) | None ↦ judged (documents v.cleared) (plant_of v) (create name size) ] in a) settled
+    ∙ ap (λ (x : Option Model.Recipe). let a : Answer = elim x [
+      | None ↦ (refused unknown_recipe, plant_of v)
+      | Some r ↦ elim (is_full (documents v.cleared) (plant_of v)) [ true ↦ (refused full, plant_of v) | false ↦ creating (plant_of v) r size (r.formula size) ]
+    ] in a) none)
+
+module _ (v : EngineView) (name : Name) (size : ℕ) (r : Model.Recipe) (settled : next (documents v.cleared) (plant_of v) ≡ None)
+    (found : find (λ (r : Model.Recipe). same_name r.name name) (documents v.cleared).recipes ≡ Some r) where
+  judge : react (documents v.cleared) (plant_of v) (create name size)
+      ≡ (let a : Answer = elim (is_full (documents v.cleared) (plant_of v)) [ true ↦ (refused full, plant_of v) | false ↦ creating (plant_of v) r size (r.formula size) ] in a)
+  judge =
+      ap (λ (m : Option Move). let a : Answer = elim m [ Some l ↦ (refused moves_pending, plant_of v) | None ↦ judged (documents v.cleared) (plant_of v) (create name size) ] in a) settled
+      ∙ ap (λ (x : Option Model.Recipe). let a : Answer = elim x [
+        | None ↦ (refused unknown_recipe, plant_of v)
+        | Some r ↦ elim (is_full (documents v.cleared) (plant_of v)) [ true ↦ (refused full, plant_of v) | false ↦ creating (plant_of v) r size (r.formula size) ]
+      ] in a) found
+
+  pub create-full : is_full (documents v.cleared) (plant_of v) ≡ true → Reacts (documents v.cleared) (plant_of v) (create name size) (refused full) (plant_of v)
+  create-full e =
+      inl (judge ∙ ap (λ (t : Bool). let a : Answer = elim t [ true ↦ (refused full, plant_of v) | false ↦ creating (plant_of v) r size (r.formula size) ] in a) e)
+
+  pub judge-values : (f : Formula) → is_full (documents v.cleared) (plant_of v) ≡ false → r.formula size ≡ f → react (documents v.cleared) (plant_of v) (create name size) ≡ creating (plant_of v) r size f
+  judge-values f e g =
+      judge ∙ ap (λ (t : Bool). let a : Answer = elim t [ true ↦ (refused full, plant_of v) | false ↦ creating (plant_of v) r size (r.formula size) ] in a) e
+      ∙ ap (creating (plant_of v) r size) g

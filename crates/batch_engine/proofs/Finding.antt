@@ -1,0 +1,203 @@
+-- What is found at a batch of the engine.
+use Rattle.std.proofs.Common.{◌≡◌, ◌<◌, ◌≤◌, refl, sym, ◌∙◌, ap, ap₂, subst, subst₂, ◌+◌, ℕ, zero, suc, List, [], ◌∷◌, Bool, true, false, Option, Some, None, inl, inr, arith, length, get_or, map}
+use Rattle.std.specs.Prelude.{option_map, slice_get, position}
+use Rattle.std.proofs.lemmas.List.{length-map}
+use Rattle.std.proofs.lemmas.List.Quantifiers.{position-Some}
+use Rattle.std.proofs.lemmas.Option.{slice_get_read, slice_get_within, slice_get-get_or, get_or_from_slice_get, slice_get-map}
+use Rattle.batch_recipe.specs.declared.recipe.Recipe as document
+use Rattle.batch_model.specs.Recipes.{recipe_of}
+use Rattle.batch_recipe.specs.Conditions.{Name, same_name}
+use Rattle.batch_recipe.specs.Tree.{Place, Step, Tree}
+use Rattle.batch_recipe.specs.declared.need.Need.{Need}
+use Rattle.batch_model.proofs.Batches.{one_batch}
+use Rattle.batch_model.specs.Lists.{Has, Each}
+use Rattle.batch_model.specs.Plant as Model
+use Rattle.batch_model.specs.Plant.{BatchAct, Share}
+use Rattle.batch_model.specs.Moves.{Move, grant, least, is_served, batch_moves}
+use Rattle.batch_model.specs.Placed.{IsPlaced}
+use Rattle.batch_model.specs.Standing.{IsRestOf}
+use Rattle.batch_model.specs.Rest.{asking, acts}
+use Rattle.batch_model.proofs.Falling.{one_act}
+use Rattle.batch_model.proofs.Rising.{acts-rise}
+use Rattle.batch_model.proofs.Members.{Each-Has}
+use Rattle.batch_laws.proofs.Entries.{name_same}
+use Rattle.batch_verify.specs.ClearedSet.{ClearedSet}
+use Rattle.batch_arbiter.specs.Allocation.{Claim, shares_of, line_of, next_grant, batch_node}
+use Rattle.batch_chart.specs.NodesOf.{no_need, place_at, need_at, step_at, task_at}
+use Rattle.batch_recipe.specs.Nodes.{node_count}
+use Rattle.batch_chart.specs.OwnMoves.{grants, own_next}
+use Rattle.batch_chart.specs.Charts.{AsksAt, IsChartOf, IsRunningOf, IsRunning, IsWaiting, remains}
+use Rattle.batch_chart.specs.declared.compiled.Compiled.{Compiled}
+use Rattle.batch_engine.specs.declared.batch.Batch.{Batch}
+use Rattle.batch_engine.specs.View.{EngineView, documents, recipe_at, batch_of, act_of, share_of, acts_of, place_in, names_of, number_of, line_at, plant_of, tree_of}
+use Rattle.batch_engine.specs.Kept.{IsKept, IsRunningBatch}
+use Rattle.batch_engine.specs.Steps.{BatchAt, IsGrantStep, IsFirstGrant}
+use Rattle.batch_engine.proofs.Nodes.{same-node, within-or_past}
+use Rattle.batch_engine.proofs.Told.{placed, told, standing}
+use Rattle.batch_engine.proofs.Serving.{serves-next, next-serves, is-served}
+use Rattle.batch_engine.proofs.Batches.{place-in, Has-batch_of}
+use Rattle.batch_engine.proofs.Granting as Granting
+use Rattle.batch_engine.proofs.Placing.{step-place}
+
+pub Has-get : {X : Type 0} (xs : List X) (i : ℕ) (x : X) → slice_get xs i ≡ Some x → Has xs x
+Has-get [] i x e = absurd cc
+Has-get (y ∷ xs) zero x e = inl cc
+Has-get (y ∷ xs) (suc i) x e = inr (Has-get xs i x e)
+
+pub Each-at : {X : Type 0} (P : X → Type 0) (xs : List X) (i : ℕ) (d : X) → Each P xs → i < length xs → P (get_or xs i d)
+Each-at P [] i d h l = absurd (omega arith)
+Each-at P (x ∷ xs) zero d h l = h.0
+Each-at P (x ∷ xs) (suc i) d h l = Each-at P xs i d h.1 (omega arith)
+
+-- what is read at an index
+pub got-batch : (v w : EngineView) (i : ℕ) (b : Batch) → w ≡ v → i < length v.batches → b ≡ get_or w.batches i b → slice_get v.batches i ≡ Some b
+got-batch v w i b e l h = slice_get_read v.batches (length v.batches) i b refl l (h ∙ ap (λ (z : EngineView). get_or z.batches i b) e)
+
+pub got-chart : (v w : EngineView) (k i : ℕ) (x : Compiled) → w ≡ v → k ≡ i → i < length v.charts → x ≡ get_or w.charts k x → slice_get v.charts i ≡ Some x
+got-chart v w k i x e q l h = slice_get_read v.charts (length v.charts) i x refl l (h ∙ ap₂ (λ (z : EngineView) j. get_or z.charts j x) e q)
+
+-- the resource with this number has the name
+pub named : (c : ClearedSet) (name : Name) (q : ℕ) → number_of c name ≡ Some q → slice_get (names_of c) q ≡ Some name
+named c name q e =
+    let p = position-Some (same_name name) (names_of c) q [] e in
+    slice_get-get_or (names_of c) q [] p.0 ∙ ap Some (sym (name_same name (get_or (names_of c) q []) p.1))
+
+pub Has-shares : {X Y : Type 0} (f : X → Y) (xs : List X) (x : X) → Has xs x → Has (map f xs) (f x)
+Has-shares f [] x h = absurd h
+Has-shares f (y ∷ xs) x (inl e) = inl (ap f e)
+Has-shares f (y ∷ xs) x (inr h) = inr (Has-shares f xs x h)
+
+module _ (v : EngineView) (k : IsKept v) (i : ℕ) (b : Batch) (at : slice_get v.batches i ≡ Some b) where
+  pub has : Has v.batches b
+  has = Has-get v.batches i b at
+
+  pub batch-runs : IsRunningBatch v.cleared b
+  batch-runs = Each-Has (IsRunningBatch v.cleared) v.batches b k.batches has
+
+  pub tree-placed : IsPlaced (0 ∷ []) (tree_of v.cleared b)
+  tree-placed =
+      let known : b.recipe < length (documents v.cleared).recipes = omega (arith, batch-runs.known, length-map v.cleared.recipes Rattle.batch_model.specs.Recipes.recipe_of) in
+      Each-at (λ (r : Model.Recipe). IsPlaced (0 ∷ []) r.procedure) (documents v.cleared).recipes b.recipe Rattle.batch_engine.specs.View.no_recipe (placed v.cleared k.cleared) known
+
+  pub in-recipes : b.recipe < length (documents v.cleared).recipes
+  in-recipes = omega (arith, batch-runs.known, length-map v.cleared.recipes Rattle.batch_model.specs.Recipes.recipe_of)
+
+  pub in-charts : b.recipe < length v.charts
+  in-charts = omega (arith, batch-runs.known, k.charts.count)
+
+  pub runs-here : (x : Compiled) → slice_get v.charts b.recipe ≡ Some x → IsRunning x b.running
+  runs-here x e = (tree_of v.cleared b, k.charts.each b.recipe x e, batch-runs.runs)
+
+  abbrev pub rest_here : Rattle.batch_model.specs.Rest.Rest
+  rest_here = remains (tree_of v.cleared b) b.running
+
+  abbrev pub asks_here : ℕ → ℕ → Type 0
+  asks_here j l = AsksAt (tree_of v.cleared b) (remains (tree_of v.cleared b) b.running) j l
+
+  abbrev pub served_here : ℕ → ℕ → Type 0
+  served_here j l =
+      is_served (documents v.cleared) (plant_of v) (need_at (tree_of v.cleared b) j l) (b.number, place_at (tree_of v.cleared b) j) ≡ true
+
+  abbrev pub first_here : ℕ → ℕ → Type 0
+  first_here q j = option_map batch_node (next_grant v.allocation q) ≡ Some (b.number, j)
+
+  here-place : (j : ℕ) → place_in v.cleared v.batches b.number j ≡ place_at (tree_of v.cleared b) j
+  here-place j = place-in v.cleared v.next_number v.batches b j (standing v k).numbers has
+
+  pub claim-act : (x : Claim) (j : ℕ) → batch_node x ≡ (b.number, j) → act_of v.cleared v.batches x ≡ (b.number, place_at (tree_of v.cleared b) j)
+  claim-act x j e = ap (λ (z : ℕ × ℕ). let y : BatchAct = (z.0, place_in v.cleared v.batches z.0 z.1) in y) e ∙ ap (λ (p : Place). let y : BatchAct = (b.number, p) in y) (here-place j)
+
+  pub act-claim : (x : Claim) (j : ℕ) → j < node_count (tree_of v.cleared b) → act_of v.cleared v.batches x ≡ (b.number, place_at (tree_of v.cleared b) j) → batch_node x ≡ (b.number, j)
+  act-claim x j l e =
+      let n : x.batch ≡ b.number = ap (λ (z : BatchAct). z.0) e in
+      let p : place_at (tree_of v.cleared b) x.node ≡ place_at (tree_of v.cleared b) j =
+      sym (here-place x.node) ∙ ap (λ m. place_in v.cleared v.batches m x.node) (sym n) ∙ ap (λ (z : BatchAct). z.1) e in
+      ap₂ (λ m q. let z : ℕ × ℕ = (m, q) in z) n (same-node (tree_of v.cleared b) x.node j l p)
+
+  -- a claim in line is for as many units as its act asks for
+  pub line-units : (j l q : ℕ) → asks_here j l → number_of v.cleared (need_at (tree_of v.cleared b) j l).resource ≡ Some q
+      → (x : Claim) → Has (line_of v.allocation q) x → batch_node x ≡ (b.number, j) → x.units ≡ (need_at (tree_of v.cleared b) j l).units
+  line-units j l q asks e x h at_node =
+      let t : Tree = tree_of v.cleared b in
+      let need : Need = need_at (tree_of v.cleared b) j l in
+      let share : Share = share_of v.cleared v.batches x in
+      let told_so = ((told v k).asks need.resource share).0 (subst (λ (xs : List Share). Has xs share) (sym (ap (line_at v) e)) (Has-shares (share_of v.cleared v.batches) (line_of v.allocation q) x h)) in
+      let same : told_so.0 ≡ batch_of v.cleared b =
+      one_batch v.next_number (plant_of v).batches told_so.0 (batch_of v.cleared b) (standing v k).numbers told_so.1 (Has-batch_of v.cleared v.batches b has) (told_so.2 ∙ ap (λ (z : ℕ × ℕ). z.0) at_node) in
+      let there : Has (acts (remains t b.running)) (asking told_so.3 told_so.4 told_so.5) = subst (λ (d : Model.Batch). Has (acts d.rest) (asking told_so.3 told_so.4 told_so.5)) same told_so.6 in
+      let one : asking told_so.3 told_so.4 told_so.5 ≡ asking (step_at t j) (task_at t j) l =
+      one_act (acts (remains t b.running)) (asking told_so.3 told_so.4 told_so.5) (asking (step_at t j) (task_at t j) l)
+      (acts-rise (0 ∷ []) t (remains t b.running) tree-placed batch-runs.runs.stands) there asks.2
+      (told_so.7 ∙ ap (λ (z : BatchAct). z.1) (claim-act x j at_node) ∙ sym (step-place t j tree-placed asks.0 (omega (arith, asks.1)))) in
+      let step : told_so.3 ≡ step_at t j = cc in
+      let held : told_so.5 ≡ l = cc in
+      let got : ◌≡◌ {A = Option Need} (Some need) (Some (record { resource = need.resource; units = x.units })) =
+      sym (slice_get-get_or (step_at t j).needs l no_need asks.1) ∙ ap₂ (λ (y : Step) n. slice_get y.needs n) (sym step) (sym held) ∙ told_so.8 in
+      let is : need ≡ record { resource = need.resource; units = x.units } = cc in
+      sym (ap (λ (z : Need). z.units) is)
+
+  pub first-serves : (j l q : ℕ) → asks_here j l → number_of v.cleared (need_at (tree_of v.cleared b) j l).resource ≡ Some q → first_here q j → served_here j l
+  first-serves j l q asks e f =
+      let need : Need = need_at (tree_of v.cleared b) j l in
+      is-served v k q need (b.number, place_at (tree_of v.cleared b) j) e
+      ∙ serves-next (act_of v.cleared v.batches) (Rattle.batch_arbiter.specs.Allocation.capacity_of v.allocation q) need.units (shares_of v.allocation q) (line_of v.allocation q) b.number j
+      (b.number, place_at (tree_of v.cleared b) j) (λ x. claim-act x j) (λ x h. line-units j l q asks e x h) f
+
+  pub serves-first : (j l q : ℕ) → asks_here j l → number_of v.cleared (need_at (tree_of v.cleared b) j l).resource ≡ Some q → served_here j l → first_here q j
+  serves-first j l q asks e s =
+      let need : Need = need_at (tree_of v.cleared b) j l in
+      next-serves (act_of v.cleared v.batches) (Rattle.batch_arbiter.specs.Allocation.capacity_of v.allocation q) need.units (shares_of v.allocation q) (line_of v.allocation q) b.number j
+      (b.number, place_at (tree_of v.cleared b) j) (λ x. act-claim x j asks.0) (λ x h. line-units j l q asks e x h)
+      (sym (is-served v k q need (b.number, place_at (tree_of v.cleared b) j) e) ∙ s)
+
+  pub no-grants : ((j l : ℕ) → asks_here j l → served_here j l → ⊥) → grants (documents v.cleared) (plant_of v) (batch_of v.cleared b) ≡ []
+  no-grants none = Granting.grants-none (documents v.cleared) (plant_of v) (batch_of v.cleared b) (tree_of v.cleared b) tree-placed batch-runs.runs.stands none
+
+  pub first-grant : (j l : ℕ) → asks_here j l → served_here j l → ((x y : ℕ) → x < j → asks_here x y → served_here x y → ⊥)
+      → least (grants (documents v.cleared) (plant_of v) (batch_of v.cleared b)) ≡ Some (grant b.number (place_at (tree_of v.cleared b) j) (need_at (tree_of v.cleared b) j l))
+  first-grant j l asks served before =
+      Granting.grants-first (documents v.cleared) (plant_of v) (batch_of v.cleared b) (tree_of v.cleared b) tree-placed batch-runs.runs.stands j l
+      (step-place (tree_of v.cleared b) j tree-placed asks.0 (omega (arith, asks.1))) asks served before
+
+  -- nobody before `from` is served, and nobody from there on to `node` is in line
+  pub goes-on : (x : Compiled) → slice_get v.charts b.recipe ≡ Some x → (from node : ℕ) → ((j l : ℕ) → j < from → asks_here j l → served_here j l → ⊥)
+      → ((t : Tree) → IsChartOf t x → IsRunningOf t b.running → (j l : ℕ) → from ≤ j → j < node → AsksAt t (remains t b.running) j l → ⊥)
+      → (j l : ℕ) → j < node → asks_here j l → served_here j l → ⊥
+  goes-on x e from node before between j l lt asks served = elim (within-or_past j from) [
+    | inl q ↦ before j l q asks served
+    | inr q ↦ between (tree_of v.cleared b) (k.charts.each b.recipe x e) batch-runs.runs j l q lt asks
+  ]
+
+  pub one-batch : (P : Batch → Option Move) (y : Option Move) (d : Batch) → slice_get v.batches i ≡ Some d → P b ≡ y → P d ≡ y
+  one-batch P y d e h = subst (λ (z : Batch). P z ≡ y) (let f : ◌≡◌ {A = Option Batch} (Some b) (Some d) = sym at ∙ e in let g : b ≡ d = cc in g) h
+
+  pub one-none : (P : Batch → List Move) (d : Batch) → slice_get v.batches i ≡ Some d → P b ≡ [] → P d ≡ []
+  one-none P d e h = subst (λ (z : Batch). P z ≡ []) (let f : ◌≡◌ {A = Option Batch} (Some b) (Some d) = sym at ∙ e in let g : b ≡ d = cc in g) h
+
+  -- an act in line asks for one need
+  pub same-need : (j l m : ℕ) → asks_here j l → asks_here j m → l ≡ m
+  same-need j l m x y =
+      let t : Tree = tree_of v.cleared b in
+      let e : asking (step_at t j) (task_at t j) l ≡ asking (step_at t j) (task_at t j) m =
+      one_act (acts (remains t b.running)) (asking (step_at t j) (task_at t j) l) (asking (step_at t j) (task_at t j) m)
+      (acts-rise (0 ∷ []) t (remains t b.running) tree-placed batch-runs.runs.stands) x.2 y.2 refl in
+      let r : l ≡ m = cc in r
+
+  -- the act at `node` isn't first in line, so nobody up to it is served
+  pub passed : (x : Compiled) → slice_get v.charts b.recipe ≡ Some x → (from node need q : ℕ) → ((j l : ℕ) → j < from → asks_here j l → served_here j l → ⊥)
+      → ((t : Tree) → IsChartOf t x → IsRunningOf t b.running → (j l : ℕ) → from ≤ j → j < node → AsksAt t (remains t b.running) j l → ⊥)
+      → asks_here node need → number_of v.cleared (need_at (tree_of v.cleared b) node need).resource ≡ Some q → (first_here q node → ⊥)
+      → (j l : ℕ) → j < node + 1 → asks_here j l → served_here j l → ⊥
+  passed x e from node need q before between here number not_first j l lt asks served = elim (within-or_past j node) [
+    | inl p ↦ goes-on x e from node before between j l p asks served
+    | inr p ↦
+        let same : j ≡ node = omega arith in
+        let l_is : l ≡ need = same-need node l need (subst (λ z. asks_here z l) same asks) here in
+        not_first (serves-first node need q here number (subst₂ (λ y z. served_here y z) same l_is served))
+  ]
+
+-- the recipe with a number, as it is read
+pub recipe-read : (c : ClearedSet) (rs : List document.Recipe) (j q : ℕ) (r : document.Recipe) → rs ≡ c.recipes → j ≡ q → q < length c.recipes → r ≡ get_or rs j r → recipe_at c q ≡ recipe_of r
+recipe-read c rs j q r e f l h =
+    let at : slice_get c.recipes q ≡ Some r = slice_get_read c.recipes (length c.recipes) q r refl l (h ∙ ap₂ (λ xs i. get_or xs i r) e f) in
+    get_or_from_slice_get (map recipe_of c.recipes) q (recipe_of r) Rattle.batch_engine.specs.View.no_recipe (slice_get-map recipe_of c.recipes q ∙ ap (option_map recipe_of) at)

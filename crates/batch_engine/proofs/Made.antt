@@ -1,0 +1,359 @@
+-- The engine makes the next move.
+use Rattle.std.proofs.Common.{◌≡◌, ◌<◌, ◌≤◌, ◌+◌, refl, sym, ◌∙◌, ap, ap₂, subst, subst₂, ℕ, zero, suc, List, [], ◌∷◌, ◌++◌, Bool, true, false, ◌&&◌, Option, Some, None, inl, inr, arith, length, map, filter, take, flat_map, get_or, nat_eq}
+use Rattle.std.specs.Prelude.{slice_get, option_map, Contains}
+use Rattle.batch_recipe.specs.Conditions.{Name, same_name}
+use Rattle.batch_recipe.specs.Tree.{Place, Tree}
+use Rattle.batch_recipe.specs.declared.need.Need.{Need}
+use Rattle.batch_matrix.specs.declared.state.State as states
+use Rattle.batch_model.specs.Lists.{Has, Each}
+use Rattle.batch_model.specs.Rest.{Rest, ready, asking, acts, advance, changed_at}
+use Rattle.batch_model.specs.Plant as Model
+use Rattle.batch_model.specs.Plant.{BatchAct, Share, Plant, is_same_act, place_of, held_by, holders}
+use Rattle.batch_model.specs.Moves as Moves
+use Rattle.batch_model.specs.Moves.{batch_of, batch_after, line_after, after, next}
+use Rattle.batch_model.specs.Runs.{move}
+use Rattle.batch_model.specs.Records.{holders_after}
+use Rattle.batch_model.proofs.Batches.{one_batch}
+use Rattle.batch_model.proofs.Falling.{one_act}
+use Rattle.batch_model.proofs.Rising.{acts-rise}
+use Rattle.batch_model.proofs.Members.{Has-left, Has-right}
+use Rattle.batch_laws.proofs.Entries.{IsOnce, same_act, act_self, filter-Has, name_self}
+use Rattle.batch_laws.specs.Telling.{IsTold}
+use Rattle.batch_arbiter.specs.Allocation.{Claim, Allocation, shares_of, line_of, asked, granted, released, is_claim, IsHeld, next_grant, next_in, batch_node, capacity_of, resource_count}
+use Rattle.batch_arbiter.proofs.Cells.{length-capacities}
+use Rattle.batch_chart.specs.NodesOf.{no_need, place_at, step_at, task_at, need_at}
+use Rattle.batch_recipe.specs.Nodes.{node_count}
+use Rattle.batch_chart.specs.Charts.{IsRunningOf, AsksAt, remains, StandsFor}
+use Rattle.batch_chart.specs.Seen.{move_of}
+use Rattle.batch_chart.specs.declared.chart_move.Move.{Move}
+use Rattle.batch_chart.specs.declared.chart_move.Move.TheVariants.{Send, State, Release, Begin, Start, End, Ask}
+use Rattle.batch_chart.specs.declared.running.Running.{Running}
+use Rattle.batch_engine.specs.declared.batch.Batch.{Batch}
+use Rattle.batch_engine.specs.View as View
+use Rattle.batch_engine.specs.View.{EngineView, documents, act_of, share_of, acts_of, names_of, number_of, line_in, line_at, plant_of, tree_of}
+use Rattle.batch_engine.specs.Kept.{IsKept}
+use Rattle.batch_engine.specs.Steps.{IsNext, IsQuiet, Makes}
+use Rattle.batch_engine.proofs.Told.{told, safe, standing}
+use Rattle.batch_engine.proofs.Batches.{Has-batch_of}
+use Rattle.batch_engine.proofs.Finding.{named, has, batch-runs, tree-placed, claim-act, act-claim, line-units}
+use Rattle.batch_engine.proofs.Placing.{step-place}
+use Rattle.batch_engine.proofs.Allocating.{lines-asked, once-asked, cell-asked, shares-released, cell-released, lines-granted, shares-granted, once-granted, cell-granted, first-of-line}
+use Rattle.batch_engine.proofs.Stepping.{changed, IsMove, plant-after, kept-after}
+use Rattle.batch_engine.proofs.Room.{room-quiet, room-asked, room-granted, room-released}
+
+-- what the engine becomes by a move
+pub record Becomes (v : EngineView) (w : EngineView) (m : Moves.Move) : Type 0 where
+  pub kept : IsKept w
+  pub plant : plant_of w ≡ after (plant_of v) m
+
+pub same-next : (v : EngineView) (m l : Moves.Move) → IsNext v m → IsNext v l → m ≡ l
+same-next v m l e f = let g : ◌≡◌ {A = Option Moves.Move} (Some m) (Some l) = sym e ∙ f in cc
+
+-- a chart's move is of its batch
+of-batch : (t : Tree) (b : Model.Batch) (m : Move) → batch_of (move_of t b m) ≡ b.number
+of-batch t b (Send k c) = refl
+of-batch t b (State x) = refl
+of-batch t b (Release k i) = refl
+of-batch t b (Begin k) = refl
+of-batch t b (Start k) = refl
+of-batch t b (End k) = refl
+of-batch t b (Ask k i) = refl
+
+IsRunMove : Move → Type 0
+IsRunMove (State x) = ⊥
+IsRunMove _ = Unit {0}
+
+-- what a move but a change of state makes of a batch is what it makes of its rest
+abbrev pub Runs : Move → Type 0
+Runs (State x) = ⊥
+Runs _ = Unit {0}
+
+after-rest : (t : Tree) (b : Model.Batch) (m : Move) → Runs m → (r : Rest) → r ≡ (batch_after (move_of t b m) b).rest → (let d : Model.Batch = record b { rest = r } in d) ≡ batch_after (move_of t b m) b
+after-rest t b (Send k c) h r e = ap (λ z. let d : Model.Batch = record b { rest = z } in d) e
+after-rest t b (State x) h r e = absurd h
+after-rest t b (Release k i) h r e = ap (λ z. let d : Model.Batch = record b { rest = z } in d) e
+after-rest t b (Begin k) h r e = ap (λ z. let d : Model.Batch = record b { rest = z } in d) e
+after-rest t b (Start k) h r e = ap (λ z. let d : Model.Batch = record b { rest = z } in d) e
+after-rest t b (End k) h r e = ap (λ z. let d : Model.Batch = record b { rest = z } in d) e
+after-rest t b (Ask k i) h r e = ap (λ z. let d : Model.Batch = record b { rest = z } in d) e
+
+quiet-runs : (m : Move) → IsQuiet m → Runs m
+quiet-runs (Send k c) h = tt
+quiet-runs (State x) h = h
+quiet-runs (Release k i) h = tt
+quiet-runs (Begin k) h = tt
+quiet-runs (Start k) h = tt
+quiet-runs (End k) h = tt
+quiet-runs (Ask k i) h = tt
+
+quiet-line : (t : Tree) (b : Model.Batch) (m : Move) → IsQuiet m → (line : Name → List Share) (name : Name) → line name ≡ line_after (move_of t b m) line name
+quiet-line t b (Send k c) h line name = refl
+quiet-line t b (State x) h line name = refl
+quiet-line t b (Release k i) h line name = absurd h
+quiet-line t b (Begin k) h line name = refl
+quiet-line t b (Start k) h line name = refl
+quiet-line t b (End k) h line name = refl
+quiet-line t b (Ask k i) h line name = absurd h
+
+quiet-holders : (t : Tree) (b : Model.Batch) (m : Move) → IsQuiet m → (name : Name) (hs : List Share) → hs ≡ holders_after name hs (move (move_of t b m))
+quiet-holders t b (Send k c) h name hs = refl
+quiet-holders t b (State x) h name hs = refl
+quiet-holders t b (Release k i) h name hs = absurd h
+quiet-holders t b (Begin k) h name hs = refl
+quiet-holders t b (Start k) h name hs = refl
+quiet-holders t b (End k) h name hs = refl
+quiet-holders t b (Ask k i) h name hs = absurd h
+
+-- Has and Contains
+Has-Contains : {X : Type 0} (xs : List X) (x : X) → Has xs x → Contains xs x
+Has-Contains [] x h = absurd h
+Has-Contains (y ∷ xs) x (inl e) = (0, omega arith, e)
+Has-Contains (y ∷ xs) x (inr h) = let k = Has-Contains xs x h in (suc k.0, omega (arith, k.1), k.2)
+
+pub Has-mapped : {X Y : Type 0} (f : X → Y) (xs : List X) (y : Y) → Has (map f xs) y → (x : X) × Has xs x × (f x ≡ y)
+Has-mapped f [] y h = absurd h
+Has-mapped f (x ∷ xs) y (inl e) = (x, inl refl, e)
+Has-mapped f (x ∷ xs) y (inr h) = let k = Has-mapped f xs y h in (k.0, inr k.1, k.2)
+
+Has-to-map : {X Y : Type 0} (f : X → Y) (xs : List X) (x : X) → Has xs x → Has (map f xs) (f x)
+Has-to-map f [] x h = absurd h
+Has-to-map f (y ∷ xs) x (inl e) = inl (ap f e)
+Has-to-map f (y ∷ xs) x (inr h) = inr (Has-to-map f xs x h)
+
+Has-in-flat : {X Y : Type 0} (f : X → List Y) (xs : List X) (x : X) (y : Y) → Has xs x → Has (f x) y → Has (flat_map f xs) y
+Has-in-flat f [] x y h k = absurd h
+Has-in-flat f (z ∷ xs) x y (inl e) k = Has-left (f z) (flat_map f xs) y (subst (λ w. Has (f w) y) (sym e) k)
+Has-in-flat f (z ∷ xs) x y (inr h) k = Has-right (f z) (flat_map f xs) y (Has-in-flat f xs x y h k)
+
+Has-taken : (xs : List Need) (i : ℕ) (d : Need) → i < length xs → Has (take (suc i) xs) (get_or xs i d)
+Has-taken [] i d h = absurd (omega arith)
+Has-taken (x ∷ xs) zero d h = inl refl
+Has-taken (x ∷ xs) (suc i) d h = inr (Has-taken xs i d (omega arith))
+
+module _ (v : EngineView) (k : IsKept v) (i : ℕ) (b : Batch) (at : slice_get v.batches i ≡ Some b) where
+  abbrev tree : Tree
+  tree = tree_of v.cleared b
+
+  abbrev model : Model.Batch
+  model = View.batch_of v.cleared b
+
+  -- the batch with another running chart
+  abbrev pub with_chart : Running → Batch
+  with_chart r = record b { running = r }
+
+  abbrev pub MadeChart : Move → Running → Type 0
+  MadeChart m r =
+      IsRunningOf (tree_of v.cleared b) r
+      × ((d : Model.Batch) → d.rest ≡ remains (tree_of v.cleared b) b.running → d.values ≡ b.values → remains (tree_of v.cleared b) r ≡ (batch_after (move_of (tree_of v.cleared b) d m) d).rest)
+
+  is-move : (m : Move) (r : Running) → Runs m → MadeChart m r → IsNext v (move_of (tree_of v.cleared b) (View.batch_of v.cleared b) m)
+      → IsMove v i b (record b { running = r }) (move_of (tree_of v.cleared b) (View.batch_of v.cleared b) m)
+  is-move m r run made is =
+      record {
+        at = at;
+        number = refl;
+        recipe = refl;
+        runs = made.0;
+        is = is;
+        of_batch = of-batch (tree_of v.cleared b) (View.batch_of v.cleared b) m;
+        becomes = after-rest (tree_of v.cleared b) (View.batch_of v.cleared b) m run (remains (tree_of v.cleared b) r) (made.1 (View.batch_of v.cleared b) refl refl);
+      }
+
+  -- the batch changes its state
+  pub state-changed : (x : states.State) → IsNext v (Moves.state b.number x) → Becomes v (changed v i (record b { state = x }) v.allocation) (Moves.state b.number x)
+  state-changed x is =
+      let t : IsMove v i b (record b { state = x }) (Moves.state b.number x) = record {
+        at = at;
+        number = refl;
+        recipe = refl;
+        runs = (batch-runs v k i b at).runs;
+        is = is;
+        of_batch = refl;
+        becomes = refl;
+      } in
+      record {
+        kept = kept-after v k i b (record b { state = x }) (Moves.state b.number x) t v.allocation (λ name. refl) (λ name q e. refl) k.cell k.once
+            (room-quiet v i b (record b { state = x }) at refl k.room);
+        plant = plant-after v k i b (record b { state = x }) (Moves.state b.number x) t v.allocation (λ name. refl);
+      }
+
+  -- the chart makes a move that needs nothing of the arbiter
+  pub run-quiet : (m : Move) (r : Running) → IsQuiet m → MadeChart m r → IsNext v (move_of (tree_of v.cleared b) (View.batch_of v.cleared b) m)
+      → Becomes v (changed v i (record b { running = r }) v.allocation) (move_of (tree_of v.cleared b) (View.batch_of v.cleared b) m)
+  run-quiet m r quiet made is =
+      let l : Moves.Move = move_of (tree_of v.cleared b) (View.batch_of v.cleared b) m in
+      let t : IsMove v i b (record b { running = r }) l = is-move m r (quiet-runs m quiet) made is in
+      record {
+        kept = kept-after v k i b (record b { running = r }) l t v.allocation (λ name. quiet-line (tree_of v.cleared b) (View.batch_of v.cleared b) m quiet (line_in v) name)
+            (λ name q e. quiet-holders (tree_of v.cleared b) (View.batch_of v.cleared b) m quiet name (acts_of v.cleared v.batches (shares_of v.allocation q))) k.cell k.once
+            (room-quiet v i b (record b { running = r }) at refl k.room);
+        plant = plant-after v k i b (record b { running = r }) l t v.allocation (λ name. quiet-line (tree_of v.cleared b) (View.batch_of v.cleared b) m quiet (line_in v) name);
+      }
+
+  -- a resource's number is one that the arbiter has
+  pub known : (name : Name) (q : ℕ) → number_of v.cleared name ≡ Some q → q < resource_count v.allocation
+  known name q e =
+      omega (arith, Rattle.std.proofs.lemmas.Option.slice_get_within (names_of v.cleared) q name (named v.cleared name q e), ap (λ (xs : List ℕ). length xs) k.cell.capacities, length-capacities v.cleared.cell)
+
+  in-lists : (name : Name) (q : ℕ) → number_of v.cleared name ≡ Some q → q < length (names_of v.cleared)
+  in-lists name q e = Rattle.std.proofs.lemmas.Option.slice_get_within (names_of v.cleared) q name (named v.cleared name q e)
+
+  -- who is ready stands in no line
+  pub not-in-line : (node need q : ℕ) → node < node_count (tree_of v.cleared b) → need < length (step_at (tree_of v.cleared b) node).needs
+      → Has (acts (remains (tree_of v.cleared b) b.running)) (ready (step_at (tree_of v.cleared b) node) (task_at (tree_of v.cleared b) node) need)
+      → number_of v.cleared (need_at (tree_of v.cleared b) node need).resource ≡ Some q
+      → (y : Share) → Has (acts_of v.cleared v.batches (line_of v.allocation q)) y → y.act ≡ (b.number, place_at (tree_of v.cleared b) node) → ⊥
+  not-in-line node need q few few' here e y h is =
+      let name : Name = (need_at (tree_of v.cleared b) node need).resource in
+      let asks = ((told v k).asks name y).0 (subst (λ (xs : List Share). Has xs y) (sym (ap (line_at v) e)) h) in
+      let same : asks.0 ≡ View.batch_of v.cleared b = one_batch v.next_number (plant_of v).batches asks.0 (View.batch_of v.cleared b) (standing v k).numbers asks.1 (Has-batch_of v.cleared v.batches b (has v k i b at)) (asks.2 ∙ ap (λ (z : BatchAct). z.0) is) in
+      let there : Has (acts (remains (tree_of v.cleared b) b.running)) (asking asks.3 asks.4 asks.5) = subst (λ (d : Model.Batch). Has (acts d.rest) (asking asks.3 asks.4 asks.5)) same asks.6 in
+      let one : ready (step_at (tree_of v.cleared b) node) (task_at (tree_of v.cleared b) node) need ≡ asking asks.3 asks.4 asks.5 =
+      one_act (acts (remains (tree_of v.cleared b) b.running)) (ready (step_at (tree_of v.cleared b) node) (task_at (tree_of v.cleared b) node) need) (asking asks.3 asks.4 asks.5)
+      (acts-rise (0 ∷ []) (tree_of v.cleared b) (remains (tree_of v.cleared b) b.running) (tree-placed v k i b at) (batch-runs v k i b at).runs.stands) here there
+      (step-place (tree_of v.cleared b) node (tree-placed v k i b at) few (omega (arith, few')) ∙ sym (asks.7 ∙ ap (λ (z : BatchAct). z.1) is)) in
+      cc
+
+  pub claim-place : (node units : ℕ) → act_of v.cleared v.batches (record { batch = b.number; node = node; units = units }) ≡ (b.number, place_at (tree_of v.cleared b) node)
+  claim-place node units = claim-act v k i b at (record { batch = b.number; node = node; units = units }) node refl
+
+  -- an act joins a line
+  pub ask-made : (node need q : ℕ) (r : Running) → StandsFor (tree_of v.cleared b) (remains (tree_of v.cleared b) b.running) (Ask node need)
+      → number_of v.cleared (need_at (tree_of v.cleared b) node need).resource ≡ Some q → MadeChart (Ask node need) r
+      → IsNext v (move_of (tree_of v.cleared b) (View.batch_of v.cleared b) (Ask node need)) → 0 < v.allocation.room
+      → Becomes v (changed v i (record b { running = r }) (asked q (record { batch = b.number; node = node; units = (need_at (tree_of v.cleared b) node need).units }) v.allocation)) (move_of (tree_of v.cleared b) (View.batch_of v.cleared b) (Ask node need))
+  ask-made node need q r s e made is some =
+      let name : Need = need_at (tree_of v.cleared b) node need in
+      let x : Claim = record { batch = b.number; node = node; units = (need_at (tree_of v.cleared b) node need).units } in
+      let a : BatchAct = (b.number, place_at (tree_of v.cleared b) node) in
+      let is-share : share_of v.cleared v.batches x ≡ record { act = a; units = name.units } = ap (λ (z : BatchAct). let w : Share = record { act = z; units = x.units } in w) (claim-place node x.units) in
+      let l : Moves.Move = move_of (tree_of v.cleared b) (View.batch_of v.cleared b) (Ask node need) in
+      let t : IsMove v i b (record b { running = r }) l = is-move (Ask node need) r tt made is in
+      record {
+        kept = kept-after v k i b (record b { running = r }) l t (asked q x v.allocation) (lines-asked v k.cell q name e x a is-share) (λ name q e. refl)
+            (cell-asked v k.cell q name e x)
+            (once-asked v k.cell q name e x a is-share k.once (not-in-line node need q s.0 s.1 s.2 e))
+            (room-asked v i b (record b { running = r }) at refl k.room q x (omega (arith, k.cell.lines, in-lists name.resource q e)) some);
+        plant = plant-after v k i b (record b { running = r }) l t (asked q x v.allocation) (lines-asked v k.cell q name e x a is-share);
+      }
+
+  -- whose share is released
+  same-claim : (node : ℕ) → node < node_count (tree_of v.cleared b) → (x : Claim) → is_claim b.number node x ≡ is_same_act (act_of v.cleared v.batches x) (b.number, place_at (tree_of v.cleared b) node)
+  same-claim node few x = go (is_same_act (act_of v.cleared v.batches x) (b.number, place_at (tree_of v.cleared b) node)) refl
+    where
+      test : (m n : ℕ) → m ≡ n → nat_eq m n ≡ true
+      test m n e = grind arith
+
+      untest : (m n : ℕ) → nat_eq m n ≡ true → m ≡ n
+      untest m n e = grind arith
+
+      both-true : (x y : Bool) → x ≡ true → y ≡ true → (x && y) ≡ true
+      both-true true true e f = refl
+      both-true true false e f = absurd cc
+      both-true false y e f = absurd cc
+
+      split : (x y : Bool) → (x && y) ≡ true → (x ≡ true) × (y ≡ true)
+      split true true e = (refl, refl)
+      split true false e = absurd cc
+      split false y e = absurd cc
+
+      no : (t : Bool) → (t ≡ true → ⊥) → t ≡ false
+      no true h = absurd (h refl)
+      no false h = refl
+
+      go : (t : Bool) → is_same_act (act_of v.cleared v.batches x) (b.number, place_at (tree_of v.cleared b) node) ≡ t → is_claim b.number node x ≡ t
+      go true e =
+          let n : batch_node x ≡ (b.number, node) = act-claim v k i b at x node few (same_act (act_of v.cleared v.batches x) (b.number, place_at (tree_of v.cleared b) node) e) in
+          both-true (nat_eq x.batch b.number) (nat_eq x.node node) (test x.batch b.number (ap (λ (z : ℕ × ℕ). z.0) n)) (test x.node node (ap (λ (z : ℕ × ℕ). z.1) n))
+      go false e =
+          no (is_claim b.number node x) (λ h.
+          let s : (nat_eq x.batch b.number ≡ true) × (nat_eq x.node node ≡ true) = split (nat_eq x.batch b.number) (nat_eq x.node node) h in
+          let n : batch_node x ≡ (b.number, node) = ap₂ (λ y z. let w : ℕ × ℕ = (y, z) in w) (untest x.batch b.number s.0) (untest x.node node s.1) in
+          let f : is_same_act (act_of v.cleared v.batches x) (b.number, place_at (tree_of v.cleared b) node) ≡ true =
+          subst (λ (z : BatchAct). is_same_act (act_of v.cleared v.batches x) z ≡ true) (claim-act v k i b at x node n) (act_self (act_of v.cleared v.batches x)) in
+          let g : ◌≡◌ {A = Bool} true false = sym f ∙ e in absurd cc)
+
+  -- who holds a need has a share of it
+  pub held-share : (node need q : ℕ) → StandsFor (tree_of v.cleared b) (remains (tree_of v.cleared b) b.running) (Release node need)
+      → number_of v.cleared (need_at (tree_of v.cleared b) node need).resource ≡ Some q → IsHeld v.allocation q b.number node
+  held-share node need q s e =
+      let name : Need = need_at (tree_of v.cleared b) node need in
+      let a : BatchAct = (b.number, place_at (tree_of v.cleared b) node) in
+      let act : Rest = s.2.0 in
+      let one : suc need ≡ need + 1 = omega arith in
+      let taken : Has (take (need + 1) (step_at (tree_of v.cleared b) node).needs) name =
+      subst (λ n. Has (take n (step_at (tree_of v.cleared b) node).needs) name) one (Has-taken (step_at (tree_of v.cleared b) node).needs need no_need s.1) in
+      let mineof : Share = record { act = a; units = name.units } in
+      let holds : Has (filter (λ r. same_name name.resource r.resource) (held_by act)) name =
+      filter-Has (λ (r : Need). same_name name.resource r.resource) (held_by act) name (subst (λ (xs : List Need). Has xs name) (sym s.2.3) taken) (name_self name.resource) in
+      let mine : Has (map (λ (r : Need). let z : Share = record { act = (b.number, place_of act); units = r.units } in z) (filter (λ r. same_name name.resource r.resource) (held_by act))) mineof =
+      subst (λ (p : Place). Has (map (λ (r : Need). let z : Share = record { act = (b.number, place_of act); units = r.units } in z) (filter (λ r. same_name name.resource r.resource) (held_by act))) (let z : Share = record { act = (b.number, p); units = name.units } in z)) s.2.2
+      (Has-to-map (λ (r : Need). let z : Share = record { act = (b.number, place_of act); units = r.units } in z) (filter (λ r. same_name name.resource r.resource) (held_by act)) name holds) in
+      let held : Has (holders (plant_of v) name.resource) mineof =
+      Has-in-flat (λ (d : Model.Batch). flat_map (λ y. map (λ (r : Need). let z : Share = record { act = (d.number, place_of y); units = r.units } in z) (filter (λ r. same_name name.resource r.resource) (held_by y))) (acts d.rest)) (plant_of v).batches (View.batch_of v.cleared b) mineof
+      (Has-batch_of v.cleared v.batches b (has v k i b at))
+      (Has-in-flat (λ y. map (λ (r : Need). let z : Share = record { act = (b.number, place_of y); units = r.units } in z) (filter (λ r. same_name name.resource r.resource) (held_by y))) (acts (remains (tree_of v.cleared b) b.running)) act mineof s.2.1 mine) in
+      let share : Has (acts_of v.cleared v.batches (shares_of v.allocation q)) mineof = subst (λ (xs : List Share). Has xs mineof) (sym (k.tracked.shares q name.resource e)) (((told v k).held name.resource).1 mineof held) in
+      let x = Has-mapped (share_of v.cleared v.batches) (shares_of v.allocation q) mineof share in
+      let n : batch_node x.0 ≡ (b.number, node) = act-claim v k i b at x.0 node s.0 (ap (λ (z : Share). z.act) x.2) in
+      let is : x.0 ≡ record { batch = b.number; node = node; units = x.0.units } =
+      ap (λ (z : ℕ × ℕ). let y : Claim = record { batch = z.0; node = z.1; units = x.0.units } in y) n in
+      (x.0.units, Has-Contains (shares_of v.allocation q) (record { batch = b.number; node = node; units = x.0.units }) (subst (Has (shares_of v.allocation q)) is x.1))
+
+  -- a resource is given back
+  pub release-made : (node need q : ℕ) (r : Running) → StandsFor (tree_of v.cleared b) (remains (tree_of v.cleared b) b.running) (Release node need)
+      → number_of v.cleared (need_at (tree_of v.cleared b) node need).resource ≡ Some q → MadeChart (Release node need) r
+      → IsNext v (move_of (tree_of v.cleared b) (View.batch_of v.cleared b) (Release node need))
+      → Becomes v (changed v i (record b { running = r }) (released q b.number node v.allocation)) (move_of (tree_of v.cleared b) (View.batch_of v.cleared b) (Release node need))
+  release-made node need q r s e made is =
+      let name : Need = need_at (tree_of v.cleared b) node need in
+      let l : Moves.Move = move_of (tree_of v.cleared b) (View.batch_of v.cleared b) (Release node need) in
+      let t : IsMove v i b (record b { running = r }) l = is-move (Release node need) r tt made is in
+      record {
+        kept = kept-after v k i b (record b { running = r }) l t (released q b.number node v.allocation) (λ name. lines name)
+            (shares-released v k.cell q name e b.number node (place_at (tree_of v.cleared b) node) (subst IsOnce (sym (k.tracked.shares q name.resource e)) ((safe v k).held name.resource).3) (same-claim node s.0))
+            (cell-released v k.cell q name e b.number node) k.once
+            (room-released v i b (record b { running = r }) at refl k.room q b.number node (omega (arith, k.cell.shares, in-lists name.resource q e)));
+        plant = plant-after v k i b (record b { running = r }) l t (released q b.number node v.allocation) (λ name. lines name);
+      }
+    where
+      lines : (n : Name) → line_in (record v { allocation = released q b.number node v.allocation }) n ≡ line_in v n
+      lines n = go (number_of v.cleared n)
+        where
+          go : (o : Option ℕ) → line_at (record v { allocation = released q b.number node v.allocation }) o ≡ line_at v o
+          go None = refl
+          go (Some j) = refl
+
+  -- the act first in line gets its need
+  pub grant-made : (node need q : ℕ) (r : Running) → AsksAt (tree_of v.cleared b) (remains (tree_of v.cleared b) b.running) node need
+      → number_of v.cleared (need_at (tree_of v.cleared b) node need).resource ≡ Some q → option_map batch_node (next_grant v.allocation q) ≡ Some (b.number, node)
+      → IsRunningOf (tree_of v.cleared b) r
+      → ((vs : List (Name × ℕ)) → remains (tree_of v.cleared b) r ≡ advance vs (changed_at (place_at (tree_of v.cleared b) node) Moves.granted (remains (tree_of v.cleared b) b.running)))
+      → IsNext v (Moves.grant b.number (place_at (tree_of v.cleared b) node) (need_at (tree_of v.cleared b) node need))
+      → Becomes v (changed v i (record b { running = r }) (granted q (next_grant v.allocation q) v.allocation)) (Moves.grant b.number (place_at (tree_of v.cleared b) node) (need_at (tree_of v.cleared b) node need))
+  grant-made node need q r asks e first runs goes is =
+      let name : Need = need_at (tree_of v.cleared b) node need in
+      let a : BatchAct = (b.number, place_at (tree_of v.cleared b) node) in
+      let f = first-of-line (capacity_of v.allocation q) (shares_of v.allocation q) (line_of v.allocation q) b.number node first in
+      let x : Claim = f.0 in
+      let in-line : Has (line_of v.allocation q) x = subst (λ (xs : List Claim). Has xs x) (sym f.2) (inl refl) in
+      let here : share_of v.cleared v.batches x ≡ record { act = a; units = name.units } =
+      ap₂ (λ (z : BatchAct) u. let w : Share = record { act = z; units = u } in w) (claim-act v k i b at x node f.4) (line-units v k i b at node need q asks e x in-line f.4) in
+      let l : Moves.Move = Moves.grant b.number (place_at (tree_of v.cleared b) node) name in
+      let t : IsMove v i b (record b { running = r }) l = record {
+        at = at;
+        number = refl;
+        recipe = refl;
+        runs = runs;
+        is = is;
+        of_batch = refl;
+        becomes = ap (λ (z : Rest). let d : Model.Batch = record (View.batch_of v.cleared b) { rest = z } in d) (goes b.values);
+      } in
+      subst (λ (o : Option Claim). Becomes v (changed v i (record b { running = r }) (granted q o v.allocation)) l) (sym f.3)
+      (record {
+        kept = kept-after v k i b (record b { running = r }) l t (granted q (Some x) v.allocation)
+            (lines-granted v k.cell q name e x f.1 a f.2 here k.once) (shares-granted v k.cell q name e x f.1 a f.2 here k.once)
+            (cell-granted v k.cell q name e x f.1 a f.2 here k.once) (once-granted v k.cell q name e x f.1 a f.2 here k.once)
+            (room-granted v i b (record b { running = r }) at refl k.room q x f.1 (omega (arith, k.cell.lines, in-lists name.resource q e)) (omega (arith, k.cell.shares, in-lists name.resource q e)) f.2);
+        plant = plant-after v k i b (record b { running = r }) l t (granted q (Some x) v.allocation) (lines-granted v k.cell q name e x f.1 a f.2 here k.once);
+      })

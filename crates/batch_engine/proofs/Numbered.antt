@@ -1,0 +1,247 @@
+-- What a cleared recipe's acts need and run has numbers.
+use Rattle.std.proofs.Common.{◌≡◌, ◌<◌, ◌≤◌, refl, sym, ◌∙◌, ap, ap₂, subst, ℕ, zero, suc, List, [], ◌∷◌, ◌++◌, Bool, true, false, ◌&&◌, ◌||◌, if◌then◌else◌, Option, Some, None, inl, inr, arith, length, map, filter, cond, get_or, nat_lt}
+use Rattle.std.specs.Prelude.{slice_get, position, unwrap_or, IsTrue, flat_map}
+use Rattle.std.specs.List.{list_any, list_all}
+use Rattle.std.proofs.lemmas.List.{length-map, length-append}
+use Rattle.std.proofs.lemmas.List.Folds.{list_any-append}
+use Rattle.std.proofs.lemmas.List.Quantifiers.{position-Some}
+use Rattle.std.proofs.lemmas.Option.{slice_get-get_or, get_or_from_slice_get, slice_get_within}
+use Rattle.batch_cell.specs.Equipment.{is_free, belongs_to, has_declared_unit, phases_for, unit_phases}
+use Rattle.batch_cell.specs.LookUps.{units_of, resources_of, phases_of}
+use Rattle.batch_cell.specs.declared.cell.Cell.{Cell}
+use Rattle.batch_cell.specs.declared.module.Module.{Module}
+use Rattle.batch_cell.specs.declared.shared.Shared.{Shared}
+use Rattle.batch_cell.specs.declared.unit.Unit.{Unit}
+use Rattle.batch_recipe.specs.Conditions.{Name, same_name}
+use Rattle.batch_recipe.specs.Nodes.{Node, node_count, nodes}
+use Rattle.batch_recipe.specs.Nodes as nodes_spec
+use Rattle.batch_recipe.specs.Tree.{Phase, Tree, act, skip, seq, par, sel, loop, Task, runs, follows}
+use Rattle.batch_recipe.specs.WellFormed.{is_among}
+use Rattle.batch_recipe.specs.declared.need.Need.{Need}
+use Rattle.batch_recipe.proofs.Order.{counted_nodes}
+use Rattle.batch_model.specs.Cleared.{CanBeCleared, IsClear, IsOffered, NeedsResources, Part, is_procedure, parts, procedure_parts}
+use Rattle.batch_model.specs.Documents.{cell_of}
+use Rattle.batch_model.specs.Lists.{Has, Each}
+use Rattle.batch_model.specs.Plant as Model
+use Rattle.batch_model.proofs.Members.{Each-map}
+use Rattle.batch_model.proofs.Parts.{parts-nodes}
+use Rattle.batch_laws.proofs.Entries.{name_same}
+use Rattle.batch_verify.specs.ClearedSet.{ClearedSet}
+use Rattle.batch_arbiter.proofs.Positions.{NonePasses, NonePasses-position}
+use Rattle.batch_chart.specs.NodesOf.{nodes_of, node_at, step_of, step_at, task_of, task_at, need_at, no_need, phase_at, phase_in}
+use Rattle.batch_engine.specs.Names as Names
+use Rattle.batch_engine.specs.Numbered as Numbers
+use Rattle.batch_engine.specs.Numbered.{need_number, phase_number, phase_among}
+use Rattle.batch_engine.specs.View.{documents, recipe_at, tree_at, no_recipe, number_of}
+use Rattle.batch_engine.specs.declared.numbers.NeedNumber.{NeedNumber}
+use Rattle.batch_engine.specs.declared.numbers.PhaseNumber.{PhaseNumber}
+use Rattle.batch_engine.specs.declared.numbers.TheConstants.{NO_PHASE}
+use Rattle.batch_engine.proofs.Finding.{Each-at, named}
+
+-- Where something passes, there is a first that does
+
+either-none : (a b : Bool) → a ≡ false → b ≡ false → (a || b) ≡ false
+either-none true b e f = absurd cc
+either-none false b e f = f
+
+none-any : {X : Type 0} (p : X → Bool) (xs : List X) → NonePasses p xs → list_any p xs ≡ false
+none-any p [] h = refl
+none-any p (x ∷ xs) h = either-none (p x) (list_any p xs) (h 0 x (omega arith)) (none-any p xs (λ k d l. h (suc k) d (omega arith)))
+
+pub any-position : {X : Type 0} (p : X → Bool) (xs : List X) → list_any p xs ≡ true → (q : ℕ) × (position p xs ≡ Some q)
+any-position p xs h = go (position p xs) refl
+  where
+    go : (o : Option ℕ) → position p xs ≡ o → (q : ℕ) × (position p xs ≡ Some q)
+    go None e = absurd (let f : ◌≡◌ {A = Bool} true false = sym h ∙ none-any p xs (NonePasses-position p xs e) in cc)
+    go (Some q) e = (q, e)
+
+-- the name with this number
+pub name-at : (names : List Name) (name : Name) (q : ℕ) → position (same_name name) names ≡ Some q → slice_get names q ≡ Some name
+name-at names name q e =
+    let p = position-Some (same_name name) names q [] e in
+    slice_get-get_or names q [] p.0 ∙ ap Some (sym (name_same name (get_or names q []) p.1))
+
+-- A unit that offers something is declared
+
+own-unit : (units : List Name) (unit : Name) (o : Option Name) → elim o [ None ↦ false | Some own ↦ same_name own unit ] ≡ true
+    → elim o [ None ↦ true | Some own ↦ list_any (same_name own) units ] ≡ true → list_any (same_name unit) units ≡ true
+own-unit units unit None e f = absurd cc
+own-unit units unit (Some own) e f = subst (λ z. list_any (same_name z) units ≡ true) (name_same own unit e) f
+
+both-true : (a b : Bool) → (a && b) ≡ true → (a ≡ true) × (b ≡ true)
+both-true true b e = (refl, e)
+both-true false b e = absurd cc
+
+or-true : (a b : Bool) → (a || b) ≡ true → a ≡ false → b ≡ true
+or-true true b e f = absurd cc
+or-true false b e f = e
+
+pub offering-unit : (units : List Name) (ms : List Module) (unit phase : Name) → list_all (has_declared_unit units) ms ≡ true
+    → list_any (same_name phase) (unit_phases ms unit) ≡ true → list_any (same_name unit) units ≡ true
+offering-unit units [] unit phase d h = absurd cc
+offering-unit units (m ∷ ms) unit phase d h = go (belongs_to unit m) refl (offering-unit units ms unit phase)
+  where
+    declared : (has_declared_unit units m ≡ true) × (list_all (has_declared_unit units) ms ≡ true)
+    declared = both-true (has_declared_unit units m) (list_all (has_declared_unit units) ms) d
+
+    go : (b : Bool) → belongs_to unit m ≡ b
+        → (list_all (has_declared_unit units) ms ≡ true → list_any (same_name phase) (unit_phases ms unit) ≡ true → list_any (same_name unit) units ≡ true) → list_any (same_name unit) units ≡ true
+    go true e later = own-unit units unit m.unit e declared.0
+    go false e later =
+        later declared.1
+        (subst (λ (ns : List Name). list_any (same_name phase) (ns ++ unit_phases ms unit) ≡ true)
+        (ap (λ (t : Bool). let ns : List Name = if t then m.phases.items else [] in ns) e) h)
+
+-- Numbers name what they are of
+
+module _ (cell : Cell) (unit phase : Name) (offers : list_any (same_name phase) (unit_phases cell.modules.items unit) ≡ true) where
+  pub unit-number : (q : ℕ) × (position (same_name unit) (units_of cell) ≡ Some q)
+  unit-number = any-position (same_name unit) (units_of cell) (offering-unit (units_of cell) cell.modules.items unit phase cell.declared_units offers)
+
+  unit-named : slice_get (units_of cell) unit-number.0 ≡ Some unit
+  unit-named = name-at (units_of cell) unit unit-number.0 unit-number.1
+
+  offered-here : list_any (same_name phase) (phases_of cell unit-number.0) ≡ true
+  offered-here =
+      subst (λ (z : Name). list_any (same_name phase) (unit_phases cell.modules.items z) ≡ true)
+      (sym (get_or_from_slice_get (units_of cell) unit-number.0 unit [] unit-named)) offers
+
+  pub phase-among : (q : ℕ) × (position (same_name phase) (phases_of cell unit-number.0) ≡ Some q)
+  phase-among = any-position (same_name phase) (phases_of cell unit-number.0) offered-here
+
+  pub numbered-phase : phase_number cell unit phase ≡ (let x : PhaseNumber = record { unit = unit-number.0; phase = phase-among.0 } in x)
+  numbered-phase =
+      ap (phase_among cell phase) unit-number.1
+      ∙ ap (λ (o : Option ℕ). let x : PhaseNumber = record { unit = unit-number.0; phase = unwrap_or o 0 } in x) phase-among.1
+
+abbrev free_names : Cell → List Name
+free_names cell = map (λ (m : Module). m.name) (filter is_free cell.modules.items)
+
+abbrev shared_names : Cell → List Name
+shared_names cell = map (λ (s : Shared). s.name) cell.shared.items
+
+slice_get-front : (xs ys : List Name) (q : ℕ) (x : Name) → slice_get xs q ≡ Some x → slice_get (xs ++ ys) q ≡ Some x
+slice_get-front [] ys q x e = absurd cc
+slice_get-front (z ∷ xs) ys zero x e = e
+slice_get-front (z ∷ xs) ys (suc q) x e = slice_get-front xs ys q x e
+
+within-yes : (m n : ℕ) → m < n → nat_lt m n ≡ true
+within-yes m n l = grind arith
+
+within-no : (m n : ℕ) → n < m → nat_lt m n ≡ false
+within-no m n l = grind arith
+
+-- a phase that is offered has the unit and the name that its numbers name
+pub phase-named : (c : ClearedSet) (p : Phase) → list_any (same_name p.name) (unit_phases c.cell.modules.items p.unit) ≡ true
+    → (let x = phase_number c.cell p.unit p.name in (Names.resource_name c x.unit ≡ p.unit) × (Names.phase_name c x.unit x.phase ≡ p.name))
+phase-named c p offers =
+    let u = unit-number c.cell p.unit p.name offers in
+    let q = phase-among c.cell p.unit p.name offers in
+    let at : slice_get (units_of c.cell) u.0 ≡ Some p.unit = name-at (units_of c.cell) p.unit u.0 u.1 in
+    let resource : Names.resource_name c u.0 ≡ p.unit =
+    ap (λ (o : Option Name). unwrap_or o [])
+    (slice_get-front (units_of c.cell ++ free_names c.cell) (shared_names c.cell) u.0 p.unit (slice_get-front (units_of c.cell) (free_names c.cell) u.0 p.unit at)) in
+    let named : Names.phase_name c u.0 q.0 ≡ p.name =
+    ap (λ (t : Bool). let z : Name = if t then unwrap_or (slice_get (phases_of c.cell u.0) q.0) [] else [] in z)
+    (within-yes u.0 (length (units_of c.cell)) (slice_get_within (units_of c.cell) u.0 p.unit at))
+    ∙ ap (λ (o : Option Name). unwrap_or o []) (name-at (phases_of c.cell u.0) p.name q.0 q.1) in
+    subst (λ (x : PhaseNumber). (Names.resource_name c x.unit ≡ p.unit) × (Names.phase_name c x.unit x.phase ≡ p.name))
+    (sym (numbered-phase c.cell p.unit p.name offers)) (resource, named)
+
+-- Of each node of a cleared recipe
+
+abbrev pub IsNamed : ClearedSet → Tree → Type 0
+IsNamed c t = NeedsResources (cell_of c.cell) t × IsOffered (documents c) t
+
+Each-mapped : {X Y : Type 0} (P : Y → Type 0) (f : X → Y) (xs : List X) → Each (λ x. P (f x)) xs → Each P (map f xs)
+Each-mapped P f [] h = tt
+Each-mapped P f (x ∷ xs) h = (h.0, Each-mapped P f xs h.1)
+
+needs-same : (t : Tree) → nodes_spec.needs_of t ≡ (step_of t).needs
+needs-same (act s w) = refl
+needs-same skip = refl
+needs-same (seq ts) = refl
+needs-same (par ts) = refl
+needs-same (sel cs) = refl
+needs-same (loop n c t) = refl
+
+module _ (c : ClearedSet) (cleared : CanBeCleared (cell_of c.cell) (documents c)) (recipe : ℕ) (known : recipe < length (documents c).recipes) where
+  pub node-named : (k : ℕ) → k < node_count (tree_at c recipe) → IsNamed c (node_at (tree_at c recipe) k).here
+  node-named k l =
+      let r : Model.Recipe = recipe_at c recipe in
+      let clear : Each (IsClear (cell_of c.cell) (documents c) cleared.0) (procedure_parts r) =
+      Each-at (λ (r : Model.Recipe). Each (IsClear (cell_of c.cell) (documents c) cleared.0) (procedure_parts r)) (documents c).recipes recipe no_recipe cleared.1.recipes known in
+      let parts-named : Each (λ (x : Part). IsNamed c x.node.here) (procedure_parts r) =
+      Each-map (IsClear (cell_of c.cell) (documents c) cleared.0) (λ (x : Part). IsNamed c x.node.here) (λ x h. (h.known, h.offered)) (procedure_parts r) clear in
+      let all : Each (λ (n : Node). IsNamed c n.here) (nodes_of (tree_at c recipe)) =
+      subst (Each (λ (n : Node). IsNamed c n.here)) (parts-nodes is_procedure (0 ∷ []) [] (tree_at c recipe))
+      (Each-mapped (λ (n : Node). IsNamed c n.here) (λ (x : Part). x.node) (procedure_parts r) parts-named) in
+      Each-at (λ (n : Node). IsNamed c n.here) (nodes_of (tree_at c recipe)) k (record { place = []; asked = []; here = skip }) all
+      (omega (arith, l, counted_nodes (0 ∷ []) [] (tree_at c recipe)))
+
+  -- the number that stands for a need is that of its resource
+  pub need-numbered : (k i : ℕ) → k < node_count (tree_at c recipe) → i < length (step_at (tree_at c recipe) k).needs
+      → number_of c (need_at (tree_at c recipe) k i).resource ≡ Some (need_number c.cell (need_at (tree_at c recipe) k i)).resource
+  need-numbered k i l m =
+      let n : Need = need_at (tree_at c recipe) k i in
+      let here : Each (λ (need : Need). IsTrue (is_among (resources_of c.cell) need.resource)) (step_at (tree_at c recipe) k).needs =
+      subst (Each (λ (need : Need). IsTrue (is_among (resources_of c.cell) need.resource))) (needs-same (node_at (tree_at c recipe) k).here) (node-named k l).0 in
+      let among : IsTrue (is_among (resources_of c.cell) n.resource) =
+      Each-at (λ (need : Need). IsTrue (is_among (resources_of c.cell) need.resource)) (step_at (tree_at c recipe) k).needs i no_need here m in
+      let q = any-position (same_name n.resource) (resources_of c.cell) among in
+      q.1 ∙ ap Some (sym (ap (λ (o : Option ℕ). unwrap_or o 0) q.1))
+
+  -- so are those that stand for a phase; at any other node they name nothing
+  pub phase-numbered : (few : length (resources_of c.cell) < 65535) (fewer : length (units_of c.cell) < 65535) (k : ℕ) → k < node_count (tree_at c recipe)
+      → (let x = Numbers.phase_in c.cell (node_at (tree_at c recipe) k).here in let p = phase_at (tree_at c recipe) k in
+      (Names.resource_name c x.unit ≡ p.unit) × (Names.phase_name c x.unit x.phase ≡ p.name))
+  phase-numbered few fewer k l = go (node_at (tree_at c recipe) k).here (node-named k l).1
+    where
+      past : (names : List Name) (q : ℕ) → length names < q → slice_get names q ≡ None
+      past [] q h = refl
+      past (x ∷ names) zero h = absurd (omega arith)
+      past (x ∷ names) (suc q) h = past names q (omega arith)
+
+      nothing : (Names.resource_name c 65535 ≡ []) × (Names.phase_name c 65535 65535 ≡ [])
+      nothing = (
+        ap (λ (o : Option Name). unwrap_or o []) (past (resources_of c.cell) 65535 few),
+        ap (λ (t : Bool). let z : Name = if t then unwrap_or (slice_get (phases_of c.cell 65535) 65535) [] else [] in z) (within-no 65535 (length (units_of c.cell)) fewer),
+      )
+
+      go : (t : Tree) → IsOffered (documents c) t
+          → (let x = Numbers.phase_in c.cell t in let p = phase_in (task_of t) in (Names.resource_name c x.unit ≡ p.unit) × (Names.phase_name c x.unit x.phase ≡ p.name))
+      go (act s (runs p)) h = phase-named c p h
+      go (act s (follows name t)) h = nothing
+      go skip h = nothing
+      go (seq ts) h = nothing
+      go (par ts) h = nothing
+      go (sel cs) h = nothing
+      go (loop n q t) h = nothing
+
+-- A cell has few resources
+
+filtered : (p : Module → Bool) (ms : List Module) → length (filter p ms) ≤ length ms
+filtered p [] = omega arith
+filtered p (m ∷ ms) = go (p m) (filtered p ms)
+  where
+    go : (t : Bool) → length (filter p ms) ≤ length ms → length (cond t (m ∷ filter p ms) (filter p ms)) ≤ length (m ∷ ms)
+    go true l = omega arith
+    go false l = omega arith
+
+pub few-units : (cell : Cell) → length (units_of cell) < 65535
+few-units cell = omega (arith, cell.few_units, length-map cell.units.items (λ (u : Unit). u.name))
+
+pub few-resources : (cell : Cell) → length (resources_of cell) < 65535
+few-resources cell =
+    omega (
+      arith,
+      cell.few_units,
+      cell.few_modules,
+      cell.few_shared,
+      filtered is_free cell.modules.items,
+      length-map cell.units.items (λ (u : Unit). u.name),
+      length-map (filter is_free cell.modules.items) (λ (m : Module). m.name),
+      length-map cell.shared.items (λ (s : Shared). s.name),
+      length-append (units_of cell ++ free_names cell) (shared_names cell),
+      length-append (units_of cell) (free_names cell),
+    )

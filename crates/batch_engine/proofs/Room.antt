@@ -1,0 +1,69 @@
+-- Room is there for all needs of all batches.
+use Rattle.std.proofs.Common.{◌≡◌, ◌<◌, ◌≤◌, ◌+◌, ◌-◌, refl, sym, ◌∙◌, ap, ap₂, subst, ℕ, zero, suc, List, [], ◌∷◌, ◌++◌, Bool, true, false, Option, Some, None, cond, arith, length, map, drop, set, get_or}
+use Rattle.std.specs.Prelude.{slice_get, sum_by}
+use Rattle.std.proofs.lemmas.List.{length-append}
+use Rattle.std.proofs.lemmas.List.Sums.{sum_by-set, sum_by-cons}
+use Rattle.batch_verify.specs.ClearedSet.{ClearedSet}
+use Rattle.batch_arbiter.specs.Allocation.{Claim, Allocation, shares_of, line_of, asked, granted, released, without_first, is_claim}
+use Rattle.batch_chart.specs.NodesOf.{needs_in}
+use Rattle.batch_engine.specs.declared.batch.Batch.{Batch}
+use Rattle.batch_engine.specs.View.{EngineView, tree_at, tree_of}
+use Rattle.batch_engine.specs.Kept.{claims, needs_of_all, HasRoom}
+use Rattle.batch_engine.proofs.Stepping.{changed}
+
+-- a changed batch of the same recipe has the same needs
+pub needs-same : (c : ClearedSet) (bs : List Batch) (i : ℕ) (b b' : Batch) → slice_get bs i ≡ Some b → b'.recipe ≡ b.recipe → needs_of_all c (set bs i b') ≡ needs_of_all c bs
+needs-same c [] i b b' e r = absurd cc
+needs-same c (x ∷ bs) zero b b' e r =
+    let f : x ≡ b = cc in
+    let n : needs_in (tree_of c b') ≡ needs_in (tree_of c x) = ap (λ (z : ℕ). needs_in (tree_at c z)) (r ∙ ap (λ (z : Batch). z.recipe) (sym f)) in
+    omega (arith, sum_by-cons (λ (z : Batch). needs_in (tree_of c z)) b' bs, sum_by-cons (λ (z : Batch). needs_in (tree_of c z)) x bs, n)
+needs-same c (x ∷ bs) (suc i) b b' e r =
+    omega (arith, sum_by-cons (λ (z : Batch). needs_in (tree_of c z)) x (set bs i b'), sum_by-cons (λ (z : Batch). needs_in (tree_of c z)) x bs, needs-same c bs i b b' e r)
+
+without-length : (p : Claim → Bool) (xs : List Claim) → length xs ≤ length (without_first p xs) + 1
+without-length p [] = omega arith
+without-length p (x ∷ xs) = go (p x) (without-length p xs)
+  where
+    go : (t : Bool) → length xs ≤ length (without_first p xs) + 1 → length (x ∷ xs) ≤ length (cond t xs (x ∷ without_first p xs)) + 1
+    go true h = omega arith
+    go false h = omega arith
+
+module _ (v : EngineView) (i : ℕ) (b b' : Batch) (at : slice_get v.batches i ≡ Some b) (recipe : b'.recipe ≡ b.recipe) (room : HasRoom v) where
+  pub room-quiet : HasRoom (changed v i b' v.allocation)
+  room-quiet = omega (arith, room, needs-same v.cleared v.batches i b b' at recipe)
+
+  pub room-asked : (q : ℕ) (x : Claim) → q < length v.allocation.lines → 0 < v.allocation.room → HasRoom (changed v i b' (asked q x v.allocation))
+  room-asked q x few some =
+      omega (
+        arith,
+        room,
+        needs-same v.cleared v.batches i b b' at recipe,
+        some,
+        sum_by-set (λ (xs : List Claim). length xs) v.allocation.lines q (line_of v.allocation q ++ x ∷ []) [] few,
+        length-append (line_of v.allocation q) (x ∷ []),
+      )
+
+  pub room-granted : (q : ℕ) (x : Claim) (later : List Claim) → q < length v.allocation.lines → q < length v.allocation.shares → line_of v.allocation q ≡ x ∷ later
+      → HasRoom (changed v i b' (granted q (Some x) v.allocation))
+  room-granted q x later few few' first =
+      omega (
+        arith,
+        room,
+        needs-same v.cleared v.batches i b b' at recipe,
+        sum_by-set (λ (xs : List Claim). length xs) v.allocation.lines q (drop 1 (line_of v.allocation q)) [] few,
+        sum_by-set (λ (xs : List Claim). length xs) v.allocation.shares q (shares_of v.allocation q ++ x ∷ []) [] few',
+        length-append (shares_of v.allocation q) (x ∷ []),
+        ap (λ (xs : List Claim). length xs) first,
+        ap (λ (xs : List Claim). length (drop 1 xs)) first,
+      )
+
+  pub room-released : (q n node : ℕ) → q < length v.allocation.shares → HasRoom (changed v i b' (released q n node v.allocation))
+  room-released q n node few =
+      omega (
+        arith,
+        room,
+        needs-same v.cleared v.batches i b b' at recipe,
+        sum_by-set (λ (xs : List Claim). length xs) v.allocation.shares q (without_first (is_claim n node) (shares_of v.allocation q)) [] few,
+        without-length (is_claim n node) (shares_of v.allocation q),
+      )

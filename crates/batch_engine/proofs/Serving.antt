@@ -1,0 +1,97 @@
+-- Whom the arbiter would serve is whom the plant serves.
+use Rattle.std.proofs.Common.{◌≡◌, ◌<◌, ◌≤◌, ◌+◌, refl, sym, ◌∙◌, ap, ap₂, subst, ℕ, zero, suc, List, [], ◌∷◌, Bool, true, false, ◌&&◌, cond, Option, Some, None, inl, inr, arith, length, get_or, map, nat_eq, nat_lt}
+use Rattle.std.specs.Prelude.{nat_le, option_map, position, sum_by, slice_get}
+use Rattle.std.proofs.lemmas.List.{length-map}
+use Rattle.std.proofs.lemmas.List.Sums.{sum_by-cons}
+use Rattle.std.proofs.lemmas.Bool.{ltb-true, leb-true, lt-ltb, le-leb}
+use Rattle.batch_recipe.specs.Conditions.{Name, same_name}
+use Rattle.batch_recipe.specs.Tree.{Place}
+use Rattle.batch_recipe.specs.declared.need.Need.{Need}
+use Rattle.batch_model.specs.Lists.{Has, Each}
+use Rattle.batch_model.specs.Plant.{Documents, BatchAct, Share, units_in, Plant, holders, is_same_act}
+use Rattle.batch_model.specs.Moves.{is_served}
+use Rattle.batch_model.specs.Documents.{capacity_of}
+use Rattle.batch_cell.specs.LookUps.{capacities_of}
+use Rattle.batch_model.specs.Records.{holders_told}
+use Rattle.batch_laws.specs.Telling.{IsTold}
+use Rattle.batch_laws.proofs.Entries.{act_self, same_act, units-cons}
+use Rattle.batch_arbiter.specs.Allocation.{Claim, Allocation, line_of, shares_of, held_units, next_in, next_grant, batch_node}
+use Rattle.batch_engine.specs.View.{EngineView, documents, act_of, acts_of, names_of, number_of, line_in, line_at, place_in, plant_of}
+use Rattle.batch_engine.specs.Kept.{IsKept}
+use Rattle.batch_engine.proofs.Told.{told}
+
+units-mapped : (act : Claim → BatchAct) (xs : List Claim) → units_in (map (λ x. let s : Share = record { act = act x; units = x.units } in s) xs) ≡ held_units xs
+units-mapped act [] = refl
+units-mapped act (x ∷ xs) =
+    units-cons (record { act = act x; units = x.units }) (map (λ x. let s : Share = record { act = act x; units = x.units } in s) xs)
+    ∙ ap (λ n. x.units + n) (units-mapped act xs) ∙ sym (sum_by-cons (λ (c : Claim). c.units) x xs)
+
+-- the test of the plant, for a line, how much is held and how much is needed
+abbrev serves : ℕ → ℕ → ℕ → List Share → BatchAct → Bool
+serves held units capacity line a = nat_le (held + units) capacity && elim line [ [] ↦ false | x ∷ xs ↦ is_same_act x.act a ]
+
+IsFor : ℕ → ℕ → Option Claim → Type 0
+IsFor n node o = option_map batch_node o ≡ Some (n, node)
+
+both : (a b : Bool) → (a && b) ≡ true → (a ≡ true) × (b ≡ true)
+both true true e = (refl, refl)
+both true false e = absurd cc
+both false b e = absurd cc
+
+and-true : (a b : Bool) → a ≡ true → b ≡ true → (a && b) ≡ true
+and-true true true e f = refl
+and-true true false e f = absurd cc
+and-true false b e f = absurd cc
+
+module _ (act : Claim → BatchAct) where
+  abbrev share : Claim → Share
+  share x = record { act = act x; units = x.units }
+
+  -- the first claim is for the act, and its units are free
+  pub serves-next : (capacity units : ℕ) (shares line : List Claim) (n node : ℕ) (a : BatchAct)
+      → ((x : Claim) → batch_node x ≡ (n, node) → act x ≡ a) → ((x : Claim) → Has line x → batch_node x ≡ (n, node) → x.units ≡ units)
+      → option_map batch_node (next_in capacity shares line) ≡ Some (n, node)
+      → serves (held_units shares) units capacity (map (λ x. let s : Share = record { act = act x; units = x.units } in s) line) a ≡ true
+  serves-next capacity units shares [] n node a same much e = absurd cc
+  serves-next capacity units shares (x ∷ later) n node a same much e = go (nat_le (held_units shares + x.units) capacity) refl e
+    where
+      go : (b : Bool) → nat_le (held_units shares + x.units) capacity ≡ b → ◌≡◌ {A = Option (ℕ × ℕ)} (option_map batch_node (cond b (Some x) None)) (Some (n, node))
+          → serves (held_units shares) units capacity (map (λ x. let s : Share = record { act = act x; units = x.units } in s) (x ∷ later)) a ≡ true
+      go false q f = absurd cc
+      go true q f =
+          let at : batch_node x ≡ (n, node) = cc in
+          let is : is_same_act (act x) a ≡ true = subst (λ z. is_same_act (act x) z ≡ true) (same x at) (act_self (act x)) in
+          and-true (nat_le (held_units shares + units) capacity) (is_same_act (act x) a) (subst (λ u. nat_le (held_units shares + u) capacity ≡ true) (much x (inl refl) at) q) is
+
+  pub next-serves : (capacity units : ℕ) (shares line : List Claim) (n node : ℕ) (a : BatchAct)
+      → ((x : Claim) → act x ≡ a → batch_node x ≡ (n, node)) → ((x : Claim) → Has line x → batch_node x ≡ (n, node) → x.units ≡ units)
+      → serves (held_units shares) units capacity (map (λ x. let s : Share = record { act = act x; units = x.units } in s) line) a ≡ true
+      → option_map batch_node (next_in capacity shares line) ≡ Some (n, node)
+  next-serves capacity units shares [] n node a same much e = absurd (none (nat_le (held_units shares + units) capacity) e)
+    where
+      none : (b : Bool) → (b && false) ≡ true → ⊥
+      none true e = cc
+      none false e = cc
+  next-serves capacity units shares (x ∷ later) n node a same much e =
+      let h : (nat_le (held_units shares + units) capacity ≡ true) × (is_same_act (act x) a ≡ true) = both (nat_le (held_units shares + units) capacity) (is_same_act (act x) a) e in
+      let at : batch_node x ≡ (n, node) = same x (same_act (act x) a h.1) in
+      let ok : nat_le (held_units shares + x.units) capacity ≡ true = subst (λ u. nat_le (held_units shares + u) capacity ≡ true) (sym (much x (inl refl) at)) h.0 in
+      ap (λ (b : Bool). option_map batch_node (cond b (Some x) None)) ok ∙ ap Some at
+
+module _ (v : EngineView) (k : IsKept v) where
+  -- as much of a resource is held as its shares have
+  pub held-count : (i : ℕ) (name : Name) → number_of v.cleared name ≡ Some i → units_in (holders (plant_of v) name) ≡ held_units (shares_of v.allocation i)
+  held-count i name e =
+      sym ((told v k).held_units name) ∙ ap units_in (sym (k.tracked.shares i name e)) ∙ units-mapped (act_of v.cleared v.batches) (shares_of v.allocation i)
+
+  -- the plant's test is that of the arbiter's lists
+  pub is-served : (i : ℕ) (need : Need) (a : BatchAct) → number_of v.cleared need.resource ≡ Some i
+      → is_served (documents v.cleared) (plant_of v) need a
+      ≡ serves (held_units (shares_of v.allocation i)) need.units (Rattle.batch_arbiter.specs.Allocation.capacity_of v.allocation i) (acts_of v.cleared v.batches (line_of v.allocation i)) a
+  is-served i need a e =
+      let held : units_in (holders (plant_of v) need.resource) ≡ held_units (shares_of v.allocation i) = held-count i need.resource e in
+      let capacity : (documents v.cleared).capacity need.resource ≡ Rattle.batch_arbiter.specs.Allocation.capacity_of v.allocation i =
+      ap (λ (o : Option ℕ). elim o [ None ↦ 0 | Some number ↦ get_or (capacities_of v.cleared.cell) number 0 ]) e ∙ ap (λ xs. get_or xs i 0) (sym k.cell.capacities) in
+      let line : line_in v need.resource ≡ acts_of v.cleared v.batches (line_of v.allocation i) = ap (line_at v) e in
+      ap₂ (λ h l. serves h need.units ((documents v.cleared).capacity need.resource) l a) held line
+      ∙ ap (λ z. serves (held_units (shares_of v.allocation i)) need.units z (acts_of v.cleared v.batches (line_of v.allocation i)) a) capacity

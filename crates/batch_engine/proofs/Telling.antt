@@ -1,0 +1,157 @@
+-- What a line tells of a move.
+use Rattle.std.proofs.Common.{◌≡◌, ◌<◌, refl, sym, ◌∙◌, ap, ap₂, subst, ℕ, zero, suc, List, [], ◌∷◌, Option, Some, None, arith, length, get_or}
+use Rattle.std.specs.Prelude.{slice_get, option_map, unwrap_or, map}
+use Rattle.std.specs.List.{zip}
+use Rattle.std.proofs.lemmas.Option.{get_or_from_slice_get, slice_get-get_or, slice_get-map, slice_get_read}
+use Rattle.batch_matrix.specs.declared.command.Command.{Command}
+use Rattle.batch_recipe.specs.Conditions.{Name, ValueList}
+use Rattle.batch_recipe.specs.Nodes.{Node}
+use Rattle.batch_recipe.specs.Procedure.{procedure_nodes, procedure_tree}
+use Rattle.batch_recipe.specs.Tree.{Place, Phase, Tree, act, skip, seq, par, sel, loop, runs, follows}
+use Rattle.batch_recipe.specs.declared.need.Need.{Need}
+use Rattle.batch_recipe.specs.declared.recipe.Recipe.{Recipe}
+use Rattle.batch_model.specs.Moves as Moves
+use Rattle.batch_model.specs.Moves.{handed_values}
+use Rattle.batch_model.specs.Plant as Model
+use Rattle.batch_model.specs.Recipes.{recipe_of}
+use Rattle.batch_verify.specs.ClearedSet.{ClearedSet}
+use Rattle.batch_chart.specs.NodesOf as Tree
+use Rattle.batch_chart.specs.NodesOf.{nodes_of, need_at, task_of}
+use Rattle.batch_chart.specs.Seen.{move_of}
+use Rattle.batch_chart.specs.declared.chart_move.Move.TheVariants as Chart
+use Rattle.batch_engine.specs.declared.batch.Batch.{Batch}
+use Rattle.batch_engine.specs.declared.line.Line.TheVariants as Lines
+use Rattle.batch_engine.specs.Names as Names
+use Rattle.batch_engine.specs.Surface as Surface
+use Rattle.batch_engine.specs.View.{EngineView, batch_of, number_of, names_of, recipe_at, tree_at, no_recipe, tree_of}
+use Rattle.batch_engine.specs.Kept.{IsKept}
+use Rattle.batch_engine.proofs.Finding.{named, batch-runs}
+
+-- What is told of a node, and what its tree has there
+
+place-seen : (ns : List Node) (k : ℕ) → Names.place_of (slice_get ns k) ≡ (get_or ns k (record { place = []; asked = []; here = skip })).place
+place-seen [] k = refl
+place-seen (n ∷ ns) zero = refl
+place-seen (n ∷ ns) (suc k) = place-seen ns k
+
+name-here : (t : Tree) → Names.name_in t ≡ Tree.name_in (task_of t)
+name-here (act s (runs p)) = refl
+name-here (act s (follows name t)) = refl
+name-here skip = refl
+name-here (seq ts) = refl
+name-here (par ts) = refl
+name-here (sel cs) = refl
+name-here (loop n c t) = refl
+
+name-seen : (ns : List Node) (k : ℕ) → Names.name_of (slice_get ns k) ≡ Tree.name_in (task_of (get_or ns k (record { place = []; asked = []; here = skip })).here)
+name-seen [] k = refl
+name-seen (n ∷ ns) zero = name-here n.here
+name-seen (n ∷ ns) (suc k) = name-seen ns k
+
+handed-here : (t : Tree) → Names.handed_in t ≡ (Tree.phase_in (task_of t)).handed
+handed-here (act s (runs p)) = refl
+handed-here (act s (follows name t)) = refl
+handed-here skip = refl
+handed-here (seq ts) = refl
+handed-here (par ts) = refl
+handed-here (sel cs) = refl
+handed-here (loop n c t) = refl
+
+handed-seen : (ns : List Node) (k : ℕ) → Names.handed_of (slice_get ns k) ≡ (Tree.phase_in (task_of (get_or ns k (record { place = []; asked = []; here = skip })).here)).handed
+handed-seen [] k = refl
+handed-seen (n ∷ ns) zero = handed-here n.here
+handed-seen (n ∷ ns) (suc k) = handed-seen ns k
+
+module _ (c : ClearedSet) (recipe : ℕ) (r : Recipe) (at : slice_get c.recipes recipe ≡ Some r) where
+  pub tree-is : tree_at c recipe ≡ procedure_tree r.acts
+  tree-is =
+      ap (λ (z : Model.Recipe). z.procedure)
+      (get_or_from_slice_get (map recipe_of c.recipes) recipe (recipe_of r) no_recipe (slice_get-map recipe_of c.recipes recipe ∙ ap (option_map recipe_of) at))
+
+  pub recipe-named : Names.recipe_name c recipe ≡ (recipe_at c recipe).name
+  recipe-named =
+      ap (λ (o : Option Recipe). unwrap_or (option_map Names.name_of_recipe o) []) at
+      ∙ sym (ap (λ (z : Model.Recipe). z.name)
+      (get_or_from_slice_get (map recipe_of c.recipes) recipe (recipe_of r) no_recipe (slice_get-map recipe_of c.recipes recipe ∙ ap (option_map recipe_of) at)))
+
+  pub node-is : (k : ℕ) → Names.node_at c recipe k ≡ Names.node_of k r
+  node-is k = ap (λ (o : Option Recipe). let n : Option Node = elim o [ None ↦ None | Some z ↦ Names.node_of k z ] in n) at
+
+  node-seen : (k : ℕ) → Names.node_at c recipe k ≡ slice_get (nodes_of (tree_at c recipe)) k
+  node-seen k = node-is k ∙ sym (ap (λ t. slice_get (nodes_of t) k) tree-is)
+
+  pub place-told : (k : ℕ) → Names.place_at c recipe k ≡ Tree.place_at (tree_at c recipe) k
+  place-told k = ap Names.place_of (node-seen k) ∙ place-seen (nodes_of (tree_at c recipe)) k
+
+  pub name-told : (k : ℕ) → Names.name_at c recipe k ≡ Tree.name_at (tree_at c recipe) k
+  name-told k = ap Names.name_of (node-seen k) ∙ name-seen (nodes_of (tree_at c recipe)) k
+
+  pub handed-told : (k : ℕ) → Names.handed_at c recipe k ≡ (Tree.phase_at (tree_at c recipe) k).handed
+  handed-told k = ap Names.handed_of (node-seen k) ∙ handed-seen (nodes_of (tree_at c recipe)) k
+
+pub some-at : (rs : List Recipe) (k : ℕ) → k < length rs → (r : Recipe) × (slice_get rs k ≡ Some r)
+some-at [] k l = absurd (omega arith)
+some-at (r ∷ rs) zero l = (r, refl)
+some-at (r ∷ rs) (suc k) l = some-at rs k (omega arith)
+
+pub resource-told : (c : ClearedSet) (name : Name) (q : ℕ) → number_of c name ≡ Some q → Names.resource_name c q ≡ name
+resource-told c name q e = ap (λ (o : Option Name). unwrap_or o []) (named c name q e)
+
+pub got-recipe : (rs xs : List Recipe) (j q : ℕ) (r : Recipe) → rs ≡ xs → j ≡ q → q < length xs → r ≡ get_or rs j r → slice_get xs q ≡ Some r
+got-recipe rs xs j q r e f l h = slice_get_read xs (length xs) q r refl l (h ∙ ap₂ (λ zs k. get_or zs k r) e f)
+
+-- Lines of the batch at an index
+
+module _ (v : EngineView) (k : IsKept v) (i : ℕ) (b : Batch) (at : slice_get v.batches i ≡ Some b) where
+  pub recipe-here : (r : Recipe) × (slice_get v.cleared.recipes b.recipe ≡ Some r)
+  recipe-here = some-at v.cleared.recipes b.recipe (batch-runs v k i b at).known
+
+  pub place-here : (n : ℕ) → Names.place_at v.cleared b.recipe n ≡ Tree.place_at (tree_of v.cleared b) n
+  place-here n = place-told v.cleared b.recipe recipe-here.0 recipe-here.1 n
+
+  phase-here : (n u f : ℕ) → Names.resource_name v.cleared u ≡ (Tree.phase_at (tree_of v.cleared b) n).unit → Names.phase_name v.cleared u f ≡ (Tree.phase_at (tree_of v.cleared b) n).name
+      → Names.phase_at v.cleared b.recipe n u f ≡ Tree.phase_at (tree_of v.cleared b) n
+  phase-here n u f unit name =
+      ap₂ (λ x y. let p : Phase = record { unit = x; name = y; handed = Names.handed_at v.cleared b.recipe n } in p) unit name
+      ∙ ap (λ (z : List Name). let p : Phase = record { unit = (Tree.phase_at (tree_of v.cleared b) n).unit; name = (Tree.phase_at (tree_of v.cleared b) n).name; handed = z } in p)
+      (handed-told v.cleared b.recipe recipe-here.0 recipe-here.1 n)
+
+  need-here : (n need q u : ℕ) → number_of v.cleared (need_at (tree_of v.cleared b) n need).resource ≡ Some q → (need_at (tree_of v.cleared b) n need).units ≡ u
+      → Names.need_of v.cleared q u ≡ need_at (tree_of v.cleared b) n need
+  need-here n need q u e f =
+      ap₂ (λ x y. let r : Need = record { resource = x; units = y } in r) (resource-told v.cleared (need_at (tree_of v.cleared b) n need).resource q e) (sym f)
+
+  pub send-told : (n u f : ℕ) (command : Command)
+      → Names.resource_name v.cleared u ≡ (Tree.phase_at (tree_of v.cleared b) n).unit → Names.phase_name v.cleared u f ≡ (Tree.phase_at (tree_of v.cleared b) n).name
+      → Surface.move_of v.cleared (Lines.Send b.number b.recipe n u f command) ≡ move_of (tree_of v.cleared b) (batch_of v.cleared b) (Chart.Send n command)
+  send-told n u f command unit name = ap₂ (λ p x. Moves.send b.number p x command) (place-here n) (phase-here n u f unit name)
+
+  pub start-told : (r : Recipe) → slice_get v.cleared.recipes b.recipe ≡ Some r → (n u f : ℕ) (values : List ℕ)
+      → Names.resource_name v.cleared u ≡ (Tree.phase_at (tree_of v.cleared b) n).unit → Names.phase_name v.cleared u f ≡ (Tree.phase_at (tree_of v.cleared b) n).name
+      → zip (Names.handed_of (Names.node_of n r)) values ≡ handed_values b.values (Names.handed_of (Names.node_of n r))
+      → Surface.move_of v.cleared (Lines.Start b.number b.recipe n u f values) ≡ move_of (tree_of v.cleared b) (batch_of v.cleared b) (Chart.Start n)
+  start-told r read n u f values unit name handed =
+      ap₂ (λ p x. Moves.start b.number p x (zip (Names.handed_at v.cleared b.recipe n) values)) (place-here n) (phase-here n u f unit name)
+      ∙ ap (Moves.start b.number (Tree.place_at (tree_of v.cleared b) n) (Tree.phase_at (tree_of v.cleared b) n))
+      (ap (λ (o : Option Node). zip (Names.handed_of o) values) (node-is v.cleared b.recipe r read n)
+      ∙ handed
+      ∙ ap (λ (o : Option Node). handed_values b.values (Names.handed_of o)) (sym (node-is v.cleared b.recipe r read n))
+      ∙ ap (handed_values b.values) (handed-told v.cleared b.recipe r read n))
+
+  pub begin-told : (n : ℕ) → Surface.move_of v.cleared (Lines.Begin b.number b.recipe n) ≡ move_of (tree_of v.cleared b) (batch_of v.cleared b) (Chart.Begin n)
+  begin-told n = ap₂ (Moves.begin b.number) (place-here n) (name-told v.cleared b.recipe recipe-here.0 recipe-here.1 n)
+
+  pub end-told : (n : ℕ) → Surface.move_of v.cleared (Lines.End b.number b.recipe n) ≡ move_of (tree_of v.cleared b) (batch_of v.cleared b) (Chart.End n)
+  end-told n = ap (Moves.end b.number) (place-here n)
+
+  pub ask-told : (n need q u : ℕ) → number_of v.cleared (need_at (tree_of v.cleared b) n need).resource ≡ Some q → (need_at (tree_of v.cleared b) n need).units ≡ u
+      → Surface.move_of v.cleared (Lines.Ask b.number b.recipe n q u) ≡ move_of (tree_of v.cleared b) (batch_of v.cleared b) (Chart.Ask n need)
+  ask-told n need q u e f = ap₂ (Moves.ask b.number) (place-here n) (need-here n need q u e f)
+
+  pub release-told : (n need q u : ℕ) → number_of v.cleared (need_at (tree_of v.cleared b) n need).resource ≡ Some q → (need_at (tree_of v.cleared b) n need).units ≡ u
+      → Surface.move_of v.cleared (Lines.Release b.number b.recipe n q u) ≡ move_of (tree_of v.cleared b) (batch_of v.cleared b) (Chart.Release n need)
+  release-told n need q u e f = ap₂ (Moves.release b.number) (place-here n) (need-here n need q u e f)
+
+  pub grant-told : (n need q u : ℕ) → number_of v.cleared (need_at (tree_of v.cleared b) n need).resource ≡ Some q → (need_at (tree_of v.cleared b) n need).units ≡ u
+      → Surface.move_of v.cleared (Lines.Grant b.number b.recipe n q u) ≡ Moves.grant b.number (Tree.place_at (tree_of v.cleared b) n) (need_at (tree_of v.cleared b) n need)
+  grant-told n need q u e f = ap₂ (Moves.grant b.number) (place-here n) (need-here n need q u e f)

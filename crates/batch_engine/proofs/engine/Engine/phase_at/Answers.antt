@@ -1,0 +1,60 @@
+use Rattle.std.proofs.Common.{◌≡◌, ◌<◌, refl, sym, ◌∙◌, ap, subst, ℕ, List, Option, Some, None, arith, length, get_or}
+use Rattle.std.specs.Prelude.{slice_get}
+use Rattle.std.proofs.lemmas.Option.{slice_get_within, slice_get_read, slice_get-get_or}
+use Rattle.batch_recipe.specs.Nodes.{node_count}
+use Rattle.batch_chart.specs.NodesOf.{node_at, step_at, need_at, no_need, phase_at}
+use Rattle.batch_engine.specs.Names.{resource_name, phase_name}
+use Rattle.batch_engine.specs.Numbered.{AreActsNumbered, IsActNumbered, need_number}
+use Rattle.batch_engine.specs.View.{EngineView, number_of, tree_of}
+use Rattle.batch_engine.specs.Kept.{IsKept}
+use Rattle.batch_engine.specs.declared.batch.Batch.{Batch}
+use Rattle.batch_engine.specs.declared.numbers.ActNumbers.{ActNumbers}
+use Rattle.batch_engine.specs.declared.numbers.NeedNumber.{NeedNumber}
+use Rattle.batch_engine.specs.declared.numbers.PhaseNumber.{PhaseNumber}
+use Rattle.batch_engine.specs.declared.numbers.RecipeNumbers.{RecipeNumbers}
+use Rattle.batch_engine.proofs.Answering.{at-same}
+use Rattle.batch_engine.proofs.Finding.{got-batch, batch-runs, in-recipes}
+use Rattle.batch_engine.proofs.Numbered.{need-numbered, phase-numbered, few-resources, few-units}
+use Rattle.batch_engine.proofs.NumbersFound.{got-numbers, numbers-here, need-among, in-numbers}
+use Rattle.batch_engine.proofs.engine.Engine.phase_at.Goals as goal
+
+pub index-numbers-requires : goal.index-numbers-requires
+index-numbers-requires c =
+    let v : EngineView = c.args.self.now in
+    let kept : IsKept v = subst IsKept c.self.view_is c.self.invariant in
+    let b : Batch = c.index-batch.result.now in
+    let at : slice_get v.batches c.args.index ≡ Some b = got-batch v _ c.args.index b c.self.view_is (slice_get_within v.batches c.args.index c.requires.0 c.requires.1) c.index-batch.ensures in
+    let few : b.recipe < length v.numbers = in-numbers v kept c.args.index b at in
+    omega (arith, few, c.from.ensures, c.self.inside.numbers.ok.0, ap (λ (z : EngineView). length z.numbers) c.self.view_is)
+
+pub index-act-requires : goal.index-act-requires
+index-act-requires c =
+    let v : EngineView = c.args.self.now in
+    let kept : IsKept v = subst IsKept c.self.view_is c.self.invariant in
+    let b : Batch = c.index-batch.result.now in
+    let at : slice_get v.batches c.args.index ≡ Some b = got-batch v _ c.args.index b c.self.view_is (slice_get_within v.batches c.args.index c.requires.0 c.requires.1) c.index-batch.ensures in
+    let few : c.args.node < node_count (tree_of v.cleared b) = at-same v.batches c.args.index c.requires.0 b (λ (z : Batch). c.args.node < node_count (tree_of v.cleared z)) c.requires.1 at c.requires.2 in
+    let x : RecipeNumbers = c.index-numbers.result.now in
+    let found : slice_get v.numbers b.recipe ≡ Some x = got-numbers v _ c.from.result b.recipe x c.self.view_is c.from.ensures (in-numbers v kept c.args.index b at) c.index-numbers.ensures in
+    let numbered : AreActsNumbered v.cleared.cell (tree_of v.cleared b) x = numbers-here v kept b.recipe x found in
+    omega (arith, few, numbered.count, c.from-2.ensures, x.acts.ok.0)
+
+pub returns : goal.returns
+returns c =
+    let v : EngineView = c.args.self.now in
+    let kept : IsKept v = subst IsKept c.self.view_is c.self.invariant in
+    let b : Batch = c.index-batch.result.now in
+    let at : slice_get v.batches c.args.index ≡ Some b = got-batch v _ c.args.index b c.self.view_is (slice_get_within v.batches c.args.index c.requires.0 c.requires.1) c.index-batch.ensures in
+    let few : c.args.node < node_count (tree_of v.cleared b) = at-same v.batches c.args.index c.requires.0 b (λ (z : Batch). c.args.node < node_count (tree_of v.cleared z)) c.requires.1 at c.requires.2 in
+    let x : RecipeNumbers = c.index-numbers.result.now in
+    let found : slice_get v.numbers b.recipe ≡ Some x = got-numbers v _ c.from.result b.recipe x c.self.view_is c.from.ensures (in-numbers v kept c.args.index b at) c.index-numbers.ensures in
+    let numbered : AreActsNumbered v.cleared.cell (tree_of v.cleared b) x = numbers-here v kept b.recipe x found in
+    let a : ActNumbers = c.index-act.result.now in
+    let here : slice_get x.acts.items c.args.node ≡ Some a =
+    slice_get_read x.acts.items (length x.acts.items) c.args.node a refl (omega (arith, few, numbered.count)) (c.index-act.ensures ∙ ap (λ k. get_or x.acts.items k a) c.from-2.ensures) in
+    let of_act : IsActNumbered v.cleared.cell (node_at (tree_of v.cleared b) c.args.node).here a = numbered.each c.args.node a here in
+    let named : (resource_name v.cleared a.phase.unit ≡ (phase_at (tree_of v.cleared b) c.args.node).unit) × (phase_name v.cleared a.phase.unit a.phase.phase ≡ (phase_at (tree_of v.cleared b) c.args.node).name) =
+    subst (λ (p : PhaseNumber). (resource_name v.cleared p.unit ≡ (phase_at (tree_of v.cleared b) c.args.node).unit) × (phase_name v.cleared p.unit p.phase ≡ (phase_at (tree_of v.cleared b) c.args.node).name))
+    (sym of_act.phase) (phase-numbered v.cleared kept.cleared b.recipe (in-recipes v kept c.args.index b at) (few-resources v.cleared.cell) (few-units v.cleared.cell) c.args.node few) in
+    λ d e. at-same v.batches c.args.index b d
+    (λ (z : Batch). (resource_name v.cleared a.phase.unit ≡ (phase_at (tree_of v.cleared z) c.args.node).unit) × (phase_name v.cleared a.phase.unit a.phase.phase ≡ (phase_at (tree_of v.cleared z) c.args.node).name)) at e named

@@ -1,0 +1,50 @@
+use Rattle.std.proofs.Common.{◌≡◌, ◌<◌, ◌≤◌, ◌+◌, refl, sym, ◌∙◌, ap, subst, arith, ℕ, length, List, [], ◌∷◌, ◌++◌, Some, slice_get}
+use Rattle.std.proofs.lemmas.List.{length-append}
+use Rattle.std.proofs.lemmas.Option.{slice_get_read}
+use Rattle.batch_recipe.specs.Procedure.{procedure_tree}
+use Rattle.batch_recipe.specs.declared.recipe.Recipe.{Recipe}
+use Rattle.batch_chart.specs.declared.compiled.Compiled.{Compiled}
+use Rattle.batch_engine.specs.Numbered.{AreActsNumbered}
+use Rattle.batch_engine.specs.declared.numbers.RecipeNumbers.{RecipeNumbers}
+use Rattle.batch_engine.proofs.Answering.{same-at}
+use Rattle.batch_engine.proofs.NumbersFound.{pushed}
+use Rattle.batch_engine.proofs.numbering.number_recipes.Goals as goal
+
+pub number_recipe-requires : goal.number_recipe-requires
+number_recipe-requires c =
+    let recipes = c.args.recipes.now in
+    let charts = c.args.charts.now in
+    let i : ℕ = c.loop-index.index in
+    let r : Recipe = c.index-recipes-index.result in
+    let x : Compiled = c.index-charts-index.result in
+    let few : i < length recipes = omega (arith, c.loop-index-test.true) in
+    let at : slice_get recipes i ≡ Some r = slice_get_read recipes (length recipes) i r refl few c.index-recipes-index.is in
+    let chart : slice_get charts i ≡ Some x = slice_get_read charts (length charts) i x refl (omega (arith, few, c.requires.count)) c.index-charts-index.is in
+    c.requires.charts i r x at chart
+
+pub loop-index-preserved : goal.loop-index-preserved
+loop-index-preserved c =
+    let cell = c.args.cell.now in
+    let recipes = c.args.recipes.now in
+    let i : ℕ = c.loop-index.index in
+    let r : Recipe = c.index-recipes-index.result in
+    let x : RecipeNumbers = c.in_ok-recipe.recipe in
+    let few : i < length recipes = omega (arith, c.loop-index-test.true) in
+    let at : slice_get recipes i ≡ Some r = slice_get_read recipes (length recipes) i r refl few c.index-recipes-index.is in
+    let own : (s : Recipe) → slice_get recipes i ≡ Some s → AreActsNumbered cell (procedure_tree s.acts) x =
+    λ s e. subst (λ (z : Recipe). AreActsNumbered cell (procedure_tree z.acts) x) (same-at recipes i r s at e) c.in_ok-recipe.ensures in
+    let each : (k : ℕ) (y : RecipeNumbers) → slice_get (c.loop-index.numbers.items ++ x ∷ []) k ≡ Some y → (s : Recipe) → slice_get recipes k ≡ Some s → AreActsNumbered cell (procedure_tree s.acts) y =
+    pushed (λ k y. (s : Recipe) → slice_get recipes k ≡ Some s → AreActsNumbered cell (procedure_tree s.acts) y) c.loop-index.numbers.items x c.loop-index.invariant.1
+    (subst (λ k. (s : Recipe) → slice_get recipes k ≡ Some s → AreActsNumbered cell (procedure_tree s.acts) x) (sym c.loop-index.invariant.0) own) in (
+      omega (arith, ap (λ (xs : List RecipeNumbers). length xs) c.in_ok-push.ensures.items, length-append c.loop-index.numbers.items (x ∷ []), c.loop-index.invariant.0),
+      subst (λ (xs : List RecipeNumbers). (k : ℕ) (y : RecipeNumbers) → slice_get xs k ≡ Some y → (s : Recipe) → slice_get recipes k ≡ Some s → AreActsNumbered cell (procedure_tree s.acts) y)
+          (sym c.in_ok-push.ensures.items) each,
+      omega (arith, few),
+    )
+
+pub returns : goal.returns
+returns c =
+    record {
+      count = omega (arith, c.loop-index.invariant.0, c.loop-index.invariant.2, c.loop-index-test.false);
+      each = λ k r x e f. c.loop-index.invariant.1 k x f r e;
+    }

@@ -1,0 +1,74 @@
+-- What the engine keeps.
+use Rattle.std.specs.Prelude.{◌≡◌, ℕ, ◌+◌, ◌<◌, ◌≤◌, List, [], ◌∷◌, length, sum_by, Some, Bool, true, false, slice_get, ⊤}
+use Rattle.std.specs.List.{slice_index_or}
+use Rattle.batch_cell.specs.LookUps.{capacities_of}
+use Rattle.batch_recipe.specs.Conditions.{Name}
+use Rattle.batch_recipe.specs.Procedure.{procedure_tree}
+use Rattle.batch_recipe.specs.declared.recipe.Recipe as document
+use Rattle.batch_model.specs.Lists.{Has, Each}
+use Rattle.batch_model.specs.Cleared.{CanBeCleared}
+use Rattle.batch_model.specs.Documents.{cell_of}
+use Rattle.batch_model.specs.Plant.{BatchAct, Plant, opening}
+use Rattle.batch_model.specs.Events.{Event}
+use Rattle.batch_model.specs.Runs.{Out, Leads}
+use Rattle.batch_model.specs.Records.{holders_told}
+use Rattle.batch_laws.proofs.Entries.{IsOnce}
+use Rattle.batch_verify.specs.ClearedSet.{ClearedSet}
+use Rattle.batch_arbiter.specs.Allocation.{Claim, Allocation, line_of, shares_of, resource_count}
+use Rattle.batch_chart.specs.NodesOf.{needs_in}
+use Rattle.batch_chart.specs.Charts.{IsChartOf, IsRunningOf}
+use Rattle.batch_chart.specs.declared.compiled.Compiled.{Compiled}
+use Rattle.batch_engine.specs.declared.batch.Batch.{Batch}
+use Rattle.batch_engine.specs.Numbered.{AreRecipesNumbered}
+use Rattle.batch_engine.specs.View.{EngineView, documents, tree_at, act_of, acts_of, names_of, number_of, plant_of, tree_of}
+
+-- there is a record that leads to the plant, and the shares are what it tells, each in the order in which it was granted
+pub record IsTracked (v : EngineView) : Type 0 where
+  pub events : List Event
+  pub outs : List Out
+  pub leads : Leads (documents v.cleared) opening events outs (plant_of v)
+  pub shares : (k : ℕ) (name : Name) → number_of v.cleared name ≡ Some k → acts_of v.cleared v.batches (shares_of v.allocation k) ≡ holders_told outs name
+
+-- the arbiter has the cell's resources
+pub record IsOfCell (c : ClearedSet) (a : Allocation) : Type 0 where
+  pub capacities : a.capacities ≡ capacities_of c.cell
+  pub shares : length a.shares ≡ length (names_of c)
+  pub lines : length a.lines ≡ length (names_of c)
+
+-- each chart is that of the recipe with its number
+abbrev pub AreChartsOf : List document.Recipe → List Compiled → Type 0
+AreChartsOf recipes charts =
+    (k : ℕ) (r : document.Recipe) (chart : Compiled) → slice_get recipes k ≡ Some r → slice_get charts k ≡ Some chart → IsChartOf (procedure_tree r.acts) chart
+
+-- each recipe is compiled
+pub record AreCompiled (c : ClearedSet) (charts : List Compiled) : Type 0 where
+  pub count : length charts ≡ length c.recipes
+  pub each : (k : ℕ) (chart : Compiled) → slice_get charts k ≡ Some chart → IsChartOf (tree_at c k) chart
+
+-- the batch makes one of the recipes, and its chart runs
+pub record IsRunningBatch (c : ClearedSet) (b : Batch) : Type 0 where
+  pub known : b.recipe < length c.recipes
+  pub runs : IsRunningOf (tree_of c b) b.running
+
+-- how many shares are held, and how many asks stand in line
+abbrev pub claims : Allocation → ℕ
+claims a = sum_by (λ xs. length xs) a.shares + sum_by (λ xs. length xs) a.lines
+
+-- how many needs the acts of all batches have
+abbrev pub needs_of_all : ClearedSet → List Batch → ℕ
+needs_of_all c bs = sum_by (λ b. needs_in (tree_of c b)) bs
+
+-- room is made for all needs of all batches
+abbrev pub HasRoom : EngineView → Type 0
+HasRoom v = needs_of_all v.cleared v.batches ≤ v.allocation.room + claims v.allocation
+
+pub record IsKept (v : EngineView) : Type 0 where
+  pub cleared : CanBeCleared (cell_of v.cleared.cell) (documents v.cleared)
+  pub charts : AreCompiled v.cleared v.charts
+  pub numbers : AreRecipesNumbered v.cleared.cell v.cleared.recipes v.numbers
+  pub batches : Each (IsRunningBatch v.cleared) v.batches
+  pub cell : IsOfCell v.cleared v.allocation
+  pub tracked : IsTracked v
+  -- nobody stands in a line twice
+  pub once : (name : Name) (k : ℕ) → number_of v.cleared name ≡ Some k → IsOnce (acts_of v.cleared v.batches (line_of v.allocation k))
+  pub room : HasRoom v

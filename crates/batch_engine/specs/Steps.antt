@@ -1,0 +1,124 @@
+-- The step that the engine makes next.
+use Rattle.std.specs.Prelude.{◌≡◌, ◌<◌, ℕ, List, [], Option, Some, None, option_map, slice_get, length, ⊤}
+use Rattle.batch_recipe.specs.Conditions.{Name}
+use Rattle.batch_model.specs.Moves as Model
+use Rattle.batch_model.specs.Moves.{next, after, least, batch_moves, grant}
+use Rattle.batch_arbiter.specs.Allocation.{next_grant, batch_node}
+use Rattle.batch_chart.specs.NodesOf.{place_at, step_at, need_at, phase_at}
+use Rattle.batch_recipe.specs.Nodes.{node_count}
+use Rattle.batch_chart.specs.Charts.{CanMake, IsWaiting, AsksAt, remains, StandsFor}
+use Rattle.batch_chart.specs.Seen.{move_of}
+use Rattle.batch_chart.specs.declared.compiled.Compiled.{Compiled}
+use Rattle.batch_chart.specs.declared.chart_move.Move.{Move}
+use Rattle.batch_chart.specs.declared.chart_move.Move.TheVariants.{Send, Begin, Start, End}
+use Rattle.batch_engine.specs.declared.batch.Batch.{Batch}
+use Rattle.batch_engine.specs.declared.line.Line.{Line}
+use Rattle.batch_engine.specs.declared.step.Step.{Step}
+use Rattle.batch_engine.specs.declared.step.Step.TheVariants.{Own, Grant}
+use Rattle.batch_engine.specs.Names.{resource_name, phase_name}
+use Rattle.batch_engine.specs.Surface as Surface
+use Rattle.batch_engine.specs.View.{EngineView, documents, batch_of, names_of, number_of, plant_of, tree_of}
+
+-- the batch at an index, and the compiled chart of its recipe
+pub record BatchAt (v : EngineView) (i : ℕ) (b : Batch) (chart : Compiled) : Type 0 where
+  pub at : slice_get v.batches i ≡ Some b
+  pub compiled : slice_get v.charts b.recipe ≡ Some chart
+
+-- a move of kinds 1 to 5 of the batch at an index, of which `told` tells
+pub record IsOwnStep (v : EngineView) (told : Model.Move → Type 0) (i : ℕ) (m : Move) : Type 0 where
+  pub batch : Batch
+  pub chart : Compiled
+  pub here : BatchAt v i batch chart
+  pub can : CanMake chart batch.running m
+  pub about : StandsFor (tree_of v.cleared batch) (remains (tree_of v.cleared batch) batch.running) m
+  pub is : told (move_of (tree_of v.cleared batch) (batch_of v.cleared batch) m)
+
+-- the act at a node of the batch is given a resource, which the arbiter would give to it
+pub record IsGrantStep (v : EngineView) (told : Model.Move → Type 0) (i node resource units : ℕ) : Type 0 where
+  pub batch : Batch
+  pub chart : Compiled
+  pub here : BatchAt v i batch chart
+  pub waits : IsWaiting chart batch.running node
+  pub need : ℕ
+  pub asks : AsksAt (tree_of v.cleared batch) (remains (tree_of v.cleared batch) batch.running) node need
+  pub number : number_of v.cleared (need_at (tree_of v.cleared batch) node need).resource ≡ Some resource
+  pub units_are : (need_at (tree_of v.cleared batch) node need).units ≡ units
+  pub first : option_map batch_node (next_grant v.allocation resource) ≡ Some (batch.number, node)
+  pub is : told (grant batch.number (place_at (tree_of v.cleared batch) node) (need_at (tree_of v.cleared batch) node need))
+
+abbrev pub IsStep : EngineView → (Model.Move → Type 0) → Step → Type 0
+IsStep v told (Own i m) = IsOwnStep v told i m
+IsStep v told (Grant i node resource units) = IsGrantStep v told i node resource units
+
+abbrev pub index_of : Step → ℕ
+index_of (Own i m) = i
+index_of (Grant i node resource units) = i
+
+-- the batch at an index has no move
+pub record HasNoMove (v : EngineView) (i : ℕ) : Type 0 where
+  pub batch : Batch
+  pub at : slice_get v.batches i ≡ Some batch
+  pub none : batch_moves (documents v.cleared) (plant_of v) (batch_of v.cleared batch) ≡ []
+
+-- the least move of the batch at an index
+pub record IsLeastAt (v : EngineView) (i : ℕ) (m : Model.Move) : Type 0 where
+  pub batch : Batch
+  pub at : slice_get v.batches i ≡ Some batch
+  pub least_is : least (batch_moves (documents v.cleared) (plant_of v) (batch_of v.cleared batch)) ≡ Some m
+
+abbrev pub IsBatchStep : EngineView → ℕ → Option Step → Type 0
+IsBatchStep v i None = HasNoMove v i
+IsBatchStep v i (Some s) = (index_of s ≡ i) × IsStep v (IsLeastAt v i) s
+
+abbrev pub IsNext : EngineView → Model.Move → Type 0
+IsNext v m = next (documents v.cleared) (plant_of v) ≡ Some m
+
+abbrev pub IsNextStep : EngineView → Option Step → Type 0
+IsNextStep v None = next (documents v.cleared) (plant_of v) ≡ None
+IsNextStep v (Some s) = IsStep v (IsNext v) s
+
+-- the first act in line of the batch at an index that the arbiter would serve
+abbrev pub IsFirstGrant : EngineView → ℕ → Option (ℕ × ℕ × ℕ) → Type 0
+IsFirstGrant v i None = (b : Batch) → slice_get v.batches i ≡ Some b → Rattle.batch_chart.specs.OwnMoves.grants (documents v.cleared) (plant_of v) (batch_of v.cleared b) ≡ []
+IsFirstGrant v i (Some (node, resource, units)) = IsGrantStep v (λ m. (b : Batch) → slice_get v.batches i ≡ Some b → least (Rattle.batch_chart.specs.OwnMoves.grants (documents v.cleared) (plant_of v) (batch_of v.cleared b)) ≡ Some m) i node resource units
+
+-- a move that neither asks for anything, nor gives anything back, nor changes the batch's state
+abbrev pub IsQuiet : Move → Type 0
+IsQuiet (Send k command) = ⊤
+IsQuiet (Begin k) = ⊤
+IsQuiet (Start k) = ⊤
+IsQuiet (End k) = ⊤
+IsQuiet _ = ⊥
+
+-- the engine makes its plant's next move, m
+pub record Makes (old new : EngineView) (m : Model.Move) : Type 0 where
+  pub cleared : new.cleared ≡ old.cleared
+  pub plant : plant_of new ≡ after (plant_of old) m
+
+-- the engine makes its plant's next move
+abbrev pub MakesNext : EngineView → EngineView → Type 0
+MakesNext old new = (m : Model.Move) → IsNext old m → Makes old new m
+
+-- the act at the node of the batch has this need
+abbrev pub IsNeedAt : EngineView → ℕ → ℕ → ℕ → Type 0
+IsNeedAt v i node need =
+    (b : Batch) × (slice_get v.batches i ≡ Some b) × (node < node_count (tree_of v.cleared b)) × (need < length (step_at (tree_of v.cleared b) node).needs)
+
+-- this is the number of the resource that the act at the node of the batch needs, and how many units of it
+abbrev pub IsNumberAt : EngineView → ℕ → ℕ → ℕ → ℕ → ℕ → Type 0
+IsNumberAt v i node need resource units =
+    (b : Batch) → slice_get v.batches i ≡ Some b → (number_of v.cleared (need_at (tree_of v.cleared b) node need).resource ≡ Some resource) × ((need_at (tree_of v.cleared b) node need).units ≡ units)
+
+-- the batch at an index has an act at this node
+abbrev pub IsNodeAt : EngineView → ℕ → ℕ → Type 0
+IsNodeAt v i node = (b : Batch) × (slice_get v.batches i ≡ Some b) × (node < node_count (tree_of v.cleared b))
+
+-- these are the numbers of the phase that the act at the node of the batch runs
+abbrev pub IsPhaseAt : EngineView → ℕ → ℕ → ℕ → ℕ → Type 0
+IsPhaseAt v i node unit phase =
+    (b : Batch) → slice_get v.batches i ≡ Some b
+    → (resource_name v.cleared unit ≡ (phase_at (tree_of v.cleared b) node).unit) × (phase_name v.cleared unit phase ≡ (phase_at (tree_of v.cleared b) node).name)
+
+-- the line tells of this move of the batch at an index
+abbrev pub Tells : EngineView → ℕ → Move → Line → Type 0
+Tells v i m line = (b : Batch) → slice_get v.batches i ≡ Some b → Surface.move_of v.cleared line ≡ move_of (tree_of v.cleared b) (batch_of v.cleared b) m

@@ -1,0 +1,99 @@
+-- What is seen of the engine, and the plant that it stands for.
+use Rattle.std.specs.Prelude.{ℕ, List, [], ◌∷◌, map, Bool, true, false, Option, Some, None, nat_eq, position}
+use Rattle.std.specs.List.{slice_index_or}
+use Rattle.batch_cell.specs.LookUps.{resources_of}
+use Rattle.batch_recipe.specs.Conditions.{Name, same_name}
+use Rattle.batch_recipe.specs.Tree.{Place, Tree, skip}
+use Rattle.batch_model.specs.Plant as Model
+use Rattle.batch_model.specs.Plant.{Documents, BatchAct, Share, Plant, size_out_of_range}
+use Rattle.batch_model.specs.Documents.{documents_of}
+use Rattle.batch_verify.specs.ClearedSet.{ClearedSet}
+use Rattle.batch_arbiter.specs.Allocation.{Claim, Allocation, line_of, shares_of}
+use Rattle.batch_chart.specs.NodesOf.{place_at}
+use Rattle.batch_chart.specs.Charts.{remains}
+use Rattle.batch_chart.specs.declared.compiled.Compiled.{Compiled}
+use Rattle.batch_engine.specs.declared.batch.Batch.{Batch}
+use Rattle.batch_engine.specs.declared.numbers.RecipeNumbers.{RecipeNumbers}
+
+pub record EngineView : Type 0 where
+  pub cleared : ClearedSet
+  -- of each recipe, by its number
+  pub charts : List Compiled
+  pub numbers : List RecipeNumbers
+  -- by rising number
+  pub batches : List Batch
+  pub next_number : ℕ
+  pub allocation : Allocation
+
+abbrev pub seen : ClearedSet → List Compiled → List RecipeNumbers → List Batch → ℕ → Allocation → EngineView
+seen cleared charts numbers batches next_number allocation =
+    record { cleared = cleared; charts = charts; numbers = numbers; batches = batches; next_number = next_number; allocation = allocation }
+
+-- the definitions' documents
+abbrev pub documents : ClearedSet → Documents
+documents c = documents_of c.cell c.recipes
+
+abbrev pub no_recipe : Model.Recipe
+no_recipe = record { name = []; formula = λ size. size_out_of_range; outputs = []; procedure = skip }
+
+abbrev pub recipe_at : ClearedSet → ℕ → Model.Recipe
+recipe_at c k = slice_index_or (documents c).recipes k no_recipe
+
+-- the expanded tree of a recipe, by its number
+abbrev pub tree_at : ClearedSet → ℕ → Tree
+tree_at c k = (recipe_at c k).procedure
+
+-- the recipe that a batch makes
+abbrev pub recipe_made : ClearedSet → Batch → Model.Recipe
+recipe_made c b = recipe_at c b.recipe
+
+-- the expanded tree of the recipe that a batch makes
+abbrev pub tree_of : ClearedSet → Batch → Tree
+tree_of c b = (recipe_made c b).procedure
+
+abbrev pub batch_of : ClearedSet → Batch → Model.Batch
+batch_of c b =
+    record {
+      number = b.number;
+      recipe = recipe_made c b;
+      size = b.size;
+      values = b.values;
+      state = b.state;
+      rest = remains (tree_of c b) b.running;
+    }
+
+-- the place of a node of the batch with this number
+abbrev pub place_in : ClearedSet → List Batch → ℕ → ℕ → Place
+place_in c [] n k = []
+place_in c (b ∷ bs) n k = elim (nat_eq b.number n) [ true ↦ place_at (tree_of c b) k | false ↦ place_in c bs n k ]
+
+-- the act that a claim is for
+abbrev pub act_of : ClearedSet → List Batch → Claim → BatchAct
+act_of c bs x = (x.batch, place_in c bs x.batch x.node)
+
+-- the share that a claim is for
+abbrev pub share_of : ClearedSet → List Batch → Claim → Share
+share_of c bs x = record { act = act_of c bs x; units = x.units }
+
+-- the shares of claims
+abbrev pub acts_of : ClearedSet → List Batch → List Claim → List Share
+acts_of c bs xs = map (share_of c bs) xs
+
+-- the names of the resources, by their numbers
+abbrev pub names_of : ClearedSet → List Name
+names_of c = resources_of c.cell
+
+-- the number of a resource
+abbrev pub number_of : ClearedSet → Name → Option ℕ
+number_of c name = position (same_name name) (names_of c)
+
+-- the acts that wait for a resource, by its number, if it has one
+abbrev pub line_at : EngineView → Option ℕ → List Share
+line_at v None = []
+line_at v (Some k) = acts_of v.cleared v.batches (line_of v.allocation k)
+
+abbrev pub line_in : EngineView → Name → List Share
+line_in v name = line_at v (number_of v.cleared name)
+
+abbrev pub plant_of : EngineView → Plant
+plant_of v = record { batches = map (batch_of v.cleared) v.batches; next_number = v.next_number; line = line_in v }

@@ -1,0 +1,136 @@
+//! Creating batches.
+ghost use Rattle.std.specs.Prelude.{◌≡◌, ◌<◌, ◌+◌, None, length, position, IfSome};
+ghost use Rattle.batch_chart.specs.NodesOf.{needs_in};
+ghost use Rattle.batch_model.specs.Events as Events;
+ghost use Rattle.batch_model.specs.Events.{is_full};
+ghost use Rattle.batch_model.specs.Moves.{next};
+ghost use Rattle.batch_recipe.specs.Conditions.{same_name};
+ghost use Rattle.batch_engine.specs.Answered.{IsAnswered};
+ghost use Rattle.batch_engine.specs.Creates.{IsCreate};
+ghost use Rattle.batch_engine.specs.Kept.{needs_of_all};
+ghost use Rattle.batch_engine.specs.Values.{IsValuesFor};
+ghost use Rattle.batch_engine.specs.View.{documents, plant_of, tree_at};
+
+use crate::batch::Batch;
+use crate::engine::Engine;
+use crate::refusal::Refusal;
+use crate::reply::Reply;
+use batch_chart::Running;
+use batch_matrix::State;
+use batch_model::{LAST_NUMBER, MAX_LIVE_BATCHES};
+use batch_recipe::{FormulaFault, Recipe, Values, formula};
+use batch_text::Name;
+use std::alloc::Global;
+
+/// Why a batch has no values.
+enum BadValues {
+    Size,
+    /// The number of the value among the inputs and then the parameters.
+    OutOfRange(u16),
+    Memory,
+}
+
+/// The values of a batch of the size.
+fn values_for(alloc: Global, recipe: &Recipe, size: u64) -> Result<Values, BadValues>
+    ensures { IsValuesFor recipe.now size result }
+{
+    match formula(alloc, recipe, size) {
+        Ok(values) => Ok(values),
+        Err(FormulaFault::Size) => Err(BadValues::Size),
+        Err(
+            FormulaFault::OutOfRange {
+                number,
+                name: _name,
+            },
+        ) => Err(BadValues::OutOfRange(number)),
+        Err(FormulaFault::Memory) => Err(BadValues::Memory),
+    }
+}
+
+/// Where the recipe with this name stands.
+fn recipe_named(recipes: &[Recipe], name: &Name) -> Option<usize>
+    ensures { result ≡ position (λ r. same_name r.acts.procedure.name name.now) recipes.now }
+{
+    recipes
+        .iter()
+        .position(|recipe| recipe.acts.procedure.name == *name)
+}
+
+impl Engine {
+    /// How many needs the acts of all batches have, and those of a further batch of the recipe.
+    fn needs_with(&self, recipe: u16) -> Option<usize>
+        requires { recipe < length self.now.cleared.recipes }
+        ensures { IfSome result (λ needs. needs ≡ needs_of_all self.now.cleared self.now.batches + needs_in (tree_at self.now.cleared recipe)) }
+    {
+        let mut needs = self.numbers[usize::from(recipe)].needs;
+        for batch in &self.batches {
+            needs = needs.checked_add(self.numbers[usize::from(batch.recipe)].needs)?;
+        }
+        Some(needs)
+    }
+
+    /// Makes a batch, once all its room is made.
+    fn add(&mut self, name: &Name, recipe: u16, size: u64, values: Values) -> Reply
+        requires { IsCreate self.old recipe name.now size values }
+        ensures { IsAnswered self.old (Events.create name.now size) result self.new }
+    {
+        let Some(needs) = self.needs_with(recipe) else {
+            return Reply::Refused(Refusal::Memory);
+        };
+        let Ok(running) = Running::new(self.alloc, &self.charts[usize::from(recipe)]) else {
+            return Reply::Refused(Refusal::Memory);
+        };
+        let Ok(()) = self.arbiter.reserve(needs) else {
+            return Reply::Refused(Refusal::Memory);
+        };
+        let number = self.next_number;
+        let batch = Batch {
+            number,
+            recipe,
+            size,
+            values,
+            state: State::Idle,
+            running,
+        };
+        let Ok(()) = self.batches.push(batch) else {
+            return Reply::Refused(Refusal::Memory);
+        };
+        self.next_number = number + 1;
+        Reply::Created {
+            batch: number,
+            recipe,
+            size,
+        }
+    }
+
+    /// Whether as many batches exist as may, or the last number was given.
+    fn is_full(&self) -> bool
+        ensures { result ≡ is_full (documents self.now.cleared) (plant_of self.now) }
+    {
+        self.batches.len() as u64 >= MAX_LIVE_BATCHES || self.next_number > LAST_NUMBER
+    }
+
+    /// A batch of a recipe is to be made.
+    pub(crate) fn create(&mut self, name: &Name, size: u64) -> Reply
+        requires { next (documents self.old.cleared) (plant_of self.old) ≡ None }
+        ensures { IsAnswered self.old (Events.create name.now size) result self.new }
+    {
+        let Some(recipe) = recipe_named(self.cleared.recipes(), name) else {
+            return Reply::Refused(Refusal::UnknownRecipe);
+        };
+        if self.is_full() {
+            return Reply::Refused(Refusal::Full);
+        }
+        match values_for(self.alloc, &self.cleared.recipes()[recipe], size) {
+            Ok(values) => self.add(name, recipe as u16, size, values),
+            Err(BadValues::Size) => Reply::Refused(Refusal::BadSize),
+            Err(BadValues::OutOfRange(value)) => {
+                Reply::Refused(Refusal::BadValue {
+                    recipe: recipe as u16,
+                    value,
+                })
+            }
+            Err(BadValues::Memory) => Reply::Refused(Refusal::Memory),
+        }
+    }
+}

@@ -1,0 +1,108 @@
+//! Orders to batches.
+ghost use Rattle.std.specs.Prelude.{◌≡◌, None, nat_eq, position};
+ghost use Rattle.batch_matrix.specs.Matrix.{target};
+ghost use Rattle.batch_matrix.specs.declared.command.Command.TheVariants as Command;
+ghost use Rattle.batch_model.specs.Events as Events;
+ghost use Rattle.batch_model.specs.Moves.{next};
+ghost use Rattle.batch_engine.specs.Answered.{IsAnswered};
+ghost use Rattle.batch_engine.specs.Orders.{EndsAsks, IsOrder, IsOrdered, IsPlain};
+ghost use Rattle.batch_engine.specs.View.{documents, plant_of};
+
+use crate::batch::Batch;
+use crate::engine::Engine;
+use crate::refusal::Refusal;
+use crate::reply::Reply;
+use batch_matrix::{Command, State, after};
+
+/// Where the batch with this number stands.
+fn index_of(batches: &[Batch], number: u64) -> Option<usize>
+    ensures { result ≡ position (λ b. nat_eq b.number number) batches.now }
+{
+    batches.iter().position(|batch| batch.number == number)
+}
+
+impl Engine {
+    /// Where the batch with this number stands.
+    pub(crate) fn index_of(&self, number: u64) -> Option<usize>
+        ensures { result ≡ position (λ b. nat_eq b.number number) self.now.batches }
+    {
+        index_of(&self.batches, number)
+    }
+
+    /// The batch at an index takes a command that changes its state alone.
+    fn enter(&mut self, index: usize, command: Command, state: State, number: u64)
+        requires order { IsOrder self.old index command number }
+        requires plain { IsPlain command }
+        requires target { state ≡ target command }
+        ensures { IsOrdered self.old command number self.new }
+    {
+        let batch = &mut self.batches[index];
+        batch.state = state;
+    }
+
+    /// The batch at an index is stopped or aborted.
+    fn stop(&mut self, index: usize, command: Command, state: State, number: u64)
+        requires order { IsOrder self.old index command number }
+        requires ends { EndsAsks command }
+        requires target { state ≡ target command }
+        ensures { IsOrdered self.old command number self.new }
+    {
+        self.arbiter.withdraw(number);
+        let batch = &mut self.batches[index];
+        batch.state = state;
+        batch.running.stop_all();
+    }
+
+    /// The procedure of the batch at an index is reached anew.
+    fn reset(&mut self, index: usize, number: u64)
+        requires order { IsOrder self.old index Command.Reset number }
+        ensures { IsOrdered self.old Command.Reset number self.new }
+    {
+        let batch = &mut self.batches[index];
+        let chart = &self.charts[usize::from(batch.recipe)];
+        let recipe = &self.cleared.recipes()[usize::from(batch.recipe)];
+        batch.values.clear_outputs(&recipe.outputs);
+        batch.state = State::Idle;
+        batch.running.reset(chart);
+    }
+
+    /// A batch takes a command.
+    pub(crate) fn order(&mut self, command: Command, number: u64) -> Reply
+        requires { next (documents self.old.cleared) (plant_of self.old) ≡ None }
+        ensures { IsAnswered self.old (Events.order command number) result self.new }
+    {
+        let Some(index) = self.index_of(number) else {
+            return Reply::Refused(Refusal::UnknownBatch);
+        };
+        let state = self.batches[index].state;
+        let Some(next) = after(state, command) else {
+            return Reply::Refused(Refusal::CommandNotAccepted(state));
+        };
+        match command {
+            Command::Stop | Command::Abort => self.stop(index, command, next, number),
+            Command::Reset => self.reset(index, number),
+            _ => self.enter(index, command, next, number),
+        }
+        Reply::Ordered {
+            command,
+            batch: number,
+            state: next,
+        }
+    }
+
+    /// A batch is to be removed.
+    pub(crate) fn remove(&mut self, number: u64) -> Reply
+        requires { next (documents self.old.cleared) (plant_of self.old) ≡ None }
+        ensures { IsAnswered self.old (Events.remove number) result self.new }
+    {
+        let Some(index) = self.index_of(number) else {
+            return Reply::Refused(Refusal::UnknownBatch);
+        };
+        let state = self.batches[index].state;
+        let State::Idle = state else {
+            return Reply::Refused(Refusal::NotIdle(state));
+        };
+        let _removed = self.batches.remove(index);
+        Reply::Removed { batch: number }
+    }
+}

@@ -1,0 +1,92 @@
+//! Choosing the next move.
+ghost use Rattle.std.specs.Prelude.{◌≡◌, ◌<◌, ◌↔◌, Some, None, length, option_map, IsTrue};
+ghost use Rattle.batch_arbiter.specs.Allocation.{batch_node, next_grant, resource_count};
+ghost use Rattle.batch_model.specs.Moves.{next};
+ghost use Rattle.batch_engine.specs.Steps.{IsBatchStep, IsFirstGrant, IsNeedAt, IsNextStep, IsNumberAt};
+ghost use Rattle.batch_engine.specs.View.{documents, plant_of};
+
+use crate::engine::Engine;
+use crate::step::Step;
+use batch_arbiter::Arbiter;
+
+/// Whether the arbiter would serve this act.
+fn serves(arbiter: &Arbiter, resource: u16, batch: u64, node: u16) -> bool
+    requires { resource < resource_count arbiter.now }
+    ensures { IsTrue result ↔ (option_map batch_node (next_grant arbiter.now resource) ≡ Some (batch, node)) }
+{
+    match arbiter.first(resource) {
+        Some((first, at)) => first == batch && at == node,
+        None => false,
+    }
+}
+
+impl Engine {
+    /// The number of the resource that an act of the batch at an index needs, and how many units of it.
+    pub(crate) fn resource_at(&self, index: usize, node: u16, need: u16) -> (u16, u32)
+        requires { IsNeedAt self.now index node need }
+        ensures { IsNumberAt self.now index node need result.0 result.1 }
+    {
+        let batch = &self.batches[index];
+        let numbers = &self.numbers[usize::from(batch.recipe)];
+        let act = &numbers.acts[usize::from(node)];
+        let wanted = &act.needs[usize::from(need)];
+        (wanted.resource, wanted.units)
+    }
+
+    /// The first act in line of the batch at an index that the arbiter would serve: its node, its resource and how many
+    /// units of it.
+    fn first_grant(&self, index: usize) -> Option<(u16, u16, u32)>
+        requires { index < length self.now.batches }
+        ensures { IsFirstGrant self.now index result }
+    {
+        let batch = &self.batches[index];
+        let chart = &self.charts[usize::from(batch.recipe)];
+        let mut from = 0;
+        while let Some((node, need)) = batch.running.waiting(chart, from) {
+            let (resource, units) = self.resource_at(index, node, need);
+            if serves(&self.arbiter, resource, batch.number, node) {
+                return Some((node, resource, units));
+            }
+            from = node + 1;
+        }
+        None
+    }
+
+    /// The next move of the batch at an index.
+    fn batch_step(&self, index: usize) -> Option<Step>
+        requires { index < length self.now.batches }
+        ensures { IsBatchStep self.now index result }
+    {
+        let batch = &self.batches[index];
+        let chart = &self.charts[usize::from(batch.recipe)];
+        if let Some(made) = batch.running.next_move(chart, batch.state) {
+            return Some(Step::Own { index, made });
+        }
+        let (node, resource, units) = self.first_grant(index)?;
+        Some(Step::Grant {
+            index,
+            node,
+            resource,
+            units,
+        })
+    }
+
+    /// The next move.
+    pub(crate) fn upcoming(&self) -> Option<Step>
+        ensures { IsNextStep self.now result }
+    {
+        for index in 0..self.batches.len() {
+            if let Some(step) = self.batch_step(index) {
+                return Some(step);
+            }
+        }
+        None
+    }
+
+    /// Whether no move is possible.
+    pub fn settled(&self) -> bool
+        ensures { IsTrue result ↔ (next (documents self.now.cleared) (plant_of self.now) ≡ None) }
+    {
+        self.upcoming().is_none()
+    }
+}

@@ -1,0 +1,83 @@
+//! Reports of phases.
+ghost use Rattle.std.specs.Prelude.{◌≡◌, None};
+ghost use Rattle.batch_model.specs.Events as Events;
+ghost use Rattle.batch_model.specs.Events.{batch_state_after};
+ghost use Rattle.batch_model.specs.Moves.{next};
+ghost use Rattle.batch_engine.specs.Answered.{IsAnswered};
+ghost use Rattle.batch_engine.specs.Reports.{IsLivePhase};
+ghost use Rattle.batch_engine.specs.View.{documents, plant_of};
+
+use crate::engine::Engine;
+use crate::event::PhaseReport;
+use crate::numbers::PhaseNumber;
+use crate::refusal::Refusal;
+use crate::reply::Reply;
+use batch_matrix::{Command, Report, State, after, after_report};
+use batch_recipe::are_outputs;
+use batch_text::Name;
+
+/// The state of a batch after a report: a fault takes it to Holding where its state accepts hold.
+fn state_after(word: Report, state: State) -> State
+    ensures { result ≡ batch_state_after word state }
+{
+    match word {
+        Report::Fault => match after(state, Command::Hold) {
+            Some(_) => State::Holding,
+            None => state,
+        },
+        _ => state,
+    }
+}
+
+impl Engine {
+    /// The live phase of the unit with this name: where its batch stands, its node and its state.
+    fn live(&self, unit: &Name, phase: &Name) -> Option<(usize, u16, State)>
+        ensures { IsLivePhase self.now unit.now phase.now result }
+    {
+        for index in 0..self.batches.len() {
+            let batch = &self.batches[index];
+            let chart = &self.charts[usize::from(batch.recipe)];
+            if let Some((node, state)) = batch.running.live(chart, unit, phase) {
+                return Some((index, node, state));
+            }
+        }
+        None
+    }
+
+    /// A live phase of a unit tells something.
+    pub(crate) fn report(&mut self, report: &PhaseReport) -> Reply
+        requires { next (documents self.old.cleared) (plant_of self.old) ≡ None }
+        ensures { IsAnswered self.old (Events.report report.now.unit report.now.phase report.now.word report.now.outputs.items) result self.new }
+    {
+        let Some((index, node, state)) = self.live(&report.unit, &report.phase) else {
+            return Reply::Refused(Refusal::NoLivePhase);
+        };
+        let Some(_end) = after_report(state, report.word) else {
+            return Reply::Refused(Refusal::ReportNotExpected(state));
+        };
+        let PhaseNumber { unit, phase } = self.phase_at(index, node);
+        let recipe = self.batches[index].recipe;
+        let outputs = &self.cleared.recipes()[usize::from(recipe)].outputs;
+        if !are_outputs(outputs, &report.outputs) {
+            return Reply::Refused(Refusal::BadOutput);
+        }
+        let batch = &mut self.batches[index];
+        let number = batch.number;
+        let chart = &self.charts[usize::from(batch.recipe)];
+        batch.values.set_outputs(&report.outputs);
+        let next = state_after(report.word, batch.state);
+        batch.state = next;
+        batch
+            .running
+            .report(chart, node, report.word, &batch.values);
+        Reply::Reported {
+            unit,
+            phase,
+            word: report.word,
+            batch: number,
+            recipe,
+            node,
+            state: next,
+        }
+    }
+}
