@@ -151,6 +151,44 @@ start 1 0.0.0.0.1 R1 HEAT
     )
 }
 
+/// What has ended is freed while the batch is held, and the batch is complete once it is restarted.
+#[test]
+fn hold_in_the_last_phase(rt: HostRuntime) -> Result<(), Fail> {
+    assert_record(
+        &rt,
+        rt.alloc(),
+        CELL1,
+        &[A],
+        &[
+            "create A 1000",
+            "start 1",
+            "hold 1",
+            "report R1 ADD done",
+            "restart 1",
+        ],
+        "created 1 A 1000
+ok start 1 running
+begin 1 0 A
+ask 1 0.0 R1
+grant 1 0.0 R1
+begin 1 0.0 MAKE
+begin 1 0.0.0 CHARGE
+start 1 0.0.0.0 R1 ADD
+ok hold 1 holding
+send 1 0.0.0.0 R1 ADD hold
+ok report R1 ADD done 1 0.0.0.0 holding
+state 1 held
+end 1 0.0.0
+end 1 0.0
+release 1 0.0 R1
+end 1 0
+ok restart 1 restarting
+state 1 running
+state 1 complete
+",
+    )
+}
+
 #[test]
 fn hold_reaches_pausing_phases(rt: HostRuntime) -> Result<(), Fail> {
     assert_record(
