@@ -1,23 +1,20 @@
 -- What an ask, a grant and a release change in the arbiter, and in the plant's lines and what the record tells of holders.
-use Rattle.std.proofs.Common.{◌≡◌, ◌<◌, ◌≤◌, ◌+◌, refl, sym, ◌∙◌, ap, ap₂, subst, ℕ, zero, suc, List, [], ◌∷◌, ◌++◌, Bool, true, false, not, Option, Some, None, inl, inr, ⊎_elim, arith, length, map, filter, drop, set, get_or, nat_eq}
-use Rattle.std.specs.Prelude.{slice_get, option_map, nat_le, cond}
-use Rattle.std.proofs.lemmas.Bool.{cases_eq}
+use Rattle.std.proofs.Common.{◌≡◌, ◌<◌, ◌+◌, refl, sym, ◌∙◌, ap, ap₂, subst, ℕ, List, [], ◌∷◌, ◌++◌, Bool, true, false, not, Option, Some, None, arith, length, map, filter, drop, set, get_or}
+use Rattle.std.specs.Prelude.{option_map, nat_le, cond}
 use Rattle.std.proofs.lemmas.List.{map-append, get_or-set_same, get_or-set_other, length-set}
 use Rattle.batch_recipe.specs.Conditions.{Name, same_name}
 use Rattle.batch_recipe.specs.Tree.{Place}
 use Rattle.batch_recipe.specs.declared.need.Need.{Need}
-use Rattle.batch_model.specs.Lists.{Has, Each}
+use Rattle.batch_model.specs.Lists.{Has}
 use Rattle.batch_model.specs.Plant.{BatchAct, Share, is_same_act}
-use Rattle.batch_model.specs.Moves.{Move, ask, grant, release, line_after}
+use Rattle.batch_model.specs.Moves.{ask, grant, release, line_after}
 use Rattle.batch_model.specs.Runs.{move}
 use Rattle.batch_model.specs.Records.{without, holders_after}
-use Rattle.batch_model.proofs.Members.{Each-append, Has-split}
 use Rattle.batch_laws.proofs.Entries.{IsOnce, once-snoc}
 use Rattle.batch_verify.specs.ClearedSet.{ClearedSet}
-use Rattle.batch_arbiter.specs.Allocation.{Claim, Allocation, shares_of, line_of, asked, granted, released, without_first, is_claim, next_in, next_grant, batch_node, held_units}
-use Rattle.batch_engine.specs.declared.batch.Batch.{Batch}
-use Rattle.batch_engine.specs.View.{EngineView, act_of, share_of, acts_of, names_of, number_of, line_in, line_at, place_in}
-use Rattle.batch_engine.specs.Kept.{IsOfCell, IsKept}
+use Rattle.batch_arbiter.specs.Allocation.{Claim, shares_of, line_of, asked, granted, released, without_first, is_claim, next_in, batch_node, held_units}
+use Rattle.batch_engine.specs.View.{EngineView, act_of, share_of, acts_of, names_of, number_of, line_in, line_at}
+use Rattle.batch_engine.specs.Kept.{IsOfCell}
 use Rattle.batch_engine.proofs.Batches.{chosen-true, chosen-false}
 use Rattle.batch_engine.proofs.Making.{same-number, same-named, name-yes, name-no, without-head, without-claim}
 use Rattle.batch_engine.proofs.Finding.{named}

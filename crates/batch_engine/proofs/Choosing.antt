@@ -1,8 +1,8 @@
 -- The next move is that of the first batch that has one.
-use Rattle.std.proofs.Common.{◌≡◌, ◌<◌, refl, sym, ◌∙◌, ap, subst, ℕ, List, [], ◌∷◌, ◌++◌, Bool, true, false, Option, Some, None, inl, inr, arith, flat_map, nat_eq, nat_lt}
+use Rattle.std.proofs.Common.{◌≡◌, ◌<◌, refl, sym, ◌∙◌, ap, subst, ℕ, List, [], ◌∷◌, ◌++◌, Bool, true, false, Option, Some, None, inl, inr, arith, flat_map, nat_eq}
 use Rattle.batch_model.specs.Lists.{Has, Each}
 use Rattle.batch_model.specs.Plant.{Documents, Batch, Plant}
-use Rattle.batch_model.specs.Moves.{Move, batch_of, order_of, is_earlier, least, batch_moves, possible, next}
+use Rattle.batch_model.specs.Moves.{Move, batch_of, is_earlier, least, batch_moves, next}
 use Rattle.batch_model.specs.Standing.{AreNumbered}
 use Rattle.batch_model.specs.Laws.{IsLeast}
 use Rattle.batch_model.proofs.Members.{Has-flat_map, Each-Has}

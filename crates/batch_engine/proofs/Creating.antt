@@ -1,29 +1,27 @@
 -- A batch is made.
 use Rattle.std.proofs.Common.{◌≡◌, ◌<◌, ◌≤◌, ◌+◌, refl, sym, ◌∙◌, ap, ap₂, subst, ℕ, zero, suc, List, [], ◌∷◌, ◌++◌, Bool, true, false, Option, Some, None, inl, inr, arith, length, map, find, nat_eq}
-use Rattle.std.specs.Prelude.{slice_get, sum_by}
 use Rattle.std.proofs.lemmas.List.{map-append}
 use Rattle.std.proofs.lemmas.List.Sums.{sum_by_push}
-use Rattle.batch_matrix.specs.declared.state.State.TheVariants.{Idle}
 use Rattle.batch_recipe.specs.Conditions.{Name, ValueList, same_name}
 use Rattle.batch_recipe.specs.Tree.{Place}
 use Rattle.batch_recipe.specs.declared.need.Need.{Need}
-use Rattle.batch_model.specs.Lists.{Has, Each}
+use Rattle.batch_model.specs.Lists.{Has}
 use Rattle.batch_model.specs.Rest.{reach}
 use Rattle.batch_model.specs.Plant as Model
 use Rattle.batch_model.specs.Plant.{Formula, scaled, Share, Plant, holders}
 use Rattle.batch_model.specs.Moves.{Move, next}
-use Rattle.batch_model.specs.Events.{create, created, refused, moves_pending, unknown_recipe, full, no_memory, is_full, creating, with_batch, new_batch, judged, react, Answer}
+use Rattle.batch_model.specs.Events.{create, created, refused, moves_pending, unknown_recipe, full, is_full, creating, with_batch, new_batch, judged, react, Answer}
 use Rattle.batch_model.specs.Runs.{Reacts}
 use Rattle.batch_model.specs.Standing.{AreNumbered}
-use Rattle.batch_model.proofs.Members.{Each-append, Each-Has, Has-flat_map}
+use Rattle.batch_model.proofs.Members.{Each-append, Has-flat_map}
 use Rattle.batch_laws.proofs.Entries.{IsOnce}
 use Rattle.batch_verify.specs.ClearedSet.{ClearedSet}
-use Rattle.batch_arbiter.specs.Allocation.{Claim, Allocation, shares_of, line_of}
+use Rattle.batch_arbiter.specs.Allocation.{Claim, shares_of, line_of}
 use Rattle.batch_chart.specs.NodesOf.{needs_in, place_at}
-use Rattle.batch_chart.specs.Charts.{IsRunningOf, remains}
+use Rattle.batch_chart.specs.Charts.{IsRunningOf}
 use Rattle.batch_engine.specs.declared.batch.Batch.{Batch}
 use Rattle.batch_engine.specs.View.{EngineView, documents, recipe_at, tree_at, batch_of, share_of, acts_of, place_in, number_of, line_in, line_at, plant_of, tree_of}
-use Rattle.batch_engine.specs.Kept.{IsRunningBatch, HasRoom, IsKept, needs_of_all}
+use Rattle.batch_engine.specs.Kept.{IsRunningBatch, IsKept, needs_of_all}
 use Rattle.batch_engine.specs.Creates.{IsCreate}
 use Rattle.batch_engine.proofs.Told.{told, standing}
 use Rattle.batch_engine.proofs.Batches.{chosen-false}

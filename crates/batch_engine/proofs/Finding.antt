@@ -1,9 +1,9 @@
 -- What is found at a batch of the engine.
-use Rattle.std.proofs.Common.{◌≡◌, ◌<◌, ◌≤◌, refl, sym, ◌∙◌, ap, ap₂, subst, subst₂, ◌+◌, ℕ, zero, suc, List, [], ◌∷◌, Bool, true, false, Option, Some, None, inl, inr, arith, length, get_or, map}
-use Rattle.std.specs.Prelude.{option_map, slice_get, position}
+use Rattle.std.proofs.Common.{◌≡◌, ◌<◌, ◌≤◌, refl, sym, ◌∙◌, ap, ap₂, subst, subst₂, ◌+◌, ℕ, zero, suc, List, [], ◌∷◌, true, Option, Some, inl, inr, arith, length, get_or, map}
+use Rattle.std.specs.Prelude.{option_map, slice_get}
 use Rattle.std.proofs.lemmas.List.{length-map}
 use Rattle.std.proofs.lemmas.List.Quantifiers.{position-Some}
-use Rattle.std.proofs.lemmas.Option.{slice_get_read, slice_get_within, slice_get-get_or, get_or_from_slice_get, slice_get-map}
+use Rattle.std.proofs.lemmas.Option.{slice_get_read, slice_get-get_or, get_or_from_slice_get, slice_get-map}
 use Rattle.batch_recipe.specs.declared.recipe.Recipe as document
 use Rattle.batch_model.specs.Recipes.{recipe_of}
 use Rattle.batch_recipe.specs.Conditions.{Name, same_name}
@@ -13,9 +13,8 @@ use Rattle.batch_model.proofs.Batches.{one_batch}
 use Rattle.batch_model.specs.Lists.{Has, Each}
 use Rattle.batch_model.specs.Plant as Model
 use Rattle.batch_model.specs.Plant.{BatchAct, Share}
-use Rattle.batch_model.specs.Moves.{Move, grant, least, is_served, batch_moves}
+use Rattle.batch_model.specs.Moves.{Move, grant, least, is_served}
 use Rattle.batch_model.specs.Placed.{IsPlaced}
-use Rattle.batch_model.specs.Standing.{IsRestOf}
 use Rattle.batch_model.specs.Rest.{asking, acts}
 use Rattle.batch_model.proofs.Falling.{one_act}
 use Rattle.batch_model.proofs.Rising.{acts-rise}
@@ -25,13 +24,12 @@ use Rattle.batch_verify.specs.ClearedSet.{ClearedSet}
 use Rattle.batch_arbiter.specs.Allocation.{Claim, shares_of, line_of, next_grant, batch_node}
 use Rattle.batch_chart.specs.NodesOf.{no_need, place_at, need_at, step_at, task_at}
 use Rattle.batch_recipe.specs.Nodes.{node_count}
-use Rattle.batch_chart.specs.OwnMoves.{grants, own_next}
-use Rattle.batch_chart.specs.Charts.{AsksAt, IsChartOf, IsRunningOf, IsRunning, IsWaiting, remains}
+use Rattle.batch_chart.specs.OwnMoves.{grants}
+use Rattle.batch_chart.specs.Charts.{AsksAt, IsChartOf, IsRunningOf, IsRunning, remains}
 use Rattle.batch_chart.specs.declared.compiled.Compiled.{Compiled}
 use Rattle.batch_engine.specs.declared.batch.Batch.{Batch}
 use Rattle.batch_engine.specs.View.{EngineView, documents, recipe_at, batch_of, act_of, share_of, acts_of, place_in, names_of, number_of, line_at, plant_of, tree_of}
 use Rattle.batch_engine.specs.Kept.{IsKept, IsRunningBatch}
-use Rattle.batch_engine.specs.Steps.{BatchAt, IsGrantStep, IsFirstGrant}
 use Rattle.batch_engine.proofs.Nodes.{same-node, within-or_past}
 use Rattle.batch_engine.proofs.Told.{placed, told, standing}
 use Rattle.batch_engine.proofs.Serving.{serves-next, next-serves, is-served}

@@ -1,25 +1,23 @@
 -- The least grant of a batch is that of the first act in line that the arbiter would serve.
 use Rattle.std.proofs.Common.{◌≡◌, ◌<◌, ◌≤◌, refl, sym, ◌∙◌, ap, ap₂, subst, subst₂, ℕ, zero, suc, List, [], ◌∷◌, Bool, true, false, Option, Some, None, inl, inr, arith, length, get_or, map, nat_eq}
-use Rattle.std.specs.Prelude.{option_map, slice_get, ◌⊎◌}
+use Rattle.std.specs.Prelude.{slice_get, ◌⊎◌}
 use Rattle.std.specs.List.{filter_map, cons_option}
 use Rattle.std.proofs.lemmas.Bool.{cases_eq}
 use Rattle.std.proofs.lemmas.Option.{slice_get-get_or}
 use Rattle.batch_recipe.specs.declared.need.Need.{Need}
 use Rattle.batch_recipe.specs.Tree.{Place, Step, Task, Tree, is_before}
-use Rattle.batch_model.specs.Lists.{Has, Each}
+use Rattle.batch_model.specs.Lists.{Has}
 use Rattle.batch_model.specs.Rest.{Rest, ready, asking, open_act, live, freeing, in_seq, in_par, in_loop, done, acts}
 use Rattle.batch_model.specs.Plant as Model
 use Rattle.batch_model.specs.Plant.{Documents, BatchAct, Plant, place_of}
-use Rattle.batch_model.specs.Moves.{Move, grant, order_of, is_earlier, least, is_served, when}
-use Rattle.batch_model.specs.Laws.{IsFirst}
-use Rattle.batch_model.specs.Placed.{IsPlaced, Rises}
+use Rattle.batch_model.specs.Moves.{Move, grant, is_earlier, least, is_served, when}
+use Rattle.batch_model.specs.Placed.{IsPlaced}
 use Rattle.batch_model.specs.Standing.{IsRestOf}
 use Rattle.batch_model.proofs.Members.{Has-filter_map}
 use Rattle.batch_model.proofs.Ordering.{least-IsFirst}
 use Rattle.batch_model.proofs.Falling.{one_act}
 use Rattle.batch_model.proofs.Rising.{acts-rise}
 use Rattle.batch_chart.specs.NodesOf.{no_need, place_at, step_at, task_at, need_at}
-use Rattle.batch_recipe.specs.Nodes.{node_count}
 use Rattle.batch_chart.specs.OwnMoves.{grant_move, grants}
 use Rattle.batch_chart.specs.Charts.{AsksAt}
 use Rattle.batch_engine.proofs.Nodes.{numbers-rise, either}

@@ -1,11 +1,11 @@
 -- The engine makes the next move.
-use Rattle.std.proofs.Common.{◌≡◌, ◌<◌, ◌≤◌, ◌+◌, refl, sym, ◌∙◌, ap, ap₂, subst, subst₂, ℕ, zero, suc, List, [], ◌∷◌, ◌++◌, Bool, true, false, ◌&&◌, Option, Some, None, inl, inr, arith, length, map, filter, take, flat_map, get_or, nat_eq}
+use Rattle.std.proofs.Common.{◌≡◌, ◌<◌, ◌+◌, refl, sym, ◌∙◌, ap, ap₂, subst, ℕ, zero, suc, List, [], ◌∷◌, Bool, true, false, ◌&&◌, Option, Some, None, inl, inr, arith, length, map, filter, take, flat_map, get_or, nat_eq}
 use Rattle.std.specs.Prelude.{slice_get, option_map, Contains}
 use Rattle.batch_recipe.specs.Conditions.{Name, same_name}
 use Rattle.batch_recipe.specs.Tree.{Place, Tree}
 use Rattle.batch_recipe.specs.declared.need.Need.{Need}
 use Rattle.batch_matrix.specs.declared.state.State as states
-use Rattle.batch_model.specs.Lists.{Has, Each}
+use Rattle.batch_model.specs.Lists.{Has}
 use Rattle.batch_model.specs.Rest.{Rest, ready, asking, acts, advance, changed_at}
 use Rattle.batch_model.specs.Plant as Model
 use Rattle.batch_model.specs.Plant.{BatchAct, Share, Plant, is_same_act, place_of, held_by, holders}
@@ -18,8 +18,7 @@ use Rattle.batch_model.proofs.Falling.{one_act}
 use Rattle.batch_model.proofs.Rising.{acts-rise}
 use Rattle.batch_model.proofs.Members.{Has-left, Has-right}
 use Rattle.batch_laws.proofs.Entries.{IsOnce, same_act, act_self, filter-Has, name_self}
-use Rattle.batch_laws.specs.Telling.{IsTold}
-use Rattle.batch_arbiter.specs.Allocation.{Claim, Allocation, shares_of, line_of, asked, granted, released, is_claim, IsHeld, next_grant, next_in, batch_node, capacity_of, resource_count}
+use Rattle.batch_arbiter.specs.Allocation.{Claim, shares_of, line_of, asked, granted, released, is_claim, IsHeld, next_grant, batch_node, capacity_of, resource_count}
 use Rattle.batch_arbiter.proofs.Cells.{length-capacities}
 use Rattle.batch_chart.specs.NodesOf.{no_need, place_at, step_at, task_at, need_at}
 use Rattle.batch_recipe.specs.Nodes.{node_count}
@@ -32,7 +31,7 @@ use Rattle.batch_engine.specs.declared.batch.Batch.{Batch}
 use Rattle.batch_engine.specs.View as View
 use Rattle.batch_engine.specs.View.{EngineView, documents, act_of, share_of, acts_of, names_of, number_of, line_in, line_at, plant_of, tree_of}
 use Rattle.batch_engine.specs.Kept.{IsKept}
-use Rattle.batch_engine.specs.Steps.{IsNext, IsQuiet, Makes}
+use Rattle.batch_engine.specs.Steps.{IsNext, IsQuiet}
 use Rattle.batch_engine.proofs.Told.{told, safe, standing}
 use Rattle.batch_engine.proofs.Batches.{Has-batch_of}
 use Rattle.batch_engine.proofs.Finding.{named, has, batch-runs, tree-placed, claim-act, act-claim, line-units}

@@ -1,11 +1,9 @@
 -- A move of one batch, in the engine and in its plant.
-use Rattle.std.proofs.Common.{◌≡◌, ◌<◌, ◌≤◌, refl, sym, ◌∙◌, ap, ap₂, subst, ℕ, zero, suc, List, [], ◌∷◌, ◌++◌, Bool, true, false, not, cond, Option, Some, None, inl, inr, arith, length, map, filter, set, get_or, nat_eq}
-use Rattle.std.specs.Prelude.{slice_get, position}
-use Rattle.std.proofs.lemmas.Bool.{cases_eq}
-use Rattle.std.proofs.lemmas.List.{map-append, get_or-set_same, get_or-set_other}
+use Rattle.std.proofs.Common.{◌≡◌, ◌<◌, refl, sym, ◌∙◌, ap, ap₂, subst, ℕ, zero, suc, List, [], ◌∷◌, Bool, true, false, not, cond, Option, Some, inl, inr, arith, map, filter, set, nat_eq}
+use Rattle.std.specs.Prelude.{slice_get}
 use Rattle.batch_recipe.specs.Conditions.{Name, same_name}
-use Rattle.batch_recipe.specs.Tree.{Place, Tree}
-use Rattle.batch_model.specs.Lists.{Has, Each}
+use Rattle.batch_recipe.specs.Tree.{Place}
+use Rattle.batch_model.specs.Lists.{Has}
 use Rattle.batch_model.specs.Plant as Model
 use Rattle.batch_model.specs.Plant.{BatchAct, Share, Plant, is_same_act}
 use Rattle.batch_model.specs.Standing.{AreNumbered}
@@ -16,7 +14,7 @@ use Rattle.batch_verify.specs.ClearedSet.{ClearedSet}
 use Rattle.batch_arbiter.specs.Allocation.{Claim, without_first}
 use Rattle.batch_chart.specs.NodesOf.{place_at}
 use Rattle.batch_engine.specs.declared.batch.Batch.{Batch}
-use Rattle.batch_engine.specs.View.{EngineView, tree_at, batch_of, share_of, acts_of, place_in, names_of, number_of, tree_of}
+use Rattle.batch_engine.specs.View.{tree_at, batch_of, share_of, acts_of, place_in, names_of, number_of, tree_of}
 use Rattle.batch_engine.proofs.Batches.{chosen-true, chosen-false, later-number}
 use Rattle.batch_engine.proofs.Finding.{Has-get, named}
 

@@ -1,12 +1,11 @@
 -- What a cleared recipe's acts need and run has numbers.
-use Rattle.std.proofs.Common.{◌≡◌, ◌<◌, ◌≤◌, refl, sym, ◌∙◌, ap, ap₂, subst, ℕ, zero, suc, List, [], ◌∷◌, ◌++◌, Bool, true, false, ◌&&◌, ◌||◌, if◌then◌else◌, Option, Some, None, inl, inr, arith, length, map, filter, cond, get_or, nat_lt}
-use Rattle.std.specs.Prelude.{slice_get, position, unwrap_or, IsTrue, flat_map}
+use Rattle.std.proofs.Common.{◌≡◌, ◌<◌, ◌≤◌, refl, sym, ◌∙◌, ap, subst, ℕ, zero, suc, List, [], ◌∷◌, ◌++◌, Bool, true, false, ◌&&◌, ◌||◌, if◌then◌else◌, Option, Some, None, arith, length, map, filter, cond, get_or, nat_lt}
+use Rattle.std.specs.Prelude.{slice_get, position, unwrap_or, IsTrue}
 use Rattle.std.specs.List.{list_any, list_all}
 use Rattle.std.proofs.lemmas.List.{length-map, length-append}
-use Rattle.std.proofs.lemmas.List.Folds.{list_any-append}
 use Rattle.std.proofs.lemmas.List.Quantifiers.{position-Some}
 use Rattle.std.proofs.lemmas.Option.{slice_get-get_or, get_or_from_slice_get, slice_get_within}
-use Rattle.batch_cell.specs.Equipment.{is_free, belongs_to, has_declared_unit, phases_for, unit_phases}
+use Rattle.batch_cell.specs.Equipment.{is_free, belongs_to, has_declared_unit, unit_phases}
 use Rattle.batch_cell.specs.LookUps.{units_of, resources_of, phases_of}
 use Rattle.batch_cell.specs.declared.cell.Cell.{Cell}
 use Rattle.batch_cell.specs.declared.module.Module.{Module}
@@ -15,28 +14,26 @@ use Rattle.batch_cell.specs.declared.unit.Unit.{Unit}
 use Rattle.batch_recipe.specs.Conditions.{Name, same_name}
 use Rattle.batch_recipe.specs.Nodes.{Node, node_count, nodes}
 use Rattle.batch_recipe.specs.Nodes as nodes_spec
-use Rattle.batch_recipe.specs.Tree.{Phase, Tree, act, skip, seq, par, sel, loop, Task, runs, follows}
+use Rattle.batch_recipe.specs.Tree.{Phase, Tree, act, skip, seq, par, sel, loop, runs, follows}
 use Rattle.batch_recipe.specs.WellFormed.{is_among}
 use Rattle.batch_recipe.specs.declared.need.Need.{Need}
 use Rattle.batch_recipe.proofs.Order.{counted_nodes}
-use Rattle.batch_model.specs.Cleared.{CanBeCleared, IsClear, IsOffered, NeedsResources, Part, is_procedure, parts, procedure_parts}
+use Rattle.batch_model.specs.Cleared.{CanBeCleared, IsClear, IsOffered, NeedsResources, Part, is_procedure, procedure_parts}
 use Rattle.batch_model.specs.Documents.{cell_of}
-use Rattle.batch_model.specs.Lists.{Has, Each}
+use Rattle.batch_model.specs.Lists.{Each}
 use Rattle.batch_model.specs.Plant as Model
 use Rattle.batch_model.proofs.Members.{Each-map}
 use Rattle.batch_model.proofs.Parts.{parts-nodes}
 use Rattle.batch_laws.proofs.Entries.{name_same}
 use Rattle.batch_verify.specs.ClearedSet.{ClearedSet}
 use Rattle.batch_arbiter.proofs.Positions.{NonePasses, NonePasses-position}
-use Rattle.batch_chart.specs.NodesOf.{nodes_of, node_at, step_of, step_at, task_of, task_at, need_at, no_need, phase_at, phase_in}
+use Rattle.batch_chart.specs.NodesOf.{nodes_of, node_at, step_of, step_at, task_of, need_at, no_need, phase_at, phase_in}
 use Rattle.batch_engine.specs.Names as Names
 use Rattle.batch_engine.specs.Numbered as Numbers
 use Rattle.batch_engine.specs.Numbered.{need_number, phase_number, phase_among}
 use Rattle.batch_engine.specs.View.{documents, recipe_at, tree_at, no_recipe, number_of}
-use Rattle.batch_engine.specs.declared.numbers.NeedNumber.{NeedNumber}
 use Rattle.batch_engine.specs.declared.numbers.PhaseNumber.{PhaseNumber}
-use Rattle.batch_engine.specs.declared.numbers.TheConstants.{NO_PHASE}
-use Rattle.batch_engine.proofs.Finding.{Each-at, named}
+use Rattle.batch_engine.proofs.Finding.{Each-at}
 
 -- Where something passes, there is a first that does
 

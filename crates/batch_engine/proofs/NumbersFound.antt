@@ -1,21 +1,19 @@
 -- What is looked up among the numbers of acts.
-use Rattle.std.proofs.Common.{◌≡◌, ◌<◌, ◌+◌, refl, sym, ◌∙◌, ap, ap₂, subst, ℕ, zero, suc, List, [], ◌∷◌, ◌++◌, Option, Some, None, inl, inr, arith, length, map, take, get_or, slice_get}
+use Rattle.std.proofs.Common.{◌≡◌, ◌<◌, refl, sym, ◌∙◌, ap, ap₂, subst, ℕ, zero, suc, List, [], ◌∷◌, ◌++◌, Option, Some, None, arith, length, map, get_or, slice_get}
 use Rattle.std.specs.Prelude.{option_map}
-use Rattle.std.proofs.lemmas.List.{map-append, take_more, take_all}
-use Rattle.std.proofs.lemmas.Option.{slice_get_read, slice_get_within, slice_get-get_or, slice_get-map, get_or_from_slice_get}
+use Rattle.std.proofs.lemmas.Option.{slice_get_read, slice_get_within, slice_get-get_or, slice_get-map}
 use Rattle.batch_cell.specs.declared.cell.Cell.{Cell}
 use Rattle.batch_recipe.specs.ActsAtNodes.{ActList, AreActsAt, IsActAt, IsNoAct, procedure_acts}
 use Rattle.batch_recipe.specs.Conditions.{Name}
-use Rattle.batch_recipe.specs.Expanding.{asked_by, act_tree, named_tree}
-use Rattle.batch_recipe.specs.Nodes.{Node, node_count}
+use Rattle.batch_recipe.specs.Expanding.{asked_by, named_tree}
+use Rattle.batch_recipe.specs.Nodes.{Node}
 use Rattle.batch_recipe.specs.Procedure.{procedure_nodes, procedure_tree, tables_from}
-use Rattle.batch_recipe.specs.Tree.{Place, Tree, act, skip, seq, par, sel, loop, runs, follows}
+use Rattle.batch_recipe.specs.Tree.{Tree, act, skip, seq, par, sel, loop, runs, follows}
 use Rattle.batch_recipe.specs.declared.act.Act.{Act}
 use Rattle.batch_recipe.specs.declared.acts.Acts.{Acts}
 use Rattle.batch_recipe.specs.declared.need.Need.{Need}
-use Rattle.batch_recipe.specs.declared.recipe.Recipe.{Recipe}
 use Rattle.batch_recipe.proofs.NodeActs.{procedure_acts_are}
-use Rattle.batch_chart.specs.NodesOf.{node_at, phase_named, step_of, step_at, need_at, no_need}
+use Rattle.batch_chart.specs.NodesOf.{node_at, phase_named, step_of}
 use Rattle.batch_engine.specs.Numbered.{AreActsNumbered, IsActNumbered, IsOfAct, need_number, phase_in, phase_number}
 use Rattle.batch_engine.specs.View.{EngineView, tree_at}
 use Rattle.batch_engine.specs.Kept.{IsKept}

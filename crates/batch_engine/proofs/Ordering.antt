@@ -1,15 +1,12 @@
 -- An accepted order.
-use Rattle.std.proofs.Common.{◌≡◌, ◌<◌, ◌≤◌, ◌+◌, refl, sym, ◌∙◌, ap, ap₂, subst, ℕ, zero, suc, List, [], ◌∷◌, ◌++◌, Bool, true, false, not, cond, Option, Some, None, inl, inr, arith, length, map, filter, find, set, get_or, nat_eq}
-use Rattle.std.specs.Prelude.{slice_get, sum_by}
+use Rattle.std.proofs.Common.{◌≡◌, ◌<◌, ◌+◌, refl, sym, ◌∙◌, ap, ap₂, subst, ℕ, zero, suc, List, [], ◌∷◌, Bool, true, false, not, cond, Option, Some, None, inl, arith, length, map, filter, set, get_or, nat_eq}
+use Rattle.std.specs.Prelude.{sum_by}
 use Rattle.std.proofs.lemmas.List.{length-map}
 use Rattle.std.proofs.lemmas.List.Sums.{sum_by-cons}
-use Rattle.batch_matrix.specs.declared.state.State.{State}
 use Rattle.batch_matrix.specs.declared.command.Command.{Command}
 use Rattle.batch_matrix.specs.declared.command.Command.TheVariants.{Start, Pause, Resume, Hold, Restart, Stop, Abort, Reset}
-use Rattle.batch_matrix.specs.Matrix.{accepts, target}
+use Rattle.batch_matrix.specs.Matrix.{target}
 use Rattle.batch_recipe.specs.Conditions.{Name}
-use Rattle.batch_recipe.specs.Tree.{Tree}
-use Rattle.batch_model.specs.Lists.{Has, Each}
 use Rattle.batch_matrix.specs.declared.state.State.TheVariants.{Idle}
 use Rattle.batch_recipe.specs.Conditions.{ValueList}
 use Rattle.batch_model.specs.Rest.{withdrawn, reach}
@@ -17,21 +14,20 @@ use Rattle.batch_recipe.specs.Values.{with_outputs_zero}
 use Rattle.batch_engine.specs.View.{tree_of, recipe_made}
 use Rattle.batch_model.specs.Plant as Model
 use Rattle.batch_model.specs.Plant.{Share, Plant, batch_at, in_batch}
-use Rattle.batch_model.specs.Moves.{Move, next}
-use Rattle.batch_model.specs.Events.{Reply, order, ordered, refused, moves_pending, unknown_batch, command_not_accepted, commanded, lines_under, ordering, judged, react, Answer}
+use Rattle.batch_model.specs.Moves.{Move}
+use Rattle.batch_model.specs.Events.{order, ordered, refused, moves_pending, unknown_batch, command_not_accepted, commanded, lines_under, ordering, judged, react, Answer}
 use Rattle.batch_model.specs.Runs.{Reacts}
-use Rattle.batch_model.proofs.Members.{Each-filter}
 use Rattle.batch_laws.proofs.Entries.{IsOnce, once-filter}
 use Rattle.batch_arbiter.specs.Allocation as Arbiter
 use Rattle.batch_arbiter.specs.Allocation.{Claim, Allocation, shares_of, line_of, is_of_batch}
 use Rattle.batch_chart.specs.Charts.{IsRunningOf, remains}
 use Rattle.batch_chart.specs.declared.running.Running.{Running}
 use Rattle.batch_engine.specs.declared.batch.Batch.{Batch}
-use Rattle.batch_engine.specs.View.{EngineView, documents, tree_at, batch_of, share_of, acts_of, number_of, names_of, line_in, line_at, plant_of}
-use Rattle.batch_engine.specs.Kept.{IsOfCell, IsRunningBatch, HasRoom, IsKept, claims, needs_of_all}
+use Rattle.batch_engine.specs.View.{EngineView, documents, tree_at, batch_of, share_of, acts_of, number_of, line_in, line_at, plant_of}
+use Rattle.batch_engine.specs.Kept.{IsOfCell, IsRunningBatch, HasRoom, IsKept}
 use Rattle.batch_engine.specs.Orders.{IsOrder, IsPlain, EndsAsks}
 use Rattle.batch_engine.proofs.Told.{standing}
-use Rattle.batch_engine.proofs.Finding.{batch-runs, has}
+use Rattle.batch_engine.proofs.Finding.{batch-runs}
 use Rattle.batch_engine.proofs.Making.{fun_ext, acts-same, batches-same}
 use Rattle.batch_engine.proofs.Stepping.{changed, Each-set}
 use Rattle.batch_engine.proofs.Room.{needs-same, room-quiet}

@@ -1,5 +1,5 @@
 -- An act that needs something stands at the place of its node.
-use Rattle.std.proofs.Common.{◌≡◌, ◌<◌, refl, sym, ℕ, zero, suc, ◌+◌, List, [], ◌∷◌, ◌++◌, arith, length, get_or}
+use Rattle.std.proofs.Common.{◌≡◌, ◌<◌, ℕ, zero, suc, ◌+◌, List, [], ◌∷◌, ◌++◌, arith, length, get_or}
 use Rattle.std.specs.List.{AllByRecursion}
 use Rattle.batch_recipe.specs.Conditions.{Name}
 use Rattle.batch_recipe.specs.Needs.{resources_of}

@@ -1,6 +1,6 @@
 -- A batch is removed.
-use Rattle.std.proofs.Common.{◌≡◌, ◌<◌, ◌≤◌, ◌+◌, refl, sym, ◌∙◌, ap, ap₂, subst, ℕ, zero, suc, List, [], ◌∷◌, ◌++◌, Bool, true, false, not, cond, Option, Some, None, inl, inr, arith, length, map, filter, nat_eq}
-use Rattle.std.specs.Prelude.{slice_get, sum_by}
+use Rattle.std.proofs.Common.{◌≡◌, ◌<◌, ◌≤◌, refl, sym, ◌∙◌, ap, ap₂, subst, ℕ, zero, suc, List, [], ◌∷◌, Bool, true, false, not, cond, Option, Some, None, inl, inr, arith, map, filter, nat_eq}
+use Rattle.std.specs.Prelude.{slice_get}
 use Rattle.std.specs.List.{remove}
 use Rattle.std.proofs.lemmas.List.Sums.{sum_by-cons}
 use Rattle.batch_matrix.specs.declared.state.State.{State}
@@ -18,16 +18,16 @@ use Rattle.batch_model.specs.Standing.{AreNumbered}
 use Rattle.batch_model.proofs.Batches.{one_batch}
 use Rattle.batch_laws.proofs.Entries.{IsOnce, Has-holders}
 use Rattle.batch_laws.proofs.Facts.{Fact, holding, awaiting, facts, entries}
-use Rattle.batch_laws.proofs.Batches.{holders-entries, entry-of}
+use Rattle.batch_laws.proofs.Batches.{entry-of}
 use Rattle.batch_laws.proofs.Invariant.{IsFitting}
 use Rattle.batch_verify.specs.ClearedSet.{ClearedSet}
-use Rattle.batch_arbiter.specs.Allocation.{Claim, Allocation, shares_of, line_of}
+use Rattle.batch_arbiter.specs.Allocation.{Claim, shares_of, line_of}
 use Rattle.batch_chart.specs.NodesOf.{needs_in, place_at}
 use Rattle.batch_engine.specs.declared.batch.Batch.{Batch}
 use Rattle.batch_engine.specs.View.{EngineView, documents, batch_of, act_of, share_of, acts_of, place_in, number_of, line_in, line_at, plant_of, tree_of}
-use Rattle.batch_engine.specs.Kept.{IsRunningBatch, HasRoom, IsKept, needs_of_all}
-use Rattle.batch_engine.proofs.Told.{told, safe, standing}
-use Rattle.batch_engine.proofs.Batches.{chosen-true, chosen-false, later-number, Has-batch_of}
+use Rattle.batch_engine.specs.Kept.{IsRunningBatch, IsKept, needs_of_all}
+use Rattle.batch_engine.proofs.Told.{safe, standing}
+use Rattle.batch_engine.proofs.Batches.{chosen-false, later-number, Has-batch_of}
 use Rattle.batch_engine.proofs.Finding.{Has-get}
 use Rattle.batch_engine.proofs.Making.{fun_ext}
 use Rattle.batch_engine.proofs.Creating.{Has-acts}

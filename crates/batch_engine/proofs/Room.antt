@@ -1,14 +1,14 @@
 -- Room is there for all needs of all batches.
-use Rattle.std.proofs.Common.{◌≡◌, ◌<◌, ◌≤◌, ◌+◌, ◌-◌, refl, sym, ◌∙◌, ap, ap₂, subst, ℕ, zero, suc, List, [], ◌∷◌, ◌++◌, Bool, true, false, Option, Some, None, cond, arith, length, map, drop, set, get_or}
-use Rattle.std.specs.Prelude.{slice_get, sum_by}
+use Rattle.std.proofs.Common.{◌≡◌, ◌<◌, ◌≤◌, ◌+◌, sym, ◌∙◌, ap, ℕ, zero, suc, List, [], ◌∷◌, ◌++◌, Bool, true, false, Some, cond, arith, length, drop, set}
+use Rattle.std.specs.Prelude.{slice_get}
 use Rattle.std.proofs.lemmas.List.{length-append}
 use Rattle.std.proofs.lemmas.List.Sums.{sum_by-set, sum_by-cons}
 use Rattle.batch_verify.specs.ClearedSet.{ClearedSet}
-use Rattle.batch_arbiter.specs.Allocation.{Claim, Allocation, shares_of, line_of, asked, granted, released, without_first, is_claim}
+use Rattle.batch_arbiter.specs.Allocation.{Claim, shares_of, line_of, asked, granted, released, without_first, is_claim}
 use Rattle.batch_chart.specs.NodesOf.{needs_in}
 use Rattle.batch_engine.specs.declared.batch.Batch.{Batch}
 use Rattle.batch_engine.specs.View.{EngineView, tree_at, tree_of}
-use Rattle.batch_engine.specs.Kept.{claims, needs_of_all, HasRoom}
+use Rattle.batch_engine.specs.Kept.{needs_of_all, HasRoom}
 use Rattle.batch_engine.proofs.Stepping.{changed}
 
 -- a changed batch of the same recipe has the same needs

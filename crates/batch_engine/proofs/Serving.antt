@@ -1,22 +1,16 @@
 -- Whom the arbiter would serve is whom the plant serves.
-use Rattle.std.proofs.Common.{◌≡◌, ◌<◌, ◌≤◌, ◌+◌, refl, sym, ◌∙◌, ap, ap₂, subst, ℕ, zero, suc, List, [], ◌∷◌, Bool, true, false, ◌&&◌, cond, Option, Some, None, inl, inr, arith, length, get_or, map, nat_eq, nat_lt}
-use Rattle.std.specs.Prelude.{nat_le, option_map, position, sum_by, slice_get}
-use Rattle.std.proofs.lemmas.List.{length-map}
+use Rattle.std.proofs.Common.{◌≡◌, ◌+◌, refl, sym, ◌∙◌, ap, ap₂, subst, ℕ, List, [], ◌∷◌, Bool, true, false, ◌&&◌, cond, Option, Some, None, inl, get_or, map}
+use Rattle.std.specs.Prelude.{nat_le, option_map}
 use Rattle.std.proofs.lemmas.List.Sums.{sum_by-cons}
-use Rattle.std.proofs.lemmas.Bool.{ltb-true, leb-true, lt-ltb, le-leb}
-use Rattle.batch_recipe.specs.Conditions.{Name, same_name}
-use Rattle.batch_recipe.specs.Tree.{Place}
+use Rattle.batch_recipe.specs.Conditions.{Name}
 use Rattle.batch_recipe.specs.declared.need.Need.{Need}
-use Rattle.batch_model.specs.Lists.{Has, Each}
-use Rattle.batch_model.specs.Plant.{Documents, BatchAct, Share, units_in, Plant, holders, is_same_act}
+use Rattle.batch_model.specs.Lists.{Has}
+use Rattle.batch_model.specs.Plant.{BatchAct, Share, units_in, holders, is_same_act}
 use Rattle.batch_model.specs.Moves.{is_served}
-use Rattle.batch_model.specs.Documents.{capacity_of}
 use Rattle.batch_cell.specs.LookUps.{capacities_of}
-use Rattle.batch_model.specs.Records.{holders_told}
-use Rattle.batch_laws.specs.Telling.{IsTold}
 use Rattle.batch_laws.proofs.Entries.{act_self, same_act, units-cons}
 use Rattle.batch_arbiter.specs.Allocation.{Claim, Allocation, line_of, shares_of, held_units, next_in, next_grant, batch_node}
-use Rattle.batch_engine.specs.View.{EngineView, documents, act_of, acts_of, names_of, number_of, line_in, line_at, place_in, plant_of}
+use Rattle.batch_engine.specs.View.{EngineView, documents, act_of, acts_of, number_of, line_in, line_at, plant_of}
 use Rattle.batch_engine.specs.Kept.{IsKept}
 use Rattle.batch_engine.proofs.Told.{told}
 

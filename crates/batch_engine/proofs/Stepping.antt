@@ -1,19 +1,18 @@
 -- What is kept when one batch makes the next move.
-use Rattle.std.proofs.Common.{◌≡◌, ◌<◌, refl, sym, ◌∙◌, ap, ap₂, subst, ℕ, zero, suc, List, [], ◌∷◌, ◌++◌, Option, Some, None, inl, inr, arith, length, map, set}
+use Rattle.std.proofs.Common.{◌≡◌, ◌<◌, refl, sym, ◌∙◌, ap, ap₂, subst, ℕ, zero, suc, List, [], ◌∷◌, ◌++◌, Option, Some, None, length, map, set}
 use Rattle.std.specs.Prelude.{slice_get}
 use Rattle.batch_recipe.specs.Conditions.{Name}
-use Rattle.batch_recipe.specs.Tree.{Place, Tree}
-use Rattle.batch_model.specs.Lists.{Has, Each}
+use Rattle.batch_model.specs.Lists.{Each}
 use Rattle.batch_model.specs.Plant as Model
 use Rattle.batch_model.specs.Plant.{Share, Plant, opening}
-use Rattle.batch_model.specs.Moves.{Move, batch_of, batch_after, line_after, after, next}
-use Rattle.batch_model.specs.Runs.{Out, move, Leads}
-use Rattle.batch_model.specs.Records.{holders_after, holders_told}
+use Rattle.batch_model.specs.Moves.{Move, batch_of, batch_after, line_after, after}
+use Rattle.batch_model.specs.Runs.{move, Leads}
+use Rattle.batch_model.specs.Records.{holders_after}
 use Rattle.batch_model.proofs.Batches.{only}
 use Rattle.batch_model.proofs.Leading.{Leads-move}
 use Rattle.batch_model.proofs.Telling.{holders_told-last}
 use Rattle.batch_laws.proofs.Entries.{IsOnce}
-use Rattle.batch_arbiter.specs.Allocation.{Claim, Allocation, shares_of, line_of}
+use Rattle.batch_arbiter.specs.Allocation.{Allocation, shares_of, line_of}
 use Rattle.batch_chart.specs.Charts.{IsRunningOf}
 use Rattle.batch_engine.specs.declared.batch.Batch.{Batch}
 use Rattle.batch_engine.specs.View as View

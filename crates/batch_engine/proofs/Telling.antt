@@ -1,13 +1,13 @@
 -- What a line tells of a move.
-use Rattle.std.proofs.Common.{◌≡◌, ◌<◌, refl, sym, ◌∙◌, ap, ap₂, subst, ℕ, zero, suc, List, [], ◌∷◌, Option, Some, None, arith, length, get_or}
+use Rattle.std.proofs.Common.{◌≡◌, ◌<◌, refl, sym, ◌∙◌, ap, ap₂, ℕ, zero, suc, List, [], ◌∷◌, Option, Some, None, arith, length, get_or}
 use Rattle.std.specs.Prelude.{slice_get, option_map, unwrap_or, map}
 use Rattle.std.specs.List.{zip}
-use Rattle.std.proofs.lemmas.Option.{get_or_from_slice_get, slice_get-get_or, slice_get-map, slice_get_read}
+use Rattle.std.proofs.lemmas.Option.{get_or_from_slice_get, slice_get-map, slice_get_read}
 use Rattle.batch_matrix.specs.declared.command.Command.{Command}
-use Rattle.batch_recipe.specs.Conditions.{Name, ValueList}
+use Rattle.batch_recipe.specs.Conditions.{Name}
 use Rattle.batch_recipe.specs.Nodes.{Node}
-use Rattle.batch_recipe.specs.Procedure.{procedure_nodes, procedure_tree}
-use Rattle.batch_recipe.specs.Tree.{Place, Phase, Tree, act, skip, seq, par, sel, loop, runs, follows}
+use Rattle.batch_recipe.specs.Procedure.{procedure_tree}
+use Rattle.batch_recipe.specs.Tree.{Phase, Tree, act, skip, seq, par, sel, loop, runs, follows}
 use Rattle.batch_recipe.specs.declared.need.Need.{Need}
 use Rattle.batch_recipe.specs.declared.recipe.Recipe.{Recipe}
 use Rattle.batch_model.specs.Moves as Moves
@@ -23,7 +23,7 @@ use Rattle.batch_engine.specs.declared.batch.Batch.{Batch}
 use Rattle.batch_engine.specs.declared.line.Line.TheVariants as Lines
 use Rattle.batch_engine.specs.Names as Names
 use Rattle.batch_engine.specs.Surface as Surface
-use Rattle.batch_engine.specs.View.{EngineView, batch_of, number_of, names_of, recipe_at, tree_at, no_recipe, tree_of}
+use Rattle.batch_engine.specs.View.{EngineView, batch_of, number_of, recipe_at, tree_at, no_recipe, tree_of}
 use Rattle.batch_engine.specs.Kept.{IsKept}
 use Rattle.batch_engine.proofs.Finding.{named, batch-runs}
 

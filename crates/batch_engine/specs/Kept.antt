@@ -1,26 +1,25 @@
 -- What the engine keeps.
-use Rattle.std.specs.Prelude.{◌≡◌, ℕ, ◌+◌, ◌<◌, ◌≤◌, List, [], ◌∷◌, length, sum_by, Some, Bool, true, false, slice_get, ⊤}
-use Rattle.std.specs.List.{slice_index_or}
+use Rattle.std.specs.Prelude.{◌≡◌, ℕ, ◌+◌, ◌<◌, ◌≤◌, List, length, sum_by, Some, slice_get}
 use Rattle.batch_cell.specs.LookUps.{capacities_of}
 use Rattle.batch_recipe.specs.Conditions.{Name}
 use Rattle.batch_recipe.specs.Procedure.{procedure_tree}
 use Rattle.batch_recipe.specs.declared.recipe.Recipe as document
-use Rattle.batch_model.specs.Lists.{Has, Each}
+use Rattle.batch_model.specs.Lists.{Each}
 use Rattle.batch_model.specs.Cleared.{CanBeCleared}
 use Rattle.batch_model.specs.Documents.{cell_of}
-use Rattle.batch_model.specs.Plant.{BatchAct, Plant, opening}
+use Rattle.batch_model.specs.Plant.{opening}
 use Rattle.batch_model.specs.Events.{Event}
 use Rattle.batch_model.specs.Runs.{Out, Leads}
 use Rattle.batch_model.specs.Records.{holders_told}
 use Rattle.batch_laws.proofs.Entries.{IsOnce}
 use Rattle.batch_verify.specs.ClearedSet.{ClearedSet}
-use Rattle.batch_arbiter.specs.Allocation.{Claim, Allocation, line_of, shares_of, resource_count}
+use Rattle.batch_arbiter.specs.Allocation.{Allocation, line_of, shares_of}
 use Rattle.batch_chart.specs.NodesOf.{needs_in}
 use Rattle.batch_chart.specs.Charts.{IsChartOf, IsRunningOf}
 use Rattle.batch_chart.specs.declared.compiled.Compiled.{Compiled}
 use Rattle.batch_engine.specs.declared.batch.Batch.{Batch}
 use Rattle.batch_engine.specs.Numbered.{AreRecipesNumbered}
-use Rattle.batch_engine.specs.View.{EngineView, documents, tree_at, act_of, acts_of, names_of, number_of, plant_of, tree_of}
+use Rattle.batch_engine.specs.View.{EngineView, documents, tree_at, acts_of, names_of, number_of, plant_of, tree_of}
 
 -- there is a record that leads to the plant, and the shares are what it tells, each in the order in which it was granted
 pub record IsTracked (v : EngineView) : Type 0 where

@@ -1,6 +1,5 @@
 -- The step that the engine makes next.
-use Rattle.std.specs.Prelude.{◌≡◌, ◌<◌, ℕ, List, [], Option, Some, None, option_map, slice_get, length, ⊤}
-use Rattle.batch_recipe.specs.Conditions.{Name}
+use Rattle.std.specs.Prelude.{◌≡◌, ◌<◌, ℕ, [], Option, Some, None, option_map, slice_get, length, ⊤}
 use Rattle.batch_model.specs.Moves as Model
 use Rattle.batch_model.specs.Moves.{next, after, least, batch_moves, grant}
 use Rattle.batch_arbiter.specs.Allocation.{next_grant, batch_node}
@@ -17,7 +16,7 @@ use Rattle.batch_engine.specs.declared.step.Step.{Step}
 use Rattle.batch_engine.specs.declared.step.Step.TheVariants.{Own, Grant}
 use Rattle.batch_engine.specs.Names.{resource_name, phase_name}
 use Rattle.batch_engine.specs.Surface as Surface
-use Rattle.batch_engine.specs.View.{EngineView, documents, batch_of, names_of, number_of, plant_of, tree_of}
+use Rattle.batch_engine.specs.View.{EngineView, documents, batch_of, number_of, plant_of, tree_of}
 
 -- the batch at an index, and the compiled chart of its recipe
 pub record BatchAt (v : EngineView) (i : ℕ) (b : Batch) (chart : Compiled) : Type 0 where

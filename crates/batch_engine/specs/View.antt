@@ -1,5 +1,5 @@
 -- What is seen of the engine, and the plant that it stands for.
-use Rattle.std.specs.Prelude.{ℕ, List, [], ◌∷◌, map, Bool, true, false, Option, Some, None, nat_eq, position}
+use Rattle.std.specs.Prelude.{ℕ, List, [], ◌∷◌, map, true, false, Option, Some, None, nat_eq, position}
 use Rattle.std.specs.List.{slice_index_or}
 use Rattle.batch_cell.specs.LookUps.{resources_of}
 use Rattle.batch_recipe.specs.Conditions.{Name, same_name}
@@ -8,7 +8,7 @@ use Rattle.batch_model.specs.Plant as Model
 use Rattle.batch_model.specs.Plant.{Documents, BatchAct, Share, Plant, size_out_of_range}
 use Rattle.batch_model.specs.Documents.{documents_of}
 use Rattle.batch_verify.specs.ClearedSet.{ClearedSet}
-use Rattle.batch_arbiter.specs.Allocation.{Claim, Allocation, line_of, shares_of}
+use Rattle.batch_arbiter.specs.Allocation.{Claim, Allocation, line_of}
 use Rattle.batch_chart.specs.NodesOf.{place_at}
 use Rattle.batch_chart.specs.Charts.{remains}
 use Rattle.batch_chart.specs.declared.compiled.Compiled.{Compiled}

@@ -1,4 +1,4 @@
-use Rattle.std.proofs.Common.{◌≡◌, length, take}
+use Rattle.std.proofs.Common.{◌≡◌, length}
 use Rattle.batch_engine.specs.Kept.{AreChartsOf}
 use Rattle.batch_engine.proofs.calls.compile.Given as goal
 

@@ -1,8 +1,7 @@
-use Rattle.std.proofs.Common.{◌≡◌, ◌<◌, refl, sym, ◌∙◌, ap, arith, length, [], ◌∷◌, Option, Some, None}
+use Rattle.std.proofs.Common.{◌≡◌, ◌<◌, refl, ◌∙◌, ap, arith, length, [], ◌∷◌, Some, None}
 use Rattle.std.specs.Prelude.{slice_get, option_copied}
 use Rattle.batch_recipe.specs.ActsAtNodes.{procedure_acts}
 use Rattle.batch_recipe.specs.Procedure.{procedure_nodes, procedure_tree}
-use Rattle.batch_recipe.specs.declared.act.Act.{Act}
 use Rattle.batch_recipe.proofs.Order.{counted_nodes}
 use Rattle.batch_chart.specs.NodesOf.{node_at}
 use Rattle.batch_engine.proofs.NumbersFound.{act-here, none-here, act-numbered, no-act-numbered}

@@ -1,4 +1,4 @@
-use Rattle.std.proofs.Common.{◌≡◌, sym, ◌∙◌, ap, ap₂, List, map, ◌++◌}
+use Rattle.std.proofs.Common.{◌∙◌, ap₂, List, map, ◌++◌}
 use Rattle.batch_recipe.specs.declared.need.Need.{Need}
 use Rattle.batch_engine.specs.Numbered.{need_number}
 use Rattle.batch_engine.specs.declared.numbers.NeedNumber.{NeedNumber}

@@ -1,7 +1,6 @@
-use Rattle.std.proofs.Common.{◌≡◌, refl, sym, ◌∙◌, ap, ℕ, List, Option, Some, None}
+use Rattle.std.proofs.Common.{sym, ◌∙◌, ap}
 use Rattle.std.specs.Prelude.{option_map}
-use Rattle.batch_recipe.specs.Conditions.{Name}
-use Rattle.batch_chart.specs.NodesOf.{node_at, phase_named}
+use Rattle.batch_chart.specs.NodesOf.{node_at}
 use Rattle.batch_engine.proofs.NumbersFound.{named-task, unnamed-task}
 use Rattle.batch_engine.proofs.numbering.number_task.Goals as goal
 

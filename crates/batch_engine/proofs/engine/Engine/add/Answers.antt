@@ -1,4 +1,4 @@
-use Rattle.std.proofs.Common.{◌≡◌, ◌<◌, ◌≤◌, ◌+◌, ◌++◌, ◌∷◌, refl, sym, ◌∙◌, ap, ap₂, subst, ℕ, Option, Some, None, [], arith, length, inl, inr, List}
+use Rattle.std.proofs.Common.{◌≡◌, ◌<◌, ◌≤◌, ◌+◌, ◌++◌, ◌∷◌, refl, sym, ◌∙◌, ap, ap₂, subst, ℕ, Some, [], arith, length, inr, List}
 use Rattle.std.specs.Prelude.{slice_get}
 use Rattle.batch_matrix.specs.declared.state.State.TheVariants.{Idle}
 use Rattle.batch_recipe.specs.Conditions.{Name, ValueList}

@@ -1,21 +1,19 @@
-use Rattle.std.proofs.Common.{◌≡◌, ◌<◌, refl, sym, ◌∙◌, ap, ap₂, subst, ℕ, Option, Some, None, [], arith, length}
-use Rattle.std.specs.Prelude.{slice_get, option_map, vec_len}
+use Rattle.std.proofs.Common.{◌≡◌, ◌<◌, sym, ◌∙◌, ap, ap₂, subst, Some, arith, length}
+use Rattle.std.specs.Prelude.{slice_get}
 use Rattle.std.proofs.lemmas.Option.{slice_get_within}
 use Rattle.batch_model.specs.Moves as Moves
-use Rattle.batch_arbiter.specs.Allocation.{Allocation, Claim, asked, released, granted, next_grant, batch_node, IsHeld}
-use Rattle.batch_chart.specs.NodesOf.{need_at, place_at}
-use Rattle.batch_chart.specs.Charts.{IsRunning, IsWaiting, AsksAt, remains}
+use Rattle.batch_arbiter.specs.Allocation.{Allocation, asked}
+use Rattle.batch_chart.specs.NodesOf.{need_at}
 use Rattle.batch_chart.specs.Seen.{move_of}
 use Rattle.batch_chart.specs.declared.compiled.Compiled.{Compiled}
-use Rattle.batch_chart.specs.declared.chart_move.Move.{Move}
 use Rattle.batch_chart.specs.declared.chart_move.Move.TheVariants as Chart
 use Rattle.batch_engine.specs.declared.batch.Batch.{Batch}
 use Rattle.batch_engine.specs.View.{EngineView, batch_of, number_of, tree_of}
 use Rattle.batch_engine.specs.Kept.{IsKept}
-use Rattle.batch_engine.specs.Steps.{IsOwnStep, IsGrantStep, IsNext}
+use Rattle.batch_engine.specs.Steps.{IsOwnStep, IsNext}
 use Rattle.batch_engine.proofs.Finding.{got-batch, got-chart, in-charts, batch-runs, runs-here}
 use Rattle.batch_engine.proofs.Stepping.{changed}
-use Rattle.batch_engine.proofs.Made.{Becomes, state-changed, run-quiet, ask-made, release-made, grant-made, known, held-share}
+use Rattle.batch_engine.proofs.Made.{Becomes, ask-made, known}
 use Rattle.batch_engine.proofs.Answering.{same-at, step-is, step-about, step-can, closed-kept, closed-makes}
 use Rattle.batch_engine.proofs.RoomForAsk.{room-for-ask}
 use Rattle.batch_engine.proofs.engine.Engine.ask.Goals as goal

@@ -1,5 +1,5 @@
-use Rattle.std.proofs.Common.{◌≡◌, ◌<◌, refl, sym, ◌∙◌, ap, subst, ℕ, Option, Some, None, []}
-use Rattle.std.specs.Prelude.{slice_get, option_map}
+use Rattle.std.proofs.Common.{◌≡◌, refl, sym, subst, Option, Some, None}
+use Rattle.std.specs.Prelude.{slice_get}
 use Rattle.batch_model.specs.Moves as Moves
 use Rattle.batch_chart.specs.OwnMoves.{own_next}
 use Rattle.batch_chart.specs.Seen.{move_of}

@@ -1,8 +1,7 @@
-use Rattle.std.proofs.Common.{◌≡◌, ◌<◌, refl, sym, ◌∙◌, ap, subst, ℕ, Option, Some, None, [], List, length, get_or, true, false, find, inl, inr}
+use Rattle.std.proofs.Common.{◌≡◌, ◌<◌, refl, sym, ◌∙◌, ap, subst, ℕ, Option, Some, None, [], length, get_or, false, find, inl, inr}
 use Rattle.std.specs.Prelude.{slice_get, option_map, unwrap_or, position, Err, Ok}
 use Rattle.std.proofs.lemmas.Option.{slice_get_within, slice_get_read}
 use Rattle.batch_recipe.specs.Conditions.{Name, same_name}
-use Rattle.batch_recipe.specs.Formula.{quantities_of}
 use Rattle.batch_recipe.specs.declared.quantity.Quantity.{Quantity}
 use Rattle.batch_engine.specs.Names.{name_of_value, quantity_name, value_name}
 use Rattle.batch_recipe.specs.declared.recipe.Recipe as document
@@ -12,10 +11,8 @@ use Rattle.batch_model.specs.Events as Events
 use Rattle.batch_model.specs.Events.{is_full, Answer}
 use Rattle.batch_model.specs.Runs.{Reacts, IsCreated}
 use Rattle.batch_engine.specs.View.{EngineView, documents, recipe_at, plant_of}
-use Rattle.batch_engine.specs.Kept.{IsKept}
 use Rattle.batch_engine.specs.Creates.{IsCreate}
 use Rattle.batch_engine.specs.Values.{IsValuesFor}
-use Rattle.batch_engine.specs.declared.creates.BadValues.{BadValues}
 use Rattle.batch_engine.specs.declared.creates.BadValues.TheVariants.{Size, OutOfRange, Memory}
 use Rattle.batch_engine.proofs.Answering.{same-at}
 use Rattle.batch_engine.proofs.Finding.{recipe-read}

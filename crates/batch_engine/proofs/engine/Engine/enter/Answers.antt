@@ -1,22 +1,16 @@
-use Rattle.std.proofs.Common.{◌≡◌, ◌<◌, refl, sym, ◌∙◌, ap, subst, ℕ, Option, Some, None, [], arith, length}
+use Rattle.std.proofs.Common.{◌≡◌, ◌<◌, sym, ap, subst, ℕ, Some, arith, length}
 use Rattle.std.specs.Prelude.{slice_get}
 use Rattle.std.proofs.lemmas.Option.{slice_get_within}
 use Rattle.batch_matrix.specs.declared.state.State.{State}
-use Rattle.batch_matrix.specs.declared.state.State.TheVariants.{Idle}
-use Rattle.batch_matrix.specs.declared.command.Command.{Command}
-use Rattle.batch_matrix.specs.declared.command.Command.TheVariants.{Reset}
 use Rattle.batch_matrix.specs.Matrix.{target}
 use Rattle.batch_arbiter.specs.Allocation.{Allocation}
-use Rattle.batch_arbiter.specs.Allocation as Arbiter
-use Rattle.batch_chart.specs.Charts.{IsRunning}
-use Rattle.batch_chart.specs.declared.compiled.Compiled.{Compiled}
 use Rattle.batch_engine.specs.declared.batch.Batch.{Batch}
-use Rattle.batch_engine.specs.View.{EngineView, tree_at, batch_of, plant_of}
+use Rattle.batch_engine.specs.View.{EngineView}
 use Rattle.batch_engine.specs.Kept.{IsKept}
-use Rattle.batch_engine.specs.Orders.{IsOrder, IsOrdered}
-use Rattle.batch_engine.proofs.Finding.{got-batch, got-chart, in-charts, batch-runs, runs-here}
+use Rattle.batch_engine.specs.Orders.{IsOrder}
+use Rattle.batch_engine.proofs.Finding.{got-batch}
 use Rattle.batch_engine.proofs.Stepping.{changed}
-use Rattle.batch_engine.proofs.Ordering.{Ordered, enter-made, stop-made, reset-made}
+use Rattle.batch_engine.proofs.Ordering.{Ordered, enter-made}
 use Rattle.batch_engine.proofs.OrderAnswers.{order-at, order-batch, closed-kept', closed-ordered}
 use Rattle.batch_engine.proofs.engine.Engine.enter.Goals as goal
 

@@ -1,17 +1,16 @@
 use Rattle.batch_engine.proofs.Made.{known}
-use Rattle.std.proofs.Common.{◌≡◌, ◌<◌, ◌≤◌, ◌+◌, refl, [], sym, ◌∙◌, ap, ap₂, subst, ℕ, arith, length, Option, Some, None, true, false, inl, inr}
+use Rattle.std.proofs.Common.{◌≡◌, ◌<◌, refl, [], sym, ◌∙◌, ap, subst, arith, length, Some, true, false, inl, inr}
 use Rattle.std.specs.Prelude.{slice_get, option_map}
-use Rattle.std.proofs.lemmas.Bool.{cases_eq}
 use Rattle.batch_arbiter.specs.Allocation.{next_grant, batch_node}
 use Rattle.batch_chart.specs.NodesOf.{need_at}
 use Rattle.batch_chart.specs.Charts.{AsksAt, remains}
 use Rattle.batch_chart.specs.declared.compiled.Compiled.{Compiled}
 use Rattle.batch_engine.specs.declared.batch.Batch.{Batch}
-use Rattle.batch_engine.specs.View.{EngineView, documents, plant_of, batch_of, number_of, tree_of}
+use Rattle.batch_engine.specs.View.{EngineView, documents, plant_of, batch_of, tree_of}
 use Rattle.batch_model.specs.Moves.{least}
 use Rattle.batch_chart.specs.OwnMoves.{grants}
 use Rattle.batch_engine.specs.Kept.{IsKept}
-use Rattle.batch_engine.proofs.Finding.{got-batch, got-chart, in-charts, batch-runs, first-serves, serves-first, no-grants, first-grant, asks_here, served_here, first_here, goes-on, one-batch, one-none, passed, runs-here}
+use Rattle.batch_engine.proofs.Finding.{got-batch, got-chart, in-charts, batch-runs, first-serves, no-grants, first-grant, asks_here, served_here, first_here, goes-on, one-batch, one-none, passed, runs-here}
 use Rattle.batch_engine.proofs.Nodes.{within-or_past}
 use Rattle.batch_engine.proofs.engine.Engine.first_grant.Goals as goal
 

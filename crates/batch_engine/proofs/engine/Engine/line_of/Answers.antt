@@ -1,13 +1,12 @@
-use Rattle.std.proofs.Common.{◌≡◌, ◌<◌, refl, sym, ◌∙◌, ap, subst, ℕ, Option, Some, None, []}
+use Rattle.std.proofs.Common.{◌≡◌, sym, subst, ℕ, Some}
 use Rattle.std.specs.Prelude.{slice_get}
 use Rattle.std.proofs.lemmas.Option.{slice_get_within}
 use Rattle.batch_model.specs.Moves as Moves
 use Rattle.batch_chart.specs.NodesOf.{need_at, place_at}
 use Rattle.batch_engine.specs.declared.batch.Batch.{Batch}
-use Rattle.batch_engine.specs.declared.step.Step.TheVariants as Steps
-use Rattle.batch_engine.specs.View.{EngineView, batch_of, number_of, tree_of}
+use Rattle.batch_engine.specs.View.{EngineView, number_of, tree_of}
 use Rattle.batch_engine.specs.Kept.{IsKept}
-use Rattle.batch_engine.specs.Steps.{IsOwnStep, IsGrantStep, IsNext, IsNextStep}
+use Rattle.batch_engine.specs.Steps.{IsGrantStep, IsNext, IsNextStep}
 use Rattle.batch_engine.proofs.Finding.{got-batch}
 use Rattle.batch_engine.proofs.Answering.{same-at}
 use Rattle.batch_engine.proofs.Telling.{grant-told}

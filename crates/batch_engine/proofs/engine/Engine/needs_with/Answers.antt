@@ -1,13 +1,13 @@
-use Rattle.std.proofs.Common.{◌≡◌, ◌<◌, ◌≤◌, ◌+◌, refl, sym, ◌∙◌, ap, subst, ℕ, List, Option, Some, None, arith, length, get_or, take}
-use Rattle.std.specs.Prelude.{slice_get, sum_by}
+use Rattle.std.proofs.Common.{◌≡◌, ◌<◌, ◌∙◌, ap, subst, ℕ, List, Some, arith, length, get_or}
+use Rattle.std.specs.Prelude.{slice_get}
 use Rattle.std.proofs.lemmas.List.Sums.{sum_by_more}
 use Rattle.std.proofs.lemmas.Option.{get_or_from_slice_get}
 use Rattle.batch_chart.specs.NodesOf.{needs_in}
 use Rattle.batch_engine.specs.declared.batch.Batch.{Batch}
 use Rattle.batch_engine.specs.declared.numbers.RecipeNumbers.{RecipeNumbers}
 use Rattle.batch_engine.specs.View.{EngineView, tree_at, tree_of}
-use Rattle.batch_engine.specs.Kept.{IsKept, needs_of_all}
-use Rattle.batch_engine.proofs.Finding.{got-batch, batch-runs}
+use Rattle.batch_engine.specs.Kept.{IsKept}
+use Rattle.batch_engine.proofs.Finding.{got-batch}
 use Rattle.batch_engine.proofs.NumbersFound.{got-numbers, numbers-here, in-numbers}
 use Rattle.batch_engine.proofs.engine.Engine.needs_with.Goals as goal
 

@@ -1,5 +1,5 @@
-use Rattle.std.proofs.Common.{◌≡◌, ◌<◌, refl, sym, ◌∙◌, ap, subst, ℕ, Option, Some, None, [], true, false}
-use Rattle.std.specs.Prelude.{slice_get, position, nat_eq}
+use Rattle.std.proofs.Common.{◌≡◌, refl, sym, ◌∙◌, ap, subst, ℕ, Some, None, true, false}
+use Rattle.std.specs.Prelude.{slice_get}
 use Rattle.std.proofs.lemmas.Option.{slice_get_within}
 use Rattle.batch_matrix.specs.declared.state.State.{State}
 use Rattle.batch_matrix.specs.declared.command.Command.{Command}
@@ -7,7 +7,6 @@ use Rattle.batch_matrix.specs.declared.command.Command.TheVariants.{Start, Pause
 use Rattle.batch_matrix.specs.Matrix.{accepts, target}
 use Rattle.batch_engine.specs.declared.batch.Batch.{Batch}
 use Rattle.batch_engine.specs.View.{EngineView, batch_of}
-use Rattle.batch_engine.specs.Kept.{IsKept}
 use Rattle.batch_engine.specs.Orders.{IsOrder, IsPlain}
 use Rattle.batch_engine.proofs.Accepted.{accepted, not-accepted}
 use Rattle.batch_engine.proofs.Answering.{same-at}

@@ -1,20 +1,18 @@
-use Rattle.std.proofs.Common.{◌≡◌, ◌<◌, refl, sym, ◌∙◌, ap, subst, ℕ, List, Option, Some, None, arith, length, get_or}
+use Rattle.std.proofs.Common.{◌≡◌, ◌<◌, refl, sym, ◌∙◌, ap, subst, ℕ, List, Option, Some, arith, length, get_or}
 use Rattle.std.specs.Prelude.{slice_get}
-use Rattle.std.proofs.lemmas.Option.{slice_get_within, slice_get_read, slice_get-get_or}
+use Rattle.std.proofs.lemmas.Option.{slice_get_within, slice_get_read}
 use Rattle.batch_recipe.specs.Nodes.{node_count}
-use Rattle.batch_chart.specs.NodesOf.{node_at, step_at, need_at, no_need, phase_at}
-use Rattle.batch_engine.specs.Names.{resource_name, phase_name}
+use Rattle.batch_chart.specs.NodesOf.{node_at, step_at, need_at, no_need}
 use Rattle.batch_engine.specs.Numbered.{AreActsNumbered, IsActNumbered, need_number}
 use Rattle.batch_engine.specs.View.{EngineView, number_of, tree_of}
 use Rattle.batch_engine.specs.Kept.{IsKept}
 use Rattle.batch_engine.specs.declared.batch.Batch.{Batch}
 use Rattle.batch_engine.specs.declared.numbers.ActNumbers.{ActNumbers}
 use Rattle.batch_engine.specs.declared.numbers.NeedNumber.{NeedNumber}
-use Rattle.batch_engine.specs.declared.numbers.PhaseNumber.{PhaseNumber}
 use Rattle.batch_engine.specs.declared.numbers.RecipeNumbers.{RecipeNumbers}
 use Rattle.batch_engine.proofs.Answering.{at-same}
-use Rattle.batch_engine.proofs.Finding.{got-batch, batch-runs, in-recipes}
-use Rattle.batch_engine.proofs.Numbered.{need-numbered, phase-numbered, few-resources, few-units}
+use Rattle.batch_engine.proofs.Finding.{got-batch, in-recipes}
+use Rattle.batch_engine.proofs.Numbered.{need-numbered}
 use Rattle.batch_engine.proofs.NumbersFound.{got-numbers, numbers-here, need-among, in-numbers}
 use Rattle.batch_engine.proofs.engine.Engine.resource_at.Goals as goal
 

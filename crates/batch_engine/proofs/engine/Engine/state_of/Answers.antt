@@ -1,13 +1,12 @@
 use Rattle.batch_recipe.proofs.Order.{counted_nodes}
-use Rattle.std.proofs.Common.{◌≡◌, ◌<◌, refl, sym, ◌∙◌, ap, subst, ℕ, List, [], ◌∷◌, arith, length, Option, Some, None}
+use Rattle.std.proofs.Common.{◌≡◌, ◌<◌, refl, sym, ◌∙◌, ap, subst, ℕ, [], ◌∷◌, arith, length, Option, Some, None}
 use Rattle.std.specs.Prelude.{slice_get}
 use Rattle.std.proofs.lemmas.Option.{slice_get_within, get_or_from_slice_get}
 use Rattle.batch_matrix.specs.declared.state.State.{State}
 use Rattle.batch_recipe.specs.Nodes.{Node, node_count}
 use Rattle.batch_recipe.specs.Places.{IsNodeAt, NoNodeAt}
 use Rattle.batch_recipe.specs.Procedure.{procedure_tree}
-use Rattle.batch_recipe.specs.Tree.{Place, Tree}
-use Rattle.batch_recipe.specs.declared.recipe.Recipe.{Recipe}
+use Rattle.batch_recipe.specs.Tree.{Tree}
 use Rattle.batch_model.specs.ActStates.{state_in}
 use Rattle.batch_model.specs.Plant as Model
 use Rattle.batch_chart.specs.NodesOf.{nodes_of, place_at}

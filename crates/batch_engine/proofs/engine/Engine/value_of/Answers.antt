@@ -1,10 +1,10 @@
-use Rattle.std.proofs.Common.{◌≡◌, refl, sym, ◌∙◌, ap, subst, ℕ, Option, Some, None}
+use Rattle.std.proofs.Common.{◌≡◌, sym, ◌∙◌, ap, ℕ, Option, Some, None}
 use Rattle.std.specs.Prelude.{slice_get}
 use Rattle.std.proofs.lemmas.Option.{slice_get_within}
 use Rattle.batch_recipe.specs.Conditions.{value_of}
 use Rattle.batch_model.specs.Plant as Model
 use Rattle.batch_engine.specs.declared.batch.Batch.{Batch}
-use Rattle.batch_engine.specs.View.{EngineView, plant_of}
+use Rattle.batch_engine.specs.View.{EngineView}
 use Rattle.batch_engine.proofs.Answering.{same-at}
 use Rattle.batch_engine.proofs.Finding.{got-batch}
 use Rattle.batch_engine.proofs.Seeking.{Found, found-at, none-found}
