@@ -117,7 +117,7 @@ fn several_values(rt: HostRuntime) -> Result<(), Fail> {
 fn outputs_are_set_and_cleared(rt: HostRuntime) -> Result<(), Fail> {
     let alloc = rt.alloc();
     let parts = [SEVERAL, PROCEDURE, MAKE, CHARGE, ADD];
-    let recipe = read_recipe(alloc, document(alloc, "F", parts)?.as_bytes())?;
+    let recipe = recipe_of(alloc, document(alloc, "F", parts)?.as_str())?;
     let Ok(mut values) = formula(alloc, &recipe, 1000) else {
         return Err(Fail::from("no values"));
     };
