@@ -2,11 +2,7 @@
 #![tactic(auto)]
 
 #[cfg(test)]
-mod calls;
-#[cfg(test)]
 mod documents;
-#[cfg(test)]
-mod limits;
 #[cfg(test)]
 mod records;
 #[cfg(test)]
