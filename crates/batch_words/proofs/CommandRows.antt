@@ -13,6 +13,9 @@ check_line = codes "check" ∷ codes "c" ∷ codes "r" ∷ codes "s" ∷ []
 abbrev verify_line : List Text
 verify_line = codes "verify" ∷ codes "c" ∷ codes "k" ∷ []
 
+abbrev run_line : List Text
+run_line = codes "run" ∷ codes "c" ∷ codes "k" ∷ codes "r" ∷ []
+
 -- the name, the cell, the certificate and the recipes of the command that was entered
 abbrev entered_words : Option (Text × List Row) → Option (Text × Text × Text × List Text)
 entered_words = option_map (λ p. (p.0, word_of (codes "CELL") p.1, word_of (codes "CERT") p.1, words_of (codes "RECIPE") p.1))
@@ -41,9 +44,21 @@ verify_taken : fault_of program_app verify_line ≡ []
 unfolding clap_on_literals
 verify_taken = refl
 
-run_is_unknown : fault_of program_app (codes "run" ∷ []) ≡ UnknownArgument ∷ InvalidSubcommand ∷ []
+run_entered : entered_words (subcommand_of program_app run_line) ≡ Some (codes "run", codes "c", codes "k", codes "r" ∷ [])
 unfolding clap_on_literals
-run_is_unknown = refl
+run_entered = refl
+
+run_taken : fault_of program_app run_line ≡ []
+unfolding clap_on_literals
+run_taken = refl
+
+serve_is_unknown : fault_of program_app (codes "serve" ∷ []) ≡ UnknownArgument ∷ InvalidSubcommand ∷ []
+unfolding clap_on_literals
+serve_is_unknown = refl
+
+certificate_is_missing : fault_of program_app (codes "run" ∷ codes "c" ∷ []) ≡ MissingRequiredArgument ∷ []
+unfolding clap_on_literals
+certificate_is_missing = refl
 
 cell_is_missing : fault_of program_app (codes "check" ∷ []) ≡ MissingRequiredArgument ∷ []
 unfolding clap_on_literals

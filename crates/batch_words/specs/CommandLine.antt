@@ -1,4 +1,4 @@
--- The command line: `check CELL RECIPE..` and `verify CELL CERT RECIPE..`, and no words at all.
+-- The command line: `check CELL RECIPE..`, `verify CELL CERT RECIPE..`, `run CELL CERT RECIPE..`, and no words at all.
 use Rattle.std.specs.Prelude.{◌≡◌, ◌≢◌, ◌⊎◌, [], List, Option, Some, None, map, codes, true, unwrap_or, string_bytes, ⊤}
 use Rattle.clap.specs.Lexer.{usize_max}
 use Rattle.clap.specs.Kinds.{Kinds, IsAmong}
@@ -8,7 +8,7 @@ use Rattle.clap.specs.declared.builder.action.ArgAction.TheVariants.{Set, Append
 use Rattle.clap.specs.declared.error.kind.ErrorKind.{ErrorKind}
 use Rattle.clap.specs.declared.error.kind.ErrorKind.TheVariants.{DisplayHelp, OutOfMemory}
 use Rattle.batch_words.specs.declared.command.Command.{Command}
-use Rattle.batch_words.specs.declared.command.Command.TheVariants.{Serve, Check, Verify}
+use Rattle.batch_words.specs.declared.command.Command.TheVariants.{Serve, Check, Verify, Run}
 use Rattle.batch_words.specs.declared.command.CommandFault.{CommandFault}
 use Rattle.batch_words.specs.declared.command.CommandFault.TheVariants.{Help, Usage, Memory}
 
@@ -29,12 +29,15 @@ check_app = with_rule (with_rule (new_app (codes "check")) (path_rule (codes "CE
 abbrev pub verify_app : App
 verify_app = with_rule (with_rule (with_rule (new_app (codes "verify")) (path_rule (codes "CELL"))) (path_rule (codes "CERT"))) recipes_rule
 
+abbrev pub run_app : App
+run_app = with_rule (with_rule (with_rule (new_app (codes "run")) (path_rule (codes "CELL"))) (path_rule (codes "CERT"))) recipes_rule
+
 abbrev pub bare_app : App
 bare_app = on_top (λ s. record s { no_binary_name = true; disable_help_subcommand = true }) (new_app (codes "batchd"))
 
 -- the whole command line
 abbrev pub program_app : App
-program_app = with_subcommand (with_subcommand bare_app check_app.top) verify_app.top
+program_app = with_subcommand (with_subcommand (with_subcommand bare_app check_app.top) verify_app.top) run_app.top
 
 -- the word that was given for an argument
 abbrev pub word_of : Text → List Row → Text
@@ -54,10 +57,15 @@ IsCommandOf entered (Verify cell certificate recipes) = (rows : List Row) × (en
     × (string_bytes certificate ≡ word_of (codes "CERT") rows)
     × (map string_bytes recipes.items ≡ words_of (codes "RECIPE") rows)
 
--- one of the two commands was entered, or none
+IsCommandOf entered (Run cell certificate recipes) = (rows : List Row) × (entered ≡ Some (codes "run", rows))
+    × (string_bytes cell ≡ word_of (codes "CELL") rows)
+    × (string_bytes certificate ≡ word_of (codes "CERT") rows)
+    × (map string_bytes recipes.items ≡ words_of (codes "RECIPE") rows)
+
+-- one of the commands was entered, or none
 abbrev pub IsEntry : Option (Text × List Row) → Type 0
 IsEntry None = ⊤
-IsEntry (Some entered) = (entered.0 ≡ codes "check") ⊎ (entered.0 ≡ codes "verify")
+IsEntry (Some entered) = (entered.0 ≡ codes "check") ⊎ (entered.0 ≡ codes "verify") ⊎ (entered.0 ≡ codes "run")
 
 -- what a fault of this kind is to the user
 abbrev pub IsFaultOfKind : ErrorKind → CommandFault → Type 0

@@ -8,7 +8,7 @@ use thiserror::Error;
 /// A command of the program, with the paths of its documents.
 #[derive(Debug, Drop)]
 pub enum Command {
-    /// To serve event lines from standard input.
+    /// To serve event lines from standard input over the built-in documents.
     Serve,
     /// To find a certificate for the recipes.
     Check {
@@ -17,6 +17,12 @@ pub enum Command {
     },
     /// To check a certificate for the recipes.
     Verify {
+        cell: String,
+        certificate: String,
+        recipes: Vec<String>,
+    },
+    /// To serve event lines from standard input over these documents.
+    Run {
         cell: String,
         certificate: String,
         recipes: Vec<String>,

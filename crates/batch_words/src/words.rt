@@ -2,7 +2,7 @@
 ghost use Rattle.std.specs.Prelude.{◌≡◌, IfOk, IfErr, map, string_bytes, codes, false, []};
 ghost use Rattle.clap.specs.Words.{FailsBy, app_of, fault_of, found_of, kind_of, rows_of, rule_of, subcommand_of, subcommand_rows_of};
 ghost use Rattle.clap.specs.declared.builder.command.Command.TheViews.{out-Command};
-ghost use Rattle.batch_words.specs.CommandLine.{IsCommandOf, IsEntry, IsFaultOf, IsFaultOfKind, check_app, path_rule, program_app, recipes_rule, verify_app, word_of, words_of};
+ghost use Rattle.batch_words.specs.CommandLine.{IsCommandOf, IsEntry, IsFaultOf, IsFaultOfKind, check_app, path_rule, program_app, recipes_rule, run_app, verify_app, word_of, words_of};
 
 use crate::command::{Command, CommandFault};
 use clap::error::ErrorKind;
@@ -37,13 +37,14 @@ fn program<'a>(alloc: Global) -> Result<clap::Command<'a>, AllocError>
 {
     clap::Command::new(alloc, "batchd")
         .about(
-            "A batch server for one process cell; without a command it serves event lines from standard input",
+            "A batch server for one process cell; without a command it serves event lines from standard input over a demo cell",
         )
         .no_binary_name(true)
         .disable_help_subcommand(true)
         .bin_name("batchd")?
         .subcommand(check(alloc)?)?
-        .subcommand(verify(alloc)?)
+        .subcommand(verify(alloc)?)?
+        .subcommand(run(alloc)?)
 }
 
 fn check<'a>(alloc: Global) -> Result<clap::Command<'a>, AllocError>
@@ -62,6 +63,17 @@ fn verify<'a>(alloc: Global) -> Result<clap::Command<'a>, AllocError>
 {
     clap::Command::new(alloc, "verify")
         .about("Prints whether the certificate clears the recipes for the cell")
+        .arg(path(alloc, "CELL", "The cell document"))?
+        .arg(path(alloc, "CERT", "The certificate"))?
+        .arg(recipes(alloc))
+}
+
+fn run<'a>(alloc: Global) -> Result<clap::Command<'a>, AllocError>
+    ensures app { IfOk result (λ run. app_of run ≡ run_app) }
+    ensures local { IfOk result (λ run. (out-Command run).has_globals ≡ false) }
+{
+    clap::Command::new(alloc, "run")
+        .about("Serves event lines from standard input over the recipes that the certificate clears")
         .arg(path(alloc, "CELL", "The cell document"))?
         .arg(path(alloc, "CERT", "The certificate"))?
         .arg(recipes(alloc))
@@ -96,14 +108,21 @@ fn command_of(alloc: Global, matches: &ArgMatches<'_>) -> Result<Command, AllocE
             let cell = word(alloc, words, "CELL")?;
             let recipes = recipe_words(alloc, words)?;
             if name == "check" {
-                Ok(Command::Check { cell, recipes })
-            } else {
-                Ok(Command::Verify {
-                    cell,
-                    certificate: word(alloc, words, "CERT")?,
-                    recipes,
-                })
+                return Ok(Command::Check { cell, recipes });
             }
+            let certificate = word(alloc, words, "CERT")?;
+            if name == "verify" {
+                return Ok(Command::Verify {
+                    cell,
+                    certificate,
+                    recipes,
+                });
+            }
+            Ok(Command::Run {
+                cell,
+                certificate,
+                recipes,
+            })
         }
         None => Ok(Command::Serve),
     }

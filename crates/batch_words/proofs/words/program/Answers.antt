@@ -1,7 +1,7 @@
 use Rattle.std.proofs.Common.{ap, ap₂, ◌≡◌, ◌∙◌, true}
 use Rattle.std.proofs.lemmas.Result.{IfOk-weaker}
 use Rattle.clap.specs.Simple.{App, app_of, app_of_fields, on_top, with_subcommand}
-use Rattle.batch_words.specs.CommandLine.{bare_app, check_app}
+use Rattle.batch_words.specs.CommandLine.{bare_app, check_app, verify_app}
 use Rattle.batch_words.proofs.words.program.Goals as goal
 
 pub returns : goal.returns
@@ -13,6 +13,9 @@ returns c =
     let checking : app_of c.in_ok-subcommand.field-0 ≡ with_subcommand bare_app check_app.top =
     c.in_ok-subcommand.ensures.shape c.in_ok-check.ensures.local
     ∙ ap₂ with_subcommand bare (ap (λ (a : App). a.top) c.in_ok-check.ensures.app) in
-    IfOk-weaker c.subcommand-2.result _ _
-    (λ program added. added.shape c.in_ok-verify.ensures.local
-    ∙ ap₂ with_subcommand checking (ap (λ (a : App). a.top) c.in_ok-verify.ensures.app)) c.subcommand-2.ensures
+    let verifying : app_of c.in_ok-subcommand-2.field-0 ≡ with_subcommand (with_subcommand bare_app check_app.top) verify_app.top =
+    c.in_ok-subcommand-2.ensures.shape c.in_ok-verify.ensures.local
+    ∙ ap₂ with_subcommand checking (ap (λ (a : App). a.top) c.in_ok-verify.ensures.app) in
+    IfOk-weaker c.subcommand-3.result _ _
+    (λ program added. added.shape c.in_ok-run.ensures.local
+    ∙ ap₂ with_subcommand verifying (ap (λ (a : App). a.top) c.in_ok-run.ensures.app)) c.subcommand-3.ensures
