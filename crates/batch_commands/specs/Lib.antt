@@ -5,3 +5,5 @@ pub mod Reading
 pub mod Halting
 pub mod Running
 pub mod Statuses
+pub mod DemoDocuments
+pub mod Requests

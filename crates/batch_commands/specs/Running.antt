@@ -1,8 +1,6 @@
 -- What the program writes for its words, to which stream, and how it ends.
 use Rattle.std.specs.Prelude.{◌≡◌, ◌≢◌, ◌⊎◌, ◌≤◌, ℕ, List, [], Option, Some, None, Result, Ok, Err, map, string_bytes}
 use Rattle.std.specs.Io.KnownBytes.{Appends, Keeps}
-use Rattle.std.specs.Process.{exit_status}
-use Rattle.std.specs.declared.process.ExitCode.{ExitCode}
 use Rattle.clap.specs.Kinds.{IsAmong}
 use Rattle.clap.specs.Walk.{Text}
 use Rattle.clap.specs.Words.{fault_of, subcommand_of}
@@ -12,8 +10,11 @@ use Rattle.batch_words.specs.CommandLine.{IsCommandOf, program_app}
 use Rattle.batch_commands.specs.Halting.{HaltsCheck, HaltsVerify}
 use Rattle.batch_commands.specs.Judging.{IsHalt, status_of}
 use Rattle.batch_commands.specs.Reading.{ChecksDocuments, Gives, VerifiesDocuments}
+use Rattle.batch_commands.specs.Requests.{Request, serve, check, verify, run, request_of, IsServed, HaltsServing}
+use Rattle.batch_verify.specs.ClearedSet.{ClearedSet}
 use Rattle.batch_words.specs.declared.command.Command.{Command}
-use Rattle.batch_words.specs.declared.command.Command.TheVariants.{Serve, Check, Verify}
+use Rattle.batch_commands.specs.declared.course.Course.{Course}
+use Rattle.batch_commands.specs.declared.course.Course.TheVariants.{Ends, Serves}
 use Rattle.batch_commands.specs.declared.verdict.Halt.{Halt}
 use Rattle.batch_commands.specs.declared.verdict.Halt.TheVariants as halt
 use Rattle.batch_commands.specs.declared.verdict.Verdict.{Verdict}
@@ -33,9 +34,6 @@ fault_status = 3
 
 abbrev pub memory_status : ℕ
 memory_status = 4
-
-abbrev pub IsExitStatus : ExitCode → Type 0
-IsExitStatus code = exit_status code ≤ 4
 
 -- Streams
 
@@ -64,16 +62,15 @@ IsNamed words command = (fault_of program_app words ≡ []) × IsCommandOf (subc
 abbrev pub AreMisused : List Text → Type 0
 AreMisused words = (kind : ErrorKind) × IsAmong kind (fault_of program_app words) × (kind ≢ DisplayHelp)
 
--- the outcome of a command: the verdict on its documents, or how the first that can't be read or is refused ends it
-abbrev pub IsOutcome : Gives → Command → Result Verdict Halt → Type 0
-IsOutcome gives Serve outcome = ⊥
-IsOutcome gives (Check cell recipes) (Ok verdict) =
-    ChecksDocuments gives (string_bytes cell) (map string_bytes recipes.items) (string_bytes verdict.text) verdict.ending
-IsOutcome gives (Check cell recipes) (Err h) = HaltsCheck gives (string_bytes cell) (map string_bytes recipes.items) h × IsHalt h
-IsOutcome gives (Verify cell certificate recipes) (Ok verdict) =
-    VerifiesDocuments gives (string_bytes cell) (string_bytes certificate) (map string_bytes recipes.items) (string_bytes verdict.text) verdict.ending
-IsOutcome gives (Verify cell certificate recipes) (Err h) =
-    HaltsVerify gives (string_bytes cell) (string_bytes certificate) (map string_bytes recipes.items) h × IsHalt h
+-- the outcome of judging documents: the verdict on them, or how the first that can't be read or is refused ends it
+abbrev pub IsOutcome : Gives → Request → Result Verdict Halt → Type 0
+IsOutcome gives serve outcome = ⊥
+IsOutcome gives (check cell recipes) (Ok verdict) = ChecksDocuments gives cell recipes (string_bytes verdict.text) verdict.ending
+IsOutcome gives (check cell recipes) (Err h) = HaltsCheck gives cell recipes h × IsHalt h
+IsOutcome gives (verify cell certificate recipes) (Ok verdict) =
+    VerifiesDocuments gives cell certificate recipes (string_bytes verdict.text) verdict.ending
+IsOutcome gives (verify cell certificate recipes) (Err h) = HaltsVerify gives cell certificate recipes h × IsHalt h
+IsOutcome gives (run cell certificate recipes) outcome = ⊥
 
 -- verdicts and refusals are printed; a file that can't be read and want of memory leave the output as it was, and are told on
 -- the errors in a free text
@@ -83,17 +80,29 @@ IsTold output errors (Err (halt.Refused verdict)) status = IsPrinted output erro
 IsTold output errors (Err (halt.Unread message)) status = IsUntouched output × (status ≡ fault_status)
 IsTold output errors (Err halt.Memory) status = IsUntouched output × (status ≡ memory_status)
 
+-- the set is to be served, and nothing is written; or it is told why there is none
+abbrev pub IsTaken : Stream → Stream → Result ClearedSet Halt → Course → Type 0
+IsTaken output errors (Ok set) course = IsUntouched output × IsUntouched errors × (course ≡ Serves set)
+IsTaken output errors (Err h) (Ends status) = IsTold output errors (Err h) status
+IsTaken output errors (Err h) (Serves set) = ⊥
+
 -- Runs
 
--- what comes of the words: the exit status, or none where the program is to serve
-pub data IsRun (gives : Gives) (words : List Text) (output errors : Stream) : Option ℕ → Type 0 where
-  serves : IsNamed words Serve → IsUntouched output → IsUntouched errors → IsRun gives words output errors None
+-- what comes of the words: the exit status, or the set that the program is to serve
+pub data IsRun (gives : Gives) (words : List Text) (output errors : Stream) : Course → Type 0 where
+  serves : (command : Command) (set : ClearedSet)
+      → IsNamed words command → IsServed gives (request_of command) set → IsUntouched output → IsUntouched errors
+      → IsRun gives words output errors (Serves set)
+  -- there is no set to be served
+  halts : (command : Command) (h : Halt) (status : ℕ)
+      → IsNamed words command → HaltsServing gives (request_of command) h → IsHalt h → IsTold output errors (Err h) status
+      → IsRun gives words output errors (Ends status)
   judges : (command : Command) (outcome : Result Verdict Halt) (status : ℕ)
-      → IsNamed words command → IsOutcome gives command outcome → IsTold output errors outcome status
-      → IsRun gives words output errors (Some status)
+      → IsNamed words command → IsOutcome gives (request_of command) outcome → IsTold output errors outcome status
+      → IsRun gives words output errors (Ends status)
   helps : (text : List ℕ) (status : ℕ)
       → IsAmong DisplayHelp (fault_of program_app words) → IsPrinted output errors text help_status status
-      → IsRun gives words output errors (Some status)
-  misuses : AreMisused words → IsUntouched output → IsRun gives words output errors (Some usage_status)
+      → IsRun gives words output errors (Ends status)
+  misuses : AreMisused words → IsUntouched output → IsRun gives words output errors (Ends usage_status)
   -- there was no memory to read the words
-  starves : IsUntouched output → IsRun gives words output errors (Some memory_status)
+  starves : IsUntouched output → IsRun gives words output errors (Ends memory_status)

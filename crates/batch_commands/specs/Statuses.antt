@@ -1,5 +1,5 @@
 -- What the exit status of a run tells.
-use Rattle.std.specs.Prelude.{◌≡◌, ◌⊎◌, ℕ, List, Option, Some, None, map, string_bytes}
+use Rattle.std.specs.Prelude.{◌≡◌, ◌⊎◌, ℕ, List}
 use Rattle.std.specs.Io.KnownBytes.{Appends}
 use Rattle.clap.specs.Walk.{Text}
 use Rattle.batch_cell.specs.declared.cell.Cell.{Cell}
@@ -7,12 +7,17 @@ use Rattle.batch_recipe.specs.declared.recipe.Recipe.{Recipe}
 use Rattle.batch_model.specs.Cleared.{IsCleared}
 use Rattle.batch_model.specs.Documents.{cell_of, documents_of}
 use Rattle.batch_verify.specs.CertificateText.{Rank}
+use Rattle.batch_verify.specs.ClearedSet.{ClearedSet}
 use Rattle.batch_verify.specs.Ranked.{rank_of, RanksAll}
 use Rattle.batch_commands.specs.Reading.{ChecksDocuments, Gives, ReadsCell, ReadsCertificate, ReadsRecipes}
+use Rattle.batch_commands.specs.Requests.{Request, serve, check, verify, run, request_of, IsServed, HaltsServing}
 use Rattle.batch_commands.specs.Running.{IsNamed, IsRun, Stream, memory_status}
 use Rattle.batch_commands.specs.VerdictTexts.{accepted_text}
 use Rattle.batch_words.specs.declared.command.Command.{Command}
-use Rattle.batch_words.specs.declared.command.Command.TheVariants.{Serve, Check, Verify}
+use Rattle.batch_words.specs.declared.command.Command.TheVariants.{Serve}
+use Rattle.batch_commands.specs.declared.course.Course.{Course}
+use Rattle.batch_commands.specs.declared.course.Course.TheVariants.{Ends, Serves}
+use Rattle.batch_commands.specs.declared.verdict.Halt.{Halt}
 use Rattle.batch_commands.specs.declared.verdict.Ending.TheVariants.{Accepted}
 
 -- the documents at these paths are a cell, a certificate that ranks each of its resources once, and recipes that are cleared
@@ -27,24 +32,33 @@ pub record AreClearedDocuments (gives : Gives) (cell certificate : List ℕ) (pa
   pub ranked : RanksAll (cell_of equipment) ranks
   pub cleared : IsCleared (cell_of equipment) (documents_of equipment recipes) (rank_of ranks)
 
--- `check` wrote the certificate with the least ranks; `verify` wrote that it accepts, and the recipes are cleared
-abbrev pub IsSuccess : Gives → Command → Stream → Type 0
-IsSuccess gives Serve output = ⊥
-IsSuccess gives (Check cell recipes) output =
-    (text : List ℕ) × Appends output.before output.after text
-    × ChecksDocuments gives (string_bytes cell) (map string_bytes recipes.items) text Accepted
-IsSuccess gives (Verify cell certificate recipes) output =
-    Appends output.before output.after accepted_text
-    × AreClearedDocuments gives (string_bytes cell) (string_bytes certificate) (map string_bytes recipes.items)
+-- `check` wrote the certificate with the least ranks; `verify` wrote that it accepts, and the recipes are cleared. Nothing else
+-- ends so before it has served
+abbrev pub IsSuccess : Gives → Request → Stream → Type 0
+IsSuccess gives serve output = ⊥
+IsSuccess gives (check cell recipes) output =
+    (text : List ℕ) × Appends output.before output.after text × ChecksDocuments gives cell recipes text Accepted
+IsSuccess gives (verify cell certificate recipes) output =
+    Appends output.before output.after accepted_text × AreClearedDocuments gives cell certificate recipes
+IsSuccess gives (run cell certificate recipes) output = ⊥
 
 -- a command that ends with status 0 was a success
 abbrev pub SuccessIsTold : Gives → Type 0
 SuccessIsTold gives =
     (words : List Text) (output errors : Stream) (command : Command)
-    → IsNamed words command → IsRun gives words output errors (Some 0) → IsSuccess gives command output
+    → IsNamed words command → IsRun gives words output errors (Ends 0) → IsSuccess gives (request_of command) output
 
--- where the words name no command, the program is to serve, unless there was no memory to read them
+-- a set is served only where the words ask for it, and it is that of the documents, cleared by their certificate
+abbrev pub ServesClearedSets : Gives → Type 0
+ServesClearedSets gives =
+    (words : List Text) (output errors : Stream) (command : Command) (set : ClearedSet)
+    → IsNamed words command → IsRun gives words output errors (Serves set) → IsServed gives (request_of command) set
+
+-- where the words name no command, the demo is to be served, unless memory ran out, or the demo's documents say why not
 abbrev pub NoCommandServes : Gives → Type 0
 NoCommandServes gives =
-    (words : List Text) (output errors : Stream) (status : Option ℕ)
-    → IsNamed words Serve → IsRun gives words output errors status → (status ≡ None) ⊎ (status ≡ Some memory_status)
+    (words : List Text) (output errors : Stream) (course : Course)
+    → IsNamed words Serve → IsRun gives words output errors course
+    → ((set : ClearedSet) × IsServed gives serve set × (course ≡ Serves set))
+    ⊎ ((h : Halt) × HaltsServing gives serve h)
+    ⊎ (course ≡ Ends memory_status)

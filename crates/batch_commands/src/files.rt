@@ -11,7 +11,7 @@ use std::rt::Files;
 
 /// The files that the runtime opens. No contract says what they hold.
 #[derive(Drop)]
-pub(crate) struct FilesOf<'a, R>(pub(crate) &'a R);
+pub struct FilesOf<'a, R>(pub &'a R);
 
 impl<R: Files> Documents for FilesOf<'_, R> {
     ghost gives = { λ _ _ _. ⊤ };

@@ -1,11 +1,13 @@
 //! Laws over runs of the program.
-ghost use Rattle.batch_commands.specs.Statuses.{NoCommandServes, SuccessIsTold};
+ghost use Rattle.batch_commands.specs.Statuses.{NoCommandServes, ServesClearedSets, SuccessIsTold};
 
 use crate::documents::Documents;
 
-/// What the exit status of [`run_words`](crate::run_words) tells of the documents and of standard output.
+/// What [`run_words`](crate::run_words) tells, by its exit status or by the set that is to be served, of the documents and of
+/// standard output.
 pub fn statuses_tell<D: Documents>(documents: &D)
     ensures success { SuccessIsTold (D.gives documents.now) }
+    ensures served { ServesClearedSets (D.gives documents.now) }
     ensures serving { NoCommandServes (D.gives documents.now) }
 {
     let _documents = documents;

@@ -1,6 +1,8 @@
-//! The program's commands `check` and `verify`: the texts of the verdicts, the files, and the runs of command lines.
+//! The program's commands: the texts of the verdicts, the files, the runs of command lines, and the set that is to be served.
 #![tactic(auto)]
 
+mod course;
+mod demo;
 mod documents;
 mod files;
 mod judging;
@@ -10,13 +12,15 @@ mod running;
 mod texts;
 mod verdict;
 
+pub use course::Course;
 pub use documents::{Documents, check_documents, clear_documents, verify_documents};
+pub use files::FilesOf;
 pub use judging::{
     MAX_CERTIFICATE_LEN, check_recipes, clear_recipes, judge_cell, judge_certificate, judge_recipe,
     verify_recipes,
 };
 pub use laws::statuses_tell;
 pub use reading::{MAX_READS, ReadFault, read_document};
-pub use running::{run, run_on_files, run_words};
+pub use running::{FILE_FAULT, NO_MEMORY, OUT_OF_MEMORY, UNWRITTEN, USAGE, complain, run_words};
 pub use texts::{certificate_refused, certificate_text, document_text, fault_text, refusal_text};
 pub use verdict::{Ending, Halt, Verdict};

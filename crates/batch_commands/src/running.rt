@@ -1,83 +1,58 @@
 //! Running the program's commands.
-ghost use Rattle.std.specs.Prelude.{◌≡◌, ◌≤◌, IfSome, map, string_bytes};
-ghost use Rattle.batch_commands.specs.Running.{IsExitStatus, IsPrinted, IsRun, IsTold};
+ghost use Rattle.std.specs.Prelude.{◌≡◌, IfErr, IfOk, OnOk, map, string_bytes};
+ghost use Rattle.std.specs.Io.KnownBytes.{Appends};
+ghost use Rattle.batch_commands.specs.Judging.{IsHalt};
+ghost use Rattle.batch_commands.specs.Requests.{HaltsServing, IsServed, serve};
+ghost use Rattle.batch_commands.specs.Running.{IsPrinted, IsRun, IsTaken, IsTold};
 
-use crate::documents::{Documents, check_documents, verify_documents};
-use crate::files::FilesOf;
+use crate::course::Course;
+use crate::demo::{CELL_PATH, CERTIFICATE_PATH, Demo, RECIPE_PATH};
+use crate::documents::{Documents, check_documents, clear_documents, verify_documents};
 use crate::verdict::{Halt, Verdict};
+use batch_verify::Cleared;
 use batch_words::{Command, CommandFault, parse};
 use std::alloc::Global;
-use std::io::{ErrorKind, Write};
-use std::process::ExitCode;
-use std::{env, io};
+use std::io;
+use std::io::Write;
 
 /// The exit status where help was asked for.
 const SUCCESS: u8 = 0;
 
 /// The exit status where the words are no command.
-const USAGE: u8 = 2;
+pub const USAGE: u8 = 2;
 
 /// The exit status where a file can't be read, or standard output can't be written.
-const FILE_FAULT: u8 = 3;
+pub const FILE_FAULT: u8 = 3;
 
 /// The exit status where memory ran out.
-const NO_MEMORY: u8 = 4;
+pub const NO_MEMORY: u8 = 4;
 
-const OUT_OF_MEMORY: &str = "out of memory\n";
+/// What is told of it where memory ran out.
+pub const OUT_OF_MEMORY: &str = "out of memory\n";
 
-const UNWRITTEN: &str = "standard output can't be written\n";
+/// What is told of it where standard output can't be written.
+pub const UNWRITTEN: &str = "standard output can't be written\n";
 
-/// Runs the command that stands in the words of the process, over its files and its streams, and gives the exit status, or
-/// None where the program is to serve.
-pub fn run(rt: &HostRuntime) -> Option<ExitCode>
-    ensures { IfSome result IsExitStatus }
-{
-    let mut errors = rt.stderr();
-    let status = match words_of(rt) {
-        Ok(words) => run_on_files(rt, &words)?,
-        Err(error) if error.kind() == ErrorKind::OutOfMemory => {
-            complain(&mut errors, OUT_OF_MEMORY, NO_MEMORY)
-        }
-        Err(_) => complain(&mut errors, "an argument is no text\n", USAGE),
-    };
-    Some(ExitCode::from(status))
-}
-
-/// Runs the command that the words name over the files and the streams of the process, and gives the exit status, or None
-/// where the program is to serve.
-pub fn run_on_files(rt: &HostRuntime, words: &[String]) -> Option<u8>
-    ensures { IfSome result (λ status. status ≤ 4) }
-{
-    let mut output = rt.stdout();
-    let mut errors = rt.stderr();
-    run_words(rt.alloc(), words, &FilesOf(rt), &mut output, &mut errors)
-}
-
-/// The words after the program's name.
-fn words_of(rt: &HostRuntime) -> io::Result<Vec<String>> {
-    Ok(env::args(rt)?.skip(1).collect(rt.alloc())?)
-}
-
-/// Runs the command that the words name, and gives the exit status, or None where the program is to serve.
+/// Does what the words ask for: judges documents and tells the verdict, or clears the set that is to be served.
 ///
 /// Verdicts and help go to the output, and all else, in a free text, to the errors. Where that text can't be written the
-/// exit status is the same.
+/// exit status is the same. Without words the set is that of the demo.
 pub fn run_words<D: Documents, O: Write, E: Write>(
     alloc: Global,
     words: &[String],
     documents: &D,
     output: &mut O,
     errors: &mut E,
-) -> Option<u8>
+) -> Course
     ensures { IsRun (D.gives documents.now) (map string_bytes words.now)
         (record { before = O.contents output.old; after = O.contents output.new })
         (record { before = E.contents errors.old; after = E.contents errors.new }) result }
 {
     match parse(alloc, words) {
-        Ok(Command::Serve) => None,
+        Ok(Command::Serve) => take(clear_demo(alloc), output, errors),
         Ok(Command::Check { cell, recipes }) => {
             let outcome = check_documents(alloc, documents, &cell, &recipes);
-            Some(tell(&outcome, output, errors))
+            Course::Ends(tell(&outcome, output, errors))
         }
         Ok(
             Command::Verify {
@@ -87,11 +62,42 @@ pub fn run_words<D: Documents, O: Write, E: Write>(
             },
         ) => {
             let outcome = verify_documents(alloc, documents, &cell, &certificate, &recipes);
-            Some(tell(&outcome, output, errors))
+            Course::Ends(tell(&outcome, output, errors))
         }
-        Err(CommandFault::Help(text)) => Some(print(output, errors, &text, SUCCESS)),
-        Err(CommandFault::Usage(text)) => Some(complain(errors, &text, USAGE)),
-        Err(CommandFault::Memory) => Some(complain(errors, OUT_OF_MEMORY, NO_MEMORY)),
+        Ok(
+            Command::Run {
+                cell,
+                certificate,
+                recipes,
+            },
+        ) => {
+            let set = clear_documents(alloc, documents, &cell, &certificate, &recipes);
+            take(set, output, errors)
+        }
+        Err(CommandFault::Help(text)) => Course::Ends(print(output, errors, &text, SUCCESS)),
+        Err(CommandFault::Usage(text)) => Course::Ends(complain(errors, &text, USAGE)),
+        Err(CommandFault::Memory) => Course::Ends(complain(errors, OUT_OF_MEMORY, NO_MEMORY)),
+    }
+}
+
+/// The set of the demo, read and cleared as any other.
+fn clear_demo(alloc: Global) -> Result<Cleared, Halt>
+    ensures served { IfOk result (IsServed (λ _ _. ⊥) serve) }
+    ensures halts { IfErr result IsHalt }
+    ensures halted { IfErr result (HaltsServing (λ _ _. ⊥) serve) }
+{
+    let recipes = [String::from_str(alloc, RECIPE_PATH)?];
+    clear_documents(alloc, &Demo, CELL_PATH, CERTIFICATE_PATH, &recipes)
+}
+
+/// Takes the set that is to be served, or tells why there is none.
+fn take<O: Write, E: Write>(set: Result<Cleared, Halt>, output: &mut O, errors: &mut E) -> Course
+    ensures { IsTaken (record { before = O.contents output.old; after = O.contents output.new })
+        (record { before = E.contents errors.old; after = E.contents errors.new }) set result }
+{
+    match set {
+        Ok(cleared) => Course::Serves(cleared),
+        Err(halt) => Course::Ends(tell(&Err(halt), output, errors)),
     }
 }
 
@@ -114,16 +120,26 @@ fn print<O: Write, E: Write>(output: &mut O, errors: &mut E, text: &str, wanted:
     ensures { IsPrinted (record { before = O.contents output.old; after = O.contents output.new })
         (record { before = E.contents errors.old; after = E.contents errors.new }) text.now wanted result }
 {
-    match output.write_all(text.as_bytes()) {
+    match write_out(output, text) {
         Ok(()) => wanted,
         Err(_) => complain(errors, UNWRITTEN, FILE_FAULT),
     }
 }
 
-/// Writes the text if it can, and gives the exit status in any case.
-fn complain<E: Write>(errors: &mut E, text: &str, status: u8) -> u8
+/// Writes the text and hands it on.
+fn write_out<O: Write>(output: &mut O, text: &str) -> io::Result<()>
+    ensures { OnOk result (Appends (O.contents output.old) (O.contents output.new) text.now) }
+{
+    output.write_all(text.as_bytes())?;
+    output.flush()
+}
+
+/// Tells the text if it can, behind the program's name, and gives the exit status in any case.
+pub fn complain<E: Write>(errors: &mut E, text: &str, status: u8) -> u8
     ensures { result ≡ status }
 {
+    let _ = errors.write_all(b"batchd: ");
     let _ = errors.write_all(text.as_bytes());
+    let _ = errors.flush();
     status
 }

@@ -1,0 +1,42 @@
+-- What the words of the program ask for, with the paths of its documents.
+use Rattle.std.specs.Prelude.{◌≡◌, ℕ, List, [], ◌∷◌, map, string_bytes}
+use Rattle.batch_verify.specs.ClearedSet.{ClearedSet}
+use Rattle.batch_words.specs.declared.command.Command.{Command}
+use Rattle.batch_words.specs.declared.command.Command.TheVariants.{Serve, Check, Verify, Run}
+use Rattle.batch_commands.specs.DemoDocuments.{demo_text}
+use Rattle.batch_commands.specs.Halting.{HaltsClearing}
+use Rattle.batch_commands.specs.Reading.{AreCleared, Gives}
+use Rattle.batch_commands.specs.declared.demo.TheConstants.{CELL_PATH, CERTIFICATE_PATH, RECIPE_PATH}
+use Rattle.batch_commands.specs.declared.verdict.Halt.{Halt}
+
+pub data Request : Type 0 where
+  -- to serve the demo
+  serve : Request
+  check : (cell : List ℕ) (recipes : List (List ℕ)) → Request
+  verify : (cell certificate : List ℕ) (recipes : List (List ℕ)) → Request
+  -- to serve the set of these documents
+  run : (cell certificate : List ℕ) (recipes : List (List ℕ)) → Request
+
+abbrev pub request_of : Command → Request
+request_of Serve = serve
+request_of (Check cell recipes) = check (string_bytes cell) (map string_bytes recipes.items)
+request_of (Verify cell certificate recipes) = verify (string_bytes cell) (string_bytes certificate) (map string_bytes recipes.items)
+request_of (Run cell certificate recipes) = run (string_bytes cell) (string_bytes certificate) (map string_bytes recipes.items)
+
+-- what is read of the demo
+abbrev pub demo_gives : Gives
+demo_gives path reading = reading ≡ demo_text path
+
+-- the set that is to be served: that of the documents, cleared by their certificate
+abbrev pub IsServed : Gives → Request → ClearedSet → Type 0
+IsServed gives serve set = AreCleared demo_gives CELL_PATH.now CERTIFICATE_PATH.now (RECIPE_PATH.now ∷ []) set
+IsServed gives (check cell recipes) set = ⊥
+IsServed gives (verify cell certificate recipes) set = ⊥
+IsServed gives (run cell certificate recipes) set = AreCleared gives cell certificate recipes set
+
+-- why there is no set to be served
+abbrev pub HaltsServing : Gives → Request → Halt → Type 0
+HaltsServing gives serve h = HaltsClearing demo_gives CELL_PATH.now CERTIFICATE_PATH.now (RECIPE_PATH.now ∷ []) h
+HaltsServing gives (check cell recipes) h = ⊥
+HaltsServing gives (verify cell certificate recipes) h = ⊥
+HaltsServing gives (run cell certificate recipes) h = HaltsClearing gives cell certificate recipes h

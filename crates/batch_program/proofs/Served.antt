@@ -1,0 +1,173 @@
+-- What a run that serves tells.
+use Rattle.std.proofs.Common.{◌≡◌, ℕ, ◌≤◌, List, Option, Some, None, Result, Ok, Err, Unit, inl, inr, refl, subst, arith, ◌∙◌}
+use Rattle.std.specs.Prelude.{IfSome, take}
+use Rattle.std.specs.Io.KnownBytes.{Appends, Keeps}
+use Rattle.clap.specs.Walk.{Text}
+use Rattle.batch_verify.specs.ClearedSet.{ClearedSet}
+use Rattle.batch_model.specs.Plant.{Documents}
+use Rattle.batch_engine.specs.View.{documents}
+use Rattle.batch_wire.specs.Transcript.{lines_of, whole_lines}
+use Rattle.batch_wire.specs.Written.{AppendsBeginning}
+use Rattle.batch_serve.specs.Safe.{BeginsSafely, WritesSafely, WritesWholeSafely}
+use Rattle.batch_words.specs.declared.command.Command.{Command}
+use Rattle.batch_commands.specs.Reading.{Gives}
+use Rattle.batch_commands.specs.Requests.{Request, IsServed, request_of, serve, check, verify, run}
+use Rattle.batch_commands.specs.Running.{IsNamed, IsPrinted, IsRun, IsTold, Stream, help_status, usage_status, memory_status}
+use Rattle.batch_commands.specs.Statuses.{IsSuccess}
+use Rattle.batch_commands.proofs.Successes.{same_request, success_is_told}
+use Rattle.batch_commands.specs.Judging.{status_of}
+use Rattle.batch_commands.specs.Running as running
+use Rattle.batch_commands.specs.declared.course.Course.{Course}
+use Rattle.batch_commands.specs.declared.course.Course.TheVariants.{Ends}
+use Rattle.batch_commands.specs.declared.course.Course.TheVariants as course_of
+use Rattle.batch_commands.specs.declared.verdict.Ending.{Ending}
+use Rattle.batch_commands.specs.declared.verdict.Ending.TheVariants.{Accepted, Refused, OutOfMemory}
+use Rattle.batch_commands.specs.declared.verdict.Halt.TheVariants as halt
+use Rattle.batch_commands.specs.declared.verdict.Halt.{Halt}
+use Rattle.batch_commands.specs.declared.verdict.Verdict.{Verdict}
+use Rattle.batch_serve.specs.Serves as serving
+use Rattle.batch_serve.specs.Serves.{AnswersAll, Serves}
+use Rattle.batch_serve.specs.declared.fault.ServeFault.TheVariants.{Read, Write, TooManyReads}
+use Rattle.batch_serve.specs.declared.fault.SetFault.{SetFault}
+use Rattle.batch_serve.specs.declared.fault.SetFault.TheVariants.{Memory, Stopped}
+use Rattle.batch_program.specs.declared.program.TheConstants.{MAX_READS}
+use Rattle.batch_program.specs.Programs.{IsProgramRun, IsToServe, ServingIsSafe, tells, serves, status_of_serving, output_of}
+
+-- Streams
+
+-- what follows a write that left the bytes as they were, follows the bytes before it
+
+kept_then_appended : (before mid after : Option (List ℕ)) (text : List ℕ) → Keeps before mid → Appends mid after text → Appends before after text
+kept_then_appended None mid after text kept appended = tt
+kept_then_appended (Some xs) None after text kept appended = absurd kept
+kept_then_appended (Some xs) (Some ys) None text kept appended = absurd appended
+kept_then_appended (Some xs) (Some ys) (Some zs) text kept appended = rw (← kept) appended
+
+kept_then_begun : (before mid after : Option (List ℕ)) (text : List ℕ) → Keeps before mid → AppendsBeginning mid after text → AppendsBeginning before after text
+kept_then_begun before mid after text kept begun =
+    record { written = begun.written; rest = begun.rest; splits = begun.splits; appends = kept_then_appended before mid after begun.written kept begun.appends }
+
+kept_then_kept : (before mid after : Option (List ℕ)) → Keeps before mid → Keeps mid after → Keeps before after
+kept_then_kept None mid after kept more = tt
+kept_then_kept (Some xs) None after kept more = absurd kept
+kept_then_kept (Some xs) (Some ys) None kept more = absurd more
+kept_then_kept (Some xs) (Some ys) (Some zs) kept more = more ∙ kept
+
+written_kept : (c : Documents) (lines : List (List ℕ)) (before mid after : Option (List ℕ)) → Keeps before mid
+    → WritesSafely c lines mid after → WritesSafely c lines before after
+written_kept c lines before mid after kept writes =
+    record { said = writes.said; transcript = writes.transcript; appends = kept_then_appended before mid after writes.said.text kept writes.appends }
+
+begun_kept : (c : Documents) (lines : List (List ℕ)) (before mid after : Option (List ℕ)) → Keeps before mid
+    → BeginsSafely c lines mid after → BeginsSafely c lines before after
+begun_kept c lines before mid after kept begins =
+    record { said = begins.said; transcript = begins.transcript; begins = kept_then_begun before mid after begins.said.text kept begins.begins }
+
+all_kept : (c : Documents) (unread before mid after : Option (List ℕ)) → Keeps before mid
+    → IfSome unread (λ input. WritesSafely c (lines_of input) mid after) → IfSome unread (λ input. WritesSafely c (lines_of input) before after)
+all_kept c None before mid after kept writes = tt
+all_kept c (Some input) before mid after kept writes = written_kept c (lines_of input) before mid after kept writes
+
+first_kept : (c : Documents) (unread before mid after : Option (List ℕ)) → Keeps before mid
+    → IfSome unread (λ input. (n : ℕ) × BeginsSafely c (take n (lines_of input)) mid after)
+    → IfSome unread (λ input. (n : ℕ) × BeginsSafely c (take n (lines_of input)) before after)
+first_kept c None before mid after kept begins = tt
+first_kept c (Some input) before mid after kept (n, begins) = (n, begun_kept c (take n (lines_of input)) before mid after kept begins)
+
+whole_kept : (c : Documents) (unread left before mid after : Option (List ℕ)) → Keeps before mid
+    → WritesWholeSafely c unread left mid after → WritesWholeSafely c unread left before after
+whole_kept c unread left before mid after kept writes =
+    record { read = writes.read; consumes = writes.consumes; writes = written_kept c (whole_lines writes.read) before mid after kept writes.writes }
+
+-- serving, after the writer was left as it was
+pub served_kept : (set : ClearedSet) (n : ℕ) (served : Result (Unit {0}) SetFault) (unread left before mid after : Option (List ℕ)) → Keeps before mid
+    → Serves set n served (record { unread = unread; left = left; before = mid; after = after })
+    → Serves set n served (record { unread = unread; left = left; before = before; after = after })
+served_kept set n (Ok done) unread left before mid after kept all =
+    record { writes = all_kept (documents set) unread before mid after kept all.writes; ended = all.ended }
+served_kept set n (Err (Stopped Read)) unread left before mid after kept whole = whole_kept (documents set) unread left before mid after kept whole
+served_kept set n (Err (Stopped TooManyReads)) unread left before mid after kept (whole, many) =
+    (whole_kept (documents set) unread left before mid after kept whole, many)
+served_kept set n (Err (Stopped Write)) unread left before mid after kept first = first_kept (documents set) unread before mid after kept first
+served_kept set n (Err Memory) unread left before mid after kept (unread_kept, more) = (unread_kept, kept_then_kept before mid after kept more)
+
+-- The set
+
+-- what is to be served is the set of the documents that the words name, and nothing was written
+pub set_to_serve : (gives : Gives) (words : List Text) (output errors : Stream) (course : Course) (set : ClearedSet)
+    → IsRun gives words output errors course → course ≡ course_of.Serves set
+    → (command : Command) × IsNamed words command × IsServed gives (request_of command) set × Keeps output.before output.after
+set_to_serve gives words output errors _ set (running.serves command other named served kept _) is =
+    let same : other ≡ set = cc in
+    (command, named, subst (λ s. IsServed gives (request_of command) s) same served, kept)
+set_to_serve gives words output errors _ set (running.halts _ _ _ _ _ _ _) is = absurd cc
+set_to_serve gives words output errors _ set (running.judges _ _ _ _ _ _) is = absurd cc
+set_to_serve gives words output errors _ set (running.helps _ _ _ _) is = absurd cc
+set_to_serve gives words output errors _ set (running.misuses _ _) is = absurd cc
+set_to_serve gives words output errors _ set (running.starves _) is = absurd cc
+
+-- Exit statuses
+
+-- nothing that is to be served ends with status 0 before it is served
+nothing_served : (gives : Gives) (request : Request) (output : Stream) → IsToServe request → IsSuccess gives request output → ⊥
+nothing_served gives serve output asked success = success
+nothing_served gives (check cell recipes) output asked success = asked
+nothing_served gives (verify cell certificate recipes) output asked success = asked
+nothing_served gives (run cell certificate recipes) output asked success = success
+
+ran_to_the_end : (set : ClearedSet) (served : Result (Unit {0}) SetFault) (ends : serving.Ends) → Serves set MAX_READS served ends
+    → status_of_serving served ≡ 0 → AnswersAll set ends
+ran_to_the_end set (Ok done) ends all is = all
+ran_to_the_end set (Err Memory) ends all is = absurd cc
+ran_to_the_end set (Err (Stopped fault)) ends all is = absurd cc
+
+safe_at : (gives : Gives) (words : List Text) (ends : serving.Ends) (errors : Stream) (command : Command) (status : ℕ)
+    → IsNamed words command → IsToServe (request_of command) → IsProgramRun gives words ends errors status → status ≡ 0
+    → (set : ClearedSet) × IsServed gives (request_of command) set × AnswersAll set ends
+safe_at gives words ends errors command _ named asked (tells status came _) is =
+    let success = success_is_told gives words (output_of ends) errors command named (subst (λ k. IsRun gives words (output_of ends) errors (Ends k)) is came) in
+    absurd (nothing_served gives (request_of command) (output_of ends) asked success)
+safe_at gives words ends errors command _ named asked (serves other set served named2 is_served all) is =
+    (set, subst (λ r. IsServed gives r set) (same_request words other command named2 named) is_served, ran_to_the_end set served ends all is)
+
+pub serving_is_safe : (gives : Gives) → ServingIsSafe gives
+serving_is_safe gives words ends errors command named asked came = safe_at gives words ends errors command 0 named asked came refl
+
+ending_in_range : (ending : Ending) → status_of ending ≤ 4
+ending_in_range Accepted = arith
+ending_in_range Refused = arith
+ending_in_range OutOfMemory = arith
+
+printed_in_range : (output errors : Stream) (text : List ℕ) (wanted status : ℕ) → wanted ≤ 4 → IsPrinted output errors text wanted status → status ≤ 4
+printed_in_range output errors text wanted status within (inl (_, _, same)) = rw same within
+printed_in_range output errors text wanted status within (inr fault) = rw fault arith
+
+told_in_range : (output errors : Stream) (outcome : Result Verdict Halt) (status : ℕ) → IsTold output errors outcome status → status ≤ 4
+told_in_range output errors (Ok verdict) status printed = printed_in_range output errors _ _ status (ending_in_range verdict.ending) printed
+told_in_range output errors (Err (halt.Refused verdict)) status printed = printed_in_range output errors _ _ status (ending_in_range verdict.ending) printed
+told_in_range output errors (Err (halt.Unread message)) status (_, fault) = rw fault arith
+told_in_range output errors (Err halt.Memory) status (_, fault) = rw fault arith
+
+course_in_range : (gives : Gives) (words : List Text) (output errors : Stream) (course : Course) (status : ℕ)
+    → IsRun gives words output errors course → course ≡ Ends status → status ≤ 4
+course_in_range gives words output errors _ status (running.serves _ _ _ _ _ _) is = absurd cc
+course_in_range gives words output errors _ status (running.halts _ h told _ _ _ at) is =
+    let same : told ≡ status = cc in rw (← same) (told_in_range output errors (Err h) told at)
+course_in_range gives words output errors _ status (running.judges _ outcome told _ _ at) is =
+    let same : told ≡ status = cc in rw (← same) (told_in_range output errors outcome told at)
+course_in_range gives words output errors _ status (running.helps text told _ at) is =
+    let same : told ≡ status = cc in rw (← same) (printed_in_range output errors text help_status told arith at)
+course_in_range gives words output errors _ status (running.misuses _ _) is =
+    let same : usage_status ≡ status = cc in rw (← same) arith
+course_in_range gives words output errors _ status (running.starves _) is =
+    let same : memory_status ≡ status = cc in rw (← same) arith
+
+serving_in_range : (served : Result (Unit {0}) SetFault) → status_of_serving served ≤ 4
+serving_in_range (Ok done) = arith
+serving_in_range (Err Memory) = arith
+serving_in_range (Err (Stopped fault)) = arith
+
+pub run_in_range : (gives : Gives) (words : List Text) (ends : serving.Ends) (errors : Stream) (status : ℕ)
+    → IsProgramRun gives words ends errors status → status ≤ 4
+run_in_range gives words ends errors _ (tells status came _) = course_in_range gives words (output_of ends) errors (Ends status) status came refl
+run_in_range gives words ends errors _ (serves _ _ served _ _ _) = serving_in_range served

@@ -1,0 +1,5 @@
+use Rattle.batch_program.proofs.Served.{run_in_range}
+use Rattle.batch_program.proofs.process.run_on_files.Goals as goal
+
+pub returns : goal.returns
+returns c = run_in_range _ _ _ _ _ c.run_program.ensures

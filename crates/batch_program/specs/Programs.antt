@@ -1,0 +1,57 @@
+-- What comes of the program's words, input and documents.
+use Rattle.std.specs.Prelude.{◌≤◌, ℕ, ⊤, List, Unit, Result, Ok, Err}
+use Rattle.std.specs.Io.KnownBytes.{Keeps}
+use Rattle.std.specs.Process.{exit_status}
+use Rattle.std.specs.declared.process.ExitCode.{ExitCode}
+use Rattle.clap.specs.Walk.{Text}
+use Rattle.batch_verify.specs.ClearedSet.{ClearedSet}
+use Rattle.batch_words.specs.declared.command.Command.{Command}
+use Rattle.batch_commands.specs.Reading.{Gives}
+use Rattle.batch_commands.specs.Requests.{Request, serve, check, verify, run, IsServed, request_of}
+use Rattle.batch_commands.specs.Running.{IsNamed, IsRun, Stream, fault_status, memory_status}
+use Rattle.batch_commands.specs.declared.course.Course.TheVariants.{Ends}
+use Rattle.batch_serve.specs.Serves as serving
+use Rattle.batch_serve.specs.Serves.{AnswersAll, Serves}
+use Rattle.batch_serve.specs.declared.fault.SetFault.{SetFault}
+use Rattle.batch_serve.specs.declared.fault.SetFault.TheVariants.{Memory, Stopped}
+use Rattle.batch_program.specs.declared.program.TheConstants.{MAX_READS}
+
+abbrev pub IsExitStatus : ExitCode → Type 0
+IsExitStatus code = exit_status code ≤ 4
+
+-- the exit status after serving
+abbrev pub status_of_serving : Result (Unit {0}) SetFault → ℕ
+status_of_serving (Ok done) = 0
+status_of_serving (Err Memory) = memory_status
+status_of_serving (Err (Stopped fault)) = fault_status
+
+-- the writer's bytes among those of reader and writer
+abbrev pub output_of : serving.Ends → Stream
+output_of ends = record { before = ends.before; after = ends.after }
+
+-- what comes of the words, over the input and the output, with the exit status
+pub data IsProgramRun (gives : Gives) (words : List Text) (ends : serving.Ends) (errors : Stream) : ℕ → Type 0 where
+  -- a verdict, help or a fault is told, and the input isn't read
+  tells : (status : ℕ) → IsRun gives words (output_of ends) errors (Ends status) → Keeps ends.unread ends.left
+      → IsProgramRun gives words ends errors status
+  -- the set that the words name is served, by the engine that is made from it
+  serves : (command : Command) (set : ClearedSet) (served : Result (Unit {0}) SetFault)
+      → IsNamed words command → IsServed gives (request_of command) set → Serves set MAX_READS served ends
+      → IsProgramRun gives words ends errors (status_of_serving served)
+
+-- Laws
+
+-- a request to serve
+abbrev pub IsToServe : Request → Type 0
+IsToServe serve = ⊤
+IsToServe (check cell recipes) = ⊥
+IsToServe (verify cell certificate recipes) = ⊥
+IsToServe (run cell certificate recipes) = ⊤
+
+-- a run that was to serve and ends with status 0 has answered all lines of its input, by the engine of the set that its documents
+-- make, cleared by their certificate; AnswersAll says that what it wrote is a safe record
+abbrev pub ServingIsSafe : Gives → Type 0
+ServingIsSafe gives =
+    (words : List Text) (ends : serving.Ends) (errors : Stream) (command : Command)
+    → IsNamed words command → IsToServe (request_of command) → IsProgramRun gives words ends errors 0
+    → (set : ClearedSet) × IsServed gives (request_of command) set × AnswersAll set ends

@@ -1,0 +1,12 @@
+//! Laws over runs of the program.
+ghost use Rattle.batch_program.specs.Programs.{ServingIsSafe};
+
+use batch_commands::Documents;
+
+/// What the exit status 0 of a run that serves tells: the set is that of the documents, cleared by their certificate, all lines
+/// of the input were answered, and what was written is the text of a safe record.
+pub fn serving_is_safe<D: Documents>(documents: &D)
+    ensures { ServingIsSafe (D.gives documents.now) }
+{
+    let _documents = documents;
+}

@@ -1,0 +1,52 @@
+//! The program over the words, files and streams of the process.
+ghost use Rattle.std.specs.Prelude.{◌≤◌};
+ghost use Rattle.batch_program.specs.Programs.{IsExitStatus};
+
+use crate::program::run_program;
+use batch_commands::{FilesOf, NO_MEMORY, OUT_OF_MEMORY, USAGE, complain};
+use std::env;
+use std::io;
+use std::io::{BufWriter, ErrorKind};
+use std::process::ExitCode;
+
+/// How much of the record waits before it is handed on in the midst of an input.
+const OUTPUT_ROOM: usize = 65_536;
+
+/// Does what the words of the process ask for, over its files and streams, and gives the exit status.
+pub fn run_process(rt: &HostRuntime) -> ExitCode
+    ensures { IsExitStatus result }
+{
+    let status = match words_of(rt) {
+        Ok(words) => run_on_files(rt, &words),
+        Err(error) if error.kind() == ErrorKind::OutOfMemory => {
+            complain(&mut rt.stderr(), OUT_OF_MEMORY, NO_MEMORY)
+        }
+        Err(_) => complain(&mut rt.stderr(), "an argument is no text\n", USAGE),
+    };
+    ExitCode::from(status)
+}
+
+/// Does what the words ask for, over the files and streams of the process, and gives the exit status.
+pub fn run_on_files(rt: &HostRuntime, words: &[String]) -> u8
+    ensures { result ≤ 4 }
+{
+    let alloc = rt.alloc();
+    let mut input = rt.stdin();
+    let mut errors = rt.stderr();
+    let Ok(mut output) = BufWriter::with_capacity(alloc, OUTPUT_ROOM, io::writer(rt)) else {
+        return complain(&mut errors, OUT_OF_MEMORY, NO_MEMORY);
+    };
+    run_program(
+        alloc,
+        words,
+        &FilesOf(rt),
+        &mut input,
+        &mut output,
+        &mut errors,
+    )
+}
+
+/// The words after the program's name.
+fn words_of(rt: &HostRuntime) -> io::Result<Vec<String>> {
+    Ok(env::args(rt)?.skip(1).collect(rt.alloc())?)
+}

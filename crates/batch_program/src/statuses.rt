@@ -1,0 +1,17 @@
+//! The exit status of serving.
+ghost use Rattle.std.specs.Prelude.{◌≡◌};
+ghost use Rattle.batch_program.specs.Programs.{status_of_serving};
+
+use batch_commands::{FILE_FAULT, NO_MEMORY};
+use batch_serve::SetFault;
+
+/// The exit status after serving: 0 where the input ran to its end.
+pub fn serving_status(served: Result<(), SetFault>) -> u8
+    ensures { result ≡ status_of_serving served }
+{
+    match served {
+        Ok(()) => 0,
+        Err(SetFault::Memory) => NO_MEMORY,
+        Err(SetFault::Stopped(_)) => FILE_FAULT,
+    }
+}
