@@ -1,0 +1,4 @@
+pub mod Serving
+pub mod Settled
+pub mod Safe
+pub mod Serves
