@@ -1,3 +1,4 @@
+pub mod Answering
 pub mod Serving
 pub mod Settled
 pub mod Safe

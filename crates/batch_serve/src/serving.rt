@@ -1,13 +1,12 @@
 //! Serving a reader and a writer.
-ghost use Rattle.std.specs.Prelude.{◌≡◌, ◌≤◌, ◌++◌, ℕ, List, Option, take, length, MatchResult, OnOk, IfSome, IsErrOf};
+ghost use Rattle.std.specs.Prelude.{◌≡◌, ◌≤◌, ℕ, take, length, OnOk, IfSome, IsErrOf};
 ghost use Rattle.std.specs.Io.KnownBytes.{Keeps, IsAtEnd};
 ghost use Rattle.batch_engine.specs.View.{documents, plant_of};
-ghost use Rattle.batch_model.specs.Plant.{Plant};
 ghost use Rattle.batch_serve.specs.Safe.{TranscriptsAreSafe};
-ghost use Rattle.batch_serve.specs.Serving.{IsServed, IsCutOff};
+ghost use Rattle.batch_serve.specs.Serving.{Feeds, Finishes};
 ghost use Rattle.batch_serve.specs.Settled.{IsSettledEngine};
 ghost use Rattle.batch_wire.specs.Transcript.{lines_of};
-ghost use Rattle.batch_wire.specs.WrittenTranscript.{WritesTranscript, BeginsTranscript, WritesWholeLines};
+ghost use Rattle.batch_wire.specs.WrittenTranscript.{BeginsTranscript, WritesTranscript, WritesWholeLines};
 
 use crate::answering::answer_line;
 use crate::fault::ServeFault;
@@ -86,11 +85,8 @@ fn feed<W: Write>(
     writer: &mut W,
 ) -> Result<(), WriteFault>
     ensures cleared { engine.new.cleared ≡ engine.old.cleared }
-    ensures goes_on { (first : Plant) (before : Option (List ℕ)) (read : List ℕ) →
-        IsServed (documents engine.old.cleared) first read (plant_of engine.old) line.old before (W.contents writer.old) →
-        MatchResult result
-        (λ _. IsServed (documents engine.old.cleared) first (read ++ piece.now) (plant_of engine.new) line.new before (W.contents writer.new))
-        (λ _. IsCutOff (documents engine.old.cleared) first (read ++ piece.now) before (W.contents writer.new)) }
+    ensures feeds { Feeds (documents engine.old.cleared) (record { plant = plant_of engine.old; line = line.old; written = W.contents writer.old })
+        piece.now result (record { plant = plant_of engine.new; line = line.new; written = W.contents writer.new }) }
 {
     for byte in piece {
         if *byte == b'\n' {
@@ -111,11 +107,8 @@ fn finish<W: Write>(
     writer: &mut W,
 ) -> Result<(), WriteFault>
     ensures cleared { engine.new.cleared ≡ engine.old.cleared }
-    ensures goes_on { (first : Plant) (before : Option (List ℕ)) (read : List ℕ) →
-        IsServed (documents engine.old.cleared) first read (plant_of engine.old) line.now before (W.contents writer.old) →
-        MatchResult result
-        (λ _. WritesTranscript (documents engine.old.cleared) first (lines_of read) (plant_of engine.new) before (W.contents writer.new))
-        (λ _. BeginsTranscript (documents engine.old.cleared) first (lines_of read) before (W.contents writer.new)) }
+    ensures finishes { Finishes (documents engine.old.cleared) (record { plant = plant_of engine.old; line = line.now; written = W.contents writer.old })
+        result (plant_of engine.new) (W.contents writer.new) }
 {
     answer_line(alloc, engine, line.as_slice(), writer)?;
     flush(writer)
