@@ -4,6 +4,7 @@ ghost use Rattle.batch_model.specs.ActStates.{state_of};
 ghost use Rattle.batch_model.specs.Plant.{opening};
 ghost use Rattle.batch_engine.specs.Answered.{IsAnswered};
 ghost use Rattle.batch_engine.specs.Kept.{AreChartsOf};
+ghost use Rattle.batch_engine.specs.Led.{IsLed};
 ghost use Rattle.batch_engine.specs.Looked.{value_in};
 ghost use Rattle.batch_engine.specs.Surface.{event_of};
 ghost use Rattle.batch_engine.specs.View.{plant_of};
@@ -61,9 +62,10 @@ impl Engine {
         })
     }
 
-    /// The recipes that the engine runs, and their cell.
+    /// The recipes that the engine runs, and their cell. Whatever is promised of records that they lead to holds of every engine.
     pub fn cleared(&self) -> &Cleared
-        ensures { result.now ≡ self.now.cleared }
+        ensures value { result.now ≡ self.now.cleared }
+        ensures led { IsLed self.now }
     {
         &self.cleared
     }

@@ -1,0 +1,34 @@
+-- The engine keeps its cleared set, so what is said of a call by the set before it holds by the set at the beginning.
+use Rattle.std.proofs.Common.{◌≡◌, Option, Some, None, option_map, sym, ap, subst, ◌∙◌, Result}
+use Rattle.batch_model.specs.Events.{Event}
+use Rattle.batch_model.specs.Moves.{next, after}
+use Rattle.batch_model.specs.Plant.{Documents, Plant}
+use Rattle.batch_verify.specs.ClearedSet.{ClearedSet}
+use Rattle.batch_engine.specs.Led.{IsLed}
+use Rattle.batch_engine.specs.Surface.{move_of, plant_after}
+use Rattle.batch_engine.specs.View.{EngineView, documents, plant_of}
+use Rattle.batch_engine.specs.declared.line.Line.{Line}
+use Rattle.batch_wire.specs.Transcript.{Exchange, Answers}
+use Rattle.batch_wire.specs.declared.fault.WireFault.{WireFault}
+use Rattle.batch_serve.proofs.Settling.{CanSettle, settle}
+
+pub next_in : (a set : ClearedSet) (s : Plant) (line : Line) → a ≡ set → option_map (move_of a) (Some line) ≡ next (documents a) s
+    → next (documents set) s ≡ Some (move_of set line)
+next_in a set s line kept h = subst (λ (k : ClearedSet). next (documents k) s ≡ Some (move_of k line)) kept (sym h)
+
+pub none_in : (a set : ClearedSet) (s : Plant) → a ≡ set → None ≡ next (documents a) s → next (documents set) s ≡ None
+none_in a set s kept h = subst (λ (k : ClearedSet). next (documents k) s ≡ None) kept (sym h)
+
+pub after_in : (a set : ClearedSet) (s new : Plant) (line : Line) → a ≡ set → new ≡ plant_after a s (Some line) → new ≡ after s (move_of set line)
+after_in a set s new line kept h = h ∙ ap (λ (k : ClearedSet). after s (move_of k line)) kept
+
+pub settle_in : (v : EngineView) (set : ClearedSet) → v.cleared ≡ set → IsLed v → CanSettle (documents set) (plant_of v)
+settle_in v set kept led = subst (λ (k : ClearedSet). CanSettle (documents k) (plant_of v)) kept (settle v led)
+
+-- what is said of any set, said of an equal one
+pub in_set : (P : Documents → Type 0) (a set : ClearedSet) → a ≡ set → P (documents a) → P (documents set)
+in_set P a set kept h = subst (λ (k : ClearedSet). P (documents k)) kept h
+
+pub answers_in : (a set : ClearedSet) (s new : Plant) (said : Result (Option Event) WireFault) (exchange : Exchange) → a ≡ set
+    → Answers (documents a) s said exchange new → Answers (documents set) s said exchange new
+answers_in a set s new said exchange kept h = in_set (λ d. Answers d s said exchange new) a set kept h

@@ -1,0 +1,5 @@
+use Rattle.batch_serve.proofs.Resting.{transcripts_settle}
+use Rattle.batch_serve.proofs.laws.transcripts_settle.Goals as goal
+
+pub returns : goal.returns
+returns c = transcripts_settle

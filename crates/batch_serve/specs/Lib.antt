@@ -1,0 +1,5 @@
+pub mod Answering
+pub mod Serving
+pub mod Settled
+pub mod Safe
+pub mod Serves

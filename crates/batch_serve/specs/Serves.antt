@@ -1,0 +1,46 @@
+-- What serving a cleared set does to the bytes that a reader had unread, and to those that a writer held before.
+use Rattle.std.specs.Prelude.{ℕ, ◌≤◌, List, take, length, Option, IfSome, Result, Ok, Err}
+use Rattle.std.specs.Io.KnownBytes.{Keeps, IsAtEnd}
+use Rattle.batch_verify.specs.ClearedSet.{ClearedSet}
+use Rattle.batch_engine.specs.View.{documents}
+use Rattle.batch_wire.specs.Transcript.{lines_of}
+use Rattle.batch_serve.specs.Safe.{WritesSafely, BeginsSafely, WritesWholeSafely}
+use Rattle.batch_serve.specs.declared.fault.ServeFault.TheVariants.{Read, Write, TooManyReads}
+use Rattle.batch_serve.specs.declared.fault.SetFault.{SetFault}
+use Rattle.batch_serve.specs.declared.fault.SetFault.TheVariants.{Memory, Stopped}
+
+-- the reader's bytes, and the writer's, before and after
+pub record Ends : Type 0 where
+  pub unread : Option (List ℕ)
+  pub left : Option (List ℕ)
+  pub before : Option (List ℕ)
+  pub after : Option (List ℕ)
+
+-- all lines of the input were answered
+pub record AnswersAll (set : ClearedSet) (ends : Ends) : Type 0 where
+  pub writes : IfSome ends.unread (λ input. WritesSafely (documents set) (lines_of input) ends.before ends.after)
+  pub ended : IsAtEnd ends.left
+
+-- the whole lines read were answered
+abbrev pub AnswersWholeLines : ClearedSet → Ends → Type 0
+AnswersWholeLines set ends = WritesWholeSafely (documents set) ends.unread ends.left ends.before ends.after
+
+-- as many bytes stood there as the reader could be asked
+abbrev pub HasAsManyBytes : ℕ → Ends → Type 0
+HasAsManyBytes n ends = IfSome ends.unread (λ input. n ≤ length input)
+
+-- the first lines of the input were answered, and a beginning of that was written
+abbrev pub AnswersFirstLines : ClearedSet → Ends → Type 0
+AnswersFirstLines set ends = IfSome ends.unread (λ input. (n : ℕ) × BeginsSafely (documents set) (take n (lines_of input)) ends.before ends.after)
+
+-- nothing was read and nothing written
+abbrev pub IsUntouched : Ends → Type 0
+IsUntouched ends = Keeps ends.unread ends.left × Keeps ends.before ends.after
+
+-- what the cleared set's engine answered from its opening on, by the outcome
+abbrev pub Serves : ClearedSet → ℕ → Result (Unit {0}) SetFault → Ends → Type 0
+Serves set max_reads (Ok done) ends = AnswersAll set ends
+Serves set max_reads (Err (Stopped Read)) ends = AnswersWholeLines set ends
+Serves set max_reads (Err (Stopped TooManyReads)) ends = AnswersWholeLines set ends × HasAsManyBytes max_reads ends
+Serves set max_reads (Err (Stopped Write)) ends = AnswersFirstLines set ends
+Serves set max_reads (Err Memory) ends = IsUntouched ends

@@ -1,0 +1,18 @@
+//! Laws of transcripts. Nothing runs here: the contracts are the laws.
+ghost use Rattle.batch_serve.specs.Safe.{TranscriptsAreSafe};
+ghost use Rattle.batch_serve.specs.Settled.{TranscriptsSettle};
+
+use batch_verify::Cleared;
+
+/// What a transcript from the opening of a cleared set tells is a safe record, which leads to where the transcript does:
+/// whoever holds a [`Cleared`] may cite this of it.
+pub fn transcripts_are_safe(cleared: &Cleared)
+    ensures { TranscriptsAreSafe cleared.now }
+{
+    batch_safety::cleared_runs_safely(cleared);
+}
+
+/// A transcript that begins where no move is possible comes to such a plant after each of its lines.
+pub fn transcripts_settle()
+    ensures { TranscriptsSettle }
+{}

@@ -1,0 +1,14 @@
+//! Serving: event lines in, the record out.
+#![tactic(auto)]
+
+mod answering;
+mod fault;
+mod laws;
+mod line_buffer;
+mod serving;
+mod set;
+
+pub use fault::{ServeFault, SetFault};
+pub use laws::{transcripts_are_safe, transcripts_settle};
+pub use serving::serve;
+pub use set::serve_set;

@@ -1,0 +1,125 @@
+//! Serving a reader and a writer.
+ghost use Rattle.std.specs.Prelude.{◌≡◌, ◌≤◌, ℕ, take, length, OnOk, IfSome, IsErrOf};
+ghost use Rattle.std.specs.Io.KnownBytes.{Keeps, IsAtEnd};
+ghost use Rattle.batch_engine.specs.View.{documents, plant_of};
+ghost use Rattle.batch_serve.specs.Safe.{TranscriptsAreSafe};
+ghost use Rattle.batch_serve.specs.Serving.{Feeds, Finishes};
+ghost use Rattle.batch_serve.specs.Settled.{IsSettledEngine};
+ghost use Rattle.batch_wire.specs.Transcript.{lines_of};
+ghost use Rattle.batch_wire.specs.WrittenTranscript.{BeginsTranscript, WritesTranscript, WritesWholeLines};
+
+use crate::answering::answer_line;
+use crate::fault::ServeFault;
+use crate::laws::transcripts_are_safe;
+use crate::line_buffer::LineBuffer;
+use batch_engine::Engine;
+use batch_wire::WriteFault;
+use std::alloc::Global;
+use std::io::{ErrorKind, Read, Write};
+
+/// How many bytes one call of the reader may give.
+const PIECE_LEN: usize = 65_536;
+
+/// Answers the lines that the reader gives, until its bytes end.
+///
+/// Each line is read and given to the machine, the reply is written, and then each move. What is
+/// written is handed on whenever the reader is about to be asked for more. A call of the reader that
+/// is interrupted is made again, and counts among `max_reads`. Memory is asked for events alone. After
+/// a read fault, and after `max_reads` calls of the reader, the whole lines read are answered; after a
+/// write fault the machine may be ahead of what is written.
+pub fn serve<R: Read, W: Write>(
+    alloc: Global,
+    engine: &mut Engine,
+    reader: &mut R,
+    writer: &mut W,
+    max_reads: u64,
+) -> Result<(), ServeFault>
+    ensures cleared { engine.new.cleared ≡ engine.old.cleared }
+    ensures served { OnOk result (IfSome (R.remaining reader.old) (λ input.
+        WritesTranscript (documents engine.old.cleared) (plant_of engine.old) (lines_of input) (plant_of engine.new) (W.contents writer.old) (W.contents writer.new))) }
+    ensures ended { OnOk result (IsAtEnd (R.remaining reader.new)) }
+    ensures read_fault { IsErrOf result ServeFault.Read → WritesWholeLines (documents engine.old.cleared) (plant_of engine.old) (plant_of engine.new)
+        (R.remaining reader.old) (R.remaining reader.new) (W.contents writer.old) (W.contents writer.new) }
+    ensures too_many_reads { IsErrOf result ServeFault.TooManyReads → WritesWholeLines (documents engine.old.cleared) (plant_of engine.old) (plant_of engine.new)
+        (R.remaining reader.old) (R.remaining reader.new) (W.contents writer.old) (W.contents writer.new) }
+    // Each call of the reader gave a byte.
+    ensures reads_made { IsErrOf result ServeFault.TooManyReads → IfSome (R.remaining reader.old) (λ input. max_reads ≤ length input) }
+    ensures write_fault { IsErrOf result ServeFault.Write → IfSome (R.remaining reader.old) (λ input.
+        (n : ℕ) × BeginsTranscript (documents engine.old.cleared) (plant_of engine.old) (take n (lines_of input)) (W.contents writer.old) (W.contents writer.new)) }
+    ensures settled { (IsErrOf result ServeFault.Write → ⊥) → IsSettledEngine engine.old → IsSettledEngine engine.new }
+    // So the outs of all these transcripts are a safe record, where the engine was a new one.
+    ensures safe { TranscriptsAreSafe engine.old.cleared }
+{
+    transcripts_are_safe(engine.cleared());
+    let mut line = LineBuffer::new();
+    let mut piece = [0u8; PIECE_LEN];
+    let mut interrupted = false;
+    for _ in 0..max_reads {
+        match reader.read(&mut piece) {
+            Ok(0) => return Ok(finish(alloc, engine, &line, writer)?),
+            Ok(count) => {
+                feed(alloc, engine, &mut line, &piece[..count], writer)?;
+                flush(writer)?;
+            }
+            Err(error) => {
+                if error.kind() != ErrorKind::Interrupted {
+                    return Err(ServeFault::Read);
+                }
+                interrupted = true;
+            }
+        }
+    }
+    Err(if interrupted {
+        ServeFault::Read
+    } else {
+        ServeFault::TooManyReads
+    })
+}
+
+/// Takes the next bytes, and answers each line that is whole now.
+fn feed<W: Write>(
+    alloc: Global,
+    engine: &mut Engine,
+    line: &mut LineBuffer,
+    piece: &[u8],
+    writer: &mut W,
+) -> Result<(), WriteFault>
+    ensures cleared { engine.new.cleared ≡ engine.old.cleared }
+    ensures feeds { Feeds (documents engine.old.cleared) (record { plant = plant_of engine.old; line = line.old; written = W.contents writer.old })
+        piece.now result (record { plant = plant_of engine.new; line = line.new; written = W.contents writer.new }) }
+{
+    for byte in piece {
+        if *byte == b'\n' {
+            answer_line(alloc, engine, line.as_slice(), writer)?;
+            line.clear();
+        } else {
+            line.push(*byte);
+        }
+    }
+    Ok(())
+}
+
+/// Answers the last line, which no line feed ends.
+fn finish<W: Write>(
+    alloc: Global,
+    engine: &mut Engine,
+    line: &LineBuffer,
+    writer: &mut W,
+) -> Result<(), WriteFault>
+    ensures cleared { engine.new.cleared ≡ engine.old.cleared }
+    ensures finishes { Finishes (documents engine.old.cleared) (record { plant = plant_of engine.old; line = line.now; written = W.contents writer.old })
+        result (plant_of engine.new) (W.contents writer.new) }
+{
+    answer_line(alloc, engine, line.as_slice(), writer)?;
+    flush(writer)
+}
+
+/// Hands on what is written.
+fn flush<W: Write>(writer: &mut W) -> Result<(), WriteFault>
+    ensures { Keeps (W.contents writer.old) (W.contents writer.new) }
+{
+    match writer.flush() {
+        Ok(()) => Ok(()),
+        Err(_) => Err(WriteFault),
+    }
+}

@@ -1,0 +1,30 @@
+//! Serving a cleared set from its opening.
+ghost use Rattle.batch_serve.specs.Serves.{Serves};
+
+use crate::fault::SetFault;
+use crate::serving::serve;
+use batch_engine::Engine;
+use batch_verify::Cleared;
+use std::alloc::Global;
+use std::io::{Read, Write};
+
+/// Makes the engine of a cleared set, and answers the lines that the reader gives, until its bytes end.
+///
+/// It asks the reader at most `max_reads` times, interrupted calls among them. What is written to the writer is handed on
+/// whenever the reader is about to be asked for more. Memory is taken for the engine and for events; where an event finds
+/// none, its line is refused and serving goes on.
+pub fn serve_set<R: Read, W: Write>(
+    alloc: Global,
+    cleared: Cleared,
+    reader: &mut R,
+    writer: &mut W,
+    max_reads: u64,
+) -> Result<(), SetFault>
+    ensures { Serves cleared max_reads result (record {
+        unread = R.remaining reader.old; left = R.remaining reader.new; before = W.contents writer.old; after = W.contents writer.new }) }
+{
+    let Ok(mut engine) = Engine::new(alloc, cleared) else {
+        return Err(SetFault::Memory);
+    };
+    serve(alloc, &mut engine, reader, writer, max_reads).map_err(SetFault::Stopped)
+}
