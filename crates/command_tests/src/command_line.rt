@@ -21,6 +21,11 @@ fn told(alloc: Global, command: &Command) -> Result<String, AllocError> {
             certificate,
             recipes,
         } => format!(in alloc; "verify {cell} {certificate} {recipes:?}"),
+        Command::Run {
+            cell,
+            certificate,
+            recipes,
+        } => format!(in alloc; "run {cell} {certificate} {recipes:?}"),
     }
 }
 
@@ -57,11 +62,16 @@ fn commands(rt: HostRuntime) {
         summary(&rt, &["verify", "c", "k"]).as_str(),
         "verify c k []"
     );
+    assert_eq!(rt;
+        summary(&rt, &["run", "c", "k", "r"]).as_str(),
+        "run c k [\"r\"]"
+    );
 }
 
 #[test]
 fn faults_of_usage(rt: HostRuntime) {
-    assert_eq!(rt; summary(&rt, &["run", "c", "k"]).as_str(), "usage");
+    assert_eq!(rt; summary(&rt, &["serve", "c", "k"]).as_str(), "usage");
+    assert_eq!(rt; summary(&rt, &["run", "c"]).as_str(), "usage");
     assert_eq!(rt; summary(&rt, &["plant"]).as_str(), "usage");
     assert_eq!(rt; summary(&rt, &["help"]).as_str(), "usage");
     assert_eq!(rt; summary(&rt, &[""]).as_str(), "usage");

@@ -1,7 +1,7 @@
 //! Runs of the commands: the texts, their streams and the exit statuses.
 use crate::documents::{A, CELL1, N};
 use crate::shelf::{Shelf, owned};
-use batch_commands::run_words;
+use batch_commands::{Course, run_words};
 use std::alloc::Global;
 use std::io::Write;
 use std::test::Fail;
@@ -9,7 +9,7 @@ use std::test::Fail;
 /// Ranks that clear recipe A, and not N, which asks for HDR twice.
 const RANKS: &str = "rank HDR 2\nrank R1 1\nrank R2 1\nrank STEAM 1\n";
 
-/// How a run over the shelf ends.
+/// How a run over the shelf ends, or None where it is to serve.
 fn status_of<O: Write, E: Write>(
     alloc: Global,
     words: &[&str],
@@ -24,7 +24,16 @@ fn status_of<O: Write, E: Write>(
         ("bad", "="),
     ]);
     let words = owned(alloc, words)?;
-    Ok(run_words(alloc, &words, &shelf, output, errors))
+    Ok(status_at_end(&run_words(
+        alloc, &words, &shelf, output, errors,
+    )))
+}
+
+fn status_at_end(course: &Course) -> Option<u8> {
+    match course {
+        Course::Ends(status) => Some(*status),
+        Course::Serves(_) => None,
+    }
 }
 
 /// What a run over the shelf writes to its streams, and how it ends.
@@ -50,7 +59,7 @@ fn run_of(alloc: Global, words: &[&str]) -> Result<Ran, Fail> {
 fn verdicts_are_output(rt: HostRuntime) -> Result<(), Fail> {
     let ranks = "rank HDR 1\nrank R1 1\nrank R2 1\nrank STEAM 1\n";
     let circle = "refused C1\nedge N 0.0.0.0 HDR HDR\n";
-    let rows: [(&[&str], &str, u8); 7] = [
+    let rows: [(&[&str], &str, u8); 8] = [
         (&["check", "cell", "a"], ranks, 0),
         (&["check", "cell", "n"], circle, 1),
         (&["verify", "cell", "ranks", "a"], "accepted\n", 0),
@@ -59,6 +68,7 @@ fn verdicts_are_output(rt: HostRuntime) -> Result<(), Fail> {
             "refused V4 N 0.0.0.0\n",
             1,
         ),
+        (&["run", "cell", "ranks", "n"], "refused V4 N 0.0.0.0\n", 1),
         (&["check", "cell", "a", "bad"], "refused D1 bad\n", 1),
         (&["verify", "cell", "bad", "a"], "refused K1 1\n", 1),
         (&["verify", "bad", "ranks"], "refused D1 bad\n", 1),
@@ -86,10 +96,11 @@ fn help_is_output(rt: HostRuntime) -> Result<(), Fail> {
 
 #[test]
 fn faults_are_errors(rt: HostRuntime) -> Result<(), Fail> {
-    let rows: [(&[&str], &str, u8); 4] = [
+    let rows: [(&[&str], &str, u8); 5] = [
         (&["check", "cell", "nowhere", "bad"], "nowhere", 3),
         (&["check"], "<CELL>", 2),
-        (&["run"], "run", 2),
+        (&["run"], "<CERT>", 2),
+        (&["run", "cell", "nowhere"], "nowhere", 3),
         (&["plant"], "plant", 2),
     ];
     for (words, part, status) in rows {
@@ -102,11 +113,14 @@ fn faults_are_errors(rt: HostRuntime) -> Result<(), Fail> {
 }
 
 #[test]
-fn no_words_serve(rt: HostRuntime) -> Result<(), Fail> {
-    let ran = run_of(rt.alloc(), &[])?;
-    assert_eq!(rt; ran.output.as_str(), "");
-    assert_eq!(rt; ran.errors.as_str(), "");
-    assert_eq!(rt; ran.status, None);
+fn sets_are_to_be_served(rt: HostRuntime) -> Result<(), Fail> {
+    let rows: [&[&str]; 2] = [&[], &["run", "cell", "ranks", "a"]];
+    for words in rows {
+        let ran = run_of(rt.alloc(), words)?;
+        assert_eq!(rt; ran.output.as_str(), "", "{words:?}");
+        assert_eq!(rt; ran.errors.as_str(), "", "{words:?}");
+        assert_eq!(rt; ran.status, None, "{words:?}");
+    }
     Ok(())
 }
 

@@ -2,7 +2,7 @@
 //! exit status. The program itself ends with status 0.
 #![tactic(auto)]
 
-use batch_commands::run_on_files;
+use batch_program::run_on_files;
 use std::alloc::{AllocError, Global};
 
 /// The topcoat and the rinse can wait for each other. With the mended rinse there is a certificate, which is the file
@@ -17,9 +17,8 @@ fn main(rt: HostRuntime) -> Result<(), anyhow::Error> {
     for line in LINES {
         println!(rt; "$ batchd {line}")?;
         let words = words_of(rt.alloc(), line)?;
-        if let Some(status) = run_on_files(&rt, &words) {
-            println!(rt; "exit status {status}")?;
-        }
+        let status = run_on_files(&rt, &words);
+        println!(rt; "exit status {status}")?;
     }
     Ok(())
 }
