@@ -1,5 +1,5 @@
 -- The engine keeps its cleared set, so what is said of a call by the set before it holds by the set at the beginning.
-use Rattle.std.proofs.Common.{◌≡◌, Option, Some, None, option_map, sym, ap, subst, ◌∙◌, Result}
+use Rattle.std.proofs.Common.{◌≡◌, Option, Some, None, option_map, sym, ap, subst, ◌∙◌, Result, ℕ, List}
 use Rattle.batch_model.specs.Events.{Event}
 use Rattle.batch_model.specs.Moves.{next, after}
 use Rattle.batch_model.specs.Plant.{Documents, Plant}
@@ -10,6 +10,9 @@ use Rattle.batch_engine.specs.View.{EngineView, documents, plant_of}
 use Rattle.batch_engine.specs.declared.line.Line.{Line}
 use Rattle.batch_wire.specs.Transcript.{Exchange, Answers}
 use Rattle.batch_wire.specs.declared.fault.WireFault.{WireFault}
+use Rattle.batch_wire.specs.WrittenTranscript.{WritesTranscript, BeginsTranscript}
+use Rattle.batch_serve.specs.Serving.{IsServed, IsCutOff}
+use Rattle.batch_serve.specs.Settled.{IsSettled}
 use Rattle.batch_serve.proofs.Settling.{CanSettle, settle}
 
 pub next_in : (a set : ClearedSet) (s : Plant) (line : Line) → a ≡ set → option_map (move_of a) (Some line) ≡ next (documents a) s
@@ -32,3 +35,22 @@ in_set P a set kept h = subst (λ (k : ClearedSet). P (documents k)) kept h
 pub answers_in : (a set : ClearedSet) (s new : Plant) (said : Result (Option Event) WireFault) (exchange : Exchange) → a ≡ set
     → Answers (documents a) s said exchange new → Answers (documents set) s said exchange new
 answers_in a set s new said exchange kept h = in_set (λ d. Answers d s said exchange new) a set kept h
+
+pub settled_in : (a set : ClearedSet) (s : Plant) → a ≡ set → IsSettled (documents a) s → IsSettled (documents set) s
+settled_in a set s kept h = in_set (λ d. IsSettled d s) a set kept h
+
+pub served_in : (a set : ClearedSet) (first : Plant) (read : List ℕ) (now : Plant) (kept : List ℕ) (before after : Option (List ℕ)) → a ≡ set
+    → IsServed (documents a) first read now kept before after → IsServed (documents set) first read now kept before after
+served_in a set first read now kept before after same h = in_set (λ d. IsServed d first read now kept before after) a set same h
+
+pub cut_in : (a set : ClearedSet) (first : Plant) (read : List ℕ) (before after : Option (List ℕ)) → a ≡ set
+    → IsCutOff (documents a) first read before after → IsCutOff (documents set) first read before after
+cut_in a set first read before after same h = in_set (λ d. IsCutOff d first read before after) a set same h
+
+pub writes_in : (a set : ClearedSet) (first : Plant) (lines : List (List ℕ)) (new : Plant) (before after : Option (List ℕ)) → a ≡ set
+    → WritesTranscript (documents a) first lines new before after → WritesTranscript (documents set) first lines new before after
+writes_in a set first lines new before after same h = in_set (λ d. WritesTranscript d first lines new before after) a set same h
+
+pub begins_in : (a set : ClearedSet) (first : Plant) (lines : List (List ℕ)) (before after : Option (List ℕ)) → a ≡ set
+    → BeginsTranscript (documents a) first lines before after → BeginsTranscript (documents set) first lines before after
+begins_in a set first lines before after same h = in_set (λ d. BeginsTranscript d first lines before after) a set same h
