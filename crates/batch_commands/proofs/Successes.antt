@@ -1,5 +1,5 @@
 -- What a run tells of the documents.
-use Rattle.std.proofs.Common.{◌≡◌, ◌⊎◌, ℕ, List, Option, Some, None, true, false, Result, Ok, Err, inl, inr, map, string_bytes, codes, refl, sym, subst, ap, ◌∙◌}
+use Rattle.std.proofs.Common.{◌≡◌, ℕ, List, Option, Some, None, true, false, Result, Ok, Err, inl, inr, string_bytes, codes, refl, sym, subst, ◌∙◌}
 use Rattle.std.specs.Io.KnownBytes.{Appends}
 use Rattle.std.specs.Str.{bytes_eq}
 use Rattle.clap.specs.Kinds.{IsAmong}
@@ -11,7 +11,7 @@ use Rattle.batch_verify.specs.ClearedSet.{ClearedSet}
 use Rattle.batch_commands.specs.Judging.{IsHalt, IsVerified, status_of}
 use Rattle.batch_commands.specs.Reading.{Gives}
 use Rattle.batch_commands.specs.Requests.{Request, serve, check, verify, run, request_of, IsServed, HaltsServing}
-use Rattle.batch_commands.specs.Running.{IsNamed, IsOutcome, IsPrinted, IsRun, IsTold, Stream, memory_status, serves, halts, judges, helps, misuses, starves}
+use Rattle.batch_commands.specs.Running.{IsNamed, IsOutcome, IsPrinted, IsRun, IsTold, Stream, serves, halts, judges, helps, misuses, starves}
 use Rattle.batch_commands.specs.Statuses.{IsSuccess, NoCommandServes, ServesClearedSets, SuccessIsTold}
 use Rattle.batch_words.specs.declared.command.Command.{Command}
 use Rattle.batch_words.specs.declared.command.Command.TheVariants.{Serve, Check, Verify, Run}

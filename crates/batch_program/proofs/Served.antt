@@ -1,5 +1,5 @@
 -- What a run that serves tells.
-use Rattle.std.proofs.Common.{◌≡◌, ℕ, ◌≤◌, List, Option, Some, None, Result, Ok, Err, Unit, inl, inr, refl, subst, arith, ◌∙◌}
+use Rattle.std.proofs.Common.{◌≡◌, ℕ, ◌≤◌, List, Option, Some, None, Result, Ok, Err, inl, inr, refl, subst, arith, ◌∙◌}
 use Rattle.std.specs.Prelude.{IfSome, take}
 use Rattle.std.specs.Io.KnownBytes.{Appends, Keeps}
 use Rattle.clap.specs.Walk.{Text}
@@ -134,19 +134,19 @@ pub serving_is_safe : (gives : Gives) → ServingIsSafe gives
 serving_is_safe gives words ends errors command named asked came = safe_at gives words ends errors command 0 named asked came refl
 
 ending_in_range : (ending : Ending) → status_of ending ≤ 4
-ending_in_range Accepted = arith
-ending_in_range Refused = arith
-ending_in_range OutOfMemory = arith
+ending_in_range Accepted = omega arith
+ending_in_range Refused = omega arith
+ending_in_range OutOfMemory = omega arith
 
 printed_in_range : (output errors : Stream) (text : List ℕ) (wanted status : ℕ) → wanted ≤ 4 → IsPrinted output errors text wanted status → status ≤ 4
 printed_in_range output errors text wanted status within (inl (_, _, same)) = rw same within
-printed_in_range output errors text wanted status within (inr fault) = rw fault arith
+printed_in_range output errors text wanted status within (inr fault) = rw fault (omega arith)
 
 told_in_range : (output errors : Stream) (outcome : Result Verdict Halt) (status : ℕ) → IsTold output errors outcome status → status ≤ 4
 told_in_range output errors (Ok verdict) status printed = printed_in_range output errors _ _ status (ending_in_range verdict.ending) printed
 told_in_range output errors (Err (halt.Refused verdict)) status printed = printed_in_range output errors _ _ status (ending_in_range verdict.ending) printed
-told_in_range output errors (Err (halt.Unread message)) status (_, fault) = rw fault arith
-told_in_range output errors (Err halt.Memory) status (_, fault) = rw fault arith
+told_in_range output errors (Err (halt.Unread message)) status (_, fault) = rw fault (omega arith)
+told_in_range output errors (Err halt.Memory) status (_, fault) = rw fault (omega arith)
 
 course_in_range : (gives : Gives) (words : List Text) (output errors : Stream) (course : Course) (status : ℕ)
     → IsRun gives words output errors course → course ≡ Ends status → status ≤ 4
@@ -156,16 +156,16 @@ course_in_range gives words output errors _ status (running.halts _ h told _ _ _
 course_in_range gives words output errors _ status (running.judges _ outcome told _ _ at) is =
     let same : told ≡ status = cc in rw (← same) (told_in_range output errors outcome told at)
 course_in_range gives words output errors _ status (running.helps text told _ at) is =
-    let same : told ≡ status = cc in rw (← same) (printed_in_range output errors text help_status told arith at)
+    let same : told ≡ status = cc in rw (← same) (printed_in_range output errors text help_status told (omega arith) at)
 course_in_range gives words output errors _ status (running.misuses _ _) is =
-    let same : usage_status ≡ status = cc in rw (← same) arith
+    let same : usage_status ≡ status = cc in rw (← same) (omega arith)
 course_in_range gives words output errors _ status (running.starves _) is =
-    let same : memory_status ≡ status = cc in rw (← same) arith
+    let same : memory_status ≡ status = cc in rw (← same) (omega arith)
 
 serving_in_range : (served : Result (Unit {0}) SetFault) → status_of_serving served ≤ 4
-serving_in_range (Ok done) = arith
-serving_in_range (Err Memory) = arith
-serving_in_range (Err (Stopped fault)) = arith
+serving_in_range (Ok done) = omega arith
+serving_in_range (Err Memory) = omega arith
+serving_in_range (Err (Stopped fault)) = omega arith
 
 pub run_in_range : (gives : Gives) (words : List Text) (ends : serving.Ends) (errors : Stream) (status : ℕ)
     → IsProgramRun gives words ends errors status → status ≤ 4

@@ -1,5 +1,5 @@
 -- What comes of the program's words, input and documents.
-use Rattle.std.specs.Prelude.{◌≤◌, ℕ, ⊤, List, Unit, Result, Ok, Err}
+use Rattle.std.specs.Prelude.{◌≤◌, ℕ, ⊤, List, Result, Ok, Err}
 use Rattle.std.specs.Io.KnownBytes.{Keeps}
 use Rattle.std.specs.Process.{exit_status}
 use Rattle.std.specs.declared.process.ExitCode.{ExitCode}

@@ -4,10 +4,9 @@ ghost use Rattle.batch_program.specs.Programs.{IsExitStatus};
 
 use crate::program::run_program;
 use batch_commands::{FilesOf, NO_MEMORY, OUT_OF_MEMORY, USAGE, complain};
-use std::env;
-use std::io;
 use std::io::{BufWriter, ErrorKind};
 use std::process::ExitCode;
+use std::{env, io};
 
 /// How much of the record waits before it is handed on in the midst of an input.
 const OUTPUT_ROOM: usize = 65_536;

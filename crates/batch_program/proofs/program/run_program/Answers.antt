@@ -1,0 +1,18 @@
+use Rattle.std.proofs.Common.{map, string_bytes}
+use Rattle.std.proofs.KnownBytes.{Keeps-refl}
+use Rattle.batch_program.specs.Programs.{tells, serves}
+use Rattle.batch_program.specs.declared.program.TheConstants.{MAX_READS}
+use Rattle.batch_program.proofs.Served.{served_kept, set_to_serve}
+use Rattle.batch_program.proofs.program.run_program.Goals as goal
+
+pub returns-in-Ends : goal.returns-in-Ends
+returns-in-Ends g c = tells c.in-Ends.status c.in-Ends.ensures (Keeps-refl _)
+
+pub returns-in-Serves : goal.returns-in-Serves
+returns-in-Serves g c =
+    let set = c.in-Serves.cleared in
+    let served = c.serve_set-served in
+    let (command, named, is_served, kept) =
+    set_to_serve (g.D.Documents.gives c.args.documents.now) (map string_bytes c.args.words.now) _ _ _ set c.run_words.ensures c.in-Serves.is in
+    rw c.tell_served.ensures
+    (serves command set served.result named is_served (served_kept set MAX_READS served.result _ _ _ _ _ kept served.ensures))
