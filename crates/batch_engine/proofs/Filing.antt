@@ -11,7 +11,7 @@ use Rattle.slab.proofs.SlabLemmas.{ContainsKey-within, Updates-with_value}
 use Rattle.batch_model.specs.Lists.{Each}
 use Rattle.batch_engine.specs.declared.batch.Batch.{Batch}
 use Rattle.batch_engine.specs.declared.batches.Entry.{Entry}
-use Rattle.batch_engine.specs.Batches.{AreOrdered, ComesBefore, IsFiled, Row, batches_in, number_of, row_of}
+use Rattle.batch_engine.specs.Batches.{AreOrdered, ComesBefore, HaveOwnNumbers, IsFiled, Row, batches_in, number_of, own_number, row_of, with_batch, with_batch_at, without_batch}
 
 -- Each
 
@@ -210,3 +210,21 @@ filed-remove old new es i d f l same less =
 -- room alone changes no batch
 pub filed-roomy : (slab : Slab Batch) (room : ℕ) (es : List Entry) → IsFiled slab es → IsFiled (record slab { capacity = room }) es
 filed-roomy slab room es f = record { occupied = f.occupied; ordered = f.ordered; count = f.count }
+
+-- Own numbers
+
+-- a batch that keeps its number
+pub own-numbers-set : (r : Row) (i : ℕ) (b b' : Batch) → b ≡ get_or r.batches i b → b'.number ≡ b.number → HaveOwnNumbers r → HaveOwnNumbers (with_batch_at i r b')
+own-numbers-set r i b b' at same own = own ∙ sym (go r.batches i at)
+  where
+    go : (xs : List Batch) (j : ℕ) → b ≡ get_or xs j b → map own_number (set xs j b') ≡ map own_number xs
+    go [] zero e = refl
+    go [] (suc j) e = refl
+    go (x ∷ xs) zero e = ap (λ n. n ∷ map own_number xs) (same ∙ ap own_number e)
+    go (x ∷ xs) (suc j) e = ap (λ ns. x.number ∷ ns) (go xs j e)
+
+pub own-numbers-push : (r : Row) (b : Batch) → HaveOwnNumbers r → HaveOwnNumbers (with_batch b r)
+own-numbers-push r b own = ap (λ ns. ns ++ b.number ∷ []) own ∙ sym (map_push own_number r.batches b)
+
+pub own-numbers-remove : (r : Row) (i : ℕ) → HaveOwnNumbers r → HaveOwnNumbers (without_batch i r)
+own-numbers-remove r i own = ap (λ ns. remove ns i) own ∙ sym (map-remove own_number r.batches i)

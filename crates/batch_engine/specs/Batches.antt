@@ -28,6 +28,13 @@ without_batch i r = record { numbers = remove r.numbers i; batches = remove r.ba
 abbrev pub IsNewNumber : ℕ → Row → Type 0
 IsNewNumber n r = Each (λ m. m < n) r.numbers
 
+abbrev pub own_number : Batch → ℕ
+own_number b = b.number
+
+-- each batch has the number that it was added with
+abbrev pub HaveOwnNumbers : Row → Type 0
+HaveOwnNumbers r = r.numbers ≡ map own_number r.batches
+
 -- Entries
 
 abbrev pub number_of : Entry → ℕ

@@ -17,7 +17,7 @@ returns-in-Some c =
     let v : EngineView = c.args.self.now in
     let b : Batch = c.index-batch.result.now in
     let x : Compiled = c.index-chart.result.now in
-    let kept : IsKept v = subst IsKept c.self.view_is c.self.invariant in
+    let kept : IsKept v = subst IsKept c.self.view_is c.self.invariant.kept in
     let at : slice_get v.batches c.args.index ≡ Some b = got-batch v _ c.args.index b c.self.view_is c.requires c.index-batch.ensures in
     let compiled : slice_get v.charts b.recipe ≡ Some x = got-chart v _ c.from.result b.recipe x c.self.view_is c.from.ensures (in-charts v kept c.args.index b at) c.index-chart.ensures in
     let next : Some (move_of (tree_of v.cleared b) (batch_of v.cleared b) c.in-Some.made) ≡ own_next (batch_of v.cleared b) =
@@ -38,7 +38,7 @@ returns-in_err-node c =
     let v : EngineView = c.args.self.now in
     let b : Batch = c.index-batch.result.now in
     let x : Compiled = c.index-chart.result.now in
-    let kept : IsKept v = subst IsKept c.self.view_is c.self.invariant in
+    let kept : IsKept v = subst IsKept c.self.view_is c.self.invariant.kept in
     let at : slice_get v.batches c.args.index ≡ Some b = got-batch v _ c.args.index b c.self.view_is c.requires c.index-batch.ensures in
     let compiled : slice_get v.charts b.recipe ≡ Some x = got-chart v _ c.from.result b.recipe x c.self.view_is c.from.ensures (in-charts v kept c.args.index b at) c.index-chart.ensures in
     let own : ◌≡◌ {A = Option Moves.Move} None (own_next (batch_of v.cleared b)) =
@@ -51,7 +51,7 @@ returns c =
     let v : EngineView = c.args.self.now in
     let b : Batch = c.index-batch.result.now in
     let x : Compiled = c.index-chart.result.now in
-    let kept : IsKept v = subst IsKept c.self.view_is c.self.invariant in
+    let kept : IsKept v = subst IsKept c.self.view_is c.self.invariant.kept in
     let at : slice_get v.batches c.args.index ≡ Some b = got-batch v _ c.args.index b c.self.view_is c.requires c.index-batch.ensures in
     let compiled : slice_get v.charts b.recipe ≡ Some x = got-chart v _ c.from.result b.recipe x c.self.view_is c.from.ensures (in-charts v kept c.args.index b at) c.index-chart.ensures in
     let own : ◌≡◌ {A = Option Moves.Move} None (own_next (batch_of v.cleared b)) =
@@ -78,7 +78,7 @@ next_move-requires c =
     let v : EngineView = c.args.self.now in
     let b : Batch = c.index-batch.result.now in
     let x : Compiled = c.index-chart.result.now in
-    let kept : IsKept v = subst IsKept c.self.view_is c.self.invariant in
+    let kept : IsKept v = subst IsKept c.self.view_is c.self.invariant.kept in
     let at : slice_get v.batches c.args.index ≡ Some b = got-batch v _ c.args.index b c.self.view_is c.requires c.index-batch.ensures in
     let compiled : slice_get v.charts b.recipe ≡ Some x = got-chart v _ c.from.result b.recipe x c.self.view_is c.from.ensures (in-charts v kept c.args.index b at) c.index-chart.ensures in
     runs-here v kept c.args.index b at x compiled
