@@ -1,6 +1,6 @@
 -- How each change of the slab and of the entries keeps the batches.
-use Rattle.std.proofs.Common.{◌≡◌, ◌≢◌, ◌<◌, ◌⊎◌, ◌+◌, refl, sym, ◌∙◌, ap, ap₂, subst, ℕ, zero, suc, List, [], ◌∷◌, ◌++◌, Option, Some, None, is_some, IsSome, inl, inr, cond, arith, length, map, get_or, set, count_by, true≢false, length-append}
-use Rattle.std.specs.List.{remove, filter_map, cons_option}
+use Rattle.std.proofs.Common.{◌≡◌, ◌≢◌, ◌<◌, ◌+◌, refl, sym, ◌∙◌, ap, ap₂, subst, ℕ, zero, suc, List, [], ◌∷◌, ◌++◌, Option, Some, None, is_some, IsSome, inl, inr, cond, arith, length, map, get_or, set, true≢false, length-append}
+use Rattle.std.specs.List.{remove, cons_option}
 use Rattle.std.proofs.lemmas.Bool.{cases_eq}
 use Rattle.std.proofs.lemmas.List.{map_push}
 use Rattle.std.proofs.lemmas.List.Edits.{length-remove}

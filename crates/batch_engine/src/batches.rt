@@ -97,7 +97,7 @@ impl Index<usize> for Batches {
     ghost index_gives = { λ s i x. x ≡ slice_index_or s.batches i x };
 
     fn index(&self, index: usize) -> &Batch {
-        let entry = self.entries[index];
+        let entry = &self.entries[index];
         &self.slab[entry.key]
     }
 }

@@ -1,6 +1,6 @@
-use Rattle.std.proofs.Common.{◌≡◌, ◌<◌, ◌+◌, ◌∙◌, sym, ap, ap₂, subst, ℕ, Some, None, List, [], ◌∷◌, ◌++◌, map}
+use Rattle.std.proofs.Common.{◌≡◌, ◌<◌, ◌∙◌, sym, ap, ap₂, subst, List, [], ◌∷◌, ◌++◌, map}
 use Rattle.std.proofs.lemmas.List.{map_push}
-use Rattle.slab.specs.Slab.{Slab, get}
+use Rattle.slab.specs.Slab.{Slab}
 use Rattle.batch_model.specs.Lists.{Each}
 use Rattle.batch_engine.specs.Batches.{IsFiled, Row, number_of, row_of, batches_in, with_batch}
 use Rattle.batch_engine.specs.declared.batch.Batch.{Batch}

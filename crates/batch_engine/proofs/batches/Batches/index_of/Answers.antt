@@ -1,10 +1,7 @@
-use Rattle.std.proofs.Common.{rules, ◌≡◌, ◌∙◌, ap, subst, List, Option, ℕ}
+use Rattle.std.proofs.Common.{rules, ◌∙◌, ap}
 use Rattle.std.specs.Prelude.{nat_eq, position}
-use Rattle.std.specs.List.Sorted.{IsBinarySearchResult, IsSearchInRange}
-use Rattle.std.specs.Ordering.{nat_cmp}
 use Rattle.std.proofs.lemmas.List.Sorted.{answers_always}
 use Rattle.batch_engine.specs.Batches.{Row}
-use Rattle.batch_engine.specs.declared.batches.Entry.{Entry}
 use Rattle.batch_engine.proofs.Searching.{searched}
 use Rattle.batch_engine.proofs.batches.Batches.index_of.Goals as goal
 

@@ -1,8 +1,6 @@
-use Rattle.std.proofs.Common.{◌≡◌, ◌<◌, ◌∙◌, sym, ap, ap₂, subst, ℕ, List, Some, arith, length, get_or}
-use Rattle.std.specs.List.{remove}
-use Rattle.slab.specs.Slab.{Slab, get}
+use Rattle.std.proofs.Common.{◌≡◌, ◌<◌, ◌∙◌, sym, ap, ap₂, subst, List, Some, arith, length, get_or}
+use Rattle.slab.specs.Slab.{get}
 use Rattle.batch_engine.specs.Batches.{IsFiled, Row, number_of, row_of, without_batch}
-use Rattle.batch_engine.specs.declared.batch.Batch.{Batch}
 use Rattle.batch_engine.specs.declared.batches.Entry.{Entry}
 use Rattle.batch_engine.proofs.Filing.{LeavesOthers, in-entries, filed-remove, batches-remove, batch-read, map-remove}
 use Rattle.batch_engine.proofs.batches.Batches.remove.Goals as goal

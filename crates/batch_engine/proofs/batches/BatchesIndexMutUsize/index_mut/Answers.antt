@@ -30,9 +30,9 @@ returns c =
       (
         refl,
         λ w. ap (λ (e : Entry). row_of (with_value c.self.inside.slab e.key w) es) c.index-entry.ensures
-        ∙ ap (λ bs. let r : Row = record { numbers = (row_of c.self.inside.slab es).numbers; batches = bs } in r)
-        (batches-set c.self.inside.slab es c.args.index c.index-entry.result.now w c.self.invariant.occupied c.self.invariant.ordered within)
-        ∙ ap (λ (r : Row). with_batch_at c.args.index r w) c.self.view_is,
+            ∙ ap (λ bs. let r : Row = record { numbers = (row_of c.self.inside.slab es).numbers; batches = bs } in r)
+            (batches-set c.self.inside.slab es c.args.index c.index-entry.result.now w c.self.invariant.occupied c.self.invariant.ordered within)
+            ∙ ap (λ (r : Row). with_batch_at c.args.index r w) c.self.view_is,
       ),
       record {
         writes_back = tt;

@@ -1,4 +1,4 @@
-use Rattle.std.proofs.Common.{◌≡◌, ◌<◌, ◌∙◌, ap, subst, ℕ, List, Some, arith, length, get_or}
+use Rattle.std.proofs.Common.{◌≡◌, ◌<◌, ap, subst, ℕ, Some, arith, length, get_or}
 use Rattle.std.specs.Prelude.{slice_get}
 use Rattle.std.proofs.lemmas.List.Sums.{sum_by_more}
 use Rattle.std.proofs.lemmas.Option.{get_or_from_slice_get}
