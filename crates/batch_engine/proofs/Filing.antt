@@ -11,7 +11,7 @@ use Rattle.slab.proofs.SlabLemmas.{ContainsKey-within, Updates-with_value}
 use Rattle.batch_model.specs.Lists.{Each}
 use Rattle.batch_engine.specs.declared.batch.Batch.{Batch}
 use Rattle.batch_engine.specs.declared.batches.Entry.{Entry}
-use Rattle.batch_engine.specs.Batches.{AreOrdered, ComesBefore, HaveOwnNumbers, IsFiled, Row, batches_in, number_of, own_number, row_of, with_batch, with_batch_at, without_batch}
+use Rattle.batch_engine.specs.Batches.{AreOrdered, ComesBefore, HaveOwnNumbers, IsFiled, BatchList, batches_in, entry_number, own_number, list_of, with_batch, with_batch_at, without_batch}
 
 -- Each
 
@@ -74,8 +74,8 @@ length-batches slab (e ∷ es) h =
     ap (λ xs. length xs) (cons-some (get slab e.key) f.0 (batches_in slab es) f.1) ∙ ap suc (length-batches slab es h.1)
 
 -- an index of a batch is one of an entry
-pub in-entries : (r : Row) (slab : Slab Batch) (es : List Entry) (i : ℕ) → row_of slab es ≡ r → Occupied slab es → i < length r.batches → i < length es
-in-entries r slab es i e h l = omega (arith, ap (λ (z : Row). length z.batches) e, length-batches slab es h, l)
+pub in-entries : (r : BatchList) (slab : Slab Batch) (es : List Entry) (i : ℕ) → list_of slab es ≡ r → Occupied slab es → i < length r.batches → i < length es
+in-entries r slab es i e h l = omega (arith, ap (λ (z : BatchList). length z.batches) e, length-batches slab es h, l)
 
 -- what is under an entry's key is the batch at its index
 pub batch-read : (slab : Slab Batch) (es : List Entry) (i : ℕ) (d : Entry) (b : Batch) → Occupied slab es → i < length es → get slab (get_or es i d).key ≡ Some b → b ≡ get_or (batches_in slab es) i b
@@ -173,14 +173,14 @@ batches-push old new es y b h none u =
     ∙ ap₂ (λ xs ys. xs ++ ys) (untouched old new y.key u.others es (vacant-avoids old y.key none es h)) (cons-some (get new y.key) b [] u.changed)
 
 pub filed-push : (old new : Slab Batch) (es : List Entry) (y : Entry) (b : Batch) → IsFiled old es → get old y.key ≡ None → Updates old new y.key (Some b) → slab_len new ≡ slab_len old + 1
-    → Each (λ m. m < y.number) (map number_of es) → IsFiled new (es ++ y ∷ [])
+    → Each (λ m. m < y.number) (map entry_number es) → IsFiled new (es ++ y ∷ [])
 filed-push old new es y b f none u more above =
     let avoids : Avoids y.key es = vacant-avoids old y.key none es f.occupied in
     record {
       occupied = each-push (λ (e : Entry). ContainsKey new e.key) es y (stays-occupied old new y.key u.others es f.occupied avoids) (subst IsSome (sym u.changed) refl);
       ordered = order-push es y f.ordered
           (each-both (λ (e : Entry). e.number < y.number) (λ (e : Entry). e.key ≢ y.key) (λ (e : Entry). ComesBefore e y) (λ e n k. record { number = n; key = k }) es
-          (each-of-map (λ m. m < y.number) number_of es above) avoids);
+          (each-of-map (λ m. m < y.number) entry_number es above) avoids);
       count = omega (arith, more, f.count, length-append es (y ∷ []));
     }
 
@@ -214,7 +214,7 @@ filed-roomy slab room es f = record { occupied = f.occupied; ordered = f.ordered
 -- Own numbers
 
 -- a batch that keeps its number
-pub own-numbers-set : (r : Row) (i : ℕ) (b b' : Batch) → b ≡ get_or r.batches i b → b'.number ≡ b.number → HaveOwnNumbers r → HaveOwnNumbers (with_batch_at i r b')
+pub own-numbers-set : (r : BatchList) (i : ℕ) (b b' : Batch) → b ≡ get_or r.batches i b → b'.number ≡ b.number → HaveOwnNumbers r → HaveOwnNumbers (with_batch_at i r b')
 own-numbers-set r i b b' at same own = own ∙ sym (go r.batches i at)
   where
     go : (xs : List Batch) (j : ℕ) → b ≡ get_or xs j b → map own_number (set xs j b') ≡ map own_number xs
@@ -223,8 +223,8 @@ own-numbers-set r i b b' at same own = own ∙ sym (go r.batches i at)
     go (x ∷ xs) zero e = ap (λ n. n ∷ map own_number xs) (same ∙ ap own_number e)
     go (x ∷ xs) (suc j) e = ap (λ ns. x.number ∷ ns) (go xs j e)
 
-pub own-numbers-push : (r : Row) (b : Batch) → HaveOwnNumbers r → HaveOwnNumbers (with_batch b r)
+pub own-numbers-push : (r : BatchList) (b : Batch) → HaveOwnNumbers r → HaveOwnNumbers (with_batch b r)
 own-numbers-push r b own = ap (λ ns. ns ++ b.number ∷ []) own ∙ sym (map_push own_number r.batches b)
 
-pub own-numbers-remove : (r : Row) (i : ℕ) → HaveOwnNumbers r → HaveOwnNumbers (without_batch i r)
+pub own-numbers-remove : (r : BatchList) (i : ℕ) → HaveOwnNumbers r → HaveOwnNumbers (without_batch i r)
 own-numbers-remove r i own = ap (λ ns. remove ns i) own ∙ sym (map-remove own_number r.batches i)

@@ -11,7 +11,7 @@ use Rattle.std.proofs.lemmas.Cmp.{ranked}
 use Rattle.std.proofs.lemmas.List.{length-map}
 use Rattle.std.proofs.lemmas.List.Sorted.{IsNonDecreasingBy-from_default}
 use Rattle.batch_engine.specs.declared.batches.Entry.{Entry}
-use Rattle.batch_engine.specs.Batches.{AreOrdered, number_of}
+use Rattle.batch_engine.specs.Batches.{AreOrdered, entry_number}
 use Rattle.batch_engine.proofs.Filing.{numbers-rise}
 
 differs : (m n : ℕ) → (m ≡ n → ⊥) → nat_eq m n ≡ false
@@ -60,14 +60,14 @@ module _ (es : List Entry) (ordered : AreOrdered es) (n : ℕ) where
       grind (arith, nat_tests))
 
   pub searched : (r : Result ℕ ℕ) → IsSearchInRange r (length es) → IsBinarySearchResult (λ (e : Entry). nat_cmp e.number n) es r
-      → result_ok r ≡ position (λ m. nat_eq m n) (map number_of es)
+      → result_ok r ≡ position (λ m. nat_eq m n) (map entry_number es)
   searched (Ok i) within equal =
       let here : (get_or es i no_entry).number ≡ n = ranked _ n _ (sym (equal no_entry)) in
-      sym (position-map (λ m. nat_eq m n) number_of es
+      sym (position-map (λ m. nat_eq m n) entry_number es
       ∙ first-found (λ (e : Entry). nat_eq e.number n) es i no_entry within (grind (arith, here))
       (λ k lt. differs _ n (λ same. omega (arith, numbers-rise es k i no_entry ordered lt within, here, same))))
   searched (Err i) within parted =
-      sym (position-map (λ m. nat_eq m n) number_of es
+      sym (position-map (λ m. nat_eq m n) entry_number es
       ∙ none-found (λ (e : Entry). nat_eq e.number n) es no_entry (λ k lt. differs _ n (λ same. elim (cases_lt k i) [
         | inl below ↦ let less : (get_or es k no_entry).number < n = ranked _ n _ (sym ((parted comparisons-rise).0 k no_entry (omega arith) below)) in omega arith
         | inr above ↦ let more : n < (get_or es k no_entry).number = ranked _ n _ (sym ((parted comparisons-rise).1 k no_entry above lt)) in omega arith

@@ -7,45 +7,45 @@ use Rattle.batch_engine.specs.declared.batch.Batch.{Batch}
 use Rattle.batch_engine.specs.declared.batches.Entry.{Entry}
 
 -- the batches, and the numbers that they were added with, which rise
-pub record Row : Type 0 where
+pub record BatchList : Type 0 where
   pub numbers : List ℕ
   pub batches : List Batch
 
-abbrev pub no_batches : Row
+abbrev pub no_batches : BatchList
 no_batches = record { numbers = []; batches = [] }
 
-abbrev pub with_batch : Batch → Row → Row
+abbrev pub with_batch : Batch → BatchList → BatchList
 with_batch b r = record { numbers = r.numbers ++ b.number ∷ []; batches = r.batches ++ b ∷ [] }
 
 -- another batch stands at the index
-abbrev pub with_batch_at : ℕ → Row → Batch → Row
+abbrev pub with_batch_at : ℕ → BatchList → Batch → BatchList
 with_batch_at i r b = record r { batches = slice_set r.batches i b }
 
-abbrev pub without_batch : ℕ → Row → Row
+abbrev pub without_batch : ℕ → BatchList → BatchList
 without_batch i r = record { numbers = remove r.numbers i; batches = remove r.batches i }
 
 -- the number is above all others
-abbrev pub IsNewNumber : ℕ → Row → Type 0
+abbrev pub IsNewNumber : ℕ → BatchList → Type 0
 IsNewNumber n r = Each (λ m. m < n) r.numbers
 
 abbrev pub own_number : Batch → ℕ
 own_number b = b.number
 
 -- each batch has the number that it was added with
-abbrev pub HaveOwnNumbers : Row → Type 0
+abbrev pub HaveOwnNumbers : BatchList → Type 0
 HaveOwnNumbers r = r.numbers ≡ map own_number r.batches
 
 -- Entries
 
-abbrev pub number_of : Entry → ℕ
-number_of e = e.number
+abbrev pub entry_number : Entry → ℕ
+entry_number e = e.number
 
 -- the batches under the entries' keys
 abbrev pub batches_in : Slab Batch → List Entry → List Batch
 batches_in slab entries = filter_map (λ (e : Entry). get slab e.key) entries
 
-abbrev pub row_of : Slab Batch → List Entry → Row
-row_of slab entries = record { numbers = map number_of entries; batches = batches_in slab entries }
+abbrev pub list_of : Slab Batch → List Entry → BatchList
+list_of slab entries = record { numbers = map entry_number entries; batches = batches_in slab entries }
 
 -- an entry stands before a later one
 pub record ComesBefore (e later : Entry) : Type 0 where

@@ -26,13 +26,13 @@ pub struct Batches {
 impl Model for Batches {
     ghost use Rattle.std.specs.Coded.{codes};
     ghost use Rattle.batch_engine.specs.contracts.batch.Batch as batch_contracts;
-    ghost use Rattle.batch_engine.specs.Batches.{IsFiled, Row, row_of};
+    ghost use Rattle.batch_engine.specs.Batches.{IsFiled, BatchList, list_of};
 
-    ghost Value = { Row };
+    ghost Value = { BatchList };
 
     ghost coded = { Prim.hlevel (codes, batch_contracts.the_row.coded) };
 
-    ghost view = { λ b. row_of b.slab b.entries.items };
+    ghost view = { λ b. list_of b.slab b.entries.items };
 
     ghost invariant = { λ b. IsFiled b.slab b.entries.items };
 }

@@ -1,7 +1,7 @@
 use Rattle.std.proofs.Common.{rules, ◌∙◌, ap}
 use Rattle.std.specs.Prelude.{nat_eq, position}
 use Rattle.std.proofs.lemmas.List.Sorted.{answers_always}
-use Rattle.batch_engine.specs.Batches.{Row}
+use Rattle.batch_engine.specs.Batches.{BatchList}
 use Rattle.batch_engine.proofs.Searching.{searched}
 use Rattle.batch_engine.proofs.batches.Batches.index_of.Goals as goal
 
@@ -13,4 +13,4 @@ returns c =
     c.ok.ensures.value
     ∙ searched c.self.inside.entries.items c.self.invariant.ordered c.args.number c.binary_search_by_key.result
     (rw c.deref.ensures.value at facts.bound) (rw c.deref.ensures.value at by_number)
-    ∙ ap (λ (r : Row). position (λ n. nat_eq n c.args.number) r.numbers) c.self.view_is
+    ∙ ap (λ (r : BatchList). position (λ n. nat_eq n c.args.number) r.numbers) c.self.view_is

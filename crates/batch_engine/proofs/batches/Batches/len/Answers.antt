@@ -1,5 +1,5 @@
 use Rattle.std.proofs.Common.{arith, ap, length}
-use Rattle.batch_engine.specs.Batches.{Row}
+use Rattle.batch_engine.specs.Batches.{BatchList}
 use Rattle.batch_engine.proofs.Filing.{length-batches}
 use Rattle.batch_engine.proofs.batches.Batches.len.Goals as goal
 
@@ -10,5 +10,5 @@ returns c =
       c.len.ensures,
       c.self.inside.entries.ok.0,
       length-batches c.self.inside.slab c.self.inside.entries.items c.self.invariant.occupied,
-      ap (λ (r : Row). length r.batches) c.self.view_is,
+      ap (λ (r : BatchList). length r.batches) c.self.view_is,
     )

@@ -1,6 +1,6 @@
 use Rattle.std.proofs.Common.{◌≡◌, ◌<◌, ◌∙◌, sym, ap, ap₂, subst, List, Some, arith, length, get_or}
 use Rattle.slab.specs.Slab.{get}
-use Rattle.batch_engine.specs.Batches.{IsFiled, Row, number_of, row_of, without_batch}
+use Rattle.batch_engine.specs.Batches.{IsFiled, BatchList, entry_number, list_of, without_batch}
 use Rattle.batch_engine.specs.declared.batches.Entry.{Entry}
 use Rattle.batch_engine.proofs.Filing.{LeavesOthers, in-entries, filed-remove, batches-remove, batch-read, map-remove}
 use Rattle.batch_engine.proofs.batches.Batches.remove.Goals as goal
@@ -23,14 +23,14 @@ returns-clause-value c =
     let under : get c.self.inside.slab (get_or es c.args.index c.remove-entry.result).key ≡ Some c.remove.result =
     subst (λ (e : Entry). get c.self.inside.slab e.key ≡ Some c.remove.result) c.remove-entry.ensures.value c.remove.ensures.value in
     batch-read c.self.inside.slab es c.args.index c.remove-entry.result c.remove.result c.self.invariant.occupied within under
-    ∙ ap (λ (r : Row). get_or r.batches c.args.index c.remove.result) c.self.view_is
+    ∙ ap (λ (r : BatchList). get_or r.batches c.args.index c.remove.result) c.self.view_is
 
 pub returns-clause-rest : goal.returns-clause-rest
 returns-clause-rest c =
     let es : List Entry = c.self.inside.entries.items in
     let within : c.args.index < length es = in-entries c.args.self.now c.self.inside.slab c.self.inside.entries.items c.args.index c.self.view_is c.self.invariant.occupied c.requires in
     let others = subst (λ (e : Entry). LeavesOthers c.self.inside.slab c.remove.new.self e.key) c.remove-entry.ensures.value c.remove.ensures.updates.others in
-    ap (row_of c.remove.new.self) c.remove-entry.ensures.items
-    ∙ ap₂ (λ ns bs. let r : Row = record { numbers = ns; batches = bs } in r) (map-remove number_of es c.args.index)
+    ap (list_of c.remove.new.self) c.remove-entry.ensures.items
+    ∙ ap₂ (λ ns bs. let r : BatchList = record { numbers = ns; batches = bs } in r) (map-remove entry_number es c.args.index)
     (batches-remove c.self.inside.slab c.remove.new.self es c.args.index c.remove-entry.result c.self.invariant within others)
     ∙ ap (without_batch c.args.index) c.self.view_is

@@ -1,6 +1,6 @@
 use Rattle.std.proofs.Common.{◌≡◌, ◌<◌, ◌∙◌, refl, sym, ap, subst, List, Some, arith, length, get_or}
 use Rattle.slab.specs.Slab.{ContainsKey, get, with_value}
-use Rattle.batch_engine.specs.Batches.{IsFiled, Row, row_of, with_batch_at}
+use Rattle.batch_engine.specs.Batches.{IsFiled, BatchList, list_of, with_batch_at}
 use Rattle.batch_engine.specs.declared.batches.Entry.{Entry}
 use Rattle.batch_engine.proofs.Filing.{in-entries, occupied-at, batch-read, filed-set, batches-set}
 use Rattle.batch_engine.proofs.batches.BatchesIndexMutUsize.index_mut.Goals as goal
@@ -29,15 +29,15 @@ returns c =
     subst (λ (e : Entry). get c.self.inside.slab e.key ≡ Some c.index_mut.result.now) c.index-entry.ensures c.index_mut.ensures.value in (
       (
         refl,
-        λ w. ap (λ (e : Entry). row_of (with_value c.self.inside.slab e.key w) es) c.index-entry.ensures
-            ∙ ap (λ bs. let r : Row = record { numbers = (row_of c.self.inside.slab es).numbers; batches = bs } in r)
+        λ w. ap (λ (e : Entry). list_of (with_value c.self.inside.slab e.key w) es) c.index-entry.ensures
+            ∙ ap (λ bs. let r : BatchList = record { numbers = (list_of c.self.inside.slab es).numbers; batches = bs } in r)
             (batches-set c.self.inside.slab es c.args.index c.index-entry.result.now w c.self.invariant.occupied c.self.invariant.ordered within)
-            ∙ ap (λ (r : Row). with_batch_at c.args.index r w) c.self.view_is,
+            ∙ ap (λ (r : BatchList). with_batch_at c.args.index r w) c.self.view_is,
       ),
       record {
         writes_back = tt;
         value =
             batch-read c.self.inside.slab es c.args.index c.index-entry.result.now c.index_mut.result.now c.self.invariant.occupied within under
-            ∙ ap (λ (r : Row). get_or r.batches c.args.index c.index_mut.result.now) c.self.view_is;
+            ∙ ap (λ (r : BatchList). get_or r.batches c.args.index c.index_mut.result.now) c.self.view_is;
       },
     )

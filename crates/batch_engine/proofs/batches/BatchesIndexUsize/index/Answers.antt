@@ -1,6 +1,6 @@
 use Rattle.std.proofs.Common.{◌≡◌, ◌<◌, ◌∙◌, sym, ap, subst, List, Some, arith, length, get_or}
 use Rattle.slab.specs.Slab.{ContainsKey, get}
-use Rattle.batch_engine.specs.Batches.{Row}
+use Rattle.batch_engine.specs.Batches.{BatchList}
 use Rattle.batch_engine.specs.declared.batches.Entry.{Entry}
 use Rattle.batch_engine.proofs.Filing.{in-entries, occupied-at, batch-read}
 use Rattle.batch_engine.proofs.batches.BatchesIndexUsize.index.Goals as goal
@@ -22,4 +22,4 @@ returns c =
     let under : get c.self.inside.slab (get_or es c.args.index c.index-entry.result.now).key ≡ Some c.index.result.now =
     subst (λ (e : Entry). get c.self.inside.slab e.key ≡ Some c.index.result.now) c.index-entry.ensures c.index.ensures in
     batch-read c.self.inside.slab es c.args.index c.index-entry.result.now c.index.result.now c.self.invariant.occupied within under
-    ∙ ap (λ (r : Row). get_or r.batches c.args.index c.index.result.now) c.self.view_is
+    ∙ ap (λ (r : BatchList). get_or r.batches c.args.index c.index.result.now) c.self.view_is

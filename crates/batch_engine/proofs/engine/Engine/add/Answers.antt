@@ -17,7 +17,7 @@ use Rattle.batch_engine.proofs.Reacting.{with}
 use Rattle.batch_engine.proofs.Creating.{react-create, create-reacts, create-kept}
 use Rattle.batch_engine.specs.Names.{recipe_name}
 use Rattle.batch_engine.proofs.Telling.{recipe-named, some-at}
-use Rattle.batch_engine.specs.Batches.{HaveOwnNumbers, Row}
+use Rattle.batch_engine.specs.Batches.{HaveOwnNumbers, BatchList}
 use Rattle.batch_engine.proofs.Filing.{own-numbers-push}
 use Rattle.batch_engine.proofs.Seeking.{new-number}
 use Rattle.batch_engine.proofs.engine.Engine.add.Goals as goal
@@ -34,7 +34,7 @@ returns-in_default-add c =
     let e : w ≡ v = c.self.view_is in
     let room : ℕ = c.reserve.new.self.room in
     let arbiter : c.reserve.new.self ≡ record (c.self.inside.arbiter) { room = room } = c.in-Ok-reserve.ensures.rest in
-    let items : c.add.new.self.batches ≡ c.self.inside.batches.batches = ap (λ (r : Row). r.batches) c.in_default-add.ensures.same in
+    let items : c.add.new.self.batches ≡ c.self.inside.batches.batches = ap (λ (r : BatchList). r.batches) c.in_default-add.ensures.same in
     let same : plant_of (seen c.self.inside.cleared c.self.inside.charts.items c.self.inside.numbers.items c.add.new.self.batches c.self.inside.next_number c.reserve.new.self) ≡ plant_of v =
     ap₂ (λ (bs : List Batch) (a : Allocation). plant_of (seen c.self.inside.cleared c.self.inside.charts.items c.self.inside.numbers.items bs c.self.inside.next_number a)) items arbiter ∙ ap plant_of e in
     let document = some-at v.cleared.recipes c.args.recipe c.requires.known in
@@ -62,7 +62,7 @@ invariant_of-self-2 c =
     ap₂ (λ n r. let d : Model.Batch = record { number = n; recipe = recipe_at v.cleared c.args.recipe; size = c.args.size; values = c.args.values; state = Idle; rest = r } in d) number (made c.args.values).1 in
     let enough : needs_of_all v.cleared v.batches + needs_in t ≤ room = omega (arith, c.in-Some.ensures, c.in-Ok-reserve.ensures.ok) in
     let arbiter : c.reserve.new.self ≡ record (c.self.inside.arbiter) { room = room } = c.in-Ok-reserve.ensures.rest in
-    let items : c.add.new.self.batches ≡ c.self.inside.batches.batches ++ b ∷ [] = ap (λ (r : Row). r.batches) c.in-Ok-add.ensures.added in
+    let items : c.add.new.self.batches ≡ c.self.inside.batches.batches ++ b ∷ [] = ap (λ (r : BatchList). r.batches) c.in-Ok-add.ensures.added in
     let kept_after : IsKept (with v (v.batches ++ b ∷ []) (v.next_number + 1) (record (v.allocation) { room = room })) =
     create-kept v kept c.args.recipe c.args.name.now c.args.size c.args.values c.requires b room number refl (made c.args.values).0 new enough in
     let inside : IsKept (with w (w.batches ++ b ∷ []) (w.next_number + 1) (record (w.allocation) { room = room })) =
@@ -91,7 +91,7 @@ returns c =
     ap₂ (λ n r. let d : Model.Batch = record { number = n; recipe = recipe_at v.cleared c.args.recipe; size = c.args.size; values = c.args.values; state = Idle; rest = r } in d) number (made c.args.values).1 in
     let enough : needs_of_all v.cleared v.batches + needs_in t ≤ room = omega (arith, c.in-Some.ensures, c.in-Ok-reserve.ensures.ok) in
     let arbiter : c.reserve.new.self ≡ record (c.self.inside.arbiter) { room = room } = c.in-Ok-reserve.ensures.rest in
-    let items : c.add.new.self.batches ≡ c.self.inside.batches.batches ++ b ∷ [] = ap (λ (r : Row). r.batches) c.in-Ok-add.ensures.added in
+    let items : c.add.new.self.batches ≡ c.self.inside.batches.batches ++ b ∷ [] = ap (λ (r : BatchList). r.batches) c.in-Ok-add.ensures.added in
     let reacts : Reacts (documents v.cleared) (plant_of v) (Events.create c.args.name.now c.args.size) (Events.created v.next_number (recipe_at v.cleared c.args.recipe).name c.args.size)
     (plant_of (with v (v.batches ++ b ∷ []) (v.next_number + 1) (record (v.allocation) { room = room }))) =
     create-reacts v kept c.args.recipe c.args.name.now c.args.size c.args.values c.requires b room number refl (made c.args.values).0 new enough in

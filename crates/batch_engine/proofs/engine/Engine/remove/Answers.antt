@@ -13,7 +13,7 @@ use Rattle.batch_engine.proofs.Finding.{got-batch}
 use Rattle.batch_engine.proofs.Seeking.{Found, found-at, none-found}
 use Rattle.batch_engine.proofs.Reacting.{with}
 use Rattle.batch_engine.proofs.Removing.{remove-unknown, remove-busy, remove-kept, remove-reacts}
-use Rattle.batch_engine.specs.Batches.{HaveOwnNumbers, Row}
+use Rattle.batch_engine.specs.Batches.{HaveOwnNumbers, BatchList}
 use Rattle.batch_engine.proofs.Filing.{own-numbers-remove}
 use Rattle.batch_engine.proofs.engine.Engine.remove.Goals as goal
 
@@ -47,7 +47,7 @@ invariant_of-self c =
     let after : IsKept (with v (remove v.batches i) v.next_number v.allocation) =
     remove-kept v kept i f.batch f.at (ap (λ (z : Batch). z.state) same ∙ c.in-Idle.is) c.args.number c.requires f.is in
     record {
-      kept = subst (λ (r : Row). IsKept (seen c.self.inside.cleared c.self.inside.charts.items c.self.inside.numbers.items r.batches c.self.inside.next_number c.self.inside.arbiter)) (sym c.remove-removed.ensures.rest)
+      kept = subst (λ (r : BatchList). IsKept (seen c.self.inside.cleared c.self.inside.charts.items c.self.inside.numbers.items r.batches c.self.inside.next_number c.self.inside.arbiter)) (sym c.remove-removed.ensures.rest)
           (subst (λ (z : EngineView). IsKept (with z (remove z.batches i) z.next_number z.allocation)) (sym c.self.view_is) after);
       numbers = subst HaveOwnNumbers (sym c.remove-removed.ensures.rest) (own-numbers-remove c.self.inside.batches i c.self.invariant.numbers);
     }
@@ -67,6 +67,6 @@ returns c =
     record {
       cleared = ap (λ (z : EngineView). z.cleared) c.self.view_is;
       reacts =
-          subst (λ (r : Row). Reacts (documents v.cleared) (plant_of v) (Events.remove c.args.number) (Events.removed c.args.number) (plant_of (seen c.self.inside.cleared c.self.inside.charts.items c.self.inside.numbers.items r.batches c.self.inside.next_number c.self.inside.arbiter))) (sym c.remove-removed.ensures.rest)
+          subst (λ (r : BatchList). Reacts (documents v.cleared) (plant_of v) (Events.remove c.args.number) (Events.removed c.args.number) (plant_of (seen c.self.inside.cleared c.self.inside.charts.items c.self.inside.numbers.items r.batches c.self.inside.next_number c.self.inside.arbiter))) (sym c.remove-removed.ensures.rest)
           (subst (λ (z : EngineView). Reacts (documents v.cleared) (plant_of v) (Events.remove c.args.number) (Events.removed c.args.number) (plant_of (with z (remove z.batches i) z.next_number z.allocation))) (sym c.self.view_is) reacts);
     }
