@@ -20,6 +20,7 @@ pub struct Entry {
 #[derive(Drop)]
 pub struct Batches {
     slab: Slab<Batch>,
+    /// By rising number, one for each batch.
     entries: Vec<Entry>,
 }
 
