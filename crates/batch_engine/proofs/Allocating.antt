@@ -15,7 +15,7 @@ use Rattle.batch_verify.specs.ClearedSet.{ClearedSet}
 use Rattle.batch_arbiter.specs.Allocation.{Claim, shares_of, line_of, asked, granted, released, without_first, is_claim, next_in, batch_node, held_units}
 use Rattle.batch_engine.specs.View.{EngineView, act_of, share_of, acts_of, names_of, number_of, line_in, line_at}
 use Rattle.batch_engine.specs.Kept.{IsOfCell}
-use Rattle.batch_engine.proofs.Batches.{chosen-true, chosen-false}
+use Rattle.batch_engine.proofs.BatchPlaces.{chosen-true, chosen-false}
 use Rattle.batch_engine.proofs.Making.{same-number, same-named, name-yes, name-no, without-head, without-claim}
 use Rattle.batch_engine.proofs.Finding.{named}
 

@@ -24,7 +24,7 @@ use Rattle.batch_engine.specs.View.{EngineView, documents, recipe_at, tree_at, b
 use Rattle.batch_engine.specs.Kept.{IsRunningBatch, IsKept, needs_of_all}
 use Rattle.batch_engine.specs.Creates.{IsCreate}
 use Rattle.batch_engine.proofs.Told.{told, standing}
-use Rattle.batch_engine.proofs.Batches.{chosen-false}
+use Rattle.batch_engine.proofs.BatchPlaces.{chosen-false}
 use Rattle.batch_engine.proofs.Making.{fun_ext}
 use Rattle.batch_engine.proofs.Made.{Has-mapped}
 use Rattle.batch_engine.proofs.Reacting.{with, event-kept}

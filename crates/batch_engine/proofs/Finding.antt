@@ -33,7 +33,7 @@ use Rattle.batch_engine.specs.Kept.{IsKept, IsRunningBatch}
 use Rattle.batch_engine.proofs.Nodes.{same-node, within-or_past}
 use Rattle.batch_engine.proofs.Told.{placed, told, standing}
 use Rattle.batch_engine.proofs.Serving.{serves-next, next-serves, is-served}
-use Rattle.batch_engine.proofs.Batches.{place-in, Has-batch_of}
+use Rattle.batch_engine.proofs.BatchPlaces.{place-in, Has-batch_of}
 use Rattle.batch_engine.proofs.Granting as Granting
 use Rattle.batch_engine.proofs.Placing.{step-place}
 

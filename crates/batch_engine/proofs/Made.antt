@@ -33,7 +33,7 @@ use Rattle.batch_engine.specs.View.{EngineView, documents, act_of, share_of, act
 use Rattle.batch_engine.specs.Kept.{IsKept}
 use Rattle.batch_engine.specs.Steps.{IsNext, IsQuiet}
 use Rattle.batch_engine.proofs.Told.{told, safe, standing}
-use Rattle.batch_engine.proofs.Batches.{Has-batch_of}
+use Rattle.batch_engine.proofs.BatchPlaces.{Has-batch_of}
 use Rattle.batch_engine.proofs.Finding.{named, has, batch-runs, tree-placed, claim-act, act-claim, line-units}
 use Rattle.batch_engine.proofs.Placing.{step-place}
 use Rattle.batch_engine.proofs.Allocating.{lines-asked, once-asked, cell-asked, shares-released, cell-released, lines-granted, shares-granted, once-granted, cell-granted, first-of-line}

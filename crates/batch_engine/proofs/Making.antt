@@ -15,7 +15,7 @@ use Rattle.batch_arbiter.specs.Allocation.{Claim, without_first}
 use Rattle.batch_chart.specs.NodesOf.{place_at}
 use Rattle.batch_engine.specs.declared.batch.Batch.{Batch}
 use Rattle.batch_engine.specs.View.{tree_at, batch_of, share_of, acts_of, place_in, names_of, number_of, tree_of}
-use Rattle.batch_engine.proofs.Batches.{chosen-true, chosen-false, later-number}
+use Rattle.batch_engine.proofs.BatchPlaces.{chosen-true, chosen-false, later-number}
 use Rattle.batch_engine.proofs.Finding.{Has-get, named}
 
 pub fun_ext : {A B : Type 0} {f g : A → B} → ((x : A) → f x ≡ g x) → f ≡ g

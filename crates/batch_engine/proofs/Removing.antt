@@ -27,7 +27,7 @@ use Rattle.batch_engine.specs.declared.batch.Batch.{Batch}
 use Rattle.batch_engine.specs.View.{EngineView, documents, batch_of, act_of, share_of, acts_of, place_in, number_of, line_in, line_at, plant_of, tree_of}
 use Rattle.batch_engine.specs.Kept.{IsRunningBatch, IsKept, needs_of_all}
 use Rattle.batch_engine.proofs.Told.{safe, standing}
-use Rattle.batch_engine.proofs.Batches.{chosen-false, later-number, Has-batch_of}
+use Rattle.batch_engine.proofs.BatchPlaces.{chosen-false, later-number, Has-batch_of}
 use Rattle.batch_engine.proofs.Finding.{Has-get}
 use Rattle.batch_engine.proofs.Making.{fun_ext}
 use Rattle.batch_engine.proofs.Creating.{Has-acts}

@@ -9,6 +9,7 @@ ghost use Rattle.batch_engine.specs.Looked.{value_in};
 ghost use Rattle.batch_engine.specs.Surface.{event_of};
 ghost use Rattle.batch_engine.specs.View.{plant_of};
 
+use crate::batches::Batches;
 use crate::engine::Engine;
 use crate::event::Event;
 use crate::numbering::number_recipes;
@@ -56,7 +57,7 @@ impl Engine {
             cleared,
             charts,
             numbers,
-            batches: Vec::new(alloc),
+            batches: Batches::new(alloc),
             next_number: 1,
             arbiter,
         })

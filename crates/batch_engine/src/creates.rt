@@ -63,7 +63,8 @@ impl Engine {
         ensures { IfSome result (λ needs. needs ≡ needs_of_all self.now.cleared self.now.batches + needs_in (tree_at self.now.cleared recipe)) }
     {
         let mut needs = self.numbers[usize::from(recipe)].needs;
-        for batch in &self.batches {
+        for index in 0..self.batches.len() {
+            let batch = &self.batches[index];
             needs = needs.checked_add(self.numbers[usize::from(batch.recipe)].needs)?;
         }
         Some(needs)
@@ -92,7 +93,7 @@ impl Engine {
             state: State::Idle,
             running,
         };
-        let Ok(()) = self.batches.push(batch) else {
+        let Ok(()) = self.batches.add(batch) else {
             return Reply::Refused(Refusal::Memory);
         };
         self.next_number = number + 1;

@@ -1,5 +1,5 @@
 //! The engine.
-use crate::batch::Batch;
+use crate::batches::Batches;
 use crate::numbers::RecipeNumbers;
 use batch_arbiter::Arbiter;
 use batch_chart::Compiled;
@@ -14,7 +14,7 @@ pub struct Engine {
     pub(crate) cleared: Cleared,
     pub(crate) charts: Vec<Compiled>,
     pub(crate) numbers: Vec<RecipeNumbers>,
-    pub(crate) batches: Vec<Batch>,
+    pub(crate) batches: Batches,
     pub(crate) next_number: u64,
     pub(crate) arbiter: Arbiter,
 }
@@ -26,14 +26,14 @@ impl Model for Engine {
     ghost use Rattle.batch_verify.specs.contracts.cleared.Cleared as cleared_contracts;
     ghost use Rattle.batch_engine.specs.contracts.batch.Batch as batch_contracts;
     ghost use Rattle.batch_engine.specs.contracts.numbers.RecipeNumbers as numbers_contracts;
-    ghost use Rattle.batch_engine.specs.Kept.{IsKept};
+    ghost use Rattle.batch_engine.specs.Kept.{IsSound};
     ghost use Rattle.batch_engine.specs.View.{EngineView, seen};
 
     ghost Value = { EngineView };
 
     ghost coded = { Prim.hlevel (codes, batch_contracts.the_row.coded, compiled_contracts.the_row.coded, cleared_contracts.the_row.coded, arbiter_contracts.the_row.coded, numbers_contracts.the_row.coded) };
 
-    ghost view = { λ e. seen e.cleared e.charts.items e.numbers.items e.batches.items e.next_number e.arbiter };
+    ghost view = { λ e. seen e.cleared e.charts.items e.numbers.items e.batches.batches e.next_number e.arbiter };
 
-    ghost invariant = { λ e. IsKept (seen e.cleared e.charts.items e.numbers.items e.batches.items e.next_number e.arbiter) };
+    ghost invariant = { λ e. IsSound e.batches (seen e.cleared e.charts.items e.numbers.items e.batches.batches e.next_number e.arbiter) };
 }

@@ -8,25 +8,17 @@ ghost use Rattle.batch_engine.specs.Answered.{IsAnswered};
 ghost use Rattle.batch_engine.specs.Orders.{EndsAsks, IsOrder, IsOrdered, IsPlain};
 ghost use Rattle.batch_engine.specs.View.{documents, plant_of};
 
-use crate::batch::Batch;
 use crate::engine::Engine;
 use crate::refusal::Refusal;
 use crate::reply::Reply;
 use batch_matrix::{Command, State, after};
-
-/// Where the batch with this number stands.
-fn index_of(batches: &[Batch], number: u64) -> Option<usize>
-    ensures { result ≡ position (λ b. nat_eq b.number number) batches.now }
-{
-    batches.iter().position(|batch| batch.number == number)
-}
 
 impl Engine {
     /// Where the batch with this number stands.
     pub(crate) fn index_of(&self, number: u64) -> Option<usize>
         ensures { result ≡ position (λ b. nat_eq b.number number) self.now.batches }
     {
-        index_of(&self.batches, number)
+        self.batches.index_of(number)
     }
 
     /// The batch at an index takes a command that changes its state alone.

@@ -1,13 +1,14 @@
 //! Choosing the next move.
 ghost use Rattle.std.specs.Prelude.{◌≡◌, ◌<◌, ◌↔◌, Some, None, length, option_map, IsTrue};
 ghost use Rattle.batch_arbiter.specs.Allocation.{batch_node, next_grant, resource_count};
-ghost use Rattle.batch_model.specs.Moves.{next};
+ghost use Rattle.batch_model.specs.Moves.{is_stopped, next};
 ghost use Rattle.batch_engine.specs.Steps.{IsBatchStep, IsFirstGrant, IsNeedAt, IsNextStep, IsNumberAt};
 ghost use Rattle.batch_engine.specs.View.{documents, plant_of};
 
 use crate::engine::Engine;
 use crate::step::Step;
 use batch_arbiter::Arbiter;
+use batch_matrix::State;
 
 /// Whether the arbiter would serve this act.
 fn serves(arbiter: &Arbiter, resource: u16, batch: u64, node: u16) -> bool
@@ -18,6 +19,13 @@ fn serves(arbiter: &Arbiter, resource: u16, batch: u64, node: u16) -> bool
         Some((first, at)) => first == batch && at == node,
         None => false,
     }
+}
+
+/// Whether a batch in this state was stopped or aborted. Such a batch has no move.
+fn is_stopped(state: State) -> bool
+    ensures { result ≡ is_stopped state }
+{
+    matches!(state, State::Stopped | State::Aborted)
 }
 
 impl Engine {
@@ -58,6 +66,9 @@ impl Engine {
         ensures { IsBatchStep self.now index result }
     {
         let batch = &self.batches[index];
+        if is_stopped(batch.state) {
+            return None;
+        }
         let chart = &self.charts[usize::from(batch.recipe)];
         if let Some(made) = batch.running.next_move(chart, batch.state) {
             return Some(Step::Own { index, made });

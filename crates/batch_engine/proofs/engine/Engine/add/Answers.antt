@@ -17,17 +17,25 @@ use Rattle.batch_engine.proofs.Reacting.{with}
 use Rattle.batch_engine.proofs.Creating.{react-create, create-reacts, create-kept}
 use Rattle.batch_engine.specs.Names.{recipe_name}
 use Rattle.batch_engine.proofs.Telling.{recipe-named, some-at}
+use Rattle.batch_engine.specs.Batches.{HaveOwnNumbers, BatchList}
+use Rattle.batch_engine.proofs.Filing.{own-numbers-push}
+use Rattle.batch_engine.proofs.Seeking.{new-number}
 use Rattle.batch_engine.proofs.engine.Engine.add.Goals as goal
 
-pub returns-in_default-push : goal.returns-in_default-push
-returns-in_default-push c =
+pub add-requires : goal.add-requires
+add-requires c =
+    let w : EngineView = seen c.self.inside.cleared c.self.inside.charts.items c.self.inside.numbers.items c.self.inside.batches.batches c.self.inside.next_number c.self.inside.arbiter in
+    new-number w c.self.invariant.kept c.self.inside.batches refl c.self.invariant.numbers
+
+pub returns-in_default-add : goal.returns-in_default-add
+returns-in_default-add c =
     let v : EngineView = c.args.self.now in
-    let w : EngineView = seen c.self.inside.cleared c.self.inside.charts.items c.self.inside.numbers.items c.self.inside.batches.items c.self.inside.next_number c.self.inside.arbiter in
+    let w : EngineView = seen c.self.inside.cleared c.self.inside.charts.items c.self.inside.numbers.items c.self.inside.batches.batches c.self.inside.next_number c.self.inside.arbiter in
     let e : w ≡ v = c.self.view_is in
     let room : ℕ = c.reserve.new.self.room in
     let arbiter : c.reserve.new.self ≡ record (c.self.inside.arbiter) { room = room } = c.in-Ok-reserve.ensures.rest in
-    let items : c.push.new.self.items ≡ c.self.inside.batches.items = c.in_default-push.ensures.items in
-    let same : plant_of (seen c.self.inside.cleared c.self.inside.charts.items c.self.inside.numbers.items c.push.new.self.items c.self.inside.next_number c.reserve.new.self) ≡ plant_of v =
+    let items : c.add.new.self.batches ≡ c.self.inside.batches.batches = ap (λ (r : BatchList). r.batches) c.in_default-add.ensures.same in
+    let same : plant_of (seen c.self.inside.cleared c.self.inside.charts.items c.self.inside.numbers.items c.add.new.self.batches c.self.inside.next_number c.reserve.new.self) ≡ plant_of v =
     ap₂ (λ (bs : List Batch) (a : Allocation). plant_of (seen c.self.inside.cleared c.self.inside.charts.items c.self.inside.numbers.items bs c.self.inside.next_number a)) items arbiter ∙ ap plant_of e in
     let document = some-at v.cleared.recipes c.args.recipe c.requires.known in
     let called : recipe_name v.cleared c.args.recipe ≡ (recipe_at v.cleared c.args.recipe).name = recipe-named v.cleared c.args.recipe document.0 document.1 in
@@ -39,13 +47,13 @@ returns-in_default-push c =
 pub invariant_of-self-2 : goal.invariant_of-self-2
 invariant_of-self-2 c =
     let v : EngineView = c.args.self.now in
-    let kept : IsKept v = subst IsKept c.self.view_is c.self.invariant in
+    let kept : IsKept v = subst IsKept c.self.view_is c.self.invariant.kept in
     let x : Compiled = c.index.result.now in
     let few : c.args.recipe < length v.charts = omega (arith, c.requires.known, kept.charts.count) in
     let compiled : slice_get v.charts c.args.recipe ≡ Some x = got-chart v _ c.from.result c.args.recipe x c.self.view_is c.from.ensures few c.index.ensures in
     let t = tree_at v.cleared c.args.recipe in
     let made = λ (vs : ValueList). c.in-Ok.ensures t vs (kept.charts.each c.args.recipe x compiled) in
-    let w : EngineView = seen c.self.inside.cleared c.self.inside.charts.items c.self.inside.numbers.items c.self.inside.batches.items c.self.inside.next_number c.self.inside.arbiter in
+    let w : EngineView = seen c.self.inside.cleared c.self.inside.charts.items c.self.inside.numbers.items c.self.inside.batches.batches c.self.inside.next_number c.self.inside.arbiter in
     let e : w ≡ v = c.self.view_is in
     let b : Batch = record { number = c.self.inside.next_number; recipe = c.args.recipe; size = c.args.size; values = c.args.values; state = Idle; running = c.in-Ok.running } in
     let room : ℕ = c.reserve.new.self.room in
@@ -54,24 +62,27 @@ invariant_of-self-2 c =
     ap₂ (λ n r. let d : Model.Batch = record { number = n; recipe = recipe_at v.cleared c.args.recipe; size = c.args.size; values = c.args.values; state = Idle; rest = r } in d) number (made c.args.values).1 in
     let enough : needs_of_all v.cleared v.batches + needs_in t ≤ room = omega (arith, c.in-Some.ensures, c.in-Ok-reserve.ensures.ok) in
     let arbiter : c.reserve.new.self ≡ record (c.self.inside.arbiter) { room = room } = c.in-Ok-reserve.ensures.rest in
-    let items : c.push.new.self.items ≡ c.self.inside.batches.items ++ b ∷ [] = c.in-Ok-push.ensures.items in
+    let items : c.add.new.self.batches ≡ c.self.inside.batches.batches ++ b ∷ [] = ap (λ (r : BatchList). r.batches) c.in-Ok-add.ensures.added in
     let kept_after : IsKept (with v (v.batches ++ b ∷ []) (v.next_number + 1) (record (v.allocation) { room = room })) =
     create-kept v kept c.args.recipe c.args.name.now c.args.size c.args.values c.requires b room number refl (made c.args.values).0 new enough in
     let inside : IsKept (with w (w.batches ++ b ∷ []) (w.next_number + 1) (record (w.allocation) { room = room })) =
     subst (λ (z : EngineView). IsKept (with z (z.batches ++ b ∷ []) (z.next_number + 1) (record (z.allocation) { room = room }))) (sym e) kept_after in
-    subst (λ (a : Allocation). IsKept (seen c.self.inside.cleared c.self.inside.charts.items c.self.inside.numbers.items c.push.new.self.items (c.self.inside.next_number + 1) a)) (sym arbiter)
-    (subst (λ (bs : List Batch). IsKept (seen c.self.inside.cleared c.self.inside.charts.items c.self.inside.numbers.items bs (c.self.inside.next_number + 1) (record (c.self.inside.arbiter) { room = room }))) (sym items) inside)
+    record {
+      kept = subst (λ (a : Allocation). IsKept (seen c.self.inside.cleared c.self.inside.charts.items c.self.inside.numbers.items c.add.new.self.batches (c.self.inside.next_number + 1) a)) (sym arbiter)
+          (subst (λ (bs : List Batch). IsKept (seen c.self.inside.cleared c.self.inside.charts.items c.self.inside.numbers.items bs (c.self.inside.next_number + 1) (record (c.self.inside.arbiter) { room = room }))) (sym items) inside);
+      numbers = subst HaveOwnNumbers (sym c.in-Ok-add.ensures.added) (own-numbers-push c.self.inside.batches b c.self.invariant.numbers);
+    }
 
 pub returns : goal.returns
 returns c =
     let v : EngineView = c.args.self.now in
-    let kept : IsKept v = subst IsKept c.self.view_is c.self.invariant in
+    let kept : IsKept v = subst IsKept c.self.view_is c.self.invariant.kept in
     let x : Compiled = c.index.result.now in
     let few : c.args.recipe < length v.charts = omega (arith, c.requires.known, kept.charts.count) in
     let compiled : slice_get v.charts c.args.recipe ≡ Some x = got-chart v _ c.from.result c.args.recipe x c.self.view_is c.from.ensures few c.index.ensures in
     let t = tree_at v.cleared c.args.recipe in
     let made = λ (vs : ValueList). c.in-Ok.ensures t vs (kept.charts.each c.args.recipe x compiled) in
-    let w : EngineView = seen c.self.inside.cleared c.self.inside.charts.items c.self.inside.numbers.items c.self.inside.batches.items c.self.inside.next_number c.self.inside.arbiter in
+    let w : EngineView = seen c.self.inside.cleared c.self.inside.charts.items c.self.inside.numbers.items c.self.inside.batches.batches c.self.inside.next_number c.self.inside.arbiter in
     let e : w ≡ v = c.self.view_is in
     let b : Batch = record { number = c.self.inside.next_number; recipe = c.args.recipe; size = c.args.size; values = c.args.values; state = Idle; running = c.in-Ok.running } in
     let room : ℕ = c.reserve.new.self.room in
@@ -80,11 +91,11 @@ returns c =
     ap₂ (λ n r. let d : Model.Batch = record { number = n; recipe = recipe_at v.cleared c.args.recipe; size = c.args.size; values = c.args.values; state = Idle; rest = r } in d) number (made c.args.values).1 in
     let enough : needs_of_all v.cleared v.batches + needs_in t ≤ room = omega (arith, c.in-Some.ensures, c.in-Ok-reserve.ensures.ok) in
     let arbiter : c.reserve.new.self ≡ record (c.self.inside.arbiter) { room = room } = c.in-Ok-reserve.ensures.rest in
-    let items : c.push.new.self.items ≡ c.self.inside.batches.items ++ b ∷ [] = c.in-Ok-push.ensures.items in
+    let items : c.add.new.self.batches ≡ c.self.inside.batches.batches ++ b ∷ [] = ap (λ (r : BatchList). r.batches) c.in-Ok-add.ensures.added in
     let reacts : Reacts (documents v.cleared) (plant_of v) (Events.create c.args.name.now c.args.size) (Events.created v.next_number (recipe_at v.cleared c.args.recipe).name c.args.size)
     (plant_of (with v (v.batches ++ b ∷ []) (v.next_number + 1) (record (v.allocation) { room = room }))) =
     create-reacts v kept c.args.recipe c.args.name.now c.args.size c.args.values c.requires b room number refl (made c.args.values).0 new enough in
-    let same : plant_of (seen c.self.inside.cleared c.self.inside.charts.items c.self.inside.numbers.items c.push.new.self.items (c.self.inside.next_number + 1) c.reserve.new.self)
+    let same : plant_of (seen c.self.inside.cleared c.self.inside.charts.items c.self.inside.numbers.items c.add.new.self.batches (c.self.inside.next_number + 1) c.reserve.new.self)
     ≡ plant_of (with v (v.batches ++ b ∷ []) (v.next_number + 1) (record (v.allocation) { room = room })) =
     ap₂ (λ (bs : List Batch) (a : Allocation). plant_of (seen c.self.inside.cleared c.self.inside.charts.items c.self.inside.numbers.items bs (c.self.inside.next_number + 1) a)) items arbiter
     ∙ ap (λ (z : EngineView). plant_of (with z (z.batches ++ b ∷ []) (z.next_number + 1) (record (z.allocation) { room = room }))) e in
@@ -92,8 +103,8 @@ returns c =
     let called : recipe_name v.cleared c.args.recipe ≡ (recipe_at v.cleared c.args.recipe).name = recipe-named v.cleared c.args.recipe document.0 document.1 in
     record {
       cleared = ap (λ (z : EngineView). z.cleared) e;
-      reacts = subst (λ (called : Name). Reacts (documents v.cleared) (plant_of v) (Events.create c.args.name.now c.args.size) (Events.created b.number called c.args.size) (plant_of (seen c.self.inside.cleared c.self.inside.charts.items c.self.inside.numbers.items c.push.new.self.items (c.self.inside.next_number + 1) c.reserve.new.self))) (sym called)
-          (subst (λ n. Reacts (documents v.cleared) (plant_of v) (Events.create c.args.name.now c.args.size) (Events.created n (recipe_at v.cleared c.args.recipe).name c.args.size) (plant_of (seen c.self.inside.cleared c.self.inside.charts.items c.self.inside.numbers.items c.push.new.self.items (c.self.inside.next_number + 1) c.reserve.new.self)))
+      reacts = subst (λ (called : Name). Reacts (documents v.cleared) (plant_of v) (Events.create c.args.name.now c.args.size) (Events.created b.number called c.args.size) (plant_of (seen c.self.inside.cleared c.self.inside.charts.items c.self.inside.numbers.items c.add.new.self.batches (c.self.inside.next_number + 1) c.reserve.new.self))) (sym called)
+          (subst (λ n. Reacts (documents v.cleared) (plant_of v) (Events.create c.args.name.now c.args.size) (Events.created n (recipe_at v.cleared c.args.recipe).name c.args.size) (plant_of (seen c.self.inside.cleared c.self.inside.charts.items c.self.inside.numbers.items c.add.new.self.batches (c.self.inside.next_number + 1) c.reserve.new.self)))
           (sym number)
           (subst (Reacts (documents v.cleared) (plant_of v) (Events.create c.args.name.now c.args.size) (Events.created v.next_number (recipe_at v.cleared c.args.recipe).name c.args.size)) (sym same) reacts));
     }

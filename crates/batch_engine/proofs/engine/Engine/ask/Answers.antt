@@ -1,4 +1,4 @@
-use Rattle.std.proofs.Common.{◌≡◌, ◌<◌, sym, ◌∙◌, ap, ap₂, subst, Some, arith, length}
+use Rattle.std.proofs.Common.{refl, ◌≡◌, ◌<◌, sym, ◌∙◌, ap, ap₂, subst, Some, arith, length}
 use Rattle.std.specs.Prelude.{slice_get}
 use Rattle.std.proofs.lemmas.Option.{slice_get_within}
 use Rattle.batch_model.specs.Moves as Moves
@@ -16,12 +16,13 @@ use Rattle.batch_engine.proofs.Stepping.{changed}
 use Rattle.batch_engine.proofs.Made.{Becomes, ask-made, known}
 use Rattle.batch_engine.proofs.Answering.{same-at, step-is, step-about, step-can, closed-kept, closed-makes}
 use Rattle.batch_engine.proofs.RoomForAsk.{room-for-ask}
+use Rattle.batch_engine.proofs.Filing.{own-numbers-set}
 use Rattle.batch_engine.proofs.engine.Engine.ask.Goals as goal
 
 pub ask-requires-clause-known : goal.ask-requires-clause-known
 ask-requires-clause-known c =
     let v : EngineView = c.args.self.now in
-    let kept : IsKept v = subst IsKept c.self.view_is c.self.invariant in
+    let kept : IsKept v = subst IsKept c.self.view_is c.self.invariant.kept in
     let b : Batch = c.index.result.now in
     let g : IsOwnStep v (IsNext v) c.args.index (Chart.Ask c.args.node c.args.need) = c.requires.step in
     let at : slice_get v.batches c.args.index ≡ Some b = got-batch v _ c.args.index b c.self.view_is (slice_get_within v.batches c.args.index g.batch g.here.at) c.index.ensures in
@@ -31,7 +32,7 @@ ask-requires-clause-known c =
 pub ask-requires-clause-room : goal.ask-requires-clause-room
 ask-requires-clause-room c =
     let v : EngineView = c.args.self.now in
-    let kept : IsKept v = subst IsKept c.self.view_is c.self.invariant in
+    let kept : IsKept v = subst IsKept c.self.view_is c.self.invariant.kept in
     let b : Batch = c.index.result.now in
     let g : IsOwnStep v (IsNext v) c.args.index (Chart.Ask c.args.node c.args.need) = c.requires.step in
     let at : slice_get v.batches c.args.index ≡ Some b = got-batch v _ c.args.index b c.self.view_is (slice_get_within v.batches c.args.index g.batch g.here.at) c.index.ensures in
@@ -41,12 +42,12 @@ pub index_mut-batch-requires : goal.index_mut-batch-requires
 index_mut-batch-requires c =
     let v : EngineView = c.args.self.now in
     let few : c.args.index < length v.batches = slice_get_within v.batches c.args.index c.requires.step.batch c.requires.step.here.at in
-    omega (arith, few, ap (λ (z : EngineView). length z.batches) c.self.view_is, c.self.inside.batches.ok.0)
+    omega (arith, few, ap (λ (z : EngineView). length z.batches) c.self.view_is)
 
 pub index-chart-requires : goal.index-chart-requires
 index-chart-requires c =
     let v : EngineView = c.args.self.now in
-    let kept : IsKept v = subst IsKept c.self.view_is c.self.invariant in
+    let kept : IsKept v = subst IsKept c.self.view_is c.self.invariant.kept in
     let b : Batch = c.index_mut-batch.result.now in
     let g : IsOwnStep v (IsNext v) c.args.index (Chart.Ask c.args.node c.args.need) = c.requires.step in
     let at : slice_get v.batches c.args.index ≡ Some b = got-batch v _ c.args.index b c.self.view_is (slice_get_within v.batches c.args.index g.batch g.here.at) c.index_mut-batch.ensures.value in
@@ -56,7 +57,7 @@ index-chart-requires c =
 pub make-requires-clause-running : goal.make-requires-clause-running
 make-requires-clause-running c =
     let v : EngineView = c.args.self.now in
-    let kept : IsKept v = subst IsKept c.self.view_is c.self.invariant in
+    let kept : IsKept v = subst IsKept c.self.view_is c.self.invariant.kept in
     let b : Batch = c.index_mut-batch.result.now in
     let g : IsOwnStep v (IsNext v) c.args.index (Chart.Ask c.args.node c.args.need) = c.requires.step in
     let at : slice_get v.batches c.args.index ≡ Some b = got-batch v _ c.args.index b c.self.view_is (slice_get_within v.batches c.args.index g.batch g.here.at) c.index_mut-batch.ensures.value in
@@ -67,7 +68,7 @@ make-requires-clause-running c =
 pub make-requires-clause-possible : goal.make-requires-clause-possible
 make-requires-clause-possible c =
     let v : EngineView = c.args.self.now in
-    let kept : IsKept v = subst IsKept c.self.view_is c.self.invariant in
+    let kept : IsKept v = subst IsKept c.self.view_is c.self.invariant.kept in
     let b : Batch = c.index_mut-batch.result.now in
     let g : IsOwnStep v (IsNext v) c.args.index (Chart.Ask c.args.node c.args.need) = c.requires.step in
     let at : slice_get v.batches c.args.index ≡ Some b = got-batch v _ c.args.index b c.self.view_is (slice_get_within v.batches c.args.index g.batch g.here.at) c.index_mut-batch.ensures.value in
@@ -78,7 +79,7 @@ make-requires-clause-possible c =
 pub invariant_of-self : goal.invariant_of-self
 invariant_of-self c =
     let v : EngineView = c.args.self.now in
-    let kept : IsKept v = subst IsKept c.self.view_is c.self.invariant in
+    let kept : IsKept v = subst IsKept c.self.view_is c.self.invariant.kept in
     let b : Batch = c.index_mut-batch.result.now in
     let g : IsOwnStep v (IsNext v) c.args.index (Chart.Ask c.args.node c.args.need) = c.requires.step in
     let at : slice_get v.batches c.args.index ≡ Some b = got-batch v _ c.args.index b c.self.view_is (slice_get_within v.batches c.args.index g.batch g.here.at) c.index_mut-batch.ensures.value in
@@ -98,12 +99,15 @@ invariant_of-self c =
     ap₂ (λ (z : Batch) u. asked c.args.resource (record { batch = z.number; node = c.args.node; units = u }) v.allocation) same ((c.requires.number b at).1) ∙ ap (λ (z : EngineView). asked c.args.resource (record { batch = first.number; node = c.args.node; units = c.args.units }) z.allocation) (sym c.self.view_is) ∙ sym c.ask.ensures in
     let a : Becomes v (changed v c.args.index (record b { running = c.make.new.self }) c.ask.new.self) m =
     subst (λ (z : Allocation). Becomes v (changed v c.args.index (record b { running = c.make.new.self }) z) m) after r in
-    closed-kept v _ c.args.index (record b { running = c.make.new.self }) c.ask.new.self m c.self.view_is a
+    record {
+      kept = closed-kept v _ c.args.index (record b { running = c.make.new.self }) c.ask.new.self m c.self.view_is a;
+      numbers = own-numbers-set c.self.inside.batches c.args.index b (record b { running = c.make.new.self }) c.index_mut-batch.ensures.value refl c.self.invariant.numbers;
+    }
 
 pub returns : goal.returns
 returns c =
     let v : EngineView = c.args.self.now in
-    let kept : IsKept v = subst IsKept c.self.view_is c.self.invariant in
+    let kept : IsKept v = subst IsKept c.self.view_is c.self.invariant.kept in
     let b : Batch = c.index_mut-batch.result.now in
     let g : IsOwnStep v (IsNext v) c.args.index (Chart.Ask c.args.node c.args.need) = c.requires.step in
     let at : slice_get v.batches c.args.index ≡ Some b = got-batch v _ c.args.index b c.self.view_is (slice_get_within v.batches c.args.index g.batch g.here.at) c.index_mut-batch.ensures.value in
@@ -130,4 +134,4 @@ index-requires c =
     let v : EngineView = c.args.self.now in
     let g : IsOwnStep v (IsNext v) c.args.index (Chart.Ask c.args.node c.args.need) = c.requires.step in
     let within : c.args.index < length v.batches = slice_get_within v.batches c.args.index g.batch g.here.at in
-    omega (arith, within, c.self.inside.batches.ok.0, ap (λ (z : EngineView). length z.batches) c.self.view_is)
+    omega (arith, within, ap (λ (z : EngineView). length z.batches) c.self.view_is)

@@ -1,14 +1,17 @@
-use Rattle.std.proofs.Common.{◌≡◌, refl, sym, subst, Option, Some, None}
+use Rattle.std.proofs.Common.{◌≡◌, ◌∙◌, refl, sym, subst, Option, Some, None}
 use Rattle.std.specs.Prelude.{slice_get}
 use Rattle.batch_model.specs.Moves as Moves
 use Rattle.batch_chart.specs.OwnMoves.{own_next}
 use Rattle.batch_chart.specs.Seen.{move_of}
 use Rattle.batch_chart.specs.declared.compiled.Compiled.{Compiled}
 use Rattle.batch_engine.specs.declared.batch.Batch.{Batch}
-use Rattle.batch_engine.specs.View.{EngineView, batch_of, tree_of}
+use Rattle.batch_engine.specs.View.{EngineView, batch_of, documents, plant_of, tree_of}
 use Rattle.batch_engine.specs.Kept.{IsKept}
 use Rattle.batch_engine.specs.Steps.{IsFirstGrant, IsBatchStep}
-use Rattle.batch_engine.proofs.Finding.{got-batch, got-chart, in-charts, batch-runs, one-batch, runs-here}
+use Rattle.batch_engine.proofs.AtRest.{stopped-moves}
+use Rattle.batch_engine.proofs.BatchPlaces.{Has-batch_of}
+use Rattle.batch_engine.proofs.Told.{safe}
+use Rattle.batch_engine.proofs.Finding.{got-batch, got-chart, has, in-charts, batch-runs, one-batch, runs-here}
 use Rattle.batch_engine.proofs.Upcoming.{own-least, grant-least, no-move}
 use Rattle.batch_engine.proofs.engine.Engine.batch_step.Goals as goal
 
@@ -17,7 +20,7 @@ returns-in-Some c =
     let v : EngineView = c.args.self.now in
     let b : Batch = c.index-batch.result.now in
     let x : Compiled = c.index-chart.result.now in
-    let kept : IsKept v = subst IsKept c.self.view_is c.self.invariant in
+    let kept : IsKept v = subst IsKept c.self.view_is c.self.invariant.kept in
     let at : slice_get v.batches c.args.index ≡ Some b = got-batch v _ c.args.index b c.self.view_is c.requires c.index-batch.ensures in
     let compiled : slice_get v.charts b.recipe ≡ Some x = got-chart v _ c.from.result b.recipe x c.self.view_is c.from.ensures (in-charts v kept c.args.index b at) c.index-chart.ensures in
     let next : Some (move_of (tree_of v.cleared b) (batch_of v.cleared b) c.in-Some.made) ≡ own_next (batch_of v.cleared b) =
@@ -38,7 +41,7 @@ returns-in_err-node c =
     let v : EngineView = c.args.self.now in
     let b : Batch = c.index-batch.result.now in
     let x : Compiled = c.index-chart.result.now in
-    let kept : IsKept v = subst IsKept c.self.view_is c.self.invariant in
+    let kept : IsKept v = subst IsKept c.self.view_is c.self.invariant.kept in
     let at : slice_get v.batches c.args.index ≡ Some b = got-batch v _ c.args.index b c.self.view_is c.requires c.index-batch.ensures in
     let compiled : slice_get v.charts b.recipe ≡ Some x = got-chart v _ c.from.result b.recipe x c.self.view_is c.from.ensures (in-charts v kept c.args.index b at) c.index-chart.ensures in
     let own : ◌≡◌ {A = Option Moves.Move} None (own_next (batch_of v.cleared b)) =
@@ -51,7 +54,7 @@ returns c =
     let v : EngineView = c.args.self.now in
     let b : Batch = c.index-batch.result.now in
     let x : Compiled = c.index-chart.result.now in
-    let kept : IsKept v = subst IsKept c.self.view_is c.self.invariant in
+    let kept : IsKept v = subst IsKept c.self.view_is c.self.invariant.kept in
     let at : slice_get v.batches c.args.index ≡ Some b = got-batch v _ c.args.index b c.self.view_is c.requires c.index-batch.ensures in
     let compiled : slice_get v.charts b.recipe ≡ Some x = got-chart v _ c.from.result b.recipe x c.self.view_is c.from.ensures (in-charts v kept c.args.index b at) c.index-chart.ensures in
     let own : ◌≡◌ {A = Option Moves.Move} None (own_next (batch_of v.cleared b)) =
@@ -78,7 +81,20 @@ next_move-requires c =
     let v : EngineView = c.args.self.now in
     let b : Batch = c.index-batch.result.now in
     let x : Compiled = c.index-chart.result.now in
-    let kept : IsKept v = subst IsKept c.self.view_is c.self.invariant in
+    let kept : IsKept v = subst IsKept c.self.view_is c.self.invariant.kept in
     let at : slice_get v.batches c.args.index ≡ Some b = got-batch v _ c.args.index b c.self.view_is c.requires c.index-batch.ensures in
     let compiled : slice_get v.charts b.recipe ≡ Some x = got-chart v _ c.from.result b.recipe x c.self.view_is c.from.ensures (in-charts v kept c.args.index b at) c.index-chart.ensures in
     runs-here v kept c.args.index b at x compiled
+
+pub returns-then-is_stopped : goal.returns-then-is_stopped
+returns-then-is_stopped c =
+    let v : EngineView = c.args.self.now in
+    let b : Batch = c.index-batch.result.now in
+    let kept : IsKept v = subst IsKept c.self.view_is c.self.invariant.kept in
+    let at : slice_get v.batches c.args.index ≡ Some b = got-batch v _ c.args.index b c.self.view_is c.requires c.index-batch.ensures in
+    record {
+      batch = b;
+      at = at;
+      none = stopped-moves (documents v.cleared) (plant_of v) (batch_of v.cleared b) (sym c.is_stopped.ensures ∙ c.if-is_stopped.true)
+          ((safe v kept).sound (batch_of v.cleared b) (Has-batch_of v.cleared v.batches b (has v kept c.args.index b at))).fits;
+    }

@@ -1,4 +1,4 @@
-use Rattle.std.proofs.Common.{◌≡◌, sym, ap, subst, Some}
+use Rattle.std.proofs.Common.{refl, ◌≡◌, sym, ap, subst, Some}
 use Rattle.std.specs.Prelude.{slice_get}
 use Rattle.std.proofs.lemmas.Option.{slice_get_within}
 use Rattle.batch_model.specs.Moves as Moves
@@ -12,12 +12,13 @@ use Rattle.batch_engine.proofs.Finding.{got-batch}
 use Rattle.batch_engine.proofs.Stepping.{changed}
 use Rattle.batch_engine.proofs.Made.{Becomes, state-changed}
 use Rattle.batch_engine.proofs.Answering.{step-is, closed-kept, closed-makes}
+use Rattle.batch_engine.proofs.Filing.{own-numbers-set}
 use Rattle.batch_engine.proofs.engine.Engine.change_state.Goals as goal
 
 pub invariant_of-self : goal.invariant_of-self
 invariant_of-self c =
     let v : EngineView = c.args.self.now in
-    let kept : IsKept v = subst IsKept c.self.view_is c.self.invariant in
+    let kept : IsKept v = subst IsKept c.self.view_is c.self.invariant.kept in
     let b : Batch = c.index_mut-batch.result.now in
     let g : IsOwnStep v (IsNext v) c.args.index (Chart.State c.args.state) = c.requires in
     let at : slice_get v.batches c.args.index ≡ Some b = got-batch v _ c.args.index b c.self.view_is (slice_get_within v.batches c.args.index g.batch g.here.at) c.index_mut-batch.ensures.value in
@@ -25,12 +26,15 @@ invariant_of-self c =
     let r : Becomes v (changed v c.args.index (record b { state = c.args.state }) v.allocation) (Moves.state b.number c.args.state) = state-changed v kept c.args.index b at c.args.state is in
     let a : Becomes v (changed v c.args.index (record b { state = c.args.state }) c.self.inside.arbiter) (Moves.state b.number c.args.state) =
     subst (λ (z : Allocation). Becomes v (changed v c.args.index (record b { state = c.args.state }) z) (Moves.state b.number c.args.state)) (sym (ap (λ (z : EngineView). z.allocation) c.self.view_is)) r in
-    closed-kept v _ c.args.index (record b { state = c.args.state }) c.self.inside.arbiter (Moves.state b.number c.args.state) c.self.view_is a
+    record {
+      kept = closed-kept v _ c.args.index (record b { state = c.args.state }) c.self.inside.arbiter (Moves.state b.number c.args.state) c.self.view_is a;
+      numbers = own-numbers-set c.self.inside.batches c.args.index b (record b { state = c.args.state }) c.index_mut-batch.ensures.value refl c.self.invariant.numbers;
+    }
 
 pub returns : goal.returns
 returns c =
     let v : EngineView = c.args.self.now in
-    let kept : IsKept v = subst IsKept c.self.view_is c.self.invariant in
+    let kept : IsKept v = subst IsKept c.self.view_is c.self.invariant.kept in
     let b : Batch = c.index_mut-batch.result.now in
     let g : IsOwnStep v (IsNext v) c.args.index (Chart.State c.args.state) = c.requires in
     let at : slice_get v.batches c.args.index ≡ Some b = got-batch v _ c.args.index b c.self.view_is (slice_get_within v.batches c.args.index g.batch g.here.at) c.index_mut-batch.ensures.value in

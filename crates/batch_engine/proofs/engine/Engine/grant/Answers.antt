@@ -1,4 +1,4 @@
-use Rattle.std.proofs.Common.{◌≡◌, ◌<◌, sym, ◌∙◌, ap, subst, Some, arith, length}
+use Rattle.std.proofs.Common.{refl, ◌≡◌, ◌<◌, sym, ◌∙◌, ap, subst, Some, arith, length}
 use Rattle.std.specs.Prelude.{slice_get, option_map}
 use Rattle.std.proofs.lemmas.Option.{slice_get_within}
 use Rattle.batch_model.specs.Moves as Moves
@@ -14,18 +14,19 @@ use Rattle.batch_engine.proofs.Finding.{got-batch, got-chart, in-charts, batch-r
 use Rattle.batch_engine.proofs.Stepping.{changed}
 use Rattle.batch_engine.proofs.Made.{Becomes, grant-made}
 use Rattle.batch_engine.proofs.Answering.{same-at, closed-kept, closed-makes}
+use Rattle.batch_engine.proofs.Filing.{own-numbers-set}
 use Rattle.batch_engine.proofs.engine.Engine.grant.Goals as goal
 
 pub index_mut-batch-requires : goal.index_mut-batch-requires
 index_mut-batch-requires c =
     let v : EngineView = c.args.self.now in
     let few : c.args.index < length v.batches = slice_get_within v.batches c.args.index c.requires.batch c.requires.here.at in
-    omega (arith, few, ap (λ (z : EngineView). length z.batches) c.self.view_is, c.self.inside.batches.ok.0)
+    omega (arith, few, ap (λ (z : EngineView). length z.batches) c.self.view_is)
 
 pub index-chart-requires : goal.index-chart-requires
 index-chart-requires c =
     let v : EngineView = c.args.self.now in
-    let kept : IsKept v = subst IsKept c.self.view_is c.self.invariant in
+    let kept : IsKept v = subst IsKept c.self.view_is c.self.invariant.kept in
     let b : Batch = c.index_mut-batch.result.now in
     let g : IsGrantStep v (IsNext v) c.args.index c.args.node c.args.resource c.args.units = c.requires in
     let at : slice_get v.batches c.args.index ≡ Some b = got-batch v _ c.args.index b c.self.view_is (slice_get_within v.batches c.args.index g.batch g.here.at) c.index_mut-batch.ensures.value in
@@ -35,7 +36,7 @@ index-chart-requires c =
 pub grant-requires-clause-running : goal.grant-requires-clause-running
 grant-requires-clause-running c =
     let v : EngineView = c.args.self.now in
-    let kept : IsKept v = subst IsKept c.self.view_is c.self.invariant in
+    let kept : IsKept v = subst IsKept c.self.view_is c.self.invariant.kept in
     let b : Batch = c.index_mut-batch.result.now in
     let g : IsGrantStep v (IsNext v) c.args.index c.args.node c.args.resource c.args.units = c.requires in
     let at : slice_get v.batches c.args.index ≡ Some b = got-batch v _ c.args.index b c.self.view_is (slice_get_within v.batches c.args.index g.batch g.here.at) c.index_mut-batch.ensures.value in
@@ -47,7 +48,7 @@ grant-requires-clause-running c =
 pub grant-requires-clause-waits : goal.grant-requires-clause-waits
 grant-requires-clause-waits c =
     let v : EngineView = c.args.self.now in
-    let kept : IsKept v = subst IsKept c.self.view_is c.self.invariant in
+    let kept : IsKept v = subst IsKept c.self.view_is c.self.invariant.kept in
     let b : Batch = c.index_mut-batch.result.now in
     let g : IsGrantStep v (IsNext v) c.args.index c.args.node c.args.resource c.args.units = c.requires in
     let at : slice_get v.batches c.args.index ≡ Some b = got-batch v _ c.args.index b c.self.view_is (slice_get_within v.batches c.args.index g.batch g.here.at) c.index_mut-batch.ensures.value in
@@ -60,7 +61,7 @@ grant-requires-clause-waits c =
 pub invariant_of-self : goal.invariant_of-self
 invariant_of-self c =
     let v : EngineView = c.args.self.now in
-    let kept : IsKept v = subst IsKept c.self.view_is c.self.invariant in
+    let kept : IsKept v = subst IsKept c.self.view_is c.self.invariant.kept in
     let b : Batch = c.index_mut-batch.result.now in
     let g : IsGrantStep v (IsNext v) c.args.index c.args.node c.args.resource c.args.units = c.requires in
     let at : slice_get v.batches c.args.index ≡ Some b = got-batch v _ c.args.index b c.self.view_is (slice_get_within v.batches c.args.index g.batch g.here.at) c.index_mut-batch.ensures.value in
@@ -80,12 +81,15 @@ invariant_of-self c =
     ap (λ (z : EngineView). granted c.args.resource (next_grant z.allocation c.args.resource) z.allocation) (sym c.self.view_is) ∙ sym c.grant_next.ensures.after in
     let a : Becomes v (changed v c.args.index (record b { running = c.grant.new.self }) c.grant_next.new.self) m =
     subst (λ (z : Allocation). Becomes v (changed v c.args.index (record b { running = c.grant.new.self }) z) m) after r in
-    closed-kept v _ c.args.index (record b { running = c.grant.new.self }) c.grant_next.new.self m c.self.view_is a
+    record {
+      kept = closed-kept v _ c.args.index (record b { running = c.grant.new.self }) c.grant_next.new.self m c.self.view_is a;
+      numbers = own-numbers-set c.self.inside.batches c.args.index b (record b { running = c.grant.new.self }) c.index_mut-batch.ensures.value refl c.self.invariant.numbers;
+    }
 
 pub returns : goal.returns
 returns c =
     let v : EngineView = c.args.self.now in
-    let kept : IsKept v = subst IsKept c.self.view_is c.self.invariant in
+    let kept : IsKept v = subst IsKept c.self.view_is c.self.invariant.kept in
     let b : Batch = c.index_mut-batch.result.now in
     let g : IsGrantStep v (IsNext v) c.args.index c.args.node c.args.resource c.args.units = c.requires in
     let at : slice_get v.batches c.args.index ≡ Some b = got-batch v _ c.args.index b c.self.view_is (slice_get_within v.batches c.args.index g.batch g.here.at) c.index_mut-batch.ensures.value in

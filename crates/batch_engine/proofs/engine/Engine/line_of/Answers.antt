@@ -15,7 +15,7 @@ use Rattle.batch_engine.proofs.engine.Engine.line_of.Goals as goal
 pub returns-in-Grant : goal.returns-in-Grant
 returns-in-Grant c =
     let v : EngineView = c.args.self.now in
-    let kept : IsKept v = subst IsKept c.self.view_is c.self.invariant in
+    let kept : IsKept v = subst IsKept c.self.view_is c.self.invariant.kept in
     let b : Batch = c.index-batch.result.now in
     let i : ℕ = c.in-Grant.index in
     let g : IsGrantStep v (IsNext v) i c.in-Grant.node c.in-Grant.resource c.in-Grant.units = subst (λ s. IsNextStep v (Some s)) c.in-Grant.is c.requires in

@@ -1,4 +1,4 @@
-use Rattle.std.proofs.Common.{◌≡◌, ◌<◌, ◌∙◌, ap, subst, ℕ, List, Some, arith, length, get_or}
+use Rattle.std.proofs.Common.{◌≡◌, ◌<◌, ap, subst, ℕ, Some, arith, length, get_or}
 use Rattle.std.specs.Prelude.{slice_get}
 use Rattle.std.proofs.lemmas.List.Sums.{sum_by_more}
 use Rattle.std.proofs.lemmas.Option.{get_or_from_slice_get}
@@ -11,31 +11,31 @@ use Rattle.batch_engine.proofs.Finding.{got-batch}
 use Rattle.batch_engine.proofs.NumbersFound.{got-numbers, numbers-here, in-numbers}
 use Rattle.batch_engine.proofs.engine.Engine.needs_with.Goals as goal
 
-pub loop-batch-init : goal.loop-batch-init
-loop-batch-init c =
+pub loop-index-init : goal.loop-index-init
+loop-index-init c =
     let v : EngineView = c.args.self.now in
-    let kept : IsKept v = subst IsKept c.self.view_is c.self.invariant in
+    let kept : IsKept v = subst IsKept c.self.view_is c.self.invariant.kept in
     let few : c.args.recipe < length v.numbers = omega (arith, c.requires, kept.numbers.count) in
     let x : RecipeNumbers = c.index.result.now in
     let found : slice_get v.numbers c.args.recipe ≡ Some x = got-numbers v _ c.from.result c.args.recipe x c.self.view_is c.from.ensures few c.index.ensures in
     let needs : x.needs ≡ needs_in (tree_at v.cleared c.args.recipe) = (numbers-here v kept c.args.recipe x found).needs in
     omega (arith, needs)
 
-pub loop-batch-preserved : goal.loop-batch-preserved
-loop-batch-preserved c =
+pub loop-index-preserved : goal.loop-index-preserved
+loop-index-preserved c =
     let v : EngineView = c.args.self.now in
-    let kept : IsKept v = subst IsKept c.self.view_is c.self.invariant in
-    let i : ℕ = c.loop-batch.batch-index in
-    let b : Batch = c.batch-item.result in
-    let few : i < length v.batches = omega (arith, c.loop-batch-test.true, ap (λ (xs : List Batch). length xs) c.deref-batch-items.ensures.value, ap (λ (z : EngineView). length z.batches) c.self.view_is) in
-    let at : slice_get v.batches i ≡ Some b = got-batch v _ i b c.self.view_is few (c.batch-item.is ∙ ap (λ xs. get_or xs i b) c.deref-batch-items.ensures.value) in
-    let x : RecipeNumbers = c.index-in-loop-batch.result.now in
-    let found : slice_get v.numbers b.recipe ≡ Some x = got-numbers v _ c.from-in-loop-batch.result b.recipe x c.self.view_is c.from-in-loop-batch.ensures (in-numbers v kept i b at) c.index-in-loop-batch.ensures in
+    let kept : IsKept v = subst IsKept c.self.view_is c.self.invariant.kept in
+    let i : ℕ = c.loop-index.index in
+    let b : Batch = c.index-batch.result.now in
+    let few : i < length v.batches = omega (arith, c.loop-index-test.true, c.len-index-end.ensures, ap (λ (z : EngineView). length z.batches) c.self.view_is) in
+    let at : slice_get v.batches i ≡ Some b = got-batch v _ i b c.self.view_is few c.index-batch.ensures in
+    let x : RecipeNumbers = c.index-in-loop-index.result.now in
+    let found : slice_get v.numbers b.recipe ≡ Some x = got-numbers v _ c.from-in-loop-index.result b.recipe x c.self.view_is c.from-in-loop-index.ensures (in-numbers v kept i b at) c.index-in-loop-index.ensures in
     let here : get_or v.batches i b ≡ b = get_or_from_slice_get v.batches i b b at in
     let needs : x.needs ≡ needs_in (tree_of v.cleared b) = (numbers-here v kept b.recipe x found).needs in
     omega (
       arith,
-      c.loop-batch.invariant,
+      c.loop-index.invariant,
       c.in_ok-needs.ensures.1,
       needs,
       sum_by_more (λ (z : Batch). needs_in (tree_of v.cleared z)) v.batches i b few,

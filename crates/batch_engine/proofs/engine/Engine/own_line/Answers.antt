@@ -17,7 +17,7 @@ use Rattle.batch_engine.proofs.engine.Engine.own_line.Goals as goal
 pub send_line-requires : goal.send_line-requires
 send_line-requires c =
     let v : EngineView = c.args.self.now in
-    let kept : IsKept v = subst IsKept c.self.view_is c.self.invariant in
+    let kept : IsKept v = subst IsKept c.self.view_is c.self.invariant.kept in
     let b : Batch = c.index-batch.result.now in
     let g : IsOwnStep v (IsNext v) c.args.index (Chart.Send c.in-Send.node c.in-Send.command) = subst (IsOwnStep v (IsNext v) c.args.index) c.in-Send.is c.requires in
     let at : slice_get v.batches c.args.index ≡ Some b = got-batch v _ c.args.index b c.self.view_is (slice_get_within v.batches c.args.index g.batch g.here.at) c.index-batch.ensures in
@@ -26,7 +26,7 @@ send_line-requires c =
 pub returns-in-Send : goal.returns-in-Send
 returns-in-Send c =
     let v : EngineView = c.args.self.now in
-    let kept : IsKept v = subst IsKept c.self.view_is c.self.invariant in
+    let kept : IsKept v = subst IsKept c.self.view_is c.self.invariant.kept in
     let b : Batch = c.index-batch.result.now in
     let g : IsOwnStep v (IsNext v) c.args.index (Chart.Send c.in-Send.node c.in-Send.command) = subst (IsOwnStep v (IsNext v) c.args.index) c.in-Send.is c.requires in
     let at : slice_get v.batches c.args.index ≡ Some b = got-batch v _ c.args.index b c.self.view_is (slice_get_within v.batches c.args.index g.batch g.here.at) c.index-batch.ensures in
@@ -36,7 +36,7 @@ returns-in-Send c =
 pub start_line-requires : goal.start_line-requires
 start_line-requires c =
     let v : EngineView = c.args.self.now in
-    let kept : IsKept v = subst IsKept c.self.view_is c.self.invariant in
+    let kept : IsKept v = subst IsKept c.self.view_is c.self.invariant.kept in
     let b : Batch = c.index-batch.result.now in
     let g : IsOwnStep v (IsNext v) c.args.index (Chart.Start c.in-Start.node) = subst (IsOwnStep v (IsNext v) c.args.index) c.in-Start.is c.requires in
     let at : slice_get v.batches c.args.index ≡ Some b = got-batch v _ c.args.index b c.self.view_is (slice_get_within v.batches c.args.index g.batch g.here.at) c.index-batch.ensures in
@@ -45,7 +45,7 @@ start_line-requires c =
 pub returns-in-Start : goal.returns-in-Start
 returns-in-Start c =
     let v : EngineView = c.args.self.now in
-    let kept : IsKept v = subst IsKept c.self.view_is c.self.invariant in
+    let kept : IsKept v = subst IsKept c.self.view_is c.self.invariant.kept in
     let b : Batch = c.index-batch.result.now in
     let g : IsOwnStep v (IsNext v) c.args.index (Chart.Start c.in-Start.node) = subst (IsOwnStep v (IsNext v) c.args.index) c.in-Start.is c.requires in
     let at : slice_get v.batches c.args.index ≡ Some b = got-batch v _ c.args.index b c.self.view_is (slice_get_within v.batches c.args.index g.batch g.here.at) c.index-batch.ensures in
@@ -55,7 +55,7 @@ returns-in-Start c =
 pub release_line-requires : goal.release_line-requires
 release_line-requires c =
     let v : EngineView = c.args.self.now in
-    let kept : IsKept v = subst IsKept c.self.view_is c.self.invariant in
+    let kept : IsKept v = subst IsKept c.self.view_is c.self.invariant.kept in
     let b : Batch = c.index-batch.result.now in
     let g : IsOwnStep v (IsNext v) c.args.index (Chart.Release c.in-Release.node c.in-Release.need) = subst (IsOwnStep v (IsNext v) c.args.index) c.in-Release.is c.requires in
     let at : slice_get v.batches c.args.index ≡ Some b = got-batch v _ c.args.index b c.self.view_is (slice_get_within v.batches c.args.index g.batch g.here.at) c.index-batch.ensures in
@@ -65,7 +65,7 @@ release_line-requires c =
 pub returns-in-Release : goal.returns-in-Release
 returns-in-Release c =
     let v : EngineView = c.args.self.now in
-    let kept : IsKept v = subst IsKept c.self.view_is c.self.invariant in
+    let kept : IsKept v = subst IsKept c.self.view_is c.self.invariant.kept in
     let b : Batch = c.index-batch.result.now in
     let g : IsOwnStep v (IsNext v) c.args.index (Chart.Release c.in-Release.node c.in-Release.need) = subst (IsOwnStep v (IsNext v) c.args.index) c.in-Release.is c.requires in
     let at : slice_get v.batches c.args.index ≡ Some b = got-batch v _ c.args.index b c.self.view_is (slice_get_within v.batches c.args.index g.batch g.here.at) c.index-batch.ensures in
@@ -75,7 +75,7 @@ returns-in-Release c =
 pub ask_line-requires : goal.ask_line-requires
 ask_line-requires c =
     let v : EngineView = c.args.self.now in
-    let kept : IsKept v = subst IsKept c.self.view_is c.self.invariant in
+    let kept : IsKept v = subst IsKept c.self.view_is c.self.invariant.kept in
     let b : Batch = c.index-batch.result.now in
     let g : IsOwnStep v (IsNext v) c.args.index (Chart.Ask c.in-Ask.node c.in-Ask.need) = subst (IsOwnStep v (IsNext v) c.args.index) c.in-Ask.is c.requires in
     let at : slice_get v.batches c.args.index ≡ Some b = got-batch v _ c.args.index b c.self.view_is (slice_get_within v.batches c.args.index g.batch g.here.at) c.index-batch.ensures in
@@ -85,7 +85,7 @@ ask_line-requires c =
 pub returns-in-Ask : goal.returns-in-Ask
 returns-in-Ask c =
     let v : EngineView = c.args.self.now in
-    let kept : IsKept v = subst IsKept c.self.view_is c.self.invariant in
+    let kept : IsKept v = subst IsKept c.self.view_is c.self.invariant.kept in
     let b : Batch = c.index-batch.result.now in
     let g : IsOwnStep v (IsNext v) c.args.index (Chart.Ask c.in-Ask.node c.in-Ask.need) = subst (IsOwnStep v (IsNext v) c.args.index) c.in-Ask.is c.requires in
     let at : slice_get v.batches c.args.index ≡ Some b = got-batch v _ c.args.index b c.self.view_is (slice_get_within v.batches c.args.index g.batch g.here.at) c.index-batch.ensures in
@@ -95,7 +95,7 @@ returns-in-Ask c =
 pub returns-in-State : goal.returns-in-State
 returns-in-State c =
     let v : EngineView = c.args.self.now in
-    let kept : IsKept v = subst IsKept c.self.view_is c.self.invariant in
+    let kept : IsKept v = subst IsKept c.self.view_is c.self.invariant.kept in
     let b : Batch = c.index-batch.result.now in
     let g : IsOwnStep v (IsNext v) c.args.index (Chart.State c.in-State.state) = subst (IsOwnStep v (IsNext v) c.args.index) c.in-State.is c.requires in
     let at : slice_get v.batches c.args.index ≡ Some b = got-batch v _ c.args.index b c.self.view_is (slice_get_within v.batches c.args.index g.batch g.here.at) c.index-batch.ensures in
@@ -105,7 +105,7 @@ returns-in-State c =
 pub returns-in-Begin : goal.returns-in-Begin
 returns-in-Begin c =
     let v : EngineView = c.args.self.now in
-    let kept : IsKept v = subst IsKept c.self.view_is c.self.invariant in
+    let kept : IsKept v = subst IsKept c.self.view_is c.self.invariant.kept in
     let b : Batch = c.index-batch.result.now in
     let g : IsOwnStep v (IsNext v) c.args.index (Chart.Begin c.in-Begin.node) = subst (IsOwnStep v (IsNext v) c.args.index) c.in-Begin.is c.requires in
     let at : slice_get v.batches c.args.index ≡ Some b = got-batch v _ c.args.index b c.self.view_is (slice_get_within v.batches c.args.index g.batch g.here.at) c.index-batch.ensures in
@@ -115,7 +115,7 @@ returns-in-Begin c =
 pub returns-in-End : goal.returns-in-End
 returns-in-End c =
     let v : EngineView = c.args.self.now in
-    let kept : IsKept v = subst IsKept c.self.view_is c.self.invariant in
+    let kept : IsKept v = subst IsKept c.self.view_is c.self.invariant.kept in
     let b : Batch = c.index-batch.result.now in
     let g : IsOwnStep v (IsNext v) c.args.index (Chart.End c.in-End.node) = subst (IsOwnStep v (IsNext v) c.args.index) c.in-End.is c.requires in
     let at : slice_get v.batches c.args.index ≡ Some b = got-batch v _ c.args.index b c.self.view_is (slice_get_within v.batches c.args.index g.batch g.here.at) c.index-batch.ensures in

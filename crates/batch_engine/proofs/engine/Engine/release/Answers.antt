@@ -1,4 +1,4 @@
-use Rattle.std.proofs.Common.{◌≡◌, ◌<◌, sym, ◌∙◌, ap, subst, Some, arith, length}
+use Rattle.std.proofs.Common.{refl, ◌≡◌, ◌<◌, sym, ◌∙◌, ap, subst, Some, arith, length}
 use Rattle.std.specs.Prelude.{slice_get}
 use Rattle.std.proofs.lemmas.Option.{slice_get_within}
 use Rattle.batch_model.specs.Moves as Moves
@@ -15,12 +15,13 @@ use Rattle.batch_engine.proofs.Finding.{got-batch, got-chart, in-charts, batch-r
 use Rattle.batch_engine.proofs.Stepping.{changed}
 use Rattle.batch_engine.proofs.Made.{Becomes, release-made, known, held-share}
 use Rattle.batch_engine.proofs.Answering.{same-at, step-is, step-about, step-can, closed-kept, closed-makes}
+use Rattle.batch_engine.proofs.Filing.{own-numbers-set}
 use Rattle.batch_engine.proofs.engine.Engine.release.Goals as goal
 
 pub release-requires-clause-known : goal.release-requires-clause-known
 release-requires-clause-known c =
     let v : EngineView = c.args.self.now in
-    let kept : IsKept v = subst IsKept c.self.view_is c.self.invariant in
+    let kept : IsKept v = subst IsKept c.self.view_is c.self.invariant.kept in
     let b : Batch = c.index.result.now in
     let g : IsOwnStep v (IsNext v) c.args.index (Chart.Release c.args.node c.args.need) = c.requires.step in
     let at : slice_get v.batches c.args.index ≡ Some b = got-batch v _ c.args.index b c.self.view_is (slice_get_within v.batches c.args.index g.batch g.here.at) c.index.ensures in
@@ -30,7 +31,7 @@ release-requires-clause-known c =
 pub release-requires-clause-held : goal.release-requires-clause-held
 release-requires-clause-held c =
     let v : EngineView = c.args.self.now in
-    let kept : IsKept v = subst IsKept c.self.view_is c.self.invariant in
+    let kept : IsKept v = subst IsKept c.self.view_is c.self.invariant.kept in
     let b : Batch = c.index.result.now in
     let g : IsOwnStep v (IsNext v) c.args.index (Chart.Release c.args.node c.args.need) = c.requires.step in
     let at : slice_get v.batches c.args.index ≡ Some b = got-batch v _ c.args.index b c.self.view_is (slice_get_within v.batches c.args.index g.batch g.here.at) c.index.ensures in
@@ -42,12 +43,12 @@ pub index_mut-batch-requires : goal.index_mut-batch-requires
 index_mut-batch-requires c =
     let v : EngineView = c.args.self.now in
     let few : c.args.index < length v.batches = slice_get_within v.batches c.args.index c.requires.step.batch c.requires.step.here.at in
-    omega (arith, few, ap (λ (z : EngineView). length z.batches) c.self.view_is, c.self.inside.batches.ok.0)
+    omega (arith, few, ap (λ (z : EngineView). length z.batches) c.self.view_is)
 
 pub index-chart-requires : goal.index-chart-requires
 index-chart-requires c =
     let v : EngineView = c.args.self.now in
-    let kept : IsKept v = subst IsKept c.self.view_is c.self.invariant in
+    let kept : IsKept v = subst IsKept c.self.view_is c.self.invariant.kept in
     let b : Batch = c.index_mut-batch.result.now in
     let g : IsOwnStep v (IsNext v) c.args.index (Chart.Release c.args.node c.args.need) = c.requires.step in
     let at : slice_get v.batches c.args.index ≡ Some b = got-batch v _ c.args.index b c.self.view_is (slice_get_within v.batches c.args.index g.batch g.here.at) c.index_mut-batch.ensures.value in
@@ -57,7 +58,7 @@ index-chart-requires c =
 pub make-requires-clause-running : goal.make-requires-clause-running
 make-requires-clause-running c =
     let v : EngineView = c.args.self.now in
-    let kept : IsKept v = subst IsKept c.self.view_is c.self.invariant in
+    let kept : IsKept v = subst IsKept c.self.view_is c.self.invariant.kept in
     let b : Batch = c.index_mut-batch.result.now in
     let g : IsOwnStep v (IsNext v) c.args.index (Chart.Release c.args.node c.args.need) = c.requires.step in
     let at : slice_get v.batches c.args.index ≡ Some b = got-batch v _ c.args.index b c.self.view_is (slice_get_within v.batches c.args.index g.batch g.here.at) c.index_mut-batch.ensures.value in
@@ -68,7 +69,7 @@ make-requires-clause-running c =
 pub make-requires-clause-possible : goal.make-requires-clause-possible
 make-requires-clause-possible c =
     let v : EngineView = c.args.self.now in
-    let kept : IsKept v = subst IsKept c.self.view_is c.self.invariant in
+    let kept : IsKept v = subst IsKept c.self.view_is c.self.invariant.kept in
     let b : Batch = c.index_mut-batch.result.now in
     let g : IsOwnStep v (IsNext v) c.args.index (Chart.Release c.args.node c.args.need) = c.requires.step in
     let at : slice_get v.batches c.args.index ≡ Some b = got-batch v _ c.args.index b c.self.view_is (slice_get_within v.batches c.args.index g.batch g.here.at) c.index_mut-batch.ensures.value in
@@ -79,7 +80,7 @@ make-requires-clause-possible c =
 pub invariant_of-self : goal.invariant_of-self
 invariant_of-self c =
     let v : EngineView = c.args.self.now in
-    let kept : IsKept v = subst IsKept c.self.view_is c.self.invariant in
+    let kept : IsKept v = subst IsKept c.self.view_is c.self.invariant.kept in
     let b : Batch = c.index_mut-batch.result.now in
     let g : IsOwnStep v (IsNext v) c.args.index (Chart.Release c.args.node c.args.need) = c.requires.step in
     let at : slice_get v.batches c.args.index ≡ Some b = got-batch v _ c.args.index b c.self.view_is (slice_get_within v.batches c.args.index g.batch g.here.at) c.index_mut-batch.ensures.value in
@@ -98,12 +99,15 @@ invariant_of-self c =
     ap (λ (z : Batch). released c.args.resource z.number c.args.node v.allocation) same ∙ ap (λ (z : EngineView). released c.args.resource first.number c.args.node z.allocation) (sym c.self.view_is) ∙ sym c.release.ensures in
     let a : Becomes v (changed v c.args.index (record b { running = c.make.new.self }) c.release.new.self) m =
     subst (λ (z : Allocation). Becomes v (changed v c.args.index (record b { running = c.make.new.self }) z) m) after r in
-    closed-kept v _ c.args.index (record b { running = c.make.new.self }) c.release.new.self m c.self.view_is a
+    record {
+      kept = closed-kept v _ c.args.index (record b { running = c.make.new.self }) c.release.new.self m c.self.view_is a;
+      numbers = own-numbers-set c.self.inside.batches c.args.index b (record b { running = c.make.new.self }) c.index_mut-batch.ensures.value refl c.self.invariant.numbers;
+    }
 
 pub returns : goal.returns
 returns c =
     let v : EngineView = c.args.self.now in
-    let kept : IsKept v = subst IsKept c.self.view_is c.self.invariant in
+    let kept : IsKept v = subst IsKept c.self.view_is c.self.invariant.kept in
     let b : Batch = c.index_mut-batch.result.now in
     let g : IsOwnStep v (IsNext v) c.args.index (Chart.Release c.args.node c.args.need) = c.requires.step in
     let at : slice_get v.batches c.args.index ≡ Some b = got-batch v _ c.args.index b c.self.view_is (slice_get_within v.batches c.args.index g.batch g.here.at) c.index_mut-batch.ensures.value in

@@ -1,4 +1,4 @@
-use Rattle.std.proofs.Common.{◌≡◌, refl, sym, ◌∙◌, ap, subst, ℕ, Some, List}
+use Rattle.std.proofs.Common.{◌≡◌, refl, sym, ◌∙◌, ap, subst, ℕ, Some}
 use Rattle.std.specs.Prelude.{slice_get}
 use Rattle.std.specs.List.{remove}
 use Rattle.std.proofs.lemmas.Option.{slice_get_within}
@@ -13,6 +13,8 @@ use Rattle.batch_engine.proofs.Finding.{got-batch}
 use Rattle.batch_engine.proofs.Seeking.{Found, found-at, none-found}
 use Rattle.batch_engine.proofs.Reacting.{with}
 use Rattle.batch_engine.proofs.Removing.{remove-unknown, remove-busy, remove-kept, remove-reacts}
+use Rattle.batch_engine.specs.Batches.{HaveOwnNumbers, BatchList}
+use Rattle.batch_engine.proofs.Filing.{own-numbers-remove}
 use Rattle.batch_engine.proofs.engine.Engine.remove.Goals as goal
 
 pub returns-in_default : goal.returns-in_default
@@ -36,7 +38,7 @@ returns-in_default-state c =
 pub invariant_of-self : goal.invariant_of-self
 invariant_of-self c =
     let v : EngineView = c.args.self.now in
-    let kept : IsKept v = subst IsKept c.self.view_is c.self.invariant in
+    let kept : IsKept v = subst IsKept c.self.view_is c.self.invariant.kept in
     let f : Found v c.args.number c.in-Some.index = found-at v c.args.number c.in-Some.index (sym c.index_of.ensures ∙ c.in-Some.is) in
     let i : ℕ = c.in-Some.index in
     let b : Batch = c.index.result.now in
@@ -44,13 +46,16 @@ invariant_of-self c =
     let same : f.batch ≡ b = same-at v.batches i f.batch b f.at at in
     let after : IsKept (with v (remove v.batches i) v.next_number v.allocation) =
     remove-kept v kept i f.batch f.at (ap (λ (z : Batch). z.state) same ∙ c.in-Idle.is) c.args.number c.requires f.is in
-    subst (λ (bs : List Batch). IsKept (seen c.self.inside.cleared c.self.inside.charts.items c.self.inside.numbers.items bs c.self.inside.next_number c.self.inside.arbiter)) (sym c.remove-removed.ensures.items)
-    (subst (λ (z : EngineView). IsKept (with z (remove z.batches i) z.next_number z.allocation)) (sym c.self.view_is) after)
+    record {
+      kept = subst (λ (r : BatchList). IsKept (seen c.self.inside.cleared c.self.inside.charts.items c.self.inside.numbers.items r.batches c.self.inside.next_number c.self.inside.arbiter)) (sym c.remove-removed.ensures.rest)
+          (subst (λ (z : EngineView). IsKept (with z (remove z.batches i) z.next_number z.allocation)) (sym c.self.view_is) after);
+      numbers = subst HaveOwnNumbers (sym c.remove-removed.ensures.rest) (own-numbers-remove c.self.inside.batches i c.self.invariant.numbers);
+    }
 
 pub returns : goal.returns
 returns c =
     let v : EngineView = c.args.self.now in
-    let kept : IsKept v = subst IsKept c.self.view_is c.self.invariant in
+    let kept : IsKept v = subst IsKept c.self.view_is c.self.invariant.kept in
     let f : Found v c.args.number c.in-Some.index = found-at v c.args.number c.in-Some.index (sym c.index_of.ensures ∙ c.in-Some.is) in
     let i : ℕ = c.in-Some.index in
     let b : Batch = c.index.result.now in
@@ -62,6 +67,6 @@ returns c =
     record {
       cleared = ap (λ (z : EngineView). z.cleared) c.self.view_is;
       reacts =
-          subst (λ (bs : List Batch). Reacts (documents v.cleared) (plant_of v) (Events.remove c.args.number) (Events.removed c.args.number) (plant_of (seen c.self.inside.cleared c.self.inside.charts.items c.self.inside.numbers.items bs c.self.inside.next_number c.self.inside.arbiter))) (sym c.remove-removed.ensures.items)
+          subst (λ (r : BatchList). Reacts (documents v.cleared) (plant_of v) (Events.remove c.args.number) (Events.removed c.args.number) (plant_of (seen c.self.inside.cleared c.self.inside.charts.items c.self.inside.numbers.items r.batches c.self.inside.next_number c.self.inside.arbiter))) (sym c.remove-removed.ensures.rest)
           (subst (λ (z : EngineView). Reacts (documents v.cleared) (plant_of v) (Events.remove c.args.number) (Events.removed c.args.number) (plant_of (with z (remove z.batches i) z.next_number z.allocation))) (sym c.self.view_is) reacts);
     }

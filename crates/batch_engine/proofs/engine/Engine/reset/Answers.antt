@@ -1,4 +1,4 @@
-use Rattle.std.proofs.Common.{◌≡◌, ◌<◌, sym, ◌∙◌, ap, subst, ℕ, Some, [], length}
+use Rattle.std.proofs.Common.{refl, ◌≡◌, ◌<◌, sym, ◌∙◌, ap, subst, ℕ, Some, [], length}
 use Rattle.std.specs.Prelude.{slice_get}
 use Rattle.std.proofs.lemmas.Option.{slice_get_within}
 use Rattle.batch_matrix.specs.declared.state.State.TheVariants.{Idle}
@@ -17,12 +17,13 @@ use Rattle.batch_engine.proofs.OrderAnswers.{order-at, order-batch, closed-kept'
 use Rattle.batch_recipe.specs.Conditions.{ValueList}
 use Rattle.batch_recipe.specs.Values.{with_outputs_zero}
 use Rattle.batch_engine.proofs.Finding.{recipe-read}
+use Rattle.batch_engine.proofs.Filing.{own-numbers-set}
 use Rattle.batch_engine.proofs.engine.Engine.reset.Goals as goal
 
 pub reset-requires : goal.reset-requires
 reset-requires c =
     let v : EngineView = c.args.self.now in
-    let kept : IsKept v = subst IsKept c.self.view_is c.self.invariant in
+    let kept : IsKept v = subst IsKept c.self.view_is c.self.invariant.kept in
     let b : Batch = c.index_mut-batch.result.now in
     let i : ℕ = c.args.index in
     let n : ℕ = c.args.number in
@@ -36,7 +37,7 @@ reset-requires c =
 pub invariant_of-self : goal.invariant_of-self
 invariant_of-self c =
     let v : EngineView = c.args.self.now in
-    let kept : IsKept v = subst IsKept c.self.view_is c.self.invariant in
+    let kept : IsKept v = subst IsKept c.self.view_is c.self.invariant.kept in
     let b : Batch = c.index_mut-batch.result.now in
     let i : ℕ = c.args.index in
     let n : ℕ = c.args.number in
@@ -61,12 +62,15 @@ invariant_of-self c =
     subst (λ (z : Batch). Ordered v (changed v i (record z { values = c.clear_outputs.new.self; state = Idle; running = c.reset.new.self }) v.allocation) Reset n) is r in
     let a : Ordered v (changed v i b' c.self.inside.arbiter) Reset n =
     subst (λ (z : Allocation). Ordered v (changed v i b' z) Reset n) (sym (ap (λ (z : EngineView). z.allocation) c.self.view_is)) s in
-    closed-kept' v _ i b' c.self.inside.arbiter Reset n c.self.view_is a
+    record {
+      kept = closed-kept' v _ i b' c.self.inside.arbiter Reset n c.self.view_is a;
+      numbers = own-numbers-set c.self.inside.batches i b b' c.index_mut-batch.ensures.value refl c.self.invariant.numbers;
+    }
 
 pub returns : goal.returns
 returns c =
     let v : EngineView = c.args.self.now in
-    let kept : IsKept v = subst IsKept c.self.view_is c.self.invariant in
+    let kept : IsKept v = subst IsKept c.self.view_is c.self.invariant.kept in
     let b : Batch = c.index_mut-batch.result.now in
     let i : ℕ = c.args.index in
     let n : ℕ = c.args.number in

@@ -19,7 +19,7 @@ use Rattle.batch_engine.proofs.engine.Engine.resource_at.Goals as goal
 pub index-numbers-requires : goal.index-numbers-requires
 index-numbers-requires c =
     let v : EngineView = c.args.self.now in
-    let kept : IsKept v = subst IsKept c.self.view_is c.self.invariant in
+    let kept : IsKept v = subst IsKept c.self.view_is c.self.invariant.kept in
     let b : Batch = c.index-batch.result.now in
     let at : slice_get v.batches c.args.index ≡ Some b = got-batch v _ c.args.index b c.self.view_is (slice_get_within v.batches c.args.index c.requires.0 c.requires.1) c.index-batch.ensures in
     let few : b.recipe < length v.numbers = in-numbers v kept c.args.index b at in
@@ -28,7 +28,7 @@ index-numbers-requires c =
 pub index-act-requires : goal.index-act-requires
 index-act-requires c =
     let v : EngineView = c.args.self.now in
-    let kept : IsKept v = subst IsKept c.self.view_is c.self.invariant in
+    let kept : IsKept v = subst IsKept c.self.view_is c.self.invariant.kept in
     let b : Batch = c.index-batch.result.now in
     let at : slice_get v.batches c.args.index ≡ Some b = got-batch v _ c.args.index b c.self.view_is (slice_get_within v.batches c.args.index c.requires.0 c.requires.1) c.index-batch.ensures in
     let few : c.args.node < node_count (tree_of v.cleared b) = at-same v.batches c.args.index c.requires.0 b (λ (z : Batch). c.args.node < node_count (tree_of v.cleared z)) c.requires.1 at c.requires.2 in
@@ -40,7 +40,7 @@ index-act-requires c =
 pub index-wanted-requires : goal.index-wanted-requires
 index-wanted-requires c =
     let v : EngineView = c.args.self.now in
-    let kept : IsKept v = subst IsKept c.self.view_is c.self.invariant in
+    let kept : IsKept v = subst IsKept c.self.view_is c.self.invariant.kept in
     let b : Batch = c.index-batch.result.now in
     let at : slice_get v.batches c.args.index ≡ Some b = got-batch v _ c.args.index b c.self.view_is (slice_get_within v.batches c.args.index c.requires.0 c.requires.1) c.index-batch.ensures in
     let few : c.args.node < node_count (tree_of v.cleared b) = at-same v.batches c.args.index c.requires.0 b (λ (z : Batch). c.args.node < node_count (tree_of v.cleared z)) c.requires.1 at c.requires.2 in
@@ -58,7 +58,7 @@ index-wanted-requires c =
 pub returns : goal.returns
 returns c =
     let v : EngineView = c.args.self.now in
-    let kept : IsKept v = subst IsKept c.self.view_is c.self.invariant in
+    let kept : IsKept v = subst IsKept c.self.view_is c.self.invariant.kept in
     let b : Batch = c.index-batch.result.now in
     let at : slice_get v.batches c.args.index ≡ Some b = got-batch v _ c.args.index b c.self.view_is (slice_get_within v.batches c.args.index c.requires.0 c.requires.1) c.index-batch.ensures in
     let few : c.args.node < node_count (tree_of v.cleared b) = at-same v.batches c.args.index c.requires.0 b (λ (z : Batch). c.args.node < node_count (tree_of v.cleared z)) c.requires.1 at c.requires.2 in

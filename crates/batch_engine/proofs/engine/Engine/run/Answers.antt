@@ -1,4 +1,4 @@
-use Rattle.std.proofs.Common.{◌≡◌, sym, ap, subst, Some}
+use Rattle.std.proofs.Common.{refl, ◌≡◌, sym, ap, subst, Some}
 use Rattle.std.specs.Prelude.{slice_get}
 use Rattle.std.proofs.lemmas.Option.{slice_get_within}
 use Rattle.batch_model.specs.Moves as Moves
@@ -13,12 +13,13 @@ use Rattle.batch_engine.proofs.Finding.{got-batch, got-chart, in-charts, batch-r
 use Rattle.batch_engine.proofs.Stepping.{changed}
 use Rattle.batch_engine.proofs.Made.{Becomes, run-quiet}
 use Rattle.batch_engine.proofs.Answering.{step-is, step-can, closed-kept, closed-makes}
+use Rattle.batch_engine.proofs.Filing.{own-numbers-set}
 use Rattle.batch_engine.proofs.engine.Engine.run.Goals as goal
 
 pub make-requires-clause-running : goal.make-requires-clause-running
 make-requires-clause-running c =
     let v : EngineView = c.args.self.now in
-    let kept : IsKept v = subst IsKept c.self.view_is c.self.invariant in
+    let kept : IsKept v = subst IsKept c.self.view_is c.self.invariant.kept in
     let b : Batch = c.index_mut-batch.result.now in
     let g : IsOwnStep v (IsNext v) c.args.index c.args.made = c.requires.step in
     let at : slice_get v.batches c.args.index ≡ Some b = got-batch v _ c.args.index b c.self.view_is (slice_get_within v.batches c.args.index g.batch g.here.at) c.index_mut-batch.ensures.value in
@@ -29,7 +30,7 @@ make-requires-clause-running c =
 pub make-requires-clause-possible : goal.make-requires-clause-possible
 make-requires-clause-possible c =
     let v : EngineView = c.args.self.now in
-    let kept : IsKept v = subst IsKept c.self.view_is c.self.invariant in
+    let kept : IsKept v = subst IsKept c.self.view_is c.self.invariant.kept in
     let b : Batch = c.index_mut-batch.result.now in
     let g : IsOwnStep v (IsNext v) c.args.index c.args.made = c.requires.step in
     let at : slice_get v.batches c.args.index ≡ Some b = got-batch v _ c.args.index b c.self.view_is (slice_get_within v.batches c.args.index g.batch g.here.at) c.index_mut-batch.ensures.value in
@@ -40,7 +41,7 @@ make-requires-clause-possible c =
 pub invariant_of-self : goal.invariant_of-self
 invariant_of-self c =
     let v : EngineView = c.args.self.now in
-    let kept : IsKept v = subst IsKept c.self.view_is c.self.invariant in
+    let kept : IsKept v = subst IsKept c.self.view_is c.self.invariant.kept in
     let b : Batch = c.index_mut-batch.result.now in
     let g : IsOwnStep v (IsNext v) c.args.index c.args.made = c.requires.step in
     let at : slice_get v.batches c.args.index ≡ Some b = got-batch v _ c.args.index b c.self.view_is (slice_get_within v.batches c.args.index g.batch g.here.at) c.index_mut-batch.ensures.value in
@@ -52,12 +53,15 @@ invariant_of-self c =
     let r : Becomes v (changed v c.args.index (record b { running = c.make.new.self }) v.allocation) m = run-quiet v kept c.args.index b at c.args.made c.make.new.self c.requires.quiet made is in
     let a : Becomes v (changed v c.args.index (record b { running = c.make.new.self }) c.self.inside.arbiter) m =
     subst (λ (z : Allocation). Becomes v (changed v c.args.index (record b { running = c.make.new.self }) z) m) (sym (ap (λ (z : EngineView). z.allocation) c.self.view_is)) r in
-    closed-kept v _ c.args.index (record b { running = c.make.new.self }) c.self.inside.arbiter m c.self.view_is a
+    record {
+      kept = closed-kept v _ c.args.index (record b { running = c.make.new.self }) c.self.inside.arbiter m c.self.view_is a;
+      numbers = own-numbers-set c.self.inside.batches c.args.index b (record b { running = c.make.new.self }) c.index_mut-batch.ensures.value refl c.self.invariant.numbers;
+    }
 
 pub returns : goal.returns
 returns c =
     let v : EngineView = c.args.self.now in
-    let kept : IsKept v = subst IsKept c.self.view_is c.self.invariant in
+    let kept : IsKept v = subst IsKept c.self.view_is c.self.invariant.kept in
     let b : Batch = c.index_mut-batch.result.now in
     let g : IsOwnStep v (IsNext v) c.args.index c.args.made = c.requires.step in
     let at : slice_get v.batches c.args.index ≡ Some b = got-batch v _ c.args.index b c.self.view_is (slice_get_within v.batches c.args.index g.batch g.here.at) c.index_mut-batch.ensures.value in

@@ -16,7 +16,7 @@ use Rattle.batch_engine.proofs.engine.Engine.send_line.Goals as goal
 pub returns : goal.returns
 returns c =
     let v : EngineView = c.args.self.now in
-    let kept : IsKept v = subst IsKept c.self.view_is c.self.invariant in
+    let kept : IsKept v = subst IsKept c.self.view_is c.self.invariant.kept in
     let b : Batch = c.index-batch.result.now in
     let at : slice_get v.batches c.args.index ≡ Some b = got-batch v _ c.args.index b c.self.view_is (slice_get_within v.batches c.args.index c.requires.0 c.requires.1) c.index-batch.ensures in
     let told : Surface.move_of v.cleared (Lines.Send b.number b.recipe c.args.node c.phase_at-unit.result.unit c.phase_at-unit.result.phase c.args.command) ≡ move_of (tree_of v.cleared b) (batch_of v.cleared b) (Chart.Send c.args.node c.args.command) =

@@ -29,7 +29,7 @@ returns-in_default c =
 pub returns-in_default-node_of : goal.returns-in_default-node_of
 returns-in_default-node_of c =
     let v : EngineView = c.args.self.now in
-    let kept : IsKept v = subst IsKept c.self.view_is c.self.invariant in
+    let kept : IsKept v = subst IsKept c.self.view_is c.self.invariant.kept in
     let f : Found v c.args.batch c.in-Some.index = found-at v c.args.batch c.in-Some.index (sym c.index_of.ensures ∙ c.in-Some.is) in
     let b : Batch = c.index-batch.result.now in
     let at : slice_get v.batches c.in-Some.index ≡ Some b = got-batch v _ c.in-Some.index b c.self.view_is (slice_get_within v.batches c.in-Some.index f.batch f.at) c.index-batch.ensures in
@@ -46,7 +46,7 @@ returns-in_default-node_of c =
 pub state_at-requires : goal.state_at-requires
 state_at-requires c =
     let v : EngineView = c.args.self.now in
-    let kept : IsKept v = subst IsKept c.self.view_is c.self.invariant in
+    let kept : IsKept v = subst IsKept c.self.view_is c.self.invariant.kept in
     let f : Found v c.args.batch c.in-Some.index = found-at v c.args.batch c.in-Some.index (sym c.index_of.ensures ∙ c.in-Some.is) in
     let b : Batch = c.index-batch.result.now in
     let at : slice_get v.batches c.in-Some.index ≡ Some b = got-batch v _ c.in-Some.index b c.self.view_is (slice_get_within v.batches c.in-Some.index f.batch f.at) c.index-batch.ensures in
@@ -64,7 +64,7 @@ state_at-requires c =
 pub returns : goal.returns
 returns c =
     let v : EngineView = c.args.self.now in
-    let kept : IsKept v = subst IsKept c.self.view_is c.self.invariant in
+    let kept : IsKept v = subst IsKept c.self.view_is c.self.invariant.kept in
     let f : Found v c.args.batch c.in-Some.index = found-at v c.args.batch c.in-Some.index (sym c.index_of.ensures ∙ c.in-Some.is) in
     let b : Batch = c.index-batch.result.now in
     let at : slice_get v.batches c.in-Some.index ≡ Some b = got-batch v _ c.in-Some.index b c.self.view_is (slice_get_within v.batches c.in-Some.index f.batch f.at) c.index-batch.ensures in

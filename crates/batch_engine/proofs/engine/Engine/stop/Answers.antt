@@ -1,4 +1,4 @@
-use Rattle.std.proofs.Common.{◌≡◌, ◌<◌, sym, ◌∙◌, ap, subst, ℕ, Some, arith, length}
+use Rattle.std.proofs.Common.{refl, ◌≡◌, ◌<◌, sym, ◌∙◌, ap, subst, ℕ, Some, arith, length}
 use Rattle.std.specs.Prelude.{slice_get}
 use Rattle.std.proofs.lemmas.Option.{slice_get_within}
 use Rattle.batch_matrix.specs.declared.state.State.{State}
@@ -14,12 +14,13 @@ use Rattle.batch_engine.proofs.Finding.{got-batch, batch-runs}
 use Rattle.batch_engine.proofs.Stepping.{changed}
 use Rattle.batch_engine.proofs.Ordering.{Ordered, stop-made}
 use Rattle.batch_engine.proofs.OrderAnswers.{order-at, order-batch, closed-kept', closed-ordered}
+use Rattle.batch_engine.proofs.Filing.{own-numbers-set}
 use Rattle.batch_engine.proofs.engine.Engine.stop.Goals as goal
 
 pub invariant_of-self : goal.invariant_of-self
 invariant_of-self c =
     let v : EngineView = c.args.self.now in
-    let kept : IsKept v = subst IsKept c.self.view_is c.self.invariant in
+    let kept : IsKept v = subst IsKept c.self.view_is c.self.invariant.kept in
     let b : Batch = c.index_mut-batch.result.now in
     let i : ℕ = c.args.index in
     let n : ℕ = c.args.number in
@@ -38,12 +39,15 @@ invariant_of-self c =
     let less : Arbiter.withdrawn o.batch.number v.allocation ≡ c.withdraw.new.self =
     ap (λ m. Arbiter.withdrawn m v.allocation) o.number ∙ ap (λ (z : EngineView). Arbiter.withdrawn n z.allocation) (sym c.self.view_is) ∙ sym c.withdraw.ensures in
     let a : Ordered v (changed v i b' c.withdraw.new.self) c.args.command n = subst (λ (z : Allocation). Ordered v (changed v i b' z) c.args.command n) less s in
-    closed-kept' v _ i b' c.withdraw.new.self c.args.command n c.self.view_is a
+    record {
+      kept = closed-kept' v _ i b' c.withdraw.new.self c.args.command n c.self.view_is a;
+      numbers = own-numbers-set c.self.inside.batches i b b' c.index_mut-batch.ensures.value refl c.self.invariant.numbers;
+    }
 
 pub returns : goal.returns
 returns c =
     let v : EngineView = c.args.self.now in
-    let kept : IsKept v = subst IsKept c.self.view_is c.self.invariant in
+    let kept : IsKept v = subst IsKept c.self.view_is c.self.invariant.kept in
     let b : Batch = c.index_mut-batch.result.now in
     let i : ℕ = c.args.index in
     let n : ℕ = c.args.number in
@@ -68,4 +72,4 @@ pub index_mut-batch-requires : goal.index_mut-batch-requires
 index_mut-batch-requires c =
     let v : EngineView = c.args.self.now in
     let within : c.args.index < length v.batches = slice_get_within v.batches c.args.index c.requires.order.batch c.requires.order.at in
-    omega (arith, within, c.self.inside.batches.ok.0, ap (λ (z : EngineView). length z.batches) c.self.view_is)
+    omega (arith, within, ap (λ (z : EngineView). length z.batches) c.self.view_is)
