@@ -6,7 +6,7 @@ ghost use Rattle.batch_engine.specs.Names.{handed_at, name_at, phase_name, place
 ghost use Rattle.batch_engine.specs.Surface.{out_of, reply_of, move_of, refusal_of};
 ghost use Rattle.batch_engine.specs.declared.line.Line.TheVariants as lines;
 ghost use Rattle.batch_engine.specs.declared.reply.Reply.TheVariants as replies;
-ghost use Rattle.batch_wire.specs.Pieces.{TellsOfNeed, before, phase_front, values_text};
+ghost use Rattle.batch_wire.specs.Pieces.{TellsOfClaim, before, phase_front, values_text};
 ghost use Rattle.batch_wire.specs.RecordText.{out_text, reply_words, refusal_words, move_words, state_text, command_text, report_text, value_text, need_text};
 ghost use Rattle.batch_wire.specs.Written.{Writes};
 
@@ -226,17 +226,13 @@ fn write_move<W: Write>(line: Line, cleared: &Cleared, writer: &mut W) -> Result
             recipe,
             node,
         } => write_end(batch, cleared, recipe, node, writer),
-        _ => write_need_move(line, cleared, writer),
+        _ => write_claim(line, cleared, writer),
     }
 }
 
-/// Writes a line that tells of a resource.
-fn write_need_move<W: Write>(
-    line: Line,
-    cleared: &Cleared,
-    writer: &mut W,
-) -> Result<(), WriteFault>
-    requires { TellsOfNeed line }
+/// Writes a line that tells of a claim on a resource: it is asked for, granted or given back.
+fn write_claim<W: Write>(line: Line, cleared: &Cleared, writer: &mut W) -> Result<(), WriteFault>
+    requires { TellsOfClaim line }
     ensures { Writes (W.contents writer.old) (W.contents writer.new) result (line_text (move_words (move_of cleared.now line))) }
 {
     match line {
