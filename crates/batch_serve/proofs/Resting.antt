@@ -1,5 +1,5 @@
 -- After each line of a transcript the machine is settled, and from the opening of a cleared set what it tells is a safe record.
-use Rattle.std.proofs.Common.{◌≡◌, ℕ, List, [], ◌∷◌, ◌++◌, Option, Some, None, Result, Ok, Err, refl, sym, ap, ◌∙◌, subst, inl, inr}
+use Rattle.std.proofs.Common.{ℕ, List, [], ◌∷◌, Option, Some, None, Result, Ok, Err, refl, sym, ap, ◌∙◌, subst, inl, inr}
 use Rattle.batch_model.specs.Events.{Event}
 use Rattle.batch_model.specs.Moves.{Move, after}
 use Rattle.batch_model.specs.Plant.{Documents, Plant, opening}
@@ -10,8 +10,8 @@ use Rattle.batch_wire.specs.EventLine.{event_of_line}
 use Rattle.batch_wire.specs.Transcript.{Exchange, silence, followed_by, Settles, Answers, Transcript}
 use Rattle.batch_wire.specs.WrittenTranscript.{WritesTranscript}
 use Rattle.batch_wire.specs.declared.fault.WireFault.{WireFault}
-use Rattle.batch_serve.specs.Safe.{IsSafeTranscript, TranscriptsAreSafe}
-use Rattle.batch_serve.specs.Settled.{IsSettled, SettlesBetween, TranscriptsSettle}
+use Rattle.batch_serve.specs.Safe.{TranscriptsAreSafe}
+use Rattle.batch_serve.specs.Settled.{IsSettled, TranscriptsSettle}
 use Rattle.batch_serve.proofs.Exchanges.{followed-assoc, transcript_leads}
 
 moves_settle : (c : Documents) (old new : Plant) (moves : List Move) → Settles c old moves new → IsSettled c new

@@ -1,8 +1,8 @@
 -- From the opening of a cleared set: what serving answered, as its safe record.
-use Rattle.std.proofs.Common.{◌≡◌, ℕ, ◌≤◌, List, Option, Some, None, Result, Ok, Err, OnOk, IfSome, IsErrOf, take, length, refl, sym, ap, ◌∙◌, subst, MatchResult, IsErrAnd}
+use Rattle.std.proofs.Common.{◌≡◌, ℕ, ◌≤◌, List, Option, Some, None, Result, Ok, Err, OnOk, IfSome, IsErrOf, take, length, refl, ap, ◌∙◌, subst, MatchResult, IsErrAnd}
 use Rattle.std.proofs.lemmas.Result.{err_from_is_err_and}
 use Rattle.std.specs.Io.KnownBytes.{IsAtEnd}
-use Rattle.batch_model.specs.Plant.{Documents, Plant, opening}
+use Rattle.batch_model.specs.Plant.{Plant, opening}
 use Rattle.batch_verify.specs.ClearedSet.{ClearedSet}
 use Rattle.batch_engine.specs.View.{documents}
 use Rattle.batch_wire.specs.Transcript.{lines_of, Exchange, Transcript}

@@ -42,7 +42,6 @@ pub fn serve<R: Read, W: Write>(
         (R.remaining reader.old) (R.remaining reader.new) (W.contents writer.old) (W.contents writer.new) }
     ensures too_many_reads { IsErrOf result ServeFault.TooManyReads → WritesWholeLines (documents engine.old.cleared) (plant_of engine.old) (plant_of engine.new)
         (R.remaining reader.old) (R.remaining reader.new) (W.contents writer.old) (W.contents writer.new) }
-    // Each call of the reader gave a byte.
     ensures reads_made { IsErrOf result ServeFault.TooManyReads → IfSome (R.remaining reader.old) (λ input. max_reads ≤ length input) }
     ensures write_fault { IsErrOf result ServeFault.Write → IfSome (R.remaining reader.old) (λ input.
         (n : ℕ) × BeginsTranscript (documents engine.old.cleared) (plant_of engine.old) (take n (lines_of input)) (W.contents writer.old) (W.contents writer.new)) }
@@ -57,16 +56,9 @@ pub fn serve<R: Read, W: Write>(
     for _ in 0..max_reads {
         match reader.read(&mut piece) {
             Ok(0) => return Ok(finish(alloc, engine, &line, writer)?),
-            Ok(count) => {
-                feed(alloc, engine, &mut line, &piece[..count], writer)?;
-                flush(writer)?;
-            }
-            Err(error) => {
-                if error.kind() != ErrorKind::Interrupted {
-                    return Err(ServeFault::Read);
-                }
-                interrupted = true;
-            }
+            Ok(count) => feed(alloc, engine, &mut line, &piece[..count], writer)?,
+            Err(error) if error.kind() == ErrorKind::Interrupted => interrupted = true,
+            Err(_) => return Err(ServeFault::Read),
         }
     }
     Err(if interrupted {
@@ -76,7 +68,7 @@ pub fn serve<R: Read, W: Write>(
     })
 }
 
-/// Takes the next bytes, and answers each line that is whole now.
+/// Takes the next bytes, answers each line that is whole now, and hands on what is written.
 fn feed<W: Write>(
     alloc: Global,
     engine: &mut Engine,
@@ -96,7 +88,7 @@ fn feed<W: Write>(
             line.push(*byte);
         }
     }
-    Ok(())
+    flush(writer)
 }
 
 /// Answers the last line, which no line feed ends.

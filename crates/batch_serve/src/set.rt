@@ -21,7 +21,11 @@ pub fn serve_set<R: Read, W: Write>(
     max_reads: u64,
 ) -> Result<(), SetFault>
     ensures { Serves cleared max_reads result (record {
-        unread = R.remaining reader.old; left = R.remaining reader.new; before = W.contents writer.old; after = W.contents writer.new }) }
+      unread = R.remaining reader.old;
+      left = R.remaining reader.new;
+      before = W.contents writer.old;
+      after = W.contents writer.new;
+    }) }
 {
     let Ok(mut engine) = Engine::new(alloc, cleared) else {
         return Err(SetFault::Memory);

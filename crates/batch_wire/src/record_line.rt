@@ -2,11 +2,11 @@
 ghost use Rattle.std.specs.Prelude.{◌≡◌, ◌∷◌, [], ◌++◌, codes, decimal};
 ghost use Rattle.std.specs.List.{zip};
 ghost use Rattle.batch_recipe.specs.Texts.{line_text, place_text};
-ghost use Rattle.batch_engine.specs.Names.{handed_at, phase_name, place_at, resource_name};
+ghost use Rattle.batch_engine.specs.Names.{handed_at, name_at, phase_name, place_at, resource_name};
 ghost use Rattle.batch_engine.specs.Surface.{out_of, reply_of, move_of, refusal_of};
 ghost use Rattle.batch_engine.specs.declared.line.Line.TheVariants as lines;
 ghost use Rattle.batch_engine.specs.declared.reply.Reply.TheVariants as replies;
-ghost use Rattle.batch_wire.specs.Pieces.{before, phase_front, values_text};
+ghost use Rattle.batch_wire.specs.Pieces.{TellsOfClaim, before, phase_front, values_text};
 ghost use Rattle.batch_wire.specs.RecordText.{out_text, reply_words, refusal_words, move_words, state_text, command_text, report_text, value_text, need_text};
 ghost use Rattle.batch_wire.specs.Written.{Writes};
 
@@ -208,26 +208,11 @@ fn write_move<W: Write>(line: Line, cleared: &Cleared, writer: &mut W) -> Result
             command,
         } => write_send(batch, cleared, recipe, node, unit, phase, command, writer),
         Line::State { batch, state } => write_state(batch, state, writer),
-        Line::Release {
-            batch,
-            recipe,
-            node,
-            resource,
-            units,
-        } => {
-            let name = resource_name(cleared, resource);
-            write_need(
-                b"release", batch, cleared, recipe, node, name, units, writer,
-            )
-        }
         Line::Begin {
             batch,
             recipe,
             node,
-        } => {
-            let name = act_name(cleared, recipe, node);
-            write_step(b"begin", batch, cleared, recipe, node, name, writer)
-        }
+        } => write_begin(batch, cleared, recipe, node, writer),
         Line::Start {
             batch,
             recipe,
@@ -241,6 +226,28 @@ fn write_move<W: Write>(line: Line, cleared: &Cleared, writer: &mut W) -> Result
             recipe,
             node,
         } => write_end(batch, cleared, recipe, node, writer),
+        _ => write_claim(line, cleared, writer),
+    }
+}
+
+/// Writes a line that tells of a claim on a resource: it is asked for, granted or given back.
+fn write_claim<W: Write>(line: Line, cleared: &Cleared, writer: &mut W) -> Result<(), WriteFault>
+    requires { TellsOfClaim line }
+    ensures { Writes (W.contents writer.old) (W.contents writer.new) result (line_text (move_words (move_of cleared.now line))) }
+{
+    match line {
+        Line::Release {
+            batch,
+            recipe,
+            node,
+            resource,
+            units,
+        } => {
+            let name = resource_name(cleared, resource);
+            write_need(
+                b"release", batch, cleared, recipe, node, name, units, writer,
+            )
+        }
         Line::Ask {
             batch,
             recipe,
@@ -261,7 +268,22 @@ fn write_move<W: Write>(line: Line, cleared: &Cleared, writer: &mut W) -> Result
             let name = resource_name(cleared, resource);
             write_need(b"grant", batch, cleared, recipe, node, name, units, writer)
         }
+        _ => unreachable!(),
     }
+}
+
+fn write_begin<W: Write>(
+    batch: u64,
+    cleared: &Cleared,
+    recipe: u16,
+    node: u16,
+    writer: &mut W,
+) -> Result<(), WriteFault>
+    ensures { Writes (W.contents writer.old) (W.contents writer.new) result
+        (line_text (codes "begin" ∷ decimal batch ∷ place_text (place_at cleared.now recipe node) ∷ name_at cleared.now recipe node ∷ [])) }
+{
+    let name = act_name(cleared, recipe, node);
+    write_step(b"begin", batch, cleared, recipe, node, name, writer)
 }
 
 fn write_send<W: Write>(

@@ -1,5 +1,5 @@
 use Rattle.batch_engine.specs.View.{plant_of}
-use Rattle.batch_serve.proofs.SetServed.{IsNew, IsServedBy, serves, stopped_is}
+use Rattle.batch_serve.proofs.SetServed.{IsNew, serves, stopped_is}
 use Rattle.batch_serve.proofs.set.serve_set.Goals as goal
 
 pub returns : goal.returns
