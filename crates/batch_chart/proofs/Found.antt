@@ -1,7 +1,8 @@
 -- What finding an act needs at each kind of node.
 use Rattle.std.proofs.Common.{rules, ◌≡◌, ◌≢◌, ℕ, zero, suc, ◌+◌, List, [], ◌∷◌, ◌++◌, length, take, Bool, true, false, ◌&&◌, Some, None, refl, sym, ◌∙◌, ap, nat_lt}
 use Rattle.std.specs.Option.{is_some}
-use Rattle.std.specs.Prelude.{slice_get, Option, map, flat_map, not, ⊤}
+use Rattle.std.specs.Bool.{then_some}
+use Rattle.std.specs.Prelude.{slice_get, Option, is_none, map, flat_map, not, ⊤}
 use Rattle.batch_recipe.specs.Conditions.{Name}
 use Rattle.batch_recipe.specs.declared.need.Need.{Need}
 use Rattle.batch_recipe.specs.Nodes.{node_count}
@@ -10,6 +11,7 @@ use Rattle.batch_model.specs.Rest.{Rest, ready, asking, open_act, live, freeing,
 use Rattle.batch_model.specs.Plant.{held_by, held_in}
 use Rattle.batch_model.specs.Moves.{freed, is_empty}
 use Rattle.batch_chart.specs.declared.node.Node.{Node}
+use Rattle.batch_chart.specs.declared.node.Kind.{Kind}
 use Rattle.batch_chart.specs.declared.node.Kind.TheVariants.{Skip, Act, Seq, Par, Sel, Loop}
 use Rattle.batch_chart.specs.declared.node.Kind.TheVariants as kind
 use Rattle.batch_chart.specs.declared.node.Detail.{Detail}
@@ -17,13 +19,13 @@ use Rattle.batch_chart.specs.declared.stage.Stage.{Stage}
 use Rattle.batch_chart.specs.declared.stage.Stage.TheVariants.{Finished, Ready, Asking, Open, Live, Freeing, Turning}
 use Rattle.batch_chart.specs.declared.wanted.Wanted.{Wanted}
 use Rattle.batch_chart.specs.declared.wanted.Wanted.TheVariants as wanted
-use Rattle.batch_chart.specs.Stages.{stage_at, is_finished, is_begun, turns_of}
+use Rattle.batch_chart.specs.Stages.{stage_at, is_finished, is_begun, is_over, is_phase_over, is_over_at, turns_of}
 use Rattle.batch_chart.specs.Meaning.{meaning, meaning_below, meaning_each, act_as, loop_as, branch, chosen}
 use Rattle.batch_chart.specs.Compiled.{end_at, kind_at, IsPhase}
 use Rattle.batch_chart.specs.Finding.{wants_ready, wants_asking, wants_freeing, wants_live, wants_open, wants, still_wants, live_wants, phase_wants, entries, entries_in, numbered, numbered_below, numbered_each, numbered_branch, numbered_chosen, first_of, IsFirst, IsFirstInBranch, IsFirstOfEach, IsFirstInChoice, IsOpenWanted}
 use Rattle.batch_chart.proofs.Standing.{SkipAt, skip_at, skip-at, PhaseAt, phase_at, phase-at, ActAt, act_at, act-at, SeqAt, seq_at, seq-at, ParAt, par_at, par-at, SelAt, sel_at, sel-at, LoopAt, loop_at, loop-at, RowAt, row_at, row-at, row-end, LastAt, last_at, last-at, ChoiceAt, choice_at, choice-at}
 use Rattle.batch_chart.proofs.Choosing.{chosen-true, chosen-false}
-use Rattle.batch_chart.proofs.Advanced.{begun-open}
+use Rattle.batch_chart.proofs.Advanced.{begun-open, not-true, none-true}
 
 -- the choice of the first element is passed on along a list
 abbrev or_else : Option ℕ → Option ℕ → Option ℕ
@@ -40,17 +42,13 @@ first-append p (a ∷ more) r =
     ap (λ x. elim (p a.0 a.1) as (λ _. Option ℕ) [ true ↦ Some a.0 | false ↦ x ]) (first-append p more r)
     ∙ or_else-chosen (p a.0 a.1) a.0 (first_of p more) (first_of p r)
 
-abbrev pub one_if : Bool → ℕ → Option ℕ
-one_if true n = Some n
-one_if false n = None
-
-one-choice : (b : Bool) (n : ℕ) → elim b as (λ _. Option ℕ) [ true ↦ Some n | false ↦ None ] ≡ one_if b n
+one-choice : (b : Bool) (n : ℕ) → elim b as (λ _. Option ℕ) [ true ↦ Some n | false ↦ None ] ≡ then_some b n
 one-choice true n = refl
 one-choice false n = refl
 
 -- an act that isn't begun stands alone
 
-first-freed : (w : Wanted) (n : ℕ) (s : Step) (k : ℕ) → first_of (wants w) (entries n (freed s k) []) ≡ one_if (still_wants w n (length s.needs) (Freeing k)) n
+first-freed : (w : Wanted) (n : ℕ) (s : Step) (k : ℕ) → first_of (wants w) (entries n (freed s k) []) ≡ then_some (still_wants w n (length s.needs) (Freeing k)) n
 first-freed w n s zero = refl
 first-freed w n s (suc k) = one-choice (wants_freeing w n (length s.needs) (suc k)) n
 
@@ -59,7 +57,7 @@ freed-entries n s zero l m = refl
 freed-entries n s (suc k) l m = refl
 
 still-act : (w : Wanted) (n : ℕ) (s : Step) (name : Name) (c : Tree) (r : Rest) (below : List (ℕ × Rest)) (x : Stage) → is_begun x ≡ false
-    → first_of (wants w) (entries n (act_as s (follows name c) r x) below) ≡ one_if (still_wants w n (length s.needs) x) n
+    → first_of (wants w) (entries n (act_as s (follows name c) r x) below) ≡ then_some (still_wants w n (length s.needs) x) n
 still-act w n s name c r below Finished e = refl
 still-act w n s name c r below (Ready k) e = one-choice (wants_ready w n (length s.needs) k) n
 still-act w n s name c r below (Asking k) e = one-choice (wants_asking w n (length s.needs) k) n
@@ -69,14 +67,14 @@ still-act w n s name c r below (Freeing k) e = ap (first_of (wants w)) (freed-en
 still-act w n s name c r below (Turning k) e = refl
 
 phase-act : (ds : List Detail) (i : ℕ) (w : Wanted) (n : ℕ) (s : Step) (p : Phase) (x : Stage) → IsPhase ds i p
-    → first_of (wants w) (entries n (act_as s (runs p) done x) []) ≡ one_if (phase_wants (slice_get ds i) w n (length s.needs) x) n
+    → first_of (wants w) (entries n (act_as s (runs p) done x) []) ≡ then_some (phase_wants (slice_get ds i) w n (length s.needs) x) n
 phase-act ds i w n s p Finished h = refl
 phase-act ds i w n s p (Ready k) h = one-choice (wants_ready w n (length s.needs) k) n
 phase-act ds i w n s p (Asking k) h = one-choice (wants_asking w n (length s.needs) k) n
 phase-act ds i w n s p Open h = refl
 phase-act ds i w n s p (Live x) h =
     one-choice (wants_live w n (length s.needs) p.unit p.name x) n
-    ∙ ap (λ d. one_if (live_wants d w n (length s.needs) x) n) (sym h)
+    ∙ ap (λ d. then_some (live_wants d w n (length s.needs) x) n) (sym h)
 phase-act ds i w n s p (Freeing k) h = first-freed w n s k
 phase-act ds i w n s p (Turning k) h = refl
 
@@ -216,6 +214,41 @@ holding-nothing (a ∷ l) =
 pub nothing-holds : (c : Tree) (n : ℕ) (xs : List Stage) → nothing (first_of (wants wanted.Holding) (numbered c n xs)) ≡ is_empty (held_in (meaning c n xs))
 nothing-holds c n xs = holding-nothing (numbered c n xs) ∙ ap (λ l. is_empty (flat_map held_by l)) (numbered-acts xs c n)
 
+-- an act of which nothing is left isn't wanted
+
+over-phase_wants : (d : Option Detail) (w : Wanted) (n needs : ℕ) (x : Stage) → true ≡ is_phase_over x → false ≡ phase_wants d w n needs x
+over-phase_wants d w n needs Finished o = refl
+over-phase_wants d w n needs (Ready k) o = absurd (cc)
+over-phase_wants d w n needs (Asking k) o = absurd (cc)
+over-phase_wants d w n needs Open o = refl
+over-phase_wants d w n needs (Live x) o = absurd (cc)
+over-phase_wants d w n needs (Freeing zero) o = refl
+over-phase_wants d w n needs (Freeing (suc k)) o = absurd (cc)
+over-phase_wants d w n needs (Turning k) o = refl
+
+over-still_wants : (w : Wanted) (n needs : ℕ) (x : Stage) → true ≡ is_over x → false ≡ still_wants w n needs x
+over-still_wants w n needs Finished o = refl
+over-still_wants w n needs (Ready k) o = absurd (cc)
+over-still_wants w n needs (Asking k) o = absurd (cc)
+over-still_wants w n needs Open o = absurd (cc)
+over-still_wants w n needs (Live x) o = refl
+over-still_wants w n needs (Freeing zero) o = refl
+over-still_wants w n needs (Freeing (suc k)) o = absurd (cc)
+over-still_wants w n needs (Turning k) o = refl
+
+over-unbegun : (x : Stage) → true ≡ is_over x → false ≡ is_begun x
+over-unbegun Finished o = refl
+over-unbegun (Ready k) o = refl
+over-unbegun (Asking k) o = refl
+over-unbegun Open o = absurd (cc)
+over-unbegun (Live x) o = refl
+over-unbegun (Freeing k) o = refl
+over-unbegun (Turning k) o = refl
+
+entries-turning : (o : Option ℕ) (l : List (ℕ × Rest)) → false ≡ is_none o → entries_in o l ≡ l
+entries-turning None l e = absurd (cc)
+entries-turning (Some k) l e = refl
+
 -- Nodes
 
 module _ (ns : List Node) (ds : List Detail) (xs : List Stage) (v : Wanted) (n : ℕ) where
@@ -225,20 +258,20 @@ module _ (ns : List Node) (ds : List Detail) (xs : List Stage) (v : Wanted) (n :
       go : (c : Tree) → SkipAt ns ds n c → None ≡ first_of (wants v) (numbered c n xs)
       go _ skip_at = refl
 
-  pub first-phase : (k i : ℕ) (b : Bool) → kind_at ns n ≡ kind.Phase k i → b ≡ phase_wants (slice_get ds i) v n k (stage_at xs n) → IsFirst ns ds n xs v (one_if b n)
+  pub first-phase : (k i : ℕ) (b : Bool) → kind_at ns n ≡ kind.Phase k i → b ≡ phase_wants (slice_get ds i) v n k (stage_at xs n) → IsFirst ns ds n xs v (then_some b n)
   first-phase k i b e w = record { means = λ c h. go c (phase-at ns ds n k i e c h) }
     where
-      go : (c : Tree) → PhaseAt ns ds n k i c → one_if b n ≡ first_of (wants v) (numbered c n xs)
+      go : (c : Tree) → PhaseAt ns ds n k i c → then_some b n ≡ first_of (wants v) (numbered c n xs)
       go _ (phase_at s p q f count) =
-          ap (λ z. one_if z n) (w ∙ ap (λ j. phase_wants (slice_get ds i) v n j (stage_at xs n)) (sym count))
+          ap (λ z. then_some z n) (w ∙ ap (λ j. phase_wants (slice_get ds i) v n j (stage_at xs n)) (sym count))
           ∙ sym (phase-act ds i v n s p (stage_at xs n) q)
 
-  pub first-still : (k : ℕ) (b : Bool) → kind_at ns n ≡ Act k → false ≡ is_begun (stage_at xs n) → b ≡ still_wants v n k (stage_at xs n) → IsFirst ns ds n xs v (one_if b n)
+  pub first-still : (k : ℕ) (b : Bool) → kind_at ns n ≡ Act k → false ≡ is_begun (stage_at xs n) → b ≡ still_wants v n k (stage_at xs n) → IsFirst ns ds n xs v (then_some b n)
   first-still k b e u w = record { means = λ c h. go c (act-at ns ds n k e c h) }
     where
-      go : (c : Tree) → ActAt ns ds n k c → one_if b n ≡ first_of (wants v) (numbered c n xs)
+      go : (c : Tree) → ActAt ns ds n k c → then_some b n ≡ first_of (wants v) (numbered c n xs)
       go _ (act_at s name c a f count) =
-          ap (λ z. one_if z n) (w ∙ ap (λ j. still_wants v n j (stage_at xs n)) (sym count))
+          ap (λ z. then_some z n) (w ∙ ap (λ j. still_wants v n j (stage_at xs n)) (sym count))
           ∙ sym (still-act v n s name c (meaning c (n + 1) xs) (numbered c (n + 1) xs) (stage_at xs n) (sym u))
 
   open-entries : (s : Step) (name : Name) (c : Tree) → true ≡ is_begun (stage_at xs n) → numbered (act s (follows name c)) n xs ≡ (n, open_act s (meaning c (n + 1) xs)) ∷ numbered c (n + 1) xs
@@ -269,7 +302,7 @@ module _ (ns : List Node) (ds : List Detail) (xs : List Stage) (v : Wanted) (n :
       go : (c : Tree) → SeqAt ns ds n c → found ≡ first_of (wants v) (numbered c n xs)
       go _ (seq_at ts a) = r.means ts a ∙ sym (ap (first_of (wants v)) (chosen-true (is_begun (stage_at xs n)) (numbered_branch ts (n + 1) xs) [] (sym u)))
 
-  pub first-no_seq : kind_at ns n ≡ Seq → false ≡ is_begun (stage_at xs n) → IsFirst ns ds n xs v None
+  first-no_seq : kind_at ns n ≡ Seq → false ≡ is_begun (stage_at xs n) → IsFirst ns ds n xs v None
   first-no_seq e u = record { means = λ c h. go c (seq-at ns ds n e c h) }
     where
       go : (c : Tree) → SeqAt ns ds n c → None ≡ first_of (wants v) (numbered c n xs)
@@ -281,7 +314,7 @@ module _ (ns : List Node) (ds : List Detail) (xs : List Stage) (v : Wanted) (n :
       go : (c : Tree) → ParAt ns ds n c → found ≡ first_of (wants v) (numbered c n xs)
       go _ (par_at ts a) = r.means ts a ∙ sym (ap (first_of (wants v)) (chosen-true (is_begun (stage_at xs n)) (numbered_each ts (n + 1) xs) [] (sym u)))
 
-  pub first-no_par : kind_at ns n ≡ Par → false ≡ is_begun (stage_at xs n) → IsFirst ns ds n xs v None
+  first-no_par : kind_at ns n ≡ Par → false ≡ is_begun (stage_at xs n) → IsFirst ns ds n xs v None
   first-no_par e u = record { means = λ c h. go c (par-at ns ds n e c h) }
     where
       go : (c : Tree) → ParAt ns ds n c → None ≡ first_of (wants v) (numbered c n xs)
@@ -293,23 +326,36 @@ module _ (ns : List Node) (ds : List Detail) (xs : List Stage) (v : Wanted) (n :
       go : (c : Tree) → SelAt ns ds n i c → found ≡ first_of (wants v) (numbered c n xs)
       go _ (sel_at ch a) = r.means i ch a ∙ sym (ap (first_of (wants v)) (chosen-true (is_begun (stage_at xs n)) (numbered_chosen ch (n + 1) xs) [] (sym u)))
 
-  pub first-no_sel : (i : ℕ) → kind_at ns n ≡ Sel i → false ≡ is_begun (stage_at xs n) → IsFirst ns ds n xs v None
+  first-no_sel : (i : ℕ) → kind_at ns n ≡ Sel i → false ≡ is_begun (stage_at xs n) → IsFirst ns ds n xs v None
   first-no_sel i e u = record { means = λ c h. go c (sel-at ns ds n i e c h) }
     where
       go : (c : Tree) → SelAt ns ds n i c → None ≡ first_of (wants v) (numbered c n xs)
       go _ (sel_at ch a) = sym (ap (first_of (wants v)) (chosen-false (is_begun (stage_at xs n)) (numbered_chosen ch (n + 1) xs) [] (sym u)))
 
-  pub first-no_loop : (k i : ℕ) → kind_at ns n ≡ Loop k i → None ≡ turns_of (stage_at xs n) → IsFirst ns ds n xs v None
+  first-no_loop : (k i : ℕ) → kind_at ns n ≡ Loop k i → None ≡ turns_of (stage_at xs n) → IsFirst ns ds n xs v None
   first-no_loop k i e u = record { means = λ c h. go c (loop-at ns ds n k i e c h) }
     where
       go : (c : Tree) → LoopAt ns ds n k i c → None ≡ first_of (wants v) (numbered c n xs)
       go _ (loop_at p body z a b) = ap (λ o. first_of (wants v) (entries_in o (numbered body (n + 1) xs))) u
 
-  pub first-loop : (k i left : ℕ) (found : Option ℕ) → kind_at ns n ≡ Loop k i → Some left ≡ turns_of (stage_at xs n) → IsFirst ns ds (n + 1) xs v found → IsFirst ns ds n xs v found
-  first-loop k i left found e u r = record { means = λ c h. go c (loop-at ns ds n k i e c h) }
+  first-over : (k : Kind) → kind_at ns n ≡ k → true ≡ is_over_at k (stage_at xs n) → IsFirst ns ds n xs v None
+  first-over Skip e o = first-skip e
+  first-over (kind.Phase j i) e o = first-phase j i false e (over-phase_wants (slice_get ds i) v n j (stage_at xs n) o)
+  first-over (Act j) e o = first-still j false e (over-unbegun (stage_at xs n) o) (over-still_wants v n j (stage_at xs n) o)
+  first-over Seq e o = first-no_seq e (not-true (is_begun (stage_at xs n)) o)
+  first-over Par e o = first-no_par e (not-true (is_begun (stage_at xs n)) o)
+  first-over (Sel i) e o = first-no_sel i e (not-true (is_begun (stage_at xs n)) o)
+  first-over (Loop j i) e o = first-no_loop j i e (none-true (turns_of (stage_at xs n)) o)
+
+  -- nothing is left of the node
+  pub first-none : true ≡ is_over_at (kind_at ns n) (stage_at xs n) → IsFirst ns ds n xs v None
+  first-none o = first-over (kind_at ns n) refl o
+
+  pub first-loop : (k i : ℕ) (found : Option ℕ) → kind_at ns n ≡ Loop k i → false ≡ is_none (turns_of (stage_at xs n)) → IsFirst ns ds (n + 1) xs v found → IsFirst ns ds n xs v found
+  first-loop k i found e u r = record { means = λ c h. go c (loop-at ns ds n k i e c h) }
     where
       go : (c : Tree) → LoopAt ns ds n k i c → found ≡ first_of (wants v) (numbered c n xs)
-      go _ (loop_at p body z a b) = r.means body a ∙ ap (λ o. first_of (wants v) (entries_in o (numbered body (n + 1) xs))) u
+      go _ (loop_at p body z a b) = r.means body a ∙ sym (ap (first_of (wants v)) (entries-turning (turns_of (stage_at xs n)) (numbered body (n + 1) xs) u))
 
   -- the branches of a row
 

@@ -1,5 +1,5 @@
 -- A batch that makes no move of its own can only be granted what it asks for.
-use Rattle.std.proofs.Common.{◌≡◌, List, [], ◌∷◌, Bool, true, false, Some, None, refl, sym, ◌∙◌, ap, ap₂}
+use Rattle.std.proofs.Common.{◌≡◌, List, [], ◌∷◌, Bool, true, false, Some, None, refl, sym, ◌∙◌, ap}
 use Rattle.std.specs.Prelude.{Option}
 use Rattle.std.specs.List.{filter_map, cons_option}
 use Rattle.batch_model.specs.Plant.{Documents, Batch, Plant}

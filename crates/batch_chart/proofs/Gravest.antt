@@ -1,5 +1,5 @@
 -- The gravest state of live phases is the first, in their order, that one of them has.
-use Rattle.std.proofs.Common.{◌≡◌, ◌⊎◌, inl, inr, ◌<◌, ◌≤◌, ℕ, zero, suc, List, [], ◌∷◌, Bool, true, false, Some, None, nat_eq, nat_lt, arith, refl, sym, ◌∙◌, subst, ap}
+use Rattle.std.proofs.Common.{◌≡◌, ◌⊎◌, inl, inr, ◌<◌, ◌≤◌, ℕ, zero, suc, List, [], ◌∷◌, Bool, true, false, Some, None, nat_lt, arith, refl, sym, ◌∙◌, subst, ap}
 use Rattle.std.specs.Prelude.{Option, find, ◌||◌}
 use Rattle.std.specs.List.{list_any}
 use Rattle.std.proofs.Math.Bool.{cond}
@@ -10,7 +10,7 @@ use Rattle.batch_matrix.specs.declared.state.State.TheVariants.{Idle, Running, P
 use Rattle.batch_matrix.specs.Matrix.{state_number, same_state}
 use Rattle.batch_model.specs.ActStates.{gravity, gravest}
 use Rattle.batch_model.specs.Lists.{Has}
-use Rattle.batch_chart.specs.Showing.{is_among, shown_by}
+use Rattle.batch_chart.specs.Showing.{is_among}
 
 abbrev numbered_state : ℕ → State
 numbered_state zero = Idle

@@ -1,12 +1,12 @@
 -- Each node of the tree stands at its number, and how many needs they have together.
-use Rattle.std.proofs.Common.{◌≡◌, inl, inr, ◌<◌, ◌≤◌, ℕ, zero, suc, ◌+◌, List, [], ◌∷◌, ◌++◌, length, Bool, true, false, Some, None, arith, refl, sym, ◌∙◌, subst, ap}
+use Rattle.std.proofs.Common.{◌≡◌, inl, inr, ◌<◌, ◌≤◌, ℕ, zero, suc, ◌+◌, List, [], ◌∷◌, ◌++◌, length, Some, None, arith, refl, sym, ◌∙◌, subst, ap}
 use Rattle.std.specs.Prelude.{⊤, slice_get, slice_index_or, Option}
 use Rattle.std.proofs.lemmas.Bool.{cases_lt}
 use Rattle.batch_recipe.specs.Conditions.{Name}
 use Rattle.batch_recipe.specs.Needs.{resources_of}
 use Rattle.batch_recipe.specs.Nodes as nodes
 use Rattle.batch_recipe.specs.Nodes.{node_count, count_of_each, count_of_choices, nodes_within, nodes_of_each, nodes_of_choices, child}
-use Rattle.batch_recipe.specs.Tree.{Place, Step, Phase, Task, runs, follows, Tree, act, skip, seq, par, sel, loop, Trees, no_trees, tree, Choices, otherwise, choice}
+use Rattle.batch_recipe.specs.Tree.{Place, Step, Task, runs, follows, Tree, act, skip, seq, par, sel, loop, Trees, no_trees, tree, Choices, otherwise, choice}
 use Rattle.batch_recipe.proofs.Order.{counted_nodes}
 use Rattle.batch_chart.specs.declared.node.Node.{Node}
 use Rattle.batch_chart.specs.declared.node.Kind.{Kind}
@@ -14,7 +14,7 @@ use Rattle.batch_chart.specs.declared.node.Kind.TheVariants as kind
 use Rattle.batch_chart.specs.declared.node.Detail.{Detail}
 use Rattle.batch_chart.specs.Compiled.{kind_at, Stands, StandsAct, AreStanding, AreChoices, names_in}
 use Rattle.batch_chart.specs.Needs.{needs_of, needs_to}
-use Rattle.batch_chart.specs.NodesOf.{nodes_of, node_at, step_of, needs_in, needs_below, needs_of_each, needs_of_choices, phase_named}
+use Rattle.batch_chart.specs.NodesOf.{nodes_of, node_at, step_of, needs_in, needs_of_each, needs_of_choices, phase_named}
 use Rattle.batch_chart.specs.Running.{IsLaid}
 use Rattle.batch_chart.proofs.Stepping.{node-got}
 

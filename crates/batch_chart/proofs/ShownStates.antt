@@ -1,7 +1,6 @@
 -- The states that acts show, as the stages tell them.
-use Rattle.std.proofs.Common.{◌≡◌, ◌≢◌, ◌⊎◌, inl, inr, ◌<◌, ◌≤◌, ℕ, zero, suc, ◌+◌, List, [], ◌∷◌, ◌++◌, length, Bool, true, false, Some, None, nat_eq, arith, refl, sym, ◌∙◌, subst, ap, ap₂}
-use Rattle.std.specs.Prelude.{Option, not, map, find, ◌||◌, slice_get}
-use Rattle.std.specs.List.{list_any, filter_map}
+use Rattle.std.proofs.Common.{◌≡◌, ◌≢◌, ◌⊎◌, inl, inr, ◌<◌, ◌≤◌, ℕ, zero, suc, ◌+◌, List, [], ◌∷◌, length, Bool, true, false, Some, None, nat_eq, arith, refl, sym, ◌∙◌, subst, ap, ap₂}
+use Rattle.std.specs.Prelude.{Option, not, map, find, ◌||◌}
 use Rattle.std.specs.Option.{is_some}
 use Rattle.std.proofs.Math.Bool.{cond}
 use Rattle.std.proofs.lemmas.Bool.Decides.{eqb_tells}
@@ -9,10 +8,9 @@ use Rattle.batch_matrix.specs.declared.state.State.{State}
 use Rattle.batch_matrix.specs.declared.state.State.TheVariants.{Idle}
 use Rattle.batch_matrix.specs.Matrix.{same_state}
 use Rattle.batch_recipe.specs.Nodes.{node_count}
-use Rattle.batch_recipe.specs.Nodes as nodes
 use Rattle.batch_recipe.specs.Tree.{Place, Step, Phase, Task, runs, follows, Tree, act, skip, seq, par, sel, loop, Trees, no_trees, tree, Choices, otherwise, choice}
 use Rattle.batch_recipe.proofs.Order.{in_order}
-use Rattle.batch_model.specs.ActStates.{root, steps, act_state, gravest, state_in}
+use Rattle.batch_model.specs.ActStates.{root, steps, act_state, state_in}
 use Rattle.batch_model.specs.Lists.{Has}
 use Rattle.batch_model.specs.Moves.{is_empty}
 use Rattle.batch_model.proofs.Members.{Has-split}
@@ -24,7 +22,6 @@ use Rattle.batch_chart.specs.declared.node.Kind.TheVariants as kind
 use Rattle.batch_chart.specs.declared.node.Detail.{Detail}
 use Rattle.batch_chart.specs.declared.stage.Stage.{Stage}
 use Rattle.batch_chart.specs.declared.stage.Stage.TheVariants as stage
-use Rattle.batch_chart.specs.declared.wanted.Wanted.{Wanted}
 use Rattle.batch_chart.specs.declared.wanted.Wanted.TheVariants as wanted
 use Rattle.batch_chart.specs.Stages.{stage_at, is_begun, is_finished, turns_of}
 use Rattle.batch_chart.specs.Meaning.{act_as, meaning, meaning_below}
@@ -32,7 +29,7 @@ use Rattle.batch_chart.specs.Compiled.{kind_at, is_act_kind, Stands, StandsAct, 
 use Rattle.batch_chart.specs.Finding.{wants, first_of, numbered, numbered_below, numbered_each, numbered_branch, numbered_chosen, IsFirst}
 use Rattle.batch_chart.specs.NodesOf.{nodes_of, node_at, place_at}
 use Rattle.batch_chart.specs.Nexts.{IsFoundFirst}
-use Rattle.batch_chart.specs.Running.{IsActTree, IsLaid, IsAlive, SomeLives}
+use Rattle.batch_chart.specs.Running.{IsActTree, IsLaid, SomeLives}
 use Rattle.batch_chart.specs.Showing.{is_among, shown_by, IsFirstShown, IsShown, IsStateAt}
 use Rattle.batch_chart.proofs.Choosing.{chosen-true, chosen-false}
 use Rattle.batch_chart.proofs.Found.{nothing, numbered-acts, acts-all}

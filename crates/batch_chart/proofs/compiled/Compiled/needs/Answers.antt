@@ -1,7 +1,5 @@
-use Rattle.std.proofs.Common.{ap, ◌∙◌}
-use Rattle.std.specs.Prelude.{length}
+use Rattle.std.proofs.Common.{◌∙◌}
 use Rattle.batch_chart.proofs.NodesStand.{all-needs}
-use Rattle.batch_chart.specs.Needs.{needs_to}
 use Rattle.batch_chart.proofs.compiled.Compiled.needs.Goals as goal
 
 pub returns : goal.returns
