@@ -1,4 +1,4 @@
-//! Runs of an engine over documents, from event lines to the text of the record.
+//! An engine over documents, and the record of an event line or of moves.
 use batch_cell::Cell;
 use batch_check::check;
 use batch_engine::{Engine, Event, Out};
@@ -7,7 +7,6 @@ use batch_recipe::Recipe;
 use batch_verify::{Cleared, verify};
 use batch_wire::{read_event, write_out};
 use std::alloc::Global;
-use std::process::Abort;
 use std::test::Fail;
 
 /// More moves than any event of these runs brings.
@@ -44,7 +43,7 @@ pub(crate) fn engine_of(alloc: Global, cell: &str, recipes: &[&str]) -> Result<E
     Ok(Engine::new(alloc, cleared).map_err(|_| "no engine")?)
 }
 
-pub(crate) fn event_of(alloc: Global, line: &str) -> Result<Event, Fail> {
+fn event_of(alloc: Global, line: &str) -> Result<Event, Fail> {
     let event = read_event(alloc, line.as_bytes())?;
     Ok(event.ok_or("no event")?)
 }
@@ -64,41 +63,42 @@ fn settle(engine: &mut Engine, record: &mut Vec<u8>) -> Result<(), Fail> {
     Err("moves without end")?
 }
 
-/// What the record tells of the event of the line, and of the moves that follow.
-fn answer(
+/// Takes the event of the line.
+fn take(
     alloc: Global,
     engine: &mut Engine,
     line: &str,
     record: &mut Vec<u8>,
 ) -> Result<(), Fail> {
     let reply = engine.accept(&event_of(alloc, line)?);
-    tell(engine, Out::Reply(reply), record)?;
-    settle(engine, record)
+    tell(engine, Out::Reply(reply), record)
 }
 
 fn text_of(record: Vec<u8>) -> Result<String, Fail> {
     Ok(String::from_utf8(record).map_err(|_| "no text")?)
 }
 
-/// The record of these event lines.
-pub(crate) fn record(alloc: Global, engine: &mut Engine, lines: &[&str]) -> Result<String, Fail> {
+/// The record of the event of the line, and of the moves that follow.
+pub(crate) fn record(alloc: Global, engine: &mut Engine, line: &str) -> Result<String, Fail> {
     let mut record = Vec::new(alloc);
-    for line in lines {
-        answer(alloc, engine, line, &mut record)?;
-    }
+    take(alloc, engine, line, &mut record)?;
+    settle(engine, &mut record)?;
     text_of(record)
 }
 
-/// The record of an event line that comes so often.
-pub(crate) fn record_of_each(
-    alloc: Global,
-    engine: &mut Engine,
-    line: &str,
-    count: usize,
-) -> Result<String, Fail> {
+/// The record of the event of the line, of whose moves none is made.
+pub(crate) fn accept(alloc: Global, engine: &mut Engine, line: &str) -> Result<String, Fail> {
     let mut record = Vec::new(alloc);
-    for _ in 0..count {
-        answer(alloc, engine, line, &mut record)?;
+    take(alloc, engine, line, &mut record)?;
+    text_of(record)
+}
+
+/// The record of the next move.
+pub(crate) fn next_move(alloc: Global, engine: &mut Engine) -> Result<String, Fail> {
+    let mut record = Vec::new(alloc);
+    match engine.next_move() {
+        Some(line) => tell(engine, Out::Move(line), &mut record)?,
+        None => record.extend_from_slice(b"no move\n")?,
     }
     text_of(record)
 }
@@ -108,18 +108,4 @@ pub(crate) fn moves(alloc: Global, engine: &mut Engine) -> Result<String, Fail> 
     let mut record = Vec::new(alloc);
     settle(engine, &mut record)?;
     text_of(record)
-}
-
-/// That the whole record of these event lines is the one expected, from an engine in which nothing has happened.
-pub(crate) fn assert_record(
-    rt: &impl Abort,
-    alloc: Global,
-    cell: &str,
-    recipes: &[&str],
-    lines: &[&str],
-    expected: &str,
-) -> Result<(), Fail> {
-    let mut engine = engine_of(alloc, cell, recipes)?;
-    assert_eq!(rt; record(alloc, &mut engine, lines)?.as_str(), expected);
-    Ok(())
 }
