@@ -53,14 +53,7 @@ state 1 complete
 ",
     )?;
     assert_eq!(rt; expected.lines().count(), 2_012);
-    assert_told(
-        &rt,
-        alloc,
-        CELL1,
-        &[L],
-        script.as_str(),
-        expected.as_str(),
-    )
+    assert_told(&rt, alloc, CELL1, &[L], script.as_str(), expected.as_str())
 }
 
 #[test]
@@ -109,14 +102,14 @@ fn created(alloc: Global, count: usize, tail: &str) -> Result<String, AllocError
     Ok(text)
 }
 
-/// As many batches as may exist. A batch that ended makes room once it is removed, and its number isn't given again.
+/// As many batches as may exist, whose creates bring no moves. A batch that ended makes room once it is removed, and its number isn't given again.
 #[test]
 fn live_batch_limit(rt: HostRuntime) -> Result<(), Fail> {
     let alloc = rt.alloc();
     let script = repeated(
         alloc,
         "",
-        "create A 1000\n",
+        "accept create A 1000\n",
         4_096,
         "start 1
 report R1 ADD done
@@ -158,12 +151,5 @@ created 4097 A 1000
 refused E8
 ",
     )?;
-    assert_told(
-        &rt,
-        alloc,
-        CELL1,
-        &[A],
-        script.as_str(),
-        expected.as_str(),
-    )
+    assert_told(&rt, alloc, CELL1, &[A], script.as_str(), expected.as_str())
 }

@@ -13,11 +13,11 @@ use std::test::Fail;
 const MAX_MOVES: usize = 100_000;
 
 fn cell_of(alloc: Global, document: &str) -> Result<Cell, Fail> {
-    Ok(read_cell(alloc, document.as_bytes()).map_err(|_| "no cell")?)
+    Ok(read_cell(alloc, document.as_bytes())?)
 }
 
 fn recipe_of(alloc: Global, document: &str) -> Result<Recipe, Fail> {
-    Ok(read_recipe(alloc, document.as_bytes()).map_err(|_| "no recipe")?)
+    Ok(read_recipe(alloc, document.as_bytes())?)
 }
 
 fn recipes_of(alloc: Global, documents: &[&str]) -> Result<Vec<Recipe>, Fail> {
@@ -32,7 +32,7 @@ fn recipes_of(alloc: Global, documents: &[&str]) -> Result<Vec<Recipe>, Fail> {
 fn cleared_of(alloc: Global, cell: &str, recipes: &[&str]) -> Result<Cleared, Fail> {
     let cell = cell_of(alloc, cell)?;
     let recipes = recipes_of(alloc, recipes)?;
-    let certificate = check(alloc, &cell, &recipes).map_err(|_| "no certificate")?;
+    let certificate = check(alloc, &cell, &recipes)?;
     let cleared = verify(alloc, cell, recipes, &certificate).map_err(|_| "not cleared")?;
     Ok(cleared)
 }
@@ -64,18 +64,13 @@ fn settle(engine: &mut Engine, record: &mut Vec<u8>) -> Result<(), Fail> {
 }
 
 /// Takes the event of the line.
-fn take(
-    alloc: Global,
-    engine: &mut Engine,
-    line: &str,
-    record: &mut Vec<u8>,
-) -> Result<(), Fail> {
+fn take(alloc: Global, engine: &mut Engine, line: &str, record: &mut Vec<u8>) -> Result<(), Fail> {
     let reply = engine.accept(&event_of(alloc, line)?);
     tell(engine, Out::Reply(reply), record)
 }
 
 fn text_of(record: Vec<u8>) -> Result<String, Fail> {
-    Ok(String::from_utf8(record).map_err(|_| "no text")?)
+    Ok(String::from_utf8(record)?)
 }
 
 /// The record of the event of the line, and of the moves that follow.
