@@ -1,7 +1,6 @@
 //! The least ranks of resources that are asked for one after another, and the circles that leave none.
-use crate::reading::{cell_of, recipe_of};
+use crate::reading::{cell_of, checked};
 use batch_check::check;
-use batch_commands::check_recipes;
 use std::alloc::{AllocError, Global};
 use std::test::Fail;
 
@@ -66,10 +65,9 @@ fn document(alloc: Global, pairs: &[Pair]) -> Result<String, AllocError> {
 }
 
 /// What `check` prints of a recipe whose steps ask for these.
-fn checked(alloc: Global, pairs: &[Pair]) -> Result<String, Fail> {
-    let cell = cell_of(alloc, CELL)?;
-    let recipe = recipe_of(alloc, document(alloc, pairs)?.as_str())?;
-    Ok(check_recipes(alloc, &cell, &[recipe])?.text)
+fn ranked(alloc: Global, pairs: &[Pair]) -> Result<String, Fail> {
+    let recipe = document(alloc, pairs)?;
+    checked(alloc, CELL, &[recipe.as_str()])
 }
 
 #[test]
@@ -99,7 +97,7 @@ fn ranks_rise_along_a_chain(rt: HostRuntime) -> Result<(), Fail> {
         ),
     ];
     for (pairs, ranks) in chains {
-        assert_eq!(rt; checked(rt.alloc(), &pairs)?.as_str(), ranks);
+        assert_eq!(rt; ranked(rt.alloc(), &pairs)?.as_str(), ranks);
     }
     Ok(())
 }
@@ -108,7 +106,7 @@ fn ranks_rise_along_a_chain(rt: HostRuntime) -> Result<(), Fail> {
 fn the_longer_side_of_a_diamond_decides(rt: HostRuntime) -> Result<(), Fail> {
     let pairs = [("A", "E"), ("D", "E"), ("A", "B"), ("B", "D"), ("A", "C")];
     assert_eq!(rt;
-        checked(rt.alloc(), &pairs)?.as_str(),
+        ranked(rt.alloc(), &pairs)?.as_str(),
         "rank A 2\nrank B 3\nrank C 3\nrank D 4\nrank E 5\nrank U 1\n"
     );
     Ok(())
@@ -118,12 +116,12 @@ fn the_longer_side_of_a_diamond_decides(rt: HostRuntime) -> Result<(), Fail> {
 fn a_circle_leaves_out_what_leads_to_it(rt: HostRuntime) -> Result<(), Fail> {
     let pairs = [("A", "B"), ("B", "C"), ("C", "D"), ("D", "B")];
     assert_eq!(rt;
-        checked(rt.alloc(), &pairs)?.as_str(),
+        ranked(rt.alloc(), &pairs)?.as_str(),
         "refused C1\nedge X 0.0.0.0.1 B C\nedge X 0.0.0.0.2 C D\nedge X 0.0.0.0.3 D B\n"
     );
     let pairs = [("A", "B"), ("C", "C")];
     assert_eq!(rt;
-        checked(rt.alloc(), &pairs)?.as_str(),
+        ranked(rt.alloc(), &pairs)?.as_str(),
         "refused C1\nedge X 0.0.0.0.1 C C\n"
     );
     Ok(())

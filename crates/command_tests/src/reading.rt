@@ -1,6 +1,8 @@
-//! Cells, recipes and certificates of opaque texts: without a contract here, no test's proof reads their bytes.
+//! Cells, recipes, certificates and verdicts of opaque texts: without a contract here, no test's proof reads their bytes.
 use batch_cell::Cell;
-use batch_commands::{Halt, judge_cell, judge_certificate, judge_recipe};
+use batch_commands::{
+    Halt, check_recipes, judge_cell, judge_certificate, judge_recipe, verify_recipes,
+};
 use batch_recipe::Recipe;
 use batch_verify::Certificate;
 use std::alloc::Global;
@@ -24,4 +26,22 @@ pub(crate) fn recipes_of(alloc: Global, texts: &[&str]) -> Result<Vec<Recipe>, F
 
 pub(crate) fn certificate_of(alloc: Global, text: &str) -> Result<Certificate, Halt> {
     judge_certificate(alloc, text.as_bytes())
+}
+
+/// What `check` prints.
+pub(crate) fn checked(alloc: Global, cell: &str, texts: &[&str]) -> Result<String, Fail> {
+    let cell = cell_of(alloc, cell)?;
+    let recipes = recipes_of(alloc, texts)?;
+    Ok(check_recipes(alloc, &cell, &recipes)?.text)
+}
+
+/// What `verify` prints.
+pub(crate) fn verified(alloc: Global, cell: &str, ranks: &str, texts: &[&str]) -> Result<String, Fail> {
+    let cell = cell_of(alloc, cell)?;
+    let certificate = match certificate_of(alloc, ranks) {
+        Err(Halt::Refused(verdict)) => return Ok(verdict.text),
+        other => other?,
+    };
+    let recipes = recipes_of(alloc, texts)?;
+    Ok(verify_recipes(alloc, cell, recipes, &certificate)?.text)
 }

@@ -2,32 +2,12 @@
 use crate::documents::{
     A, A_MIXING, A_ON_HEADER, CELL1, CELL2, G, H, J, L_SKIPPING, N, P, Q, T_SAME_PHASE, W_TWICE,
 };
-use crate::reading::{cell_of, certificate_of, recipe_of, recipes_of};
-use batch_commands::{Halt, check_recipes, verify_recipes};
+use crate::reading::{cell_of, checked, recipe_of, verified};
 use batch_verify::{Broken, Rule, first_broken};
-use std::alloc::Global;
 use std::test::Fail;
 
 /// All resources of the cell at rank 1.
 const EQUAL: &str = "rank HDR 1\nrank R1 1\nrank R2 1\nrank STEAM 1\n";
-
-/// What `check` prints.
-fn checked(alloc: Global, cell: &str, texts: &[&str]) -> Result<String, Fail> {
-    let cell = cell_of(alloc, cell)?;
-    let recipes = recipes_of(alloc, texts)?;
-    Ok(check_recipes(alloc, &cell, &recipes)?.text)
-}
-
-/// What `verify` prints.
-fn verified(alloc: Global, cell: &str, ranks: &str, texts: &[&str]) -> Result<String, Fail> {
-    let cell = cell_of(alloc, cell)?;
-    let certificate = match certificate_of(alloc, ranks) {
-        Err(Halt::Refused(verdict)) => return Ok(verdict.text),
-        other => other?,
-    };
-    let recipes = recipes_of(alloc, texts)?;
-    Ok(verify_recipes(alloc, cell, recipes, &certificate)?.text)
-}
 
 #[test]
 fn least_certificates(rt: HostRuntime) -> Result<(), Fail> {

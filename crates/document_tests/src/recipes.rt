@@ -3,6 +3,7 @@
 mod each_key;
 mod formulas;
 mod limits;
+mod needs;
 mod nodes;
 mod refusals;
 mod told;

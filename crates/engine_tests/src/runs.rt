@@ -1,16 +1,19 @@
 //! Runs of one batch, by commands and reports.
 use crate::documents::{A, CELL1, F, FORMS, K, S, W};
-use crate::records::assert_record;
+use crate::script::assert_told;
 use std::test::Fail;
 
 #[test]
 fn one_batch_to_complete(rt: HostRuntime) -> Result<(), Fail> {
-    assert_record(
+    assert_told(
         &rt,
         rt.alloc(),
         CELL1,
         &[A],
-        &["create A 1000", "start 1", "report R1 ADD done"],
+        "create A 1000
+start 1
+report R1 ADD done
+",
         "created 1 A 1000
 ok start 1 running
 begin 1 0 A
@@ -31,20 +34,19 @@ state 1 complete
 
 #[test]
 fn scaled_quantity(rt: HostRuntime) -> Result<(), Fail> {
-    assert_record(
+    assert_told(
         &rt,
         rt.alloc(),
         CELL1,
         &[F],
-        &[
-            "create F 500",
-            "start 1",
-            "create F 0",
-            "create F 1503",
-            "create F 1504",
-            "report R1 ADD done",
-            "start 2",
-        ],
+        "create F 500
+start 1
+create F 0
+create F 1503
+create F 1504
+report R1 ADD done
+start 2
+",
         "created 1 F 500
 ok start 1 running
 begin 1 0 F
@@ -76,12 +78,15 @@ start 2 0.0.0.0 R1 ADD QTY=500
 /// What the first phase reports decides whether the second runs.
 #[test]
 fn output_chooses_the_branch(rt: HostRuntime) -> Result<(), Fail> {
-    assert_record(
+    assert_told(
         &rt,
         rt.alloc(),
         CELL1,
         &[K],
-        &["create K 1000", "start 1", "report R1 ADD done X=2"],
+        "create K 1000
+start 1
+report R1 ADD done X=2
+",
         "created 1 K 1000
 ok start 1 running
 begin 1 0 K
@@ -94,12 +99,15 @@ ok report R1 ADD done 1 0.0.0.0.0 running
 start 1 0.0.0.0.1.0 R1 HEAT
 ",
     )?;
-    assert_record(
+    assert_told(
         &rt,
         rt.alloc(),
         CELL1,
         &[K],
-        &["create K 1000", "start 1", "report R1 ADD done X=1"],
+        "create K 1000
+start 1
+report R1 ADD done X=1
+",
         "created 1 K 1000
 ok start 1 running
 begin 1 0 K
@@ -120,18 +128,17 @@ state 1 complete
 
 #[test]
 fn hold_between_phases(rt: HostRuntime) -> Result<(), Fail> {
-    assert_record(
+    assert_told(
         &rt,
         rt.alloc(),
         CELL1,
         &[S],
-        &[
-            "create S 1000",
-            "start 1",
-            "hold 1",
-            "report R1 ADD done",
-            "restart 1",
-        ],
+        "create S 1000
+start 1
+hold 1
+report R1 ADD done
+restart 1
+",
         "created 1 S 1000
 ok start 1 running
 begin 1 0 S
@@ -154,18 +161,17 @@ start 1 0.0.0.0.1 R1 HEAT
 /// What has ended is freed while the batch is held, and the batch is complete once it is restarted.
 #[test]
 fn hold_in_the_last_phase(rt: HostRuntime) -> Result<(), Fail> {
-    assert_record(
+    assert_told(
         &rt,
         rt.alloc(),
         CELL1,
         &[A],
-        &[
-            "create A 1000",
-            "start 1",
-            "hold 1",
-            "report R1 ADD done",
-            "restart 1",
-        ],
+        "create A 1000
+start 1
+hold 1
+report R1 ADD done
+restart 1
+",
         "created 1 A 1000
 ok start 1 running
 begin 1 0 A
@@ -191,23 +197,22 @@ state 1 complete
 
 #[test]
 fn hold_reaches_pausing_phases(rt: HostRuntime) -> Result<(), Fail> {
-    assert_record(
+    assert_told(
         &rt,
         rt.alloc(),
         CELL1,
         &[W],
-        &[
-            "create W 1000",
-            "start 1",
-            "pause 1",
-            "report R1 ADD paused",
-            "hold 1",
-            "report R1 HEAT held",
-            "report R1 ADD held",
-            "restart 1",
-            "report R1 ADD running",
-            "report R1 HEAT running",
-        ],
+        "create W 1000
+start 1
+pause 1
+report R1 ADD paused
+hold 1
+report R1 HEAT held
+report R1 ADD held
+restart 1
+report R1 ADD running
+report R1 HEAT running
+",
         "created 1 W 1000
 ok start 1 running
 begin 1 0 W
@@ -239,18 +244,17 @@ state 1 running
 
 #[test]
 fn fault_holds_the_batch(rt: HostRuntime) -> Result<(), Fail> {
-    assert_record(
+    assert_told(
         &rt,
         rt.alloc(),
         CELL1,
         &[W],
-        &[
-            "create W 1000",
-            "start 1",
-            "report R1 HEAT fault",
-            "report R1 ADD held",
-            "report R1 HEAT held",
-        ],
+        "create W 1000
+start 1
+report R1 HEAT fault
+report R1 ADD held
+report R1 HEAT held
+",
         "created 1 W 1000
 ok start 1 running
 begin 1 0 W
@@ -273,18 +277,17 @@ state 1 held
 /// A fault of a phase whose batch doesn't accept hold changes no state.
 #[test]
 fn fault_of_a_stopping_batch(rt: HostRuntime) -> Result<(), Fail> {
-    assert_record(
+    assert_told(
         &rt,
         rt.alloc(),
         CELL1,
         &[A],
-        &[
-            "create A 1000",
-            "start 1",
-            "stop 1",
-            "report R1 ADD fault",
-            "report R1 ADD done",
-        ],
+        "create A 1000
+start 1
+stop 1
+report R1 ADD fault
+report R1 ADD done
+",
         "created 1 A 1000
 ok start 1 running
 begin 1 0 A
@@ -305,19 +308,18 @@ state 1 stopped
 
 #[test]
 fn abort_after_stop(rt: HostRuntime) -> Result<(), Fail> {
-    assert_record(
+    assert_told(
         &rt,
         rt.alloc(),
         CELL1,
         &[A],
-        &[
-            "create A 1000",
-            "start 1",
-            "stop 1",
-            "abort 1",
-            "report R1 ADD stopped",
-            "report R1 ADD aborted",
-        ],
+        "create A 1000
+start 1
+stop 1
+abort 1
+report R1 ADD stopped
+report R1 ADD aborted
+",
         "created 1 A 1000
 ok start 1 running
 begin 1 0 A
@@ -340,20 +342,19 @@ state 1 aborted
 
 #[test]
 fn stopped_batch_runs_anew(rt: HostRuntime) -> Result<(), Fail> {
-    assert_record(
+    assert_told(
         &rt,
         rt.alloc(),
         CELL1,
         &[A],
-        &[
-            "create A 1000",
-            "start 1",
-            "stop 1",
-            "report R1 ADD stopped",
-            "abort 1",
-            "reset 1",
-            "start 1",
-        ],
+        "create A 1000
+start 1
+stop 1
+report R1 ADD stopped
+abort 1
+reset 1
+start 1
+",
         "created 1 A 1000
 ok start 1 running
 begin 1 0 A
@@ -383,19 +384,18 @@ start 1 0.0.0.0 R1 ADD
 
 #[test]
 fn pause_and_resume(rt: HostRuntime) -> Result<(), Fail> {
-    assert_record(
+    assert_told(
         &rt,
         rt.alloc(),
         CELL1,
         &[A],
-        &[
-            "create A 1000",
-            "start 1",
-            "pause 1",
-            "report R1 ADD paused",
-            "resume 1",
-            "report R1 ADD done",
-        ],
+        "create A 1000
+start 1
+pause 1
+report R1 ADD paused
+resume 1
+report R1 ADD done
+",
         "created 1 A 1000
 ok start 1 running
 begin 1 0 A
@@ -423,20 +423,19 @@ state 1 complete
 /// Branches side by side and one after the other, choices both ways, and a loop that ends by its condition.
 #[test]
 fn each_form_of_chart(rt: HostRuntime) -> Result<(), Fail> {
-    assert_record(
+    assert_told(
         &rt,
         rt.alloc(),
         CELL1,
         &[FORMS],
-        &[
-            "create FORMS 1000",
-            "start 1",
-            "report R1 ADD done X=1",
-            "report R1 DRAIN done X=0",
-            "report R1 HEAT done",
-            "report R1 HEAT done X=2",
-            "report R2 ADD done",
-        ],
+        "create FORMS 1000
+start 1
+report R1 ADD done X=1
+report R1 DRAIN done X=0
+report R1 HEAT done
+report R1 HEAT done X=2
+report R2 ADD done
+",
         "created 1 FORMS 1000
 ok start 1 running
 begin 1 0 FORMS

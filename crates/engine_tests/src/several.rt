@@ -1,22 +1,21 @@
 //! Runs of several batches.
 use crate::documents::{A, BIG, CELL1, CELL2, HEAD, LITTLE, P, Q, SMALL, T, THREE_UNITS, Y};
-use crate::records::assert_record;
+use crate::script::assert_told;
 use std::test::Fail;
 
 #[test]
 fn second_batch_waits(rt: HostRuntime) -> Result<(), Fail> {
-    assert_record(
+    assert_told(
         &rt,
         rt.alloc(),
         CELL1,
         &[A],
-        &[
-            "create A 1000",
-            "create A 1000",
-            "start 1",
-            "start 2",
-            "report R1 ADD done",
-        ],
+        "create A 1000
+create A 1000
+start 1
+start 2
+report R1 ADD done
+",
         "created 1 A 1000
 created 2 A 1000
 ok start 1 running
@@ -46,20 +45,19 @@ start 2 0.0.0.0 R1 ADD
 /// A batch that is held is granted what it asked for, and begins nothing with it.
 #[test]
 fn held_batch_is_granted(rt: HostRuntime) -> Result<(), Fail> {
-    assert_record(
+    assert_told(
         &rt,
         rt.alloc(),
         CELL1,
         &[A],
-        &[
-            "create A 1000",
-            "create A 1000",
-            "start 1",
-            "start 2",
-            "hold 2",
-            "report R1 ADD done",
-            "restart 2",
-        ],
+        "create A 1000
+create A 1000
+start 1
+start 2
+hold 2
+report R1 ADD done
+restart 2
+",
         "created 1 A 1000
 created 2 A 1000
 ok start 1 running
@@ -92,23 +90,22 @@ start 2 0.0.0.0 R1 ADD
 
 #[test]
 fn crossed_branches_without_circle(rt: HostRuntime) -> Result<(), Fail> {
-    assert_record(
+    assert_told(
         &rt,
         rt.alloc(),
         CELL2,
         &[P, Q],
-        &[
-            "create P 1000",
-            "create Q 1000",
-            "start 1",
-            "start 2",
-            "report R1 DRAIN done",
-            "report R2 DRAIN done",
-            "report R1 ADD done",
-            "report R2 HEAT done",
-            "report R1 HEAT done",
-            "report R2 ADD done",
-        ],
+        "create P 1000
+create Q 1000
+start 1
+start 2
+report R1 DRAIN done
+report R2 DRAIN done
+report R1 ADD done
+report R2 HEAT done
+report R1 HEAT done
+report R2 ADD done
+",
         "created 1 P 1000
 created 2 Q 1000
 ok start 1 running
@@ -163,21 +160,20 @@ state 2 complete
 
 #[test]
 fn stop_withdraws_asks(rt: HostRuntime) -> Result<(), Fail> {
-    assert_record(
+    assert_told(
         &rt,
         rt.alloc(),
         CELL2,
         &[P, Q],
-        &[
-            "create P 1000",
-            "create Q 1000",
-            "start 2",
-            "start 1",
-            "report R1 DRAIN done",
-            "stop 1",
-            "report R1 ADD stopped",
-            "report R2 HEAT done",
-        ],
+        "create P 1000
+create Q 1000
+start 2
+start 1
+report R1 DRAIN done
+stop 1
+report R1 ADD stopped
+report R2 HEAT done
+",
         "created 1 P 1000
 created 2 Q 1000
 ok start 2 running
@@ -216,12 +212,14 @@ release 2 0.0.0.0.0 STEAM
 
 #[test]
 fn shared_capacity(rt: HostRuntime) -> Result<(), Fail> {
-    assert_record(
+    assert_told(
         &rt,
         rt.alloc(),
         CELL1,
         &[T],
-        &["create T 1000", "start 1"],
+        "create T 1000
+start 1
+",
         "created 1 T 1000
 ok start 1 running
 begin 1 0 T
@@ -243,12 +241,15 @@ start 1 0.0.0.0.1 R1 HEAT
 /// One unit is free, the oldest ask wants two, and the next wants one.
 #[test]
 fn small_ask_waits_behind_a_large_one(rt: HostRuntime) -> Result<(), Fail> {
-    assert_record(
+    assert_told(
         &rt,
         rt.alloc(),
         CELL1,
         &[Y],
-        &["create Y 1000", "start 1", "report R1 ADD done"],
+        "create Y 1000
+start 1
+report R1 ADD done
+",
         "created 1 Y 1000
 ok start 1 running
 begin 1 0 Y
@@ -272,20 +273,19 @@ start 1 0.0.0.0.1 R1 HEAT
 /// What one batch gives back goes to two others in line, the earlier batch at once, and the later one after all else.
 #[test]
 fn freed_resources_go_to_two_batches(rt: HostRuntime) -> Result<(), Fail> {
-    assert_record(
+    assert_told(
         &rt,
         rt.alloc(),
         THREE_UNITS,
         &[BIG, SMALL, HEAD],
-        &[
-            "create SMALL 1000",
-            "create BIG 1000",
-            "create HEAD 1000",
-            "start 2",
-            "start 1",
-            "start 3",
-            "report R1 ADD done",
-        ],
+        "create SMALL 1000
+create BIG 1000
+create HEAD 1000
+start 2
+start 1
+start 3
+report R1 ADD done
+",
         "created 1 SMALL 1000
 created 2 BIG 1000
 created 3 HEAD 1000
@@ -333,20 +333,19 @@ start 3 0.0.0.0 R3 ADD
 /// The two units that one release gives back go to two batches, in the order in which they asked.
 #[test]
 fn freed_units_go_to_two_batches(rt: HostRuntime) -> Result<(), Fail> {
-    assert_record(
+    assert_told(
         &rt,
         rt.alloc(),
         THREE_UNITS,
         &[BIG, SMALL, LITTLE],
-        &[
-            "create BIG 1000",
-            "create SMALL 1000",
-            "create LITTLE 1000",
-            "start 1",
-            "start 3",
-            "start 2",
-            "report R1 ADD done",
-        ],
+        "create BIG 1000
+create SMALL 1000
+create LITTLE 1000
+start 1
+start 3
+start 2
+report R1 ADD done
+",
         "created 1 BIG 1000
 created 2 SMALL 1000
 created 3 LITTLE 1000
@@ -394,20 +393,19 @@ start 3 0.0.0.0 R3 ADD
 /// The oldest ask wants more than is free. Once its batch is stopped the next ask is granted.
 #[test]
 fn stop_lets_the_next_ask_be_granted(rt: HostRuntime) -> Result<(), Fail> {
-    assert_record(
+    assert_told(
         &rt,
         rt.alloc(),
         THREE_UNITS,
         &[BIG, SMALL, LITTLE],
-        &[
-            "create SMALL 1000",
-            "create BIG 1000",
-            "create LITTLE 1000",
-            "start 1",
-            "start 2",
-            "start 3",
-            "stop 2",
-        ],
+        "create SMALL 1000
+create BIG 1000
+create LITTLE 1000
+start 1
+start 2
+start 3
+stop 2
+",
         "created 1 SMALL 1000
 created 2 BIG 1000
 created 3 LITTLE 1000

@@ -1,0 +1,91 @@
+//! Verdicts on needs of several units.
+use crate::documents::CELL1;
+use crate::reading::{checked, verified};
+use std::alloc::{AllocError, Global};
+use std::test::Fail;
+
+const RANKS: &str = "rank HDR 1\nrank R1 1\nrank R2 1\nrank STEAM 2\n";
+
+/// Three phases at once, of which the first and the last need one unit of STEAM, and the second has this entry.
+fn recipe_y(alloc: Global, heats: &str) -> Result<String, AllocError> {
+    format!(in alloc;
+        "recipe = 'Y'
+version = '1'
+basis = 1000
+[procedure]
+chart = 'U'
+[[unit_procedure]]
+name = 'U'
+unit = 'R1'
+chart = 'O'
+[[operation]]
+name = 'O'
+chart = 'par(ADDS, HEATS, DRAINS)'
+[[phase]]
+name = 'ADDS'
+runs = 'ADD'
+needs = ['STEAM']
+[[phase]]
+name = 'HEATS'
+{heats}
+[[phase]]
+name = 'DRAINS'
+runs = 'DRAIN'
+needs = ['STEAM']
+"
+    )
+}
+
+/// What `check` and `verify` print of it.
+fn judged(alloc: Global, heats: &str) -> Result<(String, String), Fail> {
+    let text = recipe_y(alloc, heats)?;
+    let by_check = checked(alloc, CELL1, &[text.as_str()])?;
+    let by_verify = verified(alloc, CELL1, RANKS, &[text.as_str()])?;
+    Ok((by_check, by_verify))
+}
+
+#[test]
+fn shares_within_capacity(rt: HostRuntime) -> Result<(), Fail> {
+    for heats in [
+        "runs = 'HEAT'\nneeds = ['STEAM']",
+        "runs = 'HEAT'\nneeds = ['STEAM*1']",
+        "runs = 'HEAT'\nneeds = ['STEAM*2']",
+    ] {
+        let (by_check, by_verify) = judged(rt.alloc(), heats)?;
+        assert_eq!(rt; by_check.as_str(), RANKS, "{heats}");
+        assert_eq!(rt; by_verify.as_str(), "accepted\n", "{heats}");
+    }
+    Ok(())
+}
+
+#[test]
+fn shares_above_capacity(rt: HostRuntime) -> Result<(), Fail> {
+    for (heats, want) in [
+        (
+            "runs = 'HEAT'\nneeds = ['STEAM*3']",
+            "refused V9 Y 0.0.0.0.1\n",
+        ),
+        (
+            "runs = 'HEAT'\nneeds = ['R2*2']",
+            "refused V9 Y 0.0.0.0.1\n",
+        ),
+        // a resource that isn't known comes before a share above capacity, and that before a phase that isn't offered
+        (
+            "runs = 'HEAT'\nneeds = ['STEAM*3', 'WATER']",
+            "refused V3 Y 0.0.0.0.1\n",
+        ),
+        (
+            "runs = 'MIX'\nneeds = ['STEAM*3']",
+            "refused V9 Y 0.0.0.0.1\n",
+        ),
+        (
+            "runs = 'MIX'\nneeds = ['STEAM*2']",
+            "refused V5 Y 0.0.0.0.1\n",
+        ),
+    ] {
+        let (by_check, by_verify) = judged(rt.alloc(), heats)?;
+        assert_eq!(rt; by_check.as_str(), want, "{heats}");
+        assert_eq!(rt; by_verify.as_str(), want, "{heats}");
+    }
+    Ok(())
+}
