@@ -1,0 +1,102 @@
+//! Readers that fail, are interrupted or don't end, and writers that fail.
+use crate::ends::{Failure, OneByOne};
+use crate::serving::{INPUT, MANY_READS, RECORD, answered, run, run_into};
+use batch_serve::{ServeFault, SetFault};
+use std::alloc::Global;
+use std::io::ErrorKind;
+use std::test::Fail;
+
+const READ: Result<(), SetFault> = Err(SetFault::Stopped(ServeFault::Read));
+const WRITE: Result<(), SetFault> = Err(SetFault::Stopped(ServeFault::Write));
+const TOO_MANY_READS: Result<(), SetFault> = Err(SetFault::Stopped(ServeFault::TooManyReads));
+
+/// Whether a run that asks its reader so often for one byte ends as too many reads, with this record.
+fn is_cut_after(alloc: Global, max_reads: u64, record: &[u8]) -> Result<bool, Fail> {
+    Ok(run(alloc, OneByOne::of(INPUT), max_reads)?.is(TOO_MANY_READS, record))
+}
+
+#[test]
+fn max_reads(rt: HostRuntime) -> Result<(), Fail> {
+    let alloc = rt.alloc();
+    assert!(rt; is_cut_after(alloc, 14, b"created 1 A 1000\n")?);
+    assert!(rt; is_cut_after(alloc, 13, b"")?);
+    assert!(rt; is_cut_after(alloc, 0, b"")?);
+    // The input has 41 bytes, and its end is read too.
+    assert!(rt; is_cut_after(alloc, 41, RECORD)?);
+    assert!(rt; run(alloc, OneByOne::of(INPUT), 42)?.is(Ok(()), RECORD));
+    Ok(())
+}
+
+/// The first call of a reader at which a failure isn't answered by the record of the whole lines read.
+fn first_wrong_read(alloc: Global) -> Result<Option<usize>, Fail> {
+    for call in 1..=42 {
+        let reader = OneByOne::failing(INPUT, call, ErrorKind::Other);
+        let whole = &RECORD[..answered(call - 1)];
+        if !run(alloc, reader, MANY_READS)?.is(READ, whole) {
+            return Ok(Some(call));
+        }
+    }
+    Ok(None)
+}
+
+#[test]
+fn reader_fails_at_each_call(rt: HostRuntime) -> Result<(), Fail> {
+    assert_eq!(rt; first_wrong_read(rt.alloc())?, None);
+    Ok(())
+}
+
+/// The first call of a reader at which an interruption isn't passed over, or isn't counted.
+fn first_wrong_interruption(alloc: Global) -> Result<Option<usize>, Fail> {
+    for call in 1..=42 {
+        let reader = OneByOne::failing(INPUT, call, ErrorKind::Interrupted);
+        let again = OneByOne::failing(INPUT, call, ErrorKind::Interrupted);
+        if !run(alloc, reader, 43)?.is(Ok(()), RECORD) || !run(alloc, again, 42)?.is(READ, RECORD) {
+            return Ok(Some(call));
+        }
+    }
+    Ok(None)
+}
+
+#[test]
+fn interrupted_lines(rt: HostRuntime) -> Result<(), Fail> {
+    assert_eq!(rt; first_wrong_interruption(rt.alloc())?, None);
+    Ok(())
+}
+
+/// The first call of a writer of one byte a call at which this failure doesn't leave the bytes before it.
+fn first_wrong_write(alloc: Global, failure: Failure) -> Result<Option<usize>, Fail> {
+    for call in 1..=RECORD.len() {
+        if !run_into(alloc, call, failure)?.is(WRITE, &RECORD[..call - 1]) {
+            return Ok(Some(call));
+        }
+    }
+    Ok(None)
+}
+
+#[test]
+fn writer_fails_at_each_call(rt: HostRuntime) -> Result<(), Fail> {
+    assert_eq!(rt; first_wrong_write(rt.alloc(), Failure::Refuses)?, None);
+    Ok(())
+}
+
+#[test]
+fn writer_takes_nothing_at_each_call(rt: HostRuntime) -> Result<(), Fail> {
+    assert_eq!(rt; first_wrong_write(rt.alloc(), Failure::TakesNone)?, None);
+    Ok(())
+}
+
+/// What is written is handed on after each byte of the input, and at its end.
+fn first_wrong_flush(alloc: Global) -> Result<Option<usize>, Fail> {
+    for call in 1..=42 {
+        if !run_into(alloc, call, Failure::KeepsBack)?.is(WRITE, &RECORD[..answered(call)]) {
+            return Ok(Some(call));
+        }
+    }
+    Ok(None)
+}
+
+#[test]
+fn writer_keeps_back_at_each_call(rt: HostRuntime) -> Result<(), Fail> {
+    assert_eq!(rt; first_wrong_flush(rt.alloc())?, None);
+    Ok(())
+}

@@ -1,0 +1,103 @@
+//! Runs of a cleared set, from the bytes of an input to those of the record.
+use crate::documents::{A, CELL1};
+use crate::ends::{Failure, Narrow, OneByOne};
+use batch_cell::Cell;
+use batch_check::check;
+use batch_engine::Engine;
+use batch_reader::{read_cell, read_recipe};
+use batch_recipe::Recipe;
+use batch_serve::{SetFault, serve_set};
+use batch_verify::{Cleared, verify};
+use std::alloc::Global;
+use std::io::Read;
+use std::test::Fail;
+
+/// More calls of a reader than any of these runs makes, but where it says another number.
+pub(crate) const MANY_READS: u64 = 1_000;
+
+/// A batch from its making to its end.
+pub(crate) const INPUT: &[u8] = b"create A 1000\nstart 1\nreport R1 ADD done\n";
+
+/// Its record.
+pub(crate) const RECORD: &[u8] = b"created 1 A 1000
+ok start 1 running
+begin 1 0 A
+ask 1 0.0 R1
+grant 1 0.0 R1
+begin 1 0.0 MAKE
+begin 1 0.0.0 CHARGE
+start 1 0.0.0.0 R1 ADD
+ok report R1 ADD done 1 0.0.0.0 running
+end 1 0.0.0
+end 1 0.0
+release 1 0.0 R1
+end 1 0
+state 1 complete
+";
+
+/// How many bytes of the record answer the whole lines among the first bytes of the input.
+pub(crate) fn answered(read: usize) -> usize {
+    match read {
+        0..=13 => 0,
+        14..=21 => 17,
+        22..=40 => 137,
+        _ => RECORD.len(),
+    }
+}
+
+fn cell_of(alloc: Global, document: &str) -> Result<Cell, Fail> {
+    Ok(read_cell(alloc, document.as_bytes()).map_err(|_| "no cell")?)
+}
+
+fn recipe_of(alloc: Global, document: &str) -> Result<Recipe, Fail> {
+    Ok(read_recipe(alloc, document.as_bytes()).map_err(|_| "no recipe")?)
+}
+
+/// Recipe A, cleared for the demo cell.
+fn cleared(alloc: Global) -> Result<Cleared, Fail> {
+    let cell = cell_of(alloc, CELL1)?;
+    let mut recipes = Vec::new(alloc);
+    recipes.push(recipe_of(alloc, A)?)?;
+    let certificate = check(alloc, &cell, &recipes).map_err(|_| "no certificate")?;
+    Ok(verify(alloc, cell, recipes, &certificate).map_err(|_| "not cleared")?)
+}
+
+/// An engine in which nothing has happened.
+pub(crate) fn engine(alloc: Global) -> Result<Engine, Fail> {
+    Ok(Engine::new(alloc, cleared(alloc)?).map_err(|_| "no engine")?)
+}
+
+/// How a run ended, and its record.
+#[derive(Drop)]
+pub(crate) struct Run {
+    pub(crate) ending: Result<(), SetFault>,
+    pub(crate) record: Vec<u8>,
+}
+
+impl Run {
+    /// Whether it ended so, and its record has these bytes.
+    pub(crate) fn is(&self, ending: Result<(), SetFault>, record: &[u8]) -> bool {
+        self.ending == ending && self.record.as_slice() == record
+    }
+}
+
+/// Serves what the reader gives.
+pub(crate) fn run<R: Read + Drop>(alloc: Global, reader: R, max_reads: u64) -> Result<Run, Fail> {
+    let cleared = cleared(alloc)?;
+    let mut reader = reader;
+    let mut record = Vec::new(alloc);
+    let ending = serve_set(alloc, cleared, &mut reader, &mut record, max_reads);
+    Ok(Run { ending, record })
+}
+
+/// Serves the input, which comes byte by byte, to a writer that fails.
+pub(crate) fn run_into(alloc: Global, fails_at: usize, failure: Failure) -> Result<Run, Fail> {
+    let cleared = cleared(alloc)?;
+    let mut reader = OneByOne::of(INPUT);
+    let mut writer = Narrow::failing(alloc, fails_at, failure);
+    let ending = serve_set(alloc, cleared, &mut reader, &mut writer, MANY_READS);
+    Ok(Run {
+        ending,
+        record: writer.taken,
+    })
+}
