@@ -11,7 +11,7 @@ use Rattle.slab.proofs.SlabLemmas.{ContainsKey-within, Updates-with_value}
 use Rattle.batch_model.specs.Lists.{Each}
 use Rattle.batch_engine.specs.declared.batch.Batch.{Batch}
 use Rattle.batch_engine.specs.declared.batches.Entry.{Entry}
-use Rattle.batch_engine.specs.Batches.{AreOrdered, ComesBefore, HaveOwnNumbers, IsFiled, BatchList, batches_in, entry_number, own_number, list_of, with_batch, with_batch_at, without_batch}
+use Rattle.batch_engine.specs.Batches.{AreRising, ComesBefore, HaveOwnNumbers, IsFiled, BatchList, batches_in, entry_number, own_number, list_of, with_batch, with_batch_at, without_batch}
 
 -- Each
 
@@ -100,25 +100,25 @@ vacant-avoids slab key none [] h = tt
 vacant-avoids slab key none (e ∷ es) h =
     (λ same. let f : get slab e.key ≡ None = ap (get slab) same ∙ none in true≢false (sym (subst IsSome f h.0)), vacant-avoids slab key none es h.1)
 
--- Order
+-- Rising numbers
 
-order-push : (es : List Entry) (y : Entry) → AreOrdered es → Each (λ (e : Entry). ComesBefore e y) es → AreOrdered (es ++ y ∷ [])
-order-push [] y h k = (tt, tt)
-order-push (e ∷ es) y h k = (each-push (ComesBefore e) es y h.0 k.0, order-push es y h.1 k.1)
+rising-push : (es : List Entry) (y : Entry) → AreRising es → Each (λ (e : Entry). ComesBefore e y) es → AreRising (es ++ y ∷ [])
+rising-push [] y h k = (tt, tt)
+rising-push (e ∷ es) y h k = (each-push (ComesBefore e) es y h.0 k.0, rising-push es y h.1 k.1)
 
-order-remove : (es : List Entry) (i : ℕ) → AreOrdered es → AreOrdered (remove es i)
-order-remove [] zero h = tt
-order-remove [] (suc i) h = tt
-order-remove (e ∷ es) zero h = h.1
-order-remove (e ∷ es) (suc i) h = (each-remove (ComesBefore e) es i h.0, order-remove es i h.1)
+rising-remove : (es : List Entry) (i : ℕ) → AreRising es → AreRising (remove es i)
+rising-remove [] zero h = tt
+rising-remove [] (suc i) h = tt
+rising-remove (e ∷ es) zero h = h.1
+rising-remove (e ∷ es) (suc i) h = (each-remove (ComesBefore e) es i h.0, rising-remove es i h.1)
 
 -- the other entries have other keys
-others-avoid : (es : List Entry) (i : ℕ) (d : Entry) → AreOrdered es → i < length es → Avoids (get_or es i d).key (remove es i)
+others-avoid : (es : List Entry) (i : ℕ) (d : Entry) → AreRising es → i < length es → Avoids (get_or es i d).key (remove es i)
 others-avoid [] i d h l = absurd (omega arith)
 others-avoid (e ∷ es) zero d h l = each-both (ComesBefore e) (ComesBefore e) (λ (x : Entry). x.key ≢ e.key) (λ x b c same. b.key (sym same)) es h.0 h.0
 others-avoid (e ∷ es) (suc i) d h l = ((each-at (ComesBefore e) es i d h.0 (omega arith)).key, others-avoid es i d h.1 (omega arith))
 
-pub numbers-rise : (es : List Entry) (i j : ℕ) (d : Entry) → AreOrdered es → i < j → j < length es → (get_or es i d).number < (get_or es j d).number
+pub numbers-rise : (es : List Entry) (i j : ℕ) (d : Entry) → AreRising es → i < j → j < length es → (get_or es i d).number < (get_or es j d).number
 numbers-rise [] i j d h lt l = absurd (omega arith)
 numbers-rise (e ∷ es) i zero d h lt l = absurd (omega arith)
 numbers-rise (e ∷ es) zero (suc j) d h lt l = (each-at (ComesBefore e) es j d h.0 (omega arith)).number
@@ -126,14 +126,14 @@ numbers-rise (e ∷ es) (suc i) (suc j) d h lt l = numbers-rise es i j d h.1 (om
 
 -- Another batch under an entry's key
 
-pub batches-set : (slab : Slab Batch) (es : List Entry) (i : ℕ) (d : Entry) (w : Batch) → Occupied slab es → AreOrdered es → i < length es
+pub batches-set : (slab : Slab Batch) (es : List Entry) (i : ℕ) (d : Entry) (w : Batch) → Occupied slab es → AreRising es → i < length es
     → batches_in (with_value slab (get_or es i d).key w) es ≡ set (batches_in slab es) i w
 batches-set slab es i d w h o l =
     let key = (get_or es i d).key in
     let u : Updates slab (with_value slab key w) key (Some w) = Updates-with_value slab key w (occupied-at slab es i d h l) in
     go (with_value slab key w) key u.changed u.others es i h o l refl
   where
-    go : (new : Slab Batch) (key : ℕ) → get new key ≡ Some w → LeavesOthers slab new key → (xs : List Entry) (j : ℕ) → Occupied slab xs → AreOrdered xs → j < length xs → (get_or xs j d).key ≡ key
+    go : (new : Slab Batch) (key : ℕ) → get new key ≡ Some w → LeavesOthers slab new key → (xs : List Entry) (j : ℕ) → Occupied slab xs → AreRising xs → j < length xs → (get_or xs j d).key ≡ key
         → batches_in new xs ≡ set (batches_in slab xs) j w
     go new key is same [] j h o l at = absurd (omega arith)
     go new key is same (x ∷ xs) zero h o l at =
@@ -161,7 +161,7 @@ filed-set slab es i d w f l =
             | inl same ↦ subst IsSome (sym (ap (get (with_value slab key w)) same ∙ u.changed)) refl
             | inr other ↦ subst IsSome (sym (u.others e.key other)) h
           ]) es f.occupied f.occupied;
-      ordered = f.ordered;
+      rising = f.rising;
       count = omega (arith, counted, one, f.count);
     }
 
@@ -178,7 +178,7 @@ filed-push old new es y b f none u more above =
     let avoids : Avoids y.key es = vacant-avoids old y.key none es f.occupied in
     record {
       occupied = each-push (λ (e : Entry). ContainsKey new e.key) es y (stays-occupied old new y.key u.others es f.occupied avoids) (subst IsSome (sym u.changed) refl);
-      ordered = order-push es y f.ordered
+      rising = rising-push es y f.rising
           (each-both (λ (e : Entry). e.number < y.number) (λ (e : Entry). e.key ≢ y.key) (λ (e : Entry). ComesBefore e y) (λ e n k. record { number = n; key = k }) es
           (each-of-map (λ m. m < y.number) entry_number es above) avoids);
       count = omega (arith, more, f.count, length-append es (y ∷ []));
@@ -188,7 +188,7 @@ filed-push old new es y b f none u more above =
 
 pub batches-remove : (old new : Slab Batch) (es : List Entry) (i : ℕ) (d : Entry) → IsFiled old es → i < length es → LeavesOthers old new (get_or es i d).key
     → batches_in new (remove es i) ≡ remove (batches_in old es) i
-batches-remove old new es i d f l same = untouched old new (get_or es i d).key same (remove es i) (others-avoid es i d f.ordered l) ∙ go es i f.occupied
+batches-remove old new es i d f l same = untouched old new (get_or es i d).key same (remove es i) (others-avoid es i d f.rising l) ∙ go es i f.occupied
   where
     go : (xs : List Entry) (j : ℕ) → Occupied old xs → batches_in old (remove xs j) ≡ remove (batches_in old xs) j
     go [] zero h = refl
@@ -202,14 +202,14 @@ batches-remove old new es i d f l same = untouched old new (get_or es i d).key s
 pub filed-remove : (old new : Slab Batch) (es : List Entry) (i : ℕ) (d : Entry) → IsFiled old es → i < length es → LeavesOthers old new (get_or es i d).key → slab_len new + 1 ≡ slab_len old → IsFiled new (remove es i)
 filed-remove old new es i d f l same less =
     record {
-      occupied = stays-occupied old new (get_or es i d).key same (remove es i) (each-remove (λ (e : Entry). ContainsKey old e.key) es i f.occupied) (others-avoid es i d f.ordered l);
-      ordered = order-remove es i f.ordered;
+      occupied = stays-occupied old new (get_or es i d).key same (remove es i) (each-remove (λ (e : Entry). ContainsKey old e.key) es i f.occupied) (others-avoid es i d f.rising l);
+      rising = rising-remove es i f.rising;
       count = omega (arith, less, f.count, length-remove es i l);
     }
 
 -- room alone changes no batch
 pub filed-roomy : (slab : Slab Batch) (room : ℕ) (es : List Entry) → IsFiled slab es → IsFiled (record slab { capacity = room }) es
-filed-roomy slab room es f = record { occupied = f.occupied; ordered = f.ordered; count = f.count }
+filed-roomy slab room es f = record { occupied = f.occupied; rising = f.rising; count = f.count }
 
 -- Own numbers
 

@@ -11,7 +11,7 @@ use Rattle.std.proofs.lemmas.Cmp.{ranked}
 use Rattle.std.proofs.lemmas.List.{length-map}
 use Rattle.std.proofs.lemmas.List.Sorted.{IsNonDecreasingBy-from_default}
 use Rattle.batch_engine.specs.declared.batches.Entry.{Entry}
-use Rattle.batch_engine.specs.Batches.{AreOrdered, entry_number}
+use Rattle.batch_engine.specs.Batches.{AreRising, entry_number}
 use Rattle.batch_engine.proofs.Filing.{numbers-rise}
 
 differs : (m n : ℕ) → (m ≡ n → ⊥) → nat_eq m n ≡ false
@@ -52,11 +52,11 @@ none-found p xs d b =
 no_entry : Entry
 no_entry = record { number = 0; key = 0 }
 
-module _ (es : List Entry) (ordered : AreOrdered es) (n : ℕ) where
+module _ (es : List Entry) (rising : AreRising es) (n : ℕ) where
   comparisons-rise : IsNonDecreasingBy (λ (e : Entry). ordering_index (nat_cmp e.number n)) es
   comparisons-rise = IsNonDecreasingBy-from_default (λ (e : Entry). ordering_index (nat_cmp e.number n)) es no_entry (λ i j le in_range.
       let rise : (get_or es i no_entry).number ≤ (get_or es j no_entry).number =
-      grind (arith, numbers-rise es i j no_entry ordered, λ (same : i ≡ j). ap (λ k. (get_or es k no_entry).number) same) in
+      grind (arith, numbers-rise es i j no_entry rising, λ (same : i ≡ j). ap (λ k. (get_or es k no_entry).number) same) in
       grind (arith, nat_tests))
 
   pub searched : (r : Result ℕ ℕ) → IsSearchInRange r (length es) → IsBinarySearchResult (λ (e : Entry). nat_cmp e.number n) es r
@@ -65,7 +65,7 @@ module _ (es : List Entry) (ordered : AreOrdered es) (n : ℕ) where
       let here : (get_or es i no_entry).number ≡ n = ranked _ n _ (sym (equal no_entry)) in
       sym (position-map (λ m. nat_eq m n) entry_number es
       ∙ first-found (λ (e : Entry). nat_eq e.number n) es i no_entry within (grind (arith, here))
-      (λ k lt. differs _ n (λ same. omega (arith, numbers-rise es k i no_entry ordered lt within, here, same))))
+      (λ k lt. differs _ n (λ same. omega (arith, numbers-rise es k i no_entry rising lt within, here, same))))
   searched (Err i) within parted =
       sym (position-map (λ m. nat_eq m n) entry_number es
       ∙ none-found (λ (e : Entry). nat_eq e.number n) es no_entry (λ k lt. differs _ n (λ same. elim (cases_lt k i) [

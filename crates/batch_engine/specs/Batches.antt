@@ -47,17 +47,17 @@ batches_in slab entries = filter_map (λ (e : Entry). get slab e.key) entries
 abbrev pub list_of : Slab Batch → List Entry → BatchList
 list_of slab entries = record { numbers = map entry_number entries; batches = batches_in slab entries }
 
--- an entry stands before a later one
+-- the number of an entry is less than a later one's, and its key is another
 pub record ComesBefore (e later : Entry) : Type 0 where
   pub number : e.number < later.number
   pub key : e.key ≢ later.key
 
-abbrev pub AreOrdered : List Entry → Type 0
-AreOrdered [] = ⊤
-AreOrdered (e ∷ es) = Each (ComesBefore e) es × AreOrdered es
+abbrev pub AreRising : List Entry → Type 0
+AreRising [] = ⊤
+AreRising (e ∷ es) = Each (ComesBefore e) es × AreRising es
 
 -- each entry has a batch of its own under its key, and no batch is under another key
 pub record IsFiled (slab : Slab Batch) (entries : List Entry) : Type 0 where
   pub occupied : Each (λ (e : Entry). ContainsKey slab e.key) entries
-  pub ordered : AreOrdered entries
+  pub rising : AreRising entries
   pub count : slab_len slab ≡ length entries

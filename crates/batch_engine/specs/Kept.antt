@@ -18,7 +18,7 @@ use Rattle.batch_chart.specs.NodesOf.{needs_in}
 use Rattle.batch_chart.specs.Charts.{IsChartOf, IsRunningOf}
 use Rattle.batch_chart.specs.declared.compiled.Compiled.{Compiled}
 use Rattle.batch_engine.specs.declared.batch.Batch.{Batch}
-use Rattle.batch_engine.specs.Batches.{HaveOwnNumbers, BatchList}
+use Rattle.batch_engine.specs.Batches.{BatchList, HaveOwnNumbers}
 use Rattle.batch_engine.specs.Numbered.{AreRecipesNumbered}
 use Rattle.batch_engine.specs.View.{EngineView, documents, tree_at, acts_of, names_of, number_of, plant_of, tree_of}
 
@@ -73,7 +73,7 @@ pub record IsKept (v : EngineView) : Type 0 where
   pub once : (name : Name) (k : ℕ) → number_of v.cleared name ≡ Some k → IsOnce (acts_of v.cleared v.batches (line_of v.allocation k))
   pub room : HasRoom v
 
--- the fields of an engine: what is seen of them is kept, and the batches can be found by their numbers
-pub record IsSound (r : BatchList) (v : EngineView) : Type 0 where
+-- of the fields of an engine: what is seen of them is kept, and each batch can be found by its number
+pub record IsEngine (r : BatchList) (v : EngineView) : Type 0 where
   pub kept : IsKept v
   pub numbers : HaveOwnNumbers r

@@ -26,7 +26,7 @@ impl Model for Engine {
     ghost use Rattle.batch_verify.specs.contracts.cleared.Cleared as cleared_contracts;
     ghost use Rattle.batch_engine.specs.contracts.batch.Batch as batch_contracts;
     ghost use Rattle.batch_engine.specs.contracts.numbers.RecipeNumbers as numbers_contracts;
-    ghost use Rattle.batch_engine.specs.Kept.{IsSound};
+    ghost use Rattle.batch_engine.specs.Kept.{IsEngine};
     ghost use Rattle.batch_engine.specs.View.{EngineView, seen};
 
     ghost Value = { EngineView };
@@ -35,5 +35,5 @@ impl Model for Engine {
 
     ghost view = { λ e. seen e.cleared e.charts.items e.numbers.items e.batches.batches e.next_number e.arbiter };
 
-    ghost invariant = { λ e. IsSound e.batches (seen e.cleared e.charts.items e.numbers.items e.batches.batches e.next_number e.arbiter) };
+    ghost invariant = { λ e. IsEngine e.batches (seen e.cleared e.charts.items e.numbers.items e.batches.batches e.next_number e.arbiter) };
 }

@@ -11,6 +11,6 @@ returns c =
     let facts = c.binary_search_by_key.ensures in
     let by_number = facts.position (λ entry. entry.number) (answers_always _ _ _ (λ f a r g called. search rules)) in
     c.ok.ensures.value
-    ∙ searched c.self.inside.entries.items c.self.invariant.ordered c.args.number c.binary_search_by_key.result
+    ∙ searched c.self.inside.entries.items c.self.invariant.rising c.args.number c.binary_search_by_key.result
     (rw c.deref.ensures.value at facts.bound) (rw c.deref.ensures.value at by_number)
     ∙ ap (λ (r : BatchList). position (λ n. nat_eq n c.args.number) r.numbers) c.self.view_is

@@ -31,7 +31,7 @@ returns c =
         refl,
         λ w. ap (λ (e : Entry). list_of (with_value c.self.inside.slab e.key w) es) c.index-entry.ensures
             ∙ ap (λ bs. let r : BatchList = record { numbers = (list_of c.self.inside.slab es).numbers; batches = bs } in r)
-            (batches-set c.self.inside.slab es c.args.index c.index-entry.result.now w c.self.invariant.occupied c.self.invariant.ordered within)
+            (batches-set c.self.inside.slab es c.args.index c.index-entry.result.now w c.self.invariant.occupied c.self.invariant.rising within)
             ∙ ap (λ (r : BatchList). with_batch_at c.args.index r w) c.self.view_is,
       ),
       record {

@@ -17,7 +17,7 @@ use Rattle.batch_engine.proofs.Reacting.{with}
 use Rattle.batch_engine.proofs.Creating.{react-create, create-reacts, create-kept}
 use Rattle.batch_engine.specs.Names.{recipe_name}
 use Rattle.batch_engine.proofs.Telling.{recipe-named, some-at}
-use Rattle.batch_engine.specs.Batches.{HaveOwnNumbers, BatchList}
+use Rattle.batch_engine.specs.Batches.{BatchList, HaveOwnNumbers}
 use Rattle.batch_engine.proofs.Filing.{own-numbers-push}
 use Rattle.batch_engine.proofs.Seeking.{new-number}
 use Rattle.batch_engine.proofs.engine.Engine.add.Goals as goal

@@ -13,7 +13,7 @@ use Rattle.batch_engine.proofs.Finding.{got-batch}
 use Rattle.batch_engine.proofs.Seeking.{Found, found-at, none-found}
 use Rattle.batch_engine.proofs.Reacting.{with}
 use Rattle.batch_engine.proofs.Removing.{remove-unknown, remove-busy, remove-kept, remove-reacts}
-use Rattle.batch_engine.specs.Batches.{HaveOwnNumbers, BatchList}
+use Rattle.batch_engine.specs.Batches.{BatchList, HaveOwnNumbers}
 use Rattle.batch_engine.proofs.Filing.{own-numbers-remove}
 use Rattle.batch_engine.proofs.engine.Engine.remove.Goals as goal
 
