@@ -1,4 +1,4 @@
-//! Tests of serving, by public names alone: from the bytes of event lines to those of the record. Nothing stands on this crate.
+//! Tests of serving and of the program, by public names alone: from words and the bytes of event lines to those of the record. Nothing stands on this crate.
 #![tactic(auto)]
 
 #[cfg(test)]
@@ -9,6 +9,8 @@ mod ends;
 mod faults;
 #[cfg(test)]
 mod lines;
+#[cfg(test)]
+mod program;
 #[cfg(test)]
 mod runs;
 #[cfg(test)]

@@ -1,0 +1,182 @@
+//! Runs of the program, from its words, documents and input to its streams and its exit status.
+use crate::documents::{A, CELL1};
+use crate::ends::{Failure, Narrow, OneByOne};
+use crate::serving::{INPUT, RECORD};
+use batch_commands::{Documents, Halt};
+use batch_program::{run_program, serving_is_safe, serving_status};
+use batch_serve::{ServeFault, SetFault};
+use std::alloc::{AllocError, Global};
+use std::io::{ErrorKind, Read, Write};
+use std::test::Fail;
+
+/// The cell, two certificates and recipe A, each under its path.
+#[derive(Drop)]
+struct Shelf;
+
+impl Documents for Shelf {
+    ghost gives = { λ _ _ _. ⊤ };
+
+    fn read(&self, alloc: Global, path: &str, _limit: usize) -> Result<Vec<u8>, Halt> {
+        let text = match path {
+            "cell" => CELL1,
+            "ranks" => "rank HDR 1\nrank R1 1\nrank R2 1\nrank STEAM 1\n",
+            "short" => "rank HDR 1\nrank R1 1\nrank R2 1\n",
+            "a" => A,
+            _ => return Err(Halt::Unread(String::from_str(alloc, "nowhere\n")?)),
+        };
+        Ok(text.as_bytes().to_vec(alloc)?)
+    }
+}
+
+fn owned(alloc: Global, words: &[&str]) -> Result<Vec<String>, AllocError> {
+    let mut owned = Vec::new(alloc);
+    for word in words {
+        owned.push(String::from_str(alloc, word)?)?;
+    }
+    Ok(owned)
+}
+
+fn status_of<R: Read, W: Write>(
+    alloc: Global,
+    words: &[&str],
+    input: &mut R,
+    output: &mut W,
+    errors: &mut Vec<u8>,
+) -> Result<u8, AllocError> {
+    let words = owned(alloc, words)?;
+    Ok(run_program(alloc, &words, &Shelf, input, output, errors))
+}
+
+/// What a run wrote, and how it ended.
+#[derive(Drop)]
+struct Ran {
+    output: Vec<u8>,
+    errors: Vec<u8>,
+    status: u8,
+}
+
+impl Ran {
+    fn is(&self, output: &[u8], errors: &[u8], status: u8) -> bool {
+        self.output.as_slice() == output
+            && self.errors.as_slice() == errors
+            && self.status == status
+    }
+}
+
+/// Runs over a reader.
+fn run<R: Read + Drop>(alloc: Global, words: &[&str], input: R) -> Result<Ran, AllocError> {
+    let mut input = input;
+    let mut output = Vec::new(alloc);
+    let mut errors = Vec::new(alloc);
+    let status = status_of(alloc, words, &mut input, &mut output, &mut errors)?;
+    Ok(Ran {
+        output,
+        errors,
+        status,
+    })
+}
+
+/// Runs over the input, to a writer that fails.
+fn run_into(
+    alloc: Global,
+    words: &[&str],
+    fails_at: usize,
+    failure: Failure,
+) -> Result<Ran, AllocError> {
+    let mut input = INPUT;
+    let mut output = Narrow::failing(alloc, fails_at, failure);
+    let mut errors = Vec::new(alloc);
+    let status = status_of(alloc, words, &mut input, &mut output, &mut errors)?;
+    Ok(Ran {
+        output: output.taken,
+        errors,
+        status,
+    })
+}
+
+#[test]
+fn set_of_the_documents_is_served(rt: HostRuntime) -> Result<(), Fail> {
+    serving_is_safe(&Shelf);
+    let ran = run(rt.alloc(), &["run", "cell", "ranks", "a"], INPUT)?;
+    assert!(rt; ran.is(RECORD, b"", 0));
+    Ok(())
+}
+
+#[test]
+fn demo_is_served_without_words(rt: HostRuntime) -> Result<(), Fail> {
+    let ran = run(rt.alloc(), &[], INPUT)?;
+    assert!(rt; ran.is(RECORD, b"", 0));
+    Ok(())
+}
+
+#[test]
+fn set_without_recipes_is_served(rt: HostRuntime) -> Result<(), Fail> {
+    let ran = run(rt.alloc(), &["run", "cell", "ranks"], INPUT)?;
+    assert!(rt; ran.is(b"refused E1\nrefused E2\nrefused E4\n", b"", 0));
+    Ok(())
+}
+
+#[test]
+fn set_that_is_not_cleared_is_not_served(rt: HostRuntime) -> Result<(), Fail> {
+    let ran = run(rt.alloc(), &["run", "cell", "short", "a"], INPUT)?;
+    assert!(rt; ran.is(b"refused V1 STEAM\n", b"", 1));
+    Ok(())
+}
+
+#[test]
+fn missing_document_ends_the_run(rt: HostRuntime) -> Result<(), Fail> {
+    let ran = run(rt.alloc(), &["run", "cell", "ranks", "b"], INPUT)?;
+    assert!(rt; ran.is(b"", b"batchd: nowhere\n", 3));
+    Ok(())
+}
+
+#[test]
+fn failed_read_ends_the_run(rt: HostRuntime) -> Result<(), Fail> {
+    let reader = OneByOne::failing(INPUT, 15, ErrorKind::Other);
+    let ran = run(rt.alloc(), &[], reader)?;
+    assert!(rt;
+        ran.is(
+            b"created 1 A 1000\n",
+            b"batchd: standard input can't be read\n",
+            3
+        )
+    );
+    Ok(())
+}
+
+#[test]
+fn failed_write_ends_the_run(rt: HostRuntime) -> Result<(), Fail> {
+    let ran = run_into(rt.alloc(), &[], 5, Failure::Refuses)?;
+    assert!(rt; ran.is(b"crea", b"batchd: standard output can't be written\n", 3));
+    Ok(())
+}
+
+/// A verdict that can't be handed on ends as one that can't be written.
+#[test]
+fn verdict_is_handed_on(rt: HostRuntime) -> Result<(), Fail> {
+    let words = ["verify", "cell", "ranks", "a"];
+    let ran = run_into(rt.alloc(), &words, 1, Failure::KeepsBack)?;
+    assert!(rt;
+        ran.is(
+            b"accepted\n",
+            b"batchd: standard output can't be written\n",
+            3
+        )
+    );
+    Ok(())
+}
+
+#[test]
+fn statuses_of_serving(rt: HostRuntime) {
+    assert_eq!(rt; serving_status(Ok(())), 0);
+    assert_eq!(rt; serving_status(Err(SetFault::Memory)), 4);
+    assert_eq!(rt; serving_status(Err(SetFault::Stopped(ServeFault::Read))), 3);
+    assert_eq!(rt;
+        serving_status(Err(SetFault::Stopped(ServeFault::Write))),
+        3
+    );
+    assert_eq!(rt;
+        serving_status(Err(SetFault::Stopped(ServeFault::TooManyReads))),
+        3
+    );
+}
