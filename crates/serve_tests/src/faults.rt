@@ -7,7 +7,9 @@ use std::io::ErrorKind;
 use std::test::Fail;
 
 const READ: Result<(), SetFault> = Err(SetFault::Stopped(ServeFault::Read));
+
 const WRITE: Result<(), SetFault> = Err(SetFault::Stopped(ServeFault::Write));
+
 const TOO_MANY_READS: Result<(), SetFault> = Err(SetFault::Stopped(ServeFault::TooManyReads));
 
 /// Whether a run that asks its reader so often for one byte ends as too many reads, with this record.
