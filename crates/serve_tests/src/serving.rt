@@ -69,12 +69,12 @@ pub(crate) fn engine(alloc: Global) -> Result<Engine, Fail> {
 
 /// How a run ended, and its record.
 #[derive(Drop)]
-pub(crate) struct Run {
+pub(crate) struct Outcome {
     pub(crate) ending: Result<(), SetFault>,
     pub(crate) record: Vec<u8>,
 }
 
-impl Run {
+impl Outcome {
     /// Whether it ended so, and its record has these bytes.
     pub(crate) fn is(&self, ending: Result<(), SetFault>, record: &[u8]) -> bool {
         self.ending == ending && self.record.as_slice() == record
@@ -82,21 +82,25 @@ impl Run {
 }
 
 /// Serves what the reader gives.
-pub(crate) fn run<R: Read + Drop>(alloc: Global, reader: R, max_reads: u64) -> Result<Run, Fail> {
+pub(crate) fn run<R: Read + Drop>(
+    alloc: Global,
+    reader: R,
+    max_reads: u64,
+) -> Result<Outcome, Fail> {
     let cleared = cleared(alloc)?;
     let mut reader = reader;
     let mut record = Vec::new(alloc);
     let ending = serve_set(alloc, cleared, &mut reader, &mut record, max_reads);
-    Ok(Run { ending, record })
+    Ok(Outcome { ending, record })
 }
 
 /// Serves the input, which comes byte by byte, to a writer that fails.
-pub(crate) fn run_into(alloc: Global, fails_at: usize, failure: Failure) -> Result<Run, Fail> {
+pub(crate) fn run_into(alloc: Global, fails_at: usize, failure: Failure) -> Result<Outcome, Fail> {
     let cleared = cleared(alloc)?;
     let mut reader = OneByOne::of(INPUT);
     let mut writer = Narrow::failing(alloc, fails_at, failure);
     let ending = serve_set(alloc, cleared, &mut reader, &mut writer, MANY_READS);
-    Ok(Run {
+    Ok(Outcome {
         ending,
         record: writer.taken,
     })
