@@ -4,6 +4,7 @@ use batch_check::check;
 use batch_engine::{Engine, Event, Out};
 use batch_reader::{read_cell, read_recipe};
 use batch_recipe::Recipe;
+use batch_serve::serve;
 use batch_verify::{Cleared, verify};
 use batch_wire::{read_event, write_out};
 use std::alloc::Global;
@@ -11,6 +12,9 @@ use std::test::Fail;
 
 /// More moves than any event of these runs brings.
 const MAX_MOVES: usize = 100_000;
+
+/// More calls of a reader than a line of these runs takes.
+const MAX_READS: u64 = 10;
 
 fn cell_of(alloc: Global, document: &str) -> Result<Cell, Fail> {
     Ok(read_cell(alloc, document.as_bytes())?)
@@ -73,11 +77,11 @@ fn text_of(record: Vec<u8>) -> Result<String, Fail> {
     Ok(String::from_utf8(record)?)
 }
 
-/// The record of the event of the line, and of the moves that follow.
+/// What is served for the line: the record of its event, and of the moves that follow.
 pub(crate) fn record(alloc: Global, engine: &mut Engine, line: &str) -> Result<String, Fail> {
     let mut record = Vec::new(alloc);
-    take(alloc, engine, line, &mut record)?;
-    settle(engine, &mut record)?;
+    let mut bytes = line.as_bytes();
+    serve(alloc, engine, &mut bytes, &mut record, MAX_READS)?;
     text_of(record)
 }
 
