@@ -35,13 +35,23 @@ end 1 0
 state 1 complete
 ";
 
-/// How many bytes of the record answer the whole lines among the first bytes of the input.
-pub(crate) fn answered(read: usize) -> usize {
+/// The beginning of the record that answers the whole lines among the first bytes of the input.
+pub(crate) fn answered(read: usize) -> &'static [u8] {
     match read {
-        0..=13 => 0,
-        14..=21 => 17,
-        22..=40 => 137,
-        _ => RECORD.len(),
+        0..=13 => b"",
+        14..=21 => b"created 1 A 1000\n",
+        22..=40 => {
+            b"created 1 A 1000
+ok start 1 running
+begin 1 0 A
+ask 1 0.0 R1
+grant 1 0.0 R1
+begin 1 0.0 MAKE
+begin 1 0.0.0 CHARGE
+start 1 0.0.0.0 R1 ADD
+"
+        }
+        _ => RECORD,
     }
 }
 
