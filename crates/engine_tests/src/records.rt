@@ -12,7 +12,7 @@ use std::test::Fail;
 /// More moves than any event of these runs brings.
 const MAX_MOVES: usize = 100_000;
 
-fn cell_of(alloc: Global, document: &str) -> Result<Cell, Fail> {
+pub(crate) fn cell_of(alloc: Global, document: &str) -> Result<Cell, Fail> {
     Ok(read_cell(alloc, document.as_bytes())?)
 }
 
