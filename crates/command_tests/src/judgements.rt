@@ -65,18 +65,12 @@ fn wants_one_rank_for_each_resource(rt: HostRuntime) -> Result<(), Fail> {
     for (ranks, want) in [
         ("rank R1 1\n", "Unranked(1) 2 0"),
         ("", "Unranked(0) 2 0"),
-        (
-            "rank R1 1\nrank R1 1\nrank STEAM 1\n",
-            "RankedTwice(1) 2 0",
-        ),
+        ("rank R1 1\nrank R1 1\nrank STEAM 1\n", "RankedTwice(1) 2 0"),
         (
             "rank R1 1\nrank STEAM 1\nrank ZED 1\n",
             "UnknownEntry(2) 2 0",
         ),
-        (
-            "rank AA 1\nrank R1 1\nrank R1 2\n",
-            "RankedTwice(2) 2 0",
-        ),
+        ("rank AA 1\nrank R1 1\nrank R1 2\n", "RankedTwice(2) 2 0"),
     ] {
         assert_eq!(rt; said(alloc, ranks, Vec::new(alloc))?.as_str(), want);
     }

@@ -52,7 +52,12 @@ pub(crate) fn judged(
 }
 
 /// What `verify` prints.
-pub(crate) fn verified(alloc: Global, cell: &str, ranks: &str, texts: &[&str]) -> Result<String, Fail> {
+pub(crate) fn verified(
+    alloc: Global,
+    cell: &str,
+    ranks: &str,
+    texts: &[&str],
+) -> Result<String, Fail> {
     let cell = cell_of(alloc, cell)?;
     let certificate = match certificate_of(alloc, ranks) {
         Err(Halt::Refused(verdict)) => return Ok(verdict.text),

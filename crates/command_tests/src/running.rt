@@ -49,10 +49,7 @@ fn verdicts_are_output(rt: HostRuntime) -> Result<(), Fail> {
             &["verify", "cell", "ranks", "n"],
             "Some(1) refused V4 N 0.0.0.0\n|",
         ),
-        (
-            &["check", "cell", "a", "bad"],
-            "Some(1) refused D1 bad\n|",
-        ),
+        (&["check", "cell", "a", "bad"], "Some(1) refused D1 bad\n|"),
         (&["verify", "cell", "bad", "a"], "Some(1) refused K1 1\n|"),
         (&["verify", "bad", "ranks"], "Some(1) refused D1 bad\n|"),
     ];
@@ -63,12 +60,7 @@ fn verdicts_are_output(rt: HostRuntime) -> Result<(), Fail> {
 }
 
 /// Whether what is told begins with the one text, and has the other in it.
-fn begins_and_names(
-    alloc: Global,
-    words: &[&str],
-    front: &str,
-    part: &str,
-) -> Result<bool, Fail> {
+fn begins_and_names(alloc: Global, words: &[&str], front: &str, part: &str) -> Result<bool, Fail> {
     let told = told(alloc, words)?;
     Ok(told.starts_with(front) && told.contains(part))
 }
@@ -91,7 +83,10 @@ fn faults_are_errors(rt: HostRuntime) -> Result<(), Fail> {
         (&["plant"], "Some(2) |", "plant"),
     ];
     for (words, front, part) in rows {
-        assert!(rt; begins_and_names(rt.alloc(), words, front, part)?, "{words:?}");
+        assert!(rt;
+            begins_and_names(rt.alloc(), words, front, part)?,
+            "{words:?}"
+        );
     }
     Ok(())
 }
