@@ -1,11 +1,10 @@
 //! Certificates and their faults.
 use batch_verify::{CertFault, MAX_LINES, a_text_says_one_ranking, read_certificate};
-use std::alloc::Global;
+use std::alloc::{AllocError, Global};
 use std::test::Fail;
 
 #[test]
 fn reads_certificates(rt: HostRuntime) -> Result<(), Fail> {
-    a_text_says_one_ranking();
     let cases: [(&[u8], &str); 6] = [
         (b"", "[]"),
         (
@@ -59,18 +58,41 @@ fn refuses_at_the_first_fault(rt: HostRuntime) {
     }
 }
 
+/// How many lines a text has of so many rank lines and a tail, or its fault.
+fn counted(
+    alloc: Global,
+    count: usize,
+    tail: &[u8],
+) -> Result<Result<usize, CertFault>, AllocError> {
+    let mut text = lines(alloc, count)?;
+    text.extend_from_slice(tail)?;
+    Ok(match read_certificate(alloc, &text) {
+        Ok(certificate) => Ok(certificate.ranks.len()),
+        Err(fault) => Err(fault),
+    })
+}
+
 #[test]
 fn counts_lines(rt: HostRuntime) -> Result<(), Fail> {
     let alloc = rt.alloc();
-    let mut text = lines(alloc, MAX_LINES - 1)?;
-    text.extend_from_slice(b"rank B 2\n")?;
-    assert_eq!(rt; read_certificate(alloc, &text)?.ranks.len(), MAX_LINES);
-    text.extend_from_slice(b"\n")?;
-    assert!(rt; read_certificate(alloc, &text).err() == Some(CertFault::TooManyLines));
-    let mut text = lines(alloc, MAX_LINES - 1)?;
-    text.extend_from_slice(b"rank\nrank A 1\n")?;
-    assert!(rt; read_certificate(alloc, &text).err() == Some(CertFault::NotARank(MAX_LINES)));
+    let before = MAX_LINES - 1;
+    for (count, tail, want) in [
+        (before, b"rank B 2\n".as_slice(), Ok(MAX_LINES)),
+        (MAX_LINES, b"\n".as_slice(), Err(CertFault::TooManyLines)),
+        (
+            before,
+            b"rank\nrank A 1\n".as_slice(),
+            Err(CertFault::NotARank(MAX_LINES)),
+        ),
+    ] {
+        assert!(rt; counted(alloc, count, tail)? == want, "{tail:?}");
+    }
     Ok(())
+}
+
+#[test]
+fn one_ranking_a_text() {
+    a_text_says_one_ranking();
 }
 
 /// What the text's lines say.
@@ -80,7 +102,7 @@ fn ranks_text(alloc: Global, text: &[u8]) -> Result<String, Fail> {
 }
 
 /// So many rank lines.
-fn lines(alloc: Global, count: usize) -> Result<Vec<u8>, Fail> {
+fn lines(alloc: Global, count: usize) -> Result<Vec<u8>, AllocError> {
     let mut text = Vec::new(alloc);
     for _ in 0..count {
         text.extend_from_slice(b"rank A 1\n")?;

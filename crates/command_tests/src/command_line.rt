@@ -48,37 +48,35 @@ fn summary(rt: &(impl Abort + AllocGlobal), words: &[&str]) -> String {
 
 #[test]
 fn commands(rt: HostRuntime) {
-    assert_eq!(rt; summary(&rt, &[]).as_str(), "serve");
-    assert_eq!(rt;
-        summary(&rt, &["check", "c", "r", "s"]).as_str(),
-        "check c [\"r\", \"s\"]"
-    );
-    assert_eq!(rt; summary(&rt, &["check", "c"]).as_str(), "check c []");
-    assert_eq!(rt;
-        summary(&rt, &["verify", "c", "k", "r"]).as_str(),
-        "verify c k [\"r\"]"
-    );
-    assert_eq!(rt;
-        summary(&rt, &["verify", "c", "k"]).as_str(),
-        "verify c k []"
-    );
-    assert_eq!(rt;
-        summary(&rt, &["run", "c", "k", "r"]).as_str(),
-        "run c k [\"r\"]"
-    );
+    let rows: [(&[&str], &str); 6] = [
+        (&[], "serve"),
+        (&["check", "c", "r", "s"], "check c [\"r\", \"s\"]"),
+        (&["check", "c"], "check c []"),
+        (&["verify", "c", "k", "r"], "verify c k [\"r\"]"),
+        (&["verify", "c", "k"], "verify c k []"),
+        (&["run", "c", "k", "r"], "run c k [\"r\"]"),
+    ];
+    for (words, want) in rows {
+        assert_eq!(rt; summary(&rt, words).as_str(), want);
+    }
 }
 
 #[test]
 fn faults_of_usage(rt: HostRuntime) {
-    assert_eq!(rt; summary(&rt, &["serve", "c", "k"]).as_str(), "usage");
-    assert_eq!(rt; summary(&rt, &["run", "c"]).as_str(), "usage");
-    assert_eq!(rt; summary(&rt, &["plant"]).as_str(), "usage");
-    assert_eq!(rt; summary(&rt, &["help"]).as_str(), "usage");
-    assert_eq!(rt; summary(&rt, &[""]).as_str(), "usage");
-    assert_eq!(rt; summary(&rt, &["check"]).as_str(), "usage");
-    assert_eq!(rt; summary(&rt, &["verify", "c"]).as_str(), "usage");
-    assert_eq!(rt; summary(&rt, &["check", "c", "--fast"]).as_str(), "usage");
-    assert_eq!(rt; summary(&rt, &["--fast"]).as_str(), "usage");
+    let rows: [&[&str]; 9] = [
+        &["serve", "c", "k"],
+        &["run", "c"],
+        &["plant"],
+        &["help"],
+        &[""],
+        &["check"],
+        &["verify", "c"],
+        &["check", "c", "--fast"],
+        &["--fast"],
+    ];
+    for words in rows {
+        assert_eq!(rt; summary(&rt, words).as_str(), "usage", "{words:?}");
+    }
 }
 
 #[test]

@@ -7,13 +7,21 @@ use std::test::Fail;
 
 const RANKS: &str = "rank HDR 2\nrank R1 1\nrank R2 1\nrank STEAM 1\n";
 
-fn checked(alloc: Global, recipes: &[&str]) -> Result<Verdict, Fail> {
-    let shelf = Shelf(&[("cell", CELL1), ("twice", N), ("bad", "=")]);
-    let recipes = owned(alloc, recipes)?;
-    Ok(ended(check_documents(alloc, &shelf, "cell", &recipes))?)
+/// The verdict's text, and then the exit status.
+fn told(alloc: Global, verdict: Verdict) -> Result<String, Fail> {
+    Ok(format!(in alloc; "{}{}", verdict.text, verdict.ending.status())?)
 }
 
-fn verified(alloc: Global, certificate: &str, recipes: &[&str]) -> Result<Verdict, Fail> {
+fn checked(alloc: Global, recipes: &[&str]) -> Result<String, Fail> {
+    let shelf = Shelf(&[("cell", CELL1), ("twice", N), ("bad", "=")]);
+    let recipes = owned(alloc, recipes)?;
+    told(
+        alloc,
+        ended(check_documents(alloc, &shelf, "cell", &recipes))?,
+    )
+}
+
+fn verified(alloc: Global, certificate: &str, recipes: &[&str]) -> Result<String, Fail> {
     let shelf = Shelf(&[
         ("cell", CELL1),
         ("ranks", RANKS),
@@ -22,52 +30,63 @@ fn verified(alloc: Global, certificate: &str, recipes: &[&str]) -> Result<Verdic
         ("bad", "="),
     ]);
     let recipes = owned(alloc, recipes)?;
-    Ok(ended(verify_documents(alloc, &shelf, "cell", certificate, &recipes))?)
+    told(
+        alloc,
+        ended(verify_documents(alloc, &shelf, "cell", certificate, &recipes))?,
+    )
+}
+
+/// The first path that `check` doesn't find.
+fn not_found(alloc: Global, recipes: &[&str]) -> Result<String, Fail> {
+    let shelf = Shelf(&[("cell", CELL1), ("bad", "=")]);
+    let recipes = owned(alloc, recipes)?;
+    match check_documents(alloc, &shelf, "cell", &recipes) {
+        Err(Halt::Unread(path)) => Ok(path),
+        _ => Err("no file fault")?,
+    }
 }
 
 #[test]
 fn check(rt: HostRuntime) -> Result<(), Fail> {
-    let verdict = checked(rt.alloc(), &[])?;
     assert_eq!(rt;
-        verdict.text.as_str(),
-        "rank HDR 1\nrank R1 1\nrank R2 1\nrank STEAM 1\n"
+        checked(rt.alloc(), &[])?.as_str(),
+        "rank HDR 1\nrank R1 1\nrank R2 1\nrank STEAM 1\n0"
     );
-    assert_eq!(rt; verdict.ending.status(), 0);
-    let verdict = checked(rt.alloc(), &["twice"])?;
     assert_eq!(rt;
-        verdict.text.as_str(),
-        "refused C1\nedge N 0.0.0.0 HDR HDR\n"
+        checked(rt.alloc(), &["twice"])?.as_str(),
+        "refused C1\nedge N 0.0.0.0 HDR HDR\n1"
     );
-    assert_eq!(rt; verdict.ending.status(), 1);
-    let verdict = checked(rt.alloc(), &["twice", "twice"])?;
-    assert_eq!(rt; verdict.text.as_str(), "refused V10\n");
+    assert_eq!(rt;
+        checked(rt.alloc(), &["twice", "twice"])?.as_str(),
+        "refused V10\n1"
+    );
     Ok(())
 }
 
 #[test]
 fn verify(rt: HostRuntime) -> Result<(), Fail> {
-    let verdict = verified(rt.alloc(), "ranks", &[])?;
-    assert_eq!(rt; verdict.text.as_str(), "accepted\n");
-    assert_eq!(rt; verdict.ending.status(), 0);
-    let verdict = verified(rt.alloc(), "ranks", &["twice"])?;
-    assert_eq!(rt; verdict.text.as_str(), "refused V4 N 0.0.0.0\n");
-    assert_eq!(rt; verdict.ending.status(), 1);
+    assert_eq!(rt; verified(rt.alloc(), "ranks", &[])?.as_str(), "accepted\n0");
+    assert_eq!(rt;
+        verified(rt.alloc(), "ranks", &["twice"])?.as_str(),
+        "refused V4 N 0.0.0.0\n1"
+    );
     Ok(())
 }
 
 #[test]
 fn first_fault_ends(rt: HostRuntime) -> Result<(), Fail> {
-    let verdict = checked(rt.alloc(), &["bad", "nowhere"])?;
-    assert_eq!(rt; verdict.text.as_str(), "refused D1 bad\n");
-    assert_eq!(rt; verdict.ending.status(), 1);
-    let verdict = verified(rt.alloc(), "zero", &["bad"])?;
-    assert_eq!(rt; verdict.text.as_str(), "refused K1 1\n");
-    let shelf = Shelf(&[("cell", CELL1), ("bad", "=")]);
-    let recipes = owned(rt.alloc(), &["nowhere", "bad"])?;
-    let Err(Halt::Unread(path)) = check_documents(rt.alloc(), &shelf, "cell", &recipes) else {
-        panic!(rt; "no file fault");
-    };
-    assert_eq!(rt; path.as_str(), "nowhere");
+    assert_eq!(rt;
+        checked(rt.alloc(), &["bad", "nowhere"])?.as_str(),
+        "refused D1 bad\n1"
+    );
+    assert_eq!(rt;
+        verified(rt.alloc(), "zero", &["bad"])?.as_str(),
+        "refused K1 1\n1"
+    );
+    assert_eq!(rt;
+        not_found(rt.alloc(), &["nowhere", "bad"])?.as_str(),
+        "nowhere"
+    );
     Ok(())
 }
 

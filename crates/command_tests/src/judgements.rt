@@ -2,9 +2,7 @@
 use crate::reading::{cell_of, recipe_of};
 use batch_recipe::Recipe;
 use batch_text::Place;
-use batch_verify::{
-    Broken, Cleared, Refusal, Rejected, Rule, is_recipe_set, read_certificate, verify,
-};
+use batch_verify::{Cleared, is_recipe_set, read_certificate, verify};
 use std::alloc::Global;
 use std::test::Fail;
 
@@ -34,42 +32,89 @@ fn recipe(alloc: Global, name: &str, chart: &str, unit: &str) -> Result<Recipe, 
     recipe_of(alloc, text.as_str())
 }
 
-/// What is said of the recipes by these ranks.
-fn judged(
-    alloc: Global,
-    ranks: &str,
-    recipes: Vec<Recipe>,
-) -> Result<Result<Cleared, Rejected>, Fail> {
+/// What is said of the recipes by these ranks, and how many resources and recipes are kept or come back.
+fn said(alloc: Global, ranks: &str, recipes: Vec<Recipe>) -> Result<String, Fail> {
+    let cell = cell_of(alloc, CELL)?;
     let certificate = read_certificate(alloc, ranks.as_bytes())?;
-    Ok(verify(alloc, cell_of(alloc, CELL)?, recipes, &certificate))
+    Ok(match verify(alloc, cell, recipes, &certificate) {
+        Ok(cleared) => tell(
+            alloc,
+            "cleared",
+            cleared.cell().resources(),
+            cleared.recipes().len(),
+        )?,
+        Err(rejected) => {
+            let fault = format!(in alloc; "{:?}", rejected.fault)?;
+            tell(
+                alloc,
+                fault.as_str(),
+                rejected.cell.resources(),
+                rejected.recipes.len(),
+            )?
+        }
+    })
 }
 
-fn cleared(alloc: Global, recipes: Vec<Recipe>) -> Result<Cleared, Fail> {
-    Ok(judged(alloc, RANKS, recipes)?.ok().ok_or("rejected")?)
-}
-
-fn rejected(alloc: Global, ranks: &str, recipes: Vec<Recipe>) -> Result<Rejected, Fail> {
-    Ok(judged(alloc, ranks, recipes)?.err().ok_or("cleared")?)
+fn tell(alloc: Global, verdict: &str, resources: u16, recipes: usize) -> Result<String, Fail> {
+    Ok(format!(in alloc; "{verdict} {resources} {recipes}")?)
 }
 
 #[test]
 fn wants_one_rank_for_each_resource(rt: HostRuntime) -> Result<(), Fail> {
     let alloc = rt.alloc();
-    for (ranks, fault) in [
-        ("rank R1 1\n", Refusal::Unranked(1)),
-        ("", Refusal::Unranked(0)),
-        (
-            "rank R1 1\nrank R1 1\nrank STEAM 1\n",
-            Refusal::RankedTwice(1),
-        ),
+    for (ranks, want) in [
+        ("rank R1 1\n", "Unranked(1) 2 0"),
+        ("", "Unranked(0) 2 0"),
+        ("rank R1 1\nrank R1 1\nrank STEAM 1\n", "RankedTwice(1) 2 0"),
         (
             "rank R1 1\nrank STEAM 1\nrank ZED 1\n",
-            Refusal::UnknownEntry(2),
+            "UnknownEntry(2) 2 0",
         ),
-        ("rank AA 1\nrank R1 1\nrank R1 2\n", Refusal::RankedTwice(2)),
+        ("rank AA 1\nrank R1 1\nrank R1 2\n", "RankedTwice(2) 2 0"),
     ] {
-        let rejected = rejected(alloc, ranks, Vec::new(alloc))?;
-        assert!(rt; rejected.fault == fault, "{ranks}");
+        assert_eq!(rt; said(alloc, ranks, Vec::new(alloc))?.as_str(), want);
+    }
+    Ok(())
+}
+
+/// Recipe P, which is idle on R1, and one of this name, chart and unit.
+fn beside_p(alloc: Global, name: &str, chart: &str, unit: &str) -> Result<Vec<Recipe>, Fail> {
+    let mut recipes = Vec::new(alloc);
+    recipes.push(idle(alloc, "P", "R1")?)?;
+    recipes.push(recipe(alloc, name, chart, unit)?)?;
+    Ok(recipes)
+}
+
+/// Whether recipe P and one of this name are a set.
+fn is_set(alloc: Global, name: &str) -> Result<bool, Fail> {
+    let recipes = beside_p(alloc, name, "U", "R1")?;
+    Ok(is_recipe_set(&recipes))
+}
+
+#[test]
+fn recipes_of_a_set_have_names_of_their_own(rt: HostRuntime) -> Result<(), Fail> {
+    assert!(rt; is_set(rt.alloc(), "Q")?);
+    assert!(rt; !is_set(rt.alloc(), "P")?);
+    Ok(())
+}
+
+/// What is said of recipe P and this one.
+fn said_beside_p(alloc: Global, name: &str, unit: &str) -> Result<String, Fail> {
+    said(alloc, RANKS, beside_p(alloc, name, "U", unit)?)
+}
+
+#[test]
+fn gives_refused_recipes_back(rt: HostRuntime) -> Result<(), Fail> {
+    for (name, unit, want) in [
+        ("Q", "R1", "cleared 2 2"),
+        ("P", "R1", "Recipes 2 2"),
+        (
+            "Q",
+            "STEAM",
+            "Recipe { recipe: 1, broken: Broken { node: 1, rule: UnknownResource } } 2 2",
+        ),
+    ] {
+        assert_eq!(rt; said_beside_p(rt.alloc(), name, unit)?.as_str(), want);
     }
     Ok(())
 }
@@ -88,40 +133,35 @@ fn node_of(
     Ok(cleared.node_of(recipe, &place))
 }
 
-#[test]
-fn clears_recipes(rt: HostRuntime) -> Result<(), Fail> {
-    let alloc = rt.alloc();
-    let recipes = vec![in alloc; idle(alloc, "P", "R1")?, recipe(alloc, "Q", "skip", "R1")?]?;
-    assert!(rt; is_recipe_set(&recipes));
-    let cleared = cleared(alloc, recipes)?;
-    assert_eq!(rt; cleared.cell().resources(), 2);
-    assert_eq!(rt; cleared.recipes().len(), 2);
-    for (place, first, second) in [
-        ("0.0", Some(1), Some(1)),
-        ("0.0.0", Some(2), None),
-        ("0.1", None, None),
-    ] {
-        assert_eq!(rt; node_of(alloc, &cleared, 0, place)?, first, "{place}");
-        assert_eq!(rt; node_of(alloc, &cleared, 1, place)?, second, "{place}");
+/// The numbers of the nodes at the place in the cleared recipe P, and in Q whose chart is empty.
+fn nodes_at(alloc: Global, place: &str) -> Result<(Option<u16>, Option<u16>), Fail> {
+    let recipes = beside_p(alloc, "Q", "skip", "R1")?;
+    let certificate = read_certificate(alloc, RANKS.as_bytes())?;
+    match verify(alloc, cell_of(alloc, CELL)?, recipes, &certificate) {
+        Ok(cleared) => nodes_of_both(alloc, &cleared, place),
+        Err(_rejected) => Err("rejected")?,
     }
-    Ok(())
+}
+
+fn nodes_of_both(
+    alloc: Global,
+    cleared: &Cleared,
+    place: &str,
+) -> Result<(Option<u16>, Option<u16>), Fail> {
+    let first = node_of(alloc, cleared, 0, place)?;
+    let second = node_of(alloc, cleared, 1, place)?;
+    Ok((first, second))
 }
 
 #[test]
-fn gives_refused_recipes_back(rt: HostRuntime) -> Result<(), Fail> {
-    let alloc = rt.alloc();
-    let twice = vec![in alloc; idle(alloc, "P", "R1")?, idle(alloc, "P", "R1")?]?;
-    assert!(rt; !is_recipe_set(&twice));
-    assert!(rt; rejected(alloc, RANKS, twice)?.fault == Refusal::Recipes);
-    let no_unit = vec![in alloc; idle(alloc, "P", "R1")?, idle(alloc, "Q", "STEAM")?]?;
-    let rejected = rejected(alloc, RANKS, no_unit)?;
-    let broken = Broken {
-        node: 1,
-        rule: Rule::UnknownResource,
-    };
-    assert!(rt; rejected.fault == Refusal::Recipe { recipe: 1, broken });
-    assert_eq!(rt; rejected.cell.resources(), 2);
-    assert_eq!(rt; rejected.recipes.len(), 2);
+fn clears_recipes(rt: HostRuntime) -> Result<(), Fail> {
+    for (place, want) in [
+        ("0.0", (Some(1), Some(1))),
+        ("0.0.0", (Some(2), None)),
+        ("0.1", (None, None)),
+    ] {
+        assert_eq!(rt; nodes_at(rt.alloc(), place)?, want, "{place}");
+    }
     Ok(())
 }
 
@@ -135,13 +175,15 @@ fn named_apart(alloc: Global, count: u16) -> Result<Vec<Recipe>, Fail> {
     Ok(recipes)
 }
 
+/// What is said of so many recipes.
+fn said_of_many(alloc: Global, count: u16) -> Result<String, Fail> {
+    said(alloc, RANKS, named_apart(alloc, count)?)
+}
+
 #[test]
 fn takes_as_many_recipes_as_may_be(rt: HostRuntime) -> Result<(), Fail> {
     let alloc = rt.alloc();
-    let cleared = cleared(alloc, named_apart(alloc, 256)?)?;
-    assert_eq!(rt; cleared.recipes().len(), 256);
-    let rejected = rejected(alloc, RANKS, named_apart(alloc, 257)?)?;
-    assert!(rt; rejected.fault == Refusal::Recipes);
-    assert_eq!(rt; rejected.recipes.len(), 257);
+    assert_eq!(rt; said_of_many(alloc, 256)?.as_str(), "cleared 2 256");
+    assert_eq!(rt; said_of_many(alloc, 257)?.as_str(), "Recipes 2 257");
     Ok(())
 }

@@ -70,13 +70,16 @@ fn ranked(alloc: Global, pairs: &[Pair]) -> Result<String, Fail> {
     checked(alloc, CELL, &[recipe.as_str()])
 }
 
+/// The ranks that `check` finds for no recipes.
+fn found(alloc: Global, cell: &str) -> Result<String, Fail> {
+    let certificate = check(alloc, &cell_of(alloc, cell)?, &[])?;
+    Ok(format!(in alloc; "{:?}", certificate.ranks)?)
+}
+
 #[test]
 fn without_recipes_all_ranks_are_one(rt: HostRuntime) -> Result<(), Fail> {
-    let alloc = rt.alloc();
-    let cell = cell_of(alloc, "cell = \"C\"\n[[unit]]\nname = \"R1\"\n")?;
-    let certificate = check(alloc, &cell, &[])?;
-    let told = format!(in alloc; "{:?}", certificate.ranks)?;
-    assert_eq!(rt; told.as_str(), "[(\"R1\", 1)]");
+    let cell = "cell = \"C\"\n[[unit]]\nname = \"R1\"\n";
+    assert_eq!(rt; found(rt.alloc(), cell)?.as_str(), "[(\"R1\", 1)]");
     Ok(())
 }
 

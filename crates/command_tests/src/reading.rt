@@ -35,8 +35,29 @@ pub(crate) fn checked(alloc: Global, cell: &str, texts: &[&str]) -> Result<Strin
     Ok(check_recipes(alloc, &cell, &recipes)?.text)
 }
 
+/// What `check` and `verify` both print.
+pub(crate) fn judged(
+    alloc: Global,
+    cell: &str,
+    ranks: &str,
+    texts: &[&str],
+) -> Result<String, Fail> {
+    let by_check = checked(alloc, cell, texts)?;
+    let by_verify = verified(alloc, cell, ranks, texts)?;
+    if by_check.as_str() == by_verify.as_str() {
+        Ok(by_check)
+    } else {
+        Err("two verdicts")?
+    }
+}
+
 /// What `verify` prints.
-pub(crate) fn verified(alloc: Global, cell: &str, ranks: &str, texts: &[&str]) -> Result<String, Fail> {
+pub(crate) fn verified(
+    alloc: Global,
+    cell: &str,
+    ranks: &str,
+    texts: &[&str],
+) -> Result<String, Fail> {
     let cell = cell_of(alloc, cell)?;
     let certificate = match certificate_of(alloc, ranks) {
         Err(Halt::Refused(verdict)) => return Ok(verdict.text),

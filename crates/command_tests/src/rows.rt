@@ -2,8 +2,9 @@
 use crate::documents::{
     A, A_MIXING, A_ON_HEADER, CELL1, CELL2, G, H, J, L_SKIPPING, N, P, Q, T_SAME_PHASE, W_TWICE,
 };
-use crate::reading::{cell_of, checked, recipe_of, verified};
+use crate::reading::{cell_of, checked, judged, recipe_of, verified};
 use batch_verify::{Broken, Rule, first_broken};
+use std::alloc::Global;
 use std::test::Fail;
 
 /// All resources of the cell at rank 1.
@@ -20,16 +21,23 @@ fn least_certificates(rt: HostRuntime) -> Result<(), Fail> {
     Ok(())
 }
 
+/// What `verify` prints of the certificate that `check` finds.
+fn found_and_verified(alloc: Global, cell: &str, texts: &[&str]) -> Result<String, Fail> {
+    let ranks = checked(alloc, cell, texts)?;
+    verified(alloc, cell, ranks.as_str(), texts)
+}
+
 #[test]
 fn certificates_are_accepted(rt: HostRuntime) -> Result<(), Fail> {
     let alloc = rt.alloc();
-    for (cell, texts) in [(CELL1, [A].as_slice()), (CELL2, [P, Q].as_slice())] {
-        let ranks = checked(alloc, cell, texts)?;
-        assert_eq!(rt;
-            verified(alloc, cell, ranks.as_str(), texts)?.as_str(),
-            "accepted\n"
-        );
-    }
+    assert_eq!(rt;
+        found_and_verified(alloc, CELL1, &[A])?.as_str(),
+        "accepted\n"
+    );
+    assert_eq!(rt;
+        found_and_verified(alloc, CELL2, &[P, Q])?.as_str(),
+        "accepted\n"
+    );
     Ok(())
 }
 
@@ -82,22 +90,16 @@ fn else_branch_has_the_circle(rt: HostRuntime) -> Result<(), Fail> {
 
 #[test]
 fn broken_rules(rt: HostRuntime) -> Result<(), Fail> {
-    let alloc = rt.alloc();
-    for (text, want) in [
-        (A_ON_HEADER, "refused V3 A 0.0\n"),
-        (A_MIXING, "refused V5 A 0.0.0.0\n"),
-        (W_TWICE, "refused V6 W 0.0.0.0\n"),
-        (T_SAME_PHASE, "refused V6 T 0.0.0.0\n"),
-        (L_SKIPPING, "refused V7 L 0.0.0.0\n"),
+    for (texts, want) in [
+        ([A_ON_HEADER].as_slice(), "refused V3 A 0.0\n"),
+        ([A_MIXING].as_slice(), "refused V5 A 0.0.0.0\n"),
+        ([W_TWICE].as_slice(), "refused V6 W 0.0.0.0\n"),
+        ([T_SAME_PHASE].as_slice(), "refused V6 T 0.0.0.0\n"),
+        ([L_SKIPPING].as_slice(), "refused V7 L 0.0.0.0\n"),
+        ([A, A].as_slice(), "refused V10\n"),
     ] {
-        assert_eq!(rt; checked(alloc, CELL1, &[text])?.as_str(), want);
-        assert_eq!(rt; verified(alloc, CELL1, EQUAL, &[text])?.as_str(), want);
+        assert_eq!(rt; judged(rt.alloc(), CELL1, EQUAL, texts)?.as_str(), want);
     }
-    assert_eq!(rt; checked(alloc, CELL1, &[A, A])?.as_str(), "refused V10\n");
-    assert_eq!(rt;
-        verified(alloc, CELL1, EQUAL, &[A, A])?.as_str(),
-        "refused V10\n"
-    );
     Ok(())
 }
 

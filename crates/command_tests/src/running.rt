@@ -36,78 +36,71 @@ fn status_at_end(course: &Course) -> Option<u8> {
     }
 }
 
-/// What a run over the shelf writes to its streams, and how it ends.
-#[derive(Debug, Drop)]
-struct Ran {
-    output: String,
-    errors: String,
-    status: Option<u8>,
-}
-
-fn run_of(alloc: Global, words: &[&str]) -> Result<Ran, Fail> {
+/// How a run over the shelf ends, and what it writes: its output, and after a bar its errors.
+fn told(alloc: Global, words: &[&str]) -> Result<String, Fail> {
     let mut output = Vec::new(alloc);
     let mut errors = Vec::new(alloc);
     let status = status_of(alloc, words, &mut output, &mut errors)?;
-    Ok(Ran {
-        output: String::from_utf8(output)?,
-        errors: String::from_utf8(errors)?,
-        status,
-    })
+    let output = String::from_utf8(output)?;
+    let errors = String::from_utf8(errors)?;
+    Ok(format!(in alloc; "{status:?} {output}|{errors}")?)
 }
 
 #[test]
 fn verdicts_are_output(rt: HostRuntime) -> Result<(), Fail> {
-    let ranks = "rank HDR 1\nrank R1 1\nrank R2 1\nrank STEAM 1\n";
-    let circle = "refused C1\nedge N 0.0.0.0 HDR HDR\n";
-    let rows: [(&[&str], &str, u8); 8] = [
-        (&["check", "cell", "a"], ranks, 0),
-        (&["check", "cell", "n"], circle, 1),
-        (&["verify", "cell", "ranks", "a"], "accepted\n", 0),
+    let ranks = "Some(0) rank HDR 1\nrank R1 1\nrank R2 1\nrank STEAM 1\n|";
+    let circle = "Some(1) refused C1\nedge N 0.0.0.0 HDR HDR\n|";
+    let rows: [(&[&str], &str); 8] = [
+        (&["check", "cell", "a"], ranks),
+        (&["check", "cell", "n"], circle),
+        (&["verify", "cell", "ranks", "a"], "Some(0) accepted\n|"),
         (
             &["verify", "cell", "ranks", "n"],
-            "refused V4 N 0.0.0.0\n",
-            1,
+            "Some(1) refused V4 N 0.0.0.0\n|",
         ),
-        (&["run", "cell", "ranks", "n"], "refused V4 N 0.0.0.0\n", 1),
-        (&["check", "cell", "a", "bad"], "refused D1 bad\n", 1),
-        (&["verify", "cell", "bad", "a"], "refused K1 1\n", 1),
-        (&["verify", "bad", "ranks"], "refused D1 bad\n", 1),
+        (
+            &["run", "cell", "ranks", "n"],
+            "Some(1) refused V4 N 0.0.0.0\n|",
+        ),
+        (&["check", "cell", "a", "bad"], "Some(1) refused D1 bad\n|"),
+        (&["verify", "cell", "bad", "a"], "Some(1) refused K1 1\n|"),
+        (&["verify", "bad", "ranks"], "Some(1) refused D1 bad\n|"),
     ];
-    for (words, text, status) in rows {
-        let ran = run_of(rt.alloc(), words)?;
-        assert_eq!(rt; ran.output.as_str(), text, "{words:?}");
-        assert_eq!(rt; ran.errors.as_str(), "", "{words:?}");
-        assert_eq!(rt; ran.status, Some(status), "{words:?}");
+    for (words, want) in rows {
+        assert_eq!(rt; told(rt.alloc(), words)?.as_str(), want, "{words:?}");
     }
     Ok(())
 }
 
+/// Whether what is told begins with the one text, and has the other in it.
+fn begins_and_names(alloc: Global, words: &[&str], front: &str, part: &str) -> Result<bool, Fail> {
+    let told = told(alloc, words)?;
+    Ok(told.starts_with(front) && told.contains(part))
+}
+
 #[test]
 fn help_is_output(rt: HostRuntime) -> Result<(), Fail> {
-    let ran = run_of(rt.alloc(), &["verify", "--help"])?;
-    assert!(rt;
-        ran.output
-            .contains("Usage: batchd verify <CELL> <CERT> [RECIPE]...")
-    );
-    assert_eq!(rt; ran.errors.as_str(), "");
-    assert_eq!(rt; ran.status, Some(0));
+    let told = told(rt.alloc(), &["verify", "--help"])?;
+    assert!(rt; told.contains("Usage: batchd verify <CELL> <CERT> [RECIPE]..."));
+    assert!(rt; told.starts_with("Some(0) "));
+    assert!(rt; told.ends_with("|"));
     Ok(())
 }
 
 #[test]
 fn faults_are_errors(rt: HostRuntime) -> Result<(), Fail> {
-    let rows: [(&[&str], &str, u8); 5] = [
-        (&["check", "cell", "nowhere", "bad"], "nowhere", 3),
-        (&["check"], "<CELL>", 2),
-        (&["run"], "<CERT>", 2),
-        (&["run", "cell", "nowhere"], "nowhere", 3),
-        (&["plant"], "plant", 2),
+    let rows: [(&[&str], &str, &str); 5] = [
+        (&["check", "cell", "nowhere", "bad"], "Some(3) |", "nowhere"),
+        (&["check"], "Some(2) |", "<CELL>"),
+        (&["run"], "Some(2) |", "<CERT>"),
+        (&["run", "cell", "nowhere"], "Some(3) |", "nowhere"),
+        (&["plant"], "Some(2) |", "plant"),
     ];
-    for (words, part, status) in rows {
-        let ran = run_of(rt.alloc(), words)?;
-        assert_eq!(rt; ran.output.as_str(), "", "{words:?}");
-        assert!(rt; ran.errors.contains(part), "{ran:?}");
-        assert_eq!(rt; ran.status, Some(status), "{words:?}");
+    for (words, front, part) in rows {
+        assert!(rt;
+            begins_and_names(rt.alloc(), words, front, part)?,
+            "{words:?}"
+        );
     }
     Ok(())
 }
@@ -116,10 +109,7 @@ fn faults_are_errors(rt: HostRuntime) -> Result<(), Fail> {
 fn sets_are_to_be_served(rt: HostRuntime) -> Result<(), Fail> {
     let rows: [&[&str]; 2] = [&[], &["run", "cell", "ranks", "a"]];
     for words in rows {
-        let ran = run_of(rt.alloc(), words)?;
-        assert_eq!(rt; ran.output.as_str(), "", "{words:?}");
-        assert_eq!(rt; ran.errors.as_str(), "", "{words:?}");
-        assert_eq!(rt; ran.status, None, "{words:?}");
+        assert_eq!(rt; told(rt.alloc(), words)?.as_str(), "None |", "{words:?}");
     }
     Ok(())
 }

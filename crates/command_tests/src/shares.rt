@@ -1,6 +1,6 @@
 //! Verdicts on needs of several units.
 use crate::documents::CELL1;
-use crate::reading::{checked, verified};
+use crate::reading::{checked, judged, verified};
 use std::alloc::{AllocError, Global};
 use std::test::Fail;
 
@@ -36,12 +36,13 @@ needs = ['STEAM']
     )
 }
 
-/// What `check` and `verify` print of it.
-fn judged(alloc: Global, heats: &str) -> Result<(String, String), Fail> {
+/// What `check` prints of it, and then `verify`.
+fn accepted(alloc: Global, heats: &str) -> Result<String, Fail> {
     let text = recipe_y(alloc, heats)?;
-    let by_check = checked(alloc, CELL1, &[text.as_str()])?;
+    let mut told = checked(alloc, CELL1, &[text.as_str()])?;
     let by_verify = verified(alloc, CELL1, RANKS, &[text.as_str()])?;
-    Ok((by_check, by_verify))
+    told.push_str(by_verify.as_str())?;
+    Ok(told)
 }
 
 #[test]
@@ -51,11 +52,19 @@ fn shares_within_capacity(rt: HostRuntime) -> Result<(), Fail> {
         "runs = 'HEAT'\nneeds = ['STEAM*1']",
         "runs = 'HEAT'\nneeds = ['STEAM*2']",
     ] {
-        let (by_check, by_verify) = judged(rt.alloc(), heats)?;
-        assert_eq!(rt; by_check.as_str(), RANKS, "{heats}");
-        assert_eq!(rt; by_verify.as_str(), "accepted\n", "{heats}");
+        assert_eq!(rt;
+            accepted(rt.alloc(), heats)?.as_str(),
+            "rank HDR 1\nrank R1 1\nrank R2 1\nrank STEAM 2\naccepted\n",
+            "{heats}"
+        );
     }
     Ok(())
+}
+
+/// What both print of it.
+fn refused(alloc: Global, heats: &str) -> Result<String, Fail> {
+    let text = recipe_y(alloc, heats)?;
+    judged(alloc, CELL1, RANKS, &[text.as_str()])
 }
 
 #[test]
@@ -83,9 +92,7 @@ fn shares_above_capacity(rt: HostRuntime) -> Result<(), Fail> {
             "refused V5 Y 0.0.0.0.1\n",
         ),
     ] {
-        let (by_check, by_verify) = judged(rt.alloc(), heats)?;
-        assert_eq!(rt; by_check.as_str(), want, "{heats}");
-        assert_eq!(rt; by_verify.as_str(), want, "{heats}");
+        assert_eq!(rt; refused(rt.alloc(), heats)?.as_str(), want, "{heats}");
     }
     Ok(())
 }

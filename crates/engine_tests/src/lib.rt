@@ -2,6 +2,8 @@
 #![tactic(auto)]
 
 #[cfg(test)]
+mod arbiter;
+#[cfg(test)]
 mod calls;
 #[cfg(test)]
 mod documents;

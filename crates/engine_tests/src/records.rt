@@ -16,7 +16,7 @@ const MAX_MOVES: usize = 100_000;
 /// More calls of a reader than a line of these runs takes.
 const MAX_READS: u64 = 10;
 
-fn cell_of(alloc: Global, document: &str) -> Result<Cell, Fail> {
+pub(crate) fn cell_of(alloc: Global, document: &str) -> Result<Cell, Fail> {
     Ok(read_cell(alloc, document.as_bytes())?)
 }
 
