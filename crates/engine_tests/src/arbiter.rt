@@ -1,5 +1,6 @@
 //! The arbiter by its calls.
-ghost use Rattle.std.specs.Prelude.{◌≡◌, ◌<◌, IfSome, Bool, true};
+ghost use Rattle.std.specs.Prelude.{◌≡◌, ◌<◌, Bool, true};
+ghost use Rattle.std.specs.Option.{ForSome};
 ghost use Rattle.engine_tests.specs.Held.{IsOfSize, holds};
 
 use crate::documents::CELL1;
@@ -32,8 +33,8 @@ struct Desk {
     resources: u16,
     share: Option<Share>,
     ghost size: { IsOfSize arbiter resources },
-    ghost known: { IfSome share (λ s. s.resource < resources) },
-    ghost held: { IfSome share (λ s. holds arbiter s.resource s.batch s.node ≡ true) },
+    ghost known: { ForSome share (λ s. s.resource < resources) },
+    ghost held: { ForSome share (λ s. holds arbiter s.resource s.batch s.node ≡ true) },
 }
 
 impl Desk {
@@ -96,6 +97,7 @@ impl Desk {
 }
 
 /// A call of the arbiter.
+#[derive(Clone, Copy)]
 enum Call {
     Reserve(usize),
     Room,
