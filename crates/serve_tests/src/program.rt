@@ -1,4 +1,6 @@
 //! Runs of the program, from its words, documents and input to its streams and its exit status.
+ghost use Rattle.std.specs.Prelude.{⊤};
+
 use crate::documents::{A, CELL1};
 use crate::ends::{Failure, Narrow, OneByOne};
 use crate::serving::{INPUT, RECORD};
