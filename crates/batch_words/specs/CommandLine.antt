@@ -56,7 +56,6 @@ IsCommandOf entered (Verify cell certificate recipes) = (rows : List Row) × (en
     × (string_bytes cell ≡ word_of (codes "CELL") rows)
     × (string_bytes certificate ≡ word_of (codes "CERT") rows)
     × (map string_bytes recipes.items ≡ words_of (codes "RECIPE") rows)
-
 IsCommandOf entered (Run cell certificate recipes) = (rows : List Row) × (entered ≡ Some (codes "run", rows))
     × (string_bytes cell ≡ word_of (codes "CELL") rows)
     × (string_bytes certificate ≡ word_of (codes "CERT") rows)

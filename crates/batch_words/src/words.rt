@@ -73,7 +73,9 @@ fn run<'a>(alloc: Global) -> Result<clap::Command<'a>, AllocError>
     ensures local { IfOk result (λ run. (out-Command run).has_globals ≡ false) }
 {
     clap::Command::new(alloc, "run")
-        .about("Serves event lines from standard input over the recipes that the certificate clears")
+        .about(
+            "Serves event lines from standard input over the recipes that the certificate clears",
+        )
         .arg(path(alloc, "CELL", "The cell document"))?
         .arg(path(alloc, "CERT", "The certificate"))?
         .arg(recipes(alloc))

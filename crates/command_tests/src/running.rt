@@ -24,9 +24,7 @@ fn status_of<O: Write, E: Write>(
         ("bad", "="),
     ]);
     let words = owned(alloc, words)?;
-    Ok(status_at_end(&run_words(
-        alloc, &words, &shelf, output, errors,
-    )))
+    Ok(status_at_end(&run_words(alloc, &words, &shelf, output, errors)))
 }
 
 fn status_at_end(course: &Course) -> Option<u8> {
