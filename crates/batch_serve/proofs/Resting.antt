@@ -10,7 +10,7 @@ use Rattle.batch_wire.specs.EventLine.{event_of_line}
 use Rattle.batch_wire.specs.Transcript.{Exchange, silence, followed_by, Settles, Answers, Transcript}
 use Rattle.batch_wire.specs.WrittenTranscript.{WritesTranscript}
 use Rattle.batch_wire.specs.declared.fault.WireFault.{WireFault}
-use Rattle.batch_serve.specs.Safe.{TranscriptsAreSafe}
+use Rattle.batch_serve.specs.Safe.{TranscriptsAreSafe, TranscriptsLeaveNobodyInVain}
 use Rattle.batch_serve.specs.Settled.{IsSettled, TranscriptsSettle}
 use Rattle.batch_serve.proofs.Exchanges.{followed-assoc, transcript_leads}
 
@@ -59,3 +59,7 @@ transcripts_are_safe set runs lines said new t =
       safe = runs.safe said.events said.outs new leads;
       settled = transcript_settles (documents set) opening new lines said refl t;
     }
+
+pub nobody_in_vain : (set : ClearedSet) → RunsSafely set.cell set.recipes → TranscriptsLeaveNobodyInVain set
+nobody_in_vain set runs lines said new t =
+    runs.settled said.events said.outs new (transcript_leads (documents set) opening new lines said t) (transcript_settles (documents set) opening new lines said refl t)

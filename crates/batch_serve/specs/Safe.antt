@@ -1,9 +1,11 @@
 -- Transcripts from the opening of a cleared set: their outs are a safe record.
 use Rattle.std.specs.Prelude.{ℕ, List, Option}
 use Rattle.std.specs.Io.KnownBytes.{Appends, Consumes}
+use Rattle.batch_model.specs.Documents.{cell_of}
 use Rattle.batch_model.specs.Plant.{Documents, Plant, opening}
 use Rattle.batch_model.specs.Records.{IsSafe}
 use Rattle.batch_model.specs.Runs.{Leads}
+use Rattle.batch_safety.specs.Settlement.{WaitsForSomething}
 use Rattle.batch_verify.specs.ClearedSet.{ClearedSet}
 use Rattle.batch_engine.specs.View.{documents}
 use Rattle.batch_wire.specs.Transcript.{whole_lines, Exchange, Transcript}
@@ -24,7 +26,13 @@ abbrev pub TranscriptsAreSafe : ClearedSet → Type 0
 TranscriptsAreSafe set =
     (lines : List (List ℕ)) (said : Exchange) (new : Plant) → Transcript (documents set) opening lines said new → IsSafeTranscript (documents set) lines said
 
--- the text of such a transcript of the lines was written
+-- after a transcript from the opening of the cleared set, whoever waits waits for something
+abbrev pub TranscriptsLeaveNobodyInVain : ClearedSet → Type 0
+TranscriptsLeaveNobodyInVain set =
+    (lines : List (List ℕ)) (said : Exchange) (new : Plant) → Transcript (documents set) opening lines said new
+    → WaitsForSomething (cell_of set.cell) (documents set) new
+
+-- the text of a safe transcript of the lines was written
 pub record WritesSafely (c : Documents) (lines : List (List ℕ)) (before after : Option (List ℕ)) : Type 0 where
   pub said : Exchange
   pub transcript : IsSafeTranscript c lines said

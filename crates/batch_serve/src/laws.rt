@@ -1,5 +1,5 @@
 //! Laws of transcripts. Nothing runs here: the contracts are the laws.
-ghost use Rattle.batch_serve.specs.Safe.{TranscriptsAreSafe};
+ghost use Rattle.batch_serve.specs.Safe.{TranscriptsAreSafe, TranscriptsLeaveNobodyInVain};
 ghost use Rattle.batch_serve.specs.Settled.{TranscriptsSettle};
 
 use batch_verify::Cleared;
@@ -8,6 +8,14 @@ use batch_verify::Cleared;
 /// whoever holds a [`Cleared`] may cite this of it.
 pub fn transcripts_are_safe(cleared: &Cleared)
     ensures { TranscriptsAreSafe cleared.now }
+{
+    batch_safety::cleared_runs_safely(cleared);
+}
+
+/// After a transcript from the opening of a cleared set nobody waits in vain: of each resource that is asked for less is free
+/// than its oldest ask wants, and every chain of waiting ends at a holder that is at work.
+pub fn transcripts_leave_nobody_in_vain(cleared: &Cleared)
+    ensures { TranscriptsLeaveNobodyInVain cleared.now }
 {
     batch_safety::cleared_runs_safely(cleared);
 }

@@ -9,6 +9,6 @@ mod serving;
 mod set;
 
 pub use fault::{ServeFault, SetFault};
-pub use laws::{transcripts_are_safe, transcripts_settle};
+pub use laws::{transcripts_are_safe, transcripts_leave_nobody_in_vain, transcripts_settle};
 pub use serving::serve;
 pub use set::serve_set;

@@ -1,7 +1,9 @@
 //! Runs to the end of the input.
 use crate::ends::OneByOne;
 use crate::serving::{INPUT, MANY_READS, RECORD, engine, run};
-use batch_serve::{serve, transcripts_settle};
+use batch_serve::{
+    serve, transcripts_are_safe, transcripts_leave_nobody_in_vain, transcripts_settle,
+};
 use std::test::Fail;
 
 #[test]
@@ -35,8 +37,10 @@ fn empty_input(rt: HostRuntime) -> Result<(), Fail> {
 #[test]
 fn one_input_after_another(rt: HostRuntime) -> Result<(), Fail> {
     let alloc = rt.alloc();
-    transcripts_settle();
     let mut engine = engine(alloc)?;
+    transcripts_settle();
+    transcripts_are_safe(engine.cleared());
+    transcripts_leave_nobody_in_vain(engine.cleared());
     let mut record = Vec::new(alloc);
     let mut first = b"create A 1000\nstart 1\n".as_slice();
     serve(alloc, &mut engine, &mut first, &mut record, MANY_READS)?;
