@@ -1,5 +1,5 @@
 -- What a grant keeps of who holds a share, and whom it makes a holder.
-use Rattle.std.proofs.Common.{ℕ, ◌≡◌, ◌<◌, List, [], ◌∷◌, ◌++◌, length, refl, sym, ap, ◌∙◌, subst, Bool, true, false, nat_eq, arith, suc, zero, inl, inr, Some, None}
+use Rattle.std.proofs.Common.{ℕ, ◌≡◌, ◌<◌, List, [], ◌∷◌, ◌++◌, length, refl, sym, ◌∙◌, true, false, nat_eq, arith, suc, zero, inl, inr, Some, None}
 use Rattle.std.specs.Prelude.{Option, Contains, option_map}
 use Rattle.std.proofs.lemmas.List.{get_or-set_same, get_or-set_other, length-set}
 use Rattle.std.proofs.lemmas.Bool.{cases_eq, or_cases, or_left, or_right, and_parts, and_from, eqb-true, eq-eqb, false≢true}
@@ -24,10 +24,10 @@ contains batch node [] h = absurd (false≢true h)
 contains batch node (x ∷ xs) h =
     elim (or_cases (is_claim batch node x) (has_claim batch node xs) h) [
       | inl e ↦ (let parts = and_parts (nat_eq x.batch batch) (nat_eq x.node node) e in
-        let first : x.batch ≡ batch = eqb-true x.batch batch parts.0 in
-        let second : x.node ≡ node = eqb-true x.node node parts.1 in
-        let same : x ≡ record { batch = batch; node = node; units = x.units } = rw (← first, ← second) refl in
-        (x.units, (zero, omega arith, same)))
+          let first : x.batch ≡ batch = eqb-true x.batch batch parts.0 in
+          let second : x.node ≡ node = eqb-true x.node node parts.1 in
+          let same : x ≡ record { batch = batch; node = node; units = x.units } = rw (← first, ← second) refl in
+          (x.units, (zero, omega arith, same)))
       | inr e ↦ (let found = contains batch node xs e in (found.0, (suc found.1.0, omega (arith, found.1.1), found.1.2)))
     ]
 

@@ -12,7 +12,9 @@ use std::test::Fail;
 
 // Resources of the cell, by number.
 const R1: u16 = 0;
+
 const HDR: u16 = 2;
+
 const STEAM: u16 = 3;
 
 /// An act, by the numbers of its batch and node.
@@ -128,9 +130,7 @@ fn answer(alloc: Global, desk: &mut Desk, call: &Call) -> Result<String, Fail> {
             desk.arbiter.withdraw(batch);
             format!(in alloc; "withdraw {batch}\n")?
         }
-        Call::Holders(resource) => {
-            format!(in alloc; "holders {:?}\n", desk.holders(resource))?
-        }
+        Call::Holders(resource) => { format!(in alloc; "holders {:?}\n", desk.holders(resource))? }
     })
 }
 

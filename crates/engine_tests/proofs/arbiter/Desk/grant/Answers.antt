@@ -11,9 +11,9 @@ invariant_of-self-then-is_none c =
       size = rw c.grant_next.ensures.after (size-granted _ _ _ _ c.args.self.now.size);
       known = λ x e. subst (λ s. s.resource < c.args.self.now.resources) (same_Some _ x e) (omega (arith, c.if-resource-self.false));
       held =
-      λ x e.
-      subst (λ s. holds c.grant_next.new.self s.resource s.batch s.node ≡ true) (same_Some _ x e)
-      (rw c.grant_next.ensures.after (holds-new _ _ _ _ _ w c.in_ok-batch.ensures.value));
+          λ x e.
+          subst (λ s. holds c.grant_next.new.self s.resource s.batch s.node ≡ true) (same_Some _ x e)
+          (rw c.grant_next.ensures.after (holds-new _ _ _ _ _ w c.in_ok-batch.ensures.value));
     }
 
 pub invariant_of-self-else-is_none : goal.invariant_of-self-else-is_none
