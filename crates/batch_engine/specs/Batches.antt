@@ -1,3 +1,4 @@
+-- For private contracts.
 -- The batches, and how they are kept.
 use Rattle.std.specs.Prelude.{◌≡◌, ◌≢◌, ◌<◌, ◌++◌, ℕ, List, [], ◌∷◌, ⊤, length, map, filter_map, slice_set}
 use Rattle.std.specs.List.{remove}

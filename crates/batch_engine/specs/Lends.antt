@@ -1,3 +1,4 @@
+-- For private contracts.
 -- What the batches end as, where a `&mut` to one of them is given out.
 use Rattle.std.specs.Prelude.{ℕ}
 use Rattle.std.specs.Borrow.{Lends, Fml, MutBor}
