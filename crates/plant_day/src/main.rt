@@ -1,4 +1,4 @@
-//! A day of the paint plant: the batch server, which is told by its words to run three of the plant's recipes.
+//! A day of the paint plant: the batch server, which is told by its words to run the plant's recipes.
 #![tactic(auto)]
 
 use batch_program::run_process;
