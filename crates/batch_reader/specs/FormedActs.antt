@@ -1,3 +1,4 @@
+-- For private contracts.
 -- What the table of each act tells by itself, whatever the others declare.
 -- For private contracts; no public clause cites this file.
 use Rattle.std.specs.Prelude.{◌≡◌, ◌≤◌, true, List, length, All}

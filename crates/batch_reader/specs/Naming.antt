@@ -1,3 +1,4 @@
+-- For private contracts.
 -- What the acts of a recipe name, and what is declared.
 -- For private contracts; no public clause cites this file.
 use Rattle.std.specs.Prelude.{Bool, ◌&&◌, List, []}
