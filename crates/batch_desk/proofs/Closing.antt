@@ -61,6 +61,15 @@ module _ {A : Type 0} (r : Result A (HubFault × Finished Event Global AnyItems)
   abbrev pub IsRefusing : Type 0
   IsRefusing = IfErr r (λ e. (q ≡ x) × StaysOpen x sent e.0)
 
+same_rings_closed : (c : Option ℕ) (n : ℕ) (p : PortState) → port_rings (closed_at c n p) ≡ port_rings p
+same_rings_closed None n p = refl
+same_rings_closed (Some m) n p = refl
+
+pub rings_tried : {A : Type 0} (n : ℕ) (x q : PortState) (sent : List Event) (r : Result A (HubFault × Finished Event Global AnyItems))
+    → IsClosing r x q n sent → IsRefusing r x q n sent → port_rings q ≡ port_rings x
+rings_tried n x q sent (Ok u) ok err = ap port_rings ok.0 ∙ same_rings_closed x.closed n x
+rings_tried n x q sent (Err e) ok err = ap port_rings err.0
+
 pub port_tried : {A : Type 0} (h : List (ℕ × Event)) (outs : List Out) (k n : ℕ) (x q : PortState) (sent : List Event) (r : Result A (HubFault × Finished Event Global AnyItems)) → n ≡ length outs
     → IsClosing r x q n sent → IsRefusing r x q n sent → IsPort h outs k x → IsPort h outs k q
 port_tried h outs k n x q sent (Ok u) full ok err is = port_closes h outs k x q (ok.0 ∙ ap (λ m. close_at m x) full) is

@@ -41,15 +41,3 @@ pub turn_answers : (port : ℕ) (h f t g : HubState) (r : Result Turned HubFault
     → IfOk r (λ turned. EndsTurn turned t g) → IfOk r (λ turned. Answers turned h g)
 turn_answers port h f t g (Ok turned) same took later ends = answers_taken port h f t g turned same took later ends
 turn_answers port h f t g (Err fault) same took later ends = tt
-
--- what an answer says depends on the work alone
-answers_kept : (h f w g : HubState) (turned : Turned) → SameWork h f → SameWork w g → Answers turned f w → Answers turned h g
-answers_kept h f w g Idle before after is = (rw before.0 at is.0, (after.0 ∙ (is.1.0 ∙ before.0), after.1 ∙ (is.1.1 ∙ before.1), after.2 ∙ (is.1.2 ∙ before.2)))
-answers_kept h f w g Handled before after is =
-    (rw (sym after.0) at is.0, omega (arith, ap length before.1, ap moves before.2, ap length after.1, ap moves after.2, is.1))
-answers_kept h f w g MovesLeft before after is = (rw (sym after.0) at is.0, omega (arith, ap moves before.2, ap moves after.2, is.1))
-
-pub turn_kept : (h f w g : HubState) (r : Result Turned HubFault) → SameWork h f → SameWork w g
-    → IfOk r (λ turned. Answers turned f w) → IfOk r (λ turned. Answers turned h g)
-turn_kept h f w g (Ok turned) before after is = answers_kept h f w g turned before after is
-turn_kept h f w g (Err fault) before after is = tt

@@ -2,7 +2,7 @@
 ghost use Rattle.std.specs.Prelude.{◌≡◌, length, slice_get, Some, None, OnOk, IfOk, IfErr, IfSome, MatchOption};
 ghost use Rattle.rtrb.specs.Ring.{all_sent};
 ghost use Rattle.batch_desk.specs.Rings.{IsOfRing};
-ghost use Rattle.batch_desk.specs.HubState.{IsHub};
+ghost use Rattle.batch_desk.specs.HubState.{IsHub, rings};
 ghost use Rattle.batch_desk.specs.Turns.{SameWork};
 ghost use Rattle.batch_desk.specs.Ends.{Closes, Cuts, RefusesClose, RefusesCut, RefusesSeal, Seals};
 
@@ -74,6 +74,7 @@ impl Hub {
         token: Finished<Event>,
     ) -> Result<(), (HubFault, Finished<Event>)>
         requires { IfSome (slice_get self.old.ports port) (λ p. IsOfRing token p.events) }
+        ensures rings { rings self.new ≡ rings self.old }
         ensures work { SameWork self.old self.new }
         ensures ok { OnOk result (Closes port self.old self.new (all_sent token)) }
         ensures err { IfErr result (λ e. (self.new ≡ self.old) × RefusesClose port self.old (all_sent token) e.0) }
@@ -90,6 +91,7 @@ impl Hub {
     /// Closes a port whose desk was lost: no event is taken any more, whatever was sent. What waits still goes into its ring at
     /// its turns. Refused are an unknown port, and one that is closed or cut.
     pub fn cut(&mut self, port: usize) -> Result<(), HubFault>
+        ensures rings { rings self.new ≡ rings self.old }
         ensures work { SameWork self.old self.new }
         ensures ok { OnOk result (Cuts port self.old self.new) }
         ensures err { IfErr result (λ fault. (self.new ≡ self.old) × RefusesCut port self.old fault) }

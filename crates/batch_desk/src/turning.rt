@@ -1,7 +1,7 @@
 //! The turns of a hub.
 ghost use Rattle.std.specs.Prelude.{◌≡◌, ◌<◌, ◌≤◌, ◌+◌, ◌⊎◌, ◌↔◌, length, Err, OnOk, IfOk, IfErr, IsTrue, MatchBool};
 ghost use mathlib.Core.List.{IsPrefix};
-ghost use Rattle.batch_desk.specs.HubState.{IsSettled, outlines};
+ghost use Rattle.batch_desk.specs.HubState.{IsSettled, outlines, rings};
 ghost use Rattle.batch_desk.specs.Turns.{Answers, Grows, IsFlushed, SameWork, moves};
 ghost use Rattle.batch_desk.specs.TurnSteps.{AnswersOne, EndsTurn, MakesMove, Moved};
 ghost use Rattle.batch_desk.specs.declared.fault.HubFault.TheVariants.{Memory, UnknownPort};
@@ -134,7 +134,9 @@ impl Hub {
     /// outs go into the ring again. The outs of other ports wait until their turns.
     ///
     /// For want of memory no event is lost: what was done stands, and pending moves go on at the next turn of any port.
+    #[tactic(auto, using(crate::proofs::Outlines::rings_stay))]
     pub fn turn(&mut self, port: usize) -> Result<Turned, HubFault>
+        ensures rings { rings self.new ≡ rings self.old }
         ensures outlines { outlines self.new ≡ outlines self.old }
         ensures cleared { self.new.engine.cleared ≡ self.old.engine.cleared }
         ensures history { Grows port self.old self.new }

@@ -1,7 +1,10 @@
-use Rattle.std.proofs.Common.{◌≡◌, ◌<◌, length, arith, refl, slice_get, Some}
+use Rattle.std.proofs.Common.{ap, ◌∙◌, ◌≡◌, ◌<◌, length, arith, refl, slice_get, Some}
 use Rattle.std.proofs.lemmas.Option.{slice_get_read}
 use Rattle.batch_desk.proofs.EachPort.{ports_changed}
-use Rattle.batch_desk.proofs.Closing.{port_tried, hub_closes, hub_refuses, token_back}
+use Rattle.batch_desk.specs.PortState.{port_rings}
+use Rattle.batch_desk.specs.HubState.{rings}
+use Rattle.batch_desk.proofs.Lists.{map-changed}
+use Rattle.batch_desk.proofs.Closing.{rings_tried, port_tried, hub_closes, hub_refuses, token_back}
 use Rattle.batch_desk.proofs.hub.Hub.close.Goals as goal
 
 pub invariant_of-self : goal.invariant_of-self
@@ -36,3 +39,10 @@ returns-clause-back c =
     let lt : c.args.port < length h.ports.items = omega arith in
     let here : slice_get h.ports.items c.args.port ≡ Some x = slice_get_read h.ports.items (length h.ports.items) c.args.port x refl lt c.index_mut-end.ensures.value in
     token_back _ _ c.args.port x _ c.close.result c.self.view_is here c.close.ensures.back
+
+pub returns-clause-rings : goal.returns-clause-rings
+returns-clause-rings c =
+    let x = c.index_mut-end.result.now in
+    map-changed port_rings c.self.inside.ports.items c.args.port x c.close.new.self c.index_mut-end.ensures.value
+    (rings_tried c.len-recorded.result x c.close.new.self _ c.close.result c.close.ensures.ok c.close.ensures.err)
+    ∙ ap rings c.self.view_is
