@@ -1,0 +1,9 @@
+pub mod Replies
+pub mod Lists
+pub mod Dues
+pub mod EachPort
+pub mod Steps
+pub mod Hubs
+pub mod Moves
+pub mod Closing
+pub mod Outlines
