@@ -1,7 +1,7 @@
 //! Recipe documents at their limits, and one past them.
 use super::{ADD, CHARGE, MAKE, OUTPUT, PROCEDURE, document, nodes_of};
 use crate::reading::{numbered, recipe_refusal, refused_at, repeated};
-use batch_reader::{EntryFault, MAX_CHART_LEN, MAX_DOCUMENT_LEN, TableKind};
+use batch_reader::{EntryFault, TableKind};
 use std::alloc::{AllocError, Global};
 use std::test::Fail;
 
@@ -192,7 +192,6 @@ fn lengths_of_texts(rt: HostRuntime) -> Result<(), Fail> {
 
 #[test]
 fn lengths_of_charts(rt: HostRuntime) -> Result<(), Fail> {
-    assert_eq!(rt; MAX_CHART_LEN, 16_384);
     let texts = ["[[operation]]\nname = 'CHARGE'\nchart = 'ADD", " ", "'\n"];
     let rest = [PROCEDURE, MAKE, ADD, ""];
     let added = "ADD".len();
@@ -387,7 +386,7 @@ fn recipes_that_would_expand_too_far(rt: HostRuntime) -> Result<(), Fail> {
 fn lengths_of_documents(rt: HostRuntime) -> Result<(), Fail> {
     let alloc = rt.alloc();
     let recipe = document(alloc, "A", [PROCEDURE, MAKE, CHARGE, ADD, ""])?;
-    let more = MAX_DOCUMENT_LEN.saturating_sub(recipe.len());
+    let more = 1_048_576usize.saturating_sub(recipe.len());
     let mut text = repeated(alloc, recipe.as_str(), "#", more, "")?;
     assert_eq!(rt; recipe_refusal(alloc, text.as_str()), None);
     text.push('#')?;
