@@ -1,8 +1,8 @@
 -- What is told of the entry of a table stands there.
-use Rattle.std.proofs.Common.{◌≡◌, ◌≢◌, ℕ, ◌<◌, ◌≤◌, pos, ℤ, nat_lt, Bool, true, false, inl, inr, List, [], ◌∷◌, length, Option, Some, None, Result, Ok, Err, if◌then◌else◌, IfErr, refl, sym, subst, arith, codes, IsSome}
+use Rattle.std.proofs.Common.{◌≡◌, ◌≢◌, ℕ, ◌<◌, ◌≤◌, ℤ, nat_lt, Bool, true, false, inl, inr, List, [], ◌∷◌, length, Option, Some, None, Result, Ok, Err, if◌then◌else◌, IfErr, refl, sym, subst, arith, codes, IsSome}
 use Rattle.std.proofs.lemmas.Bool.Decides.{nat_tests}
 use Rattle.std.specs.List.{slice_get}
-use Rattle.std.specs.Option.{option_and_then, option_map_or}
+use Rattle.std.specs.Option.{option_map_or}
 use Rattle.toml.specs.Data.{Data, Items, no_items, item, Members, get_member, as_str, as_integer, as_bool, as_array}
 use Rattle.batch_cell.specs.declared.module.TheConstants.{MAX_PHASES}
 use Rattle.batch_reader.specs.Entries.{AllItems, IsNameItem, HasName, HasLabel, HasNameOr, HasText, MayHaveText, HasNumber, HasNames, HasFewNames, IsTruth, items_at}

@@ -1,7 +1,7 @@
 -- What is told of a need stands there.
-use Rattle.std.proofs.Common.{◌≡◌, ℕ, ◌<◌, List, length, get_or, Option, Some, None, inl, inr, refl, arith}
+use Rattle.std.proofs.Common.{◌≡◌, ℕ, ◌<◌, List, length, get_or, Option, Some, None, inl, refl, arith}
 use Rattle.std.specs.Option.{option_map_or}
-use Rattle.toml.specs.Data.{Data, Items, no_items, Members, get_member, as_array}
+use Rattle.toml.specs.Data.{Data, no_items, Members, get_member, as_array}
 use Rattle.toml.specs.View.{view, items_view}
 use Rattle.toml.specs.declared.value.Value.{Value}
 use Rattle.batch_reader.proofs.Items.{get_item-view}

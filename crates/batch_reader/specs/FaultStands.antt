@@ -8,7 +8,6 @@ use Rattle.batch_reader.specs.declared.document.TheConstants.{MAX_DOCUMENT_LEN}
 use Rattle.batch_reader.specs.declared.fault.EntryFault.{EntryFault}
 use Rattle.batch_reader.specs.declared.fault.EntryFault.TheVariants.{OutOfLimit}
 use Rattle.batch_reader.specs.declared.fault.Spot.{Spot}
-use Rattle.batch_reader.specs.declared.fault.TableKind.{TableKind}
 use Rattle.batch_reader.specs.declared.fault.TableKind.TheVariants.{Cell, Recipe}
 
 -- in the document this is wrong at the table: with that table by itself, or among those of a cell, or of a recipe

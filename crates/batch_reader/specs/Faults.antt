@@ -1,6 +1,6 @@
 -- What the refusal of a table tells: for private contracts, but for `is_of_cell` and `is_of_recipe`.
-use Rattle.std.specs.Prelude.{◌≡◌, ℕ, ◌+◌, ◌<◌, ◌≤◌, nat_lt, ⊤, List, Bool, true, false, not, position, if◌then◌else◌, Option, Some, None, codes}
-use Rattle.toml.specs.Data.{Data, Items, no_items, item, get_item, Members, get_member, as_str}
+use Rattle.std.specs.Prelude.{◌≡◌, ℕ, ◌<◌, ◌≤◌, nat_lt, ⊤, List, Bool, true, false, not, position, if◌then◌else◌, Option, Some, None, codes}
+use Rattle.toml.specs.Data.{Data, Items, get_item, Members}
 use Rattle.batch_text.specs.NumberText.{IsNumber, number_of}
 use Rattle.batch_recipe.specs.Diagram.{Diagram}
 use Rattle.batch_recipe.specs.declared.need.TheConstants.{MAX_UNITS}

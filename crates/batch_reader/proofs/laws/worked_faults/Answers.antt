@@ -3,7 +3,7 @@ use Rattle.std.specs.Cmp.Lexicographic.{pointwise}
 use Rattle.std.specs.List.{list_any}
 use Rattle.batch_cell.specs.Equipment.{HasDeclaredUnits, has_declared_unit}
 use Rattle.batch_cell.specs.declared.module.Module.{Module}
-use Rattle.toml.specs.Data.{Data, no_members, table}
+use Rattle.toml.specs.Data.{no_members, table}
 use Rattle.batch_grammar.specs.ChartGrammar.{here, no_offsets, whole, skip as reads_skip}
 use Rattle.batch_recipe.specs.Diagram.{skip}
 use Rattle.batch_reader.specs.Keys.{needed, a_name}

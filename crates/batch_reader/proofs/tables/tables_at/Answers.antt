@@ -3,7 +3,7 @@ use Rattle.std.proofs.lemmas.Result.{err_from_is_err_and}
 use Rattle.toml.specs.Data.{as_table}
 use Rattle.toml.specs.View.{view, items_view, table_view}
 use Rattle.batch_reader.proofs.Items.{HasTables_refused, IsTableOf_none, IsTableOf_refused, AllItems-turn, first_refused}
-use Rattle.batch_reader.specs.Entries.{IsTableOf}
+use Rattle.batch_reader.specs.Entries.{IsTableOf, items_at}
 use Rattle.batch_reader.specs.declared.fault.Spot.{Spot}
 use Rattle.batch_reader.specs.declared.fault.TableFault.TheVariants.{Entry}
 use Rattle.std.proofs.Common.{refl}
@@ -57,11 +57,11 @@ pub returns-in_default-clause-told : goal.returns-in_default-clause-told
 returns-in_default-clause-told g c =
     let vs = c.in_ok-item-items.item-items.now in
     let none : None ≡ as_table (view (get_or vs c.loop-entry.entry c.item-item.result)) = rw (← c.item-item.is) c.in_default.ensures in
-    (refl, array_no_table (g.T.FromTable.is_fault c.args.kind) _ vs c.loop-entry.entry c.item-item.result c.in_ok-item-items.ensures.ok c.loop-entry-test.true none)
+    (refl, array_no_table (g.T.FromTable.is_fault c.args.kind) (items_at c.args.key.now (table_view c.args.table.now)) vs c.loop-entry.entry c.item-item.result c.in_ok-item-items.ensures.ok c.loop-entry-test.true none)
 
 pub returns-in_err-value-clause-told : goal.returns-in_err-value-clause-told
 returns-in_err-value-clause-told g c =
     let vs = c.in_ok-item-items.item-items.now in
     let p = err_from_is_err_and c.from_residual-in_err-value.result c.from_residual-in_err-value.ensures.1 in
     let is_table : Some (table_view c.in-Some.inner.now) ≡ as_table (view (get_or vs c.loop-entry.entry c.item-item.result)) = rw (← c.item-item.is) c.in-Some.ensures in
-    rw (p.1, p.2) (array_table (g.T.FromTable.is_fault c.args.kind) _ vs c.args.kind c.loop-entry.entry c.item-item.result _ c.in_ok-item-items.ensures.ok c.loop-entry-test.true is_table _ c.in_err-value.ensures.told)
+    rw (p.1, p.2) (array_table (g.T.FromTable.is_fault c.args.kind) (items_at c.args.key.now (table_view c.args.table.now)) vs c.args.kind c.loop-entry.entry c.item-item.result _ c.in_ok-item-items.ensures.ok c.loop-entry-test.true is_table _ c.in_err-value.ensures.told)
