@@ -39,7 +39,7 @@ AllItems_before R (v ∷ vs) [] (suc i) h n d below found = absurd h
 AllItems_before R (v ∷ vs) (x ∷ xs) (suc i) h zero d below found = let same : view v ≡ d = cc found in (x, rw (← same) h.0)
 AllItems_before R (v ∷ vs) (x ∷ xs) (suc i) h (suc n) d below found = AllItems_before R vs xs i h.1 n d (omega arith) found
 
-get_item-view : (vs : List Value) (i : ℕ) (d : Value) → i < length vs → get_item i (items_view vs) ≡ Some (view (get_or vs i d))
+pub get_item-view : (vs : List Value) (i : ℕ) (d : Value) → i < length vs → get_item i (items_view vs) ≡ Some (view (get_or vs i d))
 get_item-view [] i d below = absurd (omega arith)
 get_item-view (v ∷ vs) zero d below = refl
 get_item-view (v ∷ vs) (suc i) d below = get_item-view vs i d (omega arith)
