@@ -29,16 +29,6 @@ is_of_cell _ = false
 abbrev pub is_of_recipe : TableKind → Bool
 is_of_recipe kind = not (is_of_cell kind)
 
--- unless memory was refused, the fault is in the table at this spot
-abbrev pub IsAt : Spot → TableFault → Type 0
-IsAt spot (Entry here wrong) = here ≡ spot
-IsAt spot Memory = ⊤
-
--- unless memory was refused, the fault is in a table of this kind
-abbrev pub IsIn : TableKind → TableFault → Type 0
-IsIn kind (Entry here wrong) = here.kind ≡ kind
-IsIn kind Memory = ⊤
-
 -- unless memory was refused, the fault is in a table of one of these kinds
 abbrev pub IsAmong : (TableKind → Bool) → TableFault → Type 0
 IsAmong kinds (Entry here wrong) = kinds here.kind ≡ true
