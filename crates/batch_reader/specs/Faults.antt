@@ -1,6 +1,6 @@
 -- What the refusal of a table tells: for private contracts, but for `is_of_cell` and `is_of_recipe`.
-use Rattle.std.specs.Prelude.{◌≡◌, ℕ, ◌<◌, ◌≤◌, nat_lt, ⊤, List, Bool, true, false, not, position, if◌then◌else◌, Option, Some, None, codes}
-use Rattle.toml.specs.Data.{Data, Items, get_item, Members}
+use Rattle.std.specs.Prelude.{◌≡◌, ℕ, ◌≤◌, nat_lt, ⊤, List, Bool, true, false, not, position, if◌then◌else◌, Option, Some, None, codes}
+use Rattle.toml.specs.Data.{Data, Items, Members}
 use Rattle.batch_text.specs.NumberText.{IsNumber, number_of}
 use Rattle.batch_recipe.specs.Diagram.{Diagram}
 use Rattle.batch_recipe.specs.declared.need.TheConstants.{MAX_UNITS}
@@ -28,16 +28,6 @@ is_of_cell _ = false
 -- the tables of recipe documents
 abbrev pub is_of_recipe : TableKind → Bool
 is_of_recipe kind = not (is_of_cell kind)
-
--- unless memory was refused, the fault is in the table at this spot
-abbrev pub IsAt : Spot → TableFault → Type 0
-IsAt spot (Entry here wrong) = here ≡ spot
-IsAt spot Memory = ⊤
-
--- unless memory was refused, the fault is in a table of this kind
-abbrev pub IsIn : TableKind → TableFault → Type 0
-IsIn kind (Entry here wrong) = here.kind ≡ kind
-IsIn kind Memory = ⊤
 
 -- unless memory was refused, the fault is in a table of one of these kinds
 abbrev pub IsAmong : (TableKind → Bool) → TableFault → Type 0
@@ -130,10 +120,3 @@ pub record HasReadChart (ms : Members) (chart : Diagram) (first_par : Option ℕ
   pub text : List ℕ
   pub found : HasText (codes "chart") ms MAX_CHART_LEN text
   pub read : IsRead text chart first_par
-
--- this item stands for nothing, and each one before it for something
-pub record IsFirstRefused {X : Type 0} (StandsFor : Data → X → Type 0) (items : Items) (entry : ℕ) : Type 0 where
-  pub here : Data
-  pub found : get_item entry items ≡ Some here
-  pub refused : (x : X) → ¬ (StandsFor here x)
-  pub before : (n : ℕ) (d : Data) → n < entry → get_item n items ≡ Some d → (x : X) × StandsFor d x

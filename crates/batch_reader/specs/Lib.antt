@@ -2,14 +2,15 @@ pub mod NeedText
 pub mod Entries
 pub mod Words
 pub mod Keys
-pub mod Faults
-pub mod TableFaults
 pub mod CellDocument
 pub mod FormedActs
 pub mod Naming
 pub mod SoundRecipe
 pub mod RecipeTables
 pub mod RecipeDocument
+pub mod RightTables
+pub mod TableFaults
+pub mod Faults
 pub mod PartFaults
 pub mod FaultStands
 pub mod RowsOfFaults

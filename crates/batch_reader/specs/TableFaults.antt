@@ -12,6 +12,7 @@ use Rattle.batch_grammar.specs.declared.reading.TheConstants.{MAX_CHART_LEN}
 use Rattle.batch_reader.specs.Entries.{AllItems, IsNameItem, has_only_keys, items_at}
 use Rattle.batch_reader.specs.Keys.{Form, a_name, a_free_name, a_text, a_number, a_least, a_truth, some_names, some_needs, a_chart, a_chart_without_par, some_tables, Key, keys_of}
 use Rattle.batch_reader.specs.NeedText.{is_star}
+use Rattle.batch_reader.specs.RightTables.{IsRightTable}
 use Rattle.batch_reader.specs.Words.{table_word}
 use Rattle.batch_reader.specs.declared.fault.EntryFault.{EntryFault}
 use Rattle.batch_reader.specs.declared.fault.EntryFault.TheVariants.{MissingKey, WrongKind, UnknownKey, Undeclared, Duplicate, OutOfLimit, Chart}
@@ -170,16 +171,17 @@ abbrev pub IsNoTableOr : (Members → EntryFault → Type 0) → Option Members 
 IsNoTableOr IsFault None wrong = wrong ≡ WrongKind
 IsNoTableOr IsFault (Some table) wrong = IsFault table wrong
 
--- the list has this entry, and this is wrong with it
-pub record IsEntryFault (IsFault : Members → EntryFault → Type 0) (items : Items) (entry : ℕ) (wrong : EntryFault) : Type 0 where
+-- the list has this entry, with which this is wrong, and those before it are right
+pub record IsEntryFault (IsRight : Data → Type 0) (IsFault : Members → EntryFault → Type 0) (items : Items) (entry : ℕ) (wrong : EntryFault) : Type 0 where
   pub here : Data
   pub found : get_item entry items ≡ Some here
   pub fault : IsNoTableOr IsFault (as_table here) wrong
+  pub before : (n : ℕ) (d : Data) → n < entry → get_item n items ≡ Some d → IsRight d
 
--- what stands for the tables is no list, which is told at entry 0, or this is wrong with the entry
-abbrev pub IsArrayFault : (Members → EntryFault → Type 0) → Option Items → ℕ → EntryFault → Type 0
-IsArrayFault IsFault None entry wrong = (entry ≡ 0) × (wrong ≡ WrongKind)
-IsArrayFault IsFault (Some items) entry wrong = IsEntryFault IsFault items entry wrong
+-- what stands for the tables is no list, which is told at entry 0, or this is wrong with the entry, and with none before it
+abbrev pub IsArrayFault : (Data → Type 0) → (Members → EntryFault → Type 0) → Option Items → ℕ → EntryFault → Type 0
+IsArrayFault IsRight IsFault None entry wrong = (entry ≡ 0) × (wrong ≡ WrongKind)
+IsArrayFault IsRight IsFault (Some items) entry wrong = IsEntryFault IsRight IsFault items entry wrong
 
 -- the procedure is missing, or this is wrong with it
 abbrev pub IsProcedureFault : Option Data → EntryFault → Type 0
@@ -191,4 +193,4 @@ abbrev pub IsFaultOfTable : Members → TableKind → ℕ → EntryFault → Typ
 IsFaultOfTable document Cell entry wrong = (entry ≡ 0) × IsTableFault Cell document wrong
 IsFaultOfTable document Recipe entry wrong = (entry ≡ 0) × IsTableFault Recipe document wrong
 IsFaultOfTable document Procedure entry wrong = (entry ≡ 0) × IsProcedureFault (get_member (codes "procedure") document) wrong
-IsFaultOfTable document kind entry wrong = IsArrayFault (IsTableFault kind) (items_at (table_word kind) document) entry wrong
+IsFaultOfTable document kind entry wrong = IsArrayFault (IsRightTable kind) (IsTableFault kind) (items_at (table_word kind) document) entry wrong

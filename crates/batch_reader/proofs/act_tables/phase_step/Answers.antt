@@ -1,6 +1,5 @@
-use Rattle.std.proofs.Common.{refl, rules}
+use Rattle.std.proofs.Common.{refl, rules, codes}
 use Rattle.std.proofs.lemmas.Result.{err_from_is_err_and}
-use Rattle.std.proofs.Common.{codes}
 use Rattle.batch_recipe.specs.declared.act.TheConstants.{MAX_VALUES}
 use Rattle.toml.specs.View.{table_view}
 use Rattle.batch_reader.proofs.EntryFaults.{few_told, label_told, name_or_told, table_told}

@@ -1,10 +1,9 @@
-use Rattle.std.proofs.Common.{◌≡◌, ◌<◌, length, arith, rules}
+use Rattle.std.proofs.Common.{◌≡◌, ◌<◌, length, arith, rules, codes, refl}
 use Rattle.std.proofs.lemmas.Result.{err_from_is_err_and}
 use Rattle.batch_cell.specs.declared.module.TheConstants.{MAX_PHASES}
 use Rattle.toml.specs.View.{table_view}
 use Rattle.toml.specs.Data.{get_member}
 use Rattle.batch_reader.proofs.OneCell.{refused_phases, refused_phase_count}
-use Rattle.std.proofs.Common.{codes, refl}
 use Rattle.batch_reader.proofs.EntryFaults.{count_fault, name_told, names_told, table_fault_by, table_told_by, unit_module_keys}
 use Rattle.batch_reader.specs.declared.fault.TableKind.TheVariants.{Module}
 use Rattle.batch_reader.proofs.cell_tables.unit_module.Goals as goal

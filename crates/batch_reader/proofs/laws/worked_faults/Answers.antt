@@ -19,7 +19,7 @@ unit_is_missing m unit all =
 
 pub returns-clause-missing : goal.returns-clause-missing
 returns-clause-missing c =
-    record { here = table no_members; found = refl; fault = inr (record { place = 0; key = needed (codes "name") a_name; listed = refl; fault = (refl, refl) }) }
+    record { here = table no_members; found = refl; fault = inr (record { place = 0; key = needed (codes "name") a_name; listed = refl; fault = (refl, refl) }); before = λ n d below. absurd (omega arith) }
 
 pub returns-clause-no_second : goal.returns-clause-no_second
 returns-clause-no_second c = λ h. cc h.found

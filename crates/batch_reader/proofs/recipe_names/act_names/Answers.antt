@@ -1,8 +1,7 @@
-use Rattle.std.proofs.Common.{◌≡◌, [], ◌++◌, ap, ◌∙◌, append-nil}
+use Rattle.std.proofs.Common.{◌≡◌, [], ◌++◌, ap, ◌∙◌, append-nil, List, map}
 use Rattle.std.proofs.lemmas.Result.{err_from_is_err_and}
 use Rattle.batch_recipe.specs.WellFormed.{act_names}
 use Rattle.batch_reader.proofs.DistinctNames.{are_distinct-from_IsDistinct, names_refused}
-use Rattle.std.proofs.Common.{List, map}
 use Rattle.batch_recipe.specs.declared.act.Act.{Act}
 use Rattle.batch_reader.proofs.PartsTold.{alone, twice_told}
 use Rattle.batch_reader.specs.PartFaults.{IsFirstNamedAgain}

@@ -1,11 +1,9 @@
-use Rattle.std.proofs.Common.{◌≡◌, true, List, [], ◌++◌, map, ◌∙◌, subst, append-nil}
+use Rattle.std.proofs.Common.{◌≡◌, true, List, [], ◌++◌, map, ◌∙◌, subst, append-nil, ap}
 use Rattle.std.proofs.lemmas.Result.{err_from_is_err_and}
 use Rattle.batch_recipe.specs.Conditions.{Name}
-use Rattle.batch_recipe.specs.WellFormed.{are_distinct}
+use Rattle.batch_recipe.specs.WellFormed.{are_distinct, value_names}
 use Rattle.batch_reader.proofs.DistinctNames.{are_distinct-from_IsDistinct, names_refused, after_none, after_first, after_second}
-use Rattle.batch_recipe.specs.WellFormed.{value_names}
 use Rattle.batch_recipe.specs.declared.quantity.Quantity.{Quantity}
-use Rattle.std.proofs.Common.{ap}
 use Rattle.batch_reader.proofs.PartsTold.{after_names, after_no_name, twice_told}
 use Rattle.batch_reader.specs.PartFaults.{HasValueTwice}
 use Rattle.batch_reader.specs.declared.fault.EntryFault.TheVariants.{Duplicate}

@@ -1,11 +1,9 @@
-use Rattle.std.proofs.Common.{◌≡◌, rules}
+use Rattle.std.proofs.Common.{◌≡◌, rules, ◌++◌, [], List, map}
 use Rattle.std.proofs.lemmas.Result.{err_from_is_err_and}
-use Rattle.batch_cell.specs.Equipment.{unit_names}
+use Rattle.batch_cell.specs.Equipment.{unit_names, declared_names}
 use Rattle.batch_reader.proofs.CellNames.{declared_units_refused, declared_modules_refused}
 use Rattle.batch_cell.specs.declared.module.Module.{Module}
 use Rattle.batch_cell.specs.declared.unit.Unit.{Unit}
-use Rattle.std.proofs.Common.{◌++◌, [], List, map}
-use Rattle.batch_cell.specs.Equipment.{declared_names}
 use Rattle.batch_reader.proofs.PartsTold.{after_names, after_no_name, twice_told}
 use Rattle.batch_reader.specs.PartFaults.{Equipment, HasNameTwice}
 use Rattle.batch_reader.specs.declared.fault.EntryFault.TheVariants.{Duplicate}
