@@ -17,7 +17,7 @@ use Rattle.batch_engine.specs.declared.reply.Reply.{Reply as Answer}
 use Rattle.batch_engine.specs.declared.line.Line.{Line}
 use Rattle.batch_desk.specs.PortState.{PortState, outline}
 use Rattle.batch_desk.specs.PortSteps.{owe_line, answered, without_room}
-use Rattle.batch_desk.specs.HubState.{HubState, IsHub, IsSettled, events_in, outs_in, outlines}
+use Rattle.batch_desk.specs.HubState.{HubState, IsHub, IsEngineSettled, events_in, outs_in, outlines}
 use Rattle.batch_desk.specs.Turns.{Grows, SameWork}
 use Rattle.batch_desk.specs.TurnSteps.{AnswersOne}
 use Rattle.batch_desk.proofs.Replies.{replies, replies-led}
@@ -115,9 +115,9 @@ takes_one h0 h g k x event answer same at none cleared history outs =
     subst (λ f. AnswersOne k f g) same
     (record { event = event; reply = answer; was_open = opens h0.ports k x at none; cleared = cleared; history = history; outs = outs })
 
-pub grows_taken : (port : ℕ) (h f t g : HubState) → SameWork h f → IsSettled f.engine → outlines f ≡ outlines h → AnswersOne port f t → g.history ≡ t.history → Grows port h g
+pub grows_taken : (port : ℕ) (h f t g : HubState) → SameWork h f → IsEngineSettled f.engine → outlines f ≡ outlines h → AnswersOne port f t → g.history ≡ t.history → Grows port h g
 grows_taken port h f t g same settled stays took later = inr (record {
-  settled = subst IsSettled same.0 settled;
+  settled = subst IsEngineSettled same.0 settled;
   event = took.event;
   was_open = subst (λ ps. IfSome (slice_get ps port) (λ p. IsNone p.closed)) stays took.was_open;
   history = later ∙ (took.history ∙ ap (λ es. es ++ (port, took.event) ∷ []) same.1);

@@ -7,3 +7,4 @@ pub mod Hubs
 pub mod Moves
 pub mod Closing
 pub mod Outlines
+pub mod Safe

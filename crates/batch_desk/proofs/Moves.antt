@@ -9,7 +9,7 @@ use Rattle.batch_desk.specs.declared.turned.Turned.TheVariants.{Idle, Handled, M
 use Rattle.batch_desk.specs.HubState.{HubState}
 use Rattle.batch_desk.specs.TurnSteps.{MakesMove, EndsTurn}
 use Rattle.batch_desk.specs.TurnSteps.{AnswersOne}
-use Rattle.batch_desk.specs.Turns.{SameWork, Answers, moves}
+use Rattle.batch_desk.specs.Turns.{SameWork, AnswersTurn, moves}
 
 pub moves-append : (xs ys : List Out) → moves (xs ++ ys) ≡ moves xs + moves ys
 moves-append [] ys = omega arith
@@ -31,13 +31,13 @@ prefix_then xs ys zs p q = (p.0 ++ q.0, sym (append_assoc xs p.0 q.0) ∙ (ap (�
 pub taken_more : (port : ℕ) (h g : HubState) → AnswersOne port h g → length g.history ≡ length h.history + 1
 taken_more port h g took = omega (arith, ap length took.history, length-append h.history ((port, took.event) ∷ []))
 
-answers_taken : (port : ℕ) (h f t g : HubState) (turned : Turned) → SameWork h f → AnswersOne port f t → g.history ≡ t.history → EndsTurn turned t g → Answers turned h g
+answers_taken : (port : ℕ) (h f t g : HubState) (turned : Turned) → SameWork h f → AnswersOne port f t → g.history ≡ t.history → EndsTurn turned t g → AnswersTurn turned h g
 answers_taken port h f t g Idle same took later ends = absurd ends
 answers_taken port h f t g Handled same took later ends =
     (ends.0, omega (arith, ap length same.1, ap moves same.2, ap length later, taken_more port f t took, moves_taken port f t took, ends.1))
 answers_taken port h f t g MovesLeft same took later ends = (ends.0, omega (arith, ap moves same.2, moves_taken port f t took, ends.1))
 
 pub turn_answers : (port : ℕ) (h f t g : HubState) (r : Result Turned HubFault) → SameWork h f → AnswersOne port f t → g.history ≡ t.history
-    → IfOk r (λ turned. EndsTurn turned t g) → IfOk r (λ turned. Answers turned h g)
+    → IfOk r (λ turned. EndsTurn turned t g) → IfOk r (λ turned. AnswersTurn turned h g)
 turn_answers port h f t g (Ok turned) same took later ends = answers_taken port h f t g turned same took later ends
 turn_answers port h f t g (Err fault) same took later ends = tt

@@ -57,5 +57,5 @@ abbrev pub rings : HubState → List (Ring × Option Ring)
 rings h = map port_rings h.ports
 
 -- no move is possible
-abbrev pub IsSettled : EngineView → Type 0
-IsSettled v = next (documents v.cleared) (plant_of v) ≡ None
+abbrev pub IsEngineSettled : EngineView → Type 0
+IsEngineSettled v = next (documents v.cleared) (plant_of v) ≡ None

@@ -9,17 +9,17 @@ use Rattle.batch_desk.specs.DeskState.{DeskState, IsNewDesk, desk_rings}
 use Rattle.batch_desk.specs.PortState.{PortState, IsNewPort, port_rings}
 
 -- rings of 1 to 4,096 places
-pub record IsWithin (plan : PortPlan) : Type 0 where
+pub record IsPlanWithin (plan : PortPlan) : Type 0 where
   pub events_least : 1 ≤ plan.event_places
   pub events_most : plan.event_places ≤ 4096
   pub outs_least : 1 ≤ plan.out_places
   pub outs_most : plan.out_places ≤ 4096
 
 -- 1 to 64 ports
-pub record AreWithin (plans : List PortPlan) : Type 0 where
+pub record ArePlansWithin (plans : List PortPlan) : Type 0 where
   pub least : 1 ≤ length plans
   pub most : length plans ≤ 64
-  pub each : All IsWithin plans
+  pub each : All IsPlanWithin plans
 
 -- what a plan says of its port, and of the port's desk
 abbrev pub port_planned : PortPlan → Scope × ℕ
@@ -44,6 +44,6 @@ pub record AreOfPlans (plans : List PortPlan) (ports : List PortState) (desks : 
 
 -- why no hub was made
 abbrev pub RefusesNew : List PortPlan → HubFault → Type 0
-RefusesNew plans Limit = ¬ AreWithin plans
-RefusesNew plans Memory = AreWithin plans
+RefusesNew plans Limit = ¬ ArePlansWithin plans
+RefusesNew plans Memory = ArePlansWithin plans
 RefusesNew plans _ = ⊥

@@ -56,8 +56,8 @@ abbrev pub answered : Event → Answer → PortState → PortState
 answered event reply p = record p { taken = p.taken ++ event ∷ []; waiting = p.waiting ++ Reply reply ∷ [] }
 
 -- one event was taken and given to the engine, if the port is open and one was there
-abbrev pub Handles : PortState → EngineView → Option (Event × Answer) → PortState → EngineView → Type 0
-Handles p s done q t =
+abbrev pub HandlesEvent : PortState → EngineView → Option (Event × Answer) → PortState → EngineView → Type 0
+HandlesEvent p s done q t =
     MatchOption done ((without_room q ≡ without_room p) × (t ≡ s))
     (λ d. IsNone p.closed × IsAnswered s (event_of d.0) d.1 t × (without_room q ≡ without_room (answered d.0 d.1 p)))
 

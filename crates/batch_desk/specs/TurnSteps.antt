@@ -7,7 +7,7 @@ use Rattle.batch_engine.specs.declared.out.Out.TheVariants.{Reply, Move}
 use Rattle.batch_engine.specs.declared.reply.Reply.{Reply as Answer}
 use Rattle.batch_desk.specs.declared.turned.Turned.{Turned}
 use Rattle.batch_desk.specs.declared.turned.Turned.TheVariants.{Idle, Handled, MovesLeft}
-use Rattle.batch_desk.specs.HubState.{HubState, IsSettled}
+use Rattle.batch_desk.specs.HubState.{HubState, IsEngineSettled}
 use Rattle.batch_desk.specs.Turns.{IsOpen, moves}
 
 -- one event of this port was taken and answered
@@ -33,5 +33,5 @@ Moved h g = (moves h.outs ≤ moves g.outs) × (moves g.outs ≤ moves h.outs + 
 -- what the answer of a turn says of its moves
 abbrev pub EndsTurn : Turned → HubState → HubState → Type 0
 EndsTurn Idle h g = ⊥
-EndsTurn Handled h g = IsSettled g.engine × (moves h.outs ≤ moves g.outs) × ((¬ IsSettled h.engine) → moves h.outs < moves g.outs)
-EndsTurn MovesLeft h g = (¬ IsSettled g.engine) × (moves g.outs ≡ moves h.outs + 64)
+EndsTurn Handled h g = IsEngineSettled g.engine × (moves h.outs ≤ moves g.outs) × ((¬ IsEngineSettled h.engine) → moves h.outs < moves g.outs)
+EndsTurn MovesLeft h g = (¬ IsEngineSettled g.engine) × (moves g.outs ≡ moves h.outs + 64)

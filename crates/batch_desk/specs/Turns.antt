@@ -5,7 +5,7 @@ use Rattle.batch_engine.specs.declared.out.Out.{Out}
 use Rattle.batch_engine.specs.declared.out.Out.TheVariants.{Reply, Move}
 use Rattle.batch_desk.specs.declared.turned.Turned.{Turned}
 use Rattle.batch_desk.specs.declared.turned.Turned.TheVariants.{Idle, Handled, MovesLeft}
-use Rattle.batch_desk.specs.HubState.{HubState, IsSettled, outlines}
+use Rattle.batch_desk.specs.HubState.{HubState, IsEngineSettled, outlines}
 
 -- how many of the outs are moves
 abbrev pub moves : List Out → ℕ
@@ -24,7 +24,7 @@ IsOpen port h = IfSome (slice_get (outlines h) port) (λ p. IsNone p.closed)
 -- while no move was possible, an event of this port, which is open, was put to the end of the history
 pub record Pops (port : ℕ) (h g : HubState) : Type 0 where
   pub event : Event
-  pub settled : IsSettled h.engine
+  pub settled : IsEngineSettled h.engine
   pub was_open : IsOpen port h
   pub history : g.history ≡ h.history ++ (port, event) ∷ []
 
@@ -33,10 +33,10 @@ abbrev pub Grows : ℕ → HubState → HubState → Type 0
 Grows port h g = (g.history ≡ h.history) ⊎ Pops port h g
 
 -- what the answer of a turn says
-abbrev pub Answers : Turned → HubState → HubState → Type 0
-Answers Idle h g = IsSettled h.engine × SameWork h g
-Answers Handled h g = IsSettled g.engine × (length h.history + moves h.outs < length g.history + moves g.outs)
-Answers MovesLeft h g = (¬ IsSettled g.engine) × (moves g.outs ≡ moves h.outs + 64)
+abbrev pub AnswersTurn : Turned → HubState → HubState → Type 0
+AnswersTurn Idle h g = IsEngineSettled h.engine × SameWork h g
+AnswersTurn Handled h g = IsEngineSettled g.engine × (length h.history + moves h.outs < length g.history + moves g.outs)
+AnswersTurn MovesLeft h g = (¬ IsEngineSettled g.engine) × (moves g.outs ≡ moves h.outs + 64)
 
 -- no out of the port waits, or no place for it is known to be free
 abbrev pub IsFlushed : ℕ → HubState → Type 0

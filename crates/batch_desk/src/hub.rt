@@ -1,14 +1,17 @@
 //! The hub.
 ghost use Rattle.std.specs.Prelude.{◌≡◌, length, slice_get, Some, None, OnOk, IfOk, IfErr, IfSome, MatchOption};
 ghost use Rattle.rtrb.specs.Ring.{all_sent};
+ghost use Rattle.batch_model.specs.Records.{IsSafe};
+ghost use Rattle.batch_engine.specs.View.{documents};
 ghost use Rattle.batch_desk.specs.Rings.{IsOfRing};
-ghost use Rattle.batch_desk.specs.HubState.{IsHub, rings};
+ghost use Rattle.batch_desk.specs.HubState.{IsHub, outs_in, rings};
 ghost use Rattle.batch_desk.specs.Turns.{SameWork};
 ghost use Rattle.batch_desk.specs.Ends.{Closes, Cuts, RefusesClose, RefusesCut, RefusesSeal, Seals};
 
 use crate::fault::HubFault;
 use crate::port::Port;
 use batch_engine::{Engine, Event, Out};
+use batch_safety::cleared_runs_safely;
 use rtrb::Finished;
 use std::marker::Model;
 
@@ -46,11 +49,13 @@ impl Hub {
         self.history.as_slice()
     }
 
-    /// The record: all replies and moves so far.
+    /// The record: all replies and moves so far. It is safe, since the set was cleared.
     pub fn record(&self) -> &[Out]
         ensures value { result.now ≡ self.now.outs }
         ensures account { IsHub self.now }
+        ensures safe { IsSafe (documents self.now.engine.cleared) (outs_in self.now.engine.cleared self.now.outs) }
     {
+        cleared_runs_safely(self.engine.cleared());
         self.outs.as_slice()
     }
 

@@ -3,7 +3,7 @@ ghost use Rattle.std.specs.Prelude.{◌≡◌, ◌↔◌, [], IsTrue, IfOk, IfEr
 ghost use Rattle.batch_model.specs.Plant.{opening};
 ghost use Rattle.batch_engine.specs.View.{plant_of};
 ghost use Rattle.batch_desk.specs.DeskState.{IsNewDesk, desk_rings};
-ghost use Rattle.batch_desk.specs.Plans.{AreOfPlans, AreWithin, RefusesNew, port_made, port_planned};
+ghost use Rattle.batch_desk.specs.Plans.{AreOfPlans, ArePlansWithin, RefusesNew, port_made, port_planned};
 ghost use Rattle.batch_desk.specs.PortState.{IsNewPort, port_rings};
 ghost use Rattle.batch_desk.specs.declared.fault.HubFault.TheVariants.{Memory};
 
@@ -21,7 +21,7 @@ const MAX_PORTS: usize = 64;
 
 /// Whether there are 1 to 64 ports, and each ring has 1 to 4,096 places.
 fn are_within(plans: &[PortPlan]) -> bool
-    ensures { IsTrue result ↔ AreWithin plans.now }
+    ensures { IsTrue result ↔ ArePlansWithin plans.now }
 {
     !plans.is_empty() && plans.len() <= MAX_PORTS && plans.iter().all(|plan| plan.is_within())
 }
@@ -69,7 +69,7 @@ impl Hub {
         requires { plant_of engine ≡ opening }
         ensures hub { IfOk result (λ r. (r.0.engine ≡ engine) × (r.0.history ≡ []) × (r.0.outs ≡ [])) }
         ensures ports { IfOk result (λ r. AreOfPlans plans.now r.0.ports r.1.items) }
-        ensures within { IfOk result (λ r. AreWithin plans.now) }
+        ensures within { IfOk result (λ r. ArePlansWithin plans.now) }
         ensures err { IfErr result (λ e. (e.1 ≡ engine) × RefusesNew plans.now e.0) }
     {
         if !are_within(plans) {

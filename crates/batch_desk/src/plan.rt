@@ -1,6 +1,6 @@
 //! The plan of a port.
 ghost use Rattle.std.specs.Prelude.{◌↔◌, IsTrue};
-ghost use Rattle.batch_desk.specs.Plans.{IsWithin};
+ghost use Rattle.batch_desk.specs.Plans.{IsPlanWithin};
 
 use crate::scope::Scope;
 
@@ -18,7 +18,7 @@ pub struct PortPlan {
 impl PortPlan {
     /// Whether each ring has 1 to 4,096 places.
     pub(crate) fn is_within(&self) -> bool
-        ensures { IsTrue result ↔ IsWithin self.now }
+        ensures { IsTrue result ↔ IsPlanWithin self.now }
     {
         1 <= self.event_places
             && self.event_places <= MAX_PLACES

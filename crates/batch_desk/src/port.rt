@@ -4,7 +4,7 @@ ghost use Rattle.rtrb.specs.Ring.{sent, received, known_free, all_sent, SameProd
 ghost use Rattle.batch_desk.specs.Rings.{IsOfRing, ring_of_consumer, ring_of_producer};
 ghost use Rattle.batch_desk.specs.PortState.{IsNewPort, IsSealable, close_at, cut_at, port_rings, sealed};
 ghost use Rattle.batch_desk.specs.Plans.{port_made};
-ghost use Rattle.batch_desk.specs.PortSteps.{Flushes, Handles, HasRoom, StaysOpen, TakesEvent, owe, owe_line, without_room};
+ghost use Rattle.batch_desk.specs.PortSteps.{Flushes, HandlesEvent, HasRoom, StaysOpen, TakesEvent, owe, owe_line, without_room};
 ghost use Rattle.batch_desk.specs.declared.fault.HubFault.TheVariants.{Memory};
 
 use crate::fault::HubFault;
@@ -105,7 +105,7 @@ impl Port {
 
     /// Takes one event, gives it to the engine and owes the port its reply. A closed port gives none.
     pub(crate) fn handle(&mut self, engine: &mut Engine) -> Result<Option<(Event, Reply)>, HubFault>
-        ensures ok { IfOk result (λ done. Handles self.old engine.old done self.new engine.new) }
+        ensures ok { IfOk result (λ done. HandlesEvent self.old engine.old done self.new engine.new) }
         ensures err { IfErr result (λ fault. (fault ≡ Memory) × (without_room self.new ≡ without_room self.old) × (engine.new ≡ engine.old)) }
     {
         if !self.is_open() {

@@ -1,8 +1,8 @@
 //! The turns of a hub.
 ghost use Rattle.std.specs.Prelude.{◌≡◌, ◌<◌, ◌≤◌, ◌+◌, ◌⊎◌, ◌↔◌, length, Err, OnOk, IfOk, IfErr, IsTrue, MatchBool};
 ghost use mathlib.Core.List.{IsPrefix};
-ghost use Rattle.batch_desk.specs.HubState.{IsSettled, outlines, rings};
-ghost use Rattle.batch_desk.specs.Turns.{Answers, Grows, IsFlushed, SameWork, moves};
+ghost use Rattle.batch_desk.specs.HubState.{IsEngineSettled, outlines, rings};
+ghost use Rattle.batch_desk.specs.Turns.{AnswersTurn, Grows, IsFlushed, SameWork, moves};
 ghost use Rattle.batch_desk.specs.TurnSteps.{AnswersOne, EndsTurn, MakesMove, Moved};
 ghost use Rattle.batch_desk.specs.declared.fault.HubFault.TheVariants.{Memory, UnknownPort};
 
@@ -49,7 +49,7 @@ impl Hub {
 
     /// Makes the next move. Memory is reserved for all that it adds before the engine is asked for it.
     fn make_move(&mut self) -> Result<(), HubFault>
-        requires { ¬ IsSettled self.old.engine }
+        requires { ¬ IsEngineSettled self.old.engine }
         ensures outlines { outlines self.new ≡ outlines self.old }
         ensures ok { OnOk result (MakesMove self.old self.new) }
         ensures err { IfErr result (λ fault. (fault ≡ Memory) × SameWork self.old self.new) }
@@ -68,7 +68,7 @@ impl Hub {
 
     /// Whether no move is possible.
     fn is_settled(&self) -> bool
-        ensures { IsTrue result ↔ IsSettled self.now.engine }
+        ensures { IsTrue result ↔ IsEngineSettled self.now.engine }
     {
         self.engine.settled()
     }
@@ -80,8 +80,8 @@ impl Hub {
         ensures history { self.new.history ≡ self.old.history }
         ensures record { IsPrefix self.old.outs self.new.outs }
         ensures count { Moved self.old self.new }
-        ensures some { ¬ IsSettled self.old.engine → OnOk result (moves self.old.outs < moves self.new.outs) }
-        ensures left { OnOk result (IsSettled self.new.engine ⊎ (moves self.new.outs ≡ moves self.old.outs + 64)) }
+        ensures some { ¬ IsEngineSettled self.old.engine → OnOk result (moves self.old.outs < moves self.new.outs) }
+        ensures left { OnOk result (IsEngineSettled self.new.engine ⊎ (moves self.new.outs ≡ moves self.old.outs + 64)) }
         ensures fault { IfErr result (λ fault. fault ≡ Memory) }
     {
         for _ in 0..MAX_MOVES {
@@ -117,7 +117,7 @@ impl Hub {
         ensures cleared { self.new.engine.cleared ≡ self.old.engine.cleared }
         ensures history { Grows port self.old self.new }
         ensures record { IsPrefix self.old.outs self.new.outs }
-        ensures answer { IfOk result (λ turned. Answers turned self.old self.new) }
+        ensures answer { IfOk result (λ turned. AnswersTurn turned self.old self.new) }
         ensures fault { IfErr result (λ fault. fault ≡ Memory) }
     {
         if !self.is_settled() {
@@ -141,7 +141,7 @@ impl Hub {
         ensures cleared { self.new.engine.cleared ≡ self.old.engine.cleared }
         ensures history { Grows port self.old self.new }
         ensures record { IsPrefix self.old.outs self.new.outs }
-        ensures answer { IfOk result (λ turned. Answers turned self.old self.new) }
+        ensures answer { IfOk result (λ turned. AnswersTurn turned self.old self.new) }
         ensures flushed { IsFlushed port self.new }
         ensures unknown { length self.old.ports ≤ port → (result ≡ Err UnknownPort) × (self.new ≡ self.old) }
         ensures fault { IfErr result (λ fault. (fault ≡ Memory) ⊎ ((fault ≡ UnknownPort) × (length self.old.ports ≤ port))) }

@@ -1,6 +1,6 @@
 use Rattle.std.proofs.Common.{ap, ◌∙◌, arith, rules, inl, inr}
 use Rattle.std.proofs.lemmas.Bool.Decides.{eqb_tells}
-use Rattle.batch_desk.specs.HubState.{IsSettled}
+use Rattle.batch_desk.specs.HubState.{IsEngineSettled}
 use Rattle.batch_engine.specs.declared.out.Out.TheVariants.{Move}
 use Rattle.batch_desk.specs.HubState.{HubState}
 use Rattle.batch_desk.proofs.Moves.{moves_made, prefix_more}
@@ -8,7 +8,7 @@ use Rattle.batch_desk.proofs.hub.Hub.make_moves.Goals as goal
 
 pub returns-then-is_settled-clause-some : goal.returns-then-is_settled-clause-some
 returns-then-is_settled-clause-some c unsettled =
-    let settled : IsSettled c.loop.self.engine = search rules in
+    let settled : IsEngineSettled c.loop.self.engine = search rules in
     elim (eqb_tells c.loop.counter 0) [
       | inl e ↦ absurd (unsettled (rw (ap (λ (h : HubState). h.engine) (c.loop.invariant.begin e.1)) at settled))
       | inr ne ↦ omega (arith, c.loop.invariant.count)

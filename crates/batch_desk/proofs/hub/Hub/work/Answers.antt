@@ -1,5 +1,5 @@
 use Rattle.std.proofs.Common.{refl, rules}
-use Rattle.batch_desk.specs.HubState.{IsSettled}
+use Rattle.batch_desk.specs.HubState.{IsEngineSettled}
 use Rattle.batch_desk.proofs.Hubs.{grows_taken}
 use Rattle.batch_desk.proofs.Moves.{turn_answers}
 use Rattle.batch_desk.proofs.hub.Hub.work.Goals as goal
@@ -11,6 +11,6 @@ returns-clause-answer c =
 
 pub returns-clause-history : goal.returns-clause-history
 returns-clause-history c =
-    let settled : IsSettled c.args.self.now.engine = search rules in
+    let settled : IsEngineSettled c.args.self.now.engine = search rules in
     let taken = rw c.if-not-branch.false at c.in_ok-take_event.ensures.taken in
     grows_taken c.args.port _ _ _ _ (refl, refl, refl) settled refl taken c.end_turn-2.ensures.history
