@@ -1,0 +1,8 @@
+//! What the codes of the program's refusals mean, and what to do.
+#![tactic(auto)]
+
+mod explanation;
+mod table;
+
+pub use explanation::{Explanation, explanation_of, explanation_text};
+pub use table::EXPLANATIONS;
