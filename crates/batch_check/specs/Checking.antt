@@ -35,3 +35,9 @@ IsFault c recipes (Circle circle) =
     IsRecipeSet (documents_of c recipes).recipes × Each (IsSoundRecipe (cell_of c) (documents_of c recipes)) (documents_of c recipes).recipes
     × StandsAsCircle c recipes circle.items × BeginsWithLeastName c circle.items
 IsFault c recipes Memory = ⊤
+
+-- the recipes are no set, or memory was wanting
+abbrev pub IsSetFault : equipment.Cell → List document.Recipe → CheckFault → Type 0
+IsSetFault c recipes Recipes = ¬ (IsRecipeSet (documents_of c recipes).recipes)
+IsSetFault c recipes Memory = ⊤
+IsSetFault c recipes _ = ⊥

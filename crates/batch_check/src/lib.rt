@@ -8,6 +8,7 @@ mod edge;
 mod edge_set;
 mod edges;
 mod fault;
+mod graph;
 mod laws;
 mod naming;
 mod path;
@@ -18,6 +19,7 @@ mod turning;
 pub use checking::check;
 pub use edge::Edge;
 pub use fault::CheckFault;
+pub use graph::graph_of;
 pub use laws::{
     certificates_tell_ranks, circle_leaves_no_ranking, least_ranks_rise_along_paths,
     ranks_are_told_by_name, standing_circles_leave_no_clearance,

@@ -5,3 +5,5 @@ pub mod Halted
 pub mod CertificatesAreRead
 pub mod Outcomes
 pub mod Successes
+mod Fronts
+pub mod Drawn

@@ -49,6 +49,10 @@ abbrev pub certificate_ending : CertFault → Ending
 certificate_ending certificate.Memory = OutOfMemory
 certificate_ending _ = Refused
 
+abbrev pub fault_ending : CheckFault → Ending
+fault_ending check.Memory = OutOfMemory
+fault_ending _ = Refused
+
 -- the program halts with this text and so, unless there was no memory for the text
 abbrev pub HaltsWith : List ℕ → Ending → Halt → Type 0
 HaltsWith text ending (halt.Refused verdict) = (string_bytes verdict.text ≡ text) × (verdict.ending ≡ ending)

@@ -7,3 +7,6 @@ pub mod Running
 pub mod Statuses
 pub mod DemoDocuments
 pub mod Requests
+pub mod GraphTexts
+pub mod Drawing
+pub mod Saying

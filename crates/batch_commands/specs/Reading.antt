@@ -6,6 +6,7 @@ use Rattle.batch_reader.specs.CellDocument.{IsCellDocument}
 use Rattle.batch_reader.specs.RecipeDocument.{IsRecipeDocument}
 use Rattle.batch_verify.specs.CertificateText.{Rank, IsCertificateText}
 use Rattle.batch_verify.specs.ClearedSet.{ClearedSet}
+use Rattle.batch_commands.specs.Drawing.{IsDrawn}
 use Rattle.batch_commands.specs.Judging.{IsChecked, IsClearedBy}
 use Rattle.batch_commands.specs.VerdictTexts.{accepted_text}
 use Rattle.batch_commands.specs.declared.verdict.Ending.{Ending}
@@ -45,6 +46,14 @@ pub record ChecksDocuments (gives : Gives) (cell : List ℕ) (paths : List (List
   pub cell_read : ReadsCell gives cell equipment
   pub recipes_read : ReadsRecipes gives paths recipes
   pub judged : IsChecked equipment recipes text ending
+
+-- the drawing of `check --dot` on the documents at these paths
+pub record DrawsDocuments (gives : Gives) (cell : List ℕ) (paths : List (List ℕ)) (text : List ℕ) (ending : Ending) : Type 0 where
+  pub equipment : Cell
+  pub recipes : List Recipe
+  pub cell_read : ReadsCell gives cell equipment
+  pub recipes_read : ReadsRecipes gives paths recipes
+  pub drawn : IsDrawn equipment recipes text ending
 
 -- the documents at these paths are the cell, a certificate of these ranks, and the recipes
 pub record AreRead (gives : Gives) (cell certificate : List ℕ) (paths : List (List ℕ)) (equipment : Cell) (ranks : List Rank) (recipes : List Recipe) : Type 0 where

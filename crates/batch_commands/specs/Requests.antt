@@ -1,8 +1,8 @@
 -- What the words of the program ask for, with the paths of its documents.
-use Rattle.std.specs.Prelude.{◌≡◌, ℕ, List, [], ◌∷◌, map, string_bytes}
+use Rattle.std.specs.Prelude.{◌≡◌, ℕ, Bool, false, List, [], ◌∷◌, map, string_bytes}
 use Rattle.batch_verify.specs.ClearedSet.{ClearedSet}
 use Rattle.batch_words.specs.declared.command.Command.{Command}
-use Rattle.batch_words.specs.declared.command.Command.TheVariants.{Serve, Check, Verify, Run}
+use Rattle.batch_words.specs.declared.command.Command.TheVariants.{Serve, Check, Draw, Verify, Run, Explain}
 use Rattle.batch_commands.specs.DemoDocuments.{demo_text}
 use Rattle.batch_commands.specs.Halting.{HaltsClearing}
 use Rattle.batch_commands.specs.Reading.{AreCleared, Gives}
@@ -13,15 +13,30 @@ pub data Request : Type 0 where
   -- to serve the demo
   serve : Request
   check : (cell : List ℕ) (recipes : List (List ℕ)) → Request
+  -- to draw what they ask for
+  draw : (cell : List ℕ) (recipes : List (List ℕ)) → Request
   verify : (cell certificate : List ℕ) (recipes : List (List ℕ)) → Request
   -- to serve the set of these documents
   run : (cell certificate : List ℕ) (recipes : List (List ℕ)) → Request
+  -- to say what a code means
+  explain : (code : List ℕ) → Request
 
 abbrev pub request_of : Command → Request
 request_of Serve = serve
-request_of (Check cell recipes) = check (string_bytes cell) (map string_bytes recipes.items)
-request_of (Verify cell certificate recipes) = verify (string_bytes cell) (string_bytes certificate) (map string_bytes recipes.items)
-request_of (Run cell certificate recipes) = run (string_bytes cell) (string_bytes certificate) (map string_bytes recipes.items)
+request_of (Check cell recipes quiet) = check (string_bytes cell) (map string_bytes recipes.items)
+request_of (Draw cell recipes quiet) = draw (string_bytes cell) (map string_bytes recipes.items)
+request_of (Verify cell certificate recipes quiet) = verify (string_bytes cell) (string_bytes certificate) (map string_bytes recipes.items)
+request_of (Run cell certificate recipes quiet) = run (string_bytes cell) (string_bytes certificate) (map string_bytes recipes.items)
+request_of (Explain code) = explain (string_bytes code)
+
+-- nothing is to be said in words of a refusal
+abbrev pub is_quiet : Command → Bool
+is_quiet Serve = false
+is_quiet (Check cell recipes quiet) = quiet
+is_quiet (Draw cell recipes quiet) = quiet
+is_quiet (Verify cell certificate recipes quiet) = quiet
+is_quiet (Run cell certificate recipes quiet) = quiet
+is_quiet (Explain code) = false
 
 -- what is read of the demo
 abbrev pub demo_gives : Gives
@@ -31,12 +46,16 @@ demo_gives path reading = reading ≡ demo_text path
 abbrev pub IsServed : Gives → Request → ClearedSet → Type 0
 IsServed gives serve set = AreCleared demo_gives CELL_PATH.now CERTIFICATE_PATH.now (RECIPE_PATH.now ∷ []) set
 IsServed gives (check cell recipes) set = ⊥
+IsServed gives (draw cell recipes) set = ⊥
 IsServed gives (verify cell certificate recipes) set = ⊥
 IsServed gives (run cell certificate recipes) set = AreCleared gives cell certificate recipes set
+IsServed gives (explain code) set = ⊥
 
 -- why there is no set to be served
 abbrev pub HaltsServing : Gives → Request → Halt → Type 0
 HaltsServing gives serve h = HaltsClearing demo_gives CELL_PATH.now CERTIFICATE_PATH.now (RECIPE_PATH.now ∷ []) h
 HaltsServing gives (check cell recipes) h = ⊥
+HaltsServing gives (draw cell recipes) h = ⊥
 HaltsServing gives (verify cell certificate recipes) h = ⊥
 HaltsServing gives (run cell certificate recipes) h = HaltsClearing gives cell certificate recipes h
+HaltsServing gives (explain code) h = ⊥

@@ -1,16 +1,18 @@
 -- What the program writes for its words, to which stream, and how it ends.
-use Rattle.std.specs.Prelude.{◌≡◌, ◌≢◌, ◌⊎◌, ℕ, List, [], Option, Result, Ok, Err, string_bytes}
+use Rattle.std.specs.Prelude.{◌≡◌, ◌⊎◌, ℕ, Bool, List, [], Option, Result, Ok, Err, string_bytes}
 use Rattle.std.specs.Io.KnownBytes.{Appends, Keeps}
 use Rattle.clap.specs.Kinds.{IsAmong}
 use Rattle.clap.specs.Walk.{Text}
 use Rattle.clap.specs.Words.{fault_of, subcommand_of}
 use Rattle.clap.specs.declared.error.kind.ErrorKind.{ErrorKind}
-use Rattle.clap.specs.declared.error.kind.ErrorKind.TheVariants.{DisplayHelp}
-use Rattle.batch_words.specs.CommandLine.{IsCommandOf, program_app}
+use Rattle.batch_explain.specs.Explaining.{told}
+use Rattle.batch_explain.specs.declared.explanation.Explanation.{Explanation}
+use Rattle.batch_words.specs.CommandLine.{IsCommandOf, IsShown, program_app}
 use Rattle.batch_commands.specs.Halting.{HaltsCheck, HaltsClearing}
 use Rattle.batch_commands.specs.Judging.{IsHalt, status_of}
-use Rattle.batch_commands.specs.Reading.{ChecksDocuments, Gives, VerifiesDocuments}
-use Rattle.batch_commands.specs.Requests.{Request, serve, check, verify, run, request_of, IsServed, HaltsServing}
+use Rattle.batch_commands.specs.Reading.{ChecksDocuments, DrawsDocuments, Gives, VerifiesDocuments}
+use Rattle.batch_commands.specs.Requests.{Request, serve, check, draw, verify, run, explain, is_quiet, request_of, IsServed, HaltsServing}
+use Rattle.batch_commands.specs.Saying.{IsSaid}
 use Rattle.batch_verify.specs.ClearedSet.{ClearedSet}
 use Rattle.batch_words.specs.declared.command.Command.{Command}
 use Rattle.batch_commands.specs.declared.course.Course.{Course}
@@ -52,57 +54,83 @@ abbrev pub IsPrinted : Stream → Stream → List ℕ → ℕ → ℕ → Type 0
 IsPrinted output errors text wanted status =
     (Appends output.before output.after text × IsUntouched errors × (status ≡ wanted)) ⊎ (status ≡ fault_status)
 
+-- the verdict was written whole to the output, what a refusal means was said on the errors, and the program ends with the
+-- verdict's status; or it ends with the status of a fault, and then nothing is known of the streams
+abbrev pub IsPronounced : Bool → Stream → Stream → Verdict → ℕ → Type 0
+IsPronounced quiet output errors verdict status =
+    (Appends output.before output.after (string_bytes verdict.text) × IsSaid quiet verdict.sentence errors.before errors.after
+    × (status ≡ status_of verdict.ending))
+    ⊎ (status ≡ fault_status)
+
 -- Commands
 
 -- the words are this command, and have no fault
 abbrev pub IsNamed : List Text → Command → Type 0
 IsNamed words command = (fault_of program_app words ≡ []) × IsCommandOf (subcommand_of program_app words) command
 
--- there is a fault in the words, other than that help is asked for
+-- help or the version is asked for
+abbrev pub AskToShow : List Text → Type 0
+AskToShow words = (kind : ErrorKind) × IsAmong kind (fault_of program_app words) × IsShown kind
+
+-- there is another fault in the words
 abbrev pub AreMisused : List Text → Type 0
-AreMisused words = (kind : ErrorKind) × IsAmong kind (fault_of program_app words) × (kind ≢ DisplayHelp)
+AreMisused words = (kind : ErrorKind) × IsAmong kind (fault_of program_app words) × ¬ (IsShown kind)
 
 -- the outcome of judging documents: the verdict on them, or how the first that can't be read or is refused ends it
 abbrev pub IsOutcome : Gives → Request → Result Verdict Halt → Type 0
 IsOutcome gives serve outcome = ⊥
 IsOutcome gives (check cell recipes) (Ok verdict) = ChecksDocuments gives cell recipes (string_bytes verdict.text) verdict.ending
 IsOutcome gives (check cell recipes) (Err h) = HaltsCheck gives cell recipes h × IsHalt h
+IsOutcome gives (draw cell recipes) (Ok verdict) = DrawsDocuments gives cell recipes (string_bytes verdict.text) verdict.ending
+IsOutcome gives (draw cell recipes) (Err h) = HaltsCheck gives cell recipes h × IsHalt h
 IsOutcome gives (verify cell certificate recipes) (Ok verdict) =
     VerifiesDocuments gives cell certificate recipes (string_bytes verdict.text) verdict.ending
 IsOutcome gives (verify cell certificate recipes) (Err h) = HaltsClearing gives cell certificate recipes h × IsHalt h
 IsOutcome gives (run cell certificate recipes) outcome = ⊥
+IsOutcome gives (explain code) outcome = ⊥
 
 -- verdicts and refusals are printed; a file that can't be read and want of memory leave the output as it was, and are told on
 -- the errors in a free text
-abbrev pub IsTold : Stream → Stream → Result Verdict Halt → ℕ → Type 0
-IsTold output errors (Ok verdict) status = IsPrinted output errors (string_bytes verdict.text) (status_of verdict.ending) status
-IsTold output errors (Err (halt.Refused verdict)) status = IsPrinted output errors (string_bytes verdict.text) (status_of verdict.ending) status
-IsTold output errors (Err (halt.Unread message)) status = IsUntouched output × (status ≡ fault_status)
-IsTold output errors (Err halt.Memory) status = IsUntouched output × (status ≡ memory_status)
+abbrev pub IsTold : Bool → Stream → Stream → Result Verdict Halt → ℕ → Type 0
+IsTold quiet output errors (Ok verdict) status = IsPronounced quiet output errors verdict status
+IsTold quiet output errors (Err (halt.Refused verdict)) status = IsPronounced quiet output errors verdict status
+IsTold quiet output errors (Err (halt.Unread message)) status = IsUntouched output × (status ≡ fault_status)
+IsTold quiet output errors (Err halt.Memory) status = IsUntouched output × (status ≡ memory_status)
 
 -- the set is to be served, and nothing is written; or it is told why there is none
-abbrev pub IsTaken : Stream → Stream → Result ClearedSet Halt → Course → Type 0
-IsTaken output errors (Ok set) course = IsUntouched output × IsUntouched errors × (course ≡ Serves set)
-IsTaken output errors (Err h) (Ends status) = IsTold output errors (Err h) status
-IsTaken output errors (Err h) (Serves set) = ⊥
+abbrev pub IsTaken : Bool → Stream → Stream → Result ClearedSet Halt → Course → Type 0
+IsTaken quiet output errors (Ok set) course = IsUntouched output × IsUntouched errors × (course ≡ Serves set)
+IsTaken quiet output errors (Err h) (Ends status) = IsTold quiet output errors (Err h) status
+IsTaken quiet output errors (Err h) (Serves set) = ⊥
+
+-- what the code means is told, or that it has no explanation, or memory was wanting
+abbrev pub IsExplained : List ℕ → Stream → Stream → ℕ → Type 0
+IsExplained code output errors status =
+    ((explanation : Explanation) × (explanation.code.now ≡ code) × IsPrinted output errors (told explanation) help_status status)
+    ⊎ (IsUntouched output × ((status ≡ usage_status) ⊎ (status ≡ memory_status)))
 
 -- Runs
 
--- what comes of the words: the exit status, or the set that the program is to serve
-pub data IsRun (gives : Gives) (words : List Text) (output errors : Stream) : Course → Type 0 where
-  serves : (command : Command) (set : ClearedSet)
-      → IsNamed words command → IsServed gives (request_of command) set → IsUntouched output → IsUntouched errors
-      → IsRun gives words output errors (Serves set)
+-- what comes of a command: the exit status, or the set that the program is to serve
+pub data IsDone (gives : Gives) (command : Command) (output errors : Stream) : Course → Type 0 where
+  serves : (set : ClearedSet)
+      → IsServed gives (request_of command) set → IsUntouched output → IsUntouched errors → IsDone gives command output errors (Serves set)
   -- there is no set to be served
-  halts : (command : Command) (h : Halt) (status : ℕ)
-      → IsNamed words command → HaltsServing gives (request_of command) h → IsHalt h → IsTold output errors (Err h) status
-      → IsRun gives words output errors (Ends status)
-  judges : (command : Command) (outcome : Result Verdict Halt) (status : ℕ)
-      → IsNamed words command → IsOutcome gives (request_of command) outcome → IsTold output errors outcome status
-      → IsRun gives words output errors (Ends status)
+  halts : (h : Halt) (status : ℕ)
+      → HaltsServing gives (request_of command) h → IsHalt h → IsTold (is_quiet command) output errors (Err h) status
+      → IsDone gives command output errors (Ends status)
+  judges : (outcome : Result Verdict Halt) (status : ℕ)
+      → IsOutcome gives (request_of command) outcome → IsTold (is_quiet command) output errors outcome status
+      → IsDone gives command output errors (Ends status)
+  explains : (code : List ℕ) (status : ℕ)
+      → request_of command ≡ explain code → IsExplained code output errors status → IsDone gives command output errors (Ends status)
+
+-- what comes of the words
+pub data IsRun (gives : Gives) (words : List Text) (output errors : Stream) : Course → Type 0 where
+  commands : (command : Command) (course : Course)
+      → IsNamed words command → IsDone gives command output errors course → IsRun gives words output errors course
   helps : (text : List ℕ) (status : ℕ)
-      → IsAmong DisplayHelp (fault_of program_app words) → IsPrinted output errors text help_status status
-      → IsRun gives words output errors (Ends status)
+      → AskToShow words → IsPrinted output errors text help_status status → IsRun gives words output errors (Ends status)
   misuses : AreMisused words → IsUntouched output → IsRun gives words output errors (Ends usage_status)
   -- there was no memory to read the words
   starves : IsUntouched output → IsRun gives words output errors (Ends memory_status)

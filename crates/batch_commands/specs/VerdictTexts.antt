@@ -12,6 +12,7 @@ use Rattle.batch_reader.specs.declared.fault.DocFault.{DocFault}
 use Rattle.batch_reader.specs.declared.fault.DocFault.TheVariants as document
 use Rattle.batch_reader.specs.declared.fault.EntryFault.{EntryFault}
 use Rattle.batch_reader.specs.declared.fault.EntryFault.TheVariants.{MissingKey, WrongKind, UnknownKey, Undeclared, Duplicate, OutOfLimit, Chart}
+use Rattle.batch_sentences.specs.Shown.{shown}
 use Rattle.batch_verify.specs.CertificateText.{Rank}
 use Rattle.batch_verify.specs.declared.certificate.CertFault.{CertFault}
 use Rattle.batch_verify.specs.declared.certificate.CertFault.TheVariants as certificate
@@ -42,11 +43,11 @@ abbrev pub offset_words : EntryFault → List (List ℕ)
 offset_words (Chart offset) = decimal offset ∷ []
 offset_words _ = []
 
--- the path, and where in the document the fault is
+-- the path, whose control characters are escaped so that it ends no line, and where in the document the fault is
 abbrev pub document_words : List ℕ → DocFault → List (List ℕ)
-document_words path document.NotToml = codes "D1" ∷ path ∷ []
-document_words path (document.Entry spot fault) = code_of fault ∷ path ∷ spot_text spot ∷ offset_words fault
-document_words path document.Memory = codes "D9" ∷ path ∷ []
+document_words path document.NotToml = codes "D1" ∷ shown path ∷ []
+document_words path (document.Entry spot fault) = code_of fault ∷ shown path ∷ spot_text spot ∷ offset_words fault
+document_words path document.Memory = codes "D9" ∷ shown path ∷ []
 
 abbrev pub document_text : List ℕ → DocFault → List ℕ
 document_text path fault = refused (document_words path fault)

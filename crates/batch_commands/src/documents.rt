@@ -2,8 +2,9 @@
 ghost use Rattle.std.specs.Prelude.{◌≡◌, ℕ, List, Option, map, IfOk, IfErr, string_bytes};
 ghost use Rattle.batch_commands.specs.Halting.{HaltsAtCell, HaltsAtCertificate, HaltsAtRecipe, HaltsAtRecipes, HaltsCheck, HaltsClearing, HaltsReading};
 ghost use Rattle.batch_commands.specs.Judging.{IsHalt};
-ghost use Rattle.batch_commands.specs.Reading.{AreCleared, AreRead, ChecksDocuments, IsUnread, ReadsCell, ReadsCertificate, ReadsRecipe, ReadsRecipes, VerifiesDocuments};
+ghost use Rattle.batch_commands.specs.Reading.{AreCleared, AreRead, ChecksDocuments, DrawsDocuments, IsUnread, ReadsCell, ReadsCertificate, ReadsRecipe, ReadsRecipes, VerifiesDocuments};
 
+use crate::drawing::draw_recipes;
 use crate::judging::{
     MAX_CERTIFICATE_LEN, check_recipes, clear_recipes, judge_cell, judge_certificate, judge_recipe,
 };
@@ -42,6 +43,23 @@ pub fn check_documents<D: Documents>(
     Ok(check_recipes(alloc, &cell, &recipes)?)
 }
 
+/// The drawing that `check --dot` makes of the documents at these paths. Its errors are those of [`check_documents`].
+pub fn draw_documents<D: Documents>(
+    alloc: Global,
+    documents: &D,
+    cell: &str,
+    recipes: &[String],
+) -> Result<Verdict, Halt>
+    ensures verdict { IfOk result (λ verdict. DrawsDocuments (D.gives documents.now) cell.now (map string_bytes recipes.now)
+        (string_bytes verdict.text) verdict.ending) }
+    ensures halts { IfErr result IsHalt }
+    ensures halted { IfErr result (HaltsCheck (D.gives documents.now) cell.now (map string_bytes recipes.now)) }
+{
+    let cell = read_cell(alloc, documents, cell)?;
+    let recipes = read_recipes(alloc, documents, recipes)?;
+    Ok(draw_recipes(alloc, &cell, &recipes)?)
+}
+
 /// The verdict of `verify` on the documents at these paths: it accepts the set that [`clear_documents`] gives, and its errors
 /// are those of that call.
 pub fn verify_documents<D: Documents>(
@@ -60,6 +78,7 @@ pub fn verify_documents<D: Documents>(
     Ok(Verdict {
         text: String::from_str(alloc, "accepted\n")?,
         ending: Ending::Accepted,
+        sentence: None,
     })
 }
 
@@ -131,7 +150,7 @@ fn read_certificate<D: Documents>(
     ensures halted { IfErr result (HaltsAtCertificate (D.gives documents.now) path.now) }
 {
     let text = documents.read(alloc, path, MAX_CERTIFICATE_LEN)?;
-    judge_certificate(alloc, &text)
+    judge_certificate(alloc, path, &text)
 }
 
 fn read_recipe<D: Documents>(alloc: Global, documents: &D, path: &str) -> Result<Recipe, Halt>

@@ -1,10 +1,10 @@
 //! Judging documents, over their bytes.
-ghost use Rattle.std.specs.Prelude.{◌≡◌, ◌≤◌, ◌<◌, length, IfOk, IfErr, OnOk, string_bytes};
+ghost use Rattle.std.specs.Prelude.{◌≡◌, ◌≢◌, ◌≤◌, ◌<◌, ℕ, List, length, IfOk, IfErr, OnOk, string_bytes};
 ghost use Rattle.batch_reader.specs.CellDocument.{IsCellDocument};
 ghost use Rattle.batch_reader.specs.RecipeDocument.{IsRecipeDocument};
 ghost use Rattle.batch_verify.specs.CertificateText.{IsCertificateText};
 ghost use Rattle.batch_commands.specs.VerdictTexts.{certificate_refused, document_text};
-ghost use Rattle.batch_commands.specs.Judging.{HaltsWith, IsChecked, IsClearedBy, IsHalt, RefusesCell, RefusesCertificate, RefusesRecipe, RefusesSet, certificate_ending, document_ending};
+ghost use Rattle.batch_commands.specs.Judging.{HaltsWith, IsChecked, IsClearedBy, IsHalt, RefusesCell, RefusesCertificate, RefusesRecipe, RefusesSet, certificate_ending, document_ending, fault_ending};
 
 use crate::texts::{
     certificate_refused, certificate_text, document_text, fault_text, refusal_text,
@@ -14,6 +14,9 @@ use batch_cell::Cell;
 use batch_check::{CheckFault, check};
 use batch_reader::{DocFault, read_cell, read_recipe};
 use batch_recipe::Recipe;
+use batch_sentences::{
+    Asked, Sentence, certificate_sentence, document_sentence, fault_sentence, refusal_sentence,
+};
 use batch_verify::{CertFault, Certificate, Cleared, Refusal, read_certificate, verify};
 use std::alloc::{AllocError, Global};
 
@@ -31,7 +34,7 @@ pub fn judge_cell(alloc: Global, path: &str, bytes: &[u8]) -> Result<Cell, Halt>
 {
     match read_cell(alloc, bytes) {
         Ok(cell) => Ok(cell),
-        Err(fault) => Err(document_halt(alloc, path, fault)),
+        Err(fault) => Err(document_halt(alloc, Asked::Cell, path, bytes, fault)),
     }
 }
 
@@ -43,11 +46,11 @@ pub fn judge_recipe(alloc: Global, path: &str, bytes: &[u8]) -> Result<Recipe, H
 {
     match read_recipe(alloc, bytes) {
         Ok(recipe) => Ok(recipe),
-        Err(fault) => Err(document_halt(alloc, path, fault)),
+        Err(fault) => Err(document_halt(alloc, Asked::Recipe, path, bytes, fault)),
     }
 }
 
-fn document_halt(alloc: Global, path: &str, fault: DocFault) -> Halt
+fn document_halt(alloc: Global, asked: Asked, path: &str, bytes: &[u8], fault: DocFault) -> Halt
     ensures told { HaltsWith (document_text path.now fault) (document_ending fault) result }
     ensures halts { IsHalt result }
 {
@@ -55,9 +58,28 @@ fn document_halt(alloc: Global, path: &str, fault: DocFault) -> Halt
         DocFault::Memory => Ending::OutOfMemory,
         _ => Ending::Refused,
     };
-    match document_text(alloc, path, fault) {
-        Ok(text) => Halt::Refused(Verdict { text, ending }),
-        Err(_) => Halt::Memory,
+    let text = document_text(alloc, path, fault);
+    let sentence = document_sentence(alloc, asked, path, bytes, fault);
+    refused(text, ending, sentence)
+}
+
+/// The refusal, unless there was no memory for its text or its sentence.
+fn refused(
+    text: Result<String, AllocError>,
+    ending: Ending,
+    sentence: Result<Sentence, AllocError>,
+) -> Halt
+    requires { ending ≢ Ending.Accepted }
+    ensures told { (wanted : List ℕ) → IfOk text (λ text. string_bytes text ≡ wanted) → HaltsWith wanted ending result }
+    ensures halts { IsHalt result }
+{
+    match (text, sentence) {
+        (Ok(text), Ok(sentence)) => Halt::Refused(Verdict {
+            text,
+            ending,
+            sentence: Some(sentence),
+        }),
+        _ => Halt::Memory,
     }
 }
 
@@ -65,23 +87,23 @@ fn document_halt(alloc: Global, path: &str, fault: DocFault) -> Halt
 ///
 /// A text with a fault is refused by its first line with one, and a file longer than [`MAX_CERTIFICATE_LEN`] as one of too many
 /// lines, whatever it holds. Want of memory is refused as well; where there is none for that text the error is
-/// [`Halt::Memory`].
-pub fn judge_certificate(alloc: Global, text: &[u8]) -> Result<Certificate, Halt>
+/// [`Halt::Memory`]. Of the path only the sentence speaks.
+pub fn judge_certificate(alloc: Global, path: &str, text: &[u8]) -> Result<Certificate, Halt>
     ensures ok { IfOk result (λ certificate. IsCertificateText text.now certificate.ranks.items) }
     ensures short { OnOk result (length text.now ≤ MAX_CERTIFICATE_LEN) }
     ensures refused { IfErr result (RefusesCertificate text.now) }
     ensures halts { IfErr result IsHalt }
 {
     if text.len() > MAX_CERTIFICATE_LEN {
-        return Err(certificate_halt(alloc, CertFault::TooManyLines));
+        return Err(certificate_halt(alloc, path, text, CertFault::TooManyLines));
     }
     match read_certificate(alloc, text) {
         Ok(certificate) => Ok(certificate),
-        Err(fault) => Err(certificate_halt(alloc, fault)),
+        Err(fault) => Err(certificate_halt(alloc, path, text, fault)),
     }
 }
 
-fn certificate_halt(alloc: Global, fault: CertFault) -> Halt
+fn certificate_halt(alloc: Global, path: &str, bytes: &[u8], fault: CertFault) -> Halt
     ensures told { HaltsWith (certificate_refused fault) (certificate_ending fault) result }
     ensures halts { IsHalt result }
 {
@@ -89,10 +111,9 @@ fn certificate_halt(alloc: Global, fault: CertFault) -> Halt
         CertFault::Memory => Ending::OutOfMemory,
         _ => Ending::Refused,
     };
-    match certificate_refused(alloc, fault) {
-        Ok(text) => Halt::Refused(Verdict { text, ending }),
-        Err(_) => Halt::Memory,
-    }
+    let text = certificate_refused(alloc, fault);
+    let sentence = certificate_sentence(alloc, path, bytes, fault);
+    refused(text, ending, sentence)
 }
 
 /// What `check` prints of the recipes, and how the program ends.
@@ -103,14 +124,23 @@ pub fn check_recipes(alloc: Global, cell: &Cell, recipes: &[Recipe]) -> Result<V
         Ok(certificate) => Ok(Verdict {
             text: certificate_text(alloc, &certificate)?,
             ending: Ending::Accepted,
+            sentence: None,
         }),
         Err(fault) => Ok(Verdict {
             text: fault_text(alloc, cell, recipes, &fault)?,
-            ending: match fault {
-                CheckFault::Memory => Ending::OutOfMemory,
-                _ => Ending::Refused,
-            },
+            ending: fault_ending(&fault),
+            sentence: Some(fault_sentence(alloc, cell, recipes, &fault)?),
         }),
+    }
+}
+
+/// How the program ends where the recipes have no certificate.
+pub(crate) fn fault_ending(fault: &CheckFault) -> Ending
+    ensures { result ≡ fault_ending fault.now }
+{
+    match fault {
+        CheckFault::Memory => Ending::OutOfMemory,
+        _ => Ending::Refused,
     }
 }
 
@@ -143,6 +173,13 @@ pub fn clear_recipes(
                 Refusal::Memory => Ending::OutOfMemory,
                 _ => Ending::Refused,
             },
+            sentence: Some(refusal_sentence(
+                alloc,
+                &rejected.cell,
+                &rejected.recipes,
+                certificate,
+                rejected.fault,
+            )?),
         })),
     }
 }

@@ -4,17 +4,22 @@
 mod course;
 mod demo;
 mod documents;
+mod drawing;
 mod files;
 mod judging;
 mod laws;
 mod limits;
 mod reading;
 mod running;
+mod saying;
 mod texts;
 mod verdict;
 
 pub use course::Course;
-pub use documents::{Documents, check_documents, clear_documents, verify_documents};
+pub use documents::{
+    Documents, check_documents, clear_documents, draw_documents, verify_documents,
+};
+pub use drawing::draw_recipes;
 pub use files::FilesOf;
 pub use judging::{
     MAX_CERTIFICATE_LEN, check_recipes, clear_recipes, judge_cell, judge_certificate, judge_recipe,
@@ -23,5 +28,7 @@ pub use laws::statuses_tell;
 pub use limits::file_limits_are_fixed;
 pub use reading::{MAX_READS, ReadFault, read_document};
 pub use running::{FILE_FAULT, NO_MEMORY, OUT_OF_MEMORY, USAGE, complain, run_words};
-pub use texts::{certificate_refused, certificate_text, document_text, fault_text, refusal_text};
+pub use texts::{
+    certificate_refused, certificate_text, document_text, fault_text, graph_text, refusal_text,
+};
 pub use verdict::{Ending, Halt, Verdict};

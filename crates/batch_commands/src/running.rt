@@ -3,12 +3,16 @@ ghost use Rattle.std.specs.Prelude.{◌≡◌, IfErr, IfOk, OnOk, map, string_by
 ghost use Rattle.std.specs.Io.KnownBytes.{Appends};
 ghost use Rattle.batch_commands.specs.Judging.{IsHalt};
 ghost use Rattle.batch_commands.specs.Requests.{HaltsServing, IsServed, serve};
-ghost use Rattle.batch_commands.specs.Running.{IsPrinted, IsRun, IsTaken, IsTold};
+ghost use Rattle.batch_commands.specs.Running.{IsDone, IsExplained, IsPrinted, IsPronounced, IsRun, IsTaken, IsTold, fault_status};
 
 use crate::course::Course;
 use crate::demo::{CELL_PATH, CERTIFICATE_PATH, Demo, RECIPE_PATH};
-use crate::documents::{Documents, check_documents, clear_documents, verify_documents};
+use crate::documents::{
+    Documents, check_documents, clear_documents, draw_documents, verify_documents,
+};
+use crate::saying::say;
 use crate::verdict::{Halt, Verdict};
+use batch_explain::{explanation_of, explanation_text};
 use batch_verify::Cleared;
 use batch_words::{Command, CommandFault, parse};
 use std::alloc::Global;
@@ -34,10 +38,15 @@ pub const OUT_OF_MEMORY: &str = "out of memory";
 /// What is told of it where the output can't be written.
 const UNWRITTEN: &str = "the output can't be written";
 
+/// What is told of it where a code has no explanation.
+const UNKNOWN_CODE: &str =
+    "there is no such code; a code is what stands behind `refused`, a letter and a number, as D5, E11 or V4";
+
 /// Does what the words ask for: judges documents and tells the verdict, or clears the set that is to be served.
 ///
-/// Verdicts and help go to the output, and all else, in a free text, to the errors. Where that text can't be written the
-/// exit status is the same. Without words the set is that of the demo.
+/// Verdicts, explanations and help go to the output, and all else to the errors: what a refusal means, in one line, unless the
+/// words ask for quiet, and what failed, in a free text. Where that can't be written the exit status is the same. Without words
+/// the set is that of the demo.
 pub fn run_words<D: Documents, O: Write, E: Write>(
     alloc: Global,
     words: &[String],
@@ -50,34 +59,60 @@ pub fn run_words<D: Documents, O: Write, E: Write>(
         (record { before = E.contents errors.old; after = E.contents errors.new }) result }
 {
     match parse(alloc, words) {
-        Ok(Command::Serve) => take(clear_demo(alloc), output, errors),
-        Ok(Command::Check { cell, recipes }) => {
-            let outcome = check_documents(alloc, documents, &cell, &recipes);
-            Course::Ends(tell(&outcome, output, errors))
-        }
-        Ok(
-            Command::Verify {
-                cell,
-                certificate,
-                recipes,
-            },
-        ) => {
-            let outcome = verify_documents(alloc, documents, &cell, &certificate, &recipes);
-            Course::Ends(tell(&outcome, output, errors))
-        }
-        Ok(
-            Command::Run {
-                cell,
-                certificate,
-                recipes,
-            },
-        ) => {
-            let set = clear_documents(alloc, documents, &cell, &certificate, &recipes);
-            take(set, output, errors)
-        }
+        Ok(command) => run_command(alloc, command, documents, output, errors),
         Err(CommandFault::Help(text)) => Course::Ends(print(output, errors, &text, SUCCESS)),
         Err(CommandFault::Usage(text)) => Course::Ends(complain(errors, text.trim_end(), USAGE)),
         Err(CommandFault::Memory) => Course::Ends(complain(errors, OUT_OF_MEMORY, NO_MEMORY)),
+    }
+}
+
+fn run_command<D: Documents, O: Write, E: Write>(
+    alloc: Global,
+    command: Command,
+    documents: &D,
+    output: &mut O,
+    errors: &mut E,
+) -> Course
+    ensures { IsDone (D.gives documents.now) command (record { before = O.contents output.old; after = O.contents output.new })
+        (record { before = E.contents errors.old; after = E.contents errors.new }) result }
+{
+    match command {
+        Command::Serve => take(alloc, false, clear_demo(alloc), output, errors),
+        Command::Run {
+            cell,
+            certificate,
+            recipes,
+            quiet,
+        } => {
+            let set = clear_documents(alloc, documents, &cell, &certificate, &recipes);
+            take(alloc, quiet, set, output, errors)
+        }
+        Command::Check {
+            cell,
+            recipes,
+            quiet,
+        } => {
+            let outcome = check_documents(alloc, documents, &cell, &recipes);
+            Course::Ends(tell(alloc, quiet, &outcome, output, errors))
+        }
+        Command::Draw {
+            cell,
+            recipes,
+            quiet,
+        } => {
+            let outcome = draw_documents(alloc, documents, &cell, &recipes);
+            Course::Ends(tell(alloc, quiet, &outcome, output, errors))
+        }
+        Command::Verify {
+            cell,
+            certificate,
+            recipes,
+            quiet,
+        } => {
+            let outcome = verify_documents(alloc, documents, &cell, &certificate, &recipes);
+            Course::Ends(tell(alloc, quiet, &outcome, output, errors))
+        }
+        Command::Explain { code } => Course::Ends(explain(alloc, &code, output, errors)),
     }
 }
 
@@ -92,27 +127,73 @@ fn clear_demo(alloc: Global) -> Result<Cleared, Halt>
 }
 
 /// Takes the set that is to be served, or tells why there is none.
-fn take<O: Write, E: Write>(set: Result<Cleared, Halt>, output: &mut O, errors: &mut E) -> Course
-    ensures { IsTaken (record { before = O.contents output.old; after = O.contents output.new })
+fn take<O: Write, E: Write>(
+    alloc: Global,
+    quiet: bool,
+    set: Result<Cleared, Halt>,
+    output: &mut O,
+    errors: &mut E,
+) -> Course
+    ensures { IsTaken quiet (record { before = O.contents output.old; after = O.contents output.new })
         (record { before = E.contents errors.old; after = E.contents errors.new }) set result }
 {
     match set {
         Ok(cleared) => Course::Serves(cleared),
-        Err(halt) => Course::Ends(tell(&Err(halt), output, errors)),
+        Err(halt) => Course::Ends(tell(alloc, quiet, &Err(halt), output, errors)),
     }
 }
 
 /// Tells how a command came out, and gives the exit status.
-fn tell<O: Write, E: Write>(outcome: &Result<Verdict, Halt>, output: &mut O, errors: &mut E) -> u8
-    ensures { IsTold (record { before = O.contents output.old; after = O.contents output.new })
+fn tell<O: Write, E: Write>(
+    alloc: Global,
+    quiet: bool,
+    outcome: &Result<Verdict, Halt>,
+    output: &mut O,
+    errors: &mut E,
+) -> u8
+    ensures { IsTold quiet (record { before = O.contents output.old; after = O.contents output.new })
         (record { before = E.contents errors.old; after = E.contents errors.new }) outcome.now result }
 {
     match outcome {
         Ok(verdict) | Err(Halt::Refused(verdict)) => {
-            print(output, errors, &verdict.text, verdict.ending.status())
+            pronounce(alloc, quiet, verdict, output, errors)
         }
         Err(Halt::Unread(text)) => complain(errors, text.as_str(), FILE_FAULT),
         Err(Halt::Memory) => complain(errors, OUT_OF_MEMORY, NO_MEMORY),
+    }
+}
+
+/// Prints the verdict, says what it means where it refuses, and gives its exit status, or that of a write that fails.
+fn pronounce<O: Write, E: Write>(
+    alloc: Global,
+    quiet: bool,
+    verdict: &Verdict,
+    output: &mut O,
+    errors: &mut E,
+) -> u8
+    ensures { IsPronounced quiet (record { before = O.contents output.old; after = O.contents output.new })
+        (record { before = E.contents errors.old; after = E.contents errors.new }) verdict.now result }
+{
+    match write_out(output, &verdict.text) {
+        Ok(()) => {
+            say(alloc, quiet, &verdict.sentence, errors);
+            verdict.ending.status()
+        }
+        Err(_) => unwritten(errors),
+    }
+}
+
+/// Prints what the code means.
+fn explain<O: Write, E: Write>(alloc: Global, code: &str, output: &mut O, errors: &mut E) -> u8
+    ensures { IsExplained code.now (record { before = O.contents output.old; after = O.contents output.new })
+        (record { before = E.contents errors.old; after = E.contents errors.new }) result }
+{
+    match explanation_of(code) {
+        Some(explanation) => match explanation_text(alloc, explanation) {
+            Ok(text) => print(output, errors, &text, SUCCESS),
+            Err(_) => complain(errors, OUT_OF_MEMORY, NO_MEMORY),
+        },
+        None => complain(errors, UNKNOWN_CODE, USAGE),
     }
 }
 
@@ -123,8 +204,15 @@ fn print<O: Write, E: Write>(output: &mut O, errors: &mut E, text: &str, wanted:
 {
     match write_out(output, text) {
         Ok(()) => wanted,
-        Err(_) => complain(errors, UNWRITTEN, FILE_FAULT),
+        Err(_) => unwritten(errors),
     }
+}
+
+/// Tells that the output can't be written, and gives the exit status of that.
+fn unwritten<E: Write>(errors: &mut E) -> u8
+    ensures { result ≡ fault_status }
+{
+    complain(errors, UNWRITTEN, FILE_FAULT)
 }
 
 /// Writes the text and hands it on.

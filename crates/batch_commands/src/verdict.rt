@@ -3,6 +3,7 @@ ghost use Rattle.std.specs.Prelude.{◌≡◌};
 ghost use Rattle.batch_commands.specs.Judging.{status_of};
 ghost use Rattle.batch_commands.specs.declared.verdict.Halt.TheVariants.{Memory};
 
+use batch_sentences::Sentence;
 use std::alloc::{AllocError, AllocFailed};
 
 /// How the program ends after a verdict.
@@ -36,6 +37,8 @@ pub struct Verdict {
     pub text: String,
     /// How the program ends once the text is written.
     pub ending: Ending,
+    /// What a refusal means, for standard error; there is none where nothing is refused.
+    pub sentence: Option<Sentence>,
 }
 
 /// Why the program ends before it has judged all of its documents.

@@ -1,5 +1,5 @@
 -- What a run that serves tells.
-use Rattle.std.proofs.Common.{◌≡◌, ℕ, ◌≤◌, List, Option, Some, None, Result, Ok, Err, inl, inr, refl, subst, arith, ◌∙◌}
+use Rattle.std.proofs.Common.{◌≡◌, ℕ, ◌≤◌, Bool, List, Option, Some, None, Result, Ok, Err, inl, inr, refl, subst, arith, ◌∙◌}
 use Rattle.std.specs.Prelude.{IfSome, take}
 use Rattle.std.specs.Io.KnownBytes.{Appends, Keeps}
 use Rattle.clap.specs.Walk.{Text}
@@ -11,8 +11,8 @@ use Rattle.batch_wire.specs.Written.{AppendsBeginning}
 use Rattle.batch_serve.specs.Safe.{BeginsSafely, WritesSafely, WritesWholeSafely}
 use Rattle.batch_words.specs.declared.command.Command.{Command}
 use Rattle.batch_commands.specs.Reading.{Gives}
-use Rattle.batch_commands.specs.Requests.{Request, IsServed, request_of, serve, check, verify, run}
-use Rattle.batch_commands.specs.Running.{IsNamed, IsPrinted, IsRun, IsTold, Stream, help_status, usage_status, memory_status}
+use Rattle.batch_commands.specs.Requests.{Request, IsServed, is_quiet, request_of, serve, check, draw, verify, run, explain}
+use Rattle.batch_commands.specs.Running.{IsDone, IsExplained, IsNamed, IsPrinted, IsPronounced, IsRun, IsTold, Stream, help_status, usage_status, memory_status}
 use Rattle.batch_commands.specs.Statuses.{IsSuccess}
 use Rattle.batch_commands.proofs.Successes.{same_request, success_is_told}
 use Rattle.batch_commands.specs.Judging.{status_of}
@@ -93,15 +93,22 @@ served_kept set n (Err Memory) unread left before mid after kept (unread_kept, m
 
 -- The set
 
+done_to_serve : (gives : Gives) (output errors : Stream) (command : Command) (course : Course) (set : ClearedSet)
+    → IsDone gives command output errors course → course ≡ course_of.Serves set
+    → IsServed gives (request_of command) set × Keeps output.before output.after
+done_to_serve gives output errors command _ set (running.serves other served kept _) is =
+    let same : other ≡ set = cc in
+    (subst (λ s. IsServed gives (request_of command) s) same served, kept)
+done_to_serve gives output errors command _ set (running.halts _ _ _ _ _) is = absurd cc
+done_to_serve gives output errors command _ set (running.judges _ _ _ _) is = absurd cc
+done_to_serve gives output errors command _ set (running.explains _ _ _ _) is = absurd cc
+
 -- what is to be served is the set of the documents that the words name, and nothing was written
 pub set_to_serve : (gives : Gives) (words : List Text) (output errors : Stream) (course : Course) (set : ClearedSet)
     → IsRun gives words output errors course → course ≡ course_of.Serves set
     → (command : Command) × IsNamed words command × IsServed gives (request_of command) set × Keeps output.before output.after
-set_to_serve gives words output errors _ set (running.serves command other named served kept _) is =
-    let same : other ≡ set = cc in
-    (command, named, subst (λ s. IsServed gives (request_of command) s) same served, kept)
-set_to_serve gives words output errors _ set (running.halts _ _ _ _ _ _ _) is = absurd cc
-set_to_serve gives words output errors _ set (running.judges _ _ _ _ _ _) is = absurd cc
+set_to_serve gives words output errors _ set (running.commands command course named came) is =
+    (command, named, done_to_serve gives output errors command course set came is)
 set_to_serve gives words output errors _ set (running.helps _ _ _ _) is = absurd cc
 set_to_serve gives words output errors _ set (running.misuses _ _) is = absurd cc
 set_to_serve gives words output errors _ set (running.starves _) is = absurd cc
@@ -112,7 +119,9 @@ set_to_serve gives words output errors _ set (running.starves _) is = absurd cc
 nothing_served : (gives : Gives) (request : Request) (output : Stream) → IsToServe request → IsSuccess gives request output → ⊥
 nothing_served gives serve output asked success = success
 nothing_served gives (check cell recipes) output asked success = asked
+nothing_served gives (draw cell recipes) output asked success = asked
 nothing_served gives (verify cell certificate recipes) output asked success = asked
+nothing_served gives (explain code) output asked success = asked
 nothing_served gives (run cell certificate recipes) output asked success = success
 
 ran_to_the_end : (set : ClearedSet) (served : Result (Unit {0}) SetFault) (ends : serving.Ends) → Serves set MAX_READS served ends
@@ -142,19 +151,36 @@ printed_in_range : (output errors : Stream) (text : List ℕ) (wanted status : �
 printed_in_range output errors text wanted status within (inl (_, _, same)) = rw same within
 printed_in_range output errors text wanted status within (inr fault) = rw fault (omega arith)
 
-told_in_range : (output errors : Stream) (outcome : Result Verdict Halt) (status : ℕ) → IsTold output errors outcome status → status ≤ 4
-told_in_range output errors (Ok verdict) status printed = printed_in_range output errors _ _ status (ending_in_range verdict.ending) printed
-told_in_range output errors (Err (halt.Refused verdict)) status printed = printed_in_range output errors _ _ status (ending_in_range verdict.ending) printed
-told_in_range output errors (Err (halt.Unread message)) status (_, fault) = rw fault (omega arith)
-told_in_range output errors (Err halt.Memory) status (_, fault) = rw fault (omega arith)
+pronounced_in_range : (quiet : Bool) (output errors : Stream) (verdict : Verdict) (status : ℕ)
+    → IsPronounced quiet output errors verdict status → status ≤ 4
+pronounced_in_range quiet output errors verdict status (inl (_, _, same)) = rw same (ending_in_range verdict.ending)
+pronounced_in_range quiet output errors verdict status (inr fault) = rw fault (omega arith)
+
+told_in_range : (quiet : Bool) (output errors : Stream) (outcome : Result Verdict Halt) (status : ℕ) → IsTold quiet output errors outcome status → status ≤ 4
+told_in_range quiet output errors (Ok verdict) status told = pronounced_in_range quiet output errors verdict status told
+told_in_range quiet output errors (Err (halt.Refused verdict)) status told = pronounced_in_range quiet output errors verdict status told
+told_in_range quiet output errors (Err (halt.Unread message)) status (_, fault) = rw fault (omega arith)
+told_in_range quiet output errors (Err halt.Memory) status (_, fault) = rw fault (omega arith)
+
+explained_in_range : (code : List ℕ) (output errors : Stream) (status : ℕ) → IsExplained code output errors status → status ≤ 4
+explained_in_range code output errors status (inl (_, _, printed)) = printed_in_range output errors _ help_status status (omega arith) printed
+explained_in_range code output errors status (inr (_, inl usage)) = rw usage (omega arith)
+explained_in_range code output errors status (inr (_, inr memory)) = rw memory (omega arith)
+
+done_in_range : (gives : Gives) (output errors : Stream) (command : Command) (course : Course) (status : ℕ)
+    → IsDone gives command output errors course → course ≡ Ends status → status ≤ 4
+done_in_range gives output errors command _ status (running.serves _ _ _ _) is = absurd cc
+done_in_range gives output errors command _ status (running.halts h told _ _ at) is =
+    let same : told ≡ status = cc in rw (← same) (told_in_range (is_quiet command) output errors (Err h) told at)
+done_in_range gives output errors command _ status (running.judges outcome told _ at) is =
+    let same : told ≡ status = cc in rw (← same) (told_in_range (is_quiet command) output errors outcome told at)
+done_in_range gives output errors command _ status (running.explains code told _ at) is =
+    let same : told ≡ status = cc in rw (← same) (explained_in_range code output errors told at)
 
 course_in_range : (gives : Gives) (words : List Text) (output errors : Stream) (course : Course) (status : ℕ)
     → IsRun gives words output errors course → course ≡ Ends status → status ≤ 4
-course_in_range gives words output errors _ status (running.serves _ _ _ _ _ _) is = absurd cc
-course_in_range gives words output errors _ status (running.halts _ h told _ _ _ at) is =
-    let same : told ≡ status = cc in rw (← same) (told_in_range output errors (Err h) told at)
-course_in_range gives words output errors _ status (running.judges _ outcome told _ _ at) is =
-    let same : told ≡ status = cc in rw (← same) (told_in_range output errors outcome told at)
+course_in_range gives words output errors _ status (running.commands command course _ came) is =
+    done_in_range gives output errors command course status came is
 course_in_range gives words output errors _ status (running.helps text told _ at) is =
     let same : told ≡ status = cc in rw (← same) (printed_in_range output errors text help_status told (omega arith) at)
 course_in_range gives words output errors _ status (running.misuses _ _) is =

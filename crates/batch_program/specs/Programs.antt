@@ -7,7 +7,7 @@ use Rattle.clap.specs.Walk.{Text}
 use Rattle.batch_verify.specs.ClearedSet.{ClearedSet}
 use Rattle.batch_words.specs.declared.command.Command.{Command}
 use Rattle.batch_commands.specs.Reading.{Gives}
-use Rattle.batch_commands.specs.Requests.{Request, serve, check, verify, run, IsServed, request_of}
+use Rattle.batch_commands.specs.Requests.{Request, serve, check, draw, verify, run, explain, IsServed, request_of}
 use Rattle.batch_commands.specs.Running.{IsNamed, IsRun, Stream, fault_status, memory_status}
 use Rattle.batch_commands.specs.declared.course.Course.TheVariants.{Ends}
 use Rattle.batch_serve.specs.Serves as serving
@@ -45,8 +45,10 @@ pub data IsProgramRun (gives : Gives) (words : List Text) (ends : serving.Ends) 
 abbrev pub IsToServe : Request → Type 0
 IsToServe serve = ⊤
 IsToServe (check cell recipes) = ⊥
+IsToServe (draw cell recipes) = ⊥
 IsToServe (verify cell certificate recipes) = ⊥
 IsToServe (run cell certificate recipes) = ⊤
+IsToServe (explain code) = ⊥
 
 -- a run that was to serve and ends with status 0 has answered all lines of its input, by the engine of the set that its documents
 -- make, cleared by their certificate; AnswersAll says that what it wrote is a safe record

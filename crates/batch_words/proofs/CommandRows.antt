@@ -1,11 +1,11 @@
 -- Command lines that are written out, computed in the definitions.
-use Rattle.std.proofs.Common.{◌≡◌, List, [], ◌∷◌, Option, Some, None, codes, refl, option_map}
+use Rattle.std.proofs.Common.{◌≡◌, Bool, true, false, List, [], ◌∷◌, Option, Some, None, codes, refl, option_map}
 use Rattle.clap.specs.Faults.{fault_of}
 use Rattle.clap.specs.Simple.{subcommand_of}
 use Rattle.clap.specs.Walk.{Text, Row}
-use Rattle.clap.specs.declared.error.kind.ErrorKind.TheVariants.{DisplayHelp, InvalidSubcommand, MissingRequiredArgument, UnknownArgument}
+use Rattle.clap.specs.declared.error.kind.ErrorKind.TheVariants.{DisplayHelp, DisplayVersion, InvalidSubcommand, MissingRequiredArgument, UnknownArgument}
 use Rattle.clap.proofs.OnLiterals.{clap_on_literals}
-use Rattle.batch_words.specs.CommandLine.{program_app, word_of, words_of}
+use Rattle.batch_words.specs.CommandLine.{is_given, program_app, word_of, words_of}
 
 abbrev check_line : List Text
 check_line = codes "check" ∷ codes "c" ∷ codes "r" ∷ codes "s" ∷ []
@@ -67,3 +67,26 @@ cell_is_missing = refl
 help_is_shown : fault_of program_app (codes "--help" ∷ []) ≡ DisplayHelp ∷ []
 unfolding clap_on_literals
 help_is_shown = refl
+
+version_is_shown : fault_of program_app (codes "--version" ∷ []) ≡ DisplayVersion ∷ []
+unfolding clap_on_literals
+version_is_shown = refl
+
+abbrev quiet_line : List Text
+quiet_line = codes "check" ∷ codes "--quiet" ∷ codes "c" ∷ []
+
+-- what is read of the flags of the command that was entered
+abbrev entered_flags : Option (Text × List Row) → Option (Bool × Bool)
+entered_flags = option_map (λ p. (is_given (codes "dot") p.1, is_given (codes "quiet") p.1))
+
+flag_is_given : entered_flags (subcommand_of program_app quiet_line) ≡ Some (false, true)
+unfolding clap_on_literals
+flag_is_given = refl
+
+flag_is_taken : fault_of program_app quiet_line ≡ []
+unfolding clap_on_literals
+flag_is_taken = refl
+
+explain_taken : fault_of program_app (codes "explain" ∷ codes "E9" ∷ []) ≡ []
+unfolding clap_on_literals
+explain_taken = refl

@@ -1,20 +1,21 @@
--- The command line: `check CELL RECIPE..`, `verify CELL CERT RECIPE..`, `run CELL CERT RECIPE..`, and no words at all.
-use Rattle.std.specs.Prelude.{◌≡◌, ◌≢◌, ◌⊎◌, [], List, Option, Some, None, map, codes, true, unwrap_or, string_bytes, ⊤}
+-- The command line: `check CELL RECIPE..`, `verify CELL CERT RECIPE..`, `run CELL CERT RECIPE..`, `explain CODE`, and no words at all.
+use Rattle.std.specs.Prelude.{◌≡◌, ◌≢◌, ◌⊎◌, [], Bool, List, Option, Some, None, map, codes, true, false, unwrap_or, string_bytes, ⊤}
+use Rattle.std.specs.Str.{bytes_eq}
 use Rattle.clap.specs.Lexer.{usize_max}
 use Rattle.clap.specs.Kinds.{Kinds, IsAmong}
 use Rattle.clap.specs.Walk.{Row, Rule, Text, first_of, all_of}
 use Rattle.clap.specs.Simple.{App, new_app, new_rule, on_top, with_rule, with_subcommand}
-use Rattle.clap.specs.declared.builder.action.ArgAction.TheVariants.{Set, Append}
+use Rattle.clap.specs.declared.builder.action.ArgAction.TheVariants.{Set, Append, SetTrue}
 use Rattle.clap.specs.declared.error.kind.ErrorKind.{ErrorKind}
-use Rattle.clap.specs.declared.error.kind.ErrorKind.TheVariants.{DisplayHelp, OutOfMemory}
+use Rattle.clap.specs.declared.error.kind.ErrorKind.TheVariants.{DisplayHelp, DisplayVersion, OutOfMemory}
 use Rattle.batch_words.specs.declared.command.Command.{Command}
-use Rattle.batch_words.specs.declared.command.Command.TheVariants.{Serve, Check, Verify, Run}
+use Rattle.batch_words.specs.declared.command.Command.TheVariants.{Serve, Check, Draw, Verify, Run, Explain}
 use Rattle.batch_words.specs.declared.command.CommandFault.{CommandFault}
 use Rattle.batch_words.specs.declared.command.CommandFault.TheVariants.{Help, Usage, Memory}
 
--- a path that has to be there
-abbrev pub path_rule : Text → Rule
-path_rule name = record (new_rule name) { required = true; action = Some Set }
+-- a word that has to be there
+abbrev pub word_rule : Text → Rule
+word_rule name = record (new_rule name) { required = true; action = Some Set }
 
 -- the paths of the recipes, any number of them
 abbrev pub recipes_rule : Rule
@@ -23,21 +24,32 @@ recipes_rule = record (new_rule (codes "RECIPE")) {
   range = Some (record { start_inclusive = 0; end_inclusive = usize_max });
 }
 
+-- a flag behind two dashes, as `--quiet`
+abbrev pub flag_rule : Text → Rule
+flag_rule name = record (new_rule name) { long = Some name; action = Some SetTrue }
+
 abbrev pub check_app : App
-check_app = with_rule (with_rule (new_app (codes "check")) (path_rule (codes "CELL"))) recipes_rule
+check_app = with_rule (with_rule (with_rule (with_rule (new_app (codes "check"))
+    (word_rule (codes "CELL"))) recipes_rule) (flag_rule (codes "dot"))) (flag_rule (codes "quiet"))
 
 abbrev pub verify_app : App
-verify_app = with_rule (with_rule (with_rule (new_app (codes "verify")) (path_rule (codes "CELL"))) (path_rule (codes "CERT"))) recipes_rule
+verify_app = with_rule (with_rule (with_rule (with_rule (new_app (codes "verify"))
+    (word_rule (codes "CELL"))) (word_rule (codes "CERT"))) recipes_rule) (flag_rule (codes "quiet"))
 
 abbrev pub run_app : App
-run_app = with_rule (with_rule (with_rule (new_app (codes "run")) (path_rule (codes "CELL"))) (path_rule (codes "CERT"))) recipes_rule
+run_app = with_rule (with_rule (with_rule (with_rule (new_app (codes "run"))
+    (word_rule (codes "CELL"))) (word_rule (codes "CERT"))) recipes_rule) (flag_rule (codes "quiet"))
+
+abbrev pub explain_app : App
+explain_app = with_rule (new_app (codes "explain")) (word_rule (codes "CODE"))
 
 abbrev pub bare_app : App
-bare_app = on_top (λ s. record s { no_binary_name = true; disable_help_subcommand = true }) (new_app (codes "batchd"))
+bare_app = on_top (λ s. record s { has_version = true; no_binary_name = true; disable_help_subcommand = true }) (new_app (codes "batchd"))
 
 -- the whole command line
 abbrev pub program_app : App
-program_app = with_subcommand (with_subcommand (with_subcommand bare_app check_app.top) verify_app.top) run_app.top
+program_app =
+    with_subcommand (with_subcommand (with_subcommand (with_subcommand bare_app check_app.top) verify_app.top) run_app.top) explain_app.top
 
 -- the word that was given for an argument
 abbrev pub word_of : Text → List Row → Text
@@ -46,34 +58,54 @@ word_of name rows = unwrap_or (first_of name rows) []
 abbrev pub words_of : Text → List Row → List Text
 words_of name rows = unwrap_or (all_of name rows) []
 
+-- a flag was given, which clap tells by the text `true`
+abbrev pub is_given : Text → List Row → Bool
+is_given name rows = bytes_eq (word_of name rows) (codes "true")
+
 -- the command of the word by which it was entered, and of the words behind that
 abbrev pub IsCommandOf : Option (Text × List Row) → Command → Type 0
 IsCommandOf entered Serve = entered ≡ None
-IsCommandOf entered (Check cell recipes) = (rows : List Row) × (entered ≡ Some (codes "check", rows))
+IsCommandOf entered (Check cell recipes quiet) = (rows : List Row) × (entered ≡ Some (codes "check", rows))
+    × (is_given (codes "dot") rows ≡ false)
     × (string_bytes cell ≡ word_of (codes "CELL") rows)
     × (map string_bytes recipes.items ≡ words_of (codes "RECIPE") rows)
-IsCommandOf entered (Verify cell certificate recipes) = (rows : List Row) × (entered ≡ Some (codes "verify", rows))
+    × (quiet ≡ is_given (codes "quiet") rows)
+IsCommandOf entered (Draw cell recipes quiet) = (rows : List Row) × (entered ≡ Some (codes "check", rows))
+    × (is_given (codes "dot") rows ≡ true)
+    × (string_bytes cell ≡ word_of (codes "CELL") rows)
+    × (map string_bytes recipes.items ≡ words_of (codes "RECIPE") rows)
+    × (quiet ≡ is_given (codes "quiet") rows)
+IsCommandOf entered (Verify cell certificate recipes quiet) = (rows : List Row) × (entered ≡ Some (codes "verify", rows))
     × (string_bytes cell ≡ word_of (codes "CELL") rows)
     × (string_bytes certificate ≡ word_of (codes "CERT") rows)
     × (map string_bytes recipes.items ≡ words_of (codes "RECIPE") rows)
-IsCommandOf entered (Run cell certificate recipes) = (rows : List Row) × (entered ≡ Some (codes "run", rows))
+    × (quiet ≡ is_given (codes "quiet") rows)
+IsCommandOf entered (Run cell certificate recipes quiet) = (rows : List Row) × (entered ≡ Some (codes "run", rows))
     × (string_bytes cell ≡ word_of (codes "CELL") rows)
     × (string_bytes certificate ≡ word_of (codes "CERT") rows)
     × (map string_bytes recipes.items ≡ words_of (codes "RECIPE") rows)
+    × (quiet ≡ is_given (codes "quiet") rows)
+IsCommandOf entered (Explain code) = (rows : List Row) × (entered ≡ Some (codes "explain", rows))
+    × (string_bytes code ≡ word_of (codes "CODE") rows)
 
 -- one of the commands was entered, or none
 abbrev pub IsEntry : Option (Text × List Row) → Type 0
 IsEntry None = ⊤
-IsEntry (Some entered) = (entered.0 ≡ codes "check") ⊎ (entered.0 ≡ codes "verify") ⊎ (entered.0 ≡ codes "run")
+IsEntry (Some entered) =
+    (entered.0 ≡ codes "check") ⊎ (entered.0 ≡ codes "verify") ⊎ (entered.0 ≡ codes "run") ⊎ (entered.0 ≡ codes "explain")
+
+-- what the user asks to be shown: help, or the version
+abbrev pub IsShown : ErrorKind → Type 0
+IsShown kind = (kind ≡ DisplayHelp) ⊎ (kind ≡ DisplayVersion)
 
 -- what a fault of this kind is to the user
 abbrev pub IsFaultOfKind : ErrorKind → CommandFault → Type 0
-IsFaultOfKind kind (Help text) = kind ≡ DisplayHelp
-IsFaultOfKind kind (Usage text) = (kind ≢ OutOfMemory) × (kind ≢ DisplayHelp)
+IsFaultOfKind kind (Help text) = IsShown kind
+IsFaultOfKind kind (Usage text) = (kind ≢ OutOfMemory) × ¬ (IsShown kind)
 IsFaultOfKind kind Memory = ⊤
 
--- help is given where it was asked for, and every other kind of fault is a fault of usage
+-- help or the version is shown where it was asked for, and every other kind of fault is a fault of usage
 abbrev pub IsFaultOf : Kinds → CommandFault → Type 0
-IsFaultOf kinds (Help text) = IsAmong DisplayHelp kinds
-IsFaultOf kinds (Usage text) = (kind : ErrorKind) × IsAmong kind kinds × (kind ≢ DisplayHelp)
+IsFaultOf kinds (Help text) = (kind : ErrorKind) × IsAmong kind kinds × IsShown kind
+IsFaultOf kinds (Usage text) = (kind : ErrorKind) × IsAmong kind kinds × ¬ (IsShown kind)
 IsFaultOf kinds Memory = ⊤

@@ -14,25 +14,38 @@ pub enum Command {
     Check {
         cell: String,
         recipes: Vec<String>,
+        quiet: bool,
+    },
+    /// To draw what the recipes ask for after what.
+    Draw {
+        cell: String,
+        recipes: Vec<String>,
+        quiet: bool,
     },
     /// To check a certificate for the recipes.
     Verify {
         cell: String,
         certificate: String,
         recipes: Vec<String>,
+        quiet: bool,
     },
     /// To serve event lines from standard input over these documents.
     Run {
         cell: String,
         certificate: String,
         recipes: Vec<String>,
+        quiet: bool,
+    },
+    /// To say what a code of the program means.
+    Explain {
+        code: String,
     },
 }
 
 /// Why the words are no command.
 #[derive(Debug, Error, Drop)]
 pub enum CommandFault {
-    /// Help was asked for, with the help's text.
+    /// Help or the version was asked for, with the text of it.
     #[error("{0}")]
     Help(String),
     /// The words are no command, with a text that says what is wrong with them.

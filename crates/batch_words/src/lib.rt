@@ -2,7 +2,9 @@
 #![tactic(auto)]
 
 mod command;
+mod line;
 mod words;
 
 pub use command::{Command, CommandFault};
+pub use line::VERSION;
 pub use words::parse;

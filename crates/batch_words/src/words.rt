@@ -1,17 +1,17 @@
 //! The words of the command line.
-ghost use Rattle.std.specs.Prelude.{◌≡◌, IfOk, IfErr, map, string_bytes, codes, false, []};
-ghost use Rattle.clap.specs.Words.{FailsBy, app_of, fault_of, found_of, kind_of, rows_of, rule_of, subcommand_of, subcommand_rows_of};
-ghost use Rattle.clap.specs.declared.builder.command.Command.TheViews.{out-Command};
-ghost use Rattle.batch_words.specs.CommandLine.{IsCommandOf, IsEntry, IsFaultOf, IsFaultOfKind, check_app, path_rule, program_app, recipes_rule, run_app, verify_app, word_of, words_of};
+ghost use Rattle.std.specs.Prelude.{◌≡◌, IfOk, IfErr, map, string_bytes, codes, []};
+ghost use Rattle.clap.specs.Words.{FailsBy, fault_of, found_of, kind_of, rows_of, subcommand_of, subcommand_rows_of};
+ghost use Rattle.batch_words.specs.CommandLine.{IsCommandOf, IsEntry, IsFaultOf, IsFaultOfKind, is_given, program_app, word_of, words_of};
 
 use crate::command::{Command, CommandFault};
+use crate::line::program;
 use clap::error::ErrorKind;
-use clap::{Arg, ArgAction, ArgMatches, Error};
+use clap::{ArgMatches, Error};
 use std::alloc::{AllocError, Global};
 
 /// Reads the words that follow the program's name. Where there are none the program is to serve.
 ///
-/// The error is [`CommandFault::Help`] where the fault that clap gives is that help is asked for, [`CommandFault::Usage`] at any
+/// The error is [`CommandFault::Help`] where the fault that clap gives is that help or the version is asked for, [`CommandFault::Usage`] at any
 /// other, and [`CommandFault::Memory`] where memory ran out, be it for the text of one of these.
 pub fn parse(alloc: Global, words: &[String]) -> Result<Command, CommandFault>
     ensures command { IfOk result (IsCommandOf (subcommand_of program_app (map string_bytes words.now))) }
@@ -31,86 +31,33 @@ fn matches_of<'a>(alloc: Global, words: &'a [String]) -> Result<ArgMatches<'a>, 
     program(alloc)?.try_get_matches_from(words)
 }
 
-/// The command line that the program takes.
-fn program<'a>(alloc: Global) -> Result<clap::Command<'a>, AllocError>
-    ensures { IfOk result (λ program. app_of program ≡ program_app) }
-{
-    clap::Command::new(alloc, "batchd")
-        .about(
-            "A batch server for one process cell; without a command it serves event lines from standard input over a demo cell",
-        )
-        .no_binary_name(true)
-        .disable_help_subcommand(true)
-        .bin_name("batchd")?
-        .subcommand(check(alloc)?)?
-        .subcommand(verify(alloc)?)?
-        .subcommand(run(alloc)?)
-}
-
-fn check<'a>(alloc: Global) -> Result<clap::Command<'a>, AllocError>
-    ensures app { IfOk result (λ check. app_of check ≡ check_app) }
-    ensures local { IfOk result (λ check. (out-Command check).has_globals ≡ false) }
-{
-    clap::Command::new(alloc, "check")
-        .about("Prints a certificate for the recipes, or why there is none")
-        .arg(path(alloc, "CELL", "The cell document"))?
-        .arg(recipes(alloc))
-}
-
-fn verify<'a>(alloc: Global) -> Result<clap::Command<'a>, AllocError>
-    ensures app { IfOk result (λ verify. app_of verify ≡ verify_app) }
-    ensures local { IfOk result (λ verify. (out-Command verify).has_globals ≡ false) }
-{
-    clap::Command::new(alloc, "verify")
-        .about("Prints whether the certificate clears the recipes for the cell")
-        .arg(path(alloc, "CELL", "The cell document"))?
-        .arg(path(alloc, "CERT", "The certificate"))?
-        .arg(recipes(alloc))
-}
-
-fn run<'a>(alloc: Global) -> Result<clap::Command<'a>, AllocError>
-    ensures app { IfOk result (λ run. app_of run ≡ run_app) }
-    ensures local { IfOk result (λ run. (out-Command run).has_globals ≡ false) }
-{
-    clap::Command::new(alloc, "run")
-        .about(
-            "Serves event lines from standard input over the recipes that the certificate clears",
-        )
-        .arg(path(alloc, "CELL", "The cell document"))?
-        .arg(path(alloc, "CERT", "The certificate"))?
-        .arg(recipes(alloc))
-}
-
-fn path<'a>(alloc: Global, name: &'a str, help: &'a str) -> Arg<'a>
-    ensures rule { rule_of result ≡ path_rule name.entry.now }
-    ensures local { result.global ≡ false }
-{
-    Arg::new(alloc, name)
-        .required(true)
-        .action(ArgAction::Set)
-        .help(help)
-}
-
-fn recipes<'a>(alloc: Global) -> Arg<'a>
-    ensures rule { rule_of result ≡ recipes_rule }
-    ensures local { result.global ≡ false }
-{
-    Arg::new(alloc, "RECIPE")
-        .action(ArgAction::Append)
-        .num_args(0..)
-        .help("The master recipes")
-}
-
 fn command_of(alloc: Global, matches: &ArgMatches<'_>) -> Result<Command, AllocError>
     requires { IsEntry (subcommand_rows_of matches.now) }
     ensures { IfOk result (IsCommandOf (subcommand_rows_of matches.now)) }
 {
     match matches.subcommand() {
         Some((name, words)) => {
+            if name == "explain" {
+                let code = word(alloc, words, "CODE")?;
+                return Ok(Command::Explain { code });
+            }
             let cell = word(alloc, words, "CELL")?;
             let recipes = recipe_words(alloc, words)?;
+            let quiet = flag(words, "quiet");
             if name == "check" {
-                return Ok(Command::Check { cell, recipes });
+                return Ok(if flag(words, "dot") {
+                    Command::Draw {
+                        cell,
+                        recipes,
+                        quiet,
+                    }
+                } else {
+                    Command::Check {
+                        cell,
+                        recipes,
+                        quiet,
+                    }
+                });
             }
             let certificate = word(alloc, words, "CERT")?;
             if name == "verify" {
@@ -118,15 +65,27 @@ fn command_of(alloc: Global, matches: &ArgMatches<'_>) -> Result<Command, AllocE
                     cell,
                     certificate,
                     recipes,
+                    quiet,
                 });
             }
             Ok(Command::Run {
                 cell,
                 certificate,
                 recipes,
+                quiet,
             })
         }
         None => Ok(Command::Serve),
+    }
+}
+
+/// Whether the flag was given. Where it wasn't, clap has the text `false` for it.
+fn flag(words: &ArgMatches<'_>, name: &str) -> bool
+    ensures { result ≡ is_given name.now (rows_of (found_of words.now)) }
+{
+    match words.get_str(name) {
+        Some(text) => text == "true",
+        None => false,
     }
 }
 
@@ -159,7 +118,7 @@ fn copies(alloc: Global, texts: &[&str]) -> Result<Vec<String>, AllocError>
     Ok(copies)
 }
 
-/// The fault that clap's error is: help goes to the user who asked for it.
+/// The fault that clap's error is: help and the version go to the user who asked for them.
 fn fault_from(alloc: Global, error: &Error) -> CommandFault
     ensures { IsFaultOfKind (kind_of error.now) result }
 {
@@ -168,7 +127,9 @@ fn fault_from(alloc: Global, error: &Error) -> CommandFault
         return CommandFault::Memory;
     }
     match error.to_string(alloc) {
-        Ok(text) if kind == ErrorKind::DisplayHelp => CommandFault::Help(text),
+        Ok(text) if kind == ErrorKind::DisplayHelp || kind == ErrorKind::DisplayVersion => {
+            CommandFault::Help(text)
+        }
         Ok(text) => CommandFault::Usage(text),
         Err(_) => CommandFault::Memory,
     }

@@ -15,17 +15,29 @@ fn parsed(rt: &(impl Abort + AllocGlobal), words: &[&str]) -> Result<Command, Co
 fn told(alloc: Global, command: &Command) -> Result<String, AllocError> {
     match command {
         Command::Serve => String::from_str(alloc, "serve"),
-        Command::Check { cell, recipes } => format!(in alloc; "check {cell} {recipes:?}"),
+        Command::Check {
+            cell,
+            recipes,
+            quiet,
+        } => format!(in alloc; "check {cell} {recipes:?} {quiet}"),
+        Command::Draw {
+            cell,
+            recipes,
+            quiet,
+        } => format!(in alloc; "draw {cell} {recipes:?} {quiet}"),
         Command::Verify {
             cell,
             certificate,
             recipes,
-        } => format!(in alloc; "verify {cell} {certificate} {recipes:?}"),
+            quiet,
+        } => format!(in alloc; "verify {cell} {certificate} {recipes:?} {quiet}"),
         Command::Run {
             cell,
             certificate,
             recipes,
-        } => format!(in alloc; "run {cell} {certificate} {recipes:?}"),
+            quiet,
+        } => format!(in alloc; "run {cell} {certificate} {recipes:?} {quiet}"),
+        Command::Explain { code } => format!(in alloc; "explain {code}"),
     }
 }
 
@@ -48,13 +60,16 @@ fn summary(rt: &(impl Abort + AllocGlobal), words: &[&str]) -> String {
 
 #[test]
 fn commands(rt: HostRuntime) {
-    let rows: [(&[&str], &str); 6] = [
+    let rows: [(&[&str], &str); 9] = [
         (&[], "serve"),
-        (&["check", "c", "r", "s"], "check c [\"r\", \"s\"]"),
-        (&["check", "c"], "check c []"),
-        (&["verify", "c", "k", "r"], "verify c k [\"r\"]"),
-        (&["verify", "c", "k"], "verify c k []"),
-        (&["run", "c", "k", "r"], "run c k [\"r\"]"),
+        (&["check", "c", "r", "s"], "check c [\"r\", \"s\"] false"),
+        (&["check", "c"], "check c [] false"),
+        (&["check", "c", "r", "--quiet"], "check c [\"r\"] true"),
+        (&["check", "--dot", "c", "r"], "draw c [\"r\"] false"),
+        (&["verify", "c", "k", "r"], "verify c k [\"r\"] false"),
+        (&["verify", "c", "k"], "verify c k [] false"),
+        (&["run", "--quiet", "c", "k", "r"], "run c k [\"r\"] true"),
+        (&["explain", "E9"], "explain E9"),
     ];
     for (words, want) in rows {
         assert_eq!(rt; summary(&rt, words).as_str(), want);
@@ -63,8 +78,10 @@ fn commands(rt: HostRuntime) {
 
 #[test]
 fn faults_of_usage(rt: HostRuntime) {
-    let rows: [&[&str]; 9] = [
+    let rows: [&[&str]; 11] = [
         &["serve", "c", "k"],
+        &["verify", "--dot", "c", "k"],
+        &["explain"],
         &["run", "c"],
         &["plant"],
         &["help"],
@@ -87,7 +104,15 @@ fn help(rt: HostRuntime) {
         panic!(rt; "no help");
     };
     assert!(rt;
-        text.contains("Usage: batchd verify <CELL> <CERT> [RECIPE]..."),
+        text.contains("Usage: batchd verify [OPTIONS] <CELL> <CERT> [RECIPE]..."),
         "{text}"
     );
+}
+
+#[test]
+fn version(rt: HostRuntime) {
+    let Err(CommandFault::Help(text)) = parsed(&rt, &["--version"]) else {
+        panic!(rt; "no version");
+    };
+    assert_eq!(rt; text.as_str(), "batchd 0.1.0\n");
 }

@@ -93,7 +93,7 @@ fn first_fault_ends(rt: HostRuntime) -> Result<(), Fail> {
 #[test]
 fn long_certificate(rt: HostRuntime) -> Result<(), Fail> {
     let text = vec![in rt.alloc(); b'x'; 32_769]?;
-    let Err(Halt::Refused(verdict)) = judge_certificate(rt.alloc(), &text) else {
+    let Err(Halt::Refused(verdict)) = judge_certificate(rt.alloc(), "certificate", &text) else {
         panic!(rt; "no refusal");
     };
     assert_eq!(rt; verdict.text.as_str(), "refused K3\n");

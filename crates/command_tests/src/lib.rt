@@ -20,6 +20,8 @@ mod rows;
 #[cfg(test)]
 mod running;
 #[cfg(test)]
+mod sentences;
+#[cfg(test)]
 mod shares;
 #[cfg(test)]
 mod shelf;

@@ -25,7 +25,7 @@ pub(crate) fn recipes_of(alloc: Global, texts: &[&str]) -> Result<Vec<Recipe>, F
 }
 
 pub(crate) fn certificate_of(alloc: Global, text: &str) -> Result<Certificate, Halt> {
-    judge_certificate(alloc, text.as_bytes())
+    judge_certificate(alloc, "certificate", text.as_bytes())
 }
 
 /// What `check` prints.

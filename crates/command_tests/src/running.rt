@@ -47,22 +47,30 @@ fn told(alloc: Global, words: &[&str]) -> Result<String, Fail> {
 #[test]
 fn verdicts_are_output(rt: HostRuntime) -> Result<(), Fail> {
     let ranks = "Some(0) rank HDR 1\nrank R1 1\nrank R2 1\nrank STEAM 1\n|";
-    let circle = "Some(1) refused C1\nedge N 0.0.0.0 HDR HDR\n|";
+    let circle = "Some(1) refused C1\nedge N 0.0.0.0 HDR HDR\n\
+        |batchd: batches can wait in a circle; N holds HDR and asks for HDR\n";
+    let falling = "Some(1) refused V4 N 0.0.0.0\n\
+        |batchd: N, ADD at 0.0.0.0: it asks for HDR of rank 2 after HDR of rank 2, and ranks have to rise\n";
     let rows: [(&[&str], &str); 8] = [
         (&["check", "cell", "a"], ranks),
         (&["check", "cell", "n"], circle),
+        (
+            &["check", "--quiet", "cell", "n"],
+            "Some(1) refused C1\nedge N 0.0.0.0 HDR HDR\n|",
+        ),
         (&["verify", "cell", "ranks", "a"], "Some(0) accepted\n|"),
+        (&["verify", "cell", "ranks", "n"], falling),
+        (&["run", "cell", "ranks", "n"], falling),
         (
-            &["verify", "cell", "ranks", "n"],
-            "Some(1) refused V4 N 0.0.0.0\n|",
+            &["verify", "cell", "bad", "a"],
+            "Some(1) refused K1 1\n\
+                |batchd: bad: line 1 is no line `rank NAME NUMBER` with a number of 1 to 1000000\n",
         ),
         (
-            &["run", "cell", "ranks", "n"],
-            "Some(1) refused V4 N 0.0.0.0\n|",
+            &["check", "a", "cell"],
+            "Some(1) refused D2 a cell 0\n\
+                |batchd: a: this is a recipe, and the cell is to stand here: the cell comes first\n",
         ),
-        (&["check", "cell", "a", "bad"], "Some(1) refused D1 bad\n|"),
-        (&["verify", "cell", "bad", "a"], "Some(1) refused K1 1\n|"),
-        (&["verify", "bad", "ranks"], "Some(1) refused D1 bad\n|"),
     ];
     for (words, want) in rows {
         assert_eq!(rt; told(rt.alloc(), words)?.as_str(), want, "{words:?}");
@@ -79,7 +87,7 @@ fn begins_and_names(alloc: Global, words: &[&str], front: &str, part: &str) -> R
 #[test]
 fn help_is_output(rt: HostRuntime) -> Result<(), Fail> {
     let told = told(rt.alloc(), &["verify", "--help"])?;
-    assert!(rt; told.contains("Usage: batchd verify <CELL> <CERT> [RECIPE]..."));
+    assert!(rt; told.contains("Usage: batchd verify [OPTIONS] <CELL> <CERT> [RECIPE]..."));
     assert!(rt; told.starts_with("Some(0) "));
     assert!(rt; told.ends_with("|"));
     Ok(())
@@ -87,7 +95,8 @@ fn help_is_output(rt: HostRuntime) -> Result<(), Fail> {
 
 #[test]
 fn faults_are_errors(rt: HostRuntime) -> Result<(), Fail> {
-    let rows: [(&[&str], &str, &str); 5] = [
+    let rows: [(&[&str], &str, &str); 6] = [
+        (&["explain", "E12"], "Some(2) |", "no such code"),
         (&["check", "cell", "nowhere", "bad"], "Some(3) |", "nowhere"),
         (&["check"], "Some(2) |", "<CELL>"),
         (&["run"], "Some(2) |", "<CERT>"),
@@ -100,6 +109,33 @@ fn faults_are_errors(rt: HostRuntime) -> Result<(), Fail> {
             "{words:?}"
         );
     }
+    Ok(())
+}
+
+#[test]
+fn codes_are_explained(rt: HostRuntime) -> Result<(), Fail> {
+    let want = "Some(0) D4: the table has a key that tables of its kind don't have.\n\
+        To do: take the key away, or write it as docs/FORMATS.md does.\n|";
+    assert_eq!(rt; told(rt.alloc(), &["explain", "D4"])?.as_str(), want);
+    Ok(())
+}
+
+#[test]
+fn graphs_are_drawn(rt: HostRuntime) -> Result<(), Fail> {
+    let good = "Some(0) digraph \"DEMO\" {\n}\n|";
+    assert_eq!(rt;
+        told(rt.alloc(), &["check", "--dot", "cell", "a"])?.as_str(),
+        good
+    );
+    let circle = "Some(1) digraph \"DEMO\" {
+  \"R1\" -> \"HDR\" [label=\"N 0.0.0.0\"];
+  \"HDR\" -> \"HDR\" [label=\"N 0.0.0.0\", color=red];
+}
+|batchd: batches can wait in a circle; N holds HDR and asks for HDR\n";
+    assert_eq!(rt;
+        told(rt.alloc(), &["check", "--dot", "cell", "n"])?.as_str(),
+        circle
+    );
     Ok(())
 }
 

@@ -121,6 +121,14 @@ fn set_without_recipes_is_served(rt: HostRuntime) -> Result<(), Fail> {
 #[test]
 fn set_that_is_not_cleared_is_not_served(rt: HostRuntime) -> Result<(), Fail> {
     let ran = run(rt.alloc(), &["run", "cell", "short", "a"], INPUT)?;
+    assert!(rt;
+        ran.is(
+            b"refused V1 STEAM\n",
+            b"batchd: the certificate has no line for STEAM, a resource of the cell DEMO\n",
+            1
+        )
+    );
+    let ran = run(rt.alloc(), &["run", "--quiet", "cell", "short", "a"], INPUT)?;
     assert!(rt; ran.is(b"refused V1 STEAM\n", b"", 1));
     Ok(())
 }
@@ -158,13 +166,7 @@ fn failed_write_ends_the_run(rt: HostRuntime) -> Result<(), Fail> {
 fn verdict_is_handed_on(rt: HostRuntime) -> Result<(), Fail> {
     let words = ["verify", "cell", "ranks", "a"];
     let ran = run_into(rt.alloc(), &words, 1, Failure::KeepsBack)?;
-    assert!(rt;
-        ran.is(
-            b"accepted\n",
-            b"batchd: the output can't be written\n",
-            3
-        )
-    );
+    assert!(rt; ran.is(b"accepted\n", b"batchd: the output can't be written\n", 3));
     Ok(())
 }
 

@@ -1,0 +1,6 @@
+use Rattle.std.proofs.Common.{◌≡◌, take, string_bytes}
+use Rattle.batch_commands.specs.GraphTexts.{arrows_text}
+use Rattle.batch_commands.proofs.texts.graphs.arrows_text.Given as goal
+
+abbrev pub invariant-loop-edge : goal.invariant-loop-edge
+invariant-loop-edge l = string_bytes l.text ≡ arrows_text l.cell l.recipes l.circle (take l.edge-index l.edges)

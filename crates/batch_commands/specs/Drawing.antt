@@ -1,0 +1,30 @@
+-- What `check --dot` prints of recipes.
+use Rattle.std.specs.Prelude.{◌≡◌, ◌≢◌, ℕ, List, []}
+use Rattle.batch_cell.specs.declared.cell.Cell.{Cell}
+use Rattle.batch_recipe.specs.declared.recipe.Recipe.{Recipe}
+use Rattle.batch_model.specs.Cleared.{CanBeCleared}
+use Rattle.batch_model.specs.Documents.{cell_of, documents_of}
+use Rattle.batch_check.specs.Checking.{IsFault}
+use Rattle.batch_check.specs.Edges.{AreEdgesOf}
+use Rattle.batch_check.specs.declared.edge.Edge.{Edge}
+use Rattle.batch_check.specs.declared.fault.CheckFault.{CheckFault}
+use Rattle.batch_check.specs.declared.fault.CheckFault.TheVariants.{Circle, Memory}
+use Rattle.batch_commands.specs.GraphTexts.{graph_text}
+use Rattle.batch_commands.specs.VerdictTexts.{fault_text}
+use Rattle.batch_commands.specs.declared.verdict.Ending.{Ending}
+use Rattle.batch_commands.specs.declared.verdict.Ending.TheVariants.{Accepted, Refused, OutOfMemory}
+
+-- the text is the graph of the edges of these recipes, each of which stands in a recipe, and which leave out no two resources
+-- that follow one another on a path
+abbrev pub IsDrawingOf : Cell → List Recipe → List Edge → List ℕ → Type 0
+IsDrawingOf c rs circle text = (edges : List Edge) × AreEdgesOf c rs edges × (text ≡ graph_text c rs edges circle)
+
+-- a circle is marked in the graph, and another fault is told as `check` tells it
+abbrev pub IsFaultDrawn : Cell → List Recipe → CheckFault → List ℕ → Type 0
+IsFaultDrawn c rs (Circle circle) text = IsDrawingOf c rs circle.items text
+IsFaultDrawn c rs fault text = text ≡ fault_text c rs fault
+
+abbrev pub IsDrawn : Cell → List Recipe → List ℕ → Ending → Type 0
+IsDrawn c rs text Accepted = CanBeCleared (cell_of c) (documents_of c rs) × IsDrawingOf c rs [] text
+IsDrawn c rs text Refused = (fault : CheckFault) × (fault ≢ Memory) × IsFault c rs fault × IsFaultDrawn c rs fault text
+IsDrawn c rs text OutOfMemory = text ≡ fault_text c rs Memory

@@ -1,0 +1,21 @@
+-- What is said to a person beside a verdict.
+use Rattle.std.specs.Prelude.{◌≡◌, ◌++◌, ℕ, Bool, true, false, List, Option, Some, None, codes, string_bytes}
+use Rattle.std.specs.Io.KnownBytes.{Appends, Keeps}
+use Rattle.batch_sentences.specs.declared.sentence.Sentence.{Sentence}
+
+-- the sentence in a line of its own, behind the program's name
+abbrev pub line_of : Sentence → List ℕ
+line_of sentence = codes "batchd: " ++ (string_bytes sentence.text ++ codes "\n")
+
+-- the text was written, or a front of it, where the rest can't be written
+pub record WritesFront (before after : Option (List ℕ)) (text : List ℕ) : Type 0 where
+  pub written : List ℕ
+  pub rest : List ℕ
+  pub splits : text ≡ written ++ rest
+  pub appends : Appends before after written
+
+-- nothing is said where the words ask for quiet or nothing is refused, and else the line of the sentence
+abbrev pub IsSaid : Bool → Option Sentence → Option (List ℕ) → Option (List ℕ) → Type 0
+IsSaid true sentence before after = Keeps before after
+IsSaid false None before after = Keeps before after
+IsSaid false (Some sentence) before after = WritesFront before after (line_of sentence)

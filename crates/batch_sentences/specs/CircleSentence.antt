@@ -1,0 +1,30 @@
+-- What a circle means, in words.
+use Rattle.std.specs.Prelude.{◌≡◌, ℕ, List, [], ◌++◌, codes, slice_get, unwrap_or, option_map, ⊤}
+use Rattle.std.specs.List.{flat_map}
+use Rattle.batch_cell.specs.LookUps.{resources_of}
+use Rattle.batch_cell.specs.declared.cell.Cell.{Cell}
+use Rattle.batch_recipe.specs.declared.recipe.Recipe.{Recipe}
+use Rattle.batch_check.specs.declared.edge.Edge.{Edge}
+use Rattle.batch_check.specs.declared.fault.CheckFault.{CheckFault}
+use Rattle.batch_check.specs.declared.fault.CheckFault.TheVariants.{Circle}
+use Rattle.batch_sentences.specs.Shown.{shown}
+
+abbrev pub resource_name : Cell → ℕ → List ℕ
+resource_name cell resource = unwrap_or (slice_get (resources_of cell) resource) []
+
+abbrev pub recipe_name : List Recipe → ℕ → List ℕ
+recipe_name recipes recipe = unwrap_or (option_map (λ (r : Recipe). r.acts.procedure.name) (slice_get recipes recipe)) []
+
+-- a batch of the edge's recipe holds the one resource and asks for the other
+abbrev pub edge_words : Cell → List Recipe → Edge → List ℕ
+edge_words cell recipes e =
+    codes "; " ++ (recipe_name recipes e.recipe ++ (codes " holds " ++ (resource_name cell e.earlier
+    ++ (codes " and asks for " ++ resource_name cell e.later))))
+
+abbrev pub circle_words : Cell → List Recipe → List Edge → List ℕ
+circle_words cell recipes edges = codes "batches can wait in a circle" ++ flat_map (edge_words cell recipes) edges
+
+-- the sentence on a circle says it edge by edge
+abbrev pub SaysCircle : Cell → List Recipe → CheckFault → List ℕ → Type 0
+SaysCircle cell recipes (Circle edges) text = text ≡ shown (circle_words cell recipes edges.items)
+SaysCircle cell recipes fault text = ⊤

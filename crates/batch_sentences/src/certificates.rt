@@ -1,0 +1,37 @@
+//! What is wrong with a certificate.
+use crate::sentence::Sentence;
+use batch_verify::{CertFault, MAX_LINES, MAX_RANK};
+use std::alloc::{AllocError, Global};
+
+/// What the fault of the certificate at this path means. A text that looks like another document is told as one that stands in
+/// the certificate's place.
+pub fn certificate_sentence(
+    alloc: Global,
+    path: &str,
+    text: &[u8],
+    fault: CertFault,
+) -> Result<Sentence, AllocError> {
+    let said = match fault {
+        CertFault::NotARank(1) if is_toml(text) => String::from_str(
+            alloc,
+            "this looks like a document of a cell or a recipe, and the certificate is to stand here: CELL CERT RECIPE..",
+        )?,
+        CertFault::NotARank(line) => format!(in alloc;
+            "line {line} is no line `rank NAME NUMBER` with a number of 1 to {MAX_RANK}"
+        )?,
+        CertFault::NotInOrder(line) => format!(in alloc;
+            "the name in line {line} comes before that of the line above it, by the order of bytes"
+        )?,
+        CertFault::TooManyLines => {
+            format!(in alloc; "a certificate has at most {MAX_LINES} lines")?
+        }
+        CertFault::Memory => String::from_str(alloc, "there is no memory to read it")?,
+    };
+    let said = format!(in alloc; "{path}: {said}")?;
+    Sentence::of(alloc, said.as_str())
+}
+
+/// Whether the text begins as a document does.
+fn is_toml(text: &[u8]) -> bool {
+    text.starts_with(b"cell") || text.starts_with(b"recipe") || text.starts_with(b"#")
+}

@@ -1,0 +1,107 @@
+//! What is wrong with a document.
+use crate::entries::{tables_of, wrong_at};
+use crate::keys::word_of;
+use crate::lines::line_of;
+use crate::sentence::Sentence;
+use batch_reader::{DocFault, EntryFault, MAX_DOCUMENT_LEN, Spot};
+use std::alloc::{AllocError, Global};
+use toml::Table;
+
+/// Which document is to stand at a path.
+#[derive(Clone, Copy, Debug, PartialEq, Eq)]
+pub enum Asked {
+    Cell,
+    Recipe,
+}
+
+/// What the fault of the document at this path means: the key or the name that is wrong and its line, where they can be told.
+///
+/// Of a cell that stands in a recipe's place, and the other way round, it says this.
+pub fn document_sentence(
+    alloc: Global,
+    asked: Asked,
+    path: &str,
+    bytes: &[u8],
+    fault: DocFault,
+) -> Result<Sentence, AllocError> {
+    let said = match fault {
+        DocFault::NotToml => toml_said(alloc, bytes)?,
+        DocFault::Entry(spot, fault) => match parts_of(alloc, bytes) {
+            Some((text, document)) => match exchanged(asked, &document) {
+                Some(said) => String::from_str(alloc, said)?,
+                None => entry_said(alloc, text, &document, spot, fault)?,
+            },
+            None => format!(in alloc; "it is longer than {MAX_DOCUMENT_LEN} bytes")?,
+        },
+        DocFault::Memory => String::from_str(alloc, "there is no memory to read it")?,
+    };
+    let said = format!(in alloc; "{path}: {said}")?;
+    Sentence::of(alloc, said.as_str())
+}
+
+/// Why the bytes are no TOML.
+fn toml_said(alloc: Global, bytes: &[u8]) -> Result<String, AllocError> {
+    if bytes.starts_with(b"rank ") {
+        return String::from_str(
+            alloc,
+            "this looks like a certificate, which stands behind the cell alone: CELL CERT RECIPE..",
+        );
+    }
+    match toml::table_from_slice(alloc, bytes) {
+        Ok(_) => String::from_str(alloc, "it is no TOML"),
+        Err(error) => format!(in alloc; "it is no TOML: {error}"),
+    }
+}
+
+/// The text of a document, and what TOML reads in it. None of one that is too long.
+fn parts_of(alloc: Global, bytes: &[u8]) -> Option<(&str, Table)> {
+    if bytes.len() > MAX_DOCUMENT_LEN {
+        return None;
+    }
+    let text = std::str::from_utf8(bytes).ok()?;
+    let document = toml::table_from_str(alloc, text).ok()?;
+    Some((text, document))
+}
+
+fn exchanged(asked: Asked, document: &Table) -> Option<&'static str> {
+    match asked {
+        Asked::Cell if document.contains_key("recipe") => {
+            Some("this is a recipe, and the cell is to stand here: the cell comes first")
+        }
+        Asked::Recipe if document.contains_key("cell") => {
+            Some("this is a cell, and a recipe is to stand here: the cell comes first")
+        }
+        _ => None,
+    }
+}
+
+/// Where the fault is, and what is wrong there.
+fn entry_said(
+    alloc: Global,
+    text: &str,
+    document: &Table,
+    spot: Spot,
+    fault: EntryFault,
+) -> Result<String, AllocError> {
+    let wrong = wrong_at(alloc, document, spot, fault)?;
+    let tables = tables_of(document, spot.kind);
+    let line = line_of(text, spot, tables, wrong.key.as_str());
+    let table = table_said(alloc, spot)?;
+    let what = wrong.what;
+    match line {
+        Some(line) => format!(in alloc; "line {line}, {table}: {what}"),
+        None => format!(in alloc; "{table}: {what}"),
+    }
+}
+
+/// The table at the spot, counted from 1.
+fn table_said(alloc: Global, spot: Spot) -> Result<String, AllocError> {
+    match word_of(spot.kind) {
+        None => String::from_str(alloc, "at the top"),
+        Some("procedure") => String::from_str(alloc, "[procedure]"),
+        Some(word) => {
+            let number = spot.entry.saturating_add(1);
+            format!(in alloc; "[[{word}]] number {number}")
+        }
+    }
+}

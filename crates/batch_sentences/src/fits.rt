@@ -1,0 +1,79 @@
+//! Whether values are what their keys are to have.
+use crate::keys::Shape;
+use batch_text::is_name;
+use std::alloc::{AllocError, Global};
+use toml::Value;
+
+/// How a value suits its key.
+#[derive(Clone, Copy, Debug, PartialEq, Eq)]
+pub(crate) enum Fit {
+    Good,
+    WrongKind,
+    OutOfLimit,
+}
+
+impl Fit {
+    fn within(is_within: bool) -> Fit {
+        if is_within {
+            Fit::Good
+        } else {
+            Fit::OutOfLimit
+        }
+    }
+}
+
+pub(crate) fn suit(shape: Shape, value: &Value) -> Fit {
+    match shape {
+        Shape::Name => name_fit(value),
+        Shape::Text(most) => match value.as_str() {
+            Some(text) => Fit::within(text.len() <= most),
+            None => Fit::WrongKind,
+        },
+        Shape::Number(least, most) => match value.as_integer() {
+            Some(number) => Fit::within(least <= number && number <= most),
+            None => Fit::WrongKind,
+        },
+        Shape::Truth => match value.as_bool() {
+            Some(_) => Fit::Good,
+            None => Fit::WrongKind,
+        },
+        Shape::Names(least, most) => match value.as_array() {
+            Some(items) if items.iter().any(|item| name_fit(item) == Fit::WrongKind) => {
+                Fit::WrongKind
+            }
+            Some(items) => Fit::within(least <= items.len() && items.len() <= most),
+            None => Fit::WrongKind,
+        },
+        Shape::Needs(most) => match value.as_array() {
+            Some(items) if items.iter().any(|item| item.as_str().is_none()) => Fit::WrongKind,
+            Some(items) => Fit::within(items.len() <= most),
+            None => Fit::WrongKind,
+        },
+        Shape::Tables => Fit::Good,
+    }
+}
+
+fn name_fit(value: &Value) -> Fit {
+    match value.as_str() {
+        Some(text) if is_name(text.as_bytes()) => Fit::Good,
+        _ => Fit::WrongKind,
+    }
+}
+
+/// What a value of this shape is.
+pub(crate) fn shape_said(alloc: Global, shape: Shape) -> Result<String, AllocError> {
+    match shape {
+        Shape::Name => String::from_str(
+            alloc,
+            "a name: 1 to 32 letters, digits, `_` and `-`, the first of them a letter",
+        ),
+        Shape::Text(most) => format!(in alloc; "a text of at most {most} bytes"),
+        Shape::Number(least, most) => format!(in alloc; "a whole number of {least} to {most}"),
+        Shape::Truth => String::from_str(alloc, "true or false"),
+        Shape::Names(least, most) => format!(in alloc; "a list of {least} to {most} names"),
+        Shape::Needs(most) => {
+            format!(in alloc; "a list of at most {most} needs, as \"STEAM\" or \"STEAM*2\"")
+        }
+        Shape::Tables => String::from_str(alloc, "tables"),
+    }
+}

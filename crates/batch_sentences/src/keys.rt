@@ -1,0 +1,118 @@
+//! The keys that tables of documents have.
+use batch_reader::{MAX_CHART_LEN, TableKind};
+
+/// What a key's value is to be.
+#[derive(Clone, Copy, Debug, PartialEq, Eq)]
+pub(crate) enum Shape {
+    Name,
+    /// A text of at most so many bytes.
+    Text(usize),
+    /// A whole number of these limits.
+    Number(i64, i64),
+    Truth,
+    /// A list of names, of these limits in number.
+    Names(usize, usize),
+    /// A list of needs, at most so many.
+    Needs(usize),
+    /// Tables, which are looked at by themselves.
+    Tables,
+}
+
+/// A key of a table: its name, whether the table needs it, and what its value is to be.
+#[derive(Clone, Copy, Debug, PartialEq, Eq)]
+pub(crate) struct Key(pub(crate) &'static str, pub(crate) bool, pub(crate) Shape);
+
+const NAME: Key = Key("name", true, Shape::Name);
+
+const CHART: Key = Key("chart", true, Shape::Text(MAX_CHART_LEN));
+
+const NEEDS: Key = Key("needs", false, Shape::Needs(16));
+
+const GREATEST_VALUE: i64 = 1_000_000_000_000;
+
+const CELL: [Key; 4] = [
+    Key("cell", true, Shape::Name),
+    Key("unit", false, Shape::Tables),
+    Key("module", false, Shape::Tables),
+    Key("shared", false, Shape::Tables),
+];
+
+const MODULE: [Key; 3] = [
+    NAME,
+    Key("unit", false, Shape::Name),
+    Key("phases", false, Shape::Names(1, 32)),
+];
+
+const SHARED: [Key; 2] = [NAME, Key("capacity", true, Shape::Number(1, 1_000))];
+
+const RECIPE: [Key; 13] = [
+    Key("recipe", true, Shape::Name),
+    Key("version", true, Shape::Text(64)),
+    Key("basis", true, Shape::Number(1, 1_000_000_000)),
+    Key("product", false, Shape::Text(256)),
+    Key("author", false, Shape::Text(256)),
+    Key("info", false, Shape::Text(256)),
+    Key("procedure", true, Shape::Tables),
+    Key("input", false, Shape::Tables),
+    Key("parameter", false, Shape::Tables),
+    Key("output", false, Shape::Tables),
+    Key("unit_procedure", false, Shape::Tables),
+    Key("operation", false, Shape::Tables),
+    Key("phase", false, Shape::Tables),
+];
+
+const QUANTITY: [Key; 5] = [
+    NAME,
+    Key("value", true, Shape::Number(0, GREATEST_VALUE)),
+    Key("min", true, Shape::Number(0, GREATEST_VALUE)),
+    Key("max", true, Shape::Number(0, GREATEST_VALUE)),
+    Key("fixed", false, Shape::Truth),
+];
+
+const ONLY_NAME: [Key; 1] = [NAME];
+
+const PROCEDURE: [Key; 2] = [CHART, NEEDS];
+
+const UNIT_PROCEDURE: [Key; 4] = [NAME, Key("unit", true, Shape::Name), CHART, NEEDS];
+
+const OPERATION: [Key; 3] = [NAME, CHART, NEEDS];
+
+const PHASE: [Key; 4] = [
+    NAME,
+    Key("runs", false, Shape::Name),
+    NEEDS,
+    Key("values", false, Shape::Names(0, 4)),
+];
+
+/// The keys of a table of this kind.
+pub(crate) fn keys_of(kind: TableKind) -> &'static [Key] {
+    match kind {
+        TableKind::Cell => &CELL,
+        TableKind::Unit | TableKind::Output => &ONLY_NAME,
+        TableKind::Module => &MODULE,
+        TableKind::Shared => &SHARED,
+        TableKind::Recipe => &RECIPE,
+        TableKind::Input | TableKind::Parameter => &QUANTITY,
+        TableKind::Procedure => &PROCEDURE,
+        TableKind::UnitProcedure => &UNIT_PROCEDURE,
+        TableKind::Operation => &OPERATION,
+        TableKind::Phase => &PHASE,
+    }
+}
+
+/// The word of the kind's tables; a top has none.
+pub(crate) fn word_of(kind: TableKind) -> Option<&'static str> {
+    match kind {
+        TableKind::Cell | TableKind::Recipe => None,
+        TableKind::Unit => Some("unit"),
+        TableKind::Module => Some("module"),
+        TableKind::Shared => Some("shared"),
+        TableKind::Input => Some("input"),
+        TableKind::Parameter => Some("parameter"),
+        TableKind::Output => Some("output"),
+        TableKind::Procedure => Some("procedure"),
+        TableKind::UnitProcedure => Some("unit_procedure"),
+        TableKind::Operation => Some("operation"),
+        TableKind::Phase => Some("phase"),
+    }
+}

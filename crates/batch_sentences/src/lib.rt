@@ -1,0 +1,21 @@
+//! What a refusal means, in one line for a person.
+#![tactic(auto)]
+
+mod certificates;
+mod declared;
+mod documents;
+mod entries;
+mod fits;
+mod keys;
+mod lines;
+mod names;
+mod nodes;
+mod sentence;
+mod sets;
+mod showing;
+
+pub use certificates::certificate_sentence;
+pub use documents::{Asked, document_sentence};
+pub use sentence::Sentence;
+pub use sets::{fault_sentence, refusal_sentence};
+pub use showing::shown;

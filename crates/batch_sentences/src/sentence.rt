@@ -1,0 +1,24 @@
+//! Sentences.
+ghost use Rattle.std.specs.Prelude.{◌≡◌, IfOk, string_bytes};
+ghost use Rattle.batch_sentences.specs.Shown.{IsOneLine, shown};
+
+use crate::showing::shown;
+use std::alloc::{AllocError, Global};
+
+/// What a refusal means, for a person.
+#[derive(Debug, Drop)]
+pub struct Sentence {
+    /// One line, without its line feed.
+    pub text: String,
+    ghost one_line: { IsOneLine (string_bytes text) },
+}
+
+impl Sentence {
+    /// The text as a sentence: what it has of control characters is told by escapes.
+    pub fn of(alloc: Global, text: &str) -> Result<Sentence, AllocError>
+        ensures { IfOk result (λ sentence. string_bytes sentence.text ≡ shown text.now) }
+    {
+        let text = shown(alloc, text)?;
+        Ok(Sentence { text })
+    }
+}

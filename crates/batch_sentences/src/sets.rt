@@ -1,0 +1,111 @@
+//! What is wrong with a set of recipes.
+ghost use Rattle.std.specs.Prelude.{◌≡◌, IfOk, string_bytes};
+ghost use Rattle.batch_sentences.specs.CircleSentence.{SaysCircle, circle_words, edge_words};
+
+use crate::names::{recipe_name, resource_name};
+use crate::nodes::broken_said;
+use crate::sentence::Sentence;
+use batch_cell::Cell;
+use batch_check::{CheckFault, Edge};
+use batch_recipe::Recipe;
+use batch_verify::{Certificate, Refusal};
+use std::alloc::{AllocError, Global};
+
+const TWO_OF_A_NAME: &str = "two of the recipes have one name, or there are more than 256";
+
+const NO_MEMORY: &str = "there is no memory to judge the recipes";
+
+/// What the refusal of the recipes by the certificate means.
+pub fn refusal_sentence(
+    alloc: Global,
+    cell: &Cell,
+    recipes: &[Recipe],
+    certificate: &Certificate,
+    refusal: Refusal,
+) -> Result<Sentence, AllocError> {
+    let said = match refusal {
+        Refusal::Unranked(resource) => {
+            let name = resource_name(cell, resource);
+            format!(in alloc;
+                "the certificate has no line for {name}, a resource of the cell {}",
+                cell.name
+            )?
+        }
+        Refusal::RankedTwice(entry) => {
+            let name = entry_name(certificate, entry);
+            format!(in alloc; "the certificate has two lines for {name}")?
+        }
+        Refusal::UnknownEntry(entry) => {
+            let name = entry_name(certificate, entry);
+            format!(in alloc;
+                "the certificate ranks {name}, which is no resource of the cell {}; it may be that of another cell",
+                cell.name
+            )?
+        }
+        Refusal::Recipe { recipe, broken } => match recipes.get(usize::from(recipe)) {
+            Some(recipe) => broken_said(alloc, cell, recipe, Some(certificate), broken)?,
+            None => String::new(alloc),
+        },
+        Refusal::Memory => String::from_str(alloc, NO_MEMORY)?,
+        Refusal::Recipes => String::from_str(alloc, TWO_OF_A_NAME)?,
+    };
+    Sentence::of(alloc, said.as_str())
+}
+
+/// What it means that the recipes have no certificate.
+pub fn fault_sentence(
+    alloc: Global,
+    cell: &Cell,
+    recipes: &[Recipe],
+    fault: &CheckFault,
+) -> Result<Sentence, AllocError>
+    ensures { IfOk result (λ sentence. SaysCircle cell.now recipes.now fault.now (string_bytes sentence.text)) }
+{
+    let said = match fault {
+        CheckFault::Recipe { recipe, broken } => match recipes.get(usize::from(*recipe)) {
+            Some(recipe) => broken_said(alloc, cell, recipe, None, *broken)?,
+            None => String::new(alloc),
+        },
+        CheckFault::Recipes => String::from_str(alloc, TWO_OF_A_NAME)?,
+        CheckFault::Circle(edges) => circle_said(alloc, cell, recipes, edges)?,
+        CheckFault::Memory => String::from_str(alloc, NO_MEMORY)?,
+    };
+    Sentence::of(alloc, said.as_str())
+}
+
+fn circle_said(
+    alloc: Global,
+    cell: &Cell,
+    recipes: &[Recipe],
+    edges: &[Edge],
+) -> Result<String, AllocError>
+    ensures { IfOk result (λ said. string_bytes said ≡ circle_words cell.now recipes.now edges.now) }
+{
+    let mut said = String::from_str(alloc, "batches can wait in a circle")?;
+    for edge in edges {
+        let words = edge_said(alloc, cell, recipes, *edge)?;
+        said.push_str(&words)?;
+    }
+    Ok(said)
+}
+
+fn edge_said(
+    alloc: Global,
+    cell: &Cell,
+    recipes: &[Recipe],
+    edge: Edge,
+) -> Result<String, AllocError>
+    ensures { IfOk result (λ said. string_bytes said ≡ edge_words cell.now recipes.now edge) }
+{
+    let name = recipe_name(recipes, edge.recipe);
+    let earlier = resource_name(cell, edge.earlier);
+    let later = resource_name(cell, edge.later);
+    format!(in alloc; "; {name} holds {earlier} and asks for {later}")
+}
+
+fn entry_name(certificate: &Certificate, entry: usize) -> &str {
+    match certificate.ranks.get(entry) {
+        Some((name, _)) => name.text(),
+        None => "",
+    }
+}

@@ -1,0 +1,142 @@
+//! The command line that the program takes, as `clap` is told it.
+ghost use Rattle.std.specs.Prelude.{◌≡◌, IfOk, codes, false};
+ghost use Rattle.clap.specs.Words.{app_of, rule_of};
+ghost use Rattle.clap.specs.declared.builder.command.Command.TheViews.{out-Command};
+ghost use Rattle.batch_words.specs.CommandLine.{check_app, explain_app, flag_rule, program_app, recipes_rule, run_app, verify_app, word_rule};
+
+use clap::{Arg, ArgAction, Command};
+use std::alloc::{AllocError, Global};
+
+/// The number of the program's version.
+pub const VERSION: &str = "0.1.0";
+
+const ABOUT: &str =
+    "A batch server for one process cell; without a command it serves event lines from standard input over a demo cell";
+
+const AFTER_HELP: &str = "\
+An example, in examples/paint_plant:
+  batchd check cell.toml primer.toml rinse-mended.toml > certificate.txt
+  batchd verify cell.toml certificate.txt primer.toml rinse-mended.toml
+  batchd run cell.toml certificate.txt primer.toml rinse-mended.toml
+
+The demo, without a command; type these lines:
+  create A 1000
+  start 1
+  report R1 ADD done
+
+Exit status:
+  0  accepted, or the input ran to its end, or help was asked for
+  1  refused: a line on standard output, and what it means on standard error
+  2  the words are no command
+  3  a file, the input or the output failed
+  4  no memory
+";
+
+/// The whole command line.
+pub(crate) fn program<'a>(alloc: Global) -> Result<Command<'a>, AllocError>
+    ensures { IfOk result (λ program. app_of program ≡ program_app) }
+{
+    Command::new(alloc, "batchd")
+        .about(ABOUT)
+        .after_help(AFTER_HELP)
+        .version(VERSION)
+        .no_binary_name(true)
+        .disable_help_subcommand(true)
+        .bin_name("batchd")?
+        .subcommand(check(alloc)?)?
+        .subcommand(verify(alloc)?)?
+        .subcommand(run(alloc)?)?
+        .subcommand(explain(alloc)?)
+}
+
+fn check<'a>(alloc: Global) -> Result<Command<'a>, AllocError>
+    ensures app { IfOk result (λ check. app_of check ≡ check_app) }
+    ensures local { IfOk result (λ check. (out-Command check).has_globals ≡ false) }
+{
+    Command::new(alloc, "check")
+        .about("Prints a certificate for the recipes, or why there is none")
+        .arg(word(alloc, "CELL", "The cell document"))?
+        .arg(recipes(alloc))?
+        .arg(flag(
+            alloc,
+            "dot",
+            "Draws what is asked for after what, for Graphviz, a circle in red",
+        ))?
+        .arg(quiet(alloc))
+}
+
+fn verify<'a>(alloc: Global) -> Result<Command<'a>, AllocError>
+    ensures app { IfOk result (λ verify. app_of verify ≡ verify_app) }
+    ensures local { IfOk result (λ verify. (out-Command verify).has_globals ≡ false) }
+{
+    Command::new(alloc, "verify")
+        .about("Prints whether the certificate clears the recipes for the cell")
+        .arg(word(alloc, "CELL", "The cell document"))?
+        .arg(word(alloc, "CERT", "The certificate"))?
+        .arg(recipes(alloc))?
+        .arg(quiet(alloc))
+}
+
+fn run<'a>(alloc: Global) -> Result<Command<'a>, AllocError>
+    ensures app { IfOk result (λ run. app_of run ≡ run_app) }
+    ensures local { IfOk result (λ run. (out-Command run).has_globals ≡ false) }
+{
+    Command::new(alloc, "run")
+        .about(
+            "Serves event lines from standard input over the recipes that the certificate clears",
+        )
+        .arg(word(alloc, "CELL", "The cell document"))?
+        .arg(word(alloc, "CERT", "The certificate"))?
+        .arg(recipes(alloc))?
+        .arg(quiet(alloc))
+}
+
+fn explain<'a>(alloc: Global) -> Result<Command<'a>, AllocError>
+    ensures app { IfOk result (λ explain. app_of explain ≡ explain_app) }
+    ensures local { IfOk result (λ explain. (out-Command explain).has_globals ≡ false) }
+{
+    Command::new(alloc, "explain")
+        .about("Prints what a code of a refusal means, and what to do")
+        .arg(word(alloc, "CODE", "The code, as D5 or E3"))
+}
+
+fn word<'a>(alloc: Global, name: &'a str, help: &'a str) -> Arg<'a>
+    ensures rule { rule_of result ≡ word_rule name.entry.now }
+    ensures local { result.global ≡ false }
+{
+    Arg::new(alloc, name)
+        .required(true)
+        .action(ArgAction::Set)
+        .help(help)
+}
+
+fn recipes<'a>(alloc: Global) -> Arg<'a>
+    ensures rule { rule_of result ≡ recipes_rule }
+    ensures local { result.global ≡ false }
+{
+    Arg::new(alloc, "RECIPE")
+        .action(ArgAction::Append)
+        .num_args(0..)
+        .help("The master recipes")
+}
+
+fn quiet<'a>(alloc: Global) -> Arg<'a>
+    ensures rule { rule_of result ≡ flag_rule (codes "quiet") }
+    ensures local { result.global ≡ false }
+{
+    flag(
+        alloc,
+        "quiet",
+        "Says nothing in words on standard error of a refusal",
+    )
+}
+
+fn flag<'a>(alloc: Global, name: &'a str, help: &'a str) -> Arg<'a>
+    ensures rule { rule_of result ≡ flag_rule name.entry.now }
+    ensures local { result.global ≡ false }
+{
+    Arg::new(alloc, name)
+        .long(name)
+        .action(ArgAction::SetTrue)
+        .help(help)
+}
