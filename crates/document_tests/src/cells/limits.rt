@@ -8,7 +8,8 @@ use std::test::Fail;
 fn lengths_of_documents(rt: HostRuntime) -> Result<(), Fail> {
     let alloc = rt.alloc();
     let cell = demo(alloc, "2")?;
-    let more = 1_048_576usize.saturating_sub(cell.len());
+    let most: usize = 1_048_576;
+    let more = most.saturating_sub(cell.len());
     let mut text = repeated(alloc, cell.as_str(), "#", more, "")?;
     assert_eq!(rt; text.len(), 1_048_576);
     assert!(rt; cell_refusal(alloc, text.as_str()).is_none());

@@ -40,7 +40,8 @@ fn recipes_that_would_expand_too_far(rt: HostRuntime) -> Result<(), Fail> {
 fn lengths_of_documents(rt: HostRuntime) -> Result<(), Fail> {
     let alloc = rt.alloc();
     let recipe = document(alloc, "A", [PROCEDURE, MAKE, CHARGE, ADD, ""])?;
-    let more = 1_048_576usize.saturating_sub(recipe.len());
+    let most: usize = 1_048_576;
+    let more = most.saturating_sub(recipe.len());
     let mut text = repeated(alloc, recipe.as_str(), "#", more, "")?;
     assert_eq!(rt; recipe_refusal(alloc, text.as_str()), None);
     text.push('#')?;
