@@ -4,7 +4,7 @@ use Rattle.std.specs.Prelude.{String, Vec}
 use Rattle.std.specs.Global.{Global}
 use Rattle.clap.specs.Walk.{Text}
 use Rattle.batch_verify.specs.ClearedSet.{ClearedSet}
-use Rattle.batch_commands.specs.Halting.{HaltsCheck, HaltsClearing, HaltsVerify}
+use Rattle.batch_commands.specs.Halting.{HaltsCheck, HaltsClearing}
 use Rattle.batch_commands.specs.Judging.{IsHalt}
 use Rattle.batch_commands.specs.Reading.{AreCleared, ChecksDocuments, Gives, VerifiesDocuments}
 use Rattle.batch_commands.specs.Requests.{serve, request_of, demo_gives, IsServed, HaltsServing}
@@ -31,7 +31,7 @@ pub outcome_of_verify : (gives : Gives) (cell certificate : String Global) (reci
     (paths : List (String Global)) (outcome : Result Verdict Halt)
     → path ≡ string_bytes cell → ranked ≡ string_bytes certificate → paths ≡ recipes.items
     → IfOk outcome (λ verdict. VerifiesDocuments gives path ranked (map string_bytes paths) (string_bytes verdict.text) verdict.ending)
-    → IfErr outcome (HaltsVerify gives path ranked (map string_bytes paths)) → IfErr outcome IsHalt
+    → IfErr outcome (HaltsClearing gives path ranked (map string_bytes paths)) → IfErr outcome IsHalt
     → IsOutcome gives (request_of (Verify cell certificate recipes)) outcome
 outcome_of_verify gives cell certificate recipes path ranked paths (Ok verdict) at by all judged halted ends = rw (← at, ← by, ← all) judged
 outcome_of_verify gives cell certificate recipes path ranked paths (Err h) at by all judged halted ends = (rw (← at, ← by, ← all) halted, ends)

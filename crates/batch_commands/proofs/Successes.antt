@@ -8,7 +8,7 @@ use Rattle.clap.specs.declared.error.kind.ErrorKind.{ErrorKind}
 use Rattle.clap.specs.Words.{fault_of, subcommand_of}
 use Rattle.batch_words.specs.CommandLine.{IsCommandOf, program_app, word_of, words_of}
 use Rattle.batch_verify.specs.ClearedSet.{ClearedSet}
-use Rattle.batch_commands.specs.Judging.{IsHalt, IsVerified, status_of}
+use Rattle.batch_commands.specs.Judging.{IsHalt, status_of}
 use Rattle.batch_commands.specs.Reading.{Gives}
 use Rattle.batch_commands.specs.Requests.{Request, serve, check, verify, run, request_of, IsServed, HaltsServing}
 use Rattle.batch_commands.specs.Running.{IsNamed, IsOutcome, IsPrinted, IsRun, IsTold, Stream, serves, halts, judges, helps, misuses, starves}
@@ -78,21 +78,8 @@ success_of gives output errors (check cell recipes) (Ok verdict) status came pri
     let (appends, accepted) = printed_success output errors _ verdict.ending status printed is in
     (string_bytes verdict.text, appends, rw accepted at came)
 success_of gives output errors (verify cell certificate recipes) (Ok verdict) status came printed is =
-    let (appends, accepted) = printed_success output errors _ verdict.ending status printed is in
-    let Judged : Ending → Type 0 = IsVerified came.equipment came.recipes came.ranks (string_bytes verdict.text) in
-    let judged = subst Judged accepted came.judged in (
-      rw judged.0 at appends,
-      record {
-        equipment = came.equipment;
-        ranks = came.ranks;
-        recipes = came.recipes;
-        cell_read = came.cell_read;
-        certificate_read = came.certificate_read;
-        recipes_read = came.recipes_read;
-        ranked = judged.1;
-        cleared = judged.2;
-      },
-    )
+    let (appends, _) = printed_success output errors _ verdict.ending status printed is in
+    (rw came.told at appends, (came.set, came.cleared))
 success_of gives output errors (check cell recipes) (Err h) status came told is = absurd (no_success output errors h status came.1 told is)
 success_of gives output errors (verify cell certificate recipes) (Err h) status came told is = absurd (no_success output errors h status came.1 told is)
 

@@ -28,15 +28,15 @@ HaltsAtRecipes gives (path ∷ paths) h = HaltsAtRecipe gives path h ⊎ ((r : R
 abbrev pub HaltsCheck : Gives → List ℕ → List (List ℕ) → Halt → Type 0
 HaltsCheck gives cell recipes h = HaltsAtCell gives cell h ⊎ ((c : Cell) × ReadsCell gives cell c × HaltsAtRecipes gives recipes h)
 
--- the same of `verify`
-abbrev pub HaltsVerify : Gives → List ℕ → List ℕ → List (List ℕ) → Halt → Type 0
-HaltsVerify gives cell certificate recipes h =
+-- the same of the documents of a set
+abbrev pub HaltsReading : Gives → List ℕ → List ℕ → List (List ℕ) → Halt → Type 0
+HaltsReading gives cell certificate recipes h =
     HaltsAtCell gives cell h
     ⊎ ((c : Cell) × ReadsCell gives cell c
     × (HaltsAtCertificate gives certificate h ⊎ ((ranks : List Rank) × ReadsCertificate gives certificate ranks × HaltsAtRecipes gives recipes h)))
 
--- the same of the documents of a set, or all are read and the set isn't cleared
+-- one of them does, or all are read and the set isn't cleared
 abbrev pub HaltsClearing : Gives → List ℕ → List ℕ → List (List ℕ) → Halt → Type 0
 HaltsClearing gives cell certificate paths h =
-    HaltsVerify gives cell certificate paths h
+    HaltsReading gives cell certificate paths h
     ⊎ ((c : Cell) × (ranks : List Rank) × (rs : List Recipe) × AreRead gives cell certificate paths c ranks rs × RefusesSet c rs ranks h)

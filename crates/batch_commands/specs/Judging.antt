@@ -26,7 +26,7 @@ use Rattle.batch_check.specs.Checking.{IsFault}
 use Rattle.batch_check.specs.Clearing.{IsLeastClearance}
 use Rattle.batch_check.specs.declared.fault.CheckFault.{CheckFault}
 use Rattle.batch_check.specs.declared.fault.CheckFault.TheVariants as check
-use Rattle.batch_commands.specs.VerdictTexts.{accepted_text, certificate_refused, certificate_text, document_text, fault_text, refusal_text}
+use Rattle.batch_commands.specs.VerdictTexts.{certificate_refused, certificate_text, document_text, fault_text, refusal_text}
 use Rattle.batch_commands.specs.declared.judging.TheConstants.{MAX_CERTIFICATE_LEN}
 use Rattle.batch_commands.specs.declared.verdict.Ending.{Ending}
 use Rattle.batch_commands.specs.declared.verdict.Ending.TheVariants.{Accepted, Refused, OutOfMemory}
@@ -91,22 +91,21 @@ pub record RefusesCertificate (text : List ℕ) (h : Halt) : Type 0 where
 
 -- Sets of recipes
 
--- what is printed of recipes by a certificate, and how the program ends
-abbrev pub IsVerified : Cell → List Recipe → List Rank → List ℕ → Ending → Type 0
-IsVerified c rs ranks text Accepted =
-    (text ≡ accepted_text) × RanksAll (cell_of c) ranks × IsCleared (cell_of c) (documents_of c rs) (rank_of ranks)
-IsVerified c rs ranks text Refused =
-    (refusal : Refusal) × (refusal ≢ set.Memory) × IsFirstRefusal (cell_of c) (documents_of c rs) ranks refusal
-    × (text ≡ refusal_text c rs ranks refusal)
-IsVerified c rs ranks text OutOfMemory = text ≡ refusal_text c rs ranks set.Memory
-
 -- the certificate ranks each resource once, and its ranks clear the recipes
 abbrev pub IsClearedBy : Cell → List Recipe → List Rank → Type 0
 IsClearedBy c rs ranks = RanksAll (cell_of c) ranks × IsCleared (cell_of c) (documents_of c rs) (rank_of ranks)
 
+-- what is printed where it doesn't, and how the program ends
+abbrev pub IsSetRefused : Cell → List Recipe → List Rank → List ℕ → Ending → Type 0
+IsSetRefused c rs ranks text Accepted = ⊥
+IsSetRefused c rs ranks text Refused =
+    (refusal : Refusal) × (refusal ≢ set.Memory) × IsFirstRefusal (cell_of c) (documents_of c rs) ranks refusal
+    × (text ≡ refusal_text c rs ranks refusal)
+IsSetRefused c rs ranks text OutOfMemory = text ≡ refusal_text c rs ranks set.Memory
+
 -- it doesn't, or memory for the judgement ran out, and the verdict says so, unless there was no memory for the verdict
 abbrev pub RefusesSet : Cell → List Recipe → List Rank → Halt → Type 0
-RefusesSet c rs ranks (halt.Refused verdict) = (verdict.ending ≢ Accepted) × IsVerified c rs ranks (string_bytes verdict.text) verdict.ending
+RefusesSet c rs ranks (halt.Refused verdict) = IsSetRefused c rs ranks (string_bytes verdict.text) verdict.ending
 RefusesSet c rs ranks (halt.Unread message) = ⊥
 RefusesSet c rs ranks halt.Memory = ⊤
 

@@ -1,13 +1,15 @@
 -- Documents that are read one after the other.
-use Rattle.std.specs.Prelude.{ℕ, List, [], ◌∷◌, Option, Some, None, ⊤}
+use Rattle.std.specs.Prelude.{◌≡◌, ℕ, List, [], ◌∷◌, Option, Some, None, ⊤}
 use Rattle.batch_cell.specs.declared.cell.Cell.{Cell}
 use Rattle.batch_recipe.specs.declared.recipe.Recipe.{Recipe}
 use Rattle.batch_reader.specs.CellDocument.{IsCellDocument}
 use Rattle.batch_reader.specs.RecipeDocument.{IsRecipeDocument}
 use Rattle.batch_verify.specs.CertificateText.{Rank, IsCertificateText}
 use Rattle.batch_verify.specs.ClearedSet.{ClearedSet}
-use Rattle.batch_commands.specs.Judging.{IsChecked, IsClearedBy, IsVerified}
+use Rattle.batch_commands.specs.Judging.{IsChecked, IsClearedBy}
+use Rattle.batch_commands.specs.VerdictTexts.{accepted_text}
 use Rattle.batch_commands.specs.declared.verdict.Ending.{Ending}
+use Rattle.batch_commands.specs.declared.verdict.Ending.TheVariants.{Accepted}
 use Rattle.batch_commands.specs.declared.verdict.Halt.{Halt}
 use Rattle.batch_commands.specs.declared.verdict.Halt.TheVariants.{Refused, Unread, Memory}
 
@@ -56,12 +58,9 @@ pub record AreCleared (gives : Gives) (cell certificate : List ℕ) (paths : Lis
   pub read : AreRead gives cell certificate paths set.cell ranks set.recipes
   pub cleared : IsClearedBy set.cell set.recipes ranks
 
--- the verdict of `verify` on the documents at these paths
+-- `verify` accepts the set that they make
 pub record VerifiesDocuments (gives : Gives) (cell certificate : List ℕ) (paths : List (List ℕ)) (text : List ℕ) (ending : Ending) : Type 0 where
-  pub equipment : Cell
-  pub ranks : List Rank
-  pub recipes : List Recipe
-  pub cell_read : ReadsCell gives cell equipment
-  pub certificate_read : ReadsCertificate gives certificate ranks
-  pub recipes_read : ReadsRecipes gives paths recipes
-  pub judged : IsVerified equipment recipes ranks text ending
+  pub set : ClearedSet
+  pub cleared : AreCleared gives cell certificate paths set
+  pub told : text ≡ accepted_text
+  pub accepts : ending ≡ Accepted

@@ -7,7 +7,7 @@ use Rattle.clap.specs.Words.{fault_of, subcommand_of}
 use Rattle.clap.specs.declared.error.kind.ErrorKind.{ErrorKind}
 use Rattle.clap.specs.declared.error.kind.ErrorKind.TheVariants.{DisplayHelp}
 use Rattle.batch_words.specs.CommandLine.{IsCommandOf, program_app}
-use Rattle.batch_commands.specs.Halting.{HaltsCheck, HaltsVerify}
+use Rattle.batch_commands.specs.Halting.{HaltsCheck, HaltsClearing}
 use Rattle.batch_commands.specs.Judging.{IsHalt, status_of}
 use Rattle.batch_commands.specs.Reading.{ChecksDocuments, Gives, VerifiesDocuments}
 use Rattle.batch_commands.specs.Requests.{Request, serve, check, verify, run, request_of, IsServed, HaltsServing}
@@ -69,7 +69,7 @@ IsOutcome gives (check cell recipes) (Ok verdict) = ChecksDocuments gives cell r
 IsOutcome gives (check cell recipes) (Err h) = HaltsCheck gives cell recipes h × IsHalt h
 IsOutcome gives (verify cell certificate recipes) (Ok verdict) =
     VerifiesDocuments gives cell certificate recipes (string_bytes verdict.text) verdict.ending
-IsOutcome gives (verify cell certificate recipes) (Err h) = HaltsVerify gives cell certificate recipes h × IsHalt h
+IsOutcome gives (verify cell certificate recipes) (Err h) = HaltsClearing gives cell certificate recipes h × IsHalt h
 IsOutcome gives (run cell certificate recipes) outcome = ⊥
 
 -- verdicts and refusals are printed; a file that can't be read and want of memory leave the output as it was, and are told on

@@ -2,14 +2,8 @@
 use Rattle.std.specs.Prelude.{◌≡◌, ◌⊎◌, ℕ, List}
 use Rattle.std.specs.Io.KnownBytes.{Appends}
 use Rattle.clap.specs.Walk.{Text}
-use Rattle.batch_cell.specs.declared.cell.Cell.{Cell}
-use Rattle.batch_recipe.specs.declared.recipe.Recipe.{Recipe}
-use Rattle.batch_model.specs.Cleared.{IsCleared}
-use Rattle.batch_model.specs.Documents.{cell_of, documents_of}
-use Rattle.batch_verify.specs.CertificateText.{Rank}
 use Rattle.batch_verify.specs.ClearedSet.{ClearedSet}
-use Rattle.batch_verify.specs.Ranked.{rank_of, RanksAll}
-use Rattle.batch_commands.specs.Reading.{ChecksDocuments, Gives, ReadsCell, ReadsCertificate, ReadsRecipes}
+use Rattle.batch_commands.specs.Reading.{AreCleared, ChecksDocuments, Gives}
 use Rattle.batch_commands.specs.Requests.{Request, serve, check, verify, run, request_of, IsServed, HaltsServing}
 use Rattle.batch_commands.specs.Running.{IsNamed, IsRun, Stream, memory_status}
 use Rattle.batch_commands.specs.VerdictTexts.{accepted_text}
@@ -20,26 +14,15 @@ use Rattle.batch_commands.specs.declared.course.Course.TheVariants.{Ends, Serves
 use Rattle.batch_commands.specs.declared.verdict.Halt.{Halt}
 use Rattle.batch_commands.specs.declared.verdict.Ending.TheVariants.{Accepted}
 
--- the documents at these paths are a cell, a certificate that ranks each of its resources once, and recipes that are cleared
--- by these ranks
-pub record AreClearedDocuments (gives : Gives) (cell certificate : List ℕ) (paths : List (List ℕ)) : Type 0 where
-  pub equipment : Cell
-  pub ranks : List Rank
-  pub recipes : List Recipe
-  pub cell_read : ReadsCell gives cell equipment
-  pub certificate_read : ReadsCertificate gives certificate ranks
-  pub recipes_read : ReadsRecipes gives paths recipes
-  pub ranked : RanksAll (cell_of equipment) ranks
-  pub cleared : IsCleared (cell_of equipment) (documents_of equipment recipes) (rank_of ranks)
-
--- `check` wrote the certificate with the least ranks; `verify` wrote that it accepts, and the recipes are cleared. Nothing else
+-- `check` wrote the certificate with the least ranks; `verify` wrote that it accepts the set of the documents, which their
+-- certificate clears. Nothing else
 -- ends so before it has served
 abbrev pub IsSuccess : Gives → Request → Stream → Type 0
 IsSuccess gives serve output = ⊥
 IsSuccess gives (check cell recipes) output =
     (text : List ℕ) × Appends output.before output.after text × ChecksDocuments gives cell recipes text Accepted
 IsSuccess gives (verify cell certificate recipes) output =
-    Appends output.before output.after accepted_text × AreClearedDocuments gives cell certificate recipes
+    Appends output.before output.after accepted_text × ((set : ClearedSet) × AreCleared gives cell certificate recipes set)
 IsSuccess gives (run cell certificate recipes) output = ⊥
 
 -- a command that ends with status 0 was a success

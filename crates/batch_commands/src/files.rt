@@ -41,7 +41,7 @@ fn unread(alloc: Global, path: &str, fault: &ReadFault) -> Halt
     if matches!(fault, ReadFault::Memory) {
         return Halt::Memory;
     }
-    match format!(in alloc; "{path}: {fault}\n") {
+    match format!(in alloc; "{path}: {fault}") {
         Ok(text) => Halt::Unread(text),
         Err(_) => Halt::Memory,
     }

@@ -4,7 +4,7 @@ ghost use Rattle.batch_reader.specs.CellDocument.{IsCellDocument};
 ghost use Rattle.batch_reader.specs.RecipeDocument.{IsRecipeDocument};
 ghost use Rattle.batch_verify.specs.CertificateText.{IsCertificateText};
 ghost use Rattle.batch_commands.specs.VerdictTexts.{certificate_refused, document_text};
-ghost use Rattle.batch_commands.specs.Judging.{HaltsWith, IsChecked, IsClearedBy, IsHalt, IsVerified, RefusesCell, RefusesCertificate, RefusesRecipe, RefusesSet, certificate_ending, document_ending};
+ghost use Rattle.batch_commands.specs.Judging.{HaltsWith, IsChecked, IsClearedBy, IsHalt, RefusesCell, RefusesCertificate, RefusesRecipe, RefusesSet, certificate_ending, document_ending};
 
 use crate::texts::{
     certificate_refused, certificate_text, document_text, fault_text, refusal_text,
@@ -114,29 +114,9 @@ pub fn check_recipes(alloc: Global, cell: &Cell, recipes: &[Recipe]) -> Result<V
     }
 }
 
-/// What `verify` prints of the recipes, and how the program ends.
-pub fn verify_recipes(
-    alloc: Global,
-    cell: Cell,
-    recipes: Vec<Recipe>,
-    certificate: &Certificate,
-) -> Result<Verdict, AllocError>
-    ensures { IfOk result
-        (λ verdict. IsVerified cell recipes.items certificate.now.ranks.items (string_bytes verdict.text) verdict.ending) }
-{
-    match clear_recipes(alloc, cell, recipes, certificate) {
-        Ok(_) => Ok(Verdict {
-            text: String::from_str(alloc, "accepted\n")?,
-            ending: Ending::Accepted,
-        }),
-        Err(Halt::Refused(verdict)) => Ok(verdict),
-        Err(_) => Err(AllocError),
-    }
-}
-
 /// The cell and the recipes, cleared by the certificate.
 ///
-/// Recipes that it doesn't clear are refused with the verdict that `verify` prints, and want of memory for the judgement is
+/// Recipes that it doesn't clear are refused by the first rule that they break, and want of memory for the judgement is
 /// refused as well. Where there is no memory for that text the error is [`Halt::Memory`].
 pub fn clear_recipes(
     alloc: Global,

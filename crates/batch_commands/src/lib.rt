@@ -17,10 +17,9 @@ pub use documents::{Documents, check_documents, clear_documents, verify_document
 pub use files::FilesOf;
 pub use judging::{
     MAX_CERTIFICATE_LEN, check_recipes, clear_recipes, judge_cell, judge_certificate, judge_recipe,
-    verify_recipes,
 };
 pub use laws::statuses_tell;
 pub use reading::{MAX_READS, ReadFault, read_document};
-pub use running::{FILE_FAULT, NO_MEMORY, OUT_OF_MEMORY, UNWRITTEN, USAGE, complain, run_words};
+pub use running::{FILE_FAULT, NO_MEMORY, OUT_OF_MEMORY, USAGE, complain, run_words};
 pub use texts::{certificate_refused, certificate_text, document_text, fault_text, refusal_text};
 pub use verdict::{Ending, Halt, Verdict};

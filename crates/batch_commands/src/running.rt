@@ -12,6 +12,7 @@ use crate::verdict::{Halt, Verdict};
 use batch_verify::Cleared;
 use batch_words::{Command, CommandFault, parse};
 use std::alloc::Global;
+use std::fmt::Display;
 use std::io;
 use std::io::Write;
 
@@ -21,17 +22,17 @@ const SUCCESS: u8 = 0;
 /// The exit status where the words are no command.
 pub const USAGE: u8 = 2;
 
-/// The exit status where a file can't be read, or standard output can't be written.
+/// The exit status where a file or the input can't be read, or the output can't be written.
 pub const FILE_FAULT: u8 = 3;
 
 /// The exit status where memory ran out.
 pub const NO_MEMORY: u8 = 4;
 
 /// What is told of it where memory ran out.
-pub const OUT_OF_MEMORY: &str = "out of memory\n";
+pub const OUT_OF_MEMORY: &str = "out of memory";
 
-/// What is told of it where standard output can't be written.
-pub const UNWRITTEN: &str = "standard output can't be written\n";
+/// What is told of it where the output can't be written.
+const UNWRITTEN: &str = "the output can't be written";
 
 /// Does what the words ask for: judges documents and tells the verdict, or clears the set that is to be served.
 ///
@@ -75,7 +76,7 @@ pub fn run_words<D: Documents, O: Write, E: Write>(
             take(set, output, errors)
         }
         Err(CommandFault::Help(text)) => Course::Ends(print(output, errors, &text, SUCCESS)),
-        Err(CommandFault::Usage(text)) => Course::Ends(complain(errors, &text, USAGE)),
+        Err(CommandFault::Usage(text)) => Course::Ends(complain(errors, text.trim_end(), USAGE)),
         Err(CommandFault::Memory) => Course::Ends(complain(errors, OUT_OF_MEMORY, NO_MEMORY)),
     }
 }
@@ -110,7 +111,7 @@ fn tell<O: Write, E: Write>(outcome: &Result<Verdict, Halt>, output: &mut O, err
         Ok(verdict) | Err(Halt::Refused(verdict)) => {
             print(output, errors, &verdict.text, verdict.ending.status())
         }
-        Err(Halt::Unread(text)) => complain(errors, text, FILE_FAULT),
+        Err(Halt::Unread(text)) => complain(errors, text.as_str(), FILE_FAULT),
         Err(Halt::Memory) => complain(errors, OUT_OF_MEMORY, NO_MEMORY),
     }
 }
@@ -134,12 +135,11 @@ fn write_out<O: Write>(output: &mut O, text: &str) -> io::Result<()>
     output.flush()
 }
 
-/// Tells the text if it can, behind the program's name, and gives the exit status in any case.
-pub fn complain<E: Write>(errors: &mut E, text: &str, status: u8) -> u8
+/// Tells the fault if it can, behind the program's name and with a line feed at its end, and gives the exit status in any case.
+pub fn complain<E: Write, D: Display + Drop>(errors: &mut E, fault: D, status: u8) -> u8
     ensures { result ≡ status }
 {
-    let _ = errors.write_all(b"batchd: ");
-    let _ = errors.write_all(text.as_bytes());
+    let _ = writeln!(errors, "batchd: {fault}");
     let _ = errors.flush();
     status
 }

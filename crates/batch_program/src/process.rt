@@ -20,7 +20,7 @@ pub fn run_process(rt: &HostRuntime) -> ExitCode
         Err(error) if error.kind() == ErrorKind::OutOfMemory => {
             complain(&mut rt.stderr(), OUT_OF_MEMORY, NO_MEMORY)
         }
-        Err(_) => complain(&mut rt.stderr(), "an argument is no text\n", USAGE),
+        Err(_) => complain(&mut rt.stderr(), "an argument is no text", USAGE),
     };
     ExitCode::from(status)
 }

@@ -3,8 +3,8 @@ ghost use Rattle.std.specs.Prelude.{◌≡◌, map, string_bytes};
 ghost use Rattle.batch_program.specs.Programs.{IsProgramRun, status_of_serving};
 
 use crate::statuses::serving_status;
-use batch_commands::{Course, Documents, OUT_OF_MEMORY, UNWRITTEN, complain, run_words};
-use batch_serve::{ServeFault, SetFault, serve_set};
+use batch_commands::{Course, Documents, complain, run_words};
+use batch_serve::{SetFault, serve_set};
 use std::alloc::Global;
 use std::io::{Read, Write};
 
@@ -44,17 +44,6 @@ fn tell_served<E: Write>(served: Result<(), SetFault>, errors: &mut E) -> u8
     let status = serving_status(served);
     match served {
         Ok(()) => status,
-        Err(fault) => complain(errors, text_of(fault), status),
-    }
-}
-
-fn text_of(fault: SetFault) -> &'static str {
-    match fault {
-        SetFault::Memory => OUT_OF_MEMORY,
-        SetFault::Stopped(ServeFault::Read) => "standard input can't be read\n",
-        SetFault::Stopped(ServeFault::Write) => UNWRITTEN,
-        SetFault::Stopped(ServeFault::TooManyReads) => {
-            "standard input was read as often as it may be\n"
-        }
+        Err(fault) => complain(errors, fault, status),
     }
 }

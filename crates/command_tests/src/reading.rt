@@ -1,7 +1,7 @@
 //! Cells, recipes, certificates and verdicts of opaque texts: without a contract here, no test's proof reads their bytes.
 use batch_cell::Cell;
 use batch_commands::{
-    Halt, check_recipes, judge_cell, judge_certificate, judge_recipe, verify_recipes,
+    Halt, check_recipes, clear_recipes, judge_cell, judge_certificate, judge_recipe,
 };
 use batch_recipe::Recipe;
 use batch_verify::Certificate;
@@ -51,7 +51,7 @@ pub(crate) fn judged(
     }
 }
 
-/// What `verify` prints.
+/// What `verify` prints of the certificate and the recipes.
 pub(crate) fn verified(
     alloc: Global,
     cell: &str,
@@ -64,5 +64,9 @@ pub(crate) fn verified(
         other => other?,
     };
     let recipes = recipes_of(alloc, texts)?;
-    Ok(verify_recipes(alloc, cell, recipes, &certificate)?.text)
+    match clear_recipes(alloc, cell, recipes, &certificate) {
+        Ok(_) => Ok(String::from_str(alloc, "accepted\n")?),
+        Err(Halt::Refused(verdict)) => Ok(verdict.text),
+        Err(other) => Err(other)?,
+    }
 }

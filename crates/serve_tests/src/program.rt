@@ -139,7 +139,7 @@ fn failed_read_ends_the_run(rt: HostRuntime) -> Result<(), Fail> {
     assert!(rt;
         ran.is(
             b"created 1 A 1000\n",
-            b"batchd: standard input can't be read\n",
+            b"batchd: the input can't be read\n",
             3
         )
     );
@@ -149,7 +149,7 @@ fn failed_read_ends_the_run(rt: HostRuntime) -> Result<(), Fail> {
 #[test]
 fn failed_write_ends_the_run(rt: HostRuntime) -> Result<(), Fail> {
     let ran = run_into(rt.alloc(), &[], 5, Failure::Refuses)?;
-    assert!(rt; ran.is(b"crea", b"batchd: standard output can't be written\n", 3));
+    assert!(rt; ran.is(b"crea", b"batchd: the output can't be written\n", 3));
     Ok(())
 }
 
@@ -161,7 +161,7 @@ fn verdict_is_handed_on(rt: HostRuntime) -> Result<(), Fail> {
     assert!(rt;
         ran.is(
             b"accepted\n",
-            b"batchd: standard output can't be written\n",
+            b"batchd: the output can't be written\n",
             3
         )
     );
