@@ -2,6 +2,7 @@
 #![tactic(auto)]
 
 mod cell;
+mod limits;
 mod look_ups;
 mod module;
 mod phases;
@@ -9,6 +10,7 @@ mod shared;
 mod unit;
 
 pub use cell::{Cell, MAX_MODULES, MAX_SHARED, MAX_UNITS};
+pub use limits::cell_limits_are_fixed;
 pub use module::{MAX_PHASES, Module};
 pub use shared::{MAX_CAPACITY, Shared};
 pub use unit::Unit;

@@ -6,6 +6,7 @@ use Rattle.batch_recipe.specs.declared.recipe.Recipe.{Recipe}
 use Rattle.batch_model.specs.Cleared.{IsCleared}
 use Rattle.batch_model.specs.Documents.{cell_of, documents_of}
 use Rattle.batch_reader.specs.CellDocument.{IsCellDocument}
+use Rattle.batch_reader.specs.FaultStands.{FaultStands}
 use Rattle.batch_reader.specs.Faults.{is_of_cell, is_of_recipe}
 use Rattle.batch_reader.specs.RecipeDocument.{IsRecipeDocument}
 use Rattle.batch_reader.specs.declared.document.TheConstants.{MAX_DOCUMENT_LEN}
@@ -68,13 +69,14 @@ abbrev pub IsToml : List ℕ → Type 0
 IsToml bytes = IsUtf8 bytes × IsSome (parse_document bytes)
 
 -- the document is refused, and but for memory it stands for no cell: it is called no TOML only where it is none, a document
--- that is too long is refused at its top, and a table at fault is one of a cell's
+-- that is too long is refused at its top, a table at fault is one of a cell's, and what is told of it is wrong there
 pub record RefusesCell (path bytes : List ℕ) (h : Halt) : Type 0 where
   pub fault : DocFault
   pub stands : fault ≢ document.Memory → (c : Cell) → ¬ (IsCellDocument bytes c)
   pub not_toml : fault ≡ document.NotToml → ¬ (IsToml bytes)
   pub long : MAX_DOCUMENT_LEN < length bytes → fault ≡ document.Entry (record { kind = table.Cell; entry = 0 }) OutOfLimit
   pub told : (spot : Spot) (wrong : EntryFault) → fault ≡ document.Entry spot wrong → is_of_cell spot.kind ≡ true
+  pub is_there : (spot : Spot) (wrong : EntryFault) → fault ≡ document.Entry spot wrong → FaultStands bytes spot wrong
   pub halts : HaltsWith (document_text path fault) (document_ending fault) h
 
 -- the document is refused, and but for memory it stands for no recipe; the rest is as for a cell, of the tables of a recipe
@@ -84,6 +86,7 @@ pub record RefusesRecipe (path bytes : List ℕ) (h : Halt) : Type 0 where
   pub not_toml : fault ≡ document.NotToml → ¬ (IsToml bytes)
   pub long : MAX_DOCUMENT_LEN < length bytes → fault ≡ document.Entry (record { kind = table.Recipe; entry = 0 }) OutOfLimit
   pub told : (spot : Spot) (wrong : EntryFault) → fault ≡ document.Entry spot wrong → is_of_recipe spot.kind ≡ true
+  pub is_there : (spot : Spot) (wrong : EntryFault) → fault ≡ document.Entry spot wrong → FaultStands bytes spot wrong
   pub halts : HaltsWith (document_text path fault) (document_ending fault) h
 
 -- the text is refused by its first fault, and a file that is too long as one of too many lines

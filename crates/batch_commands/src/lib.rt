@@ -8,6 +8,7 @@ mod drawing;
 mod files;
 mod judging;
 mod laws;
+mod limits;
 mod reading;
 mod running;
 mod saying;
@@ -24,6 +25,7 @@ pub use judging::{
     MAX_CERTIFICATE_LEN, check_recipes, clear_recipes, judge_cell, judge_certificate, judge_recipe,
 };
 pub use laws::statuses_tell;
+pub use limits::file_limits_are_fixed;
 pub use reading::{MAX_READS, ReadFault, read_document};
 pub use running::{FILE_FAULT, NO_MEMORY, OUT_OF_MEMORY, USAGE, complain, run_words};
 pub use texts::{

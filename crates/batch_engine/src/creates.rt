@@ -1,9 +1,10 @@
 //! Creating batches.
-ghost use Rattle.std.specs.Prelude.{◌≡◌, ◌<◌, ◌+◌, None, length, position, IfSome};
+ghost use Rattle.std.specs.Prelude.{◌≡◌, ◌<◌, ◌+◌, None, length, position};
 ghost use Rattle.batch_chart.specs.NodesOf.{needs_in};
 ghost use Rattle.batch_model.specs.Events as Events;
 ghost use Rattle.batch_model.specs.Events.{is_full};
 ghost use Rattle.batch_model.specs.Moves.{next};
+ghost use Rattle.batch_model.specs.declared.limits.TheConstants.{MAX_LIVE_BATCHES};
 ghost use Rattle.batch_recipe.specs.Conditions.{same_name};
 ghost use Rattle.batch_engine.specs.Answered.{IsAnswered};
 ghost use Rattle.batch_engine.specs.Creates.{IsCreate};
@@ -58,16 +59,17 @@ fn recipe_named(recipes: &[Recipe], name: &Name) -> Option<usize>
 
 impl Engine {
     /// How many needs the acts of all batches have, and those of a further batch of the recipe.
-    fn needs_with(&self, recipe: u16) -> Option<usize>
-        requires { recipe < length self.now.cleared.recipes }
-        ensures { IfSome result (λ needs. needs ≡ needs_of_all self.now.cleared self.now.batches + needs_in (tree_at self.now.cleared recipe)) }
+    fn needs_with(&self, recipe: u16) -> usize
+        requires known { recipe < length self.now.cleared.recipes }
+        requires free { length self.now.batches < MAX_LIVE_BATCHES }
+        ensures { result ≡ needs_of_all self.now.cleared self.now.batches + needs_in (tree_at self.now.cleared recipe) }
     {
         let mut needs = self.numbers[usize::from(recipe)].needs;
         for index in 0..self.batches.len() {
             let batch = &self.batches[index];
-            needs = needs.checked_add(self.numbers[usize::from(batch.recipe)].needs)?;
+            needs += self.numbers[usize::from(batch.recipe)].needs;
         }
-        Some(needs)
+        needs
     }
 
     /// Makes a batch, once all its room is made.
@@ -75,9 +77,7 @@ impl Engine {
         requires { IsCreate self.old recipe name.now size values }
         ensures { IsAnswered self.old (Events.create name.now size) result self.new }
     {
-        let Some(needs) = self.needs_with(recipe) else {
-            return Reply::Refused(Refusal::Memory);
-        };
+        let needs = self.needs_with(recipe);
         let Ok(running) = Running::new(self.alloc, &self.charts[usize::from(recipe)]) else {
             return Reply::Refused(Refusal::Memory);
         };

@@ -94,7 +94,7 @@ ends_well text st found so_far e =
     ap (λ s. runs total s start) (sym (append-nil text)) ∙ runs-steps text [] 0 total start (omega (arith, length-append text []))
     ∙ ap (option_and_then (runs total [])) (whole_text text st so_far) ∙ ap (λ p. finish p st) here ∙ e
 
-first_or-none : (ns : List ℕ) → first_or None ns ≡ first_of ns
+pub first_or-none : (ns : List ℕ) → first_or None ns ≡ first_of ns
 first_or-none [] = refl
 first_or-none (n ∷ ns) = refl
 

@@ -9,3 +9,4 @@ pub mod ChartSound
 pub mod ChartFront
 pub mod ChartForms
 pub mod ChartRead
+pub mod ChartOffsets

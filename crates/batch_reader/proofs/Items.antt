@@ -5,7 +5,6 @@ use Rattle.toml.specs.Data.{Data, Members, Items, no_items, item, as_table, get_
 use Rattle.toml.specs.View.{view, items_view}
 use Rattle.toml.specs.declared.value.Value.{Value}
 use Rattle.batch_reader.specs.Entries.{AllItems, IsTableOf, HasTables, items_at}
-use Rattle.batch_reader.specs.Faults.{IsFirstRefused}
 
 -- one more item, and the value that it says
 AllItems-push : {X : Type 0} (R : Data → X → Type 0) (vs : List Value) (xs : List X) (v : Value) (x : X)
@@ -31,7 +30,7 @@ AllItems_refused R (v ∷ vs) zero d below none (x ∷ xs) h = none x h.0
 AllItems_refused R (v ∷ vs) (suc i) d below none (x ∷ xs) h = AllItems_refused R vs i d (omega arith) none xs h.1
 
 -- the items before the one that a loop has come to
-AllItems_before : {X : Type 0} (R : Data → X → Type 0) (vs : List Value) (xs : List X) (i : ℕ) → AllItems R (items_view (take i vs)) xs
+pub AllItems_before : {X : Type 0} (R : Data → X → Type 0) (vs : List Value) (xs : List X) (i : ℕ) → AllItems R (items_view (take i vs)) xs
     → (n : ℕ) (d : Data) → n < i → get_item n (items_view vs) ≡ Some d → (x : X) × R d x
 AllItems_before R [] xs i h n d below found = absurd (cc found)
 AllItems_before R (v ∷ vs) xs zero h n d below found = absurd (omega arith)
@@ -39,22 +38,10 @@ AllItems_before R (v ∷ vs) [] (suc i) h n d below found = absurd h
 AllItems_before R (v ∷ vs) (x ∷ xs) (suc i) h zero d below found = let same : view v ≡ d = cc found in (x, rw (← same) h.0)
 AllItems_before R (v ∷ vs) (x ∷ xs) (suc i) h (suc n) d below found = AllItems_before R vs xs i h.1 n d (omega arith) found
 
-get_item-view : (vs : List Value) (i : ℕ) (d : Value) → i < length vs → get_item i (items_view vs) ≡ Some (view (get_or vs i d))
+pub get_item-view : (vs : List Value) (i : ℕ) (d : Value) → i < length vs → get_item i (items_view vs) ≡ Some (view (get_or vs i d))
 get_item-view [] i d below = absurd (omega arith)
 get_item-view (v ∷ vs) zero d below = refl
 get_item-view (v ∷ vs) (suc i) d below = get_item-view vs i d (omega arith)
-
--- the item that a loop has come to is the first that says nothing
-pub first_refused : {X : Type 0} (R : Data → X → Type 0) (vs : List Value) (xs : List X) (i : ℕ) (d : Value)
-    → i < length vs → AllItems R (items_view (take i vs)) xs → ((x : X) → R (view (get_or vs i d)) x → ⊥)
-    → (items : Items) (entry : ℕ) → items ≡ items_view vs → entry ≡ i → IsFirstRefused R items entry
-first_refused R vs xs i d below h none items entry same here =
-    rw (same, here) (record {
-      here = view (get_or vs i d);
-      found = get_item-view vs i d below;
-      refused = none;
-      before = AllItems_before R vs xs i h;
-    })
 
 -- where an item says one thing at most, as far as f sees it, so do all items
 pub AllItems_same : {X Y : Type 0} (R : Data → X → Type 0) (f : X → Y) → ((d : Data) (x y : X) → R d x → R d y → f x ≡ f y)

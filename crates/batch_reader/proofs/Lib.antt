@@ -12,3 +12,7 @@ pub mod RecipeParts
 pub mod ActForms
 pub mod OneRecipe
 pub mod NeedCuts
+pub mod EntryFaults
+pub mod NeedFaults
+pub mod ArrayFaults
+pub mod PartsTold

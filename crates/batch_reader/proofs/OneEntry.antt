@@ -11,7 +11,8 @@ use Rattle.batch_grammar.proofs.ChartRead.{at_most_one}
 use Rattle.batch_grammar.specs.ChartGrammar.{IsChart}
 use Rattle.batch_reader.proofs.Items.{AllItems_same}
 use Rattle.batch_reader.specs.Entries.{AllItems, IsNameItem, HasLabel, HasName, HasNameOr, HasChart, HasFew, HasFewNames, HasFewNeeds, IsNeedItem, HasTable, items_at}
-use Rattle.batch_reader.specs.Faults.{count_items, few_names_fault}
+use Rattle.batch_reader.specs.Faults.{few_names_fault}
+use Rattle.batch_reader.specs.TableFaults.{count_items}
 use Rattle.batch_reader.specs.declared.fault.EntryFault.TheVariants.{OutOfLimit, WrongKind}
 use Rattle.batch_recipe.specs.declared.need.Need.{Need}
 use Rattle.batch_reader.specs.NeedText.{IsNeedText, IsNeedCut, is_star}
@@ -45,7 +46,7 @@ pub few_needs : (key : List ℕ) (ms : Members) (vs : List Value) (most : ℕ) (
     → length vs ≤ most → AllItems IsNeedItem (items_view vs) needs → HasFewNeeds key ms most needs
 few_needs = few_items IsNeedItem
 
-count_items-view : (vs : List Value) → count_items (items_view vs) ≡ length vs
+pub count_items-view : (vs : List Value) → count_items (items_view vs) ≡ length vs
 count_items-view [] = refl
 count_items-view (v ∷ vs) = omega (arith, count_items-view vs)
 

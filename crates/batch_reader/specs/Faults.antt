@@ -1,17 +1,21 @@
--- What the refusal of a table tells.
-use Rattle.std.specs.Prelude.{◌≡◌, ℕ, ◌+◌, ◌<◌, nat_lt, ⊤, List, take, Bool, true, false, not, if◌then◌else◌, Option, Some, None, codes}
-use Rattle.toml.specs.Data.{Data, Items, no_items, item, get_item, Members, get_member, as_str}
+-- What the refusal of a table tells: for private contracts, but for `is_of_cell` and `is_of_recipe`.
+use Rattle.std.specs.Prelude.{◌≡◌, ℕ, ◌≤◌, nat_lt, ⊤, List, Bool, true, false, not, position, if◌then◌else◌, Option, Some, None, codes}
+use Rattle.toml.specs.Data.{Data, Items, Members}
+use Rattle.batch_text.specs.NumberText.{IsNumber, number_of}
 use Rattle.batch_recipe.specs.Diagram.{Diagram}
-use Rattle.batch_grammar.specs.ChartAnswer.{HasFaultAt, IsRead}
+use Rattle.batch_recipe.specs.declared.need.TheConstants.{MAX_UNITS}
+use Rattle.batch_grammar.specs.ChartAnswer.{IsRead}
 use Rattle.batch_grammar.specs.declared.reading.TheConstants.{MAX_CHART_LEN}
 use Rattle.batch_reader.specs.Entries.{HasText}
+use Rattle.batch_reader.specs.NeedText.{is_star}
+use Rattle.batch_reader.specs.TableFaults.{count_items, HasItem, IsNoNeedCut, HasTooManyUnits, IsNoNeed, IsNeedOutOfLimits, IsTableFault}
 use Rattle.batch_reader.specs.declared.fault.EntryFault.{EntryFault}
-use Rattle.batch_reader.specs.declared.fault.EntryFault.TheVariants.{MissingKey, WrongKind, OutOfLimit, Chart}
+use Rattle.batch_reader.specs.declared.fault.EntryFault.TheVariants.{MissingKey, WrongKind, OutOfLimit}
 use Rattle.batch_reader.specs.declared.fault.Spot.{Spot}
 use Rattle.batch_reader.specs.declared.fault.TableFault.{TableFault}
 use Rattle.batch_reader.specs.declared.fault.TableFault.TheVariants.{Entry, Memory}
 use Rattle.batch_reader.specs.declared.fault.TableKind.{TableKind}
-use Rattle.batch_reader.specs.declared.fault.TableKind.TheVariants.{Cell, Unit, Module, Shared}
+use Rattle.batch_reader.specs.declared.fault.TableKind.TheVariants.{Cell, Unit, Module, Shared, UnitProcedure, Operation, Phase}
 
 -- the tables of cell documents
 abbrev pub is_of_cell : TableKind → Bool
@@ -24,16 +28,6 @@ is_of_cell _ = false
 -- the tables of recipe documents
 abbrev pub is_of_recipe : TableKind → Bool
 is_of_recipe kind = not (is_of_cell kind)
-
--- unless memory was refused, the fault is in the table at this spot
-abbrev pub IsAt : Spot → TableFault → Type 0
-IsAt spot (Entry here wrong) = here ≡ spot
-IsAt spot Memory = ⊤
-
--- unless memory was refused, the fault is in a table of this kind
-abbrev pub IsIn : TableKind → TableFault → Type 0
-IsIn kind (Entry here wrong) = here.kind ≡ kind
-IsIn kind Memory = ⊤
 
 -- unless memory was refused, the fault is in a table of one of these kinds
 abbrev pub IsAmong : (TableKind → Bool) → TableFault → Type 0
@@ -55,51 +49,74 @@ abbrev pub IsToldAs : Spot → EntryFault → TableFault → Type 0
 IsToldAs spot wrong (Entry here what) = (here ≡ spot) × (what ≡ wrong)
 IsToldAs spot wrong Memory = ⊤
 
+-- unless memory was refused, such a thing is wrong in the table at this spot
+abbrev pub TellsAt : Spot → (EntryFault → Type 0) → TableFault → Type 0
+TellsAt spot Is (Entry here wrong) = (here ≡ spot) × Is wrong
+TellsAt spot Is Memory = ⊤
+
+-- unless memory was refused, such a thing is wrong at an entry of a table of this kind
+abbrev pub TellsIn : TableKind → (ℕ → EntryFault → Type 0) → TableFault → Type 0
+TellsIn kind Is (Entry here wrong) = (here.kind ≡ kind) × Is here.entry wrong
+TellsIn kind Is Memory = ⊤
+
+-- unless memory was refused, such a thing is wrong at a spot
+abbrev pub Tells : (Spot → EntryFault → Type 0) → TableFault → Type 0
+Tells Is (Entry here wrong) = Is here wrong
+Tells Is Memory = ⊤
+
+-- this is wrong with the text as that of a number of units
+abbrev pub IsUnitsFault : List ℕ → EntryFault → Type 0
+IsUnitsFault text WrongKind = ¬ IsNumber text
+IsUnitsFault text OutOfLimit = IsNumber text × (1 ≤ number_of text → number_of text ≤ MAX_UNITS → ⊥)
+IsUnitsFault text _ = ⊥
+
+-- this is wrong with the text as that of a need
+abbrev pub IsNeedTextFault : List ℕ → EntryFault → Type 0
+IsNeedTextFault text WrongKind = IsNoNeedCut (position is_star text) text
+IsNeedTextFault text OutOfLimit = HasTooManyUnits (position is_star text) text
+IsNeedTextFault text _ = ⊥
+
+-- this is wrong with the value as a need
+abbrev pub IsNeedFault : Data → EntryFault → Type 0
+IsNeedFault d WrongKind = IsNoNeed d
+IsNeedFault d OutOfLimit = IsNeedOutOfLimits d
+IsNeedFault d _ = ⊥
+
+-- this is wrong with the items as needs
+abbrev pub IsNeedsFault : Items → EntryFault → Type 0
+IsNeedsFault items WrongKind = HasItem IsNoNeed items
+IsNeedsFault items OutOfLimit = HasItem IsNeedOutOfLimits items
+IsNeedsFault items _ = ⊥
+
+-- this is wrong with the table of an act of this kind
+abbrev pub IsActFault : TableKind → Members → EntryFault → Type 0
+IsActFault UnitProcedure table wrong = IsTableFault UnitProcedure table wrong
+IsActFault Operation table wrong = IsTableFault Operation table wrong
+IsActFault Phase table wrong = IsTableFault Phase table wrong
+IsActFault _ table wrong = ⊤
+
 -- what is wrong with a key that has no value of its kind
 abbrev pub missing_or_wrong : Option Data → EntryFault
 missing_or_wrong None = MissingKey
 missing_or_wrong (Some d) = WrongKind
 
+-- what is wrong with a value that isn't of its kind, or isn't within its limits
+abbrev pub kind_fault : {X : Type 0} → Option X → EntryFault
+kind_fault None = WrongKind
+kind_fault (Some x) = OutOfLimit
+
 -- what is wrong with a key that has no value of its kind within its limits
 abbrev pub value_fault : {X : Type 0} → (Data → Option X) → Option Data → EntryFault
 value_fault of_kind None = MissingKey
-value_fault of_kind (Some d) = elim (of_kind d) [ None ↦ WrongKind | Some x ↦ OutOfLimit ]
-
-abbrev pub count_items : Items → ℕ
-count_items no_items = 0
-count_items (item d ds) = 1 + count_items ds
+value_fault of_kind (Some d) = kind_fault (of_kind d)
 
 -- what is wrong with a key that has no list of at most so many names: there are too many, or it is no list of names
 abbrev pub few_names_fault : ℕ → Option Items → EntryFault
 few_names_fault most None = WrongKind
 few_names_fault most (Some items) = if nat_lt most (count_items items) then OutOfLimit else WrongKind
 
--- the table has a text of no chart, with its fault at the offset
-pub record HasNoChartAt (ms : Members) (offset : ℕ) : Type 0 where
-  pub text : List ℕ
-  pub found : HasText (codes "chart") ms MAX_CHART_LEN text
-  pub fault : HasFaultAt text offset
-
 -- the table has a text of the chart, whose first `par` opens at the offset, if there is one
 pub record HasReadChart (ms : Members) (chart : Diagram) (first_par : Option ℕ) : Type 0 where
   pub text : List ℕ
   pub found : HasText (codes "chart") ms MAX_CHART_LEN text
   pub read : IsRead text chart first_par
-
--- unless memory was refused, this is wrong with the chart of the table: a fault of the chart itself is told at its offset
-abbrev pub IsChartFault : (ℕ → Type 0) → Members → TableFault → Type 0
-IsChartFault IsFaultAt ms (Entry here (Chart offset)) = IsFaultAt offset
-IsChartFault IsFaultAt ms (Entry here wrong) = wrong ≡ value_fault as_str (get_member (codes "chart") ms)
-IsChartFault IsFaultAt ms Memory = ⊤
-
--- the fact fails with this table, and not with those before it alone
-pub record FailsFirst {X : Type 0} (Holds : List X → Type 0) (tables : List X) (entry : ℕ) : Type 0 where
-  pub before : Holds (take entry tables)
-  pub fails : ¬ Holds (take (entry + 1) tables)
-
--- this item stands for nothing, and each one before it for something
-pub record IsFirstRefused {X : Type 0} (StandsFor : Data → X → Type 0) (items : Items) (entry : ℕ) : Type 0 where
-  pub here : Data
-  pub found : get_item entry items ≡ Some here
-  pub refused : (x : X) → ¬ (StandsFor here x)
-  pub before : (n : ℕ) (d : Data) → n < entry → get_item n items ≡ Some d → (x : X) × StandsFor d x

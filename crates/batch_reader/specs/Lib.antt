@@ -1,10 +1,16 @@
 pub mod NeedText
 pub mod Entries
 pub mod Words
-pub mod Faults
+pub mod Keys
 pub mod CellDocument
 pub mod FormedActs
 pub mod Naming
 pub mod SoundRecipe
 pub mod RecipeTables
 pub mod RecipeDocument
+pub mod RightTables
+pub mod TableFaults
+pub mod Faults
+pub mod PartFaults
+pub mod FaultStands
+pub mod RowsOfFaults

@@ -1,10 +1,13 @@
 //! The tables of a recipe's acts.
 ghost use Rattle.std.specs.Prelude.{◌≡◌, ◌≢◌, codes, IfOk, IfErr};
+ghost use Rattle.toml.specs.Data.{get_member};
 ghost use Rattle.toml.specs.View.{table_view};
 ghost use Rattle.batch_recipe.specs.declared.act.Act.{Act};
 ghost use Rattle.batch_reader.specs.Entries.{HasTable};
 ghost use Rattle.batch_reader.specs.RecipeTables.{IsActTable, IsProcedureTable, IsUnitProcedureTable, IsOperationTable, IsPhaseTable};
-ghost use Rattle.batch_reader.specs.Faults.{IsAt};
+ghost use Rattle.batch_reader.specs.Faults.{IsActFault, TellsAt};
+ghost use Rattle.batch_reader.specs.TableFaults.{IsProcedureFault, IsTableFault};
+ghost use Rattle.batch_reader.specs.declared.fault.TableKind.{TableKind};
 
 use crate::chart_entry::{chart_at, chart_without_par_at};
 use crate::entries::{has_only_keys, member, name_at};
@@ -25,6 +28,8 @@ const PROCEDURE: Spot = Spot {
 impl FromTable for Act {
     ghost stands_for = { IsActTable };
 
+    ghost is_fault = { IsActFault };
+
     fn from_table(alloc: Global, table: &Table, spot: Spot) -> Result<Act, TableFault> {
         match spot.kind {
             TableKind::UnitProcedure => unit_procedure(alloc, table, spot),
@@ -40,7 +45,7 @@ fn unit_procedure(alloc: Global, table: &Table, spot: Spot) -> Result<Act, Table
     ensures ok { IfOk result (IsUnitProcedureTable (table_view table.now)) }
     ensures refused { IfErr result (λ fault. fault ≢ TableFault.Memory
         → (act : Act) → ¬ (IsUnitProcedureTable (table_view table.now) act)) }
-    ensures told { IfErr result (IsAt spot) }
+    ensures told { IfErr result (TellsAt spot (IsTableFault TableKind.UnitProcedure (table_view table.now))) }
 {
     if !has_only_keys(table, &["name", "unit", "needs", "chart"]) {
         return Err(TableFault::Entry(spot, EntryFault::UnknownKey));
@@ -61,7 +66,7 @@ fn operation(alloc: Global, table: &Table, spot: Spot) -> Result<Act, TableFault
     ensures ok { IfOk result (IsOperationTable (table_view table.now)) }
     ensures refused { IfErr result (λ fault. fault ≢ TableFault.Memory
         → (act : Act) → ¬ (IsOperationTable (table_view table.now) act)) }
-    ensures told { IfErr result (IsAt spot) }
+    ensures told { IfErr result (TellsAt spot (IsTableFault TableKind.Operation (table_view table.now))) }
 {
     if !has_only_keys(table, &["name", "needs", "chart"]) {
         return Err(TableFault::Entry(spot, EntryFault::UnknownKey));
@@ -81,7 +86,7 @@ fn phase_step(alloc: Global, table: &Table, spot: Spot) -> Result<Act, TableFaul
     ensures ok { IfOk result (IsPhaseTable (table_view table.now)) }
     ensures refused { IfErr result (λ fault. fault ≢ TableFault.Memory
         → (act : Act) → ¬ (IsPhaseTable (table_view table.now) act)) }
-    ensures told { IfErr result (IsAt spot) }
+    ensures told { IfErr result (TellsAt spot (IsTableFault TableKind.Phase (table_view table.now))) }
 {
     if !has_only_keys(table, &["name", "runs", "needs", "values"]) {
         return Err(TableFault::Entry(spot, EntryFault::UnknownKey));
@@ -104,7 +109,7 @@ pub(crate) fn procedure_at(alloc: Global, table: &Table, name: Name) -> Result<A
     ensures named { IfOk result (λ act. act.name ≡ name) }
     ensures refused { IfErr result (λ fault. fault ≢ TableFault.Memory
         → (act : Act) → ¬ (HasTable IsProcedureTable (codes "procedure") (table_view table.now) act)) }
-    ensures told { IfErr result (IsAt PROCEDURE) }
+    ensures told { IfErr result (TellsAt PROCEDURE (IsProcedureFault (get_member (codes "procedure") (table_view table.now)))) }
 {
     let Some(value) = member(table, "procedure") else {
         return Err(TableFault::Entry(PROCEDURE, EntryFault::MissingKey));
@@ -120,7 +125,7 @@ fn procedure(alloc: Global, table: &Table, name: Name) -> Result<Act, TableFault
     ensures named { IfOk result (λ act. act.name ≡ name) }
     ensures refused { IfErr result (λ fault. fault ≢ TableFault.Memory
         → (act : Act) → ¬ (IsProcedureTable (table_view table.now) act)) }
-    ensures told { IfErr result (IsAt PROCEDURE) }
+    ensures told { IfErr result (TellsAt PROCEDURE (IsTableFault TableKind.Procedure (table_view table.now))) }
 {
     if !has_only_keys(table, &["needs", "chart"]) {
         return Err(TableFault::Entry(PROCEDURE, EntryFault::UnknownKey));

@@ -4,7 +4,8 @@ ghost use Rattle.toml.specs.Parse.{parse_document};
 ghost use Rattle.toml.specs.View.{table_view};
 ghost use Rattle.batch_cell.specs.declared.cell.Cell.{Cell};
 ghost use Rattle.batch_reader.specs.CellDocument.{IsCellTable, IsCellDocument};
-ghost use Rattle.batch_reader.specs.Faults.{IsAmong, is_of_cell};
+ghost use Rattle.batch_reader.specs.Faults.{IsAmong, Tells, is_of_cell};
+ghost use Rattle.batch_reader.specs.FaultStands.{FaultStands, IsWrongAt};
 ghost use Rattle.batch_reader.specs.declared.document.TheConstants.{MAX_DOCUMENT_LEN};
 ghost use Rattle.batch_reader.specs.declared.fault.EntryFault.{EntryFault};
 ghost use Rattle.batch_reader.specs.declared.fault.Spot.{Spot};
@@ -37,6 +38,7 @@ pub fn read_cell(alloc: Global, bytes: &[u8]) -> Result<Cell, DocFault>
     ensures long { MAX_DOCUMENT_LEN < length bytes.now
         → result ≡ Err (DocFault.Entry (record { kind = TableKind.Cell; entry = 0 }) EntryFault.OutOfLimit) }
     ensures told { (spot : Spot) (wrong : EntryFault) → IsErrOf result (DocFault.Entry spot wrong) → is_of_cell spot.kind ≡ true }
+    ensures stands { (spot : Spot) (wrong : EntryFault) → IsErrOf result (DocFault.Entry spot wrong) → FaultStands bytes.now spot wrong }
 {
     let table = table_of(alloc, bytes, TOP)?;
     match cell_from_table(alloc, &table) {
@@ -50,6 +52,7 @@ fn cell_from_table(alloc: Global, table: &Table) -> Result<Cell, TableFault>
     ensures refused { IfErr result (λ fault. fault ≢ TableFault.Memory
         → (cell : Cell) → ¬ (IsCellTable (table_view table.now) cell)) }
     ensures told { IfErr result (IsAmong is_of_cell) }
+    ensures stands { IfErr result (Tells (IsWrongAt (table_view table.now))) }
 {
     if !has_only_keys(table, &["cell", "unit", "module", "shared"]) {
         return Err(TableFault::Entry(TOP, EntryFault::UnknownKey));

@@ -4,7 +4,9 @@ ghost use Rattle.toml.specs.Data.{get_member};
 ghost use Rattle.toml.specs.View.{table_view};
 ghost use Rattle.batch_cell.specs.declared.module.Module.{Module};
 ghost use Rattle.batch_reader.specs.CellDocument.{IsUnitTable, IsModuleTable, IsSharedTable};
-ghost use Rattle.batch_reader.specs.Faults.{IsAt};
+ghost use Rattle.batch_reader.specs.Faults.{TellsAt};
+ghost use Rattle.batch_reader.specs.TableFaults.{IsTableFault};
+ghost use Rattle.batch_reader.specs.declared.fault.TableKind.{TableKind};
 
 use crate::entries::{has_only_keys, member, name_at, names_at, number_at};
 use crate::fault::{EntryFault, Spot, TableFault};
@@ -15,6 +17,8 @@ use toml::Table;
 
 impl FromTable for Unit {
     ghost stands_for = { λ _. IsUnitTable };
+
+    ghost is_fault = { λ _. IsTableFault TableKind.Unit };
 
     fn from_table(alloc: Global, table: &Table, spot: Spot) -> Result<Unit, TableFault> {
         if !has_only_keys(table, &["name"]) {
@@ -27,6 +31,8 @@ impl FromTable for Unit {
 
 impl FromTable for Module {
     ghost stands_for = { λ _. IsModuleTable };
+
+    ghost is_fault = { λ _. IsTableFault TableKind.Module };
 
     fn from_table(alloc: Global, table: &Table, spot: Spot) -> Result<Module, TableFault> {
         match member(table, "unit") {
@@ -41,7 +47,7 @@ fn free_module(alloc: Global, table: &Table, spot: Spot) -> Result<Module, Table
     ensures ok { IfOk result (IsModuleTable (table_view table.now)) }
     ensures refused { IfErr result (λ fault. fault ≢ TableFault.Memory
         → (m : Module) → ¬ (IsModuleTable (table_view table.now) m)) }
-    ensures told { IfErr result (IsAt spot) }
+    ensures told { IfErr result (TellsAt spot (IsTableFault TableKind.Module (table_view table.now))) }
 {
     if !has_only_keys(table, &["name"]) {
         return Err(TableFault::Entry(spot, EntryFault::UnknownKey));
@@ -59,7 +65,7 @@ fn unit_module(alloc: Global, table: &Table, spot: Spot) -> Result<Module, Table
     ensures ok { IfOk result (IsModuleTable (table_view table.now)) }
     ensures refused { IfErr result (λ fault. fault ≢ TableFault.Memory
         → (m : Module) → ¬ (IsModuleTable (table_view table.now) m)) }
-    ensures told { IfErr result (IsAt spot) }
+    ensures told { IfErr result (TellsAt spot (IsTableFault TableKind.Module (table_view table.now))) }
 {
     if !has_only_keys(table, &["name", "unit", "phases"]) {
         return Err(TableFault::Entry(spot, EntryFault::UnknownKey));
@@ -79,6 +85,8 @@ fn unit_module(alloc: Global, table: &Table, spot: Spot) -> Result<Module, Table
 
 impl FromTable for Shared {
     ghost stands_for = { λ _. IsSharedTable };
+
+    ghost is_fault = { λ _. IsTableFault TableKind.Shared };
 
     fn from_table(alloc: Global, table: &Table, spot: Spot) -> Result<Shared, TableFault> {
         if !has_only_keys(table, &["name", "capacity"]) {

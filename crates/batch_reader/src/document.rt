@@ -18,7 +18,7 @@ pub(crate) fn table_of(alloc: Global, bytes: &[u8], top: Spot) -> Result<Table, 
     ensures is_text { IfOk result (λ _. IsUtf8 bytes.now) }
     ensures parsed { IfOk result (λ table. parse_document bytes.now ≡ Some (table_view table)) }
     ensures told { (spot : Spot) (wrong : EntryFault) → IsErrOf result (DocFault.Entry spot wrong)
-        → (spot ≡ top) × (wrong ≡ EntryFault.OutOfLimit) }
+        → (spot ≡ top) × (wrong ≡ EntryFault.OutOfLimit) × (MAX_DOCUMENT_LEN < length bytes.now) }
     ensures long { MAX_DOCUMENT_LEN < length bytes.now → result ≡ Err (DocFault.Entry top EntryFault.OutOfLimit) }
     ensures not_toml { IsErrOf result DocFault.NotToml → ¬ (IsUtf8 bytes.now × IsSome (parse_document bytes.now)) }
     ensures refused { IfErr result (λ fault. fault ≢ DocFault.Memory

@@ -1,9 +1,11 @@
 //! The conditions on a cell's equipment, and the indexes over it.
-ghost use Rattle.std.specs.Prelude.{◌≡◌, ◌≢◌, ◌≤◌, ◌<◌, Err, map, IfOk, IfErr, OnOk};
+ghost use Rattle.std.specs.Prelude.{◌≡◌, ◌≢◌, ◌≤◌, map, IfOk, IfErr, OnOk};
 ghost use Rattle.indexmap.specs.IndexSet.{keys};
 ghost use Rattle.batch_cell.specs.Equipment.{offered_phases, resource_names};
 ghost use Rattle.batch_reader.specs.CellDocument.{IsSoundEquipment};
-ghost use Rattle.batch_reader.specs.Faults.{IsAmong, is_of_cell};
+ghost use Rattle.batch_reader.specs.Faults.{IsAmong, IsToldIn, Tells, is_of_cell};
+ghost use Rattle.batch_reader.specs.PartFaults.{IsCountFault, IsEquipmentFault};
+ghost use Rattle.batch_reader.specs.declared.fault.EntryFault.{EntryFault};
 
 use crate::fault::{EntryFault, Spot, TableFault, TableKind};
 use crate::offered::offered_phases;
@@ -35,6 +37,7 @@ pub(crate) fn index_equipment(
     ensures refused { IfErr result (λ fault. fault ≢ TableFault.Memory
         → ¬ (IsSoundEquipment units.now modules.now shared.now)) }
     ensures told { IfErr result (IsAmong is_of_cell) }
+    ensures stands { IfErr result (Tells (λ spot. IsEquipmentFault (record { units = units.now; modules = modules.now; shared = shared.now }) spot.kind spot.entry)) }
 {
     check_count(units.len(), 1, MAX_UNITS, TableKind::Unit)?;
     check_count(modules.len(), 0, MAX_MODULES, TableKind::Module)?;
@@ -54,9 +57,8 @@ pub(crate) fn check_count(
     kind: TableKind,
 ) -> Result<(), TableFault>
     ensures ok { OnOk result ((least ≤ count) × (count ≤ most)) }
-    ensures few { count < least → result ≡ Err (TableFault.Entry (record { kind = kind; entry = 0 }) EntryFault.OutOfLimit) }
-    ensures many { IfErr result (λ fault. least ≤ count → fault ≡ TableFault.Entry (record { kind = kind; entry = most }) EntryFault.OutOfLimit) }
     ensures refused { IfErr result (λ fault. ¬ ((least ≤ count) × (count ≤ most))) }
+    ensures told { IfErr result (λ fault. IsToldIn kind EntryFault.OutOfLimit fault × Tells (λ spot _. IsCountFault least most count spot.entry) fault) }
 {
     if count < least {
         return Err(TableFault::Entry(Spot { kind, entry: 0 }, EntryFault::OutOfLimit));

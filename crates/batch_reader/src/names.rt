@@ -2,7 +2,8 @@
 ghost use Rattle.std.specs.Prelude.{◌≡◌, ◌≢◌, ℕ, List, [], ◌∷◌, ◌++◌, map, nat_eq, OnOk, IfErr, IsErrOf};
 ghost use Rattle.std.specs.Cmp.Lexicographic.{pointwise};
 ghost use Rattle.std.specs.List.{IsDistinct};
-ghost use Rattle.batch_reader.specs.Faults.{FailsFirst, IsToldAs, IsToldIn};
+ghost use Rattle.batch_reader.specs.Faults.{IsToldAs, IsToldIn};
+ghost use Rattle.batch_reader.specs.PartFaults.{FailsFirst};
 ghost use Rattle.batch_reader.specs.declared.fault.EntryFault.{EntryFault};
 ghost use Rattle.batch_reader.specs.declared.fault.Spot.{Spot};
 

@@ -5,8 +5,10 @@ ghost use Rattle.batch_recipe.specs.Needs.{have_units};
 ghost use Rattle.batch_recipe.specs.declared.need.Need.{Need};
 ghost use Rattle.batch_text.specs.NameText.{IsName};
 ghost use Rattle.batch_reader.specs.Entries.{AllItems, HasFewNeeds, IsNeedItem};
-ghost use Rattle.batch_reader.specs.Faults.{IsAt, IsToldAs};
+ghost use Rattle.batch_reader.specs.Faults.{IsNeedFault, IsNeedTextFault, IsNeedsFault, IsToldAs, IsUnitsFault, TellsAt};
+ghost use Rattle.batch_reader.specs.Keys.{optional, some_needs};
 ghost use Rattle.batch_reader.specs.NeedText.{IsNeedText, IsUnits, is_star};
+ghost use Rattle.batch_reader.specs.TableFaults.{IsKeyFault};
 
 use crate::fault::{EntryFault, Spot, TableFault};
 use crate::tables::items_at;
@@ -28,7 +30,7 @@ pub(crate) fn few_needs_at(
     ensures units { IfOk result (λ needs. have_units needs.items ≡ true) }
     ensures refused { IfErr result (λ fault. fault ≢ TableFault.Memory
         → (needs : List Need) → ¬ (HasFewNeeds key.now (table_view table.now) most needs)) }
-    ensures told { IfErr result (IsAt spot) }
+    ensures told { IfErr result (TellsAt spot (IsKeyFault (optional key.now (some_needs most)) (table_view table.now))) }
 {
     let values = items_at(table, key, spot)?;
     if values.len() > most {
@@ -44,7 +46,7 @@ fn needs_of(alloc: Global, values: &[Value], spot: Spot) -> Result<Vec<Need>, Ta
     ensures units { IfOk result (λ needs. have_units needs.items ≡ true) }
     ensures refused { IfErr result (λ fault. fault ≢ TableFault.Memory
         → (needs : List Need) → ¬ (AllItems IsNeedItem (items_view values.now) needs)) }
-    ensures told { IfErr result (IsAt spot) }
+    ensures told { IfErr result (TellsAt spot (IsNeedsFault (items_view values.now))) }
 {
     let mut needs = Vec::new(alloc);
     for value in values {
@@ -59,7 +61,7 @@ fn need_of(alloc: Global, value: &Value, spot: Spot) -> Result<Need, TableFault>
     ensures ok { IfOk result (λ need. IsNeedItem (view value.now) need) }
     ensures refused { IfErr result (λ fault. fault ≢ TableFault.Memory
         → (need : Need) → ¬ (IsNeedItem (view value.now) need)) }
-    ensures told { IfErr result (IsAt spot) }
+    ensures told { IfErr result (TellsAt spot (IsNeedFault (view value.now))) }
 {
     let Some(text) = value.as_str() else {
         return Err(TableFault::Entry(spot, EntryFault::WrongKind));
@@ -71,7 +73,7 @@ fn need_of(alloc: Global, value: &Value, spot: Spot) -> Result<Need, TableFault>
 fn read_need(alloc: Global, text: &[u8], spot: Spot) -> Result<Need, TableFault>
     ensures ok { IfOk result (λ need. IsNeedText text.now need) }
     ensures refused { IfErr result (λ fault. fault ≢ TableFault.Memory → (need : Need) → ¬ (IsNeedText text.now need)) }
-    ensures told { IfErr result (IsAt spot) }
+    ensures told { IfErr result (TellsAt spot (IsNeedTextFault text.now)) }
 {
     match first_star(text) {
         None => {
@@ -110,7 +112,7 @@ fn read_resource(alloc: Global, text: &[u8], spot: Spot) -> Result<Name, TableFa
 fn read_units(text: &[u8], spot: Spot) -> Result<u32, TableFault>
     ensures ok { IfOk result (λ units. IsUnits text.now units) }
     ensures refused { IfErr result (λ fault. (units : ℕ) → ¬ (IsUnits text.now units)) }
-    ensures told { IfErr result (IsAt spot) }
+    ensures told { IfErr result (TellsAt spot (IsUnitsFault text.now)) }
 {
     match read_number(text, u64::from(MAX_UNITS)) {
         Ok(0) => Err(TableFault::Entry(spot, EntryFault::OutOfLimit)),

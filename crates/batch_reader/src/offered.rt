@@ -4,7 +4,8 @@ ghost use Rattle.std.specs.Cmp.Lexicographic.{pointwise};
 ghost use Rattle.std.specs.List.{IsDistinct};
 ghost use Rattle.indexmap.specs.IndexSet.{keys};
 ghost use Rattle.batch_cell.specs.Equipment.{OffersPhasesOnce, belongs_to, offered_phases, unit_phases};
-ghost use Rattle.batch_reader.specs.Faults.{FailsFirst, IsToldIn};
+ghost use Rattle.batch_reader.specs.Faults.{IsToldIn, Tells};
+ghost use Rattle.batch_reader.specs.PartFaults.{FailsFirst, OffersTwice};
 ghost use Rattle.batch_reader.specs.declared.fault.EntryFault.{EntryFault};
 ghost use Rattle.batch_reader.specs.declared.fault.Spot.{Spot};
 
@@ -25,6 +26,7 @@ pub(crate) fn offered_phases(
     ensures once { OnOk result (OffersPhasesOnce units.now modules.now) }
     ensures refused { IfErr result (λ fault. fault ≢ TableFault.Memory → ¬ (OffersPhasesOnce units.now modules.now)) }
     ensures told { IfErr result (IsToldIn TableKind.Module EntryFault.Duplicate) }
+    ensures stands { IfErr result (Tells (λ spot _. OffersTwice units.now modules.now spot.entry)) }
 {
     let mut offered = Vec::new(alloc);
     for unit in units {

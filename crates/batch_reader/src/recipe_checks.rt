@@ -4,7 +4,8 @@ ghost use Rattle.std.specs.List.{list_all};
 ghost use Rattle.batch_recipe.specs.Procedure.{procedure_nodes};
 ghost use Rattle.batch_recipe.specs.WellFormed.{act_names, is_among, is_work};
 ghost use Rattle.batch_recipe.specs.declared.recipe.TheConstants.{MAX_NODES};
-ghost use Rattle.batch_reader.specs.Faults.{FailsFirst, IsAmong, IsToldIn, IsWrong, is_of_recipe};
+ghost use Rattle.batch_reader.specs.Faults.{IsAmong, IsToldIn, IsWrong, Tells, is_of_recipe};
+ghost use Rattle.batch_reader.specs.PartFaults.{FailsFirst, HasUndeclaredName, IsPartFault};
 ghost use Rattle.batch_reader.specs.Naming.{acts_are_declared};
 ghost use Rattle.batch_reader.specs.FormedActs.{AreFormed, AreFormedActs, IsFormedWork};
 ghost use Rattle.batch_reader.specs.SoundRecipe.{IsSoundRecipe};
@@ -33,6 +34,7 @@ pub(crate) fn check_recipe(
     ensures refused { IfErr result (λ fault. fault ≢ TableFault.Memory
         → ¬ (IsSoundRecipe inputs.now parameters.now outputs.now acts.now)) }
     ensures told { IfErr result (IsAmong is_of_recipe) }
+    ensures stands { IfErr result (Tells (λ spot. IsPartFault (record { inputs = inputs.now; parameters = parameters.now; outputs = outputs.now; acts = acts.now }) spot.kind spot.entry)) }
 {
     check_count(inputs.len(), 0, MAX_ENTRIES, TableKind::Input)?;
     check_count(parameters.len(), 0, MAX_ENTRIES, TableKind::Parameter)?;
@@ -59,6 +61,7 @@ fn check_acts(alloc: Global, acts: &Acts, names: &RecipeNames) -> Result<(), Tab
     ensures ok { OnOk result (acts_are_declared names.now.values.keys acts.now ≡ true) }
     ensures refused { IfErr result (λ fault. acts_are_declared names.now.values.keys acts.now ≢ true) }
     ensures told { IfErr result (λ fault. (fault ≢ TableFault.Memory) × (IsAmong is_of_recipe fault × IsWrong EntryFault.Undeclared fault)) }
+    ensures stands { IfErr result (Tells (λ spot _. HasUndeclaredName names.now.values.keys acts.now spot.kind spot.entry)) }
 {
     let values = &names.values;
     if !is_work(&acts.procedure, &names.unit_procedures, values) {

@@ -6,12 +6,15 @@ ghost use Rattle.batch_recipe.specs.declared.acts.Acts.{Acts};
 ghost use Rattle.batch_recipe.specs.declared.header.Header.{Header};
 ghost use Rattle.batch_recipe.specs.declared.recipe.Recipe.{Recipe};
 ghost use Rattle.batch_reader.specs.Entries.{HasName, has_only_keys};
-ghost use Rattle.batch_reader.specs.Faults.{IsAmong, IsAt, is_of_recipe};
+ghost use Rattle.batch_reader.specs.Faults.{IsAmong, Tells, TellsAt, is_of_recipe};
+ghost use Rattle.batch_reader.specs.FaultStands.{FaultStands, IsWrongAt};
+ghost use Rattle.batch_reader.specs.TableFaults.{IsFaultOfTable, IsTableFault};
 ghost use Rattle.batch_reader.specs.RecipeTables.{HasHeader};
 ghost use Rattle.batch_reader.specs.RecipeDocument.{HasActs, IsRecipeTable, IsRecipeDocument, recipe_keys};
 ghost use Rattle.batch_reader.specs.declared.document.TheConstants.{MAX_DOCUMENT_LEN};
 ghost use Rattle.batch_reader.specs.declared.fault.EntryFault.{EntryFault};
 ghost use Rattle.batch_reader.specs.declared.fault.Spot.{Spot};
+ghost use Rattle.batch_reader.specs.declared.fault.TableKind.{TableKind};
 
 use crate::act_tables::procedure_at;
 use crate::document::{document_fault, table_of};
@@ -44,6 +47,7 @@ pub fn read_recipe(alloc: Global, bytes: &[u8]) -> Result<Recipe, DocFault>
     ensures long { MAX_DOCUMENT_LEN < length bytes.now
         → result ≡ Err (DocFault.Entry (record { kind = TableKind.Recipe; entry = 0 }) EntryFault.OutOfLimit) }
     ensures told { (spot : Spot) (wrong : EntryFault) → IsErrOf result (DocFault.Entry spot wrong) → is_of_recipe spot.kind ≡ true }
+    ensures stands { (spot : Spot) (wrong : EntryFault) → IsErrOf result (DocFault.Entry spot wrong) → FaultStands bytes.now spot wrong }
 {
     let table = table_of(alloc, bytes, TOP)?;
     match recipe_from_table(alloc, &table) {
@@ -57,6 +61,7 @@ fn recipe_from_table(alloc: Global, table: &Table) -> Result<Recipe, TableFault>
     ensures refused { IfErr result (λ fault. fault ≢ TableFault.Memory
         → (recipe : Recipe) → ¬ (IsRecipeTable (table_view table.now) recipe)) }
     ensures told { IfErr result (IsAmong is_of_recipe) }
+    ensures stands { IfErr result (Tells (IsWrongAt (table_view table.now))) }
 {
     if !has_recipe_keys(table) {
         return Err(TableFault::Entry(TOP, EntryFault::UnknownKey));
@@ -108,7 +113,7 @@ fn header_at(alloc: Global, table: &Table) -> Result<Header, TableFault>
     ensures ok { IfOk result (HasHeader (table_view table.now)) }
     ensures refused { IfErr result (λ fault. fault ≢ TableFault.Memory
         → (header : Header) → ¬ (HasHeader (table_view table.now) header)) }
-    ensures told { IfErr result (IsAt TOP) }
+    ensures told { IfErr result (TellsAt TOP (IsTableFault TableKind.Recipe (table_view table.now))) }
 {
     let version = text_at(alloc, table, "version", MAX_VERSION_LEN, TOP)?;
     let product = optional_text_at(alloc, table, "product", MAX_TEXT_LEN, TOP)?;
@@ -129,6 +134,7 @@ fn acts_at(alloc: Global, table: &Table, name: Name) -> Result<Acts, TableFault>
     ensures refused { IfErr result (λ fault. fault ≢ TableFault.Memory
         → (acts : Acts) → ¬ (HasActs (table_view table.now) acts)) }
     ensures told { IfErr result (IsAmong is_of_recipe) }
+    ensures stands { IfErr result (Tells (λ spot. IsFaultOfTable (table_view table.now) spot.kind spot.entry)) }
 {
     let procedure = procedure_at(alloc, table, name)?;
     let unit_procedures = tables_at::<Act>(

@@ -1,7 +1,8 @@
 //! The names that a recipe declares.
-ghost use Rattle.std.specs.Prelude.{◌≡◌, ◌≢◌, true, IfErr, IfOk, OnOk};
+ghost use Rattle.std.specs.Prelude.{◌≡◌, ◌≢◌, ◌⊎◌, true, IfErr, IfOk, OnOk};
 ghost use Rattle.batch_recipe.specs.WellFormed.{act_names, are_distinct, value_names};
-ghost use Rattle.batch_reader.specs.Faults.{IsAmong, IsToldIn, IsWrong, is_of_recipe};
+ghost use Rattle.batch_reader.specs.Faults.{IsAmong, IsToldIn, IsWrong, Tells, is_of_recipe};
+ghost use Rattle.batch_reader.specs.PartFaults.{HasActTwice, HasValueTwice, IsFirstNamedAgain};
 ghost use Rattle.batch_reader.specs.Naming.{names_differ};
 ghost use Rattle.batch_reader.specs.declared.fault.EntryFault.{EntryFault};
 
@@ -63,6 +64,7 @@ pub(crate) fn recipe_names(
     ensures refused { IfErr result (λ fault. fault ≢ TableFault.Memory
         → names_differ (value_names inputs.now parameters.now outputs.now) acts.now ≢ true) }
     ensures told { IfErr result (λ fault. IsAmong is_of_recipe fault × IsWrong EntryFault.Duplicate fault) }
+    ensures stands { IfErr result (Tells (λ spot _. HasValueTwice inputs.now parameters.now outputs.now spot.kind spot.entry ⊎ HasActTwice acts.now spot.kind spot.entry)) }
 {
     let values = value_names(alloc, inputs, parameters, outputs)?;
     let unit_procedures = act_names(alloc, &acts.unit_procedures, TableKind::UnitProcedure)?;
@@ -88,6 +90,7 @@ fn value_names(
     ensures refused { IfErr result (λ fault. fault ≢ TableFault.Memory
         → are_distinct (value_names inputs.now parameters.now outputs.now) ≢ true) }
     ensures told { IfErr result (λ fault. IsAmong is_of_recipe fault × IsWrong EntryFault.Duplicate fault) }
+    ensures stands { IfErr result (Tells (λ spot _. HasValueTwice inputs.now parameters.now outputs.now spot.kind spot.entry)) }
 {
     let mut names = IndexSet::new(alloc);
     add_names(alloc, &mut names, inputs, TableKind::Input)?;
@@ -102,6 +105,7 @@ fn act_names(alloc: Global, table: &[Act], kind: TableKind) -> Result<IndexSet<N
     ensures differ { OnOk result (are_distinct (act_names table.now) ≡ true) }
     ensures refused { IfErr result (λ fault. fault ≢ TableFault.Memory → are_distinct (act_names table.now) ≢ true) }
     ensures told { IfErr result (IsToldIn kind EntryFault.Duplicate) }
+    ensures stands { IfErr result (Tells (λ spot _. IsFirstNamedAgain table.now spot.entry)) }
 {
     let mut names = IndexSet::new(alloc);
     add_names(alloc, &mut names, table, kind)?;

@@ -3,7 +3,8 @@ ghost use Rattle.std.specs.Prelude.{◌≡◌, ◌≢◌, ◌++◌, map, filter,
 ghost use Rattle.std.specs.Cmp.Lexicographic.{pointwise};
 ghost use Rattle.std.specs.List.{IsDistinct, list_any};
 ghost use Rattle.batch_cell.specs.Equipment.{IsDeclaredOnce, HasDeclaredUnits, is_free, has_declared_unit, resource_names, unit_names};
-ghost use Rattle.batch_reader.specs.Faults.{FailsFirst, IsAmong, IsToldIn, IsWrong, is_of_cell};
+ghost use Rattle.batch_reader.specs.Faults.{IsAmong, IsToldIn, IsWrong, Tells, is_of_cell};
+ghost use Rattle.batch_reader.specs.PartFaults.{FailsFirst, HasNameTwice};
 ghost use Rattle.batch_reader.specs.declared.fault.EntryFault.{EntryFault};
 ghost use Rattle.batch_reader.specs.declared.fault.Spot.{Spot};
 
@@ -48,6 +49,7 @@ pub(crate) fn check_names(
     ensures ok { OnOk result (IsDeclaredOnce units.now modules.now shared.now) }
     ensures refused { IfErr result (λ fault. fault ≢ TableFault.Memory → ¬ (IsDeclaredOnce units.now modules.now shared.now)) }
     ensures told { IfErr result (λ fault. IsAmong is_of_cell fault × IsWrong EntryFault.Duplicate fault) }
+    ensures stands { IfErr result (Tells (λ spot _. HasNameTwice (record { units = units.now; modules = modules.now; shared = shared.now }) spot.kind spot.entry)) }
 {
     let mut names = IndexSet::new(alloc);
     add_names(alloc, &mut names, units, TableKind::Unit)?;

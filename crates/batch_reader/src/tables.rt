@@ -1,11 +1,11 @@
 //! The tables of an array.
-ghost use Rattle.std.specs.Prelude.{◌≡◌, ◌≢◌, List, Some, None, Err, IfOk, IfErr, IsErrOf};
-ghost use Rattle.toml.specs.Data.{Items, Members};
+ghost use Rattle.std.specs.Prelude.{◌≡◌, ◌≢◌, List, Some, None, Err, IfOk, IfErr};
+ghost use Rattle.toml.specs.Data.{Members};
 ghost use Rattle.toml.specs.View.{table_view, items_view};
 ghost use Rattle.batch_reader.specs.Entries.{HasTables, IsTableOf, items_at};
-ghost use Rattle.batch_reader.specs.Faults.{IsAt, IsFirstRefused, IsIn};
+ghost use Rattle.batch_reader.specs.Faults.{TellsAt, TellsIn};
+ghost use Rattle.batch_reader.specs.TableFaults.{IsArrayFault};
 ghost use Rattle.batch_reader.specs.declared.fault.EntryFault.{EntryFault};
-ghost use Rattle.batch_reader.specs.declared.fault.Spot.{Spot};
 ghost use Rattle.batch_reader.specs.declared.fault.TableKind.{TableKind};
 
 use crate::entries::member;
@@ -18,12 +18,15 @@ pub(crate) trait FromTable: Drop {
     // the table of this kind stands for the value
     ghost stands_for: { TableKind → Members → Self → Type 0 };
 
+    // this is wrong with the table of this kind
+    ghost is_fault: { TableKind → Members → EntryFault → Type 0 };
+
     /// Reads the table that stands at the spot.
     fn from_table(alloc: Global, table: &Table, spot: Spot) -> Result<Self, TableFault>
         ensures ok { IfOk result (stands_for spot.kind (table_view table.now)) }
         ensures refused { IfErr result (λ fault. fault ≢ TableFault.Memory
             → (value : Self) → ¬ (stands_for spot.kind (table_view table.now) value)) }
-        ensures told { IfErr result (IsAt spot) };
+        ensures told { IfErr result (TellsAt spot (is_fault spot.kind (table_view table.now))) };
 }
 
 /// The items of the array at a key, none where the key is missing.
@@ -55,12 +58,9 @@ pub(crate) fn tables_at<T: FromTable>(
     ensures ok { IfOk result (λ values. HasTables (T.stands_for kind) key.now (table_view table.now) values.items) }
     ensures refused { IfErr result (λ fault. fault ≢ TableFault.Memory
         → (values : List T) → ¬ (HasTables (T.stands_for kind) key.now (table_view table.now) values)) }
-    ensures told { IfErr result (IsIn kind) }
+    ensures told { IfErr result (TellsIn kind (IsArrayFault (λ d. (value : T) × IsTableOf (T.stands_for kind) d value) (T.is_fault kind) (items_at key.now (table_view table.now)))) }
     ensures no_list { items_at key.now (table_view table.now) ≡ None
         → result ≡ Err (TableFault.Entry (record { kind = kind; entry = 0 }) EntryFault.WrongKind) }
-    ensures first { (items : Items) (spot : Spot) (wrong : EntryFault)
-        → items_at key.now (table_view table.now) ≡ Some items → IsErrOf result (TableFault.Entry spot wrong)
-        → IsFirstRefused (IsTableOf (T.stands_for kind)) items spot.entry }
 {
     let mut values = Vec::new(alloc);
     for (entry, item) in items_at(table, key, Spot { kind, entry: 0 })?

@@ -1,5 +1,7 @@
 //! The tables of a recipe's inputs, parameters and outputs.
 ghost use Rattle.batch_reader.specs.RecipeTables.{IsQuantityTable, IsOutputTable};
+ghost use Rattle.batch_reader.specs.TableFaults.{IsTableFault};
+ghost use Rattle.batch_reader.specs.declared.fault.TableKind.{TableKind};
 
 use crate::entries::{has_only_keys, number_at};
 use crate::fault::{EntryFault, Spot, TableFault};
@@ -12,6 +14,8 @@ use toml::Table;
 
 impl FromTable for Quantity {
     ghost stands_for = { λ _. IsQuantityTable };
+
+    ghost is_fault = { λ _. IsTableFault TableKind.Input };
 
     fn from_table(alloc: Global, table: &Table, spot: Spot) -> Result<Quantity, TableFault> {
         if !has_only_keys(table, &["name", "value", "min", "max", "fixed"]) {
@@ -38,6 +42,8 @@ impl FromTable for Quantity {
 /// The name of an output.
 impl FromTable for Name {
     ghost stands_for = { λ _. IsOutputTable };
+
+    ghost is_fault = { λ _. IsTableFault TableKind.Output };
 
     fn from_table(alloc: Global, table: &Table, spot: Spot) -> Result<Name, TableFault> {
         if !has_only_keys(table, &["name"]) {

@@ -4,11 +4,13 @@
 mod answering;
 mod fault;
 mod laws;
+mod limits;
 mod line_buffer;
 mod serving;
 mod set;
 
 pub use fault::{ServeFault, SetFault};
 pub use laws::{transcripts_are_safe, transcripts_leave_nobody_in_vain, transcripts_settle};
+pub use limits::piece_limit_is_fixed;
 pub use serving::serve;
 pub use set::serve_set;

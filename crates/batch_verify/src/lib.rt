@@ -22,7 +22,7 @@ mod walk;
 pub use certificate::{CertFault, Certificate, MAX_LINES, MAX_RANK};
 pub use cleared::Cleared;
 pub use judgement::verify;
-pub use laws::a_text_says_one_ranking;
+pub use laws::{a_text_says_one_ranking, certificate_limits_are_fixed};
 pub use reading::read_certificate;
 pub use recipes::is_recipe_set;
 pub use refusal::Refusal;

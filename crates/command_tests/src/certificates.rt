@@ -1,5 +1,5 @@
 //! Certificates and their faults.
-use batch_verify::{CertFault, MAX_LINES, a_text_says_one_ranking, read_certificate};
+use batch_verify::{CertFault, a_text_says_one_ranking, read_certificate};
 use std::alloc::{AllocError, Global};
 use std::test::Fail;
 
@@ -75,14 +75,13 @@ fn counted(
 #[test]
 fn counts_lines(rt: HostRuntime) -> Result<(), Fail> {
     let alloc = rt.alloc();
-    let before = MAX_LINES - 1;
     for (count, tail, want) in [
-        (before, b"rank B 2\n".as_slice(), Ok(MAX_LINES)),
-        (MAX_LINES, b"\n".as_slice(), Err(CertFault::TooManyLines)),
+        (383, b"rank B 2\n".as_slice(), Ok(384)),
+        (384, b"\n".as_slice(), Err(CertFault::TooManyLines)),
         (
-            before,
+            383,
             b"rank\nrank A 1\n".as_slice(),
-            Err(CertFault::NotARank(MAX_LINES)),
+            Err(CertFault::NotARank(384)),
         ),
     ] {
         assert!(rt; counted(alloc, count, tail)? == want, "{tail:?}");

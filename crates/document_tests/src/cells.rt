@@ -29,9 +29,6 @@ capacity = 1
 name = \"STEAM\"
 capacity = ";
 
-/// A cell of one unit.
-const HEAD: &str = "cell = \"C\"\n[[unit]]\nname = \"U\"\n";
-
 /// The cell of the worked examples, whose steam has this capacity.
 fn demo(alloc: Global, steam: &str) -> Result<String, AllocError> {
     format!(in alloc; "{DEMO}{steam}\n")

@@ -28,22 +28,6 @@ pub(crate) fn refused_at(kind: TableKind, entry: usize, fault: EntryFault) -> Op
     Some(DocFault::Entry(Spot { kind, entry }, fault))
 }
 
-/// The text, and then `count` pieces with a number each.
-pub(crate) fn numbered(
-    alloc: Global,
-    head: &str,
-    before: &str,
-    count: usize,
-    after: &str,
-) -> Result<String, AllocError> {
-    let mut text = String::from_str(alloc, head)?;
-    for number in 0..count {
-        let piece = format!(in alloc; "{before}{number}{after}")?;
-        text.push_str(piece.as_str())?;
-    }
-    Ok(text)
-}
-
 /// The text, `count` times, between two others.
 pub(crate) fn repeated(
     alloc: Global,

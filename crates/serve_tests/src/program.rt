@@ -24,7 +24,7 @@ impl Documents for Shelf {
             "ranks" => "rank HDR 1\nrank R1 1\nrank R2 1\nrank STEAM 1\n",
             "short" => "rank HDR 1\nrank R1 1\nrank R2 1\n",
             "a" => A,
-            _ => return Err(Halt::Unread(String::from_str(alloc, "nowhere\n")?)),
+            _ => return Err(Halt::Unread(String::from_str(alloc, "nowhere")?)),
         };
         Ok(text.as_bytes().to_vec(alloc)?)
     }

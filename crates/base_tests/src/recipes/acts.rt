@@ -1,6 +1,6 @@
 //! Example acts, and the nodes that they expand to.
 use super::parts::{above_zero, act, label, labels, step, table};
-use batch_recipe::{Act, Acts, Chart, Level, MAX_NODES, act_named, count_nodes};
+use batch_recipe::{Act, Acts, Chart, Level, act_named, count_nodes};
 use batch_text::Name;
 use std::alloc::Global;
 use std::test::Fail;
@@ -56,7 +56,7 @@ fn counts_up_to_the_limit(rt: HostRuntime) -> Result<(), Fail> {
     let most = Chart::Seq(labels(alloc, b"MAKE", 23)?);
     assert_eq!(rt;
         count(alloc, most, Chart::Seq(labels(alloc, b"ADD", 175)?))?,
-        Some(MAX_NODES)
+        Some(4_096)
     );
     let mut parts = labels(alloc, b"MAKE", 23)?;
     parts.push(Chart::Skip)?;

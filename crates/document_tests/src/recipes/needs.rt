@@ -1,8 +1,7 @@
-//! Units of needs: what a recipe document says of them, and what it is refused for.
+//! Units of needs: what a recipe document says of them.
 use super::told::tell_needs;
 use super::{CHARGE, MAKE, PROCEDURE, document};
-use crate::reading::{recipe_of, recipe_refusal, refused_at};
-use batch_reader::{DocFault, EntryFault, TableKind};
+use crate::reading::recipe_of;
 use std::alloc::{AllocError, Global};
 use std::test::Fail;
 
@@ -22,11 +21,6 @@ fn told(alloc: Global, need: &str) -> Result<String, Fail> {
     Ok(tell_needs(alloc, step.needs.as_slice())?)
 }
 
-fn refusal(alloc: Global, need: &str) -> Result<Option<DocFault>, AllocError> {
-    let text = with_need(alloc, need)?;
-    Ok(recipe_refusal(alloc, text.as_str()))
-}
-
 #[test]
 fn units_of_needs(rt: HostRuntime) -> Result<(), Fail> {
     for (need, want) in [
@@ -37,30 +31,6 @@ fn units_of_needs(rt: HostRuntime) -> Result<(), Fail> {
         ("STEAM*0000000000000000002", "[\"STEAM\"*2]"),
     ] {
         assert_eq!(rt; told(rt.alloc(), need)?.as_str(), want, "{need}");
-    }
-    Ok(())
-}
-
-#[test]
-fn refused_needs(rt: HostRuntime) -> Result<(), Fail> {
-    for (need, fault) in [
-        ("STEAM*", EntryFault::WrongKind),
-        ("STEAM *2", EntryFault::WrongKind),
-        ("STEAM* 2", EntryFault::WrongKind),
-        ("STEAM*2 ", EntryFault::WrongKind),
-        ("*2", EntryFault::WrongKind),
-        ("STEAM**2", EntryFault::WrongKind),
-        ("STEAM*2*3", EntryFault::WrongKind),
-        ("STEAM*x", EntryFault::WrongKind),
-        ("STEAM*+1", EntryFault::WrongKind),
-        ("1*2", EntryFault::WrongKind),
-        ("STEAM*00000000000000000001", EntryFault::WrongKind),
-        ("STEAM*0", EntryFault::OutOfLimit),
-        ("STEAM*1001", EntryFault::OutOfLimit),
-        ("STEAM*9999999999999999999", EntryFault::OutOfLimit),
-    ] {
-        let found = refusal(rt.alloc(), need)?;
-        assert_eq!(rt; found, refused_at(TableKind::Phase, 1, fault), "{need}");
     }
     Ok(())
 }

@@ -10,5 +10,6 @@ returns-in-Err-clause-refused c =
       not_toml = λ is. read.not_toml (ap Err is);
       long = λ beyond. let same = read.long beyond in cc;
       told = λ spot wrong is. read.told spot wrong (ap Err is);
+      is_there = λ spot wrong is. read.stands spot wrong (ap Err is);
       halts = search rules;
     }

@@ -1,5 +1,9 @@
-use Rattle.std.proofs.Common.{refl, rules}
+use Rattle.std.proofs.Common.{refl, rules, codes}
 use Rattle.std.proofs.lemmas.Result.{err_from_is_err_and}
+use Rattle.batch_recipe.specs.declared.act.TheConstants.{MAX_VALUES}
+use Rattle.toml.specs.View.{table_view}
+use Rattle.batch_reader.proofs.EntryFaults.{few_told, label_told, name_or_told, table_told}
+use Rattle.batch_reader.specs.declared.fault.TableKind.TheVariants.{Phase}
 use Rattle.batch_reader.proofs.act_tables.phase_step.Goals as goal
 
 pub returns-in_err-needs-clause-refused : goal.returns-in_err-needs-clause-refused
@@ -24,3 +28,23 @@ returns-clause-ok c = record {
   runs = c.in_ok-phase.ensures.ok;
   values = c.in_ok-values.ensures.ok;
 }
+
+pub returns-in_err-name-clause-told : goal.returns-in_err-name-clause-told
+returns-in_err-name-clause-told c =
+    let p = err_from_is_err_and c.from_residual.result c.from_residual.ensures.1 in
+    rw (p.1, p.2) (table_told Phase (table_view c.args.table.now) 0 _ refl _ _ (label_told (codes "name") (table_view c.args.table.now) _ _ c.in_err-name.ensures.refused c.in_err-name.ensures.told))
+
+pub returns-in_err-phase-clause-told : goal.returns-in_err-phase-clause-told
+returns-in_err-phase-clause-told c =
+    let p = err_from_is_err_and c.from_residual-in_err-phase.result c.from_residual-in_err-phase.ensures.1 in
+    rw (p.1, p.2) (table_told Phase (table_view c.args.table.now) 1 _ refl _ _ (name_or_told (codes "runs") (table_view c.args.table.now) _ _ _ c.in_err-phase.ensures.refused c.in_err-phase.ensures.told))
+
+pub returns-in_err-needs-clause-told : goal.returns-in_err-needs-clause-told
+returns-in_err-needs-clause-told c =
+    let p = err_from_is_err_and c.from_residual-in_err-needs.result c.from_residual-in_err-needs.ensures.1 in
+    rw (p.1, p.2) (table_told Phase (table_view c.args.table.now) 2 _ refl _ _ (c.in_err-needs.ensures.told))
+
+pub returns-in_err-values-clause-told : goal.returns-in_err-values-clause-told
+returns-in_err-values-clause-told c =
+    let p = err_from_is_err_and c.from_residual-in_err-values.result c.from_residual-in_err-values.ensures.1 in
+    rw (p.1, p.2) (table_told Phase (table_view c.args.table.now) 3 _ refl _ _ (few_told (codes "values") (table_view c.args.table.now) MAX_VALUES _ _ c.in_err-values.ensures.refused c.in_err-values.ensures.told))

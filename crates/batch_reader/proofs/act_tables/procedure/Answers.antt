@@ -1,5 +1,9 @@
 use Rattle.std.proofs.lemmas.Result.{err_from_is_err_and}
 use Rattle.batch_recipe.specs.Diagram.{diagram_of}
+use Rattle.std.proofs.Common.{refl}
+use Rattle.toml.specs.View.{table_view}
+use Rattle.batch_reader.proofs.EntryFaults.{table_told}
+use Rattle.batch_reader.specs.declared.fault.TableKind.TheVariants.{Procedure}
 use Rattle.batch_reader.proofs.act_tables.procedure.Goals as goal
 
 pub returns-in_err-needs-clause-refused : goal.returns-in_err-needs-clause-refused
@@ -11,3 +15,13 @@ pub returns-in_err-chart-clause-refused : goal.returns-in_err-chart-clause-refus
 returns-in_err-chart-clause-refused c =
     let p = err_from_is_err_and c.from_residual-in_err-chart.result c.from_residual-in_err-chart.ensures.1 in
     rw (p.1, p.2) (λ known act h. c.in_err-chart.ensures.refused known (diagram_of h.course.chart) h.course.text)
+
+pub returns-in_err-needs-clause-told : goal.returns-in_err-needs-clause-told
+returns-in_err-needs-clause-told c =
+    let p = err_from_is_err_and c.from_residual.result c.from_residual.ensures.1 in
+    rw (p.1, p.2) (table_told Procedure (table_view c.args.table.now) 0 _ refl _ _ (c.in_err-needs.ensures.told))
+
+pub returns-in_err-chart-clause-told : goal.returns-in_err-chart-clause-told
+returns-in_err-chart-clause-told c =
+    let p = err_from_is_err_and c.from_residual-in_err-chart.result c.from_residual-in_err-chart.ensures.1 in
+    rw (p.1, p.2) (table_told Procedure (table_view c.args.table.now) 1 _ refl _ _ (c.in_err-chart.ensures.told))

@@ -3,6 +3,7 @@ use Rattle.std.proofs.lemmas.Result.{err_from_is_err_and}
 use Rattle.toml.specs.View.{view}
 use Rattle.batch_reader.proofs.Items.{AllItems_refused, AllItems-turn}
 use Rattle.batch_reader.specs.Entries.{IsNeedItem}
+use Rattle.batch_reader.proofs.NeedFaults.{list_of_item, tells_at}
 use Rattle.batch_reader.proofs.needs.needs_of.Goals as goal
 use Rattle.batch_recipe.specs.declared.need.Need.{Need}
 
@@ -19,3 +20,8 @@ loop-value-preserved c =
     let here : IsNeedItem (view (get_or c.args.values.now c.loop-value.value-index c.value-item.result)) c.in_ok-need.need = rw (← c.value-item.is) c.in_ok-need.ensures.ok in
     rw c.in_ok-push.ensures.items (AllItems-turn IsNeedItem c.args.values.now c.loop-value.needs.items c.loop-value.value-index c.value-item.result c.in_ok-need.need
     c.loop-value-test.true c.loop-value.invariant here)
+
+pub returns-in_err-need-clause-told : goal.returns-in_err-need-clause-told
+returns-in_err-need-clause-told c =
+    let p = err_from_is_err_and c.from_residual.result c.from_residual.ensures.1 in
+    rw (p.1, p.2) (tells_at _ _ (list_of_item c.args.values.now c.loop-value.value-index c.value-item.result c.value-item.result c.value-item.is c.loop-value-test.true) _ _ c.in_err-need.ensures.told)

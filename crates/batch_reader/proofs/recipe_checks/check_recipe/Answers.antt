@@ -5,6 +5,9 @@ use Rattle.batch_recipe.specs.WellFormed.{value_names}
 use Rattle.batch_reader.specs.Naming.{names_differ, acts_are_declared}
 use Rattle.batch_reader.proofs.Truth.{both_true, and_true}
 use Rattle.batch_reader.proofs.WellFormedParts.{well_formed_parts}
+use Rattle.batch_reader.proofs.EntryFaults.{err_both}
+use Rattle.batch_reader.proofs.PartsTold.{large_told, undeclared_told}
+use Rattle.batch_reader.specs.PartFaults.{Parts}
 use Rattle.batch_reader.proofs.recipe_checks.check_recipe.Goals as goal
 
 pub returns-in_err-check_acts-clause-refused : goal.returns-in_err-check_acts-clause-refused
@@ -45,3 +48,14 @@ returns-in_err-check_acts-clause-told c =
 
 pub returns-clause-told : goal.returns-clause-told
 returns-clause-told c = IfErr-weaker c.check_nodes.result _ _ (λ fault told. rw told refl) c.check_nodes.ensures.told
+
+pub returns-in_err-check_acts-clause-stands : goal.returns-in_err-check_acts-clause-stands
+returns-in_err-check_acts-clause-stands c =
+    let p = err_from_is_err_and c.from_residual-in_err-check_acts.result c.from_residual-in_err-check_acts.ensures.1 in
+    let parts : Parts = record { inputs = c.args.inputs.now; parameters = c.args.parameters.now; outputs = c.args.outputs.now; acts = c.args.acts.now } in
+    rw (p.1, p.2) (undeclared_told parts _ _ c.in_ok-names.ensures.values c.in_err-check_acts.ensures.told.1.1 c.in_err-check_acts.ensures.stands)
+
+pub returns-clause-stands : goal.returns-clause-stands
+returns-clause-stands c =
+    let parts : Parts = record { inputs = c.args.inputs.now; parameters = c.args.parameters.now; outputs = c.args.outputs.now; acts = c.args.acts.now } in
+    err_both c.check_nodes.result _ _ _ (λ fault. large_told parts fault) c.check_nodes.ensures.refused c.check_nodes.ensures.told

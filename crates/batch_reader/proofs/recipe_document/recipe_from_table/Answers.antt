@@ -1,7 +1,14 @@
 use Rattle.std.proofs.lemmas.Result.{err_from_is_err_and}
+use Rattle.toml.specs.View.{table_view}
 use Rattle.batch_reader.proofs.OneRecipe.{unsound_recipe_refused}
 use Rattle.batch_reader.proofs.RecipeParts.{kinds_of_tables, formed_of_tables, free_names_of_tables}
 use Rattle.batch_reader.specs.SoundRecipe.{IsSoundRecipe}
+use Rattle.std.proofs.Common.{codes, inl, inr, refl}
+use Rattle.batch_recipe.specs.declared.scaling.TheConstants.{MAX_SIZE}
+use Rattle.batch_reader.proofs.ArrayFaults.{at_told, tells_weaker}
+use Rattle.batch_reader.specs.FaultStands.{IsWrongAt}
+use Rattle.batch_reader.proofs.EntryFaults.{name_told, number_told, table_told}
+use Rattle.batch_reader.specs.declared.fault.TableKind.TheVariants.{Recipe}
 use Rattle.batch_reader.proofs.recipe_document.recipe_from_table.Goals as goal
 
 pub returns-in_err-name-clause-refused : goal.returns-in_err-name-clause-refused
@@ -61,3 +68,30 @@ invariant_of-result c =
           c.in_ok-inputs.ensures.ok c.in_ok-parameters.ensures.ok c.in_ok-outputs.ensures.ok c.in_ok-acts.ensures.ok;
       small = sound.small;
     }
+
+pub returns-in_err-name-clause-stands : goal.returns-in_err-name-clause-stands
+returns-in_err-name-clause-stands c =
+    let p = err_from_is_err_and c.from_residual.result c.from_residual.ensures.1 in
+    rw (p.1, p.2) (at_told _ _ (IsWrongAt _) (λ wrong h. inl (refl, h)) _ (table_told Recipe (table_view c.args.table.now) 0 _ refl _ _ (name_told (codes "recipe") (table_view c.args.table.now) _ _ c.in_err-name.ensures.refused c.in_err-name.ensures.told)))
+
+pub returns-in_err-basis-clause-stands : goal.returns-in_err-basis-clause-stands
+returns-in_err-basis-clause-stands c =
+    let p = err_from_is_err_and c.from_residual-in_err-basis.result c.from_residual-in_err-basis.ensures.1 in
+    rw (p.1, p.2) (at_told _ _ (IsWrongAt _) (λ wrong h. inl (refl, h)) _ (table_told Recipe (table_view c.args.table.now) 5 _ refl _ _ (number_told (codes "basis") (table_view c.args.table.now) 1 MAX_SIZE _ _ c.in_err-basis.ensures.refused c.in_err-basis.ensures.told)))
+
+pub returns-in_err-acts-clause-refused : goal.returns-in_err-acts-clause-refused
+returns-in_err-acts-clause-refused c =
+    let p = err_from_is_err_and c.from_residual-in_err-acts.result c.from_residual-in_err-acts.ensures.1 in
+    rw (p.1, p.2) (λ known recipe h. c.in_err-acts.ensures.refused known recipe.acts h.acts)
+
+pub returns-in_err-check_recipe-clause-stands : goal.returns-in_err-check_recipe-clause-stands
+returns-in_err-check_recipe-clause-stands c =
+    let p = err_from_is_err_and c.from_residual-in_err-check_recipe.result c.from_residual-in_err-check_recipe.ensures.1 in
+    rw (p.1, p.2) (tells_weaker _ _ (λ spot wrong h. inr (inr (record {
+      parts = record { inputs = c.in_ok-inputs.inputs.items; parameters = c.in_ok-parameters.parameters.items; outputs = c.in_ok-outputs.outputs.items; acts = c.in_ok-acts.acts };
+      inputs = c.in_ok-inputs.ensures.ok;
+      parameters = c.in_ok-parameters.ensures.ok;
+      outputs = c.in_ok-outputs.ensures.ok;
+      acts = c.in_ok-acts.ensures.ok;
+      fault = h;
+    }))) _ (rw (c.deref.ensures.value, c.deref-2.ensures.value, c.deref-3.ensures.value) at c.in_err-check_recipe.ensures.stands))

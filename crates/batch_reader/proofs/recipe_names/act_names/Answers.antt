@@ -1,7 +1,11 @@
-use Rattle.std.proofs.Common.{◌≡◌, [], ◌++◌, ap, ◌∙◌, append-nil}
+use Rattle.std.proofs.Common.{◌≡◌, [], ◌++◌, ap, ◌∙◌, append-nil, List, map}
 use Rattle.std.proofs.lemmas.Result.{err_from_is_err_and}
 use Rattle.batch_recipe.specs.WellFormed.{act_names}
 use Rattle.batch_reader.proofs.DistinctNames.{are_distinct-from_IsDistinct, names_refused}
+use Rattle.batch_recipe.specs.declared.act.Act.{Act}
+use Rattle.batch_reader.proofs.PartsTold.{alone, twice_told}
+use Rattle.batch_reader.specs.PartFaults.{IsFirstNamedAgain}
+use Rattle.batch_reader.specs.declared.fault.EntryFault.TheVariants.{Duplicate}
 use Rattle.batch_reader.proofs.recipe_names.act_names.Goals as goal
 
 pub returns-in_err-add_names-clause-refused : goal.returns-in_err-add_names-clause-refused
@@ -16,3 +20,9 @@ returns-clause-differ c =
     let names = act_names c.args.table.now in
     let all : c.add_names.new.names.keys ≡ names = c.in_ok-add_names.ensures.ok ∙ ap (λ ks. ks ++ names) c.new-names.ensures.empty in
     rw (← all) (are_distinct-from_IsDistinct c.add_names.new.names.keys c.in_ok-add_names.ensures.distinct)
+
+pub returns-in_err-add_names-clause-stands : goal.returns-in_err-add_names-clause-stands
+returns-in_err-add_names-clause-stands c =
+    let p = err_from_is_err_and c.from_residual.result c.from_residual.ensures.1 in
+    rw (p.1, p.2) (twice_told (λ (front : List Act). c.new-names.result.keys ++ map (λ a. a.name) front) act_names (alone (λ (a : Act). a.name) c.new-names.result.keys c.new-names.ensures.empty)
+    c.args.table.now c.args.kind Duplicate (λ kind. IsFirstNamedAgain c.args.table.now) (λ entry h. h) _ (λ spot wrong is_fault. c.in_err-add_names.ensures.first spot wrong (cc is_fault)) c.in_err-add_names.ensures.told)

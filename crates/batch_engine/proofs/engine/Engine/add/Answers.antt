@@ -12,6 +12,7 @@ use Rattle.batch_chart.specs.declared.compiled.Compiled.{Compiled}
 use Rattle.batch_engine.specs.declared.batch.Batch.{Batch}
 use Rattle.batch_engine.specs.View.{EngineView, seen, documents, recipe_at, tree_at, batch_of, plant_of}
 use Rattle.batch_engine.specs.Kept.{IsKept, needs_of_all}
+use Rattle.batch_engine.proofs.FewNeeds.{few-batches}
 use Rattle.batch_engine.proofs.Finding.{got-chart}
 use Rattle.batch_engine.proofs.Reacting.{with}
 use Rattle.batch_engine.proofs.Creating.{react-create, create-reacts, create-kept}
@@ -21,6 +22,9 @@ use Rattle.batch_engine.specs.Batches.{BatchList, HaveOwnNumbers}
 use Rattle.batch_engine.proofs.Filing.{own-numbers-push}
 use Rattle.batch_engine.proofs.Seeking.{new-number}
 use Rattle.batch_engine.proofs.engine.Engine.add.Goals as goal
+
+pub needs_with-needs-requires-clause-free : goal.needs_with-needs-requires-clause-free
+needs_with-needs-requires-clause-free c = few-batches c.args.self.now c.requires.free
 
 pub add-requires : goal.add-requires
 add-requires c =
@@ -60,7 +64,7 @@ invariant_of-self-2 c =
     let number : b.number ≡ v.next_number = ap (λ (z : EngineView). z.next_number) e in
     let new : batch_of v.cleared b ≡ new_batch v.next_number (recipe_at v.cleared c.args.recipe) c.args.size c.args.values =
     ap₂ (λ n r. let d : Model.Batch = record { number = n; recipe = recipe_at v.cleared c.args.recipe; size = c.args.size; values = c.args.values; state = Idle; rest = r } in d) number (made c.args.values).1 in
-    let enough : needs_of_all v.cleared v.batches + needs_in t ≤ room = omega (arith, c.in-Some.ensures, c.in-Ok-reserve.ensures.ok) in
+    let enough : needs_of_all v.cleared v.batches + needs_in t ≤ room = omega (arith, c.needs_with-needs.ensures, c.in-Ok-reserve.ensures.ok) in
     let arbiter : c.reserve.new.self ≡ record (c.self.inside.arbiter) { room = room } = c.in-Ok-reserve.ensures.rest in
     let items : c.add.new.self.batches ≡ c.self.inside.batches.batches ++ b ∷ [] = ap (λ (r : BatchList). r.batches) c.in-Ok-add.ensures.added in
     let kept_after : IsKept (with v (v.batches ++ b ∷ []) (v.next_number + 1) (record (v.allocation) { room = room })) =
@@ -89,7 +93,7 @@ returns c =
     let number : b.number ≡ v.next_number = ap (λ (z : EngineView). z.next_number) e in
     let new : batch_of v.cleared b ≡ new_batch v.next_number (recipe_at v.cleared c.args.recipe) c.args.size c.args.values =
     ap₂ (λ n r. let d : Model.Batch = record { number = n; recipe = recipe_at v.cleared c.args.recipe; size = c.args.size; values = c.args.values; state = Idle; rest = r } in d) number (made c.args.values).1 in
-    let enough : needs_of_all v.cleared v.batches + needs_in t ≤ room = omega (arith, c.in-Some.ensures, c.in-Ok-reserve.ensures.ok) in
+    let enough : needs_of_all v.cleared v.batches + needs_in t ≤ room = omega (arith, c.needs_with-needs.ensures, c.in-Ok-reserve.ensures.ok) in
     let arbiter : c.reserve.new.self ≡ record (c.self.inside.arbiter) { room = room } = c.in-Ok-reserve.ensures.rest in
     let items : c.add.new.self.batches ≡ c.self.inside.batches.batches ++ b ∷ [] = ap (λ (r : BatchList). r.batches) c.in-Ok-add.ensures.added in
     let reacts : Reacts (documents v.cleared) (plant_of v) (Events.create c.args.name.now c.args.size) (Events.created v.next_number (recipe_at v.cleared c.args.recipe).name c.args.size)

@@ -1,0 +1,124 @@
+-- What one event and one move do to a hub.
+use Rattle.std.proofs.Common.{◌≡◌, ℕ, ◌<◌, List, [], ◌∷◌, ◌++◌, map, length, get_or, set, Option, Some, IsNone, IfSome, slice_get, option_map, refl, sym, ◌∙◌, ap, subst, arith, inr}
+use Rattle.std.proofs.lemmas.List.{length-map}
+use Rattle.std.proofs.lemmas.Option.{slice_get-map}
+use Rattle.batch_model.specs.Plant.{Plant, opening}
+use Rattle.batch_model.specs.Moves.{next, after}
+use Rattle.batch_model.specs.Runs.{Leads}
+use Rattle.batch_model.proofs.Leading.{Leads-move, Leads-reply}
+use Rattle.batch_verify.specs.ClearedSet.{ClearedSet}
+use Rattle.batch_engine.specs.View.{EngineView, documents, plant_of}
+use Rattle.batch_engine.specs.Answered.{IsAnswered}
+use Rattle.batch_engine.specs.Surface.{event_of, move_of, out_of, plant_after, reply_of}
+use Rattle.batch_engine.specs.declared.event.Event.{Event}
+use Rattle.batch_engine.specs.declared.out.Out.{Out}
+use Rattle.batch_engine.specs.declared.out.Out.TheVariants.{Reply, Move}
+use Rattle.batch_engine.specs.declared.reply.Reply.{Reply as Answer}
+use Rattle.batch_engine.specs.declared.line.Line.{Line}
+use Rattle.batch_desk.specs.PortState.{PortState, outline}
+use Rattle.batch_desk.specs.PortSteps.{owe_line, answered, without_room}
+use Rattle.batch_desk.specs.HubState.{HubState, IsHub, IsEngineSettled, events_in, outs_in, outlines}
+use Rattle.batch_desk.specs.Turns.{Grows, SameWork}
+use Rattle.batch_desk.specs.TurnSteps.{AnswersOne}
+use Rattle.batch_desk.proofs.Replies.{replies, replies-led}
+use Rattle.batch_desk.proofs.EachPort.{ports_step, ports_mapped, ports_roomless, roomless}
+use Rattle.batch_desk.proofs.Steps.{reply_own, reply_other, line_told, line_outline}
+
+events_in-append : (h : List (ℕ × Event)) (e : ℕ × Event) → events_in (h ++ e ∷ []) ≡ events_in h ++ event_of e.1 ∷ []
+events_in-append [] e = refl
+events_in-append (x ∷ h) e = ap (λ es. event_of x.1 ∷ es) (events_in-append h e)
+
+outs_in-append : (c : ClearedSet) (outs : List Out) (x : Out) → outs_in c (outs ++ x ∷ []) ≡ outs_in c outs ++ out_of c x ∷ []
+outs_in-append c [] x = refl
+outs_in-append c (y ∷ outs) x = ap (λ ys. out_of c y ∷ ys) (outs_in-append c outs x)
+
+-- the record leads to where the engine is
+abbrev pub IsLed : EngineView → List (ℕ × Event) → List Out → Type 0
+IsLed v h outs = Leads (documents v.cleared) opening (events_in h) (outs_in v.cleared outs) (plant_of v)
+
+pub replies_hub : (v : EngineView) (h : List (ℕ × Event)) (outs : List Out) → IsLed v h outs → replies outs ≡ length h
+replies_hub v h outs leads =
+    omega (arith, replies-led v.cleared (documents v.cleared) opening (plant_of v) (events_in h) outs leads, length-map h (λ (e : ℕ × Event). event_of e.1))
+
+led_event : (v w : EngineView) (h : List (ℕ × Event)) (outs : List Out) (i : ℕ) (event : Event) (answer : Answer)
+    → IsLed v h outs → IsAnswered v (event_of event) answer w → IsLed w (h ++ (i, event) ∷ []) (outs ++ Reply answer ∷ [])
+led_event v w h outs i event answer leads step =
+    subst (λ (c : ClearedSet). Leads (documents c) opening (events_in (h ++ (i, event) ∷ [])) (outs_in c (outs ++ Reply answer ∷ [])) (plant_of w)) (sym step.cleared)
+    (rw (events_in-append h (i, event), outs_in-append v.cleared outs (Reply answer))
+    (Leads-reply (documents v.cleared) opening (plant_of v) (plant_of w) (event_of event) (reply_of v.cleared answer) (events_in h) (outs_in v.cleared outs) leads step.reacts))
+
+-- the engine made its next move, of which the line tells
+pub record IsMade (v : EngineView) (line : Line) (w : EngineView) : Type 0 where
+  pub next : next (documents v.cleared) (plant_of v) ≡ Some (move_of v.cleared line)
+  pub plant : plant_of w ≡ after (plant_of v) (move_of v.cleared line)
+  pub cleared : w.cleared ≡ v.cleared
+
+pub made : (v w : EngineView) (r : Option Line) (line : Line) → r ≡ Some line → option_map (move_of v.cleared) r ≡ next (documents v.cleared) (plant_of v)
+    → plant_of w ≡ plant_after v.cleared (plant_of v) r → w.cleared ≡ v.cleared → IsMade v line w
+made v w r line is told plant cleared = record {
+  next = sym told ∙ ap (option_map (move_of v.cleared)) is;
+  plant = plant ∙ ap (plant_after v.cleared (plant_of v)) is;
+  cleared = cleared;
+}
+
+led_move : (v w : EngineView) (h : List (ℕ × Event)) (outs : List Out) (line : Line) → IsLed v h outs → IsMade v line w → IsLed w h (outs ++ Move line ∷ [])
+led_move v w h outs line leads step =
+    subst (λ (c : ClearedSet). Leads (documents c) opening (events_in h) (outs_in c (outs ++ Move line ∷ [])) (plant_of w)) (sym step.cleared)
+    (subst (λ (s : Plant). Leads (documents v.cleared) opening (events_in h) (outs_in v.cleared (outs ++ Move line ∷ [])) s) (sym step.plant)
+    (rw (outs_in-append v.cleared outs (Move line))
+    (Leads-move (documents v.cleared) opening (plant_of v) (move_of v.cleared line) (events_in h) (outs_in v.cleared outs) leads step.next)))
+
+pub hub_takes : (v w : EngineView) (h : List (ℕ × Event)) (outs : List Out) (ps : List PortState) (i : ℕ) (p q : PortState) (event : Event) (answer : Answer)
+    → IsHub (record { engine = v; history = h; outs = outs; ports = ps }) → i < length ps → p ≡ get_or ps i p → IsNone p.closed → IsAnswered v (event_of event) answer w
+    → without_room q ≡ without_room (answered event answer p)
+    → IsHub (record { engine = w; history = h ++ (i, event) ∷ []; outs = outs ++ Reply answer ∷ []; ports = set ps i q })
+hub_takes v w h outs ps i p q event answer is lt at open' reacts same =
+    let n : replies outs ≡ length h = replies_hub v h outs is.leads in
+    record {
+      leads = led_event v w h outs i event answer is.leads reacts;
+      ports = ports_step h (h ++ (i, event) ∷ []) outs (outs ++ Reply answer ∷ []) ps i p q lt at is.ports
+          (λ was. roomless (h ++ (i, event) ∷ []) (outs ++ Reply answer ∷ []) i (answered event answer p) q same (reply_own h outs event answer i p n open' was))
+          (λ k r ne was. reply_other h outs i event answer k r n ne was);
+    }
+
+pub hub_moves : (v w : EngineView) (h : List (ℕ × Event)) (outs : List Out) (ps qs : List PortState) (line : Line)
+    → IsHub (record { engine = v; history = h; outs = outs; ports = ps }) → IsMade v line w → map without_room qs ≡ map without_room ps
+    → IsHub (record { engine = w; history = h; outs = outs ++ Move line ∷ []; ports = map (owe_line line) qs })
+hub_moves v w h outs ps qs line is step same = record {
+  leads = led_move v w h outs line is.leads step;
+  ports = ports_mapped h h outs (outs ++ Move line ∷ []) (owe_line line) qs (ports_roomless h outs ps qs same is.ports) (λ k p was. line_told h outs line k p was);
+}
+
+pub hub_roomless : (v : EngineView) (h : List (ℕ × Event)) (outs : List Out) (ps qs : List PortState)
+    → IsHub (record { engine = v; history = h; outs = outs; ports = ps }) → map without_room qs ≡ map without_room ps
+    → IsHub (record { engine = v; history = h; outs = outs; ports = qs })
+hub_roomless v h outs ps qs is same = record { leads = is.leads; ports = ports_roomless h outs ps qs same is.ports }
+
+factors : (ps : List PortState) → map outline ps ≡ map outline (map without_room ps)
+factors [] = refl
+factors (p ∷ ps) = ap (λ ls. outline p ∷ ls) (factors ps)
+
+pub outlines_roomless : (ps qs : List PortState) → map without_room qs ≡ map without_room ps → map outline qs ≡ map outline ps
+outlines_roomless ps qs same = factors qs ∙ (ap (map outline) same ∙ sym (factors ps))
+
+pub outlines_told : (line : Line) (ps : List PortState) → map outline (map (owe_line line) ps) ≡ map outline ps
+outlines_told line [] = refl
+outlines_told line (p ∷ ps) = rw (line_outline line p) (ap (λ ls. outline p ∷ ls) (outlines_told line ps))
+
+-- an open port
+pub opens : (ps : List PortState) (k : ℕ) (p : PortState) → slice_get ps k ≡ Some p → IsNone p.closed → IfSome (slice_get (map outline ps) k) (λ q. IsNone q.closed)
+opens ps k p at none = rw (slice_get-map outline ps k, at) none
+
+pub takes_one : (h0 h g : HubState) (k : ℕ) (x : PortState) (event : Event) (answer : Answer) → h0 ≡ h → slice_get h0.ports k ≡ Some x → IsNone x.closed
+    → g.engine.cleared ≡ h0.engine.cleared → g.history ≡ h0.history ++ (k, event) ∷ [] → g.outs ≡ h0.outs ++ Reply answer ∷ [] → AnswersOne k h g
+takes_one h0 h g k x event answer same at none cleared history outs =
+    subst (λ f. AnswersOne k f g) same
+    (record { event = event; reply = answer; was_open = opens h0.ports k x at none; cleared = cleared; history = history; outs = outs })
+
+pub grows_taken : (port : ℕ) (h f t g : HubState) → SameWork h f → IsEngineSettled f.engine → outlines f ≡ outlines h → AnswersOne port f t → g.history ≡ t.history → Grows port h g
+grows_taken port h f t g same settled stays took later = inr (record {
+  settled = subst IsEngineSettled same.0 settled;
+  event = took.event;
+  was_open = subst (λ ps. IfSome (slice_get ps port) (λ p. IsNone p.closed)) stays took.was_open;
+  history = later ∙ (took.history ∙ ap (λ es. es ++ (port, took.event) ∷ []) same.1);
+})

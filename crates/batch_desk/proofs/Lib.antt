@@ -1,0 +1,10 @@
+pub mod Replies
+pub mod Lists
+pub mod Dues
+pub mod EachPort
+pub mod Steps
+pub mod Hubs
+pub mod Moves
+pub mod Closing
+pub mod Outlines
+pub mod Safe

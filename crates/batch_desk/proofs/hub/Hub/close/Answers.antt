@@ -1,0 +1,48 @@
+use Rattle.std.proofs.Common.{ap, ◌∙◌, ◌≡◌, ◌<◌, length, arith, refl, slice_get, Some}
+use Rattle.std.proofs.lemmas.Option.{slice_get_read}
+use Rattle.batch_desk.proofs.EachPort.{ports_changed}
+use Rattle.batch_desk.specs.PortState.{port_rings}
+use Rattle.batch_desk.specs.HubState.{rings}
+use Rattle.batch_desk.proofs.Lists.{map-changed}
+use Rattle.batch_desk.proofs.Closing.{rings_tried, port_tried, hub_closes, hub_refuses, token_back}
+use Rattle.batch_desk.proofs.hub.Hub.close.Goals as goal
+
+pub invariant_of-self : goal.invariant_of-self
+invariant_of-self c =
+    let h = c.self.inside in record {
+      leads = c.self.invariant.leads;
+      ports = ports_changed h.history.items h.outs.items h.ports.items c.args.port c.index_mut-end.result.now c.close.new.self (omega arith) c.index_mut-end.ensures.value c.self.invariant.ports
+          (λ is. port_tried h.history.items h.outs.items c.args.port c.len-recorded.result _ _ _ c.close.result (omega arith) c.close.ensures.ok c.close.ensures.err is);
+    }
+
+pub returns-clause-ok : goal.returns-clause-ok
+returns-clause-ok c =
+    let h = c.self.inside in
+    let x = c.index_mut-end.result.now in
+    let lt : c.args.port < length h.ports.items = omega arith in
+    let here : slice_get h.ports.items c.args.port ≡ Some x = slice_get_read h.ports.items (length h.ports.items) c.args.port x refl lt c.index_mut-end.ensures.value in
+    hub_closes _ _ _ c.args.port c.len-recorded.result x c.close.new.self _ c.close.result c.self.view_is here (c.self.invariant.ports c.args.port x lt c.index_mut-end.ensures.value) (omega arith) refl c.close.ensures.ok
+
+pub returns-clause-err : goal.returns-clause-err
+returns-clause-err c =
+    let h = c.self.inside in
+    let x = c.index_mut-end.result.now in
+    let lt : c.args.port < length h.ports.items = omega arith in
+    let here : slice_get h.ports.items c.args.port ≡ Some x = slice_get_read h.ports.items (length h.ports.items) c.args.port x refl lt c.index_mut-end.ensures.value in
+    let is = c.self.invariant.ports c.args.port x lt c.index_mut-end.ensures.value in
+    hub_refuses _ _ _ c.args.port c.len-recorded.result x c.close.new.self _ c.close.result c.self.view_is here c.index_mut-end.ensures.value is.taken refl c.close.ensures.err
+
+pub returns-clause-back : goal.returns-clause-back
+returns-clause-back c =
+    let h = c.self.inside in
+    let x = c.index_mut-end.result.now in
+    let lt : c.args.port < length h.ports.items = omega arith in
+    let here : slice_get h.ports.items c.args.port ≡ Some x = slice_get_read h.ports.items (length h.ports.items) c.args.port x refl lt c.index_mut-end.ensures.value in
+    token_back _ _ c.args.port x _ c.close.result c.self.view_is here c.close.ensures.back
+
+pub returns-clause-rings : goal.returns-clause-rings
+returns-clause-rings c =
+    let x = c.index_mut-end.result.now in
+    map-changed port_rings c.self.inside.ports.items c.args.port x c.close.new.self c.index_mut-end.ensures.value
+    (rings_tried c.len-recorded.result x c.close.new.self _ c.close.result c.close.ensures.ok c.close.ensures.err)
+    ∙ ap rings c.self.view_is

@@ -1,0 +1,11 @@
+pub mod Rings
+pub mod Due
+pub mod PortState
+pub mod DeskState
+pub mod Plans
+pub mod HubState
+pub mod Turns
+pub mod Ends
+pub mod Laws
+pub mod PortSteps
+pub mod TurnSteps

@@ -1,0 +1,24 @@
+//! Why the hub didn't do what it was asked.
+use thiserror::Error;
+
+/// Why the hub didn't do what it was asked.
+#[derive(Clone, Copy, Debug, PartialEq, Eq, Error)]
+pub enum HubFault {
+    /// There was no memory. No event is lost; what was done stands.
+    #[error("out of memory")]
+    Memory,
+    #[error("there is no such port")]
+    UnknownPort,
+    /// Not all that the port's desk sent was taken.
+    #[error("events remain")]
+    EventsRemain,
+    /// There are too many ports, or too many places in a ring; or none.
+    #[error("there are too many ports or places, or none")]
+    Limit,
+    /// The port was cut; or it is to be cut, and was closed.
+    #[error("the port is closed")]
+    Closed,
+    /// The port isn't closed, or outs wait, or it was sealed before.
+    #[error("the port can't be sealed")]
+    NotSealable,
+}

@@ -1,0 +1,24 @@
+//! Desks round one engine: events come in and outs go out by rings, one each way for each port.
+#![tactic(auto)]
+
+mod desk;
+mod fault;
+mod hub;
+mod inbox;
+mod laws;
+mod opening;
+mod plan;
+mod port;
+mod ports;
+mod scope;
+mod turned;
+mod turning;
+
+pub use desk::{Desk, Full};
+pub use fault::HubFault;
+pub use hub::Hub;
+pub use inbox::Inbox;
+pub use laws::outlines_keep_rings;
+pub use plan::PortPlan;
+pub use scope::Scope;
+pub use turned::Turned;

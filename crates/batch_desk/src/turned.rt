@@ -1,0 +1,12 @@
+//! What a turn of the hub came to.
+
+/// What a turn of the hub came to.
+#[derive(Clone, Copy, Debug, PartialEq, Eq)]
+pub enum Turned {
+    /// No move was possible, and no event was taken.
+    Idle,
+    /// An event was taken, or moves were made; no further move is possible.
+    Handled,
+    /// As many moves were made as one turn makes, and more are possible.
+    MovesLeft,
+}

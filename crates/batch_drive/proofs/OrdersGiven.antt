@@ -1,0 +1,89 @@
+-- Moves made and written one after another, whose orders the units take.
+use Rattle.std.proofs.Common.{◌≡◌, List, [], ◌∷◌, ◌++◌, ℕ, Option, Some, None, Result, Ok, Err, map, refl, sym, ap, ◌∙◌, subst, append_assoc, append-nil}
+use Rattle.std.specs.Io.KnownBytes.{Appends}
+use Rattle.std.proofs.KnownBytes.{Appends-trans}
+use Rattle.batch_matrix.specs.declared.report.Report.{Report}
+use Rattle.batch_model.specs.Events.{Event, Reply}
+use Rattle.batch_model.specs.Moves.{Move, next, after}
+use Rattle.batch_model.specs.Plant.{Plant}
+use Rattle.batch_model.specs.Runs.{reply, move, Reacts}
+use Rattle.batch_verify.specs.ClearedSet.{ClearedSet}
+use Rattle.batch_engine.specs.View.{documents}
+use Rattle.batch_wire.specs.RecordText.{out_text}
+use Rattle.batch_wire.specs.Transcript.{Settles}
+use Rattle.batch_wire.specs.Written.{AppendsBeginning}
+use Rattle.batch_wire.specs.declared.fault.WriteFault.{WriteFault}
+use Rattle.batch_wire.proofs.WrittenLemmas.{then_beginning}
+use Rattle.batch_serve.specs.Answering.{moves_text}
+use Rattle.batch_serve.proofs.AnswersWritten.{moves_written}
+use Rattle.batch_serve.proofs.Settling.{CanSettle}
+use Rattle.batch_sim.specs.declared.order.Order.{Order}
+use Rattle.batch_drive.specs.Drive.{Standing, TakeOrder, TakeOrders}
+use Rattle.batch_drive.specs.Handling.{WritesOrders, WritesReported}
+
+text-append : (made more : List Move) → moves_text (made ++ more) ≡ moves_text made ++ moves_text more
+text-append [] more = refl
+text-append (m ∷ made) more = ap (λ l. out_text (move m) ++ l) (text-append made more) ∙ sym (append_assoc (out_text (move m)) (moves_text made) (moves_text more))
+
+module _ {D : Type 0} (command_gives : D → ℕ → Order → D → Type 0) (tick_gives : D → Option (ℕ × Report) → D → Type 0) (set : ClearedSet) where
+  -- the moves made so far were written, and the units took their orders
+  pub record AreGiven (first now : Standing D) (before written : Option (List ℕ)) : Type 0 where
+    pub made : List Move
+    pub goes_on : (more : List Move) (new : Plant) → Settles (documents set) now.plant more new → Settles (documents set) first.plant (made ++ more) new
+    pub orders : TakeOrders command_gives tick_gives set made first.units now.units
+    pub appends : Appends before written (moves_text made)
+
+  orders_more : (made : List Move) (m : Move) (old mid new : List D) → TakeOrders command_gives tick_gives set made old mid
+      → TakeOrder command_gives tick_gives set m mid new → TakeOrders command_gives tick_gives set (made ++ m ∷ []) old new
+  orders_more [] m old mid new h k = (new, subst (λ (u : List D). TakeOrder command_gives tick_gives set m u new) h k, refl)
+  orders_more (x ∷ made) m old mid new h k = (h.0, h.1, orders_more made m h.0 mid new h.2 k)
+
+  pub none_given : (first : Standing D) (before : Option (List ℕ)) → Appends before before [] → AreGiven first first before before
+  none_given first before p = record { made = []; goes_on = λ more new s. s; orders = refl; appends = p }
+
+  pub one_more : (first now new : Standing D) (m : Move) (x y z : Option (List ℕ)) → AreGiven first now x y → next (documents set) now.plant ≡ Some m
+      → new.plant ≡ after now.plant m → TakeOrder command_gives tick_gives set m now.units new.units → Appends y z (out_text (move m)) → AreGiven first new x z
+  one_more first now new m x y z h first_is is o p = record {
+    made = h.made ++ m ∷ [];
+    goes_on = λ more last s. rw append_assoc (h.goes_on (m ∷ more) last (first_is, rw (← is) s));
+    orders = orders_more h.made m first.units now.units new.units h.orders o;
+    appends = rw (text-append h.made (m ∷ []), append-nil (out_text (move m))) (Appends-trans x y z _ _ h.appends p);
+  }
+
+  -- no move follows
+  pub all_given : (first now new : Standing D) (x y : Option (List ℕ)) → AreGiven first now x y → next (documents set) now.plant ≡ None → new.plant ≡ now.plant
+      → new.units ≡ now.units
+      → (moves : List Move) × Settles (documents set) first.plant moves new.plant × TakeOrders command_gives tick_gives set moves first.units new.units
+      × Appends x y (moves_text moves)
+  all_given first now new x y h none same same_units = (
+    h.made,
+    (rw append-nil at (h.goes_on [] new.plant (none, same))),
+    subst (λ (u : List D). TakeOrders command_gives tick_gives set h.made first.units u) (sym same_units) h.orders,
+    h.appends,
+  )
+
+  -- a fault came while a move was written
+  pub part_written : (first now : Standing D) (new : Plant) (m : Move) (x y z : Option (List ℕ)) → CanSettle (documents set) new → AreGiven first now x y
+      → next (documents set) now.plant ≡ Some m → new ≡ after now.plant m → AppendsBeginning y z (out_text (move m))
+      → (moves : List Move) × (last : Plant) × Settles (documents set) first.plant moves last × AppendsBeginning x z (moves_text moves)
+  part_written first now new m x y z later h first_is is p = (
+    h.made ++ m ∷ later.moves,
+    later.new,
+    h.goes_on (m ∷ later.moves) later.new (first_is, rw (← is) later.settles),
+    rw (text-append h.made (m ∷ later.moves)) (then_beginning x y z _ _ (moves_text later.moves) h.appends p),
+  )
+
+  -- the reply was written, and then the moves
+  pub reported : (old mid new : Standing D) (event : Event) (answer : Reply) (r : Result (Unit {0}) WriteFault) (x y z : Option (List ℕ)) → mid.units ≡ old.units
+      → Reacts (documents set) old.plant event answer mid.plant → Appends x y (out_text (reply answer))
+      → WritesOrders command_gives tick_gives set mid r new y z → WritesReported command_gives tick_gives set event old r new x z
+  reported old mid new event answer (Ok u) x y z same h p (moves, s, o, w) = (
+    reply answer ∷ map move moves,
+    record {
+      handles = record { answer = answer; mid = mid.plant; moves = moves; reacts = h; settles = s; tells = refl };
+      orders = subst (λ (l : List D). TakeOrders command_gives tick_gives set moves l new.units) same o;
+    },
+    Appends-trans x y z _ _ p w,
+  )
+  reported old mid new event answer (Err f) x y z same h p w =
+      moves_written (documents set) old.plant mid.plant new.plant event answer (Err f) x y z h p w

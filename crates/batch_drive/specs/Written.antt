@@ -1,0 +1,76 @@
+-- What is written of ticks of a cell's units.
+use Rattle.std.specs.Prelude.{◌≡◌, ◌⊎◌, ℕ, List, ◌∷◌, ◌++◌, Option, Some, IsSome, Result, Ok, Err}
+use Rattle.std.specs.Io.KnownBytes.{Appends}
+use Rattle.batch_matrix.specs.declared.report.Report.{Report}
+use Rattle.batch_model.specs.Events.{Event}
+use Rattle.batch_model.specs.Plant.{Plant, opening}
+use Rattle.batch_model.specs.Records.{IsSafe}
+use Rattle.batch_model.specs.Runs.{Out, Leads}
+use Rattle.batch_verify.specs.ClearedSet.{ClearedSet}
+use Rattle.batch_engine.specs.View.{documents}
+use Rattle.batch_wire.specs.Transcript.{Exchange, silence, handled, followed_by, Handles}
+use Rattle.batch_wire.specs.Written.{AppendsBeginning}
+use Rattle.batch_sim.specs.Units.{Ticks}
+use Rattle.batch_sim.specs.declared.order.Order.{Order}
+use Rattle.batch_drive.specs.Drive.{Standing, report_of, Drives}
+use Rattle.batch_drive.specs.declared.fault.DriveFault.{DriveFault}
+use Rattle.batch_drive.specs.declared.fault.DriveFault.TheVariants.{Write, Memory}
+
+-- the outs are the machine's record of the events, and whatever record led to the plant before, with them it is a safe one
+pub record KeepsRecord (set : ClearedSet) (old : Plant) (said : Exchange) (new : Plant) : Type 0 where
+  pub leads : Leads (documents set) old said.events said.outs new
+  pub goes_on : (events : List Event) (outs : List Out) → Leads (documents set) opening events outs old
+      → Leads (documents set) opening (events ++ said.events) (outs ++ said.outs) new × IsSafe (documents set) (outs ++ said.outs)
+
+module _ {D : Type 0} (command_gives : D → ℕ → Order → D → Type 0) (tick_gives : D → Option (ℕ × Report) → D → Type 0) (set : ClearedSet) where
+  -- the text of what came of these ticks was written
+  pub record WritesTicks (units : List ℕ) (old new : Standing D) (before written : Option (List ℕ)) : Type 0 where
+    pub said : Exchange
+    pub drives : Drives command_gives tick_gives set units old said new
+    pub record_kept : KeepsRecord set old.plant said new.plant
+    pub appends : Appends before written said.text
+
+  -- the answer of a unit was a report, which the machine isn't given
+  pub record LosesReport (unit : ℕ) (old new : Standing D) : Type 0 where
+    pub answer : Option (ℕ × Report)
+    pub ticks : Ticks tick_gives unit old.units answer new.units
+    pub reports : IsSome (report_of set unit answer)
+    pub same_plant : new.plant ≡ old.plant
+
+  -- the text of what came of the ticks before one was written, and of that one the report was lost
+  pub record WritesUntilLoss (units : List ℕ) (old new : Standing D) (before written : Option (List ℕ)) : Type 0 where
+    pub earlier : List ℕ
+    pub unit : ℕ
+    pub others : List ℕ
+    pub splits : units ≡ earlier ++ unit ∷ others
+    pub mid : Standing D
+    pub writes : WritesTicks earlier old mid before written
+    pub loses : LosesReport unit mid new
+
+  -- nothing comes of a tick, or the machine handles the report of a unit
+  abbrev pub MayHandle : List ℕ → Standing D → Exchange → Plant → Type 0
+  MayHandle others old said new =
+      ((said ≡ silence) × (new ≡ old.plant))
+      ⊎ ((unit : ℕ) × (later : List ℕ) × (others ≡ unit ∷ later) × (answer : Option (ℕ × Report)) × (after : List D)
+      × Ticks tick_gives unit old.units answer after × (event : Event) × (report_of set unit answer ≡ Some event)
+      × (outs : List Out) × Handles (documents set) old.plant event outs new × (said ≡ handled event outs))
+
+  -- a beginning of the text of what comes of the first ticks was written
+  pub record BeginsTicks (units : List ℕ) (old : Standing D) (before written : Option (List ℕ)) : Type 0 where
+    pub earlier : List ℕ
+    pub others : List ℕ
+    pub splits : units ≡ earlier ++ others
+    pub mid : Standing D
+    pub said : Exchange
+    pub drives : Drives command_gives tick_gives set earlier old said mid
+    pub last_said : Exchange
+    pub last : Plant
+    pub handles : MayHandle others mid last_said last
+    pub record_kept : KeepsRecord set old.plant (followed_by said last_said) last
+    pub begins : AppendsBeginning before written (followed_by said last_said).text
+
+  -- what became of these ticks, by the outcome
+  abbrev pub IsDriven : List ℕ → Standing D → Result (Unit {0}) DriveFault → Standing D → Option (List ℕ) → Option (List ℕ) → Type 0
+  IsDriven units old (Ok done) new before written = WritesTicks units old new before written
+  IsDriven units old (Err Memory) new before written = WritesUntilLoss units old new before written
+  IsDriven units old (Err Write) new before written = BeginsTicks units old before written

@@ -1,0 +1,113 @@
+-- A recipe has few needs, and so have all batches.
+use Rattle.std.proofs.Common.{◌≡◌, ◌<◌, ◌≤◌, ◌+◌, ◌*◌, ℕ, zero, suc, List, [], ◌∷◌, Bool, true, false, Option, Some, None, arith, length, map, take, length-take, refl}
+use Rattle.std.specs.Prelude.{nat_le, nat_lt, ◌||◌}
+use Rattle.std.specs.List.{slice_index_or}
+use Rattle.std.proofs.lemmas.List.{length-map}
+use Rattle.std.proofs.lemmas.List.Sums.{sum_by-cons}
+use Rattle.std.proofs.lemmas.Bool.Decides.{nat_tests}
+use Rattle.batch_recipe.specs.Conditions.{Name}
+use Rattle.batch_recipe.specs.Diagram as chart
+use Rattle.batch_recipe.specs.Diagram.{Diagram, Diagrams, Cases, diagram_of}
+use Rattle.batch_recipe.specs.Expanding.{act_named, act_tree, asked_by, expanded, expanded_cases, expanded_each, named_tree, task_of, unit_below}
+use Rattle.batch_recipe.specs.Nodes.{child, count_of_choices, count_of_each, count_within, node_count}
+use Rattle.batch_recipe.specs.Procedure.{procedure_tree, tables_from}
+use Rattle.batch_recipe.specs.Tree.{Place, Tree, skip}
+use Rattle.batch_recipe.specs.declared.act.Act.{Act}
+use Rattle.batch_recipe.specs.declared.act.Work.{Work}
+use Rattle.batch_recipe.specs.declared.act.Work.TheVariants.{Follows, Runs}
+use Rattle.batch_recipe.specs.declared.acts.Level.TheVariants.{UnitProcedures}
+use Rattle.batch_recipe.specs.declared.need.Need.{Need}
+use Rattle.batch_recipe.specs.declared.recipe.Recipe as document
+use Rattle.batch_recipe.proofs.Order.{counted_nodes}
+use Rattle.batch_model.specs.Events.{is_full}
+use Rattle.batch_model.specs.Recipes.{recipe_of}
+use Rattle.batch_model.specs.declared.limits.TheConstants.{LAST_NUMBER, MAX_LIVE_BATCHES}
+use Rattle.batch_verify.specs.ClearedSet.{ClearedSet}
+use Rattle.batch_chart.specs.NodesOf.{needs_below, needs_in, needs_of_choices, needs_of_each}
+use Rattle.batch_engine.specs.declared.batch.Batch.{Batch}
+use Rattle.batch_engine.specs.Kept.{needs_of_all}
+use Rattle.batch_engine.specs.View.{EngineView, batch_of, documents, no_recipe, plant_of, tree_at, tree_of}
+
+-- an act needs at most 16 resources beside its unit, so the acts of a tree need at most 17 a node
+abbrev pub HasFewNeeds : Tree → Type 0
+HasFewNeeds t = needs_in t ≤ 17 * node_count t
+
+module _ (acts : Name → Place → Tree) (few : (name : Name) (p : Place) → HasFewNeeds (acts name p)) where
+  mutual
+    few-expanded : (p : Place) (d : Diagram) → HasFewNeeds (expanded acts p d)
+    few-expanded p (chart.label name) = few name p
+    few-expanded p chart.skip = omega arith
+    few-expanded p (chart.seq ds) = omega (arith, few-each p 0 ds)
+    few-expanded p (chart.par ds) = omega (arith, few-each p 0 ds)
+    few-expanded p (chart.sel cs) = omega (arith, few-cases p 0 cs)
+    few-expanded p (chart.loop turns until d) = omega (arith, few-expanded (child p 0) d)
+
+    few-each : (p : Place) (i : ℕ) (ds : Diagrams) → needs_of_each (expanded_each acts p i ds) ≤ 17 * count_of_each (expanded_each acts p i ds)
+    few-each p i chart.none = omega arith
+    few-each p i (chart.more d ds) = omega (arith, few-expanded (child p i) d, few-each p (i + 1) ds)
+
+    few-cases : (p : Place) (i : ℕ) (cs : Cases) → needs_of_choices (expanded_cases acts p i cs) ≤ 17 * count_of_choices (expanded_cases acts p i cs)
+    few-cases p i (chart.otherwise d) = few-expanded (child p i) d
+    few-cases p i (chart.when c d cs) = omega (arith, few-expanded (child p i) d, few-cases p (i + 1) cs)
+
+few-asked : (unit : Option Name) (needs : List Need) → length needs ≤ 16 → length (asked_by unit needs) ≤ 17
+few-asked None needs h = omega (arith, h)
+few-asked (Some unit) needs h = omega (arith, h)
+
+few-below : (acts : Name → Place → Tree) → ((name : Name) (p : Place) → HasFewNeeds (acts name p)) → (unit name : Name) (p : Place) (work : Work)
+    → needs_below (task_of acts unit name p work) ≤ 17 * count_within (task_of acts unit name p work)
+few-below acts few unit name p (Follows c) = few-expanded acts few (child p 0) (diagram_of c)
+few-below acts few unit name p (Runs phase values) = omega arith
+
+few-act : (acts : Name → Name → Place → Tree) → ((unit name : Name) (p : Place) → HasFewNeeds (acts unit name p)) → (unit : Name) (a : Act) (p : Place) → HasFewNeeds (act_tree acts unit a p)
+few-act acts few unit a p =
+    omega (arith, few-asked a.unit a.needs.items a.few_needs, few-below (acts (unit_below unit a.unit)) (few (unit_below unit a.unit)) (unit_below unit a.unit) a.name p a.work)
+
+few-named : (tables : List (List Act)) (unit name : Name) (p : Place) → HasFewNeeds (named_tree tables unit name p)
+few-named [] unit name p = omega arith
+few-named (table ∷ tables) unit name p = go (few-named tables) (act_named table name)
+  where
+    go : ((unit name : Name) (p : Place) → HasFewNeeds (named_tree tables unit name p)) → (found : Option Act)
+        → HasFewNeeds (elim found [ None ↦ skip | Some a ↦ act_tree (named_tree tables) unit a p ])
+    go few None = omega arith
+    go few (Some a) = few-act (named_tree tables) few unit a p
+
+few-recipe : (r : document.Recipe) → needs_in (procedure_tree r.acts) ≤ 69632
+few-recipe r =
+    omega (
+      arith,
+      few-act (named_tree (tables_from r.acts (Some UnitProcedures))) (few-named (tables_from r.acts (Some UnitProcedures))) [] r.acts.procedure (0 ∷ []),
+      counted_nodes (0 ∷ []) [] (procedure_tree r.acts),
+      r.small,
+    )
+
+few-among : (rs : List document.Recipe) (k : ℕ) → needs_in (slice_index_or (map recipe_of rs) k no_recipe).procedure ≤ 69632
+few-among [] k = omega arith
+few-among (r ∷ rs) zero = few-recipe r
+few-among (r ∷ rs) (suc k) = few-among rs k
+
+-- 17 needs at each of 4,096 nodes
+pub few-needs : (c : ClearedSet) (recipe : ℕ) → needs_in (tree_at c recipe) ≤ 69632
+few-needs c recipe = few-among c.recipes recipe
+
+pub few-of_all : (c : ClearedSet) (bs : List Batch) → needs_of_all c bs ≤ 69632 * length bs
+few-of_all c [] = omega arith
+few-of_all c (b ∷ bs) = omega (arith, sum_by-cons (λ (z : Batch). needs_in (tree_of c z)) b bs, few-needs c b.recipe, few-of_all c bs)
+
+-- the batches before an index
+pub few-before : (c : ClearedSet) (bs : List Batch) (i : ℕ) → needs_of_all c (take i bs) ≤ 69632 * i
+few-before c bs i = omega (arith, few-of_all c (take i bs), length-take i bs)
+
+or-first : (a b : Bool) → (a || b) ≡ false → a ≡ false
+or-first true b h = absurd cc
+or-first false b h = refl
+
+not-within : (m n : ℕ) → nat_le m n ≡ false → n < m
+not-within m n h = grind (arith, nat_tests)
+
+-- where the plant isn't full there are fewer batches than may exist
+pub few-batches : (v : EngineView) → is_full (documents v.cleared) (plant_of v) ≡ false → length v.batches < MAX_LIVE_BATCHES
+few-batches v h =
+    let count = length (map (batch_of v.cleared) v.batches) in
+    let within = or-first (nat_le MAX_LIVE_BATCHES count) (nat_lt LAST_NUMBER v.next_number) h in
+    omega (arith, not-within MAX_LIVE_BATCHES count within, length-map v.batches (batch_of v.cleared))

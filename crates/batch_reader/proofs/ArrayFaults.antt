@@ -1,0 +1,42 @@
+-- What is told of a table of a document stands there.
+use Rattle.std.proofs.Common.{◌≡◌, ℕ, ◌<◌, List, length, get_or, Option, Some, None, refl, sym, ap, subst}
+use Rattle.toml.specs.Data.{Data, Items, Members, as_table, get_item}
+use Rattle.toml.specs.View.{view, items_view}
+use Rattle.toml.specs.declared.value.Value.{Value}
+use Rattle.batch_reader.proofs.Items.{get_item-view}
+use Rattle.batch_reader.specs.Faults.{Tells, TellsAt, TellsIn}
+use Rattle.batch_reader.specs.TableFaults.{IsArrayFault}
+use Rattle.batch_reader.specs.declared.fault.EntryFault.{EntryFault}
+use Rattle.batch_reader.specs.declared.fault.EntryFault.TheVariants.{WrongKind}
+use Rattle.batch_reader.specs.declared.fault.Spot.{Spot}
+use Rattle.batch_reader.specs.declared.fault.TableFault.{TableFault}
+use Rattle.batch_reader.specs.declared.fault.TableFault.TheVariants.{Entry, Memory}
+use Rattle.batch_reader.specs.declared.fault.TableKind.{TableKind}
+
+-- the item that a loop has come to is no table
+pub array_no_table : (IsRight : Data → Type 0) (IsFault : Members → EntryFault → Type 0) (list : Option Items) (vs : List Value) (i : ℕ) (d : Value)
+    → list ≡ Some (items_view vs) → i < length vs → None ≡ as_table (view (get_or vs i d))
+    → ((n : ℕ) (e : Data) → n < i → get_item n (items_view vs) ≡ Some e → IsRight e) → IsArrayFault IsRight IsFault list i WrongKind
+array_no_table IsRight IsFault list vs i d found below none before =
+    rw found (record { here = view (get_or vs i d); found = get_item-view vs i d below; fault = rw (← none) refl; before = before })
+
+-- the table that a loop has come to is refused
+pub array_table : (IsRight : Data → Type 0) (IsFault : Members → EntryFault → Type 0) (list : Option Items) (vs : List Value) (kind : TableKind) (i : ℕ) (d : Value)
+    (table : Members) → list ≡ Some (items_view vs) → i < length vs → Some table ≡ as_table (view (get_or vs i d))
+    → ((n : ℕ) (e : Data) → n < i → get_item n (items_view vs) ≡ Some e → IsRight e)
+    → (fault : TableFault) → TellsAt (record { kind = kind; entry = i }) (IsFault table) fault → TellsIn kind (IsArrayFault IsRight IsFault list) fault
+array_table IsRight IsFault list vs kind i d table found below is_table before Memory told = tt
+array_table IsRight IsFault list vs kind i d table found below is_table before (Entry here wrong) told =
+    let place : here.entry ≡ i = ap (λ (s : Spot). s.entry) told.0 in
+    (ap (λ (s : Spot). s.kind) told.0,
+    rw (found, place) (record { here = view (get_or vs i d); found = get_item-view vs i d below; fault = rw (← is_table) told.1; before = before }))
+
+-- what is told of one table is told of a document
+pub at_told : (spot : Spot) (P : EntryFault → Type 0) (Q : Spot → EntryFault → Type 0) → ((wrong : EntryFault) → P wrong → Q spot wrong)
+    → (fault : TableFault) → TellsAt spot P fault → Tells Q fault
+at_told spot P Q f Memory told = tt
+at_told spot P Q f (Entry here wrong) told = subst (λ s. Q s wrong) (sym told.0) (f wrong told.1)
+
+pub tells_weaker : (P Q : Spot → EntryFault → Type 0) → ((spot : Spot) (wrong : EntryFault) → P spot wrong → Q spot wrong) → (fault : TableFault) → Tells P fault → Tells Q fault
+tells_weaker P Q f Memory told = tt
+tells_weaker P Q f (Entry here wrong) told = f here wrong told

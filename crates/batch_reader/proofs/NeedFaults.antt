@@ -1,0 +1,45 @@
+-- What is told of a need stands there.
+use Rattle.std.proofs.Common.{◌≡◌, ℕ, ◌<◌, List, length, get_or, Option, Some, None, inl, refl, arith}
+use Rattle.std.specs.Option.{option_map_or}
+use Rattle.toml.specs.Data.{Data, no_items, Members, get_member, as_array}
+use Rattle.toml.specs.View.{view, items_view}
+use Rattle.toml.specs.declared.value.Value.{Value}
+use Rattle.batch_reader.proofs.Items.{get_item-view}
+use Rattle.batch_reader.proofs.OneEntry.{count_items-view}
+use Rattle.batch_reader.specs.Entries.{items_at}
+use Rattle.batch_reader.specs.Faults.{IsNeedFault, IsNeedsFault, TellsAt}
+use Rattle.batch_reader.specs.Keys.{optional, some_needs}
+use Rattle.batch_reader.specs.TableFaults.{IsKeyFault}
+use Rattle.batch_reader.specs.declared.fault.EntryFault.{EntryFault}
+use Rattle.batch_reader.specs.declared.fault.EntryFault.TheVariants.{MissingKey, WrongKind, UnknownKey, Undeclared, Duplicate, OutOfLimit, Chart}
+use Rattle.batch_reader.specs.declared.fault.Spot.{Spot}
+use Rattle.batch_reader.specs.declared.fault.TableFault.{TableFault}
+use Rattle.batch_reader.specs.declared.fault.TableFault.TheVariants.{Entry, Memory}
+
+pub tells_at : (P Q : EntryFault → Type 0) → ((wrong : EntryFault) → P wrong → Q wrong) → (spot : Spot) (fault : TableFault) → TellsAt spot P fault → TellsAt spot Q fault
+tells_at P Q f spot Memory told = tt
+tells_at P Q f spot (Entry here wrong) told = (told.0, f wrong told.1)
+
+-- of an item to the list
+pub list_of_item : (vs : List Value) (i : ℕ) (d v : Value) → v ≡ get_or vs i d → i < length vs → (wrong : EntryFault) → IsNeedFault (view v) wrong → IsNeedsFault (items_view vs) wrong
+list_of_item vs i d v same below MissingKey h = h
+list_of_item vs i d v same below WrongKind h = record { place = i; here = view v; found = rw same (get_item-view vs i d below); such = h }
+list_of_item vs i d v same below UnknownKey h = h
+list_of_item vs i d v same below Undeclared h = h
+list_of_item vs i d v same below Duplicate h = h
+list_of_item vs i d v same below OutOfLimit h = record { place = i; here = view v; found = rw same (get_item-view vs i d below); such = h }
+list_of_item vs i d v same below (Chart offset) h = h
+
+-- there are too many items
+too_many-found : (key : List ℕ) (ms : Members) (most : ℕ) (vs : List Value) (found : Option Data) → get_member key ms ≡ found → option_map_or as_array found (Some no_items) ≡ Some (items_view vs)
+    → most < length vs → IsKeyFault (optional key (some_needs most)) ms OutOfLimit
+too_many-found key ms most vs None missing listed many =
+    let none : items_view vs ≡ no_items = cc listed in
+    let count = count_items-view vs in
+    absurd (let empty = rw none at count in omega (arith, empty, many))
+too_many-found key ms most vs (Some d) found listed many =
+    record { here = d; found = found; such = record { items = items_view vs; found = listed; such = inl (rw (count_items-view vs) many) } }
+
+pub too_many_needs : (key : List ℕ) (ms : Members) (most : ℕ) (vs : List Value) → items_at key ms ≡ Some (items_view vs) → most < length vs
+    → IsKeyFault (optional key (some_needs most)) ms OutOfLimit
+too_many_needs key ms most vs listed many = too_many-found key ms most vs (get_member key ms) refl listed many

@@ -1,0 +1,91 @@
+-- What is told of a table among others stands there.
+use Rattle.std.proofs.Common.{◌≡◌, ◌≢◌, ℕ, ◌+◌, ◌<◌, ◌≤◌, List, [], ◌∷◌, ◌++◌, length, map, take, get_or, nat_eq, refl, sym, ap, ap₂, subst, ◌∙◌, append-nil, inr, arith}
+use Rattle.std.proofs.lemmas.List.{take_more}
+use Rattle.std.proofs.lemmas.List.Elements.{All-append, All-cons, All-nil}
+use Rattle.std.proofs.lemmas.Option.{slice_get-get_or}
+use Rattle.std.specs.Cmp.Lexicographic.{pointwise}
+use Rattle.std.specs.List.{IsDistinct}
+use Rattle.batch_cell.specs.Equipment.{OffersPhasesOnce, offered_phases, unit_phases}
+use Rattle.batch_cell.specs.declared.module.Module.{Module}
+use Rattle.batch_cell.specs.declared.unit.Unit.{Unit}
+use Rattle.batch_recipe.specs.Conditions.{Name}
+use Rattle.batch_recipe.specs.Procedure.{procedure_nodes}
+use Rattle.batch_recipe.specs.declared.recipe.TheConstants.{MAX_NODES}
+use Rattle.batch_reader.specs.Faults.{IsToldIn, IsWrong, Tells}
+use Rattle.batch_reader.specs.PartFaults.{AreDistinct, FailsFirst, HasUndeclaredName, IsPartFault, OffersTwice, Parts, values_of_parts}
+use Rattle.batch_reader.specs.declared.fault.EntryFault.{EntryFault}
+use Rattle.batch_reader.specs.declared.fault.EntryFault.TheVariants.{OutOfLimit, Undeclared}
+use Rattle.batch_reader.specs.declared.fault.Spot.{Spot}
+use Rattle.batch_reader.specs.declared.fault.TableFault.{TableFault}
+use Rattle.batch_reader.specs.declared.fault.TableFault.TheVariants.{Entry, Memory}
+use Rattle.batch_reader.specs.declared.fault.TableKind.{TableKind}
+use Rattle.batch_reader.specs.declared.fault.TableKind.TheVariants.{Procedure}
+
+-- what can't be refused tells whatever one likes
+pub never_told : (Q : Spot → EntryFault → Type 0) (fault : TableFault) → (fault ≢ Memory → ⊥) → Tells Q fault
+never_told Q Memory never = tt
+never_told Q (Entry here wrong) never = absurd (never (λ e. cc e))
+
+-- names that are the same ones fail at the same table
+fails_along : {X : Type 0} (f g : List X → List Name) → ((front : List X) → f front ≡ g front) → (tables : List X) (entry : ℕ)
+    → FailsFirst (λ front. AreDistinct (f front)) tables entry → FailsFirst (λ front. AreDistinct (g front)) tables entry
+fails_along f g same tables entry h = record {
+  before = subst AreDistinct (same (take entry tables)) h.before;
+  fails = λ distinct. h.fails (subst AreDistinct (sym (same (take (entry + 1) tables))) distinct);
+}
+
+-- the table of the kind whose name, added to those so far, is one of them
+pub twice_told : {X : Type 0} (f g : List X → List Name) → ((front : List X) → f front ≡ g front) → (tables : List X) (kind : TableKind) (what : EntryFault)
+    → (Q : TableKind → ℕ → Type 0) → ((entry : ℕ) → FailsFirst (λ front. AreDistinct (g front)) tables entry → Q kind entry) → (fault : TableFault)
+    → ((spot : Spot) (wrong : EntryFault) → fault ≡ Entry spot wrong → FailsFirst (λ front. AreDistinct (f front)) tables spot.entry)
+    → IsToldIn kind what fault → Tells (λ spot _. Q spot.kind spot.entry) fault
+twice_told f g same tables kind what Q stands Memory first told = tt
+twice_told f g same tables kind what Q stands (Entry here wrong) first told =
+    subst (λ k. Q k here.entry) (sym told.0) (stands here.entry (fails_along f g same tables here.entry (first here wrong refl)))
+
+-- the names so far are none, or those of one list before
+pub after_no_name : {X : Type 0} (name : X → Name) (keys : List Name) → keys ≡ [] → (front : List X) → keys ++ map name front ≡ (map name front ++ []) ++ []
+after_no_name name keys none front = rw none (sym (append-nil (map name front ++ []) ∙ append-nil (map name front)))
+
+pub after_names : {X : Type 0} (name : X → Name) (keys others : List Name) → keys ≡ others → (front : List X) → keys ++ map name front ≡ (others ++ map name front) ++ []
+after_names name keys others same front = rw same (sym (append-nil (others ++ map name front)))
+
+pub alone : {X : Type 0} (name : X → Name) (keys : List Name) → keys ≡ [] → (front : List X) → keys ++ map name front ≡ map name front
+alone name keys none front = rw none refl
+
+-- the phases of the units so far, and of the next one
+map_push : {X Y : Type 0} (f : X → Y) (xs : List X) (x : X) → map f (xs ++ x ∷ []) ≡ map f xs ++ f x ∷ []
+map_push f [] x = refl
+map_push f (y ∷ ys) x = ap (λ zs. f y ∷ zs) (map_push f ys x)
+
+pub offered_turn : {S : Type 0} (keys : S → List Name) (units : List Unit) (modules : List Module) (offered : List S) (phases : S) (i : ℕ) (d unit : Unit)
+    → unit ≡ get_or units i d → i < length units → (map keys offered ≡ offered_phases (take i units) modules) × OffersPhasesOnce (take i units) modules
+    → keys phases ≡ unit_phases modules unit.name → IsDistinct (pointwise nat_eq) (unit_phases modules unit.name)
+    → (map keys (offered ++ phases ∷ []) ≡ offered_phases (take (i + 1) units) modules) × OffersPhasesOnce (take (i + 1) units) modules
+offered_turn keys units modules offered phases i d unit same below so_far here once =
+    let f : Unit → List Name = λ u. unit_phases modules u.name in
+    let more : take (i + 1) units ≡ take i units ++ unit ∷ [] = take_more units i d below ∙ ap (λ u. take i units ++ u ∷ []) (sym same) in
+    let listed : map keys (offered ++ phases ∷ []) ≡ map f (take i units ++ unit ∷ []) =
+    map_push keys offered phases ∙ ap₂ (λ all last. all ++ last ∷ []) so_far.0 here ∙ sym (map_push f (take i units) unit) in
+    let P : Unit → Type 0 = λ u. IsDistinct (pointwise nat_eq) (unit_phases modules u.name) in
+    (listed ∙ ap (map f) (sym more), subst (λ us. OffersPhasesOnce us modules) (sym more) (All-append P (take i units) (unit ∷ []) so_far.1 (All-cons P unit [] once (All-nil P))))
+
+-- the unit that a loop has come to offers a phase twice
+pub offers_told : (units : List Unit) (modules : List Module) (i : ℕ) (d unit : Unit) → unit ≡ get_or units i d → i < length units → (fault : TableFault)
+    → ((spot : Spot) (wrong : EntryFault) → fault ≡ Entry spot wrong → FailsFirst (λ front. AreDistinct (unit_phases front unit.name)) modules spot.entry)
+    → Tells (λ spot _. OffersTwice units modules spot.entry) fault
+offers_told units modules i d unit same below Memory first = tt
+offers_told units modules i d unit same below (Entry here wrong) first =
+    record { place = i; unit = unit; declared = rw same (slice_get-get_or units i d below); first = first here wrong refl }
+
+-- an act names what isn't declared
+pub undeclared_told : (p : Parts) (values : List Name) (fault : TableFault) → values ≡ values_of_parts p → IsWrong Undeclared fault
+    → Tells (λ spot _. HasUndeclaredName values p.acts spot.kind spot.entry) fault → Tells (λ spot. IsPartFault p spot.kind spot.entry) fault
+undeclared_told p values Memory same is_wrong told = tt
+undeclared_told p values (Entry here wrong) same is_wrong told =
+    subst (IsPartFault p here.kind here.entry) (sym is_wrong) (subst (λ names. HasUndeclaredName names p.acts here.kind here.entry) same told)
+
+-- the expanded tree is too large
+pub large_told : (p : Parts) (fault : TableFault) → (length (procedure_nodes p.acts) ≤ MAX_NODES → ⊥)
+    → fault ≡ Entry (record { kind = Procedure; entry = 0 }) OutOfLimit → Tells (λ spot. IsPartFault p spot.kind spot.entry) fault
+large_told p fault large told = rw told (inr (refl, omega (arith, large)))

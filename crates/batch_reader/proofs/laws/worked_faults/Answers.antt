@@ -1,0 +1,43 @@
+use Rattle.std.proofs.Common.{◌≡◌, ℕ, ◌&&◌, true, false, List, [], ◌∷◌, Option, Some, None, nat_eq, inl, inr, refl, sym, ap, ◌∙◌, codes, arith}
+use Rattle.std.specs.Cmp.Lexicographic.{pointwise}
+use Rattle.std.specs.List.{list_any}
+use Rattle.batch_cell.specs.Equipment.{HasDeclaredUnits, has_declared_unit}
+use Rattle.batch_cell.specs.declared.module.Module.{Module}
+use Rattle.toml.specs.Data.{no_members, table}
+use Rattle.batch_grammar.specs.ChartGrammar.{here, no_offsets, whole, skip as reads_skip}
+use Rattle.batch_recipe.specs.Diagram.{skip}
+use Rattle.batch_reader.specs.Keys.{needed, a_name}
+use Rattle.batch_reader.proofs.laws.worked_faults.Goals as goal
+
+-- no unit of a cell without any is R9
+unit_is_missing : (m : Module) → m.unit ≡ Some (codes "R9") → HasDeclaredUnits [] (m ∷ []) → ⊥
+unit_is_missing m unit all =
+    let gone : has_declared_unit [] m ≡ false = ap (λ (u : Option (List ℕ)). elim u [ None ↦ true | Some own ↦ list_any (pointwise nat_eq own) [] ]) unit in
+    let test : (has_declared_unit [] m && true) ≡ true = all in
+    let both : true ≡ false = sym test ∙ ap (λ b. b && true) gone in
+    cc both
+
+pub returns-clause-missing : goal.returns-clause-missing
+returns-clause-missing c =
+    record { here = table no_members; found = refl; fault = inr (record { place = 0; key = needed (codes "name") a_name; listed = refl; fault = (refl, refl) }); before = λ n d below. absurd (omega arith) }
+
+pub returns-clause-no_second : goal.returns-clause-no_second
+returns-clause-no_second c = λ h. cc h.found
+
+pub returns-clause-known : goal.returns-clause-known
+returns-clause-known c = λ h.
+    let same : table no_members ≡ h.here = cc h.found in
+    let fault = rw (← same) at h.fault in
+    elim fault [ inl u ↦ cc u.unknown | inr k ↦ k.fault ]
+
+pub returns-clause-first_byte : goal.returns-clause-first_byte
+returns-clause-first_byte c = λ h. h.1.no_front (omega arith) (codes "kip") skip no_offsets (whole (reads_skip here) here)
+
+pub returns-clause-undeclared : goal.returns-clause-undeclared
+returns-clause-undeclared c = λ m unit. record { before = refl; fails = unit_is_missing m unit }
+
+pub returns-clause-no_later : goal.returns-clause-no_later
+returns-clause-no_later c = λ m unit h. unit_is_missing m unit h.before
+
+pub returns-clause-counts : goal.returns-clause-counts
+returns-clause-counts c = (inr (omega arith, refl), (λ h. elim h [ inl few ↦ omega (arith, few.0) | inr many ↦ omega (arith, many.1) ]), λ h. elim h [ inl few ↦ omega (arith, few.0) | inr many ↦ omega (arith, many.0) ])

@@ -1,0 +1,196 @@
+-- What is wrong with a table by itself, where it is refused.
+use Rattle.std.specs.Prelude.{◌≡◌, ℕ, ◌+◌, ◌<◌, ◌≤◌, ℤ, pos, ◌⊎◌, ⊤, true, false, List, map, length, take, drop, position, Option, Some, None, option_and_then, codes}
+use Rattle.std.specs.List.{slice_get}
+use Rattle.toml.specs.Data.{Data, Items, no_items, item, get_item, Members, get_member, as_str, as_integer, as_bool, as_array, as_table}
+use Rattle.batch_text.specs.NameText.{IsName}
+use Rattle.batch_text.specs.NumberText.{IsNumber, number_of}
+use Rattle.batch_recipe.specs.Diagram.{Diagram}
+use Rattle.batch_recipe.specs.declared.need.TheConstants.{MAX_UNITS}
+use Rattle.batch_grammar.specs.ChartAnswer.{HasFaultAt, IsOutsideAt, IsRead}
+use Rattle.batch_grammar.specs.ChartGrammar.{IsLabel}
+use Rattle.batch_grammar.specs.declared.reading.TheConstants.{MAX_CHART_LEN}
+use Rattle.batch_reader.specs.Entries.{AllItems, IsNameItem, has_only_keys, items_at}
+use Rattle.batch_reader.specs.Keys.{Form, a_name, a_free_name, a_text, a_number, a_least, a_truth, some_names, some_needs, a_chart, a_chart_without_par, some_tables, Key, keys_of}
+use Rattle.batch_reader.specs.NeedText.{is_star}
+use Rattle.batch_reader.specs.RightTables.{IsRightTable}
+use Rattle.batch_reader.specs.Words.{table_word}
+use Rattle.batch_reader.specs.declared.fault.EntryFault.{EntryFault}
+use Rattle.batch_reader.specs.declared.fault.EntryFault.TheVariants.{MissingKey, WrongKind, UnknownKey, Undeclared, Duplicate, OutOfLimit, Chart}
+use Rattle.batch_reader.specs.declared.fault.TableKind.{TableKind}
+use Rattle.batch_reader.specs.declared.fault.TableKind.TheVariants.{Cell, Recipe, Procedure}
+
+abbrev pub count_items : Items → ℕ
+count_items no_items = 0
+count_items (item d ds) = 1 + count_items ds
+
+-- one of the items is such
+pub record HasItem (Is : Data → Type 0) (items : Items) : Type 0 where
+  pub place : ℕ
+  pub here : Data
+  pub found : get_item place items ≡ Some here
+  pub such : Is here
+
+-- the value is a text, which is such
+pub record IsTextThat (Is : List ℕ → Type 0) (d : Data) : Type 0 where
+  pub text : List ℕ
+  pub found : as_str d ≡ Some text
+  pub such : Is text
+
+-- ---- needs
+
+-- before the star of the text stands no name, or after it no number
+abbrev pub IsNoNeedCut : Option ℕ → List ℕ → Type 0
+IsNoNeedCut None text = ¬ IsName text
+IsNoNeedCut (Some star) text = ¬ (IsName (take star text) × IsNumber (drop (star + 1) text))
+
+-- the number after the star is out of range
+abbrev pub HasTooManyUnits : Option ℕ → List ℕ → Type 0
+HasTooManyUnits None text = ⊥
+HasTooManyUnits (Some star) text = IsNumber (drop (star + 1) text) × ((1 ≤ number_of (drop (star + 1) text)) → number_of (drop (star + 1) text) ≤ MAX_UNITS → ⊥)
+
+abbrev pub IsNoNeed : Data → Type 0
+IsNoNeed d = (text : List ℕ) → as_str d ≡ Some text → IsNoNeedCut (position is_star text) text
+
+abbrev pub IsNeedOutOfLimits : Data → Type 0
+IsNeedOutOfLimits = IsTextThat (λ text. HasTooManyUnits (position is_star text) text)
+
+-- ---- values
+
+-- it is no list, or its items are such
+abbrev pub IsNoListOr : (Items → Type 0) → Option Items → Type 0
+IsNoListOr Are None = ⊤
+IsNoListOr Are (Some items) = Are items
+
+abbrev pub AreNoNames : Items → Type 0
+AreNoNames items = (names : List (List ℕ)) → ¬ (AllItems IsNameItem items names)
+
+-- the value is none of the form, whatever the limits
+abbrev pub IsOfWrongKind : Form → Data → Type 0
+IsOfWrongKind a_name d = (name : List ℕ) → ¬ (IsNameItem d name)
+IsOfWrongKind a_free_name d = (name : List ℕ) → as_str d ≡ Some name → ¬ (IsLabel name)
+IsOfWrongKind (a_text most) d = as_str d ≡ None
+IsOfWrongKind (a_number low high) d = as_integer d ≡ None
+IsOfWrongKind (a_least high greatest) d = as_integer d ≡ None
+IsOfWrongKind a_truth d = as_bool d ≡ None
+IsOfWrongKind (some_names least most) d = IsNoListOr AreNoNames (as_array d)
+IsOfWrongKind (some_needs most) d = IsNoListOr (HasItem IsNoNeed) (as_array d)
+IsOfWrongKind a_chart d = as_str d ≡ None
+IsOfWrongKind a_chart_without_par d = as_str d ≡ None
+IsOfWrongKind some_tables d = ⊥
+
+-- the value is an integer, and none of low to high
+pub record IsIntegerOutside (low high : ℕ) (d : Data) : Type 0 where
+  pub integer : ℤ
+  pub found : as_integer d ≡ Some integer
+  pub outside : (n : ℕ) → integer ≡ pos n → low ≤ n → n ≤ high → ⊥
+
+-- the number is above that of the table at the key
+pub record IsAbove (key : List ℕ) (table : Members) (d : Data) : Type 0 where
+  pub number : ℕ
+  pub found : as_integer d ≡ Some (pos number)
+  pub other : ℕ
+  pub found_other : option_and_then as_integer (get_member key table) ≡ Some (pos other)
+  pub above : other < number
+
+-- the value is a list, of so many items
+pub record IsListThat (Is : Items → Type 0) (d : Data) : Type 0 where
+  pub items : Items
+  pub found : as_array d ≡ Some items
+  pub such : Is items
+
+-- the text is too long, or of a chart but for a number that is out of range
+abbrev pub IsChartOutOfLimits : List ℕ → Type 0
+IsChartOutOfLimits text = (MAX_CHART_LEN < length text) ⊎ ((offset : ℕ) × IsOutsideAt text offset)
+
+-- the value in this table is of the form but for its limits
+abbrev pub IsOutOfLimits : Form → Members → Data → Type 0
+IsOutOfLimits a_name table d = ⊥
+IsOutOfLimits a_free_name table d = ⊥
+IsOutOfLimits (a_text most) table d = IsTextThat (λ text. most < length text) d
+IsOutOfLimits (a_number low high) table d = IsIntegerOutside low high d
+IsOutOfLimits (a_least high greatest) table d = IsIntegerOutside 0 high d ⊎ IsAbove greatest table d
+IsOutOfLimits a_truth table d = ⊥
+IsOutOfLimits (some_names least most) table d = IsListThat (λ items. least ≤ count_items items → count_items items ≤ most → ⊥) d
+IsOutOfLimits (some_needs most) table d = IsListThat (λ items. (most < count_items items) ⊎ HasItem IsNeedOutOfLimits items) d
+IsOutOfLimits a_chart table d = IsTextThat IsChartOutOfLimits d
+IsOutOfLimits a_chart_without_par table d = IsTextThat IsChartOutOfLimits d
+IsOutOfLimits some_tables table d = ⊥
+
+-- the text isn't too long, and is of no chart: at the offset its longest front ends that begins a text of a chart
+abbrev pub IsNoChartAt : ℕ → List ℕ → Type 0
+IsNoChartAt offset text = (length text ≤ MAX_CHART_LEN) × HasFaultAt text offset
+
+-- the text is of a chart, whose first `par` opens at the offset
+abbrev pub OpensParAt : ℕ → List ℕ → Type 0
+OpensParAt offset text = (chart : Diagram) × IsRead text chart (Some offset)
+
+-- the text at the key is refused for what stands at the offset
+abbrev pub HasChartFaultAt : Form → ℕ → Data → Type 0
+HasChartFaultAt a_chart offset d = IsTextThat (IsNoChartAt offset) d
+HasChartFaultAt a_chart_without_par offset d = IsTextThat (λ text. IsNoChartAt offset text ⊎ OpensParAt offset text) d
+HasChartFaultAt _ offset d = ⊥
+
+-- ---- keys and tables
+
+-- the key has a value, which is such
+pub record HasValue (Is : Data → Type 0) (word : List ℕ) (table : Members) : Type 0 where
+  pub here : Data
+  pub found : get_member word table ≡ Some here
+  pub such : Is here
+
+-- this is wrong with the table at the key
+abbrev pub IsKeyFault : Key → Members → EntryFault → Type 0
+IsKeyFault key table MissingKey = (key.is_needed ≡ true) × (get_member key.word table ≡ None)
+IsKeyFault key table WrongKind = HasValue (IsOfWrongKind key.form) key.word table
+IsKeyFault key table OutOfLimit = HasValue (IsOutOfLimits key.form table) key.word table
+IsKeyFault key table (Chart offset) = HasValue (HasChartFaultAt key.form offset) key.word table
+IsKeyFault key table UnknownKey = ⊥
+IsKeyFault key table Undeclared = ⊥
+IsKeyFault key table Duplicate = ⊥
+
+-- this is wrong with the table at one of the keys
+pub record HasKeyFault (keys : List Key) (table : Members) (wrong : EntryFault) : Type 0 where
+  pub place : ℕ
+  pub key : Key
+  pub listed : slice_get keys place ≡ Some key
+  pub fault : IsKeyFault key table wrong
+
+-- a key of the table is none of these
+pub record HasUnknownKey (keys : List Key) (table : Members) (wrong : EntryFault) : Type 0 where
+  pub unknown : has_only_keys (map (λ key. key.word) keys) table ≡ false
+  pub told : wrong ≡ UnknownKey
+
+-- this is wrong with the table of this kind
+abbrev pub IsTableFault : TableKind → Members → EntryFault → Type 0
+IsTableFault kind table wrong = HasUnknownKey (keys_of kind table) table wrong ⊎ HasKeyFault (keys_of kind table) table wrong
+
+-- ---- the table that a refusal names
+
+-- the value is no table, or this is wrong with it
+abbrev pub IsNoTableOr : (Members → EntryFault → Type 0) → Option Members → EntryFault → Type 0
+IsNoTableOr IsFault None wrong = wrong ≡ WrongKind
+IsNoTableOr IsFault (Some table) wrong = IsFault table wrong
+
+-- the list has this entry, with which this is wrong, and those before it are right
+pub record IsEntryFault (IsRight : Data → Type 0) (IsFault : Members → EntryFault → Type 0) (items : Items) (entry : ℕ) (wrong : EntryFault) : Type 0 where
+  pub here : Data
+  pub found : get_item entry items ≡ Some here
+  pub fault : IsNoTableOr IsFault (as_table here) wrong
+  pub before : (n : ℕ) (d : Data) → n < entry → get_item n items ≡ Some d → IsRight d
+
+-- what stands for the tables is no list, which is told at entry 0, or this is wrong with the entry, and with none before it
+abbrev pub IsArrayFault : (Data → Type 0) → (Members → EntryFault → Type 0) → Option Items → ℕ → EntryFault → Type 0
+IsArrayFault IsRight IsFault None entry wrong = (entry ≡ 0) × (wrong ≡ WrongKind)
+IsArrayFault IsRight IsFault (Some items) entry wrong = IsEntryFault IsRight IsFault items entry wrong
+
+-- the procedure is missing, or this is wrong with it
+abbrev pub IsProcedureFault : Option Data → EntryFault → Type 0
+IsProcedureFault None wrong = wrong ≡ MissingKey
+IsProcedureFault (Some d) wrong = IsNoTableOr (IsTableFault Procedure) (as_table d) wrong
+
+-- this is wrong with the table of the document that has this number among those of its kind
+abbrev pub IsFaultOfTable : Members → TableKind → ℕ → EntryFault → Type 0
+IsFaultOfTable document Cell entry wrong = (entry ≡ 0) × IsTableFault Cell document wrong
+IsFaultOfTable document Recipe entry wrong = (entry ≡ 0) × IsTableFault Recipe document wrong
+IsFaultOfTable document Procedure entry wrong = (entry ≡ 0) × IsProcedureFault (get_member (codes "procedure") document) wrong
+IsFaultOfTable document kind entry wrong = IsArrayFault (IsRightTable kind) (IsTableFault kind) (items_at (table_word kind) document) entry wrong

@@ -1,0 +1,8 @@
+//! The limit of documents.
+ghost use Rattle.std.specs.Prelude.{◌≡◌};
+ghost use Rattle.batch_reader.specs.declared.document.TheConstants.{MAX_DOCUMENT_LEN};
+
+/// The longest document of a cell or a recipe has this many bytes.
+pub fn document_limit_is_fixed()
+    ensures { MAX_DOCUMENT_LEN ≡ 1048576 }
+{}

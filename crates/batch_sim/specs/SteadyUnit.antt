@@ -1,0 +1,78 @@
+-- A unit whose phases each run for the same number of ticks, and answer each command at a tick after it.
+use Rattle.std.specs.Prelude.{◌≡◌, ℕ, ◌-◌, List, map, position, Bool, true, false, ◌&&◌, Option, Some, None, nat_lt, slice_get, slice_set}
+use Rattle.batch_matrix.specs.declared.state.State.{State}
+use Rattle.batch_matrix.specs.declared.state.State.TheVariants.{Idle, Running, Paused, Held, Stopped, Aborted, Complete}
+use Rattle.batch_matrix.specs.declared.report.Report.{Report}
+use Rattle.batch_matrix.specs.declared.report.Report.TheVariants as reports
+use Rattle.batch_matrix.specs.Matrix.{same_state, ends_as, target}
+use Rattle.batch_sim.specs.declared.order.Order.{Order}
+use Rattle.batch_sim.specs.declared.order.Order.TheVariants.{Start, Send}
+use Rattle.batch_sim.specs.declared.steady_phase.SteadyPhase.{SteadyPhase}
+
+pub record SteadyView : Type 0 where
+  -- by their numbers
+  pub phases : List SteadyPhase
+  -- how many ticks a phase runs
+  pub ticks : ℕ
+
+abbrev pub unstarted : SteadyPhase
+unstarted = record { state = Idle; ticks_left = 0 }
+
+-- Orders
+
+-- not started, or ended
+abbrev pub is_over : State → Bool
+is_over Idle = true
+is_over Complete = true
+is_over Stopped = true
+is_over Aborted = true
+is_over _ = false
+
+-- a started phase has all its ticks to run; a command leads a phase that isn't over to the state of its name
+abbrev pub ordered : ℕ → Order → SteadyPhase → SteadyPhase
+ordered ticks Start p = record { state = Running; ticks_left = ticks }
+ordered ticks (Send command) p = elim (is_over p.state) [ true ↦ p | false ↦ record p { state = target command } ]
+
+-- an order for a phase that the unit doesn't have changes nothing
+abbrev pub Commands : SteadyView → ℕ → Order → SteadyView → Type 0
+Commands old phase order new =
+    elim (slice_get old.phases phase) [
+      | None ↦ new ≡ old
+      | Some p ↦ new ≡ record old { phases = slice_set old.phases phase (ordered old.ticks order p) }
+    ]
+
+-- Ticks
+
+-- a moment passes: a running phase has a tick less to run
+abbrev pub passed : SteadyPhase → SteadyPhase
+passed p = elim (same_state p.state Running) [ true ↦ record p { ticks_left = p.ticks_left - 1 } | false ↦ p ]
+
+-- the state as which the phase ends by itself now; one that runs does so when it has no tick left
+abbrev pub end_of : SteadyPhase → Option State
+end_of p = elim (same_state p.state Running && nat_lt 0 p.ticks_left) [ true ↦ None | false ↦ ends_as p.state ]
+
+abbrev pub is_due : SteadyPhase → Bool
+is_due p = elim (end_of p) [ None ↦ false | Some state ↦ true ]
+
+-- what is reported of an end
+abbrev pub word_of : State → Report
+word_of Paused = reports.Paused
+word_of Held = reports.Held
+word_of Running = reports.Running
+word_of Stopped = reports.Stopped
+word_of Aborted = reports.Aborted
+word_of _ = reports.Done
+
+-- of the phases that end now, the one with the least number does so and reports it
+abbrev pub Reports : List SteadyPhase → Option (ℕ × Report) → List SteadyPhase → Type 0
+Reports old answer new =
+    elim (position is_due old) [
+      | None ↦ (answer ≡ None) × (new ≡ old)
+      | Some number ↦
+          (phase : SteadyPhase) × (end : State) × (slice_get old number ≡ Some phase) × (end_of phase ≡ Some end)
+          × (answer ≡ Some (number, word_of end)) × (new ≡ slice_set old number (record phase { state = end }))
+    ]
+
+-- a moment passes at all phases, and then at most one reports
+abbrev pub TicksSteadily : SteadyView → Option (ℕ × Report) → SteadyView → Type 0
+TicksSteadily old answer new = Reports (map passed old.phases) answer new.phases × (new.ticks ≡ old.ticks)

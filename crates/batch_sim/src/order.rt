@@ -1,0 +1,11 @@
+//! Orders to phases.
+use batch_matrix::Command;
+
+/// What a unit is told to do with a phase that it offers.
+#[derive(Clone, Copy, Debug, PartialEq, Eq)]
+pub enum Order {
+    /// The phase starts.
+    Start,
+    /// The live phase is sent a command.
+    Send(Command),
+}

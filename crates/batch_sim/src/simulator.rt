@@ -1,0 +1,48 @@
+//! The units of a cell.
+ghost use Rattle.std.specs.Prelude.{◌≡◌};
+ghost use Rattle.batch_sim.specs.Units.{Takes, Ticks};
+
+use crate::driver::UnitDriver;
+use crate::order::Order;
+use batch_matrix::Report;
+use std::marker::Model;
+
+/// The units of a cell. A contract sees them as the list of their drivers, in the order of the units' numbers.
+#[derive(Drop)]
+pub struct Simulator<D: UnitDriver> {
+    drivers: Vec<D>,
+}
+
+impl<D: UnitDriver> Model for Simulator<D> {
+    ghost use Rattle.std.specs.Prelude.{List};
+
+    ghost Value = { List D };
+
+    ghost view = { λ s. s.drivers.items };
+}
+
+impl<D: UnitDriver> Simulator<D> {
+    pub fn new(drivers: Vec<D>) -> Simulator<D>
+        ensures { result ≡ drivers.items }
+    {
+        Simulator { drivers }
+    }
+
+    /// Gives an order to a phase of a unit. False, and nothing done, where there is no such unit.
+    pub fn order(&mut self, unit: u16, phase: u16, order: Order) -> bool
+        ensures { Takes D.command_gives unit phase order self.old result self.new }
+    {
+        let Some(driver) = self.drivers.get_mut(usize::from(unit)) else {
+            return false;
+        };
+        driver.command(phase, order);
+        true
+    }
+
+    /// A moment passes at a unit, and its driver may report. None, and nothing done, where there is no such unit.
+    pub fn tick(&mut self, unit: u16) -> Option<(u16, Report)>
+        ensures { Ticks D.tick_gives unit self.old result self.new }
+    {
+        self.drivers.get_mut(usize::from(unit))?.tick()
+    }
+}

@@ -1,0 +1,101 @@
+//! A phase of a steady unit.
+ghost use Rattle.std.specs.Prelude.{◌≡◌};
+ghost use Rattle.batch_matrix.specs.Matrix as matrix;
+ghost use Rattle.batch_sim.specs.SteadyUnit.{end_of, is_over, ordered, passed, unstarted, word_of};
+
+use crate::order::Order;
+use batch_matrix::{Command, Report, State, ends_as};
+
+/// A phase of a steady unit: its state, and how many ticks it has to run.
+#[derive(Clone, Copy, Debug, PartialEq, Eq)]
+pub(crate) struct SteadyPhase {
+    pub(crate) state: State,
+    pub(crate) ticks_left: u64,
+}
+
+impl SteadyPhase {
+    pub(crate) fn unstarted() -> SteadyPhase
+        ensures { result ≡ unstarted }
+    {
+        SteadyPhase {
+            state: State::Idle,
+            ticks_left: 0,
+        }
+    }
+
+    /// Takes an order. A start has it run all the ticks; a command is passed over unless the phase was started and isn't over.
+    pub(crate) fn take(&mut self, order: Order, ticks: u64)
+        ensures { self.new ≡ ordered ticks order self.old }
+    {
+        match order {
+            Order::Start => {
+                self.state = State::Running;
+                self.ticks_left = ticks;
+            }
+            Order::Send(command) => {
+                if !is_over(self.state) {
+                    self.state = target(command);
+                }
+            }
+        }
+    }
+
+    /// A moment passes.
+    pub(crate) fn pass(&mut self)
+        ensures { self.new ≡ passed self.old }
+    {
+        if self.state == State::Running {
+            self.ticks_left = self.ticks_left.saturating_sub(1);
+        }
+    }
+
+    /// The state as which the phase ends by itself now.
+    pub(crate) fn end(&self) -> Option<State>
+        ensures { result ≡ end_of self.now }
+    {
+        if self.state == State::Running && self.ticks_left > 0 {
+            None
+        } else {
+            ends_as(self.state)
+        }
+    }
+}
+
+/// Whether a phase in this state isn't started, or has ended.
+fn is_over(state: State) -> bool
+    ensures { result ≡ is_over state }
+{
+    matches!(
+        state,
+        State::Idle | State::Complete | State::Stopped | State::Aborted
+    )
+}
+
+/// The state of the command's name.
+fn target(command: Command) -> State
+    ensures { result ≡ matrix.target command }
+{
+    match command {
+        Command::Start | Command::Resume => State::Running,
+        Command::Pause => State::Pausing,
+        Command::Hold => State::Holding,
+        Command::Restart => State::Restarting,
+        Command::Stop => State::Stopping,
+        Command::Abort => State::Aborting,
+        Command::Reset => State::Idle,
+    }
+}
+
+/// What a phase reports that ended as this.
+pub(crate) fn word_of(end: State) -> Report
+    ensures { result ≡ word_of end }
+{
+    match end {
+        State::Paused => Report::Paused,
+        State::Held => Report::Held,
+        State::Running => Report::Running,
+        State::Stopped => Report::Stopped,
+        State::Aborted => Report::Aborted,
+        _ => Report::Done,
+    }
+}
