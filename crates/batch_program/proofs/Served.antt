@@ -108,7 +108,8 @@ pub set_to_serve : (gives : Gives) (words : List Text) (output errors : Stream) 
     → IsRun gives words output errors course → course ≡ course_of.Serves set
     → (command : Command) × IsNamed words command × IsServed gives (request_of command) set × Keeps output.before output.after
 set_to_serve gives words output errors _ set (running.commands command course named came) is =
-    (command, named, done_to_serve gives output errors command course set came is)
+    let (served, kept) = done_to_serve gives output errors command course set came is in
+    (command, named, served, kept)
 set_to_serve gives words output errors _ set (running.helps _ _ _ _) is = absurd cc
 set_to_serve gives words output errors _ set (running.misuses _ _) is = absurd cc
 set_to_serve gives words output errors _ set (running.starves _) is = absurd cc
