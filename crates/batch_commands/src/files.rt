@@ -5,6 +5,7 @@ ghost use Rattle.batch_commands.specs.Reading.{IsUnread};
 use crate::documents::Documents;
 use crate::reading::{ReadFault, read_document};
 use crate::verdict::Halt;
+use batch_sentences::shown;
 use std::alloc::Global;
 use std::fs;
 use std::rt::Files;
@@ -41,6 +42,9 @@ fn unread(alloc: Global, path: &str, fault: &ReadFault) -> Halt
     if matches!(fault, ReadFault::Memory) {
         return Halt::Memory;
     }
+    let Ok(path) = shown(alloc, path) else {
+        return Halt::Memory;
+    };
     match format!(in alloc; "{path}: {fault}") {
         Ok(text) => Halt::Unread(text),
         Err(_) => Halt::Memory,
