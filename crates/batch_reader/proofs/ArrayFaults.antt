@@ -27,9 +27,10 @@ pub array_table : (IsRight : Data → Type 0) (IsFault : Members → EntryFault 
     → (fault : TableFault) → TellsAt (record { kind = kind; entry = i }) (IsFault table) fault → TellsIn kind (IsArrayFault IsRight IsFault list) fault
 array_table IsRight IsFault list vs kind i d table found below is_table before Memory told = tt
 array_table IsRight IsFault list vs kind i d table found below is_table before (Entry here wrong) told =
-    let place : here.entry ≡ i = ap (λ (s : Spot). s.entry) told.0 in
-    (ap (λ (s : Spot). s.kind) told.0,
-    rw (found, place) (record { here = view (get_or vs i d); found = get_item-view vs i d below; fault = rw (← is_table) told.1; before = before }))
+    let place : here.entry ≡ i = ap (λ (s : Spot). s.entry) told.0 in (
+      ap (λ (s : Spot). s.kind) told.0,
+      rw (found, place) (record { here = view (get_or vs i d); found = get_item-view vs i d below; fault = rw (← is_table) told.1; before = before }),
+    )
 
 -- what is told of one table is told of a document
 pub at_told : (spot : Spot) (P : EntryFault → Type 0) (Q : Spot → EntryFault → Type 0) → ((wrong : EntryFault) → P wrong → Q spot wrong)
