@@ -68,7 +68,7 @@ fn verdicts_are_output(rt: HostRuntime) -> Result<(), Fail> {
         ),
         (
             &["check", "a", "cell"],
-            "Some(1) refused D2 a cell 0\n\
+            "Some(1) refused D4 a cell 0\n\
                 |batchd: a: this is a recipe, and the cell is to stand here: the cell comes first\n",
         ),
     ];
