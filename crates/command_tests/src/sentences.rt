@@ -2,28 +2,33 @@
 use crate::documents::{A, CELL1};
 use batch_commands::{Halt, Verdict, check_recipes, judge_cell, judge_recipe};
 use batch_reader::{read_cell, read_recipe};
+use batch_sentences::Sentence;
 use std::alloc::Global;
 use std::test::Fail;
 
-/// The verdict's first line, and after a bar the sentence.
-fn told(alloc: Global, verdict: Verdict) -> Result<String, Fail> {
-    let text = verdict.text.trim_end();
-    match verdict.sentence {
-        Some(sentence) => Ok(format!(in alloc; "{text}|{}", sentence.text)?),
+fn said(sentence: &Option<Sentence>) -> Result<&str, Fail> {
+    match sentence {
+        Some(sentence) => Ok(sentence.text.as_str()),
         None => Err("no sentence")?,
     }
 }
 
+/// The verdict's first line, and after a bar the sentence.
+fn told(alloc: Global, verdict: &Verdict) -> Result<String, Fail> {
+    let said = said(&verdict.sentence)?;
+    Ok(format!(in alloc; "{}|{said}", verdict.text.trim_end())?)
+}
+
 fn cell_said(alloc: Global, path: &str, text: &str) -> Result<String, Fail> {
     match judge_cell(alloc, path, text.as_bytes()) {
-        Err(Halt::Refused(verdict)) => told(alloc, verdict),
+        Err(Halt::Refused(verdict)) => told(alloc, &verdict),
         _ => Err("not refused")?,
     }
 }
 
 fn recipe_said(alloc: Global, text: &str) -> Result<String, Fail> {
     match judge_recipe(alloc, "r", text.as_bytes()) {
-        Err(Halt::Refused(verdict)) => told(alloc, verdict),
+        Err(Halt::Refused(verdict)) => told(alloc, &verdict),
         _ => Err("not refused")?,
     }
 }
@@ -92,7 +97,7 @@ fn of_sets(rt: HostRuntime) -> Result<(), Fail> {
     recipes.push(read_recipe(alloc, text.as_bytes())?)?;
     let verdict = check_recipes(alloc, &cell, &recipes)?;
     assert_eq!(rt;
-        told(alloc, verdict)?.as_str(),
+        told(alloc, &verdict)?.as_str(),
         "refused V5 A 0.0.0.0|A, ADD at 0.0.0.0: the unit R1 doesn't offer the phase MIX"
     );
     Ok(())
