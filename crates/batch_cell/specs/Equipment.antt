@@ -1,4 +1,4 @@
--- The equipment of a cell: its units, equipment modules and shared resources.
+-- trusted: the equipment of a cell: its units, equipment modules and shared resources.
 use Rattle.std.specs.Prelude.{◌≡◌, ℕ, ◌+◌, List, [], ◌++◌, length, replicate, map, filter, flat_map, if◌then◌else◌, Some, None, Bool, true, false, nat_eq}
 use Rattle.std.specs.Cmp.Lexicographic.{pointwise}
 use Rattle.std.specs.List.{All, IsDistinct, list_any, list_all}

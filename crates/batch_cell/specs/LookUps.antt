@@ -1,4 +1,4 @@
--- What is looked up in a cell.
+-- trusted: what is looked up in a cell.
 use Rattle.std.specs.Prelude.{ℕ, List, []}
 use Rattle.std.specs.List.{slice_index_or}
 use Rattle.batch_cell.specs.Equipment.{resource_names, capacities, unit_names, unit_phases}

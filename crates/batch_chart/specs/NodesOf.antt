@@ -1,4 +1,4 @@
--- The nodes of an expanded tree, by number.
+-- trusted: the nodes of an expanded tree, by number.
 use Rattle.std.specs.Prelude.{ℕ, ◌+◌, List, [], ◌∷◌, length, Option, Some, None, slice_index_or}
 use Rattle.batch_recipe.specs.Conditions.{Name}
 use Rattle.batch_recipe.specs.declared.need.Need.{Need}

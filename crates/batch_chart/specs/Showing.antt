@@ -1,5 +1,4 @@
--- For private contracts.
--- The states that acts show.
+-- private: the states that acts show.
 use Rattle.std.specs.Prelude.{◌≡◌, ◌<◌, ◌≤◌, ℕ, List, [], ◌∷◌, Bool, Option, None, find}
 use Rattle.std.specs.List.{list_any}
 use Rattle.batch_matrix.specs.declared.state.State.{State}

@@ -1,4 +1,4 @@
--- What the check of a set of recipes says.
+-- trusted: what the check of a set of recipes says.
 use Rattle.std.specs.Prelude.{◌≡◌, ℕ, List, take, Some, None, slice_get, ⊤}
 use Rattle.batch_cell.specs.declared.cell.Cell as equipment
 use Rattle.batch_recipe.specs.declared.recipe.Recipe as document

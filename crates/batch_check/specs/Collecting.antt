@@ -1,5 +1,4 @@
--- For private contracts; no public clause cites this file.
--- What is kept while the edges of recipes are collected.
+-- private: what is kept while the edges of recipes are collected.
 use Rattle.std.specs.Prelude.{◌≡◌, ℕ, ◌+◌, ◌<◌, ◌≤◌, List, [], ◌∷◌, ◌++◌, length, map, slice_get, Option, Some, None, ◌⊎◌}
 use Rattle.std.specs.List.{Contains}
 use Rattle.batch_cell.specs.LookUps.{resources_of}

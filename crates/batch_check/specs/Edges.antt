@@ -1,4 +1,4 @@
--- Edges that stand in recipes, and edges that cover the paths of recipes.
+-- trusted: edges that stand in recipes, and edges that cover the paths of recipes.
 use Rattle.std.specs.Prelude.{◌≡◌, ℕ, ◌+◌, ◌<◌, ◌≤◌, List, [], ◌∷◌, ◌&&◌, Bool, IsTrue, length, map, nat_eq, position, slice_get, Option, Some, None, ⊤}
 use Rattle.std.specs.List.{All, list_any}
 use Rattle.batch_cell.specs.LookUps.{resources_of}

@@ -1,5 +1,4 @@
--- For private contracts; no public clause cites this file.
--- What each part of the check of recipes finds.
+-- private: what each part of the check of recipes finds.
 use Rattle.std.specs.Prelude.{ℕ, ◌≡◌, List, length, ⊤}
 use Rattle.batch_cell.specs.LookUps.{resources_of}
 use Rattle.batch_cell.specs.declared.cell.Cell as equipment

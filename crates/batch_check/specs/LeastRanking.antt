@@ -1,4 +1,4 @@
--- Ranks of resources that rise along edges, and circles of edges.
+-- trusted: ranks of resources that rise along edges, and circles of edges.
 use Rattle.std.specs.Prelude.{◌≡◌, ◌≢◌, ℕ, ◌+◌, ◌<◌, ◌≤◌, List, [], ◌∷◌, length, slice_index}
 use Rattle.std.specs.List.{All, AllPairs, Contains}
 use Rattle.batch_check.specs.declared.edge.Edge.{Edge}

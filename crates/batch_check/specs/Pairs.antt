@@ -1,5 +1,4 @@
--- For private contracts; no public clause cites this file.
--- Pairs of resources between which an edge stays.
+-- private: pairs of resources between which an edge stays.
 use Rattle.std.specs.Prelude.{ℕ, List, IsTrue}
 use Rattle.batch_check.specs.declared.edge.Edge.{Edge}
 use Rattle.batch_check.specs.Edges.{has_pair}

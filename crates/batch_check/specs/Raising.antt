@@ -1,5 +1,4 @@
--- For private contracts; no public clause cites this file.
--- What is kept while the ranks of resources are raised.
+-- private: what is kept while the ranks of resources are raised.
 use Rattle.std.specs.Prelude.{◌≡◌, ℕ, ◌+◌, ◌<◌, ◌≤◌, List, length, slice_index, slice_index_or, Option, Some, None, ◌⊎◌}
 use Rattle.std.specs.List.{All, Contains}
 use Rattle.batch_check.specs.declared.edge.Edge.{Edge}

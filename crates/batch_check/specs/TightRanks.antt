@@ -1,4 +1,4 @@
--- Ranks that are no greater than the paths of recipes ask for.
+-- trusted: ranks that are no greater than the paths of recipes ask for.
 use Rattle.std.specs.Prelude.{◌≡◌, ◌⊎◌, ℕ, ◌+◌, ◌<◌, ◌≤◌, List, IsTrue, slice_get, Some}
 use Rattle.batch_cell.specs.LookUps.{resources_of}
 use Rattle.batch_cell.specs.declared.cell.Cell as equipment

@@ -1,4 +1,4 @@
--- What is read of a reader: all of its bytes, or so many that they are too many.
+-- surface: what is read of a reader: all of its bytes, or so many that they are too many.
 use Rattle.std.specs.Prelude.{◌≡◌, ◌<◌, ◌≤◌, ℕ, List, ◌++◌, length, Option, IfSome, ⊤}
 use Rattle.std.specs.Io.KnownBytes.{IsAtEnd}
 use Rattle.batch_commands.specs.declared.reading.ReadFault.{ReadFault}

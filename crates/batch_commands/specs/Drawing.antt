@@ -1,4 +1,4 @@
--- What `check --dot` prints of recipes.
+-- trusted: what `check --dot` prints of recipes.
 use Rattle.std.specs.Prelude.{◌≡◌, ◌≢◌, ℕ, List, []}
 use Rattle.batch_cell.specs.declared.cell.Cell.{Cell}
 use Rattle.batch_recipe.specs.declared.recipe.Recipe.{Recipe}

@@ -1,4 +1,4 @@
--- The graph of what is asked for after what, in the language of Graphviz.
+-- trusted: the graph of what is asked for after what, in the language of Graphviz.
 use Rattle.std.specs.Prelude.{ℕ, List, ◌++◌, codes, if◌then◌else◌}
 use Rattle.std.specs.List.{flat_map}
 use Rattle.batch_cell.specs.declared.cell.Cell.{Cell}

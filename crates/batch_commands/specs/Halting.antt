@@ -1,4 +1,4 @@
--- Which document ends a command before there is a verdict on all.
+-- trusted: which document ends a command before there is a verdict on all.
 use Rattle.std.specs.Prelude.{◌≡◌, ℕ, List, [], ◌∷◌, Some, ◌⊎◌}
 use Rattle.batch_cell.specs.declared.cell.Cell.{Cell}
 use Rattle.batch_recipe.specs.declared.recipe.Recipe.{Recipe}

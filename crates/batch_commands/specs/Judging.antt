@@ -1,4 +1,4 @@
--- What verdicts say of the documents that they are on.
+-- trusted: what verdicts say of the documents that they are on.
 use Rattle.std.specs.Prelude.{◌≡◌, ◌≢◌, ◌≤◌, ◌<◌, ℕ, List, true, length, string_bytes, IsSome, IsUtf8, ⊤}
 use Rattle.toml.specs.Parse.{parse_document}
 use Rattle.batch_cell.specs.declared.cell.Cell.{Cell}

@@ -1,4 +1,4 @@
--- What the words of the program ask for, with the paths of its documents.
+-- trusted: what the words of the program ask for, with the paths of its documents.
 use Rattle.std.specs.Prelude.{◌≡◌, ℕ, Bool, false, List, [], ◌∷◌, map, string_bytes}
 use Rattle.batch_verify.specs.ClearedSet.{ClearedSet}
 use Rattle.batch_words.specs.declared.command.Command.{Command}

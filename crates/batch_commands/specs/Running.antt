@@ -1,4 +1,4 @@
--- What the program writes for its words, to which stream, and how it ends.
+-- trusted: what the program writes for its words, to which stream, and how it ends.
 use Rattle.std.specs.Prelude.{◌≡◌, ◌⊎◌, ℕ, Bool, List, [], Option, Result, Ok, Err, string_bytes}
 use Rattle.std.specs.Io.KnownBytes.{Appends, Keeps}
 use Rattle.clap.specs.Kinds.{IsAmong}

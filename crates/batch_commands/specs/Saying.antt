@@ -1,4 +1,4 @@
--- What is said to a person beside a verdict.
+-- trusted: what is said to a person beside a verdict.
 use Rattle.std.specs.Prelude.{◌≡◌, ◌++◌, ℕ, Bool, true, false, List, Option, Some, None, codes, string_bytes}
 use Rattle.std.specs.Io.KnownBytes.{Appends, Keeps}
 use Rattle.batch_sentences.specs.declared.sentence.Sentence.{Sentence}

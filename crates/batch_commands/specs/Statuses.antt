@@ -1,4 +1,4 @@
--- What the exit status of a run tells.
+-- surface: what the exit status of a run tells.
 use Rattle.std.specs.Prelude.{◌≡◌, ◌⊎◌, ℕ, List}
 use Rattle.std.specs.Io.KnownBytes.{Appends}
 use Rattle.clap.specs.Walk.{Text}

@@ -1,4 +1,4 @@
--- What comes of ticks of a cell's units, when the machine takes what they report and they take the orders of its moves.
+-- surface: what comes of ticks of a cell's units, when the machine takes what they report and they take the orders of its moves.
 use Rattle.std.specs.Prelude.{◌≡◌, ℕ, zero, suc, List, [], ◌∷◌, ◌++◌, Bool, Option, Some, None, slice_get}
 use Rattle.std.specs.List.{range_with_len}
 use Rattle.batch_matrix.specs.declared.report.Report.{Report}

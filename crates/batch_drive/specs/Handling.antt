@@ -1,5 +1,4 @@
--- For private contracts.
--- What comes of a report, of a tick and of several, as far as it was written.
+-- private: what comes of a report, of a tick and of several, as far as it was written.
 use Rattle.std.specs.Prelude.{◌≡◌, ℕ, List, ◌∷◌, ◌++◌, Option, Result, Ok, Err}
 use Rattle.std.specs.Io.KnownBytes.{Appends}
 use Rattle.batch_matrix.specs.declared.report.Report.{Report}

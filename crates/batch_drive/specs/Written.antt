@@ -1,4 +1,4 @@
--- What is written of ticks of a cell's units.
+-- surface: what is written of ticks of a cell's units.
 use Rattle.std.specs.Prelude.{◌≡◌, ◌⊎◌, ℕ, List, ◌∷◌, ◌++◌, Option, Some, IsSome, Result, Ok, Err}
 use Rattle.std.specs.Io.KnownBytes.{Appends}
 use Rattle.batch_matrix.specs.declared.report.Report.{Report}

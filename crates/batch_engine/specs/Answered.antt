@@ -1,4 +1,4 @@
--- The answer to an event.
+-- trusted: the answer to an event.
 use Rattle.std.specs.Prelude.{◌≡◌}
 use Rattle.batch_model.specs.Events as Events
 use Rattle.batch_model.specs.Runs.{Reacts}

@@ -1,4 +1,4 @@
--- What the engine keeps.
+-- surface: what the engine keeps.
 use Rattle.std.specs.Prelude.{◌≡◌, ℕ, ◌+◌, ◌<◌, ◌≤◌, List, length, sum_by, Some, slice_get}
 use Rattle.batch_cell.specs.LookUps.{capacities_of}
 use Rattle.batch_recipe.specs.Conditions.{Name}

@@ -1,4 +1,4 @@
--- That the engine's plant is one that a record leads to.
+-- trusted: that the engine's plant is one that a record leads to.
 use Rattle.std.specs.Prelude.{List}
 use Rattle.batch_model.specs.Events.{Event}
 use Rattle.batch_model.specs.Plant.{opening}

@@ -1,5 +1,4 @@
--- For private contracts.
--- What the batches end as, where a `&mut` to one of them is given out.
+-- private: what the batches end as, where a `&mut` to one of them is given out.
 use Rattle.std.specs.Prelude.{ℕ}
 use Rattle.std.specs.Borrow.{Lends, Fml, MutBor}
 use Rattle.batch_engine.specs.Batches.{BatchList, with_batch_at}

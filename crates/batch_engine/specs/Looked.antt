@@ -1,4 +1,4 @@
--- What is looked up in a plant.
+-- trusted: what is looked up in a plant.
 use Rattle.std.specs.Prelude.{ℕ, Option, Some, None}
 use Rattle.batch_recipe.specs.Conditions.{Name, value_of}
 use Rattle.batch_model.specs.Plant.{Plant, batch_at}

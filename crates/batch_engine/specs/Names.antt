@@ -1,4 +1,4 @@
--- What the numbers in replies and moves name. A number that names nothing has the empty name, and no place.
+-- trusted: what the numbers in replies and moves name. A number that names nothing has the empty name, and no place.
 use Rattle.std.specs.Prelude.{ℕ, List, [], Option, Some, None, slice_get, unwrap_or, option_map, length, nat_lt, if◌then◌else◌}
 use Rattle.batch_cell.specs.LookUps.{units_of, resources_of, phases_of}
 use Rattle.batch_recipe.specs.Conditions.{Name}

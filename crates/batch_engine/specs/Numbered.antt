@@ -1,4 +1,4 @@
--- The numbers of what acts need and run.
+-- surface: the numbers of what acts need and run.
 use Rattle.std.specs.Prelude.{◌≡◌, ℕ, List, length, map, Option, Some, None, unwrap_or, position, slice_get}
 use Rattle.batch_cell.specs.LookUps.{units_of, resources_of, phases_of}
 use Rattle.batch_cell.specs.declared.cell.Cell.{Cell}

@@ -1,5 +1,4 @@
--- For private contracts.
--- The step that the engine makes next.
+-- private: the step that the engine makes next.
 use Rattle.std.specs.Prelude.{◌≡◌, ◌<◌, ℕ, [], Option, Some, None, option_map, slice_get, length, ⊤}
 use Rattle.batch_model.specs.Moves as Model
 use Rattle.batch_model.specs.Moves.{next, after, least, batch_moves, grant}

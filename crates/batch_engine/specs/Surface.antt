@@ -1,4 +1,4 @@
--- What crosses the engine's surface, as the machine's definitions have it.
+-- trusted: what crosses the engine's surface, as the machine's definitions have it.
 use Rattle.std.specs.Prelude.{Option, Some, None}
 use Rattle.std.specs.List.{zip}
 use Rattle.batch_model.specs.Events as Events

@@ -1,4 +1,4 @@
--- How an explanation is told.
+-- trusted: how an explanation is told.
 use Rattle.std.specs.Prelude.{◌++◌, ℕ, List, codes}
 use Rattle.batch_explain.specs.declared.explanation.Explanation.{Explanation}
 

@@ -1,4 +1,4 @@
--- The bytes that chart texts give a meaning.
+-- trusted: the bytes that chart texts give a meaning.
 use Rattle.std.specs.Prelude.{ℕ}
 
 abbrev pub tab : ℕ

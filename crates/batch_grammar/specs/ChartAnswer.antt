@@ -1,4 +1,4 @@
--- What the answers of the reader of charts say.
+-- trusted: what the answers of the reader of charts say.
 use Rattle.std.specs.Prelude.{◌≡◌, ℕ, ◌+◌, ◌<◌, ◌≤◌, List, [], ◌∷◌, ◌++◌, length, take, Option, Some, None, ◌↔◌, true}
 use Rattle.batch_recipe.specs.Diagram.{Diagram}
 use Rattle.batch_recipe.specs.WellFormed.{has_no_par}

@@ -1,4 +1,4 @@
--- What the grammar of charts says of a chart, in the words of a recipe's tests.
+-- surface: what the grammar of charts says of a chart, in the words of a recipe's tests.
 use Rattle.std.specs.Prelude.{◌≡◌, true, List, [], ◌∷◌, ◌++◌, All}
 use Rattle.std.specs.List.{list_all}
 use Rattle.batch_recipe.specs.Conditions.{Name}

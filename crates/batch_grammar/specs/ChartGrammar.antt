@@ -1,4 +1,4 @@
--- The texts of charts.
+-- trusted: the texts of charts.
 use Rattle.std.specs.Prelude.{◌≡◌, ℕ, suc, ◌-◌, nat_le, List, [], ◌∷◌, ◌++◌, length, Bool, false, ◌&&◌, ◌||◌, ◌==◌, if◌then◌else◌, codes, IsTrue}
 use Rattle.batch_text.specs.NameText.{IsName}
 use Rattle.batch_text.specs.NumberText.{IsNumber, number_of}

@@ -1,4 +1,4 @@
--- The reader of charts as a machine that takes one byte after another.
+-- private: the reader of charts as a machine that takes one byte after another.
 use Rattle.std.specs.Prelude.{ℕ, ◌+◌, ◌-◌, ltb, List, [], ◌∷◌, ◌++◌, length, codes, bytes_eq}
 use Rattle.std.specs.Prelude.{Bool, true, false, ◌==◌, if◌then◌else◌, Option, Some, None, option_and_then, option_map}
 use Rattle.std.specs.Char.{is_ascii_alphabetic, is_ascii_digit}

@@ -1,4 +1,4 @@
--- What the values of the reader of charts stand for, without where they lie in memory.
+-- private: what the values of the reader of charts stand for, without where they lie in memory.
 use Rattle.std.specs.Prelude.{◌≡◌, ℕ, List, map, reverse, Option, Some, None, Result, Ok, Err, Vec, slice_range}
 use Rattle.std.specs.Global.{Global}
 use Rattle.batch_recipe.specs.declared.condition.Cond.{Cond}

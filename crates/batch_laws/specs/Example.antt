@@ -1,4 +1,4 @@
--- A cell whose two recipes are cleared, though their batches can point at each other.
+-- worked rows: a cell whose two recipes are cleared, though their batches can point at each other.
 use Rattle.batch_model.specs.Cleared.{IsCleared}
 use Rattle.batch_model.specs.RowsOfClearance.{equipment, narrow, units_first}
 use Rattle.batch_laws.specs.Premises.{AreDocuments}

@@ -1,4 +1,4 @@
--- What a cell and recipes keep in their types, beside the rules of clearance.
+-- trusted: what a cell and recipes keep in their types, beside the rules of clearance.
 use Rattle.std.specs.Prelude.{◌≡◌, IsTrue}
 use Rattle.batch_recipe.specs.Conditions.{Name}
 use Rattle.batch_recipe.specs.WellFormed.{is_among}

@@ -1,4 +1,4 @@
--- Expanded trees of the procedural model: a procedure of unit procedures, these of operations, and these of phase steps.
+-- trusted: expanded trees of the procedural model: a procedure of unit procedures, these of operations, and these of phase steps.
 use Rattle.std.specs.Prelude.{◌≡◌, List, [], ◌∷◌, map, true, ⊤}
 use Rattle.batch_recipe.specs.Conditions.{Name}
 use Rattle.batch_recipe.specs.Tree.{Tree, act, skip, seq, par, sel, loop, Task, runs, follows, Trees, no_trees, tree, Choices, otherwise, choice}

@@ -1,4 +1,4 @@
--- Sets of recipes for a cell, as they are read from documents.
+-- surface: sets of recipes for a cell, as they are read from documents.
 use Rattle.std.specs.Prelude.{List}
 use Rattle.batch_cell.specs.declared.cell.Cell as equipment
 use Rattle.batch_recipe.specs.declared.recipe.Recipe as document

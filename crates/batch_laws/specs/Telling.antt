@@ -1,4 +1,4 @@
--- A record tells just what stands in the plant that it leads to.
+-- trusted: a record tells just what stands in the plant that it leads to.
 use Rattle.std.specs.Prelude.{◌≡◌, List, length, Some, ◌↔◌, slice_get, ℕ}
 use Rattle.batch_matrix.specs.declared.state.State.{State}
 use Rattle.batch_model.specs.Lists.{Has}

@@ -1,4 +1,4 @@
--- Ranks rise along the path of each node exactly where they rise on the way down.
+-- surface: ranks rise along the path of each node exactly where they rise on the way down.
 use Rattle.std.specs.Prelude.{◌↔◌, ℕ, suc, ◌<◌, List, [], ◌∷◌, ⊤}
 use Rattle.batch_recipe.specs.Conditions.{Name}
 use Rattle.batch_recipe.specs.Nodes.{nodes}

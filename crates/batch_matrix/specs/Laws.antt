@@ -1,4 +1,4 @@
--- What holds of every cell of the state matrix.
+-- surface: what holds of every cell of the state matrix.
 use Rattle.std.specs.Prelude.{◌≡◌, Option, Some, None, ⊤}
 use Rattle.batch_matrix.specs.declared.state.State.{State}
 use Rattle.batch_matrix.specs.declared.command.Command.{Command}

@@ -1,4 +1,4 @@
--- The state that each act of a batch shows.
+-- trusted: the state that each act of a batch shows.
 use Rattle.std.specs.Prelude.{ℕ, List, [], ◌∷◌, ◌++◌, find, true, false, Option, Some, None, nat_lt}
 use Rattle.batch_matrix.specs.declared.state.State.{State}
 use Rattle.batch_matrix.specs.declared.state.State.TheVariants.{Idle, Running, Pausing, Paused, Holding, Held, Restarting, Stopping, Aborting}

@@ -1,4 +1,4 @@
--- Clearance: what recipes must meet, by a ranking of a cell's resources, so that their batches can run safely.
+-- trusted: clearance: what recipes must meet, by a ranking of a cell's resources, so that their batches can run safely.
 use Rattle.std.specs.Prelude.{◌≡◌, ℕ, ◌+◌, ◌<◌, ◌≤◌, List, [], ◌∷◌, ◌++◌, length, map, Bool, true, false, ◌&&◌, ◌||◌, IsTrue, ⊤}
 use Rattle.batch_recipe.specs.Conditions.{Name, same_name}
 use Rattle.batch_recipe.specs.Tree.{Place, Phase, Tree, act, skip, seq, par, sel, loop, Task, runs, follows, Trees, no_trees, tree, Choices, otherwise, choice}

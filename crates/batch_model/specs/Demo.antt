@@ -1,4 +1,4 @@
--- The demo cell and its recipe A.
+-- surface: the demo cell and its recipe A.
 use Rattle.std.specs.Prelude.{ℕ, [], ◌∷◌, Bool, true, false, ◌&&◌, ◌||◌, codes}
 use Rattle.batch_recipe.specs.Conditions.{Name, same_name}
 use Rattle.batch_recipe.specs.Formula.{is_size}

@@ -1,4 +1,4 @@
--- The documents of the machine that a cell and recipes stand for.
+-- trusted: the documents of the machine that a cell and recipes stand for.
 use Rattle.std.specs.Prelude.{ℕ, List, map, Some, None, position}
 use Rattle.std.specs.List.{slice_index_or}
 use Rattle.batch_cell.specs.Equipment.{unit_phases}

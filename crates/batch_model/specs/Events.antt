@@ -1,4 +1,4 @@
--- The events that come from outside, and what the plant replies and becomes.
+-- trusted: the events that come from outside, and what the plant replies and becomes.
 use Rattle.std.specs.Prelude.{ℕ, suc, List, [], ◌∷◌, ◌++◌, length, filter, find, Bool, true, false, ◌&&◌, ◌||◌, not, Option, Some, None, nat_eq, nat_lt, nat_le}
 use Rattle.batch_matrix.specs.declared.state.State.{State}
 use Rattle.batch_matrix.specs.declared.state.State.TheVariants.{Idle, Holding}

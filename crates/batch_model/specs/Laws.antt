@@ -1,4 +1,4 @@
--- The laws that this crate proves of its definitions.
+-- surface: the laws that this crate proves of its definitions.
 use Rattle.std.specs.Prelude.{◌≡◌, ◌⊎◌, ◌<◌, ◌≤◌, ℕ, List, [], ◌∷◌, ◌++◌, length, map, true, false, Some, None, ⊤}
 use Rattle.batch_recipe.specs.Conditions.{Name, ValueList}
 use Rattle.batch_recipe.specs.Procedure.{procedure_tree}

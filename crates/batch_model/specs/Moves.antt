@@ -1,4 +1,4 @@
--- The moves that a plant makes by itself: which are possible, which is next, and what each changes.
+-- trusted: the moves that a plant makes by itself: which are possible, which is next, and what each changes.
 use Rattle.std.specs.Prelude.{ℕ, zero, suc, pred, List, [], ◌∷◌, ◌++◌, length, map, filter, flat_map, Bool, true, false, ◌&&◌, ◌||◌, not, Option, Some, None, nat_le, ◌+◌, slice_get}
 use Rattle.std.specs.List.{list_all, filter_map}
 use Rattle.batch_matrix.specs.declared.state.State.{State}

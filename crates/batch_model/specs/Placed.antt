@@ -1,4 +1,4 @@
--- An expanded tree in which each act carries the place at which it stands.
+-- trusted: an expanded tree in which each act carries the place at which it stands.
 use Rattle.std.specs.Prelude.{◌≡◌, ℕ, ◌+◌, List, [], ◌∷◌, true, ⊤}
 use Rattle.batch_model.specs.Lists.{Each}
 use Rattle.batch_recipe.specs.Tree.{Place, is_before, Task, runs, follows, Tree, act, skip, seq, par, sel, loop, Trees, no_trees, tree, Choices, otherwise, choice}

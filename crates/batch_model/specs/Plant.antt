@@ -1,4 +1,4 @@
--- The plant: the batches, what each holds and asks for, and the lines in which the asks stand.
+-- trusted: the plant: the batches, what each holds and asks for, and the lines in which the asks stand.
 use Rattle.std.specs.Prelude.{ℕ, List, [], ◌∷◌, take, map, filter, find, flat_map, sum_by, Bool, true, false, ◌&&◌, Option, None, nat_eq, slice_get}
 use Rattle.batch_matrix.specs.declared.state.State.{State}
 use Rattle.batch_recipe.specs.Conditions.{Name, ValueList}

@@ -1,4 +1,4 @@
--- The recipe of the machine that a recipe document stands for.
+-- trusted: the recipe of the machine that a recipe document stands for.
 use Rattle.std.specs.Prelude.{ℕ, true, false, not, Some, None, find}
 use Rattle.batch_recipe.specs.Formula.{is_size, is_in_range, quantities_of, batch_values}
 use Rattle.batch_recipe.specs.Procedure.{procedure_tree}

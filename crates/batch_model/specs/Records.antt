@@ -1,4 +1,4 @@
--- What a record alone tells, and when it is safe.
+-- trusted: what a record alone tells, and when it is safe.
 use Rattle.std.specs.Prelude.{◌≡◌, ◌⊎◌, ℕ, ◌≤◌, List, [], ◌∷◌, ◌++◌, filter, fold, Bool, true, false, not, IsTrue, ⊤, Option, Some, None, nat_eq}
 use Rattle.batch_matrix.specs.declared.state.State.{State}
 use Rattle.batch_matrix.specs.declared.state.State.TheVariants.{Idle, Stopped, Aborted, Complete}

@@ -1,4 +1,4 @@
--- What remains of a recipe while a batch runs, as a term.
+-- trusted: what remains of a recipe while a batch runs, as a term.
 use Rattle.std.specs.Prelude.{ℕ, zero, suc, pred, List, [], ◌∷◌, ◌++◌, Bool, true, false, ◌&&◌, nat_eq}
 use Rattle.std.specs.Cmp.Lexicographic.{pointwise}
 use Rattle.batch_matrix.specs.declared.state.State.{State}

@@ -1,4 +1,4 @@
--- The cells and the recipes of the worked rows.
+-- worked rows: the cells and the recipes of the worked rows.
 use Rattle.std.specs.Prelude.{ℕ, List, [], ◌∷◌, true, false, nat_le, codes}
 use Rattle.batch_recipe.specs.Conditions.{Name, ValueList, same_name}
 use Rattle.batch_recipe.specs.declared.condition.Cond.{Cond}

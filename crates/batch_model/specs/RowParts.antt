@@ -1,4 +1,4 @@
--- Parts that the worked rows share: places, events, and pieces of records.
+-- worked rows: parts that the worked rows share: places, events, and pieces of records.
 use Rattle.std.specs.Prelude.{ℕ, List, [], ◌∷◌}
 use Rattle.batch_matrix.specs.declared.state.State.TheVariants.{Running, Complete}
 use Rattle.batch_matrix.specs.declared.command.Command.TheVariants.{Start}

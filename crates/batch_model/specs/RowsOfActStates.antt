@@ -1,4 +1,4 @@
--- Worked rows: the state of an act, by the phases beneath it.
+-- worked rows: the state of an act, by the phases beneath it.
 use Rattle.std.specs.Prelude.{◌≡◌, List, [], ◌∷◌, Some, codes}
 use Rattle.batch_matrix.specs.declared.state.State.{State}
 use Rattle.batch_matrix.specs.declared.state.State.TheVariants.{Idle, Running, Pausing, Paused, Holding, Held, Restarting, Stopping, Aborting, Complete}

@@ -1,4 +1,4 @@
--- Worked rows: which recipes are cleared.
+-- worked rows: which recipes are cleared.
 use Rattle.std.specs.Prelude.{◌<◌, List, [], ◌∷◌, length, true, false, codes}
 use Rattle.batch_recipe.specs.Conditions.{Name, same_name}
 use Rattle.batch_recipe.specs.Diagram.{Diagram, label, skip, seq, par, sel, loop, otherwise, when, diagrams_of}

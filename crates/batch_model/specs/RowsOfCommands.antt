@@ -1,4 +1,4 @@
--- Worked rows: commands, and what they spread to.
+-- worked rows: commands, and what they spread to.
 use Rattle.std.specs.Prelude.{◌≡◌, ℕ, zero, suc, List, [], ◌∷◌, Option, Some, None, codes}
 use Rattle.batch_matrix.specs.declared.state.State.{State}
 use Rattle.batch_matrix.specs.declared.state.State.TheVariants.{Idle, Running, Pausing, Paused, Holding, Held, Restarting, Stopping, Stopped, Aborting, Aborted, Complete}

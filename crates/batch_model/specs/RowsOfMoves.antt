@@ -1,4 +1,4 @@
--- Worked rows: the moves with which batches run.
+-- worked rows: the moves with which batches run.
 use Rattle.std.specs.Prelude.{◌≡◌, ℕ, zero, suc, List, [], ◌∷◌, length, drop, replicate, codes}
 use Rattle.batch_matrix.specs.declared.state.State.TheVariants.{Running, Holding, Held, Restarting, Complete}
 use Rattle.batch_matrix.specs.declared.command.Command.TheVariants.{Start, Hold, Restart}

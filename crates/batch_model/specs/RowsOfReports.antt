@@ -1,4 +1,4 @@
--- Worked rows: reports, values, and refused events.
+-- worked rows: reports, values, and refused events.
 use Rattle.std.specs.Prelude.{◌≡◌, ℕ, List, [], ◌∷◌, Option, Some, None, codes}
 use Rattle.batch_matrix.specs.declared.state.State.TheVariants.{Idle, Running, Holding, Held, Stopping}
 use Rattle.batch_matrix.specs.declared.command.Command.TheVariants.{Start, Pause, Hold, Stop, Reset}

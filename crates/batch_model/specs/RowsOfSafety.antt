@@ -1,4 +1,4 @@
--- Worked rows of safety: what records tell, records that aren't safe, each for one reason, and what waiting steps wait for.
+-- worked rows: what records tell, records that aren't safe, each for one reason, and what waiting steps wait for.
 use Rattle.std.specs.Prelude.{◌≡◌, ℕ, List, [], ◌∷◌, codes}
 use Rattle.batch_matrix.specs.declared.state.State.{State}
 use Rattle.batch_matrix.specs.declared.state.State.TheVariants.{Running, Holding, Held, Stopping, Stopped, Aborting, Aborted}

@@ -1,4 +1,4 @@
--- Runs: the records that a plant's events lead to.
+-- trusted: runs: the records that a plant's events lead to.
 use Rattle.std.specs.Prelude.{◌≡◌, ◌⊎◌, ℕ, zero, suc, pred, ◌+◌, ◌*◌, ◌-◌, List, [], ◌∷◌, ◌++◌, length, map, sum_by, Bool, true, false, not, ◌||◌, Some, None, ⊤}
 use Rattle.batch_matrix.specs.declared.state.State.{State}
 use Rattle.batch_matrix.specs.declared.state.State.TheVariants.{Running, Pausing, Holding, Restarting, Stopping, Aborting}

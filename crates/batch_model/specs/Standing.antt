@@ -1,4 +1,4 @@
--- A plant in which each batch's rest is what can remain of its recipe: every act of it stands at its node of the expanded tree.
+-- surface: a plant in which each batch's rest is what can remain of its recipe: every act of it stands at its node of the expanded tree.
 use Rattle.std.specs.Prelude.{◌≡◌, ◌⊎◌, ℕ, ◌<◌, ◌≤◌, List, [], ◌∷◌, length, ⊤}
 use Rattle.batch_recipe.specs.Tree.{Task, runs, follows, Tree, act, seq, par, sel, loop, Trees, no_trees, tree, Choices, otherwise, choice}
 use Rattle.batch_model.specs.Lists.{Has, Each}

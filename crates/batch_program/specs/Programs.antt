@@ -1,4 +1,4 @@
--- What comes of the program's words, input and documents.
+-- trusted: what comes of the program's words, input and documents.
 use Rattle.std.specs.Prelude.{◌≤◌, ℕ, ⊤, List, Result, Ok, Err}
 use Rattle.std.specs.Io.KnownBytes.{Keeps}
 use Rattle.std.specs.Process.{exit_status}

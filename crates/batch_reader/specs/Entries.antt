@@ -1,4 +1,4 @@
--- What the entries of a table say.
+-- trusted: what the entries of a table say.
 use Rattle.std.specs.Prelude.{◌≡◌, ℕ, ◌≤◌, pos, Bool, true, false, ◌&&◌, ◌⊎◌, ⊤, List, [], ◌∷◌, length, Option, Some, None, option_and_then, nat_eq}
 use Rattle.std.specs.Cmp.Lexicographic.{pointwise}
 use Rattle.std.specs.List.{list_any}

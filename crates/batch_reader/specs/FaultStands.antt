@@ -1,4 +1,4 @@
--- What a document's refusal names is wrong there.
+-- trusted: what a document's refusal names is wrong there.
 use Rattle.std.specs.Prelude.{◌≡◌, ℕ, ◌<◌, ◌⊎◌, List, Some, length}
 use Rattle.toml.specs.Data.{Members}
 use Rattle.toml.specs.Parse.{parse_document}

@@ -1,6 +1,4 @@
--- For private contracts.
--- What the table of each act tells by itself, whatever the others declare.
--- For private contracts; no public clause cites this file.
+-- private: what the table of each act tells by itself, whatever the others declare.
 use Rattle.std.specs.Prelude.{◌≡◌, ◌≤◌, true, List, length, All}
 use Rattle.std.specs.List.{list_all}
 use Rattle.batch_grammar.specs.ChartForm.{IsFormed}

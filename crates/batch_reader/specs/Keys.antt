@@ -1,4 +1,4 @@
--- The keys of each kind of table, in the order of docs/FORMATS.md, and the form of each value.
+-- trusted: the keys of each kind of table, in the order of docs/FORMATS.md, and the form of each value.
 use Rattle.std.specs.Prelude.{ℕ, Bool, true, false, List, [], ◌∷◌, Option, Some, None, codes}
 use Rattle.toml.specs.Data.{Data, Members, get_member}
 use Rattle.batch_cell.specs.declared.module.TheConstants.{MAX_PHASES}

@@ -1,6 +1,4 @@
--- For private contracts.
--- What the acts of a recipe name, and what is declared.
--- For private contracts; no public clause cites this file.
+-- private: what the acts of a recipe name, and what is declared.
 use Rattle.std.specs.Prelude.{Bool, ◌&&◌, List, []}
 use Rattle.std.specs.List.{list_all}
 use Rattle.batch_grammar.specs.ChartForm.{labels_of, values_of}

@@ -1,4 +1,4 @@
--- The texts that are needs: the name of a resource, and after a star how many units of it.
+-- trusted: the texts that are needs: the name of a resource, and after a star how many units of it.
 use Rattle.std.specs.Prelude.{◌≡◌, ℕ, ◌+◌, ◌≤◌, Bool, nat_eq, Option, Some, None, List, take, drop, position}
 use Rattle.batch_text.specs.NameText.{IsName}
 use Rattle.batch_text.specs.NumberText.{IsNumber, number_of}

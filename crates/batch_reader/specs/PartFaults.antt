@@ -1,4 +1,4 @@
--- What is wrong among the tables of a document, each of which is right by itself: how many there are, their names, and what they name.
+-- trusted: what is wrong among the tables of a document, each of which is right by itself: how many there are, their names, and what they name.
 use Rattle.std.specs.Prelude.{◌≡◌, ◌≢◌, ℕ, ◌+◌, ◌<◌, ◌⊎◌, true, nat_eq, List, [], take, length, Some, codes}
 use Rattle.std.specs.Cmp.Lexicographic.{pointwise}
 use Rattle.std.specs.List.{IsDistinct, list_all, slice_get}

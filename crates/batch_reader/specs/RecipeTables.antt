@@ -1,4 +1,4 @@
--- What the tables of a recipe document stand for.
+-- trusted: what the tables of a recipe document stand for.
 use Rattle.std.specs.Prelude.{◌≡◌, ◌≤◌, true, [], ◌∷◌, Some, None, codes, option_map, string_bytes}
 use Rattle.std.specs.Global.{Vec}
 use Rattle.toml.specs.Data.{Members}

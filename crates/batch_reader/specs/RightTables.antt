@@ -1,4 +1,4 @@
--- What each table of an array stands for, where it is right by itself.
+-- trusted: what each table of an array stands for, where it is right by itself.
 use Rattle.toml.specs.Data.{Data}
 use Rattle.batch_cell.specs.declared.module.Module.{Module}
 use Rattle.batch_cell.specs.declared.shared.Shared.{Shared}

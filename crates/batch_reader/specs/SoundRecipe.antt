@@ -1,4 +1,4 @@
--- The counts and the names of a recipe's parts are as they must be.
+-- trusted: the counts and the names of a recipe's parts are as they must be.
 use Rattle.std.specs.Prelude.{◌≡◌, ◌<◌, ◌≤◌, true, List, length}
 use Rattle.batch_recipe.specs.Conditions.{Name}
 use Rattle.batch_recipe.specs.Procedure.{procedure_nodes}

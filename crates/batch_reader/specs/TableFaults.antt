@@ -1,4 +1,4 @@
--- What is wrong with a table by itself, where it is refused.
+-- trusted: what is wrong with a table by itself, where it is refused.
 use Rattle.std.specs.Prelude.{◌≡◌, ℕ, ◌+◌, ◌<◌, ◌≤◌, ℤ, pos, ◌⊎◌, ⊤, true, false, List, map, length, take, drop, position, Option, Some, None, option_and_then, codes}
 use Rattle.std.specs.List.{slice_get}
 use Rattle.toml.specs.Data.{Data, Items, no_items, item, get_item, Members, get_member, as_str, as_integer, as_bool, as_array, as_table}

@@ -1,4 +1,4 @@
--- The words for the tables of documents, as refusals print them.
+-- trusted: the words for the tables of documents, as refusals print them.
 use Rattle.std.specs.Prelude.{ℕ, List, ◌++◌, codes}
 use Rattle.std.specs.Fmt.{decimal}
 use Rattle.batch_reader.specs.declared.fault.Spot.{Spot}

@@ -1,4 +1,4 @@
--- The texts of lines and places.
+-- trusted: the texts of lines and places.
 use Rattle.std.specs.Prelude.{ℕ, zero, suc, List, [], ◌∷◌, ◌++◌, codes, decimal}
 use Rattle.batch_recipe.specs.Tree.{Place}
 

@@ -1,4 +1,4 @@
--- The values of a batch when outputs are set, and which outputs a report may set.
+-- trusted: the values of a batch when outputs are set, and which outputs a report may set.
 use Rattle.std.specs.Prelude.{ℕ, List, [], ◌∷◌, map, Bool, true, false, ◌&&◌, not, nat_le}
 use Rattle.std.specs.List.{list_any}
 use Rattle.batch_recipe.specs.Conditions.{Name, ValueList, same_name}

@@ -1,4 +1,4 @@
--- Worked rows: which holders are at work, and plants in which somebody waits for nothing, each by one clause alone.
+-- worked rows: which holders are at work, and plants in which somebody waits for nothing, each by one clause alone.
 use Rattle.std.specs.Prelude.{ℕ, List, [], ◌∷◌, true, false, codes}
 use Rattle.batch_matrix.specs.declared.state.State.{State}
 use Rattle.batch_matrix.specs.declared.state.State.TheVariants.{Running, Held}

@@ -1,4 +1,4 @@
--- What clearance promises of the recipes of a cell, as they are read from documents.
+-- trusted: what clearance promises of the recipes of a cell, as they are read from documents.
 use Rattle.std.specs.Prelude.{◌≡◌, List, None}
 use Rattle.batch_cell.specs.declared.cell.Cell as equipment
 use Rattle.batch_recipe.specs.declared.recipe.Recipe as document

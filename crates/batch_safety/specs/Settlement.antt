@@ -1,4 +1,4 @@
--- Where no move is possible, whoever waits waits for something.
+-- trusted: where no move is possible, whoever waits waits for something.
 use Rattle.std.specs.Prelude.{◌≡◌, ◌⊎◌, ◌≤◌, ◌<◌, ◌+◌, List, [], ◌∷◌, ◌++◌, length, None, ⊤}
 use Rattle.batch_matrix.specs.declared.state.State.{State}
 use Rattle.batch_matrix.specs.declared.state.State.TheVariants.{Pausing, Paused, Holding, Held, Restarting, Stopping, Aborting}

@@ -1,4 +1,4 @@
--- What a circle means, in words.
+-- surface: what a circle means, in words.
 use Rattle.std.specs.Prelude.{◌≡◌, ℕ, List, [], ◌++◌, codes, slice_get, unwrap_or, option_map, ⊤}
 use Rattle.std.specs.List.{flat_map}
 use Rattle.batch_cell.specs.LookUps.{resources_of}

@@ -1,4 +1,4 @@
--- Texts of a user, printed so that they make no line of their own.
+-- trusted: texts of a user, printed so that they make no line of their own.
 use Rattle.std.specs.Prelude.{◌≢◌, ◌+◌, ◌||◌, ◌==◌, ◌/◌, ◌%◌, ℕ, Bool, List, [], ◌∷◌, chars, encode_utf8_all, if◌then◌else◌, nat_lt}
 use Rattle.std.specs.List.{All, flat_map}
 

@@ -1,4 +1,4 @@
--- Transcripts from the opening of a cleared set: their outs are a safe record.
+-- trusted: transcripts from the opening of a cleared set: their outs are a safe record.
 use Rattle.std.specs.Prelude.{ℕ, List, Option}
 use Rattle.std.specs.Io.KnownBytes.{Appends, Consumes}
 use Rattle.batch_model.specs.Documents.{cell_of}

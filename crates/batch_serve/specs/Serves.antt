@@ -1,4 +1,4 @@
--- What serving a cleared set does to the bytes that a reader had unread, and to those that a writer held before.
+-- trusted: what serving a cleared set does to the bytes that a reader had unread, and to those that a writer held before.
 use Rattle.std.specs.Prelude.{ℕ, ◌≤◌, List, take, length, Option, IfSome, Result, Ok, Err}
 use Rattle.std.specs.Io.KnownBytes.{Keeps, IsAtEnd}
 use Rattle.batch_verify.specs.ClearedSet.{ClearedSet}

@@ -1,4 +1,4 @@
--- When the machine is settled, and that it is so between the lines of an input.
+-- trusted: when the machine is settled, and that it is so between the lines of an input.
 use Rattle.std.specs.Prelude.{◌≡◌, ℕ, List, ◌++◌, None}
 use Rattle.batch_model.specs.Moves.{next}
 use Rattle.batch_model.specs.Plant.{Documents, Plant}

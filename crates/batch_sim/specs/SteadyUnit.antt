@@ -1,4 +1,4 @@
--- A unit whose phases each run for the same number of ticks, and answer each command at a tick after it.
+-- surface: a unit whose phases each run for the same number of ticks, and answer each command at a tick after it.
 use Rattle.std.specs.Prelude.{◌≡◌, ℕ, ◌-◌, List, map, position, Bool, true, false, ◌&&◌, Option, Some, None, nat_lt, slice_get, slice_set}
 use Rattle.batch_matrix.specs.declared.state.State.{State}
 use Rattle.batch_matrix.specs.declared.state.State.TheVariants.{Idle, Running, Paused, Held, Stopped, Aborted, Complete}

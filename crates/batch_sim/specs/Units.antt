@@ -1,4 +1,4 @@
--- The units of a cell by their numbers, each with its driver.
+-- surface: the units of a cell by their numbers, each with its driver.
 use Rattle.std.specs.Prelude.{◌≡◌, ℕ, List, Bool, true, false, Option, Some, None, slice_get, slice_set}
 use Rattle.batch_matrix.specs.declared.report.Report.{Report}
 use Rattle.batch_sim.specs.declared.order.Order.{Order}

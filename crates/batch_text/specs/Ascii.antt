@@ -1,4 +1,4 @@
--- The bytes, beside letters and digits, that may stand in names and places.
+-- trusted: the bytes, beside letters and digits, that may stand in names and places.
 use Rattle.std.specs.Prelude.{ℕ}
 
 abbrev pub dash : ℕ

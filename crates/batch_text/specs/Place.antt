@@ -1,4 +1,4 @@
--- The numbers that are a place.
+-- surface: the numbers that are a place.
 use Rattle.std.specs.Prelude.{ℕ, ◌<◌, ◌≤◌, List, length, All}
 use Rattle.batch_text.specs.declared.place.TheConstants.{MAX_PLACE_LEN, MAX_CHILD_NUMBER}
 

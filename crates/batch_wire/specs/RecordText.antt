@@ -1,4 +1,4 @@
--- The text of the record: a line for each out of the machine.
+-- trusted: the text of the record: a line for each out of the machine.
 use Rattle.std.specs.Prelude.{ℕ, List, [], ◌∷◌, ◌++◌, map, codes, decimal, nat_lt, true, false}
 use Rattle.batch_matrix.specs.declared.state.State.{State}
 use Rattle.batch_matrix.specs.declared.command.Command.{Command}

@@ -1,4 +1,4 @@
--- Lines of the record, worked out.
+-- worked rows: lines of the record, worked out.
 use Rattle.std.specs.Prelude.{◌≡◌, [], ◌∷◌, codes}
 use Rattle.batch_matrix.specs.declared.state.State.TheVariants as State
 use Rattle.batch_matrix.specs.declared.command.Command.TheVariants as Command

@@ -1,4 +1,4 @@
--- Which acts hold a share of a resource, by a computation.
+-- private: which acts hold a share of a resource, by a computation.
 use Rattle.std.specs.Prelude.{ℕ, ◌≡◌, List, [], ◌∷◌, Bool, false, ◌||◌, length}
 use Rattle.batch_arbiter.specs.Allocation.{Allocation, Claim, is_claim, shares_of, resource_count}
 
