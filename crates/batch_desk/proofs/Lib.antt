@@ -8,3 +8,6 @@ pub mod Moves
 pub mod Closing
 pub mod Outlines
 pub mod Safe
+pub mod Consoles
+pub mod ConsoleTurns
+pub mod HubTurns

@@ -6,6 +6,9 @@ pub mod Plans
 pub mod HubState
 pub mod Turns
 pub mod Ends
+pub mod HubDone
+pub mod Consoles
+pub mod ConsoleSteps
 pub mod Laws
 pub mod PortSteps
 pub mod TurnSteps

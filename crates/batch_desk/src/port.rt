@@ -4,6 +4,7 @@ ghost use Rattle.rtrb.specs.Ring.{sent, received, known_free, all_sent, SameProd
 ghost use Rattle.batch_desk.specs.Rings.{IsOfRing, ring_of_consumer, ring_of_producer};
 ghost use Rattle.batch_desk.specs.PortState.{IsNewPort, IsSealable, close_at, cut_at, port_rings, sealed};
 ghost use Rattle.batch_desk.specs.Plans.{port_made};
+ghost use Rattle.batch_desk.specs.HubDone.{HasNoneWaiting};
 ghost use Rattle.batch_desk.specs.PortSteps.{Flushes, HandlesEvent, HasRoom, StaysOpen, TakesEvent, owe, owe_line, without_room};
 ghost use Rattle.batch_desk.specs.declared.fault.HubFault.TheVariants.{Memory};
 
@@ -67,6 +68,13 @@ impl Port {
         ensures { result ≡ length self.now.waiting }
     {
         self.waiting.len()
+    }
+
+    /// Whether no out waits, unless the port is closed.
+    pub(crate) fn has_none_waiting(&self) -> bool
+        ensures { IsTrue result ↔ HasNoneWaiting self.now }
+    {
+        !self.is_open() || self.waiting.is_empty()
     }
 
     /// Puts as many of the outs that wait into the ring as fit.

@@ -1,0 +1,112 @@
+-- What a console keeps in mind of the outs that it takes.
+use Rattle.std.proofs.Common.{◌≡◌, ℕ, ◌+◌, ◌-◌, ◌<◌, ◌≤◌, Bool, true, false, cond, eqb, nat_lt, List, [], ◌∷◌, ◌++◌, refl, sym, ◌∙◌, ap, arith}
+use Rattle.std.proofs.lemmas.Bool.Decides.{nat_tests}
+use Rattle.std.proofs.lemmas.List.Sums.{sum_by_push}
+use Rattle.batch_matrix.specs.declared.command.Command.TheVariants as command
+use Rattle.batch_matrix.specs.declared.state.State.{State as BatchState}
+use Rattle.batch_matrix.specs.declared.state.State.TheVariants as state
+use Rattle.batch_engine.specs.declared.event.Event.{Event}
+use Rattle.batch_engine.specs.declared.line.Line.TheVariants.{Send, State, Release, Begin, Start, End, Ask, Grant}
+use Rattle.batch_engine.specs.declared.out.Out.{Out}
+use Rattle.batch_engine.specs.declared.out.Out.TheVariants.{Reply, Move}
+use Rattle.batch_engine.specs.declared.reply.Reply.TheVariants.{Created, Ordered, Removed, Reported, Refused}
+use Rattle.batch_desk.specs.declared.step.Step.{Step}
+use Rattle.batch_desk.specs.declared.step.Step.TheVariants as step
+use Rattle.batch_desk.specs.declared.console.Console.{Console}
+use Rattle.batch_desk.specs.Consoles.{completes, creations, telling_complete, telling_created}
+use Rattle.batch_desk.specs.ConsoleSteps.{Minds, learned, step_after_start}
+
+others : (batches : ℕ) (c : Console) (sent : List Event) (taken : List Out) (out : Out) → ((n : ℕ) → telling_created n out ≡ 0) → telling_complete out ≡ 0
+    → Minds batches c sent taken → Minds batches c sent (taken ++ out ∷ [])
+others batches c sent taken out uncreated incomplete was = record {
+  to_create = was.to_create;
+  to_complete = omega (arith, was.to_complete, sum_by_push telling_complete taken out, incomplete);
+  above = was.above;
+  next = λ n e. let w = was.next n e in (w.0, w.1, omega (arith, sum_by_push (telling_created n) taken out, uncreated n, w.2));
+}
+
+same_start : (m n : ℕ) → step.Start m ≡ step.Start n → m ≡ n
+same_start m n e = cc
+
+told_created : (n batch recipe size : ℕ) (taken : List Out) → creations n (taken ++ Reply (Created batch recipe size) ∷ []) ≡ creations n taken + cond (eqb batch n) 1 0
+told_created n batch recipe size taken = sum_by_push (telling_created n) taken (Reply (Created batch recipe size))
+
+created : (batches : ℕ) (c : Console) (sent : List Event) (taken : List Out) (batch recipe size : ℕ) (later : Bool) → nat_lt c.last batch ≡ later → Minds batches c sent taken
+    → Minds batches (elim later [ true ↦ record c { step = step.Start batch; last = batch } | false ↦ c ]) sent (taken ++ Reply (Created batch recipe size) ∷ [])
+created batches c sent taken batch recipe size true is was =
+    let above : c.last < batch = grind (arith, nat_tests) in
+    record {
+      to_create = was.to_create;
+      to_complete = omega (arith, was.to_complete, sum_by_push telling_complete taken (Reply (Created batch recipe size)));
+      above = λ n up. was.above n (omega (arith, above, up));
+      next = λ n e.
+          let same = same_start batch n e in
+          let told = told_created n batch recipe size taken in
+          (omega (arith, same), was.above n (omega (arith, same, above)), grind (arith, nat_tests));
+    }
+created batches c sent taken batch recipe size false is was = record {
+  to_create = was.to_create;
+  to_complete = omega (arith, was.to_complete, sum_by_push telling_complete taken (Reply (Created batch recipe size)));
+  above = was.above;
+  next = λ n e. let w = was.next n e in (w.0, w.1, omega (arith, told_created n batch recipe size taken, w.2));
+}
+
+same_step : (s : Step) (n : ℕ) → step_after_start s ≡ step.Start n → s ≡ step.Start n
+same_step step.Create n e = e
+same_step (step.Start m) n e = e
+same_step step.Wait n e = cc
+
+started : (batches : ℕ) (c : Console) (sent : List Event) (taken : List Out) (batch : ℕ) (now : BatchState) → Minds batches c sent taken
+    → Minds batches (record c { step = step_after_start c.step }) sent (taken ++ Reply (Ordered command.Start batch now) ∷ [])
+started batches c sent taken batch now was =
+    let out : Out = Reply (Ordered command.Start batch now) in
+    record {
+      to_create = was.to_create;
+      to_complete = omega (arith, was.to_complete, sum_by_push telling_complete taken out);
+      above = was.above;
+      next = λ n e. let w = was.next n (same_step c.step n e) in (w.0, w.1, omega (arith, sum_by_push (telling_created n) taken out, w.2));
+    }
+
+completed : (batches : ℕ) (c : Console) (sent : List Event) (taken : List Out) (batch : ℕ) → Minds batches c sent taken
+    → Minds batches (record c { to_complete = c.to_complete - 1 }) sent (taken ++ Move (State batch state.Complete) ∷ [])
+completed batches c sent taken batch was =
+    let out : Out = Move (State batch state.Complete) in
+    record {
+      to_create = was.to_create;
+      to_complete = omega (arith, was.to_complete, sum_by_push telling_complete taken out);
+      above = was.above;
+      next = λ n e. let w = was.next n e in (w.0, w.1, omega (arith, sum_by_push (telling_created n) taken out, w.2));
+    }
+
+pub learns : (batches : ℕ) (c : Console) (sent : List Event) (taken : List Out) (out : Out) → Minds batches c sent taken → Minds batches (learned out c) sent (taken ++ out ∷ [])
+learns batches c sent taken (Reply (Created batch recipe size)) was = created batches c sent taken batch recipe size (nat_lt c.last batch) refl was
+learns batches c sent taken (Reply (Ordered command.Start batch now)) was = started batches c sent taken batch now was
+learns batches c sent taken (Reply (Ordered command.Pause batch now)) was = others batches c sent taken (Reply (Ordered command.Pause batch now)) (λ n. refl) refl was
+learns batches c sent taken (Reply (Ordered command.Resume batch now)) was = others batches c sent taken (Reply (Ordered command.Resume batch now)) (λ n. refl) refl was
+learns batches c sent taken (Reply (Ordered command.Hold batch now)) was = others batches c sent taken (Reply (Ordered command.Hold batch now)) (λ n. refl) refl was
+learns batches c sent taken (Reply (Ordered command.Restart batch now)) was = others batches c sent taken (Reply (Ordered command.Restart batch now)) (λ n. refl) refl was
+learns batches c sent taken (Reply (Ordered command.Stop batch now)) was = others batches c sent taken (Reply (Ordered command.Stop batch now)) (λ n. refl) refl was
+learns batches c sent taken (Reply (Ordered command.Abort batch now)) was = others batches c sent taken (Reply (Ordered command.Abort batch now)) (λ n. refl) refl was
+learns batches c sent taken (Reply (Ordered command.Reset batch now)) was = others batches c sent taken (Reply (Ordered command.Reset batch now)) (λ n. refl) refl was
+learns batches c sent taken (Reply (Removed batch)) was = others batches c sent taken (Reply (Removed batch)) (λ n. refl) refl was
+learns batches c sent taken (Reply (Reported unit phase word batch recipe node now)) was = others batches c sent taken (Reply (Reported unit phase word batch recipe node now)) (λ n. refl) refl was
+learns batches c sent taken (Reply (Refused refusal)) was = others batches c sent taken (Reply (Refused refusal)) (λ n. refl) refl was
+learns batches c sent taken (Move (Send batch recipe node unit phase word)) was = others batches c sent taken (Move (Send batch recipe node unit phase word)) (λ n. refl) refl was
+learns batches c sent taken (Move (State batch state.Idle)) was = others batches c sent taken (Move (State batch state.Idle)) (λ n. refl) refl was
+learns batches c sent taken (Move (State batch state.Running)) was = others batches c sent taken (Move (State batch state.Running)) (λ n. refl) refl was
+learns batches c sent taken (Move (State batch state.Pausing)) was = others batches c sent taken (Move (State batch state.Pausing)) (λ n. refl) refl was
+learns batches c sent taken (Move (State batch state.Paused)) was = others batches c sent taken (Move (State batch state.Paused)) (λ n. refl) refl was
+learns batches c sent taken (Move (State batch state.Holding)) was = others batches c sent taken (Move (State batch state.Holding)) (λ n. refl) refl was
+learns batches c sent taken (Move (State batch state.Held)) was = others batches c sent taken (Move (State batch state.Held)) (λ n. refl) refl was
+learns batches c sent taken (Move (State batch state.Restarting)) was = others batches c sent taken (Move (State batch state.Restarting)) (λ n. refl) refl was
+learns batches c sent taken (Move (State batch state.Stopping)) was = others batches c sent taken (Move (State batch state.Stopping)) (λ n. refl) refl was
+learns batches c sent taken (Move (State batch state.Stopped)) was = others batches c sent taken (Move (State batch state.Stopped)) (λ n. refl) refl was
+learns batches c sent taken (Move (State batch state.Aborting)) was = others batches c sent taken (Move (State batch state.Aborting)) (λ n. refl) refl was
+learns batches c sent taken (Move (State batch state.Aborted)) was = others batches c sent taken (Move (State batch state.Aborted)) (λ n. refl) refl was
+learns batches c sent taken (Move (State batch state.Complete)) was = completed batches c sent taken batch was
+learns batches c sent taken (Move (Release batch recipe node resource units)) was = others batches c sent taken (Move (Release batch recipe node resource units)) (λ n. refl) refl was
+learns batches c sent taken (Move (Begin batch recipe node)) was = others batches c sent taken (Move (Begin batch recipe node)) (λ n. refl) refl was
+learns batches c sent taken (Move (Start batch recipe node unit phase values)) was = others batches c sent taken (Move (Start batch recipe node unit phase values)) (λ n. refl) refl was
+learns batches c sent taken (Move (End batch recipe node)) was = others batches c sent taken (Move (End batch recipe node)) (λ n. refl) refl was
+learns batches c sent taken (Move (Ask batch recipe node resource units)) was = others batches c sent taken (Move (Ask batch recipe node resource units)) (λ n. refl) refl was
+learns batches c sent taken (Move (Grant batch recipe node resource units)) was = others batches c sent taken (Move (Grant batch recipe node resource units)) (λ n. refl) refl was

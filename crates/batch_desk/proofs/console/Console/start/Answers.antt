@@ -1,0 +1,10 @@
+use Rattle.std.proofs.Common.{refl}
+use Rattle.batch_desk.proofs.ConsoleTurns.{full_goes, start_goes}
+use Rattle.batch_desk.proofs.console.Console.start.Goals as goal
+use Rattle.batch_desk.proofs.console.Console.start.Goals.{in-Ok, in-Err}
+
+pub returns : goal.returns
+returns c recipe size = elim c.match-send.branch [
+  | in-Ok w ↦ rw w.self-is (start_goes recipe size c.args.batch c.args.self.now _ c.args.desk.now c.send.new.self c.requires refl refl refl refl w.in-Ok.ensures.sent)
+  | in-Err w ↦ rw w.self-is (full_goes recipe size c.args.self.now c.args.desk.now c.send.new.self w.in-Err.ensures.full.1)
+]

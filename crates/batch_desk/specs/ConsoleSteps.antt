@@ -1,0 +1,45 @@
+-- For private contracts.
+-- What a console keeps in mind, and the steps of its turns.
+use Rattle.std.specs.Prelude.{◌≡◌, ℕ, ◌+◌, ◌-◌, ◌<◌, ◌≤◌, List, cond, nat_lt, true, false}
+use Rattle.batch_recipe.specs.Conditions.{Name}
+use Rattle.batch_matrix.specs.declared.command.Command.TheVariants as command
+use Rattle.batch_matrix.specs.declared.state.State.TheVariants.{Complete}
+use Rattle.batch_engine.specs.declared.event.Event.{Event}
+use Rattle.batch_engine.specs.declared.line.Line.TheVariants.{State}
+use Rattle.batch_engine.specs.declared.out.Out.{Out}
+use Rattle.batch_engine.specs.declared.out.Out.TheVariants.{Reply, Move}
+use Rattle.batch_engine.specs.declared.reply.Reply.TheVariants.{Created, Ordered}
+use Rattle.batch_desk.specs.declared.step.Step.{Step}
+use Rattle.batch_desk.specs.declared.step.Step.TheVariants.{Create, Start, Wait}
+use Rattle.batch_desk.specs.declared.console.Console.{Console}
+use Rattle.batch_desk.specs.DeskState.{DeskState}
+use Rattle.batch_desk.specs.Consoles.{IsConsole, completes, creates, creations, starts}
+
+-- what a console of so many batches keeps in mind agrees with what it sent and took: no batch above the last was started, and
+-- that which is to be started was created, and not started yet
+pub record Minds (batches : ℕ) (c : Console) (sent : List Event) (taken : List Out) : Type 0 where
+  pub to_create : creates sent + c.to_create ≡ batches
+  pub to_complete : c.to_complete ≡ batches - completes taken
+  pub above : (n : ℕ) → c.last < n → starts n sent ≡ 0
+  pub next : (n : ℕ) → c.step ≡ Start n → (n ≤ c.last) × (starts n sent ≡ 0) × (1 ≤ creations n taken)
+
+-- what has been sent and taken since `before` is a console's, and it keeps that in mind
+pub record Follows (recipe : Name) (size batches : ℕ) (before : DeskState) (c : Console) (d : DeskState) : Type 0 where
+  pub is : IsConsole recipe size batches before d
+  pub minds : Minds batches c is.more is.seen
+
+-- it goes on so
+abbrev pub GoesOn : Name → ℕ → Console → DeskState → Console → DeskState → Type 0
+GoesOn recipe size c d f e = (batches : ℕ) (before : DeskState) → Follows recipe size batches before c d → Follows recipe size batches before f e
+
+-- after a start is answered the next create follows
+abbrev pub step_after_start : Step → Step
+step_after_start Wait = Create
+step_after_start step = step
+
+-- what a console keeps in mind of an out
+abbrev pub learned : Out → Console → Console
+learned (Reply (Created batch recipe size)) c = elim (nat_lt c.last batch) [ true ↦ record c { step = Start batch; last = batch } | false ↦ c ]
+learned (Reply (Ordered command.Start batch state)) c = record c { step = step_after_start c.step }
+learned (Move (State batch Complete)) c = record c { to_complete = c.to_complete - 1 }
+learned _ c = c

@@ -1,0 +1,120 @@
+//! What a console keeps in mind between its turns.
+ghost use Rattle.std.specs.Prelude.{◌≡◌, ◌<◌, ℕ, List, []};
+ghost use Rattle.batch_desk.specs.ConsoleSteps.{GoesOn, Minds, learned};
+ghost use Rattle.batch_desk.specs.declared.step.Step.TheVariants.{Start as ToStart};
+
+use crate::desk::Desk;
+use crate::step::Step;
+use batch_engine::{Event, Line, Out, Reply};
+use batch_matrix::{Command, State};
+use batch_text::Name;
+use std::alloc::Global;
+
+/// What a console keeps in mind between its turns.
+#[derive(Drop)]
+pub(crate) struct Console {
+    pub(crate) step: Step,
+    /// The last batch that it was told of as created; 0 before the first.
+    pub(crate) last: u64,
+    /// How many creates are still to be sent.
+    pub(crate) to_create: u64,
+    /// How many batches are still to become complete.
+    pub(crate) to_complete: u64,
+}
+
+impl Console {
+    pub(crate) fn new(batches: u64) -> Console
+        ensures { Minds batches result [] [] }
+    {
+        Console {
+            step: Step::Create,
+            last: 0,
+            to_create: batches,
+            to_complete: batches,
+        }
+    }
+
+    /// Keeps an out in mind.
+    fn learn(&mut self, out: Out)
+        ensures { self.new ≡ learned out self.old }
+    {
+        match out {
+            Out::Reply(Reply::Created { batch, .. }) => {
+                if self.last < batch {
+                    self.step = Step::Start(batch);
+                    self.last = batch;
+                }
+            }
+            Out::Reply(
+                Reply::Ordered {
+                    command: Command::Start,
+                    ..
+                },
+            ) => {
+                if self.step == Step::Wait {
+                    self.step = Step::Create;
+                }
+            }
+            Out::Move(
+                Line::State {
+                    state: State::Complete,
+                    ..
+                },
+            ) => self.to_complete = self.to_complete.saturating_sub(1),
+            _ => {}
+        }
+    }
+
+    /// Tells a batch to start, where there is a place for it.
+    fn start(&mut self, desk: &mut Desk, batch: u64)
+        requires { self.old.step ≡ ToStart batch }
+        ensures { (recipe : List ℕ) (size : ℕ) → GoesOn recipe size self.old desk.old self.new desk.new }
+    {
+        let command = Command::Start;
+        match desk.send(Event::Order { command, batch }) {
+            Ok(()) => self.step = Step::Wait,
+            Err(_) => {}
+        }
+    }
+
+    /// Sends a create, where there is a place for it.
+    fn create(&mut self, desk: &mut Desk, recipe: Name, size: u64)
+        requires { 0 < self.old.to_create }
+        ensures { GoesOn recipe size self.old desk.old self.new desk.new }
+    {
+        match desk.send(Event::Create { recipe, size }) {
+            Ok(()) => {
+                self.step = Step::Wait;
+                self.to_create -= 1;
+            }
+            Err(_) => {}
+        }
+    }
+
+    /// Sends what is next, where there are memory and a place for it.
+    fn act(&mut self, alloc: Global, desk: &mut Desk, recipe: &Name, size: u64)
+        ensures { GoesOn recipe.now size self.old desk.old self.new desk.new }
+    {
+        match self.step {
+            Step::Wait => {}
+            Step::Start(batch) => self.start(desk, batch),
+            Step::Create => {
+                if self.to_create > 0 {
+                    if let Ok(recipe) = recipe.copy(alloc) {
+                        self.create(desk, recipe, size);
+                    }
+                }
+            }
+        }
+    }
+
+    /// One turn: takes an out, if one is there, and sends what is next.
+    pub(crate) fn take_turn(&mut self, alloc: Global, desk: &mut Desk, recipe: &Name, size: u64)
+        ensures { GoesOn recipe.now size self.old desk.old self.new desk.new }
+    {
+        if let Some(out) = desk.take() {
+            self.learn(out);
+        }
+        self.act(alloc, desk, recipe, size);
+    }
+}

@@ -1,0 +1,43 @@
+//! The loop of a console.
+ghost use Rattle.std.specs.Prelude.{◌≡◌, ◌↔◌, ◌+◌, ◌≤◌};
+ghost use Rattle.batch_desk.specs.Consoles.{IsConsole, completes};
+ghost use Rattle.batch_desk.specs.declared.loop_end.LoopEnd.TheVariants.{Done};
+
+use crate::console::Console;
+use crate::desk::Desk;
+use crate::gate::Gate;
+use crate::loop_end::LoopEnd;
+use batch_text::Name;
+use std::alloc::Global;
+
+/// Makes batches of a recipe in a size, one after the other: sends a create, starts the batch once it is told that it was created,
+/// and sends the next create once the start is answered, until `batches` moves were taken by which a batch became complete. One
+/// turn takes at most one out and sends at most one event; an event for which there is no memory or no place is tried again at
+/// the next. At most `limit` turns are counted, among them those that the gate doesn't let pass.
+pub fn console_loop<G: Gate>(
+    alloc: Global,
+    desk: &mut Desk,
+    recipe: &Name,
+    size: u64,
+    batches: u64,
+    gate: &mut G,
+    limit: u64,
+) -> LoopEnd
+    ensures console { IsConsole recipe.now size batches desk.old desk.new }
+    ensures end { (result ≡ Done) ↔ (completes desk.old.taken + batches ≤ completes desk.new.taken) }
+{
+    let mut console = Console::new(batches);
+    for turn in 0..limit {
+        if console.to_complete == 0 {
+            return LoopEnd::Done;
+        }
+        if gate.pass(turn) {
+            console.take_turn(alloc, desk, recipe, size);
+        }
+    }
+    if console.to_complete == 0 {
+        LoopEnd::Done
+    } else {
+        LoopEnd::TurnsOut
+    }
+}
