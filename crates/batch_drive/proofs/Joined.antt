@@ -1,17 +1,19 @@
 -- Ticks after ticks, and what becomes of all of them.
-use Rattle.std.proofs.Common.{◌≡◌, ℕ, suc, ◌+◌, ◌-◌, ◌<◌, ◌≤◌, arith, IsErrOf, List, [], ◌∷◌, ◌++◌, Option, Some, None, Result, Ok, Err, IsSome, refl, sym, ap, ◌∙◌, subst, inl, inr, append_assoc, append-nil}
+use Rattle.std.proofs.Common.{◌≡◌, ℕ, suc, ◌+◌, ◌-◌, ◌<◌, ◌≤◌, arith, IsErrOf, List, [], ◌∷◌, ◌++◌, flat_map, Option, Some, None, Result, Ok, Err, IsSome, refl, sym, ap, ◌∙◌, subst, inl, inr, append_assoc, append-nil}
 use Rattle.std.specs.Io.KnownBytes.{Appends, Keeps}
 use Rattle.std.proofs.KnownBytes.{Appends-trans, Appends-nil}
 use Rattle.batch_matrix.specs.declared.report.Report.{Report}
 use Rattle.batch_model.specs.Events.{Event}
 use Rattle.batch_model.specs.Plant.{Plant}
+use Rattle.batch_model.specs.Runs.{Out}
 use Rattle.batch_safety.specs.Sets.{RunsSafely}
 use Rattle.batch_verify.specs.ClearedSet.{ClearedSet}
 use Rattle.batch_engine.specs.View.{documents}
-use Rattle.batch_wire.specs.Transcript.{Exchange, silence, followed_by, handled, Handles}
+use Rattle.batch_wire.specs.RecordText.{out_text}
+use Rattle.batch_wire.specs.Transcript.{Exchange, silence, followed_by, handled}
 use Rattle.batch_wire.specs.Written.{AppendsBeginning}
 use Rattle.batch_wire.specs.declared.fault.WriteFault.{WriteFault}
-use Rattle.batch_wire.proofs.WrittenLemmas.{then_beginning}
+use Rattle.batch_wire.proofs.WrittenLemmas.{beginning, then_beginning}
 use Rattle.batch_serve.specs.Settled.{IsSettled}
 use Rattle.std.specs.List.{range_with_len}
 use Rattle.batch_serve.proofs.Exchanges.{followed-assoc, followed-silence}
@@ -19,7 +21,7 @@ use Rattle.batch_sim.specs.Units.{Ticks}
 use Rattle.batch_sim.specs.declared.order.Order.{Order}
 use Rattle.batch_drive.specs.Drive.{Standing, report_of, IsReported, IsTick, Comes, Drives, in_rounds}
 use Rattle.batch_drive.specs.Handling.{WritesReported, DrivesSome}
-use Rattle.batch_drive.specs.Written.{MayHandle, IsDriven}
+use Rattle.batch_drive.specs.Written.{StopsHandling, Stops, IsDriven}
 use Rattle.batch_drive.specs.declared.fault.DriveFault.{DriveFault}
 use Rattle.batch_drive.specs.declared.fault.DriveFault.TheVariants.{Write, Memory}
 use Rattle.batch_drive.proofs.Records.{keeps, drives_lead, drives_settle, cut_leads}
@@ -33,6 +35,11 @@ kept_after None b d text p k = tt
 kept_after (Some x) None d text p k = absurd p
 kept_after (Some x) (Some y) None text p k = absurd k
 kept_after (Some x) (Some y) (Some z) text p k = k ∙ p
+
+text_further : (told : List Out) (last : Out) → flat_map out_text (told ++ last ∷ []) ≡ flat_map out_text told ++ (out_text last ++ [])
+text_further [] last = refl
+text_further (x ∷ told) last =
+    ap (λ l. out_text x ++ l) (text_further told last) ∙ sym (append_assoc (out_text x) (flat_map out_text told) (out_text last ++ []))
 
 module _ {D : Type 0} (command_gives : D → ℕ → Order → D → Type 0) (tick_gives : D → Option (ℕ × Report) → D → Type 0) (set : ClearedSet) where
   drives_join : (xs ys : List ℕ) (a b d : Standing D) (s t : Exchange) → Drives command_gives tick_gives set xs a s b
@@ -87,17 +94,31 @@ module _ {D : Type 0} (command_gives : D → ℕ → Order → D → Type 0) (ti
       → Ticks tick_gives unit old.units answer mid.units → mid.plant ≡ old.plant → report_of set unit answer ≡ Some event
       → WritesReported command_gives tick_gives set event mid (Err f) new x y
       → DrivesSome command_gives tick_gives set (unit ∷ []) old (Err Write) new x y
-  cut_tick unit old mid new answer event f x y t same some (outs, last, h, p) = record {
+  cut_tick unit old mid new answer event f x y t same some (outs, h) = record {
     earlier = [];
     others = unit ∷ [];
     splits = refl;
     mid = old;
     said = silence;
     drives = (refl, refl);
+    between = x;
+    appends = Appends-nil x;
     last_said = handled event outs;
-    last = last;
-    handles = inr (unit, [], refl, answer, mid.units, t, event, some, outs, subst (λ (q : Plant). Handles (documents set) q event outs last) same h, refl);
-    begins = p;
+    stops = inr (
+      unit,
+      [],
+      refl,
+      record {
+        answer = answer;
+        after = mid.units;
+        ticks = t;
+        event = event;
+        reports = some;
+        outs = outs;
+        stops = subst (λ (q : Plant). StopsHandling command_gives tick_gives set event (record { plant = q; units = mid.units }) outs new x y) same h;
+        tells = refl;
+      },
+    );
   }
 
   -- there is no memory for the report
@@ -142,17 +163,16 @@ module _ {D : Type 0} (command_gives : D → ℕ → Order → D → Type 0) (ti
     mid = h.mid;
     said = followed_by s h.said;
     drives = drives_join xs h.earlier a b h.mid s h.said d h.drives;
+    between = h.between;
+    appends = Appends-trans x y h.between s.text h.said.text p h.appends;
     last_said = h.last_said;
-    last = h.last;
-    handles = h.handles;
-    begins = subst (λ (l : List ℕ). AppendsBeginning x z l) (sym (append_assoc s.text h.said.text h.last_said.text))
-        (then_begun x y z s.text (h.said.text ++ h.last_said.text) p h.begins);
+    stops = h.stops;
   }
 
-  may_more : (others ys : List ℕ) (old : Standing D) (said : Exchange) (new : Plant) → MayHandle command_gives tick_gives set others old said new
-      → MayHandle command_gives tick_gives set (others ++ ys) old said new
-  may_more others ys old said new (inl h) = inl h
-  may_more others ys old said new (inr h) = inr (h.0, h.1 ++ ys, ap (λ (l : List ℕ). l ++ ys) h.2, h.3, h.4, h.5, h.6, h.7, h.8, h.9, h.10)
+  stops_more : (others ys : List ℕ) (old : Standing D) (said : Exchange) (new : Standing D) (x y : Option (List ℕ))
+      → Stops command_gives tick_gives set others old said new x y → Stops command_gives tick_gives set (others ++ ys) old said new x y
+  stops_more others ys old said new x y (inl h) = inl h
+  stops_more others ys old said new x y (inr (unit, later, e, t)) = inr (unit, later ++ ys, ap (λ (l : List ℕ). l ++ ys) e, t)
 
   -- what stopped the ticks stopped those after them too
   pub stopped : (xs ys : List ℕ) (a : Standing D) (f : DriveFault) (new : Standing D) (x y : Option (List ℕ))
@@ -175,29 +195,39 @@ module _ {D : Type 0} (command_gives : D → ℕ → Order → D → Type 0) (ti
     mid = h.mid;
     said = h.said;
     drives = h.drives;
+    between = h.between;
+    appends = h.appends;
     last_said = h.last_said;
-    last = h.last;
-    handles = may_more h.others ys h.mid h.last_said h.last h.handles;
-    begins = h.begins;
+    stops = stops_more h.others ys h.mid h.last_said new h.between y h.stops;
   }
 
   pub none_driven : (old new : Standing D) (x y : Option (List ℕ)) → new ≡ old → Keeps x y → DrivesSome command_gives tick_gives set [] old (Ok tt) new x y
   none_driven old new x y same k = (silence, (refl, same), kept_after x x y [] (Appends-nil x) k)
 
   -- what was written wasn't handed on
-  pub not_handed_on : (old new : Standing D) (x y : Option (List ℕ)) → Keeps x y → DrivesSome command_gives tick_gives set [] old (Err Write) new x y
-  not_handed_on old new x y k = record {
+  pub not_handed_on : (old : Standing D) (x y : Option (List ℕ)) → Keeps x y → DrivesSome command_gives tick_gives set [] old (Err Write) old x y
+  not_handed_on old x y k = record {
     earlier = [];
     others = [];
     splits = refl;
     mid = old;
     said = silence;
     drives = (refl, refl);
+    between = x;
+    appends = Appends-nil x;
     last_said = silence;
-    last = old.plant;
-    handles = inl (refl, refl);
-    begins = record { written = []; rest = []; splits = refl; appends = kept_after x x y [] (Appends-nil x) k };
+    stops = inl (refl, refl, kept_after x x y [] (Appends-nil x) k);
   }
+
+  -- of the text of what was said, and then of what the last report brought, a beginning was written
+  text_begun : (others : List ℕ) (old : Standing D) (said : Exchange) (new : Standing D) (x y z : Option (List ℕ)) (s : List ℕ) → Appends x y s
+      → Stops command_gives tick_gives set others old said new y z → AppendsBeginning x z (s ++ said.text)
+  text_begun others old said new x y z s p (inl (e, same, k)) =
+      subst (λ (t : Exchange). AppendsBeginning x z (s ++ t.text)) (sym e) (then_begun x y z s [] p (beginning y z [] [] k))
+  text_begun others old said new x y z s p (inr (unit, later, e, t)) =
+      subst (λ (t : Exchange). AppendsBeginning x z (s ++ t.text)) (sym t.tells)
+      (subst (λ (l : List ℕ). AppendsBeginning x z (s ++ l)) (sym (ap (flat_map out_text) t.stops.tells ∙ text_further t.stops.told t.stops.last))
+      (then_begun x y z s _ p (then_beginning y t.stops.mid z (flat_map out_text t.stops.told) (out_text t.stops.last) [] t.stops.whole t.stops.begins)))
 
   -- The record of all
 
@@ -230,12 +260,13 @@ module _ {D : Type 0} (command_gives : D → ℕ → Order → D → Type 0) (ti
     mid = h.mid;
     said = h.said;
     drives = h.drives;
+    between = h.between;
+    appends = h.appends;
     last_said = h.last_said;
-    last = h.last;
-    handles = h.handles;
-    record_kept = keeps set old.plant h.last (followed_by h.said h.last_said) runs
-        (cut_leads command_gives tick_gives set h.earlier h.others old h.mid h.said h.last_said h.last h.drives h.handles);
-    begins = h.begins;
+    stops = h.stops;
+    record_kept = keeps set old.plant new.plant (followed_by h.said h.last_said) runs
+        (cut_leads command_gives tick_gives set h.earlier h.others old h.mid h.said h.last_said new h.between y h.drives h.stops);
+    begins = text_begun h.others h.mid h.last_said new x h.between y h.said.text h.appends h.stops;
   }
 
   -- Ticks that are left

@@ -1,35 +1,42 @@
 -- Moves made and written one after another, whose orders the units take.
 use Rattle.std.proofs.Common.{◌≡◌, List, [], ◌∷◌, ◌++◌, ℕ, Option, Some, None, Result, Ok, Err, map, refl, sym, ap, ◌∙◌, subst, append_assoc, append-nil}
 use Rattle.std.specs.Io.KnownBytes.{Appends}
-use Rattle.std.proofs.KnownBytes.{Appends-trans}
+use Rattle.std.proofs.KnownBytes.{Appends-trans, Appends-nil}
 use Rattle.batch_matrix.specs.declared.report.Report.{Report}
 use Rattle.batch_model.specs.Events.{Event, Reply}
 use Rattle.batch_model.specs.Moves.{Move, next, after}
 use Rattle.batch_model.specs.Plant.{Plant}
-use Rattle.batch_model.specs.Runs.{reply, move, Reacts}
+use Rattle.batch_model.specs.Runs.{Out, reply, move, Reacts, Leads}
 use Rattle.batch_verify.specs.ClearedSet.{ClearedSet}
 use Rattle.batch_engine.specs.View.{documents}
 use Rattle.batch_wire.specs.RecordText.{out_text}
 use Rattle.batch_wire.specs.Transcript.{Settles}
 use Rattle.batch_wire.specs.Written.{AppendsBeginning}
 use Rattle.batch_wire.specs.declared.fault.WriteFault.{WriteFault}
-use Rattle.batch_wire.proofs.WrittenLemmas.{then_beginning}
 use Rattle.batch_serve.specs.Answering.{moves_text}
-use Rattle.batch_serve.proofs.AnswersWritten.{moves_written}
-use Rattle.batch_serve.proofs.Settling.{CanSettle}
 use Rattle.batch_sim.specs.declared.order.Order.{Order}
 use Rattle.batch_drive.specs.Drive.{Standing, TakeOrder, TakeOrders}
-use Rattle.batch_drive.specs.Handling.{WritesOrders, WritesReported}
+use Rattle.batch_drive.specs.Handling.{StopsMoves, WritesOrders, WritesReported}
+use Rattle.batch_drive.specs.Written.{moves_in}
 
 text-append : (made more : List Move) → moves_text (made ++ more) ≡ moves_text made ++ moves_text more
 text-append [] more = refl
 text-append (m ∷ made) more = ap (λ l. out_text (move m) ++ l) (text-append made more) ∙ sym (append_assoc (out_text (move m)) (moves_text made) (moves_text more))
+
+are_moves : (made : List Move) → moves_in (map move made) ≡ made
+are_moves [] = refl
+are_moves (m ∷ made) = ap (λ l. m ∷ l) (are_moves made)
+
+one_further : (made : List Move) (m : Move) → map move (made ++ m ∷ []) ≡ map move made ++ move m ∷ []
+one_further [] m = refl
+one_further (x ∷ made) m = ap (λ l. move x ∷ l) (one_further made m)
 
 module _ {D : Type 0} (command_gives : D → ℕ → Order → D → Type 0) (tick_gives : D → Option (ℕ × Report) → D → Type 0) (set : ClearedSet) where
   -- the moves made so far were written, and the units took their orders
   pub record AreGiven (first now : Standing D) (before written : Option (List ℕ)) : Type 0 where
     pub made : List Move
     pub goes_on : (more : List Move) (new : Plant) → Settles (documents set) now.plant more new → Settles (documents set) first.plant (made ++ more) new
+    pub leads : Leads (documents set) first.plant [] (map move made) now.plant
     pub orders : TakeOrders command_gives tick_gives set made first.units now.units
     pub appends : Appends before written (moves_text made)
 
@@ -38,14 +45,20 @@ module _ {D : Type 0} (command_gives : D → ℕ → Order → D → Type 0) (ti
   orders_more [] m old mid new h k = (new, subst (λ (u : List D). TakeOrder command_gives tick_gives set m u new) h k, refl)
   orders_more (x ∷ made) m old mid new h k = (h.0, h.1, orders_more made m h.0 mid new h.2 k)
 
+  lead_more : (made : List Move) (m : Move) (s t u : Plant) → Leads (documents set) s [] (map move made) t → next (documents set) t ≡ Some m → u ≡ after t m
+      → Leads (documents set) s [] (map move (made ++ m ∷ [])) u
+  lead_more [] m s t u h first_is is = (subst (λ (p : Plant). next (documents set) p ≡ Some m) (sym h) first_is, ap (λ (p : Plant). after p m) h ∙ sym is)
+  lead_more (x ∷ made) m s t u h first_is is = (h.0, lead_more made m (after s x) t u h.1 first_is is)
+
   pub none_given : (first : Standing D) (before : Option (List ℕ)) → Appends before before [] → AreGiven first first before before
-  none_given first before p = record { made = []; goes_on = λ more new s. s; orders = refl; appends = p }
+  none_given first before p = record { made = []; goes_on = λ more new s. s; leads = refl; orders = refl; appends = p }
 
   pub one_more : (first now new : Standing D) (m : Move) (x y z : Option (List ℕ)) → AreGiven first now x y → next (documents set) now.plant ≡ Some m
       → new.plant ≡ after now.plant m → TakeOrder command_gives tick_gives set m now.units new.units → Appends y z (out_text (move m)) → AreGiven first new x z
   one_more first now new m x y z h first_is is o p = record {
     made = h.made ++ m ∷ [];
     goes_on = λ more last s. rw append_assoc (h.goes_on (m ∷ more) last (first_is, rw (← is) s));
+    leads = lead_more h.made m first.plant now.plant new.plant h.leads first_is is;
     orders = orders_more h.made m first.units now.units new.units h.orders o;
     appends = rw (text-append h.made (m ∷ []), append-nil (out_text (move m))) (Appends-trans x y z _ _ h.appends p);
   }
@@ -63,14 +76,25 @@ module _ {D : Type 0} (command_gives : D → ℕ → Order → D → Type 0) (ti
   )
 
   -- a fault came while a move was written
-  pub part_written : (first now : Standing D) (new : Plant) (m : Move) (x y z : Option (List ℕ)) → CanSettle (documents set) new → AreGiven first now x y
-      → next (documents set) now.plant ≡ Some m → new ≡ after now.plant m → AppendsBeginning y z (out_text (move m))
-      → (moves : List Move) × (last : Plant) × Settles (documents set) first.plant moves last × AppendsBeginning x z (moves_text moves)
-  part_written first now new m x y z later h first_is is p = (
-    h.made ++ m ∷ later.moves,
-    later.new,
-    h.goes_on (m ∷ later.moves) later.new (first_is, rw (← is) later.settles),
-    rw (text-append h.made (m ∷ later.moves)) (then_beginning x y z _ _ (moves_text later.moves) h.appends p),
+  pub stopped_at : (first now new : Standing D) (m : Move) (x y z : Option (List ℕ)) → AreGiven first now x y → next (documents set) now.plant ≡ Some m
+      → new.plant ≡ after now.plant m → new.units ≡ now.units → AppendsBeginning y z (out_text (move m)) → StopsMoves command_gives tick_gives set first new x z
+  stopped_at first now new m x y z h first_is is same p = record {
+    made = h.made;
+    last = m;
+    leads = lead_more h.made m first.plant now.plant new.plant h.leads first_is is;
+    orders = subst (λ (u : List D). TakeOrders command_gives tick_gives set h.made first.units u) (sym same) h.orders;
+    mid = y;
+    whole = h.appends;
+    begins = p;
+  }
+
+  -- a fault came while the reply was written
+  pub reply_stopped : (old new : Standing D) (event : Event) (answer : Reply) (x y : Option (List ℕ)) (f : WriteFault) → new.units ≡ old.units
+      → Reacts (documents set) old.plant event answer new.plant → AppendsBeginning x y (out_text (reply answer))
+      → WritesReported command_gives tick_gives set event old (Err f) new x y
+  reply_stopped old new event answer x y f same h p = (
+    reply answer ∷ [],
+    record { told = []; last = reply answer; tells = refl; leads = (new.plant, h, refl); orders = same; mid = x; whole = Appends-nil x; begins = p },
   )
 
   -- the reply was written, and then the moves
@@ -85,5 +109,17 @@ module _ {D : Type 0} (command_gives : D → ℕ → Order → D → Type 0) (ti
     },
     Appends-trans x y z _ _ p w,
   )
-  reported old mid new event answer (Err f) x y z same h p w =
-      moves_written (documents set) old.plant mid.plant new.plant event answer (Err f) x y z h p w
+  reported old mid new event answer (Err f) x y z same h p w = (
+    reply answer ∷ map move (w.made ++ w.last ∷ []),
+    record {
+      told = reply answer ∷ map move w.made;
+      last = move w.last;
+      tells = ap (λ (l : List Out). reply answer ∷ l) (one_further w.made w.last);
+      leads = (mid.plant, h, w.leads);
+      orders = subst (λ (moves : List Move). TakeOrders command_gives tick_gives set moves old.units new.units) (sym (are_moves w.made))
+          (subst (λ (l : List D). TakeOrders command_gives tick_gives set w.made l new.units) same w.orders);
+      mid = w.mid;
+      whole = Appends-trans x y w.mid (out_text (reply answer)) (moves_text w.made) p w.whole;
+      begins = w.begins;
+    },
+  )

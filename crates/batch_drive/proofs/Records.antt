@@ -12,7 +12,7 @@ use Rattle.batch_wire.specs.Transcript.{Exchange, silence, followed_by, handled,
 use Rattle.batch_serve.specs.Settled.{IsSettled}
 use Rattle.batch_sim.specs.declared.order.Order.{Order}
 use Rattle.batch_drive.specs.Drive.{Standing, report_of, Comes, Drives}
-use Rattle.batch_drive.specs.Written.{KeepsRecord, MayHandle}
+use Rattle.batch_drive.specs.Written.{KeepsRecord, Stops}
 
 -- Records
 
@@ -79,16 +79,16 @@ module _ {D : Type 0} (command_gives : D → ℕ → Order → D → Type 0) (ti
   drives_settle (unit ∷ others) old said new k (first, rest, mid, t, more, e) =
       drives_settle others mid rest new (came_settles (report_of set unit t.answer) (record { plant = old.plant; units = t.after }) first mid k t.comes) more
 
-  may_lead : (others : List ℕ) (old : Standing D) (said : Exchange) (new : Plant) → MayHandle command_gives tick_gives set others old said new
-      → Leads (documents set) old.plant said.events said.outs new
-  may_lead others old said new (inl h) = said_leads old.plant new said silence h.0 (sym h.1)
-  may_lead others old said new (inr (unit, later, split, answer, then, ticks, event, reports, outs, h, e)) =
-      said_leads old.plant new said (handled event outs) e (handled_leads (documents set) old.plant new event outs h)
+  stops_lead : (others : List ℕ) (old : Standing D) (said : Exchange) (new : Standing D) (x y : Option (List ℕ)) → Stops command_gives tick_gives set others old said new x y
+      → Leads (documents set) old.plant said.events said.outs new.plant
+  stops_lead others old said new x y (inl (e, same, k)) = said_leads old.plant new.plant said silence e (sym (ap (λ (s : Standing D). s.plant) same))
+  stops_lead others old said new x y (inr (unit, later, e, t)) =
+      said_leads old.plant new.plant said (handled t.event t.outs) t.tells t.stops.leads
 
-  -- some ticks, and of the next what the machine makes of its report
-  pub cut_leads : (units others : List ℕ) (old mid : Standing D) (said last_said : Exchange) (last : Plant)
-      → Drives command_gives tick_gives set units old said mid → MayHandle command_gives tick_gives set others mid last_said last
-      → Leads (documents set) old.plant (followed_by said last_said).events (followed_by said last_said).outs last
-  cut_leads units others old mid said last_said last d h =
-      leads_join (documents set) old.plant mid.plant last said.events said.outs last_said.events last_said.outs (drives_lead units old said mid d)
-      (may_lead others mid last_said last h)
+  -- some ticks, and of the next what the machine has made of its report
+  pub cut_leads : (units others : List ℕ) (old mid : Standing D) (said last_said : Exchange) (new : Standing D) (x y : Option (List ℕ))
+      → Drives command_gives tick_gives set units old said mid → Stops command_gives tick_gives set others mid last_said new x y
+      → Leads (documents set) old.plant (followed_by said last_said).events (followed_by said last_said).outs new.plant
+  cut_leads units others old mid said last_said new x y d h =
+      leads_join (documents set) old.plant mid.plant new.plant said.events said.outs last_said.events last_said.outs (drives_lead units old said mid d)
+      (stops_lead others mid last_said new x y h)

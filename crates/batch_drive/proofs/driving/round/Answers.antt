@@ -54,7 +54,7 @@ returns-in_err-flush-clause-driven g c =
     c.units-count.ensures ∙ ap (λ (k : Cell). length (units_of k)) (c.cell.ensures.value ∙ ap (λ (k : ClearedSet). k.cell) c.cleared.ensures.value) in
     rw (← count, p.1, p.2) (none_left g.D.UnitDriver.command_gives g.D.UnitDriver.tick_gives set (range_with_len 0 c.units-count.result) _ first now (Err Write) now _ _ (g.W.Write.contents c.flush.new.writer)
     (no_unit c.loop-unit.unit c.units-count.result (omega arith)) before.leaves
-    (not_handed_on g.D.UnitDriver.command_gives g.D.UnitDriver.tick_gives set now now _ _ c.flush.ensures))
+    (not_handed_on g.D.UnitDriver.command_gives g.D.UnitDriver.tick_gives set now _ _ c.flush.ensures))
 
 pub returns-clause-driven : goal.returns-clause-driven
 returns-clause-driven g c =

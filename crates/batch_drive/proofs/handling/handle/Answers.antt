@@ -1,20 +1,20 @@
 use Rattle.std.proofs.Common.{refl, subst}
 use Rattle.std.proofs.lemmas.Result.{err_from_is_err_and}
 use Rattle.batch_verify.specs.ClearedSet.{ClearedSet}
-use Rattle.batch_engine.specs.View.{documents, plant_of}
-use Rattle.batch_serve.proofs.AnswersWritten.{reply_part}
-use Rattle.batch_serve.proofs.InSet.{settle_in}
+use Rattle.batch_engine.specs.View.{plant_of}
 use Rattle.batch_drive.specs.Drive.{Standing}
 use Rattle.batch_drive.specs.Handling.{WritesOrders}
-use Rattle.batch_drive.proofs.OrdersGiven.{reported}
+use Rattle.batch_drive.proofs.OrdersGiven.{reply_stopped, reported}
 use Rattle.batch_drive.proofs.handling.handle.Goals as goal
 
 pub returns-in_err-write_out-clause-reported : goal.returns-in_err-write_out-clause-reported
 returns-in_err-write_out-clause-reported g c =
     let p = err_from_is_err_and c.from_residual.result c.from_residual.ensures.1 in
     let set = c.args.engine.now.cleared in
-    let later = settle_in c.accept-reply.new.self set c.accept-reply.ensures.cleared c.cleared.ensures.led in
-    rw (p.1) (reply_part (documents set) _ _ _ _ _ _ later c.accept-reply.ensures.reacts (rw (c.cleared.ensures.value, c.accept-reply.ensures.cleared) at c.in_err-write_out.ensures))
+    let before : Standing g.row.D.Denot = record { plant = plant_of c.args.engine.now; units = c.args.units.now } in
+    let new : Standing g.row.D.Denot = record { plant = plant_of c.accept-reply.new.self; units = c.args.units.now } in
+    rw (p.1) (reply_stopped g.D.UnitDriver.command_gives g.D.UnitDriver.tick_gives set before new _ _ _ _ _ refl c.accept-reply.ensures.reacts
+    (rw (c.cleared.ensures.value, c.accept-reply.ensures.cleared) at c.in_err-write_out.ensures))
 
 pub returns-clause-reported : goal.returns-clause-reported
 returns-clause-reported g c =

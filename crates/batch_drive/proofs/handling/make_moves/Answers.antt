@@ -3,9 +3,10 @@ use Rattle.std.proofs.KnownBytes.{Appends-nil}
 use Rattle.std.proofs.lemmas.Result.{err_from_is_err_and}
 use Rattle.batch_engine.specs.Surface.{move_of}
 use Rattle.batch_engine.specs.View.{plant_of}
-use Rattle.batch_serve.proofs.InSet.{next_in, none_in, after_in, settle_in}
+use Rattle.batch_serve.proofs.InSet.{next_in, none_in, after_in}
 use Rattle.batch_serve.proofs.Settling.{falls}
-use Rattle.batch_drive.proofs.OrdersGiven.{none_given, one_more, all_given, part_written}
+use Rattle.batch_drive.specs.Drive.{Standing}
+use Rattle.batch_drive.proofs.OrdersGiven.{none_given, one_more, all_given, stopped_at}
 use Rattle.batch_drive.proofs.handling.make_moves.Goals as goal
 
 pub loop-line-init : goal.loop-line-init
@@ -43,10 +44,10 @@ returns-in_err-write_out-clause-moves g c =
     let p = err_from_is_err_and c.from_residual.result c.from_residual.ensures.1 in
     let before = c.loop-line.invariant in
     let set = c.args.engine.now.cleared in
+    let new : Standing g.row.D.Denot = record { plant = plant_of c.next_move.new.self; units = c.loop-line.units } in
     let made = next_in _ set (plant_of c.loop-line.engine) c.in-Some.line before.kept c.in-Some.ensures.next in
     let is = after_in _ set (plant_of c.loop-line.engine) (plant_of c.next_move.new.self) c.in-Some.line before.kept c.in-Some.ensures.plant in
-    let later = settle_in c.next_move.new.self set (c.in-Some.ensures.cleared ∙ before.kept) c.cleared.ensures.led in
-    rw (p.1) (part_written g.D.UnitDriver.command_gives g.D.UnitDriver.tick_gives set _ _ _ _ _ _ _ later before.given made is
+    rw (p.1) (stopped_at g.D.UnitDriver.command_gives g.D.UnitDriver.tick_gives set _ _ new _ _ _ _ before.given made is refl
     (rw (c.cleared.ensures.value, c.in-Some.ensures.cleared, before.kept) at c.in_err-write_out.ensures))
 
 pub loop-line-smaller : goal.loop-line-smaller
