@@ -1,5 +1,5 @@
 -- What a console has sent and taken, one event or one out more.
-use Rattle.std.proofs.Common.{◌≡◌, ℕ, ◌+◌, ◌-◌, ◌<◌, ◌≤◌, List, [], ◌∷◌, ◌++◌, Option, Some, None, cond, eqb, refl, sym, ◌∙◌, ap, subst, arith, append_assoc, append-nil}
+use Rattle.std.proofs.Common.{◌≡◌, ℕ, ◌+◌, ◌-◌, ◌<◌, ◌≤◌, List, [], ◌∷◌, ◌++◌, cond, eqb, refl, sym, ◌∙◌, ap, arith, append_assoc, append-nil}
 use Rattle.std.proofs.lemmas.Bool.Decides.{nat_tests}
 use Rattle.std.proofs.lemmas.List.Elements.{All-push}
 use Rattle.std.proofs.lemmas.List.Sums.{sum_by_push, sum_by-append}
@@ -10,7 +10,7 @@ use Rattle.batch_engine.specs.declared.event.Event.TheVariants.{Create, Order}
 use Rattle.batch_engine.specs.declared.out.Out.{Out}
 use Rattle.batch_desk.specs.declared.step.Step.TheVariants as step
 use Rattle.batch_desk.specs.declared.console.Console.{Console}
-use Rattle.batch_desk.specs.DeskState.{DeskState, Sends, Takes}
+use Rattle.batch_desk.specs.DeskState.{DeskState, Sends}
 use Rattle.batch_desk.specs.Consoles.{IsConsoleEvent, completes, creates, creating, creations, starting, starts, telling_complete, telling_created}
 use Rattle.batch_desk.specs.ConsoleSteps.{Follows, GoesOn, Minds, learned}
 use Rattle.batch_desk.proofs.Consoles.{learns}

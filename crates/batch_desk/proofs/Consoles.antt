@@ -1,5 +1,5 @@
 -- What a console keeps in mind of the outs that it takes.
-use Rattle.std.proofs.Common.{◌≡◌, ℕ, ◌+◌, ◌-◌, ◌<◌, ◌≤◌, Bool, true, false, cond, eqb, nat_lt, List, [], ◌∷◌, ◌++◌, refl, sym, ◌∙◌, ap, arith}
+use Rattle.std.proofs.Common.{◌≡◌, ℕ, ◌+◌, ◌-◌, ◌<◌, Bool, true, false, cond, eqb, nat_lt, List, [], ◌∷◌, ◌++◌, refl, arith}
 use Rattle.std.proofs.lemmas.Bool.Decides.{nat_tests}
 use Rattle.std.proofs.lemmas.List.Sums.{sum_by_push}
 use Rattle.batch_matrix.specs.declared.command.Command.TheVariants as command
@@ -13,7 +13,7 @@ use Rattle.batch_engine.specs.declared.reply.Reply.TheVariants.{Created, Ordered
 use Rattle.batch_desk.specs.declared.step.Step.{Step}
 use Rattle.batch_desk.specs.declared.step.Step.TheVariants as step
 use Rattle.batch_desk.specs.declared.console.Console.{Console}
-use Rattle.batch_desk.specs.Consoles.{completes, creations, telling_complete, telling_created}
+use Rattle.batch_desk.specs.Consoles.{creations, telling_complete, telling_created}
 use Rattle.batch_desk.specs.ConsoleSteps.{Minds, learned, step_after_start}
 
 others : (batches : ℕ) (c : Console) (sent : List Event) (taken : List Out) (out : Out) → ((n : ℕ) → telling_created n out ≡ 0) → telling_complete out ≡ 0

@@ -10,7 +10,6 @@ use Rattle.batch_engine.specs.declared.line.Line.TheVariants.{State}
 use Rattle.batch_engine.specs.declared.out.Out.{Out}
 use Rattle.batch_engine.specs.declared.out.Out.TheVariants.{Reply, Move}
 use Rattle.batch_engine.specs.declared.reply.Reply.TheVariants.{Created}
-use Rattle.batch_desk.specs.Rings.{Ring}
 use Rattle.batch_desk.specs.DeskState.{DeskState}
 
 -- a create of this recipe in this size, or the start of a batch

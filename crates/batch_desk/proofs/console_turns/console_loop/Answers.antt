@@ -1,5 +1,4 @@
-use Rattle.std.proofs.Common.{◌≡◌, arith, refl}
-use Rattle.batch_desk.proofs.ConsoleTurns.{begins, none_left, some_left}
+use Rattle.batch_desk.proofs.ConsoleTurns.{begins}
 use Rattle.batch_desk.proofs.console_turns.console_loop.Goals as goal
 use Rattle.batch_desk.proofs.console_turns.console_loop.Goals.{then-pass, else-pass}
 

@@ -1,4 +1,4 @@
-use Rattle.std.proofs.Common.{◌≡◌, refl, ◌∙◌}
+use Rattle.std.proofs.Common.{refl, ◌∙◌}
 use Rattle.batch_desk.proofs.HubTurns.{history_grows, prefix_same}
 use Rattle.batch_desk.proofs.Moves.{prefix_then}
 use Rattle.batch_desk.proofs.hub_turns.hub_loop.Goals as goal

@@ -1,4 +1,3 @@
-use Rattle.std.proofs.Common.{refl}
 use Rattle.batch_desk.specs.ConsoleSteps.{Follows}
 use Rattle.batch_desk.proofs.ConsoleTurns.{take_goes}
 use Rattle.batch_desk.proofs.console.Console.take_turn.Goals as goal

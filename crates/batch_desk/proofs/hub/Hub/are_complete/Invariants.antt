@@ -1,4 +1,4 @@
-use Rattle.std.proofs.Common.{◌≡◌, ℕ, ◌+◌, ◌<◌, ◌≤◌}
+use Rattle.std.proofs.Common.{ℕ, ◌+◌, ◌<◌, ◌≤◌}
 use Rattle.batch_desk.specs.HubDone.{IsComplete}
 use Rattle.batch_desk.proofs.hub.Hub.are_complete.Given as goal
 
