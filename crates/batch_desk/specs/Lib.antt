@@ -7,5 +7,6 @@ pub mod HubState
 pub mod Turns
 pub mod Ends
 pub mod Laws
+pub mod Consoles
 pub mod PortSteps
 pub mod TurnSteps

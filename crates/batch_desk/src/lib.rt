@@ -3,9 +3,11 @@
 
 mod desk;
 mod fault;
+mod gate;
 mod hub;
 mod inbox;
 mod laws;
+mod loop_end;
 mod opening;
 mod plan;
 mod port;
@@ -16,9 +18,11 @@ mod turning;
 
 pub use desk::{Desk, Full};
 pub use fault::HubFault;
+pub use gate::Gate;
 pub use hub::Hub;
 pub use inbox::Inbox;
 pub use laws::outlines_keep_rings;
+pub use loop_end::LoopEnd;
 pub use plan::PortPlan;
 pub use scope::Scope;
 pub use turned::Turned;

@@ -1,0 +1,69 @@
+-- What a console sends and takes.
+use Rattle.std.specs.Prelude.{◌≡◌, ℕ, ◌≤◌, List, ◌++◌, cond, eqb}
+use Rattle.std.specs.List.{All, sum_by}
+use Rattle.batch_recipe.specs.Conditions.{Name}
+use Rattle.batch_matrix.specs.declared.command.Command.TheVariants as command
+use Rattle.batch_matrix.specs.declared.state.State.TheVariants.{Complete}
+use Rattle.batch_engine.specs.declared.event.Event.{Event}
+use Rattle.batch_engine.specs.declared.event.Event.TheVariants.{Create, Order}
+use Rattle.batch_engine.specs.declared.line.Line.TheVariants.{State}
+use Rattle.batch_engine.specs.declared.out.Out.{Out}
+use Rattle.batch_engine.specs.declared.out.Out.TheVariants.{Reply, Move}
+use Rattle.batch_engine.specs.declared.reply.Reply.TheVariants.{Created}
+use Rattle.batch_desk.specs.Rings.{Ring}
+use Rattle.batch_desk.specs.DeskState.{DeskState}
+
+-- a create of this recipe in this size, or the start of a batch
+abbrev pub IsConsoleEvent : Name → ℕ → Event → Type 0
+IsConsoleEvent recipe size (Create name amount) = (name ≡ recipe) × (amount ≡ size)
+IsConsoleEvent recipe size (Order word batch) = word ≡ command.Start
+IsConsoleEvent recipe size _ = ⊥
+
+-- one for a create, and for nothing else
+abbrev pub creating : Event → ℕ
+creating (Create name amount) = 1
+creating _ = 0
+
+-- one for the start of batch n
+abbrev pub starting : ℕ → Event → ℕ
+starting n (Order command.Start batch) = cond (eqb batch n) 1 0
+starting n _ = 0
+
+-- one for the reply that batch n was created
+abbrev pub telling_created : ℕ → Out → ℕ
+telling_created n (Reply (Created batch recipe size)) = cond (eqb batch n) 1 0
+telling_created n _ = 0
+
+-- one for the move by which a batch becomes complete
+abbrev pub telling_complete : Out → ℕ
+telling_complete (Move (State batch Complete)) = 1
+telling_complete _ = 0
+
+-- how many creates there are, and how many starts of batch n
+abbrev pub creates : List Event → ℕ
+creates events = sum_by creating events
+
+abbrev pub starts : ℕ → List Event → ℕ
+starts n events = sum_by (starting n) events
+
+-- how often it is told that batch n was created, and that a batch is complete
+abbrev pub creations : ℕ → List Out → ℕ
+creations n outs = sum_by (telling_created n) outs
+
+abbrev pub completes : List Out → ℕ
+completes outs = sum_by telling_complete outs
+
+-- a console has sent more events from its desk, and taken more outs: it sent creates of its recipe in its size, for as many
+-- batches at most, and the start of each batch at most once, and only where it was told that the batch was created
+pub record IsConsole (recipe : Name) (size batches : ℕ) (d e : DeskState) : Type 0 where
+  -- the rings of the desk are the same
+  pub events : e.events ≡ d.events
+  pub outs : e.outs ≡ d.outs
+  pub more : List Event
+  pub seen : List Out
+  pub sent : e.sent ≡ d.sent ++ more
+  pub taken : e.taken ≡ d.taken ++ seen
+  pub each : All (IsConsoleEvent recipe size) more
+  pub creates : creates more ≤ batches
+  pub once : (n : ℕ) → starts n more ≤ 1
+  pub created : (n : ℕ) → starts n more ≤ creations n seen

@@ -1,0 +1,10 @@
+//! How a loop ended.
+
+/// How a loop ended.
+#[derive(Clone, Copy, Debug, PartialEq, Eq)]
+pub enum LoopEnd {
+    /// All that was to come has come.
+    Done,
+    /// As many turns were counted as were allowed.
+    TurnsOut,
+}
