@@ -5,7 +5,7 @@ ghost use Rattle.batch_model.specs.Plant.{opening};
 ghost use Rattle.batch_engine.specs.Answered.{IsAnswered};
 ghost use Rattle.batch_engine.specs.Kept.{AreChartsOf};
 ghost use Rattle.batch_engine.specs.Led.{IsLed};
-ghost use Rattle.batch_engine.specs.Looked.{value_in};
+ghost use Rattle.batch_engine.specs.Looked.{batch_state_in, value_in};
 ghost use Rattle.batch_engine.specs.Surface.{event_of};
 ghost use Rattle.batch_engine.specs.View.{plant_of};
 
@@ -109,5 +109,15 @@ impl Engine {
             return None;
         };
         self.batches[index].values.value_of(name)
+    }
+
+    /// The state of the batch with this number. None where there is no such batch.
+    pub fn batch_state(&self, batch: u64) -> Option<State>
+        ensures { result ≡ batch_state_in (plant_of self.now) batch }
+    {
+        let Some(index) = self.index_of(batch) else {
+            return None;
+        };
+        Some(self.batches[index].state)
     }
 }

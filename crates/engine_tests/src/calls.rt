@@ -240,6 +240,8 @@ state 1 0.0.0
 state 1 0.0.0.0
 report R1 ADD done
 settled
+batch 1
+batch 2
 state 1 0
 state 1 0.0
 state 1 0.0.0
@@ -265,6 +267,8 @@ state 1 0.0.0: Some(Idle)
 state 1 0.0.0.0: Some(Idle)
 refused E4
 settled: true
+batch 1: Some(Complete)
+batch 2: None
 state 1 0: Some(Complete)
 state 1 0.0: Some(Idle)
 state 1 0.0.0: Some(Idle)

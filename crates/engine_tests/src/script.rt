@@ -14,6 +14,12 @@ fn state(alloc: Global, engine: &Engine, act: &str) -> Result<String, Fail> {
     Ok(format!(in alloc; "state {act}: {state:?}\n")?)
 }
 
+/// The state of a batch, asked for by its number.
+fn batch_state(alloc: Global, engine: &Engine, batch: &str) -> Result<String, Fail> {
+    let state = engine.batch_state(batch.parse()?);
+    Ok(format!(in alloc; "batch {batch}: {state:?}\n")?)
+}
+
 /// A value of a batch, asked for by `BATCH NAME`.
 fn value(alloc: Global, engine: &Engine, value: &str) -> Result<String, Fail> {
     let (batch, name) = value.split_once(' ').ok_or("no name")?;
@@ -37,12 +43,13 @@ fn answer_to_word(alloc: Global, engine: &mut Engine, word: &str) -> Result<Stri
     }
 }
 
-/// What is told of a line of a script: of `accept` and an event line the reply alone, with no move made; of `state` and
-/// `value` the answer behind the question; of any other event line the reply and all moves that follow.
+/// What is told of a line of a script: of `accept` and an event line the reply alone, with no move made; of `state`,
+/// `batch` and `value` the answer behind the question; of any other event line the reply and all moves that follow.
 fn answer(alloc: Global, engine: &mut Engine, line: &str) -> Result<String, Fail> {
     match line.split_once(' ') {
         Some(("accept", event)) => accept(alloc, engine, event),
         Some(("state", act)) => state(alloc, engine, act),
+        Some(("batch", batch)) => batch_state(alloc, engine, batch),
         Some(("value", name)) => value(alloc, engine, name),
         Some(_) => record(alloc, engine, line),
         None => answer_to_word(alloc, engine, line),
