@@ -6,7 +6,6 @@ use Rattle.batch_cell.specs.declared.cell.Cell.{Cell}
 use Rattle.batch_model.specs.Events as Events
 use Rattle.batch_engine.specs.Surface.{event_of}
 use Rattle.batch_engine.specs.declared.event.Event.{Event}
-use Rattle.batch_engine.specs.declared.line.Line.{Line}
 use Rattle.batch_engine.specs.declared.line.Line.TheVariants.{Send, Start}
 use Rattle.batch_engine.specs.declared.out.Out.{Out}
 use Rattle.batch_engine.specs.declared.out.Out.TheVariants.{Move}

@@ -1,5 +1,5 @@
-use Rattle.std.proofs.Common.{◌≡◌, refl, arith}
-use Rattle.batch_plant.proofs.Deeds.{first_known, no_deed, then_links, few_kept}
+use Rattle.std.proofs.Common.{arith}
+use Rattle.batch_plant.proofs.Deeds.{first_known, no_deed, then_links}
 use Rattle.batch_plant.proofs.linking.link_loop.Goals as goal
 use Rattle.batch_plant.proofs.linking.link_loop.Goals.{then-pass, else-pass}
 
