@@ -1,4 +1,5 @@
--- private: the steps of a turn.
+-- For private contracts.
+-- The steps of a turn.
 use Rattle.std.specs.Prelude.{◌≡◌, ℕ, ◌+◌, ◌<◌, ◌≤◌, ◌∷◌, [], ◌++◌}
 use Rattle.batch_engine.specs.declared.event.Event.{Event}
 use Rattle.batch_engine.specs.declared.line.Line.{Line}
