@@ -1,8 +1,9 @@
 //! Explanations of codes.
-ghost use Rattle.std.specs.Prelude.{◌≡◌, IfOk, IfSome, string_bytes};
-ghost use Rattle.batch_explain.specs.Explaining.{told};
+ghost use Rattle.std.specs.Prelude.{◌≡◌, IfOk, IfSome, find, option_map, string_bytes};
+ghost use Rattle.std.specs.Str.{bytes_eq};
+ghost use Rattle.batch_explain.specs.Explaining.{refusal_codes, told};
 
-use crate::table::EXPLANATIONS;
+use crate::table::explanations;
 use std::alloc::{AllocError, Global};
 
 /// What a code means, and what to do where it is met.
@@ -18,9 +19,18 @@ pub struct Explanation {
 
 /// The explanation of the code, in capitals as it is printed. None of a text that is no code of the program.
 pub fn explanation_of(code: &str) -> Option<Explanation>
-    ensures { IfSome result (λ explanation. explanation.code.now ≡ code.now) }
+    ensures found { option_map (λ explanation. explanation.code.now) result ≡ find (λ known. bytes_eq known code.now) refusal_codes }
+    ensures own { IfSome result (λ explanation. explanation.code.now ≡ code.now) }
 {
-    EXPLANATIONS
+    found_in(&explanations(), code)
+}
+
+/// The first explanation of the table that is of this code.
+fn found_in(table: &[Explanation], code: &str) -> Option<Explanation>
+    ensures found { result ≡ find (λ explanation. bytes_eq explanation.code.now code.now) table.now }
+    ensures own { IfSome result (λ explanation. explanation.code.now ≡ code.now) }
+{
+    table
         .iter()
         .copied()
         .find(|explanation| explanation.code == code)

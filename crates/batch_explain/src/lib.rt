@@ -5,4 +5,4 @@ mod explanation;
 mod table;
 
 pub use explanation::{Explanation, explanation_of, explanation_text};
-pub use table::EXPLANATIONS;
+pub use table::explanations;

@@ -1,8 +1,17 @@
 //! The table of explanations. docs/FORMATS.md has the same meanings, which `tools/codes/run` compares.
+ghost use Rattle.std.specs.Prelude.{◌≡◌, map};
+ghost use Rattle.batch_explain.specs.Explaining.{refusal_codes};
+
 use crate::explanation::Explanation;
 
-/// All codes of refusals, in order of letter and number.
-pub const EXPLANATIONS: [Explanation; 43] = [
+/// The explanations of all codes of refusals, in order of letter and number.
+pub fn explanations() -> [Explanation; 43]
+    ensures { map (λ explanation. explanation.code.now) result ≡ refusal_codes }
+{
+    EXPLANATIONS
+}
+
+const EXPLANATIONS: [Explanation; 43] = [
     Explanation {
         code: "C1",
         meaning: "the recipes can bring batches into a circle of waiting",
