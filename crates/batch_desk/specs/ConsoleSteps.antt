@@ -1,5 +1,4 @@
--- For private contracts.
--- What a console keeps in mind, and the steps of its turns.
+-- private: what a console keeps in mind, and the steps of its turns.
 use Rattle.std.specs.Prelude.{◌≡◌, ℕ, ◌+◌, ◌-◌, ◌<◌, ◌≤◌, List, nat_lt, true, false}
 use Rattle.batch_recipe.specs.Conditions.{Name}
 use Rattle.batch_matrix.specs.declared.command.Command.TheVariants as command

@@ -1,4 +1,4 @@
--- What a console sends and takes.
+-- surface: what a console sends and takes.
 use Rattle.std.specs.Prelude.{◌≡◌, ℕ, ◌≤◌, List, ◌++◌, cond, eqb}
 use Rattle.std.specs.List.{All, sum_by}
 use Rattle.batch_recipe.specs.Conditions.{Name}

@@ -1,4 +1,4 @@
--- What is seen of a desk, and of what is left of it.
+-- surface: what is seen of a desk, and of what is left of it.
 use Rattle.std.specs.Prelude.{◌≡◌, ℕ, List, [], ◌∷◌, ◌++◌, Option, Some, MatchOption}
 use mathlib.Core.List.{IsPrefix}
 use Rattle.batch_engine.specs.declared.event.Event.{Event}

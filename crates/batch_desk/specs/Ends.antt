@@ -1,4 +1,4 @@
--- How ports are closed, cut and sealed.
+-- surface: how ports are closed, cut and sealed.
 use Rattle.std.specs.Prelude.{◌≡◌, ℕ, ◌<◌, ◌≤◌, ◌⊎◌, List, length, true, false, Option, Some, None, IfSome, IsSome, slice_get, slice_set}
 use Rattle.std.specs.declared.alloc.Global.{Global}
 use Rattle.rtrb.specs.Ring.{all_sent}

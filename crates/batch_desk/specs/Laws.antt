@@ -1,4 +1,4 @@
--- Laws of the hub's account.
+-- surface: laws of the hub's account.
 use Rattle.std.specs.Prelude.{◌≡◌, map}
 use Rattle.batch_desk.specs.HubState.{HubState, outlines, rings}
 

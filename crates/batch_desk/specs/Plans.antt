@@ -1,4 +1,4 @@
--- The plans of a hub's ports, and what a hub is made of them.
+-- surface: the plans of a hub's ports, and what a hub is made of them.
 use Rattle.std.specs.Prelude.{◌≡◌, ℕ, ◌≤◌, List, length, map}
 use Rattle.std.specs.List.{All}
 use Rattle.batch_desk.specs.declared.fault.HubFault.{HubFault}

@@ -1,5 +1,4 @@
--- For private contracts.
--- What the calls of a port make of it.
+-- private: what the calls of a port make of it.
 use Rattle.std.specs.Prelude.{◌≡◌, ℕ, ◌-◌, ◌<◌, ◌⊎◌, List, [], ◌∷◌, ◌++◌, Option, Some, None, MatchOption, IsNone, cond, length, slice_index_or, true, false}
 use Rattle.batch_engine.specs.Answered.{IsAnswered}
 use Rattle.batch_engine.specs.Surface.{event_of}

@@ -1,4 +1,4 @@
--- What a turn does to a hub.
+-- surface: what a turn does to a hub.
 use Rattle.std.specs.Prelude.{◌≡◌, ℕ, ◌+◌, ◌<◌, ◌⊎◌, List, [], ◌∷◌, ◌++◌, length, IfSome, IsNone, slice_get}
 use Rattle.batch_engine.specs.declared.event.Event.{Event}
 use Rattle.batch_engine.specs.declared.out.Out.{Out}

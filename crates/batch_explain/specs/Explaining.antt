@@ -1,4 +1,4 @@
--- Which codes have an explanation, and how it is told.
+-- trusted: which codes have an explanation, and how it is told.
 use Rattle.std.specs.Prelude.{◌++◌, ◌∷◌, [], ℕ, List, codes}
 use Rattle.batch_explain.specs.declared.explanation.Explanation.{Explanation}
 

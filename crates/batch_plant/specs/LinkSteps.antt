@@ -1,5 +1,4 @@
--- For private contracts.
--- The steps of a link's turn.
+-- private: the steps of a link's turn.
 use Rattle.std.specs.Prelude.{◌≡◌, ℕ, ◌<◌, ◌≤◌, ◌-◌, List, [], ◌++◌, length, map, Option, Some, None, IfSome}
 use Rattle.batch_matrix.specs.declared.report.Report.{Report}
 use Rattle.batch_cell.specs.LookUps.{units_of}

@@ -1,4 +1,4 @@
--- What a link does: it gives the units the orders of the moves that its desk takes, and sends what the units report.
+-- surface: what a link does: it gives the units the orders of the moves that its desk takes, and sends what the units report.
 use Rattle.std.specs.Prelude.{◌≡◌, ℕ, ◌+◌, ◌≤◌, cond, nat_lt, List, [], ◌∷◌, ◌++◌, length, map, Bool, Option, Some, None, slice_get, unwrap_or}
 use Rattle.batch_matrix.specs.declared.report.Report.{Report}
 use Rattle.batch_cell.specs.LookUps.{units_of, resources_of, phases_of}
