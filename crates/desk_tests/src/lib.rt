@@ -8,6 +8,8 @@ mod limits;
 #[cfg(test)]
 mod lines;
 #[cfg(test)]
+mod loops;
+#[cfg(test)]
 mod ports;
 #[cfg(test)]
 mod script;
