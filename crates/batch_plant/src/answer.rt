@@ -1,0 +1,10 @@
+//! Answers of units.
+use batch_matrix::Report;
+
+/// What a unit answered to a tick: a report of one of its phases, by number.
+#[derive(Clone, Copy, Debug, PartialEq, Eq)]
+pub(crate) struct Answer {
+    pub(crate) unit: u16,
+    pub(crate) phase: u16,
+    pub(crate) word: Report,
+}

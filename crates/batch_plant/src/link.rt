@@ -1,0 +1,10 @@
+//! What a link knows.
+use crate::answer::Answer;
+
+/// How many batches are still to be completed, which unit is the next to tick, and the answer that is to be reported.
+#[derive(Clone, Copy, Debug, PartialEq, Eq)]
+pub(crate) struct Link {
+    pub(crate) left: u64,
+    pub(crate) next: u16,
+    pub(crate) kept: Option<Answer>,
+}
