@@ -1,2 +1,4 @@
 pub mod Links
 pub mod LinkSteps
+pub mod Plants
+pub mod Parts

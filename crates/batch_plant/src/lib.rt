@@ -1,10 +1,28 @@
-//! A plant to run: a hub, a console, and a link to the units of the cell.
+//! A plant to run: a hub, a console, and a link to the units of the cell, each in another thread.
 #![tactic(auto)]
 
 mod answer;
+mod closing;
+mod console_thread;
+mod hub_running;
 mod link;
+mod link_thread;
 mod linking;
+mod opening;
 mod ordering;
+mod parts;
+mod plant_end;
+mod plant_fault;
+mod plant_gates;
+mod plant_rests;
+mod plant_task;
 mod reporting;
+mod running;
 
 pub use linking::link_loop;
+pub use plant_end::PlantEnd;
+pub use plant_fault::PlantFault;
+pub use plant_gates::PlantGates;
+pub use plant_rests::PlantRests;
+pub use plant_task::PlantTask;
+pub use running::plant_run;

@@ -1,0 +1,13 @@
+use Rattle.batch_plant.proofs.Closings.{rest_fits, next_sealed}
+use Rattle.batch_plant.proofs.closing.seal_port.Goals as goal
+
+pub rest-requires : goal.rest-requires
+rest-requires c =
+    let told = rw c.in-Ok-Some.field-0-is at c.in-Ok-Some.ensures.ok in
+    rest_fits c.args.port c.args.hub.now _ c.in-Ok-Some.token _ told c.requires
+
+pub returns-in-Ok-Some-clause-next : goal.returns-in-Ok-Some-clause-next
+returns-in-Ok-Some-clause-next c = next_sealed c.args.port _ _ _ c.in-Ok-Some.ensures.ok
+
+pub returns-in-Ok-None-clause-next : goal.returns-in-Ok-None-clause-next
+returns-in-Ok-None-clause-next c = next_sealed c.args.port _ _ _ c.in-Ok-None.ensures.ok

@@ -1,0 +1,28 @@
+use Rattle.std.proofs.Common.{ap, ◌∙◌}
+use Rattle.batch_engine.specs.View.{EngineView}
+use Rattle.batch_plant.proofs.Closings.{comes, parts_stay, still_complete}
+use Rattle.batch_plant.proofs.running.plant_run.Goals as goal
+
+pub close-requires : goal.close-requires
+close-requires g c =
+    let parts = c.in_ok-parts.parts in
+    let ran = c.in_ok-ran.ran in
+    let is = c.in_ok-ran.ensures in
+    parts_stay parts.hub ran.hub parts.console ran.console parts.link ran.link is.hub.rings is.console.events is.console.outs is.link.events is.link.outs
+    c.in_ok-parts.ensures.parts
+
+pub returns-clause-set : goal.returns-clause-set
+returns-clause-set g c = ap (λ (v : EngineView). v.cleared) c.close.ensures.work.0 ∙ c.in_ok-ran.ensures.hub.cleared ∙ c.in_ok-parts.ensures.cleared
+
+pub returns-clause-complete : goal.returns-clause-complete
+returns-clause-complete g c =
+    still_complete c.args.task.batches c.in_ok-ran.ran.hub c.close.result.hub c.close.ensures.work.0 c.in_ok-ran.ensures.hub.complete
+
+pub returns-clause-desks : goal.returns-clause-desks
+returns-clause-desks g c =
+    let parts = c.in_ok-parts.parts in
+    let ran = c.in_ok-ran.ran in
+    let is = c.in_ok-ran.ensures in
+    let new = c.in_ok-parts.ensures.sent in
+    comes c.args.task.recipe c.args.task.size c.args.task.batches c.close.result.hub c.close.result.rests parts.console ran.console parts.link ran.link new.0 new.1
+    is.console is.link c.close.ensures.console c.close.ensures.link

@@ -1,0 +1,77 @@
+//! The thread of the console.
+ghost use Rattle.std.specs.Prelude.{◌≡◌, IfOk, IfSome, IsSomeAnd};
+ghost use Rattle.batch_desk.specs.Consoles.{IsConsole};
+
+use crate::plant_fault::PlantFault;
+use crate::plant_task::PlantTask;
+use batch_desk::{Desk, Gate, LoopEnd, console_loop};
+use std::alloc::Global;
+use std::snapshot::Snapshot;
+use std::thread;
+use std::thread::{Promise, PromisedHandle, Threads};
+
+/// What the thread of the console gives back.
+#[derive(Drop)]
+pub(crate) struct ConsolePromise {
+    desk: Snapshot<Desk>,
+    task: Snapshot<PlantTask>,
+}
+
+impl Promise<(Desk, LoopEnd)> for ConsolePromise {
+    ghost use Rattle.batch_desk.specs.Consoles.{IsConsole};
+
+    ghost kept_by = { λ p r. IsConsole p.task.value.recipe p.task.value.size p.task.value.batches p.desk.value r.0 };
+}
+
+pub(crate) type ConsoleHandle = PromisedHandle<(Desk, LoopEnd), ConsolePromise>;
+
+/// Runs the console to its end.
+fn run<G: Gate + Drop>(alloc: Global, desk: Desk, task: PlantTask, gate: G) -> (Desk, LoopEnd)
+    ensures { IsConsole task.recipe task.size task.batches desk result.0 }
+{
+    let mut desk = desk;
+    let mut gate = gate;
+    let end = console_loop(
+        alloc,
+        &mut desk,
+        &task.recipe,
+        task.size,
+        task.batches,
+        &mut gate,
+        task.limit,
+    );
+    (desk, end)
+}
+
+/// Starts the thread of the console. None where it can't be started.
+pub(crate) fn start_console<R: Threads, G: Gate + Send + Drop + 'static>(
+    rt: &R,
+    alloc: Global,
+    desk: Desk,
+    task: PlantTask,
+    gate: G,
+) -> Option<ConsoleHandle>
+    ensures { IfSome result (λ child. (child.promise.desk.value ≡ desk) × (child.promise.task.value ≡ task)) }
+{
+    let promise = ConsolePromise {
+        desk: Snapshot::of(&desk),
+        task: Snapshot::of(&task),
+    };
+    thread::spawn_with(rt, promise, move || run(alloc, desk, task, gate)).ok()
+}
+
+/// Waits for the thread of the console, if it was started.
+pub(crate) fn join_console<R: Threads>(
+    rt: &R,
+    child: Option<ConsoleHandle>,
+) -> Result<Desk, PlantFault>
+    ensures { IfOk result (λ desk. IsSomeAnd child (λ c. IsConsole c.promise.task.value.recipe c.promise.task.value.size c.promise.task.value.batches c.promise.desk.value desk)) }
+{
+    let Some(child) = child else {
+        return Err(PlantFault::Thread);
+    };
+    match child.join(rt) {
+        (desk, LoopEnd::Done) => Ok(desk),
+        (_, LoopEnd::TurnsOut) => Err(PlantFault::TurnsOut),
+    }
+}

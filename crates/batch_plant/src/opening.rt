@@ -1,0 +1,55 @@
+//! Making the parts of a plant.
+ghost use Rattle.std.specs.Prelude.{◌≡◌, ◌++◌, ◌∷◌, [], IfOk};
+ghost use Rattle.batch_engine.specs.View.{plant_of};
+ghost use Rattle.batch_model.specs.Plant.{opening};
+ghost use Rattle.batch_plant.specs.Parts.{AreParts};
+
+use crate::parts::Parts;
+use crate::plant_fault::PlantFault;
+use batch_desk::{Desk, Hub, PortPlan, Scope};
+use batch_engine::Engine;
+use batch_verify::Cleared;
+use std::alloc::Global;
+
+/// Makes an engine of the cleared set, a hub round it, and its two desks.
+pub(crate) fn open(alloc: Global, cleared: Cleared, ring: usize) -> Result<Parts, PlantFault>
+    ensures cleared { IfOk result (λ parts. parts.hub.engine.cleared ≡ cleared) }
+    ensures parts { IfOk result (λ parts. AreParts parts.hub parts.console parts.link) }
+    ensures sent { IfOk result (λ parts. (parts.console.sent ≡ []) × (parts.link.sent ≡ [])) }
+{
+    match Engine::new(alloc, cleared) {
+        Ok(engine) => open_hub(alloc, engine, ring),
+        Err(_) => Err(PlantFault::Memory),
+    }
+}
+
+/// Makes a hub round an engine in which nothing has happened, and its two desks.
+fn open_hub(alloc: Global, engine: Engine, ring: usize) -> Result<Parts, PlantFault>
+    requires { plant_of engine ≡ opening }
+    ensures cleared { IfOk result (λ parts. parts.hub.engine.cleared ≡ engine.cleared) }
+    ensures parts { IfOk result (λ parts. AreParts parts.hub parts.console parts.link) }
+    ensures sent { IfOk result (λ parts. (parts.console.sent ≡ []) × (parts.link.sent ≡ [])) }
+{
+    let plan = PortPlan {
+        scope: Scope::All,
+        event_places: ring,
+        out_places: ring,
+    };
+    let Ok((hub, desks)) = Hub::new(alloc, engine, &[plan, plan]) else {
+        return Err(PlantFault::Memory);
+    };
+    let mut desks = desks;
+    let link = take_last(&mut desks)?;
+    let console = take_last(&mut desks)?;
+    Ok(Parts { hub, console, link })
+}
+
+/// Takes the last of the desks. A hub has one for each plan, so that there is one.
+fn take_last(desks: &mut Vec<Desk>) -> Result<Desk, PlantFault>
+    ensures { IfOk result (λ desk. desks.old.items ≡ desks.new.items ++ desk ∷ []) }
+{
+    match desks.pop() {
+        Some(desk) => Ok(desk),
+        None => Err(PlantFault::Memory),
+    }
+}

@@ -1,0 +1,10 @@
+//! The parts of a plant.
+use batch_desk::{Desk, Hub};
+
+/// A hub, and the desks of its two ports.
+#[derive(Drop)]
+pub(crate) struct Parts {
+    pub(crate) hub: Hub,
+    pub(crate) console: Desk,
+    pub(crate) link: Desk,
+}

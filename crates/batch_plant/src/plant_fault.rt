@@ -1,0 +1,16 @@
+//! Why a plant didn't run to its end.
+use thiserror::Error;
+
+/// Why a plant didn't run to its end. Of several the first is told.
+#[derive(Clone, Copy, Debug, PartialEq, Eq, Error)]
+pub enum PlantFault {
+    /// There was no memory for the engine, or for the rings.
+    #[error("out of memory")]
+    Memory,
+    /// A thread couldn't be started. The others were joined.
+    #[error("a thread can't be started")]
+    Thread,
+    /// A loop made as many turns as it may.
+    #[error("the turns ran out")]
+    TurnsOut,
+}

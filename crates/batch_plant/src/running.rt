@@ -1,0 +1,135 @@
+//! Running a plant.
+ghost use Rattle.std.specs.Prelude.{◌≡◌, Ok, IfOk, IsSome};
+ghost use Rattle.batch_desk.specs.Consoles.{IsConsole};
+ghost use Rattle.batch_desk.specs.Due.{events_of};
+ghost use Rattle.batch_desk.specs.HubDone.{AreComplete};
+ghost use Rattle.batch_desk.specs.HubState.{IsHub};
+ghost use Rattle.batch_desk.specs.Turns.{SameWork};
+ghost use Rattle.batch_plant.specs.Parts.{AreParts, HubRan, LinkRan};
+ghost use Rattle.batch_plant.specs.Plants.{ComesFromDesks, HasRings};
+
+use crate::closing::close_port;
+use crate::console_thread::{join_console, start_console};
+use crate::hub_running::run_hub;
+use crate::link_thread::{join_link, start_link};
+use crate::opening::open;
+use crate::parts::Parts;
+use crate::plant_end::PlantEnd;
+use crate::plant_fault::PlantFault;
+use crate::plant_gates::PlantGates;
+use crate::plant_rests::PlantRests;
+use crate::plant_task::PlantTask;
+use batch_cell::Cell;
+use batch_desk::{Desk, Gate, Hub};
+use batch_sim::{Simulator, UnitDriver};
+use batch_verify::Cleared;
+use std::alloc::Global;
+use std::thread::Threads;
+
+/// Runs a plant until as many batches are complete: a hub in the thread that calls, with a console and an equipment link, each in
+/// a thread of its own.
+///
+/// `cell` is the cell of the cleared set, which the link looks its units up in. The console has port 0 and the link port 1, both
+/// told of all moves. All threads that were started are joined, also after a fault. Then both desks finish, their ports are
+/// closed and sealed, and it is counted how many outs are still to be taken. Of several faults the first is told: want of memory,
+/// a thread that can't be started, a loop whose turns run out. The units are dropped in each case.
+pub fn plant_run<
+    R: Threads,
+    D: UnitDriver + Send + 'static,
+    H: Gate + Drop,
+    C: Gate + Send + Drop + 'static,
+    L: Gate + Send + Drop + 'static,
+>(
+    rt: &R,
+    alloc: Global,
+    cleared: Cleared,
+    cell: Cell,
+    units: Simulator<D>,
+    task: PlantTask,
+    gates: PlantGates<H, C, L>,
+) -> Result<PlantEnd, PlantFault>
+    requires { HasRings task.ring }
+    ensures set { IfOk result (λ end. end.hub.engine.cleared ≡ cleared) }
+    ensures complete { IfOk result (λ end. AreComplete task.batches end.hub) }
+    ensures account { IfOk result (λ end. IsHub end.hub) }
+    ensures desks { IfOk result (λ end. ComesFromDesks task.recipe task.size task.batches end.hub end.rests) }
+{
+    let parts = open(alloc, cleared, task.ring)?;
+    let ran = run_three(rt, alloc, parts, cell, units, task, gates)?;
+    Ok(close(ran))
+}
+
+/// Runs the three loops, that of the hub in the thread that calls, and waits for all that were started.
+fn run_three<
+    R: Threads,
+    D: UnitDriver + Send + 'static,
+    H: Gate + Drop,
+    C: Gate + Send + Drop + 'static,
+    L: Gate + Send + Drop + 'static,
+>(
+    rt: &R,
+    alloc: Global,
+    parts: Parts,
+    cell: Cell,
+    units: Simulator<D>,
+    task: PlantTask,
+    gates: PlantGates<H, C, L>,
+) -> Result<Parts, PlantFault>
+    ensures hub { IfOk result (λ ran. HubRan task.batches parts.hub ran.hub) }
+    ensures console { IfOk result (λ ran. IsConsole task.recipe task.size task.batches parts.console ran.console) }
+    ensures link { IfOk result (λ ran. LinkRan parts.link ran.link) }
+{
+    let Parts { hub, console, link } = parts;
+    let (batches, limit) = (task.batches, task.limit);
+    let first = start_console(rt, alloc, console, task, gates.console);
+    let second = start_link(rt, alloc, link, units, cell, batches, gates.link, limit);
+    let hub = run_hub(hub, batches, gates.hub, limit);
+    let console = join_console(rt, first);
+    let link = join_link(rt, second);
+    gather(hub, console, link)
+}
+
+/// The parts that ran, or the first fault.
+fn gather(
+    hub: Result<Hub, PlantFault>,
+    console: Result<Desk, PlantFault>,
+    link: Result<Desk, PlantFault>,
+) -> Result<Parts, PlantFault>
+    ensures hub { IfOk result (λ parts. hub ≡ Ok parts.hub) }
+    ensures console { IfOk result (λ parts. console ≡ Ok parts.console) }
+    ensures link { IfOk result (λ parts. link ≡ Ok parts.link) }
+{
+    match (hub, console, link) {
+        (Ok(hub), Ok(console), Ok(link)) => Ok(Parts { hub, console, link }),
+        (Err(PlantFault::Thread), _, _) => Err(PlantFault::Thread),
+        (_, Err(PlantFault::Thread), _) => Err(PlantFault::Thread),
+        (_, _, Err(PlantFault::Thread)) => Err(PlantFault::Thread),
+        _ => Err(PlantFault::TurnsOut),
+    }
+}
+
+/// Ends the desks, and closes their ports.
+fn close(parts: Parts) -> PlantEnd
+    requires { AreParts parts.hub parts.console parts.link }
+    ensures work { SameWork parts.hub result.hub }
+    ensures account { IsHub result.hub }
+    ensures console { IsSome result.rests.console → events_of 0 result.hub.history ≡ parts.console.sent }
+    ensures link { IsSome result.rests.link → events_of 1 result.hub.history ≡ parts.link.sent }
+{
+    let Parts { hub, console, link } = parts;
+    let mut hub = hub;
+    let console = close_port(&mut hub, 0, console);
+    let link = close_port(&mut hub, 1, link);
+    keeps_account(&hub);
+    PlantEnd {
+        hub,
+        rests: PlantRests { console, link },
+    }
+}
+
+/// Every hub keeps its account. Nothing is looked at.
+fn keeps_account(hub: &Hub)
+    ensures { IsHub hub.now }
+{
+    let _ = hub.history();
+}
