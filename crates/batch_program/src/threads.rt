@@ -20,8 +20,8 @@ const RECIPE: &[u8] = b"A";
 /// The size of each batch.
 const SIZE: u64 = 1000;
 
-/// Runs plants in threads that the runtime starts: the hub, a console and a link to steady units, each in one of its own.
-/// Their workers rest by the clock of the process.
+/// Runs plants: the hub in the thread that calls, and a console and a link to steady units, each in a thread that the runtime
+/// starts. All three rest by the clock of the process.
 #[derive(Drop)]
 pub struct ThreadsOf<'a, R> {
     pub threads: &'a R,

@@ -37,7 +37,7 @@ pub enum Command {
         recipes: Vec<String>,
         quiet: bool,
     },
-    /// To run the demo's plant with the hub, a console and a link to its units in threads of their own.
+    /// To run the demo's plant: its hub in the thread that calls, its console and its link to the units in threads of their own.
     Plant(PlantOptions),
     /// To say what a code of the program means.
     Explain {

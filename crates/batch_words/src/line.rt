@@ -99,7 +99,7 @@ fn plant<'a>(alloc: Global) -> Result<Command<'a>, AllocError>
 {
     Command::new(alloc, "plant")
         .about(
-            "Runs the demo's plant, with a hub, a console and a link to its units in threads of their own",
+            "Runs the demo's plant: its console and its link to the units in threads beside the hub's",
         )
         .arg(number(
             alloc,

@@ -78,7 +78,10 @@ fn commands(rt: HostRuntime) {
         (&["verify", "c", "k"], "verify c k [] false"),
         (&["run", "--quiet", "c", "k", "r"], "run c k [\"r\"] true"),
         (&["plant"], "plant 3 5 1"),
-        (&["plant", "--batches", "100", "--ticks=1000", "--ring", "64"], "plant 100 1000 64"),
+        (
+            &["plant", "--batches", "100", "--ticks=1000", "--ring", "64"],
+            "plant 100 1000 64",
+        ),
         (&["plant", "--ticks", "0"], "plant 3 0 1"),
         (&["explain", "E9"], "explain E9"),
     ];

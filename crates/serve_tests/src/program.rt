@@ -4,15 +4,15 @@ ghost use Rattle.std.specs.Prelude.{⊤};
 use crate::documents::{A, CELL1};
 use crate::ends::{Failure, Narrow, OneByOne};
 use crate::serving::{INPUT, RECORD};
-use batch_commands::{Documents, Halt};
 use batch_cell::Cell;
+use batch_commands::{Documents, Halt};
 use batch_plant::PlantFault;
 use batch_program::{
     PlantRunner, plants_are_complete, run_program, serving_is_safe, serving_status,
 };
+use batch_serve::{ServeFault, SetFault};
 use batch_verify::Cleared;
 use batch_words::PlantOptions;
-use batch_serve::{ServeFault, SetFault};
 use std::alloc::{AllocError, Global};
 use std::io::{ErrorKind, Read, Write};
 use std::test::Fail;
