@@ -13,7 +13,7 @@ mod steady_units;
 mod threads;
 
 pub use laws::{plants_are_complete, serving_is_safe};
-pub use limits::read_limit_is_fixed;
+pub use limits::{read_limit_is_fixed, turn_limit_is_fixed};
 pub use plant::report_of_plant;
 pub use plant_runner::PlantRunner;
 pub use process::{run_on_files, run_process};
