@@ -1,17 +1,19 @@
 -- How a command comes out.
-use Rattle.std.proofs.Common.{◌≡◌, ℕ, List, [], ◌∷◌, subst, Result, Ok, Err, IfOk, IfErr, map, string_bytes}
+use Rattle.std.proofs.Common.{◌≡◌, ℕ, List, [], ◌∷◌, refl, subst, Result, Ok, Err, IfOk, IfErr, map, string_bytes}
 use Rattle.std.specs.Prelude.{String, Vec}
 use Rattle.std.specs.Global.{Global}
 use Rattle.batch_verify.specs.ClearedSet.{ClearedSet}
 use Rattle.batch_commands.specs.Halting.{HaltsCheck, HaltsClearing}
 use Rattle.batch_commands.specs.Judging.{IsHalt}
 use Rattle.batch_commands.specs.Reading.{AreCleared, ChecksDocuments, DrawsDocuments, Gives, VerifiesDocuments}
-use Rattle.batch_commands.specs.Requests.{serve, check, draw, verify, run, is_quiet, request_of, demo_gives, IsServed, HaltsServing}
+use Rattle.batch_commands.specs.Requests.{check, draw, verify, run, is_quiet, request_of, demo_gives, HaltsDemo, IsServed, HaltsServing}
 use Rattle.batch_commands.specs.declared.demo.TheConstants.{CELL_PATH, CERTIFICATE_PATH, RECIPE_PATH}
-use Rattle.batch_commands.specs.Running.{IsDone, IsOutcome, IsTaken, Stream, serves, halts}
+use Rattle.batch_commands.specs.Running.{IsDone, IsOutcome, IsPlanned, IsTaken, Stream, serves, halts, plants}
 use Rattle.batch_words.specs.declared.command.Command.{Command}
+use Rattle.batch_words.specs.declared.command.Command.TheVariants.{Plant}
+use Rattle.batch_words.specs.declared.plant_options.PlantOptions.{PlantOptions}
 use Rattle.batch_commands.specs.declared.course.Course.{Course}
-use Rattle.batch_commands.specs.declared.course.Course.TheVariants.{Ends, Serves}
+use Rattle.batch_commands.specs.declared.course.Course.TheVariants.{Ends, Serves, Plants}
 use Rattle.batch_commands.specs.declared.verdict.Halt.{Halt}
 use Rattle.batch_commands.specs.declared.verdict.Verdict.{Verdict}
 
@@ -49,6 +51,15 @@ pub taken : (gives : Gives) (output errors : Stream) (command : Command) (set : 
 taken gives output errors command (Ok set) course served halted ends took = rw took.2 (serves set served took.0 took.1)
 taken gives output errors command (Err h) (Ends status) served halted is told = halts h status halted is told
 taken gives output errors command (Err h) (Serves set) served halted is told = absurd told
+taken gives output errors command (Err h) (Plants set c options) served halted is told = absurd told
+
+-- the plant of the demo is run, or it is told why there is none
+pub planned : (gives : Gives) (output errors : Stream) (options : PlantOptions) (course : Course)
+    → IsPlanned options output errors course → IsDone gives (Plant options) output errors course
+planned gives output errors options (Ends status) (h, halted, is, told) = halts h status halted is told
+planned gives output errors options (Serves set) is = absurd is
+planned gives output errors options (Plants set c own) (kept, silent, same, cleared, read) =
+    plants set c own (rw same refl) cleared read kept silent
 
 -- the documents were cleared at the paths that the command has
 pub served_by_run : (gives : Gives) (cell certificate : String Global) (recipes : Vec (String Global) Global) (path ranked : List ℕ)
@@ -66,8 +77,8 @@ halted_by_run gives cell certificate recipes path ranked paths (Ok set) at by al
 halted_by_run gives cell certificate recipes path ranked paths (Err h) at by all halted = rw (← at, ← by, ← all) halted
 
 -- the demo's documents end it, at the path of its recipe
-pub halted_by_demo : (gives : Gives) (path : List ℕ) (set : Result ClearedSet Halt) → path ≡ RECIPE_PATH.now
-    → IfErr set (HaltsClearing demo_gives CELL_PATH.now CERTIFICATE_PATH.now (path ∷ [])) → IfErr set (HaltsServing gives serve)
-halted_by_demo gives path (Ok set) at halted = tt
-halted_by_demo gives path (Err h) same halted =
+pub halted_by_demo : (path : List ℕ) (set : Result ClearedSet Halt) → path ≡ RECIPE_PATH.now
+    → IfErr set (HaltsClearing demo_gives CELL_PATH.now CERTIFICATE_PATH.now (path ∷ [])) → IfErr set HaltsDemo
+halted_by_demo path (Ok set) at halted = tt
+halted_by_demo path (Err h) same halted =
     subst (λ p. HaltsClearing demo_gives CELL_PATH.now CERTIFICATE_PATH.now (p ∷ []) h) same halted

@@ -6,15 +6,15 @@ use Rattle.clap.specs.Kinds.{IsAmong}
 use Rattle.clap.specs.Walk.{Row, Text}
 use Rattle.clap.specs.declared.error.kind.ErrorKind.{ErrorKind}
 use Rattle.clap.specs.Words.{fault_of, subcommand_of}
-use Rattle.batch_words.specs.CommandLine.{IsCommandOf, is_given, program_app, word_of, words_of}
+use Rattle.batch_words.specs.CommandLine.{IsCommandOf, batches_of, is_given, program_app, ring_of, ticks_of, word_of, words_of}
 use Rattle.batch_verify.specs.ClearedSet.{ClearedSet}
 use Rattle.batch_commands.specs.Judging.{IsHalt, status_of}
 use Rattle.batch_commands.specs.Reading.{Gives}
-use Rattle.batch_commands.specs.Requests.{Request, serve, check, draw, verify, run, explain, is_quiet, request_of, IsServed, HaltsServing}
-use Rattle.batch_commands.specs.Running.{IsDone, IsExplained, IsNamed, IsOutcome, IsPronounced, IsRun, IsTold, Stream, memory_status, commands, serves, halts, judges, explains, helps, misuses, starves}
+use Rattle.batch_commands.specs.Requests.{Request, serve, check, draw, verify, run, plant, explain, is_quiet, request_of, IsServed, HaltsServing}
+use Rattle.batch_commands.specs.Running.{IsDone, IsExplained, IsNamed, IsOutcome, IsPronounced, IsRun, IsTold, Stream, memory_status, commands, serves, plants, halts, judges, explains, helps, misuses, starves}
 use Rattle.batch_commands.specs.Statuses.{IsCodeTold, IsSuccess, NoCommandServes, ServesClearedSets, SuccessIsTold}
 use Rattle.batch_words.specs.declared.command.Command.{Command}
-use Rattle.batch_words.specs.declared.command.Command.TheVariants.{Serve, Check, Draw, Verify, Run, Explain}
+use Rattle.batch_words.specs.declared.command.Command.TheVariants.{Serve, Check, Draw, Verify, Run, Plant, Explain}
 use Rattle.batch_commands.specs.declared.course.Course.{Course}
 use Rattle.batch_commands.specs.declared.course.Course.TheVariants.{Ends, Serves}
 use Rattle.batch_commands.specs.declared.verdict.Ending.{Ending}
@@ -41,7 +41,10 @@ named_by name rows =
         | true ↦ verify (word_of (codes "CELL") rows) (word_of (codes "CERT") rows) (words_of (codes "RECIPE") rows)
         | false ↦ elim (bytes_eq name (codes "explain")) [
           | true ↦ explain (word_of (codes "CODE") rows)
-          | false ↦ run (word_of (codes "CELL") rows) (word_of (codes "CERT") rows) (words_of (codes "RECIPE") rows)
+          | false ↦ elim (bytes_eq name (codes "plant")) [
+            | true ↦ plant (batches_of rows) (ticks_of rows) (ring_of rows)
+            | false ↦ run (word_of (codes "CELL") rows) (word_of (codes "CERT") rows) (words_of (codes "RECIPE") rows)
+          ]
         ]
       ]
     ]
@@ -56,6 +59,7 @@ request_is entered (Check cell recipes quiet) (rows, is, plain, at, all, _) = rw
 request_is entered (Draw cell recipes quiet) (rows, is, drawn, at, all, _) = rw (is, drawn, at, all) refl
 request_is entered (Verify cell certificate recipes quiet) (rows, is, at, by, all, _) = rw (is, at, by, all) refl
 request_is entered (Run cell certificate recipes quiet) (rows, is, at, by, all, _) = rw (is, at, by, all) refl
+request_is entered (Plant options) (rows, is, has) = rw (is, has.0, has.1, has.2) refl
 request_is entered (Explain code) (rows, is, at) = rw (is, at) refl
 
 -- words ask for one thing
@@ -83,6 +87,7 @@ success_of : (gives : Gives) (quiet : Bool) (output errors : Stream) (request : 
     → IsOutcome gives request outcome → IsTold quiet output errors outcome status → status ≡ 0 → IsSuccess gives request output
 success_of gives quiet output errors serve outcome status came told is = absurd came
 success_of gives quiet output errors (run cell certificate recipes) outcome status came told is = absurd came
+success_of gives quiet output errors (plant batches ticks ring) outcome status came told is = absurd came
 success_of gives quiet output errors (explain code) outcome status came told is = absurd came
 success_of gives quiet output errors (check cell recipes) (Ok verdict) status came told is =
     let (appends, accepted) = pronounced_success quiet output errors verdict status told is in
@@ -109,6 +114,7 @@ explained_success code output errors status (inr (_, inr memory)) is = absurd cc
 done_success : (gives : Gives) (output errors : Stream) (command : Command) (course : Course)
     → IsDone gives command output errors course → course ≡ Ends 0 → IsSuccess gives (request_of command) output
 done_success gives output errors command _ (serves _ _ _ _) is = absurd cc
+done_success gives output errors command _ (plants _ _ _ _ _ _ _ _) is = absurd cc
 done_success gives output errors command _ (halts h status _ halted told) is =
     absurd (no_success (is_quiet command) output errors h status halted told cc)
 done_success gives output errors command _ (judges outcome status came told) is =
@@ -132,6 +138,7 @@ done_serving : (gives : Gives) (output errors : Stream) (command : Command) (set
 done_serving gives output errors command set _ (serves set2 served _ _) is =
     let same : set2 ≡ set = cc in
     rw (← same) served
+done_serving gives output errors command set _ (plants _ _ _ _ _ _ _ _) is = absurd cc
 done_serving gives output errors command set _ (halts _ _ _ _ _) is = absurd cc
 done_serving gives output errors command set _ (judges _ _ _ _) is = absurd cc
 done_serving gives output errors command set _ (explains _ _ _ _) is = absurd cc
@@ -152,6 +159,9 @@ nothing_judged : (gives : Gives) (request : Request) (outcome : Result Verdict H
 nothing_judged gives request outcome is came = rw is at came
 
 -- nothing is explained there either
+serves_no_plant : (batches ticks ring : ℕ) → serve ≡ plant batches ticks ring → ⊥
+serves_no_plant batches ticks ring is = cc
+
 serves_no_code : (code : List ℕ) → serve ≡ explain code → ⊥
 serves_no_code code is = cc
 
@@ -159,6 +169,8 @@ demo_done : (gives : Gives) (output errors : Stream) (command : Command) (course
     → IsDone gives command output errors course
     → ((set : ClearedSet) × IsServed gives serve set × (course ≡ Serves set)) ⊎ ((h : Halt) × HaltsServing gives serve h) ⊎ (course ≡ Ends memory_status)
 demo_done gives output errors command _ asked (serves set served _ _) = inl (set, subst (λ r. IsServed gives r set) asked served, refl)
+demo_done gives output errors command _ asked (plants _ _ options is _ _ _ _) =
+    absurd (serves_no_plant options.batches options.ticks options.ring (sym asked ∙ is))
 demo_done gives output errors command _ asked (halts h status halted _ _) = inr (inl (h, subst (λ r. HaltsServing gives r h) asked halted))
 demo_done gives output errors command _ asked (judges outcome status came _) =
     absurd (nothing_judged gives (request_of command) outcome asked came)

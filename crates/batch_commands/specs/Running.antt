@@ -1,5 +1,5 @@
 -- trusted: what the program writes for its words, to which stream, and how it ends.
-use Rattle.std.specs.Prelude.{◌≡◌, ◌⊎◌, ℕ, Bool, List, [], Option, Result, Ok, Err, string_bytes}
+use Rattle.std.specs.Prelude.{◌≡◌, ◌⊎◌, ℕ, Bool, false, List, [], Option, Result, Ok, Err, string_bytes}
 use Rattle.std.specs.Io.KnownBytes.{Appends, Keeps}
 use Rattle.clap.specs.Kinds.{IsAmong}
 use Rattle.clap.specs.Walk.{Text}
@@ -11,12 +11,14 @@ use Rattle.batch_words.specs.CommandLine.{IsCommandOf, IsShown, program_app}
 use Rattle.batch_commands.specs.Halting.{HaltsCheck, HaltsClearing}
 use Rattle.batch_commands.specs.Judging.{IsHalt, status_of}
 use Rattle.batch_commands.specs.Reading.{ChecksDocuments, DrawsDocuments, Gives, VerifiesDocuments}
-use Rattle.batch_commands.specs.Requests.{Request, serve, check, draw, verify, run, explain, is_quiet, request_of, IsServed, HaltsServing}
+use Rattle.batch_commands.specs.Requests.{Request, serve, check, draw, verify, run, plant, explain, is_quiet, request_of, IsDemoCell, IsDemoSet, IsServed, HaltsDemo, HaltsServing}
 use Rattle.batch_commands.specs.Saying.{IsSaid}
+use Rattle.batch_cell.specs.declared.cell.Cell.{Cell}
 use Rattle.batch_verify.specs.ClearedSet.{ClearedSet}
 use Rattle.batch_words.specs.declared.command.Command.{Command}
+use Rattle.batch_words.specs.declared.plant_options.PlantOptions.{PlantOptions}
 use Rattle.batch_commands.specs.declared.course.Course.{Course}
-use Rattle.batch_commands.specs.declared.course.Course.TheVariants.{Ends, Serves}
+use Rattle.batch_commands.specs.declared.course.Course.TheVariants.{Ends, Serves, Plants}
 use Rattle.batch_commands.specs.declared.verdict.Halt.{Halt}
 use Rattle.batch_commands.specs.declared.verdict.Halt.TheVariants as halt
 use Rattle.batch_commands.specs.declared.verdict.Verdict.{Verdict}
@@ -87,6 +89,7 @@ IsOutcome gives (verify cell certificate recipes) (Ok verdict) =
     VerifiesDocuments gives cell certificate recipes (string_bytes verdict.text) verdict.ending
 IsOutcome gives (verify cell certificate recipes) (Err h) = HaltsClearing gives cell certificate recipes h × IsHalt h
 IsOutcome gives (run cell certificate recipes) outcome = ⊥
+IsOutcome gives (plant batches ticks ring) outcome = ⊥
 IsOutcome gives (explain code) outcome = ⊥
 
 -- verdicts and refusals are printed; a file that can't be read and want of memory leave the output as it was, and are told on
@@ -102,6 +105,14 @@ abbrev pub IsTaken : Bool → Stream → Stream → Result ClearedSet Halt → C
 IsTaken quiet output errors (Ok set) course = IsUntouched output × IsUntouched errors × (course ≡ Serves set)
 IsTaken quiet output errors (Err h) (Ends status) = IsTold quiet output errors (Err h) status
 IsTaken quiet output errors (Err h) (Serves set) = ⊥
+IsTaken quiet output errors (Err h) (Plants set c options) = ⊥
+
+-- the plant of the demo is to be run, and nothing is written; or it is told why there is none
+abbrev pub IsPlanned : PlantOptions → Stream → Stream → Course → Type 0
+IsPlanned options output errors (Ends status) = (h : Halt) × HaltsDemo h × IsHalt h × IsTold false output errors (Err h) status
+IsPlanned options output errors (Serves set) = ⊥
+IsPlanned options output errors (Plants set c own) =
+    IsUntouched output × IsUntouched errors × (own ≡ options) × IsDemoSet set × IsDemoCell c
 
 -- what the code means is told, or that it has no explanation, or memory was wanting
 abbrev pub IsExplained : List ℕ → Stream → Stream → ℕ → Type 0
@@ -111,10 +122,13 @@ IsExplained code output errors status =
 
 -- Runs
 
--- what comes of a command: the exit status, or the set that the program is to serve
+-- what comes of a command: the exit status, or the set that the program is to serve or whose plant it is to run
 pub data IsDone (gives : Gives) (command : Command) (output errors : Stream) : Course → Type 0 where
   serves : (set : ClearedSet)
       → IsServed gives (request_of command) set → IsUntouched output → IsUntouched errors → IsDone gives command output errors (Serves set)
+  plants : (set : ClearedSet) (c : Cell) (options : PlantOptions)
+      → request_of command ≡ plant options.batches options.ticks options.ring → IsDemoSet set → IsDemoCell c → IsUntouched output → IsUntouched errors
+      → IsDone gives command output errors (Plants set c options)
   -- there is no set to be served
   halts : (h : Halt) (status : ℕ)
       → HaltsServing gives (request_of command) h → IsHalt h → IsTold (is_quiet command) output errors (Err h) status

@@ -4,7 +4,7 @@ use Rattle.std.specs.Io.KnownBytes.{Appends}
 use Rattle.clap.specs.Walk.{Text}
 use Rattle.batch_verify.specs.ClearedSet.{ClearedSet}
 use Rattle.batch_commands.specs.Reading.{AreCleared, ChecksDocuments, DrawsDocuments, Gives}
-use Rattle.batch_commands.specs.Requests.{Request, serve, check, draw, verify, run, explain, request_of, IsServed, HaltsServing}
+use Rattle.batch_commands.specs.Requests.{Request, serve, check, draw, verify, run, plant, explain, request_of, IsServed, HaltsServing}
 use Rattle.batch_commands.specs.Running.{IsNamed, IsRun, Stream, memory_status}
 use Rattle.batch_commands.specs.VerdictTexts.{accepted_text}
 use Rattle.batch_explain.specs.Explaining.{told}
@@ -33,6 +33,7 @@ IsSuccess gives (draw cell recipes) output =
 IsSuccess gives (verify cell certificate recipes) output =
     Appends output.before output.after accepted_text × ((set : ClearedSet) × AreCleared gives cell certificate recipes set)
 IsSuccess gives (run cell certificate recipes) output = ⊥
+IsSuccess gives (plant batches ticks ring) output = ⊥
 IsSuccess gives (explain code) output = IsCodeTold code output
 
 -- a command that ends with status 0 was a success

@@ -1,5 +1,7 @@
 //! What the words of the program come to.
+use batch_cell::Cell;
 use batch_verify::Cleared;
+use batch_words::PlantOptions;
 
 /// What the words of the program come to.
 #[derive(Drop)]
@@ -8,4 +10,10 @@ pub enum Course {
     Ends(u8),
     /// The program is to serve event lines over this set.
     Serves(Cleared),
+    /// The program is to run the plant of this set, which is that of the demo. The cell is the set's, read once more.
+    Plants {
+        set: Cleared,
+        cell: Cell,
+        options: PlantOptions,
+    },
 }

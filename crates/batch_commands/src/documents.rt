@@ -131,7 +131,11 @@ fn read_set<D: Documents>(
     })
 }
 
-fn read_cell<D: Documents>(alloc: Global, documents: &D, path: &str) -> Result<Cell, Halt>
+pub(crate) fn read_cell<D: Documents>(
+    alloc: Global,
+    documents: &D,
+    path: &str,
+) -> Result<Cell, Halt>
     ensures read { IfOk result (ReadsCell (D.gives documents.now) path.now) }
     ensures halts { IfErr result IsHalt }
     ensures halted { IfErr result (HaltsAtCell (D.gives documents.now) path.now) }

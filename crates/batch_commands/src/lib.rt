@@ -27,7 +27,7 @@ pub use judging::{
 pub use laws::statuses_tell;
 pub use limits::file_limits_are_fixed;
 pub use reading::{MAX_READS, ReadFault, read_document};
-pub use running::{FILE_FAULT, NO_MEMORY, OUT_OF_MEMORY, USAGE, complain, run_words};
+pub use running::{FILE_FAULT, NO_MEMORY, OUT_OF_MEMORY, USAGE, complain, print, run_words};
 pub use texts::{
     certificate_refused, certificate_text, document_text, fault_text, graph_text, refusal_text,
 };

@@ -2,19 +2,20 @@
 ghost use Rattle.std.specs.Prelude.{◌≡◌, IfErr, IfOk, OnOk, map, string_bytes};
 ghost use Rattle.std.specs.Io.KnownBytes.{Appends};
 ghost use Rattle.batch_commands.specs.Judging.{IsHalt};
-ghost use Rattle.batch_commands.specs.Requests.{HaltsServing, IsServed, serve};
-ghost use Rattle.batch_commands.specs.Running.{IsDone, IsExplained, IsPrinted, IsPronounced, IsRun, IsTaken, IsTold, fault_status};
+ghost use Rattle.batch_commands.specs.Requests.{HaltsDemo, IsDemoCell, IsDemoSet};
+ghost use Rattle.batch_commands.specs.Running.{IsDone, IsExplained, IsPlanned, IsPrinted, IsPronounced, IsRun, IsTaken, IsTold, fault_status};
 
 use crate::course::Course;
 use crate::demo::{CELL_PATH, CERTIFICATE_PATH, Demo, RECIPE_PATH};
 use crate::documents::{
-    Documents, check_documents, clear_documents, draw_documents, verify_documents,
+    Documents, check_documents, clear_documents, draw_documents, read_cell, verify_documents,
 };
 use crate::saying::say;
 use crate::verdict::{Halt, Verdict};
+use batch_cell::Cell;
 use batch_explain::{explanation_of, explanation_text};
 use batch_verify::Cleared;
-use batch_words::{Command, CommandFault, parse};
+use batch_words::{Command, CommandFault, PlantOptions, parse};
 use std::alloc::Global;
 use std::fmt::Display;
 use std::io;
@@ -112,15 +113,16 @@ fn run_command<D: Documents, O: Write, E: Write>(
             let outcome = verify_documents(alloc, documents, &cell, &certificate, &recipes);
             Course::Ends(tell(alloc, quiet, &outcome, output, errors))
         }
+        Command::Plant(options) => plan(alloc, options, output, errors),
         Command::Explain { code } => Course::Ends(explain(alloc, &code, output, errors)),
     }
 }
 
 /// The set of the demo, read and cleared as any other.
 fn clear_demo(alloc: Global) -> Result<Cleared, Halt>
-    ensures served { IfOk result (IsServed (λ _ _. ⊥) serve) }
+    ensures set { IfOk result IsDemoSet }
     ensures halts { IfErr result IsHalt }
-    ensures halted { IfErr result (HaltsServing (λ _ _. ⊥) serve) }
+    ensures halted { IfErr result HaltsDemo }
 {
     let recipes = [String::from_str(alloc, RECIPE_PATH)?];
     clear_documents(alloc, &Demo, CELL_PATH, CERTIFICATE_PATH, &recipes)
@@ -141,6 +143,34 @@ fn take<O: Write, E: Write>(
         Ok(cleared) => Course::Serves(cleared),
         Err(halt) => Course::Ends(tell(alloc, quiet, &Err(halt), output, errors)),
     }
+}
+
+/// Hands on the plant of the demo with these options, or tells why there is none.
+fn plan<O: Write, E: Write>(
+    alloc: Global,
+    options: PlantOptions,
+    output: &mut O,
+    errors: &mut E,
+) -> Course
+    ensures { IsPlanned options (record { before = O.contents output.old; after = O.contents output.new })
+        (record { before = E.contents errors.old; after = E.contents errors.new }) result }
+{
+    match read_plant(alloc) {
+        Ok((set, cell)) => Course::Plants { set, cell, options },
+        Err(halt) => Course::Ends(tell(alloc, false, &Err(halt), output, errors)),
+    }
+}
+
+/// The set of the demo, and its cell once more.
+fn read_plant(alloc: Global) -> Result<(Cleared, Cell), Halt>
+    ensures set { IfOk result (λ read. IsDemoSet read.0) }
+    ensures cell { IfOk result (λ read. IsDemoCell read.1) }
+    ensures halts { IfErr result IsHalt }
+    ensures halted { IfErr result HaltsDemo }
+{
+    let set = clear_demo(alloc)?;
+    let cell = read_cell(alloc, &Demo, CELL_PATH)?;
+    Ok((set, cell))
 }
 
 /// Tells how a command came out, and gives the exit status.
@@ -198,7 +228,7 @@ fn explain<O: Write, E: Write>(alloc: Global, code: &str, output: &mut O, errors
 }
 
 /// Prints the text, and gives the wanted exit status, or that of a write that fails.
-fn print<O: Write, E: Write>(output: &mut O, errors: &mut E, text: &str, wanted: u8) -> u8
+pub fn print<O: Write, E: Write>(output: &mut O, errors: &mut E, text: &str, wanted: u8) -> u8
     ensures { IsPrinted (record { before = O.contents output.old; after = O.contents output.new })
         (record { before = E.contents errors.old; after = E.contents errors.new }) text.now wanted result }
 {

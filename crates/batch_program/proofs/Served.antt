@@ -1,5 +1,5 @@
--- What a run that serves tells.
-use Rattle.std.proofs.Common.{◌≡◌, ℕ, ◌≤◌, Bool, List, Option, Some, None, Result, Ok, Err, inl, inr, refl, subst, arith, ◌∙◌}
+-- What a run that serves tells, and one that runs a plant.
+use Rattle.std.proofs.Common.{◌≡◌, ℕ, ◌≤◌, Bool, List, Option, Some, None, Result, Ok, Err, IfOk, inl, inr, refl, sym, subst, arith, ◌∙◌}
 use Rattle.std.specs.Prelude.{IfSome, take}
 use Rattle.std.specs.Io.KnownBytes.{Appends, Keeps}
 use Rattle.clap.specs.Walk.{Text}
@@ -9,10 +9,12 @@ use Rattle.batch_engine.specs.View.{documents}
 use Rattle.batch_wire.specs.Transcript.{lines_of, whole_lines}
 use Rattle.batch_wire.specs.Written.{AppendsBeginning}
 use Rattle.batch_serve.specs.Safe.{BeginsSafely, WritesSafely, WritesWholeSafely}
+use Rattle.batch_cell.specs.declared.cell.Cell.{Cell}
 use Rattle.batch_words.specs.declared.command.Command.{Command}
+use Rattle.batch_words.specs.declared.plant_options.PlantOptions.{PlantOptions}
 use Rattle.batch_commands.specs.Reading.{Gives}
-use Rattle.batch_commands.specs.Requests.{Request, IsServed, is_quiet, request_of, serve, check, draw, verify, run, explain}
-use Rattle.batch_commands.specs.Running.{IsDone, IsExplained, IsNamed, IsPrinted, IsPronounced, IsRun, IsTold, Stream, help_status, usage_status, memory_status}
+use Rattle.batch_commands.specs.Requests.{Request, IsDemoSet, IsServed, is_quiet, request_of, serve, check, draw, verify, run, plant, explain}
+use Rattle.batch_commands.specs.Running.{IsDone, IsExplained, IsNamed, IsPrinted, IsPronounced, IsRun, IsTold, IsUntouched, Stream, help_status, usage_status, memory_status}
 use Rattle.batch_commands.specs.Statuses.{IsSuccess}
 use Rattle.batch_commands.proofs.Successes.{same_request, success_is_told}
 use Rattle.batch_commands.specs.Judging.{status_of}
@@ -31,7 +33,10 @@ use Rattle.batch_serve.specs.declared.fault.ServeFault.TheVariants.{Read, Write,
 use Rattle.batch_serve.specs.declared.fault.SetFault.{SetFault}
 use Rattle.batch_serve.specs.declared.fault.SetFault.TheVariants.{Memory, Stopped}
 use Rattle.batch_program.specs.declared.program.TheConstants.{MAX_READS}
-use Rattle.batch_program.specs.Programs.{IsProgramRun, IsToServe, ServingIsSafe, tells, serves, status_of_serving, output_of}
+use Rattle.batch_program.specs.Programs.{IsProgramRun, IsToServe, PlantsAreComplete, ServingIsSafe, tells, serves, plants, status_of_serving, output_of}
+use Rattle.batch_plant.specs.declared.plant_fault.PlantFault.{PlantFault}
+use Rattle.batch_plant.specs.declared.plant_fault.PlantFault.TheVariants as plant_fault
+use Rattle.batch_program.specs.PlantRuns.{HasRun, IsPlantTold, plant_text, refused_status}
 
 -- Streams
 
@@ -99,6 +104,7 @@ done_to_serve : (gives : Gives) (output errors : Stream) (command : Command) (co
 done_to_serve gives output errors command _ set (running.serves other served kept _) is =
     let same : other ≡ set = cc in
     (subst (λ s. IsServed gives (request_of command) s) same served, kept)
+done_to_serve gives output errors command _ set (running.plants _ _ _ _ _ _ _ _) is = absurd cc
 done_to_serve gives output errors command _ set (running.halts _ _ _ _ _) is = absurd cc
 done_to_serve gives output errors command _ set (running.judges _ _ _ _) is = absurd cc
 done_to_serve gives output errors command _ set (running.explains _ _ _ _) is = absurd cc
@@ -114,6 +120,54 @@ set_to_serve gives words output errors _ set (running.helps _ _ _ _) is = absurd
 set_to_serve gives words output errors _ set (running.misuses _ _) is = absurd cc
 set_to_serve gives words output errors _ set (running.starves _) is = absurd cc
 
+-- The plant
+
+done_to_plant : (gives : Gives) (output errors : Stream) (command : Command) (course : Course) (set : ClearedSet) (c : Cell) (options : PlantOptions)
+    → IsDone gives command output errors course → course ≡ course_of.Plants set c options
+    → (request_of command ≡ plant options.batches options.ticks options.ring) × IsDemoSet set × IsUntouched output × IsUntouched errors
+done_to_plant gives output errors command _ set c options (running.plants other d own asked cleared read kept silent) is =
+    let same : other ≡ set = cc in
+    let chosen : own ≡ options = cc in
+    (subst (λ (o : PlantOptions). request_of command ≡ plant o.batches o.ticks o.ring) chosen asked, subst IsDemoSet same cleared, kept, silent)
+done_to_plant gives output errors command _ set c options (running.serves _ _ _ _) is = absurd cc
+done_to_plant gives output errors command _ set c options (running.halts _ _ _ _ _) is = absurd cc
+done_to_plant gives output errors command _ set c options (running.judges _ _ _ _) is = absurd cc
+done_to_plant gives output errors command _ set c options (running.explains _ _ _ _) is = absurd cc
+
+-- the plant that is to be run is the demo's, with the options that the words have, and nothing was written
+pub plant_to_run : (gives : Gives) (words : List Text) (output errors : Stream) (course : Course) (set : ClearedSet) (c : Cell) (options : PlantOptions)
+    → IsRun gives words output errors course → course ≡ course_of.Plants set c options
+    → (command : Command) × IsNamed words command × (request_of command ≡ plant options.batches options.ticks options.ring) × IsDemoSet set
+    × IsUntouched output × IsUntouched errors
+plant_to_run gives words output errors _ set c options (running.commands command course named came) is =
+    let (asked, cleared, kept, silent) = done_to_plant gives output errors command course set c options came is in
+    (command, named, asked, cleared, kept, silent)
+plant_to_run gives words output errors _ set c options (running.helps _ _ _ _) is = absurd cc
+plant_to_run gives words output errors _ set c options (running.misuses _ _) is = absurd cc
+plant_to_run gives words output errors _ set c options (running.starves _) is = absurd cc
+
+printed_kept : (before mid after quiet still loud : Option (List ℕ)) (text : List ℕ) (wanted status : ℕ) → Keeps before mid → Keeps quiet still
+    → IsPrinted (record { before = mid; after = after }) (record { before = still; after = loud }) text wanted status
+    → IsPrinted (record { before = before; after = after }) (record { before = quiet; after = loud }) text wanted status
+printed_kept before mid after quiet still loud text wanted status kept silent (inl (appends, untouched, is)) =
+    inl (kept_then_appended before mid after text kept appends, kept_then_kept quiet still loud silent untouched, is)
+printed_kept before mid after quiet still loud text wanted status kept silent (inr fault) = inr fault
+
+-- telling the end of a plant, after the streams were left as they were
+pub told_kept : (before mid after quiet still loud : Option (List ℕ)) (batches : ℕ) (end : Result ℕ PlantFault) (status : ℕ) → Keeps before mid → Keeps quiet still
+    → IsPlantTold (record { before = mid; after = after }) (record { before = still; after = loud }) batches end status
+    → IsPlantTold (record { before = before; after = after }) (record { before = quiet; after = loud }) batches end status
+told_kept before mid after quiet still loud batches (Ok handled) status kept silent (inl printed) =
+    inl (printed_kept before mid after quiet still loud (plant_text batches handled) 0 status kept silent printed)
+told_kept before mid after quiet still loud batches (Ok handled) status kept silent (inr (untouched, is)) =
+    inr (kept_then_kept before mid after kept untouched, is)
+told_kept before mid after quiet still loud batches (Err plant_fault.TurnsOut) status kept silent printed =
+    printed_kept before mid after quiet still loud _ refused_status status kept silent printed
+told_kept before mid after quiet still loud batches (Err plant_fault.Memory) status kept silent (untouched, is) =
+    (kept_then_kept before mid after kept untouched, is)
+told_kept before mid after quiet still loud batches (Err plant_fault.Thread) status kept silent (untouched, is) =
+    (kept_then_kept before mid after kept untouched, is)
+
 -- Exit statuses
 
 -- nothing that is to be served ends with status 0 before it is served
@@ -122,6 +176,7 @@ nothing_served gives serve output asked success = success
 nothing_served gives (check cell recipes) output asked success = asked
 nothing_served gives (draw cell recipes) output asked success = asked
 nothing_served gives (verify cell certificate recipes) output asked success = asked
+nothing_served gives (plant batches ticks ring) output asked success = asked
 nothing_served gives (explain code) output asked success = asked
 nothing_served gives (run cell certificate recipes) output asked success = success
 
@@ -139,6 +194,8 @@ safe_at gives words ends errors command _ named asked (tells status came _) is =
     absurd (nothing_served gives (request_of command) (output_of ends) asked success)
 safe_at gives words ends errors command _ named asked (serves other set served named2 is_served all) is =
     (set, subst (λ r. IsServed gives r set) (same_request words other command named2 named) is_served, ran_to_the_end set served ends all is)
+safe_at gives words ends errors command status named asked (plants other set options end _ named2 planted _ _ _ _) is =
+    absurd (subst IsToServe (sym (same_request words other command named2 named) ∙ planted) asked)
 
 pub serving_is_safe : (gives : Gives) → ServingIsSafe gives
 serving_is_safe gives words ends errors command named asked came = safe_at gives words ends errors command 0 named asked came refl
@@ -171,6 +228,7 @@ explained_in_range code output errors status (inr (_, inr memory)) = rw memory (
 done_in_range : (gives : Gives) (output errors : Stream) (command : Command) (course : Course) (status : ℕ)
     → IsDone gives command output errors course → course ≡ Ends status → status ≤ 4
 done_in_range gives output errors command _ status (running.serves _ _ _ _) is = absurd cc
+done_in_range gives output errors command _ status (running.plants _ _ _ _ _ _ _ _) is = absurd cc
 done_in_range gives output errors command _ status (running.halts h told _ _ at) is =
     let same : told ≡ status = cc in rw (← same) (told_in_range (is_quiet command) output errors (Err h) told at)
 done_in_range gives output errors command _ status (running.judges outcome told _ at) is =
@@ -194,7 +252,56 @@ serving_in_range (Ok done) = omega arith
 serving_in_range (Err Memory) = omega arith
 serving_in_range (Err (Stopped fault)) = omega arith
 
+plant_in_range : (output errors : Stream) (batches : ℕ) (end : Result ℕ PlantFault) (status : ℕ) → IsPlantTold output errors batches end status → status ≤ 4
+plant_in_range output errors batches (Ok handled) status (inl printed) = printed_in_range output errors _ 0 status (omega arith) printed
+plant_in_range output errors batches (Ok handled) status (inr (_, memory)) = rw memory (omega arith)
+plant_in_range output errors batches (Err plant_fault.TurnsOut) status printed = printed_in_range output errors _ refused_status status (omega arith) printed
+plant_in_range output errors batches (Err plant_fault.Memory) status (_, memory) = rw memory (omega arith)
+plant_in_range output errors batches (Err plant_fault.Thread) status (_, memory) = rw memory (omega arith)
+
 pub run_in_range : (gives : Gives) (words : List Text) (ends : serving.Ends) (errors : Stream) (status : ℕ)
     → IsProgramRun gives words ends errors status → status ≤ 4
 run_in_range gives words ends errors _ (tells status came _) = course_in_range gives words (output_of ends) errors (Ends status) status came refl
 run_in_range gives words ends errors _ (serves _ _ served _ _ _) = serving_in_range served
+run_in_range gives words ends errors status (plants _ _ options end _ _ _ _ _ told _) = plant_in_range (output_of ends) errors options.batches end status told
+
+-- What a plant tells
+
+-- with status 0 the plant ran, and its three lines were written
+complete_at : (output errors : Stream) (set : ClearedSet) (batches : ℕ) (end : Result ℕ PlantFault) (status : ℕ) → IfOk end (HasRun set batches)
+    → IsPlantTold output errors batches end status → status ≡ 0
+    → (handled : ℕ) × HasRun set batches handled × Appends output.before output.after (plant_text batches handled)
+complete_at output errors set batches (Ok handled) status ran (inl (inl (appends, _, _))) is = (handled, ran, appends)
+complete_at output errors set batches (Ok handled) status ran (inl (inr fault)) is = absurd cc
+complete_at output errors set batches (Ok handled) status ran (inr (_, memory)) is = absurd cc
+complete_at output errors set batches (Err plant_fault.TurnsOut) status ran (inl (_, _, refused)) is = absurd cc
+complete_at output errors set batches (Err plant_fault.TurnsOut) status ran (inr fault) is = absurd cc
+complete_at output errors set batches (Err plant_fault.Memory) status ran (_, memory) is = absurd cc
+complete_at output errors set batches (Err plant_fault.Thread) status ran (_, memory) is = absurd cc
+
+-- no success stands for a plant before it is run
+no_plant_told : (gives : Gives) (request : Request) (output : Stream) (batches ticks ring : ℕ) → request ≡ plant batches ticks ring → IsSuccess gives request output → ⊥
+no_plant_told gives request output batches ticks ring is success = rw is at success
+
+not_served : (gives : Gives) (request : Request) (set : ClearedSet) (batches ticks ring : ℕ) → request ≡ plant batches ticks ring → IsServed gives request set → ⊥
+not_served gives request set batches ticks ring is served = rw is at served
+
+same_batches : (a b ticks more ring places : ℕ) → plant a ticks ring ≡ plant b more places → a ≡ b
+same_batches a b ticks more ring places is = cc
+
+told_plant : (gives : Gives) (words : List Text) (ends : serving.Ends) (errors : Stream) (command : Command) (batches ticks ring status : ℕ)
+    → IsNamed words command → request_of command ≡ plant batches ticks ring → IsProgramRun gives words ends errors status → status ≡ 0
+    → (set : ClearedSet) × (handled : ℕ) × IsDemoSet set × HasRun set batches handled × Appends ends.before ends.after (plant_text batches handled)
+told_plant gives words ends errors command batches ticks ring _ named asked (tells status came _) is =
+    let success = success_is_told gives words (output_of ends) errors command named (subst (λ k. IsRun gives words (output_of ends) errors (Ends k)) is came) in
+    absurd (no_plant_told gives (request_of command) (output_of ends) batches ticks ring asked success)
+told_plant gives words ends errors command batches ticks ring _ named asked (serves other set served named2 is_served _) is =
+    absurd (not_served gives (request_of other) set batches ticks ring (same_request words other command named2 named ∙ asked) is_served)
+told_plant gives words ends errors command batches ticks ring status named asked (plants other set options end _ named2 planted demo ran told _) is =
+    let same = same_batches options.batches batches options.ticks ticks options.ring ring (sym planted ∙ same_request words other command named2 named ∙ asked) in
+    let (handled, came, appends) = complete_at (output_of ends) errors set options.batches end status ran told is in
+    (set, handled, demo, subst (λ n. HasRun set n handled) same came, subst (λ n. Appends ends.before ends.after (plant_text n handled)) same appends)
+
+pub plants_are_complete : (gives : Gives) → PlantsAreComplete gives
+plants_are_complete gives words ends errors command batches ticks ring named asked came =
+    told_plant gives words ends errors command batches ticks ring 0 named asked came refl

@@ -1,1 +1,2 @@
+pub mod PlantRuns
 pub mod Programs

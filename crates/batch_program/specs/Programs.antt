@@ -1,19 +1,22 @@
 -- trusted: what comes of the program's words, input and documents.
-use Rattle.std.specs.Prelude.{◌≤◌, ℕ, ⊤, List, Result, Ok, Err}
-use Rattle.std.specs.Io.KnownBytes.{Keeps}
+use Rattle.std.specs.Prelude.{◌≡◌, ◌≤◌, ℕ, ⊤, IfOk, List, Result, Ok, Err}
+use Rattle.std.specs.Io.KnownBytes.{Appends, Keeps}
 use Rattle.std.specs.Process.{exit_status}
 use Rattle.std.specs.declared.process.ExitCode.{ExitCode}
 use Rattle.clap.specs.Walk.{Text}
 use Rattle.batch_verify.specs.ClearedSet.{ClearedSet}
 use Rattle.batch_words.specs.declared.command.Command.{Command}
+use Rattle.batch_words.specs.declared.plant_options.PlantOptions.{PlantOptions}
 use Rattle.batch_commands.specs.Reading.{Gives}
-use Rattle.batch_commands.specs.Requests.{Request, serve, check, draw, verify, run, explain, IsServed, request_of}
+use Rattle.batch_commands.specs.Requests.{Request, serve, check, draw, verify, run, plant, explain, IsDemoSet, IsServed, request_of}
 use Rattle.batch_commands.specs.Running.{IsNamed, IsRun, Stream, fault_status, memory_status}
 use Rattle.batch_commands.specs.declared.course.Course.TheVariants.{Ends}
 use Rattle.batch_serve.specs.Serves as serving
 use Rattle.batch_serve.specs.Serves.{AnswersAll, Serves}
 use Rattle.batch_serve.specs.declared.fault.SetFault.{SetFault}
 use Rattle.batch_serve.specs.declared.fault.SetFault.TheVariants.{Memory, Stopped}
+use Rattle.batch_plant.specs.declared.plant_fault.PlantFault.{PlantFault}
+use Rattle.batch_program.specs.PlantRuns.{HasRun, IsPlantTold, plant_text}
 use Rattle.batch_program.specs.declared.program.TheConstants.{MAX_READS}
 
 abbrev pub IsExitStatus : ExitCode → Type 0
@@ -38,6 +41,11 @@ pub data IsProgramRun (gives : Gives) (words : List Text) (ends : serving.Ends) 
   serves : (command : Command) (set : ClearedSet) (served : Result (Unit {0}) SetFault)
       → IsNamed words command → IsServed gives (request_of command) set → Serves set MAX_READS served ends
       → IsProgramRun gives words ends errors (status_of_serving served)
+  -- the plant of the demo is run with the options that the words have, its end is told, and the input isn't read
+  plants : (command : Command) (set : ClearedSet) (options : PlantOptions) (end : Result ℕ PlantFault) (status : ℕ)
+      → IsNamed words command → request_of command ≡ plant options.batches options.ticks options.ring → IsDemoSet set
+      → IfOk end (HasRun set options.batches) → IsPlantTold (output_of ends) errors options.batches end status → Keeps ends.unread ends.left
+      → IsProgramRun gives words ends errors status
 
 -- Laws
 
@@ -48,6 +56,7 @@ IsToServe (check cell recipes) = ⊥
 IsToServe (draw cell recipes) = ⊥
 IsToServe (verify cell certificate recipes) = ⊥
 IsToServe (run cell certificate recipes) = ⊤
+IsToServe (plant batches ticks ring) = ⊥
 IsToServe (explain code) = ⊥
 
 -- a run that was to serve and ends with status 0 has answered all lines of its input, by the engine of the set that its documents
@@ -57,3 +66,11 @@ ServingIsSafe gives =
     (words : List Text) (ends : serving.Ends) (errors : Stream) (command : Command)
     → IsNamed words command → IsToServe (request_of command) → IsProgramRun gives words ends errors 0
     → (set : ClearedSet) × IsServed gives (request_of command) set × AnswersAll set ends
+
+-- a run of `plant` that ends with status 0 has written its three lines, and a hub over the demo's set has come to where the batches
+-- that were asked for are complete, with so many events as the third line says
+abbrev pub PlantsAreComplete : Gives → Type 0
+PlantsAreComplete gives =
+    (words : List Text) (ends : serving.Ends) (errors : Stream) (command : Command) (batches ticks ring : ℕ)
+    → IsNamed words command → request_of command ≡ plant batches ticks ring → IsProgramRun gives words ends errors 0
+    → (set : ClearedSet) × (handled : ℕ) × IsDemoSet set × HasRun set batches handled × Appends ends.before ends.after (plant_text batches handled)

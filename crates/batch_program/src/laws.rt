@@ -1,5 +1,5 @@
 //! Laws over runs of the program.
-ghost use Rattle.batch_program.specs.Programs.{ServingIsSafe};
+ghost use Rattle.batch_program.specs.Programs.{PlantsAreComplete, ServingIsSafe};
 
 use batch_commands::Documents;
 
@@ -7,6 +7,14 @@ use batch_commands::Documents;
 /// of the input were answered, and what was written is the text of a safe record.
 pub fn serving_is_safe<D: Documents>(documents: &D)
     ensures { ServingIsSafe (D.gives documents.now) }
+{
+    let _documents = documents;
+}
+
+/// What the exit status 0 of a run of `plant` tells: the three lines were written, and a hub over the demo's set has the batches
+/// complete that were asked for, after so many events as the third line says.
+pub fn plants_are_complete<D: Documents>(documents: &D)
+    ensures { PlantsAreComplete (D.gives documents.now) }
 {
     let _documents = documents;
 }

@@ -3,12 +3,20 @@
 
 mod laws;
 mod limits;
+mod patient_gate;
+mod plant;
+mod plant_runner;
 mod process;
 mod program;
 mod statuses;
+mod steady_units;
+mod threads;
 
-pub use laws::serving_is_safe;
-pub use limits::read_limit_is_fixed;
+pub use laws::{plants_are_complete, serving_is_safe};
+pub use limits::{read_limit_is_fixed, turn_limit_is_fixed};
+pub use plant::report_of_plant;
+pub use plant_runner::PlantRunner;
 pub use process::{run_on_files, run_process};
 pub use program::{MAX_READS, run_program};
 pub use statuses::serving_status;
+pub use threads::{TURNS, ThreadsOf};

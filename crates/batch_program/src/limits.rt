@@ -1,8 +1,14 @@
-//! The limit of the program.
+//! The limits of the program.
 ghost use Rattle.std.specs.Prelude.{◌≡◌};
 ghost use Rattle.batch_program.specs.declared.program.TheConstants.{MAX_READS};
+ghost use Rattle.batch_program.specs.declared.threads.TheConstants.{TURNS};
 
 /// Standard input is read at most this often.
 pub fn read_limit_is_fixed()
     ensures { MAX_READS ≡ 1000000000 }
+{}
+
+/// Each worker of a plant has at most this many turns.
+pub fn turn_limit_is_fixed()
+    ensures { TURNS ≡ 10000000 }
 {}

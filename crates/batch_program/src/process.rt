@@ -3,20 +3,23 @@ ghost use Rattle.std.specs.Prelude.{◌≤◌};
 ghost use Rattle.batch_program.specs.Programs.{IsExitStatus};
 
 use crate::program::run_program;
+use crate::threads::ThreadsOf;
 use batch_commands::{FilesOf, NO_MEMORY, OUT_OF_MEMORY, USAGE, complain};
 use std::io::{BufWriter, ErrorKind};
 use std::process::ExitCode;
+use std::thread::Threads;
 use std::{env, io};
 
 /// How much of the record waits before it is handed on in the midst of an input.
 const OUTPUT_ROOM: usize = 65_536;
 
-/// Does what the words of the process ask for, over its files and streams, and gives the exit status.
-pub fn run_process(rt: &HostRuntime) -> ExitCode
+/// Does what the words of the process ask for, over its files and streams, and gives the exit status. Plants run in threads that
+/// the second handle starts, which `main` has beside the first.
+pub fn run_process<T: Threads>(rt: &HostRuntime, threads: &T) -> ExitCode
     ensures { IsExitStatus result }
 {
     let status = match words_of(rt) {
-        Ok(words) => run_on_files(rt, &words),
+        Ok(words) => run_on_files(rt, threads, &words),
         Err(error) if error.kind() == ErrorKind::OutOfMemory => {
             complain(&mut rt.stderr(), OUT_OF_MEMORY, NO_MEMORY)
         }
@@ -25,8 +28,8 @@ pub fn run_process(rt: &HostRuntime) -> ExitCode
     ExitCode::from(status)
 }
 
-/// Does what the words ask for, over the files and streams of the process, and gives the exit status.
-pub fn run_on_files(rt: &HostRuntime, words: &[String]) -> u8
+/// Does what the words ask for, over the files, streams and threads of the process, and gives the exit status.
+pub fn run_on_files<T: Threads>(rt: &HostRuntime, threads: &T, words: &[String]) -> u8
     ensures { result ≤ 4 }
 {
     let alloc = rt.alloc();
@@ -39,6 +42,10 @@ pub fn run_on_files(rt: &HostRuntime, words: &[String]) -> u8
         alloc,
         words,
         &FilesOf(rt),
+        &ThreadsOf {
+            threads,
+            clock: *rt,
+        },
         &mut input,
         &mut output,
         &mut errors,

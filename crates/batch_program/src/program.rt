@@ -2,6 +2,8 @@
 ghost use Rattle.std.specs.Prelude.{◌≡◌, map, string_bytes};
 ghost use Rattle.batch_program.specs.Programs.{IsProgramRun, status_of_serving};
 
+use crate::plant::report_of_plant;
+use crate::plant_runner::PlantRunner;
 use crate::statuses::serving_status;
 use batch_commands::{Course, Documents, complain, run_words};
 use batch_serve::{SetFault, serve_set};
@@ -11,15 +13,16 @@ use std::io::{Read, Write};
 /// How often standard input may be read, interrupted calls among them.
 pub const MAX_READS: u64 = 1_000_000_000;
 
-/// Does what the words ask for, and gives the exit status: judges documents, or serves event lines from the input over the set
-/// that they name.
+/// Does what the words ask for, and gives the exit status: judges documents, serves event lines from the input over the set
+/// that they name, or has the demo's plant run.
 ///
-/// Verdicts, help and the record go to the output, and all else, in a free text, to the errors. Refused events are part of the
-/// record and don't change the status.
-pub fn run_program<D: Documents, R: Read, W: Write, E: Write>(
+/// Verdicts, help, the record and the lines of a plant go to the output, and all else, in a free text, to the errors. Refused
+/// events are part of the record and don't change the status.
+pub fn run_program<D: Documents, P: PlantRunner, R: Read, W: Write, E: Write>(
     alloc: Global,
     words: &[String],
     documents: &D,
+    plants: &P,
     input: &mut R,
     output: &mut W,
     errors: &mut E,
@@ -33,6 +36,10 @@ pub fn run_program<D: Documents, R: Read, W: Write, E: Write>(
         Course::Serves(cleared) => {
             let served = serve_set(alloc, cleared, input, output, MAX_READS);
             tell_served(served, errors)
+        }
+        Course::Plants { set, cell, options } => {
+            let end = plants.run_plant(alloc, set, cell, options);
+            report_of_plant(alloc, options.batches, &end, output, errors)
         }
     }
 }

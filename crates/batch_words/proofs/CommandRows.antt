@@ -1,11 +1,11 @@
 -- Command lines that are written out, computed in the definitions.
-use Rattle.std.proofs.Common.{◌≡◌, Bool, true, false, List, [], ◌∷◌, Option, Some, None, codes, refl, option_map}
+use Rattle.std.proofs.Common.{◌≡◌, ℕ, Bool, true, false, List, [], ◌∷◌, Option, Some, None, codes, refl, option_map}
 use Rattle.clap.specs.Faults.{fault_of}
 use Rattle.clap.specs.Simple.{subcommand_of}
 use Rattle.clap.specs.Walk.{Text, Row}
-use Rattle.clap.specs.declared.error.kind.ErrorKind.TheVariants.{DisplayHelp, DisplayVersion, InvalidSubcommand, MissingRequiredArgument, UnknownArgument}
+use Rattle.clap.specs.declared.error.kind.ErrorKind.TheVariants.{DisplayHelp, DisplayVersion, InvalidSubcommand, MissingRequiredArgument, UnknownArgument, ValueValidation}
 use Rattle.clap.proofs.OnLiterals.{clap_on_literals}
-use Rattle.batch_words.specs.CommandLine.{is_given, program_app, word_of, words_of}
+use Rattle.batch_words.specs.CommandLine.{batches_of, is_given, program_app, ring_of, ticks_of, word_of, words_of}
 
 abbrev check_line : List Text
 check_line = codes "check" ∷ codes "c" ∷ codes "r" ∷ codes "s" ∷ []
@@ -90,3 +90,48 @@ flag_is_taken = refl
 explain_taken : fault_of program_app (codes "explain" ∷ codes "E9" ∷ []) ≡ []
 unfolding clap_on_literals
 explain_taken = refl
+
+-- a plant
+
+abbrev plant_line : List Text
+plant_line = codes "plant" ∷ codes "--batches" ∷ codes "7" ∷ codes "--ring=64" ∷ []
+
+-- the batches, the ticks and the places of rings of the command that was entered
+abbrev entered_numbers : Option (Text × List Row) → Option (ℕ × ℕ × ℕ)
+entered_numbers = option_map (λ p. (batches_of p.1, ticks_of p.1, ring_of p.1))
+
+numbers_are_given : entered_numbers (subcommand_of program_app plant_line) ≡ Some (7, 5, 64)
+unfolding clap_on_literals
+numbers_are_given = refl
+
+numbers_are_taken : fault_of program_app plant_line ≡ []
+unfolding clap_on_literals
+numbers_are_taken = refl
+
+numbers_are_left_out : entered_numbers (subcommand_of program_app (codes "plant" ∷ [])) ≡ Some (3, 5, 1)
+unfolding clap_on_literals
+numbers_are_left_out = refl
+
+plant_is_taken : fault_of program_app (codes "plant" ∷ []) ≡ []
+unfolding clap_on_literals
+plant_is_taken = refl
+
+no_batch_is_refused : fault_of program_app (codes "plant" ∷ codes "--batches" ∷ codes "0" ∷ []) ≡ ValueValidation ∷ []
+unfolding clap_on_literals
+no_batch_is_refused = refl
+
+many_batches_are_refused : fault_of program_app (codes "plant" ∷ codes "--batches" ∷ codes "101" ∷ []) ≡ ValueValidation ∷ []
+unfolding clap_on_literals
+many_batches_are_refused = refl
+
+many_ticks_are_refused : fault_of program_app (codes "plant" ∷ codes "--ticks" ∷ codes "1001" ∷ []) ≡ ValueValidation ∷ []
+unfolding clap_on_literals
+many_ticks_are_refused = refl
+
+no_place_is_refused : fault_of program_app (codes "plant" ∷ codes "--ring" ∷ codes "0" ∷ []) ≡ ValueValidation ∷ []
+unfolding clap_on_literals
+no_place_is_refused = refl
+
+many_places_are_refused : fault_of program_app (codes "plant" ∷ codes "--ring" ∷ codes "65" ∷ []) ≡ ValueValidation ∷ []
+unfolding clap_on_literals
+many_places_are_refused = refl

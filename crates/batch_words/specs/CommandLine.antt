@@ -1,17 +1,21 @@
--- trusted: the command line: `check CELL RECIPE..`, `verify CELL CERT RECIPE..`, `run CELL CERT RECIPE..`, `explain CODE`, and no words at all.
-use Rattle.std.specs.Prelude.{◌≡◌, ◌≢◌, ◌⊎◌, [], Bool, List, Option, Some, None, map, codes, true, false, unwrap_or, string_bytes, ⊤}
+-- trusted: the command line: `check CELL RECIPE..`, `verify CELL CERT RECIPE..`, `run CELL CERT RECIPE..`, `plant`, `explain CODE`, and no words at all.
+use Rattle.std.specs.Prelude.{◌≡◌, ◌≢◌, ◌⊎◌, [], ℕ, Bool, List, Option, Some, None, map, codes, true, false, unwrap_or, string_bytes, if◌then◌else◌, ⊤}
 use Rattle.std.specs.Str.{bytes_eq}
+use Rattle.std.specs.Str.Parse.{digits_value, without_leading_plus}
 use Rattle.clap.specs.Lexer.{usize_max}
 use Rattle.clap.specs.Kinds.{Kinds, IsAmong}
+use Rattle.clap.specs.ValueTests.{is_unsigned_in}
 use Rattle.clap.specs.Walk.{Row, Rule, Text, first_of, all_of}
 use Rattle.clap.specs.Simple.{App, new_app, new_rule, on_top, with_rule, with_subcommand}
 use Rattle.clap.specs.declared.builder.action.ArgAction.TheVariants.{Set, Append, SetTrue}
+use Rattle.clap.specs.declared.builder.value_parser.ValueParser.TheVariants.{Unsigned}
 use Rattle.clap.specs.declared.error.kind.ErrorKind.{ErrorKind}
 use Rattle.clap.specs.declared.error.kind.ErrorKind.TheVariants.{DisplayHelp, DisplayVersion, OutOfMemory}
 use Rattle.batch_words.specs.declared.command.Command.{Command}
-use Rattle.batch_words.specs.declared.command.Command.TheVariants.{Serve, Check, Draw, Verify, Run, Explain}
+use Rattle.batch_words.specs.declared.command.Command.TheVariants.{Serve, Check, Draw, Verify, Run, Plant, Explain}
 use Rattle.batch_words.specs.declared.command.CommandFault.{CommandFault}
 use Rattle.batch_words.specs.declared.command.CommandFault.TheVariants.{Help, Usage, Memory}
+use Rattle.batch_words.specs.declared.plant_options.PlantOptions.{PlantOptions}
 
 -- a word that has to be there
 abbrev pub word_rule : Text → Rule
@@ -28,6 +32,15 @@ recipes_rule = record (new_rule (codes "RECIPE")) {
 abbrev pub flag_rule : Text → Rule
 flag_rule name = record (new_rule name) { long = Some name; action = Some SetTrue }
 
+-- an option that takes a number of this range, as `--batches 7`
+abbrev pub number_rule : Text → ℕ → ℕ → Rule
+number_rule name least most = record (new_rule name) {
+  long = Some name;
+  value_names = 1;
+  action = Some Set;
+  parser = Some (Unsigned least most);
+}
+
 abbrev pub check_app : App
 check_app = with_rule (with_rule (with_rule (with_rule (new_app (codes "check"))
     (word_rule (codes "CELL"))) recipes_rule) (flag_rule (codes "dot"))) (flag_rule (codes "quiet"))
@@ -40,6 +53,10 @@ abbrev pub run_app : App
 run_app = with_rule (with_rule (with_rule (with_rule (new_app (codes "run"))
     (word_rule (codes "CELL"))) (word_rule (codes "CERT"))) recipes_rule) (flag_rule (codes "quiet"))
 
+abbrev pub plant_app : App
+plant_app = with_rule (with_rule (with_rule (new_app (codes "plant"))
+    (number_rule (codes "batches") 1 100)) (number_rule (codes "ticks") 0 1000)) (number_rule (codes "ring") 1 64)
+
 abbrev pub explain_app : App
 explain_app = with_rule (new_app (codes "explain")) (word_rule (codes "CODE"))
 
@@ -49,7 +66,8 @@ bare_app = on_top (λ s. record s { has_version = true; no_binary_name = true; d
 -- the whole command line
 abbrev pub program_app : App
 program_app =
-    with_subcommand (with_subcommand (with_subcommand (with_subcommand bare_app check_app.top) verify_app.top) run_app.top) explain_app.top
+    with_subcommand (with_subcommand (with_subcommand (with_subcommand (with_subcommand bare_app
+    check_app.top) verify_app.top) run_app.top) plant_app.top) explain_app.top
 
 -- the word that was given for an argument
 abbrev pub word_of : Text → List Row → Text
@@ -61,6 +79,24 @@ words_of name rows = unwrap_or (all_of name rows) []
 -- a flag was given, which clap tells by the text `true`
 abbrev pub is_given : Text → List Row → Bool
 is_given name rows = bytes_eq (word_of name rows) (codes "true")
+
+-- the number that was given for an option, or the usual one where none was. A word that says no number of the range is refused
+abbrev pub number_of : ℕ → ℕ → ℕ → Option Text → ℕ
+number_of least most usual None = usual
+number_of least most usual (Some text) =
+    if is_unsigned_in least most text then digits_value 10 (without_leading_plus text) else usual
+
+abbrev pub batches_of : List Row → ℕ
+batches_of rows = number_of 1 100 3 (first_of (codes "batches") rows)
+
+abbrev pub ticks_of : List Row → ℕ
+ticks_of rows = number_of 0 1000 5 (first_of (codes "ticks") rows)
+
+abbrev pub ring_of : List Row → ℕ
+ring_of rows = number_of 1 64 1 (first_of (codes "ring") rows)
+
+abbrev pub HasOptionsOf : List Row → PlantOptions → Type 0
+HasOptionsOf rows options = (options.batches ≡ batches_of rows) × (options.ticks ≡ ticks_of rows) × (options.ring ≡ ring_of rows)
 
 -- the command of the word by which it was entered, and of the words behind that
 abbrev pub IsCommandOf : Option (Text × List Row) → Command → Type 0
@@ -85,6 +121,7 @@ IsCommandOf entered (Run cell certificate recipes quiet) = (rows : List Row) × 
     × (string_bytes certificate ≡ word_of (codes "CERT") rows)
     × (map string_bytes recipes.items ≡ words_of (codes "RECIPE") rows)
     × (quiet ≡ is_given (codes "quiet") rows)
+IsCommandOf entered (Plant options) = (rows : List Row) × (entered ≡ Some (codes "plant", rows)) × HasOptionsOf rows options
 IsCommandOf entered (Explain code) = (rows : List Row) × (entered ≡ Some (codes "explain", rows))
     × (string_bytes code ≡ word_of (codes "CODE") rows)
 
@@ -92,7 +129,7 @@ IsCommandOf entered (Explain code) = (rows : List Row) × (entered ≡ Some (cod
 abbrev pub IsEntry : Option (Text × List Row) → Type 0
 IsEntry None = ⊤
 IsEntry (Some entered) =
-    (entered.0 ≡ codes "check") ⊎ (entered.0 ≡ codes "verify") ⊎ (entered.0 ≡ codes "run") ⊎ (entered.0 ≡ codes "explain")
+    (entered.0 ≡ codes "check") ⊎ (entered.0 ≡ codes "verify") ⊎ (entered.0 ≡ codes "run") ⊎ (entered.0 ≡ codes "plant") ⊎ (entered.0 ≡ codes "explain")
 
 -- what the user asks to be shown: help, or the version
 abbrev pub IsShown : ErrorKind → Type 0

@@ -2,6 +2,7 @@
 ghost use Rattle.std.specs.Prelude.{◌≡◌};
 ghost use Rattle.batch_words.specs.declared.command.CommandFault.TheVariants.{Memory};
 
+use crate::plant_options::PlantOptions;
 use std::alloc::{AllocError, AllocFailed};
 use thiserror::Error;
 
@@ -36,6 +37,8 @@ pub enum Command {
         recipes: Vec<String>,
         quiet: bool,
     },
+    /// To run the demo's plant: its hub in the thread that calls, its console and its link to the units in threads of their own.
+    Plant(PlantOptions),
     /// To say what a code of the program means.
     Explain {
         code: String,

@@ -3,8 +3,10 @@
 
 mod command;
 mod line;
+mod plant_options;
 mod words;
 
 pub use command::{Command, CommandFault};
 pub use line::VERSION;
+pub use plant_options::PlantOptions;
 pub use words::parse;

@@ -2,8 +2,9 @@
 ghost use Rattle.std.specs.Prelude.{◌≡◌, IfOk, codes, false};
 ghost use Rattle.clap.specs.Words.{app_of, rule_of};
 ghost use Rattle.clap.specs.declared.builder.command.Command.TheViews.{out-Command};
-ghost use Rattle.batch_words.specs.CommandLine.{check_app, explain_app, flag_rule, program_app, recipes_rule, run_app, verify_app, word_rule};
+ghost use Rattle.batch_words.specs.CommandLine.{check_app, explain_app, flag_rule, number_rule, plant_app, program_app, recipes_rule, run_app, verify_app, word_rule};
 
+use clap::builder::ValueParser;
 use clap::{Arg, ArgAction, Command};
 use std::alloc::{AllocError, Global};
 
@@ -25,11 +26,11 @@ The demo, without a command; type these lines:
   report R1 ADD done
 
 Exit status:
-  0  accepted, or the input ran to its end, or help was asked for
+  0  accepted, or the input ran to its end, or the plant's batches are complete, or help was asked for
   1  refused: a line on standard output, and what it means on standard error
   2  the words are no command
   3  a file, the input or the output failed
-  4  no memory
+  4  no memory, or a thread can't be started
 ";
 
 /// The whole command line.
@@ -46,6 +47,7 @@ pub(crate) fn program<'a>(alloc: Global) -> Result<Command<'a>, AllocError>
         .subcommand(check(alloc)?)?
         .subcommand(verify(alloc)?)?
         .subcommand(run(alloc)?)?
+        .subcommand(plant(alloc)?)?
         .subcommand(explain(alloc)?)
 }
 
@@ -91,6 +93,37 @@ fn run<'a>(alloc: Global) -> Result<Command<'a>, AllocError>
         .arg(quiet(alloc))
 }
 
+fn plant<'a>(alloc: Global) -> Result<Command<'a>, AllocError>
+    ensures app { IfOk result (λ plant. app_of plant ≡ plant_app) }
+    ensures local { IfOk result (λ plant. (out-Command plant).has_globals ≡ false) }
+{
+    Command::new(alloc, "plant")
+        .about(
+            "Runs the demo's plant: its console and its link to the units in threads beside the hub's",
+        )
+        .arg(number(
+            alloc,
+            "batches",
+            1,
+            100,
+            "How many batches are created and started, 1 to 100 [default: 3]",
+        ))?
+        .arg(number(
+            alloc,
+            "ticks",
+            0,
+            1_000,
+            "For how many ticks a phase runs, 0 to 1000 [default: 5]",
+        ))?
+        .arg(number(
+            alloc,
+            "ring",
+            1,
+            64,
+            "How many places each ring has, 1 to 64 [default: 1]",
+        ))
+}
+
 fn explain<'a>(alloc: Global) -> Result<Command<'a>, AllocError>
     ensures app { IfOk result (λ explain. app_of explain ≡ explain_app) }
     ensures local { IfOk result (λ explain. (out-Command explain).has_globals ≡ false) }
@@ -118,6 +151,19 @@ fn recipes<'a>(alloc: Global) -> Arg<'a>
         .action(ArgAction::Append)
         .num_args(0..)
         .help("The master recipes")
+}
+
+/// A number of this range, the ends included.
+fn number<'a>(alloc: Global, name: &'a str, least: u64, most: u64, help: &'a str) -> Arg<'a>
+    ensures rule { rule_of result ≡ number_rule name.entry.now least most }
+    ensures local { result.global ≡ false }
+{
+    Arg::new(alloc, name)
+        .long(name)
+        .value_name("N")
+        .action(ArgAction::Set)
+        .value_parser(ValueParser::unsigned(least, most))
+        .help(help)
 }
 
 fn quiet<'a>(alloc: Global) -> Arg<'a>

@@ -1,10 +1,12 @@
 //! The words of the command line.
-ghost use Rattle.std.specs.Prelude.{◌≡◌, IfOk, IfErr, map, string_bytes, codes, []};
-ghost use Rattle.clap.specs.Words.{FailsBy, fault_of, found_of, kind_of, rows_of, subcommand_of, subcommand_rows_of};
-ghost use Rattle.batch_words.specs.CommandLine.{IsCommandOf, IsEntry, IsFaultOf, IsFaultOfKind, is_given, program_app, word_of, words_of};
+ghost use Rattle.std.specs.Prelude.{◌≡◌, ◌≤◌, ◌⊎◌, IfOk, IfErr, MatchOption, Some, map, string_bytes, codes, []};
+ghost use Rattle.std.specs.Str.Parse.{digits_value, without_leading_plus};
+ghost use Rattle.clap.specs.Words.{FailsBy, IsUnsignedIn, fault_of, first_of, found_of, kind_of, rows_of, subcommand_of, subcommand_rows_of};
+ghost use Rattle.batch_words.specs.CommandLine.{HasOptionsOf, IsCommandOf, IsEntry, IsFaultOf, IsFaultOfKind, is_given, number_of, program_app, word_of, words_of};
 
 use crate::command::{Command, CommandFault};
 use crate::line::program;
+use crate::plant_options::PlantOptions;
 use clap::error::ErrorKind;
 use clap::{ArgMatches, Error};
 use std::alloc::{AllocError, Global};
@@ -35,47 +37,116 @@ fn command_of(alloc: Global, matches: &ArgMatches<'_>) -> Result<Command, AllocE
     requires { IsEntry (subcommand_rows_of matches.now) }
     ensures { IfOk result (IsCommandOf (subcommand_rows_of matches.now)) }
 {
-    match matches.subcommand() {
-        Some((name, words)) => {
-            if name == "explain" {
-                let code = word(alloc, words, "CODE")?;
-                return Ok(Command::Explain { code });
-            }
-            let cell = word(alloc, words, "CELL")?;
-            let recipes = recipe_words(alloc, words)?;
-            let quiet = flag(words, "quiet");
-            if name == "check" {
-                return Ok(if flag(words, "dot") {
-                    Command::Draw {
-                        cell,
-                        recipes,
-                        quiet,
-                    }
-                } else {
-                    Command::Check {
-                        cell,
-                        recipes,
-                        quiet,
-                    }
-                });
-            }
-            let certificate = word(alloc, words, "CERT")?;
-            if name == "verify" {
-                return Ok(Command::Verify {
-                    cell,
-                    certificate,
-                    recipes,
-                    quiet,
-                });
-            }
-            Ok(Command::Run {
-                cell,
-                certificate,
-                recipes,
-                quiet,
-            })
+    let Some((name, words)) = matches.subcommand() else {
+        return Ok(Command::Serve);
+    };
+    if name == "explain" {
+        let code = word(alloc, words, "CODE")?;
+        return Ok(Command::Explain { code });
+    }
+    if name == "plant" {
+        return Ok(Command::Plant(plant_options(words)));
+    }
+    if name == "check" {
+        return check_command(alloc, words);
+    }
+    certified_command(alloc, name, words)
+}
+
+/// `check`, with a drawing or without one.
+fn check_command(alloc: Global, words: &ArgMatches<'_>) -> Result<Command, AllocError>
+    ensures { IfOk result (IsCommandOf (Some (codes "check", rows_of (found_of words.now)))) }
+{
+    let cell = word(alloc, words, "CELL")?;
+    let recipes = recipe_words(alloc, words)?;
+    let quiet = flag(words, "quiet");
+    Ok(if flag(words, "dot") {
+        Command::Draw {
+            cell,
+            recipes,
+            quiet,
         }
-        None => Ok(Command::Serve),
+    } else {
+        Command::Check {
+            cell,
+            recipes,
+            quiet,
+        }
+    })
+}
+
+/// `verify` or `run`, which have a certificate.
+fn certified_command(
+    alloc: Global,
+    name: &str,
+    words: &ArgMatches<'_>,
+) -> Result<Command, AllocError>
+    requires { (name.now ≡ codes "verify") ⊎ (name.now ≡ codes "run") }
+    ensures { IfOk result (IsCommandOf (Some (name.now, rows_of (found_of words.now)))) }
+{
+    let cell = word(alloc, words, "CELL")?;
+    let certificate = word(alloc, words, "CERT")?;
+    let recipes = recipe_words(alloc, words)?;
+    let quiet = flag(words, "quiet");
+    Ok(if name == "verify" {
+        Command::Verify {
+            cell,
+            certificate,
+            recipes,
+            quiet,
+        }
+    } else {
+        Command::Run {
+            cell,
+            certificate,
+            recipes,
+            quiet,
+        }
+    })
+}
+
+fn plant_options(words: &ArgMatches<'_>) -> PlantOptions
+    ensures { HasOptionsOf (rows_of (found_of words.now)) result }
+{
+    PlantOptions {
+        batches: number(words, "batches", 1, 100, 3),
+        ticks: number(words, "ticks", 0, 1_000, 5),
+        ring: number(words, "ring", 1, 64, 1),
+    }
+}
+
+/// The number of this range that was given, or the usual one. clap refuses words that say none in the range.
+fn number(words: &ArgMatches<'_>, name: &str, least: u64, most: u64, usual: u64) -> u64
+    requires { (least ≤ usual) × (usual ≤ most) }
+    ensures number { result ≡ number_of least most usual (first_of name.now (rows_of (found_of words.now))) }
+    ensures within { (least ≤ result) × (result ≤ most) }
+{
+    match words.get_str(name) {
+        Some(text) => number_or(text, least, most, usual),
+        None => usual,
+    }
+}
+
+/// The number that the text says, or the usual one where it says none in the range.
+fn number_or(text: &str, least: u64, most: u64, usual: u64) -> u64
+    requires { (least ≤ usual) × (usual ≤ most) }
+    ensures number { result ≡ number_of least most usual (Some text.now) }
+    ensures within { (least ≤ result) × (result ≤ most) }
+{
+    match number_in(text, least, most) {
+        Some(number) => number,
+        None => usual,
+    }
+}
+
+/// The number that the text says, where it lies in the range.
+fn number_in(text: &str, least: u64, most: u64) -> Option<u64>
+    ensures { MatchOption result (IsUnsignedIn least most text.now → ⊥) (λ number. IsUnsignedIn least most text.now
+        × (number ≡ digits_value 10 (without_leading_plus text.now))) }
+{
+    match text.parse::<u64>() {
+        Ok(number) if least <= number && number <= most => Some(number),
+        _ => None,
     }
 }
 

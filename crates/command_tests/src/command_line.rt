@@ -1,5 +1,5 @@
 //! The command line.
-use batch_words::{Command, CommandFault, parse};
+use batch_words::{Command, CommandFault, PlantOptions, parse};
 use std::alloc::{AllocError, Global};
 use std::process::Abort;
 
@@ -37,6 +37,14 @@ fn told(alloc: Global, command: &Command) -> Result<String, AllocError> {
             recipes,
             quiet,
         } => format!(in alloc; "run {cell} {certificate} {recipes:?} {quiet}"),
+        Command::Plant(options) => {
+            let PlantOptions {
+                batches,
+                ticks,
+                ring,
+            } = options;
+            format!(in alloc; "plant {batches} {ticks} {ring}")
+        }
         Command::Explain { code } => format!(in alloc; "explain {code}"),
     }
 }
@@ -60,7 +68,7 @@ fn summary(rt: &(impl Abort + AllocGlobal), words: &[&str]) -> String {
 
 #[test]
 fn commands(rt: HostRuntime) {
-    let rows: [(&[&str], &str); 9] = [
+    let rows: [(&[&str], &str); 12] = [
         (&[], "serve"),
         (&["check", "c", "r", "s"], "check c [\"r\", \"s\"] false"),
         (&["check", "c"], "check c [] false"),
@@ -69,6 +77,12 @@ fn commands(rt: HostRuntime) {
         (&["verify", "c", "k", "r"], "verify c k [\"r\"] false"),
         (&["verify", "c", "k"], "verify c k [] false"),
         (&["run", "--quiet", "c", "k", "r"], "run c k [\"r\"] true"),
+        (&["plant"], "plant 3 5 1"),
+        (
+            &["plant", "--batches", "100", "--ticks=1000", "--ring", "64"],
+            "plant 100 1000 64",
+        ),
+        (&["plant", "--ticks", "0"], "plant 3 0 1"),
         (&["explain", "E9"], "explain E9"),
     ];
     for (words, want) in rows {
@@ -78,12 +92,18 @@ fn commands(rt: HostRuntime) {
 
 #[test]
 fn faults_of_usage(rt: HostRuntime) {
-    let rows: [&[&str]; 11] = [
+    let rows: [&[&str]; 17] = [
         &["serve", "c", "k"],
         &["verify", "--dot", "c", "k"],
         &["explain"],
         &["run", "c"],
-        &["plant"],
+        &["plant", "c"],
+        &["plant", "--batches", "0"],
+        &["plant", "--batches", "101"],
+        &["plant", "--ticks", "1001"],
+        &["plant", "--ring", "0"],
+        &["plant", "--ring", "65"],
+        &["plant", "--ring", "one"],
         &["help"],
         &[""],
         &["check"],

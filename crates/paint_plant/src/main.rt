@@ -17,7 +17,7 @@ fn main(rt: HostRuntime) -> Result<(), anyhow::Error> {
     for line in LINES {
         println!(rt; "$ batchd {line}")?;
         let words = words_of(rt.alloc(), line)?;
-        let status = run_on_files(&rt, &words);
+        let status = run_on_files(&rt, &rt, &words);
         println!(rt; "exit status {status}")?;
     }
     Ok(())

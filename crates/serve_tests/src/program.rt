@@ -4,9 +4,15 @@ ghost use Rattle.std.specs.Prelude.{⊤};
 use crate::documents::{A, CELL1};
 use crate::ends::{Failure, Narrow, OneByOne};
 use crate::serving::{INPUT, RECORD};
+use batch_cell::Cell;
 use batch_commands::{Documents, Halt};
-use batch_program::{run_program, serving_is_safe, serving_status};
+use batch_plant::PlantFault;
+use batch_program::{
+    PlantRunner, plants_are_complete, run_program, serving_is_safe, serving_status,
+};
 use batch_serve::{ServeFault, SetFault};
+use batch_verify::Cleared;
+use batch_words::PlantOptions;
 use std::alloc::{AllocError, Global};
 use std::io::{ErrorKind, Read, Write};
 use std::test::Fail;
@@ -30,6 +36,22 @@ impl Documents for Shelf {
     }
 }
 
+/// Plants that all end by this fault.
+#[derive(Drop)]
+struct Ends(PlantFault);
+
+impl PlantRunner for Ends {
+    fn run_plant(
+        &self,
+        _alloc: Global,
+        _set: Cleared,
+        _cell: Cell,
+        _options: PlantOptions,
+    ) -> Result<u64, PlantFault> {
+        Err(self.0)
+    }
+}
+
 fn owned(alloc: Global, words: &[&str]) -> Result<Vec<String>, AllocError> {
     let mut owned = Vec::new(alloc);
     for word in words {
@@ -46,7 +68,15 @@ fn status_of<R: Read, W: Write>(
     errors: &mut Vec<u8>,
 ) -> Result<u8, AllocError> {
     let words = owned(alloc, words)?;
-    Ok(run_program(alloc, &words, &Shelf, input, output, errors))
+    Ok(run_program(
+        alloc,
+        &words,
+        &Shelf,
+        &Ends(PlantFault::TurnsOut),
+        input,
+        output,
+        errors,
+    ))
 }
 
 /// What a run wrote, and how it ended.
@@ -101,6 +131,21 @@ fn set_of_the_documents_is_served(rt: HostRuntime) -> Result<(), Fail> {
     serving_is_safe(&Shelf);
     let ran = run(rt.alloc(), &["run", "cell", "ranks", "a"], INPUT)?;
     assert!(rt; ran.is(RECORD, b"", 0));
+    Ok(())
+}
+
+#[test]
+fn turns_of_a_plant_run_out(rt: HostRuntime) -> Result<(), Fail> {
+    plants_are_complete(&Shelf);
+    let ran = run(rt.alloc(), &["plant"], INPUT)?;
+    assert!(rt; ran.is(b"refused turns\n", b"", 1));
+    Ok(())
+}
+
+#[test]
+fn plant_out_of_range_is_no_command(rt: HostRuntime) -> Result<(), Fail> {
+    let ran = run(rt.alloc(), &["plant", "--batches", "101"], INPUT)?;
+    assert!(rt; ran.output.is_empty() && ran.status == 2);
     Ok(())
 }
 

@@ -1,13 +1,13 @@
 use Rattle.std.proofs.Common.{refl}
 use Rattle.batch_commands.specs.Running.{judges, explains}
-use Rattle.batch_words.specs.declared.command.Command.TheVariants.{Serve, Check, Draw, Verify, Run, Explain}
-use Rattle.batch_commands.proofs.Outcomes.{outcome_of_check, outcome_of_draw, outcome_of_verify, served_by_run, halted_by_run, taken}
+use Rattle.batch_words.specs.declared.command.Command.TheVariants.{Serve, Check, Draw, Verify, Run, Plant, Explain}
+use Rattle.batch_commands.proofs.Outcomes.{outcome_of_check, outcome_of_draw, outcome_of_verify, served_by_run, halted_by_run, planned, taken}
 use Rattle.batch_commands.proofs.running.run_command.Goals as goal
 
 pub returns-in-Serve : goal.returns-in-Serve
 returns-in-Serve g c =
     let set = c.clear_demo in
-    rw c.in-Serve.is (taken (g.D.Documents.gives c.args.documents.now) _ _ Serve set.result c.take.result set.ensures.served set.ensures.halted set.ensures.halts c.take.ensures)
+    rw c.in-Serve.is (taken (g.D.Documents.gives c.args.documents.now) _ _ Serve set.result c.take.result set.ensures.set set.ensures.halted set.ensures.halts c.take.ensures)
 
 pub returns-in-Run : goal.returns-in-Run
 returns-in-Run g c =
@@ -56,3 +56,7 @@ returns-in-Verify g c =
 pub returns-in-Explain : goal.returns-in-Explain
 returns-in-Explain g c =
     rw c.in-Explain.is (explains _ _ refl (rw c.deref-in-Explain.ensures at c.explain.ensures))
+
+pub returns-in-Plant : goal.returns-in-Plant
+returns-in-Plant g c =
+    rw c.in-Plant.is (planned (g.D.Documents.gives c.args.documents.now) _ _ c.in-Plant.options c.plan.result c.plan.ensures)

@@ -1,8 +1,8 @@
 use Rattle.std.proofs.Common.{map, string_bytes}
 use Rattle.std.proofs.KnownBytes.{Keeps-refl}
-use Rattle.batch_program.specs.Programs.{tells, serves}
+use Rattle.batch_program.specs.Programs.{tells, serves, plants}
 use Rattle.batch_program.specs.declared.program.TheConstants.{MAX_READS}
-use Rattle.batch_program.proofs.Served.{served_kept, set_to_serve}
+use Rattle.batch_program.proofs.Served.{plant_to_run, served_kept, set_to_serve, told_kept}
 use Rattle.batch_program.proofs.program.run_program.Goals as goal
 
 pub returns-in-Ends : goal.returns-in-Ends
@@ -16,3 +16,13 @@ returns-in-Serves g c =
     set_to_serve (g.D.Documents.gives c.args.documents.now) (map string_bytes c.args.words.now) _ _ _ set c.run_words.ensures c.in-Serves.is in
     rw c.tell_served.ensures
     (serves command set served.result named is_served (served_kept set MAX_READS served.result _ _ _ _ _ kept served.ensures))
+
+pub returns-in-Plants : goal.returns-in-Plants
+returns-in-Plants g c =
+    let course = c.in-Plants in
+    let end = c.run_plant-end in
+    let (command, named, asked, cleared, kept, silent) =
+    plant_to_run (g.D.Documents.gives c.args.documents.now) (map string_bytes c.args.words.now) _ _ _ course.set course.cell course.options
+    c.run_words.ensures course.is in
+    plants command course.set course.options end.result c.report_of_plant.result named asked cleared end.ensures
+    (told_kept _ _ _ _ _ _ course.options.batches end.result _ kept silent c.report_of_plant.ensures) (Keeps-refl _)

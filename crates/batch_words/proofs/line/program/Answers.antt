@@ -1,7 +1,7 @@
 use Rattle.std.proofs.Common.{ap, ap₂, ◌≡◌, ◌∙◌, true}
 use Rattle.std.proofs.lemmas.Result.{IfOk-weaker}
 use Rattle.clap.specs.Simple.{App, app_of, app_of_fields, on_top, with_subcommand}
-use Rattle.batch_words.specs.CommandLine.{bare_app, check_app, run_app, verify_app}
+use Rattle.batch_words.specs.CommandLine.{bare_app, check_app, plant_app, run_app, verify_app}
 use Rattle.batch_words.proofs.line.program.Goals as goal
 
 pub returns : goal.returns
@@ -22,6 +22,10 @@ returns c =
     ≡ with_subcommand (with_subcommand (with_subcommand bare_app check_app.top) verify_app.top) run_app.top =
     c.in_ok-subcommand-3.ensures.shape c.in_ok-run.ensures.local
     ∙ ap₂ with_subcommand verifying (ap (λ (a : App). a.top) c.in_ok-run.ensures.app) in
-    IfOk-weaker c.subcommand-4.result _ _
+    let planting : app_of c.in_ok-subcommand-4.field-0
+    ≡ with_subcommand (with_subcommand (with_subcommand (with_subcommand bare_app check_app.top) verify_app.top) run_app.top) plant_app.top =
+    c.in_ok-subcommand-4.ensures.shape c.in_ok-plant.ensures.local
+    ∙ ap₂ with_subcommand running (ap (λ (a : App). a.top) c.in_ok-plant.ensures.app) in
+    IfOk-weaker c.subcommand-5.result _ _
     (λ program added. added.shape c.in_ok-explain.ensures.local
-    ∙ ap₂ with_subcommand running (ap (λ (a : App). a.top) c.in_ok-explain.ensures.app)) c.subcommand-4.ensures
+    ∙ ap₂ with_subcommand planting (ap (λ (a : App). a.top) c.in_ok-explain.ensures.app)) c.subcommand-5.ensures

@@ -1,4 +1,4 @@
-use Rattle.std.proofs.Common.{◌≡◌, ◌∙◌, ap, codes, unwrap_or, []}
+use Rattle.std.proofs.Common.{◌∙◌, ap, codes, unwrap_or, []}
 use Rattle.std.specs.Str.{bytes_eq}
 use Rattle.clap.specs.Words.{found_of}
 use Rattle.clap.specs.Walk.{Text}

@@ -1,0 +1,68 @@
+//! Plants in threads of the process.
+use crate::patient_gate::PatientGate;
+use crate::plant_runner::PlantRunner;
+use crate::steady_units::steady_units;
+use batch_cell::Cell;
+use batch_plant::{PlantFault, PlantGates, PlantTask, plant_run};
+use batch_sim::Simulator;
+use batch_text::Name;
+use batch_verify::Cleared;
+use batch_words::PlantOptions;
+use std::alloc::Global;
+use std::thread::Threads;
+
+/// How many turns each worker has.
+pub const TURNS: u64 = 10_000_000;
+
+/// The recipe of the demo.
+const RECIPE: &[u8] = b"A";
+
+/// The size of each batch.
+const SIZE: u64 = 1000;
+
+/// Runs plants: the hub in the thread that calls, and a console and a link to steady units, each in a thread that the runtime
+/// starts. All three rest by the clock of the process.
+#[derive(Drop)]
+pub struct ThreadsOf<'a, R> {
+    pub threads: &'a R,
+    pub clock: HostRuntime,
+}
+
+impl<R: Threads> PlantRunner for ThreadsOf<'_, R> {
+    fn run_plant(
+        &self,
+        alloc: Global,
+        set: Cleared,
+        cell: Cell,
+        options: PlantOptions,
+    ) -> Result<u64, PlantFault> {
+        let Ok(recipe) = Name::read(alloc, RECIPE) else {
+            return Err(PlantFault::Memory);
+        };
+        let Ok(units) = steady_units(alloc, &cell, options.ticks) else {
+            return Err(PlantFault::Memory);
+        };
+        let task = PlantTask {
+            recipe,
+            size: SIZE,
+            batches: options.batches,
+            ring: options.ring as usize,
+            limit: TURNS,
+        };
+        let gates = PlantGates {
+            hub: PatientGate(self.clock),
+            console: PatientGate(self.clock),
+            link: PatientGate(self.clock),
+        };
+        let end = plant_run(
+            self.threads,
+            alloc,
+            set,
+            cell,
+            Simulator::new(units),
+            task,
+            gates,
+        )?;
+        Ok(end.hub.history().len() as u64)
+    }
+}
