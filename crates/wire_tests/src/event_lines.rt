@@ -1,171 +1,274 @@
-use batch_engine::Event;
+//! What event lines give.
+use batch_engine::{Event, PhaseReport};
 use batch_wire::{limits, read_event};
 use std::alloc::Global;
+use std::process::Abort;
 use std::test::Fail;
+
+/// A report, as text.
+fn report_text(alloc: Global, report: &PhaseReport) -> Result<String, Fail> {
+    let mut text = format!(in alloc; "{} {} {:?}", report.unit, report.phase, report.word)?;
+    for (name, value) in &report.outputs {
+        write!(text, " {name} {value}")?;
+    }
+    Ok(text)
+}
+
+/// An event, as text.
+fn event_text(alloc: Global, event: &Event) -> Result<String, Fail> {
+    Ok(match event {
+        Event::Create { recipe, size } => format!(in alloc; "create {recipe} {size}")?,
+        Event::Order { command, batch } => format!(in alloc; "{command:?} {batch}")?,
+        Event::Remove { batch } => format!(in alloc; "remove {batch}")?,
+        Event::Report(report) => report_text(alloc, report)?,
+    })
+}
 
 /// What the line gives, as text.
 fn told(alloc: Global, line: &[u8]) -> Result<String, Fail> {
-    Ok(match read_event(alloc, line) {
-        Ok(None) => String::from_str(alloc, "nothing")?,
-        Ok(Some(Event::Create { recipe, size })) => format!(in alloc; "create {recipe} {size}")?,
-        Ok(Some(Event::Order { command, batch })) => format!(in alloc; "{command:?} {batch}")?,
-        Ok(Some(Event::Remove { batch })) => format!(in alloc; "remove {batch}")?,
-        Ok(Some(Event::Report(report))) => {
-            let mut text = format!(in alloc; "{} {} {:?}", report.unit, report.phase, report.word)?;
-            for (name, value) in &report.outputs {
-                write!(text, " {name} {value}")?;
-            }
-            text
-        }
-        Err(fault) => format!(in alloc; "{fault:?}")?,
-    })
+    match read_event(alloc, line) {
+        Ok(Some(event)) => event_text(alloc, &event),
+        Ok(None) => Ok(String::from_str(alloc, "nothing")?),
+        Err(fault) => Ok(format!(in alloc; "{fault:?}")?),
+    }
+}
+
+/// What each line of the text gives, a line each.
+fn all_told(alloc: Global, lines: &[u8]) -> Result<String, Fail> {
+    let mut text = String::new(alloc);
+    for line in lines.split(|byte| *byte == b'\n') {
+        let answer = told(alloc, line)?;
+        text.push_str(answer.as_str())?;
+        text.push_str("\n")?;
+    }
+    Ok(text)
+}
+
+/// That what the lines give is the text expected, a line each.
+fn assert_told(rt: &impl Abort, alloc: Global, lines: &[u8], expected: &str) -> Result<(), Fail> {
+    assert_eq!(rt; all_told(alloc, lines)?.as_str(), expected);
+    Ok(())
+}
+
+/// The text, and behind it so many times the piece.
+fn filled(alloc: Global, text: &str, piece: &str, times: usize) -> Result<Vec<u8>, Fail> {
+    let mut line = Vec::from_slice(alloc, text.as_bytes())?;
+    for _ in 0..times {
+        line.extend_from_slice(piece.as_bytes())?;
+    }
+    Ok(line)
+}
+
+/// What a line gives that begins with the text, and then has so many times the piece, and then the end.
+fn told_of_long(
+    alloc: Global,
+    text: &str,
+    piece: &str,
+    times: usize,
+    end: &str,
+) -> Result<String, Fail> {
+    let mut line = filled(alloc, text, piece, times)?;
+    line.extend_from_slice(end.as_bytes())?;
+    told(alloc, line.as_slice())
 }
 
 #[test]
 fn lines_of_each_kind(rt: HostRuntime) -> Result<(), Fail> {
-    let alloc = rt.alloc();
-    let cases: [(&str, &str); 22] = [
-        ("create A 1000", "create A 1000"),
-        ("create A 0", "create A 0"),
-        ("start 1", "Start 1"),
-        ("hold 2", "Hold 2"),
-        ("restart 3", "Restart 3"),
-        ("pause 4", "Pause 4"),
-        ("resume 5", "Resume 5"),
-        ("stop 6", "Stop 6"),
-        ("abort 7", "Abort 7"),
-        ("reset 8", "Reset 8"),
-        ("remove 9", "remove 9"),
-        ("report R1 ADD done", "R1 ADD Done"),
-        ("report R1 ADD paused", "R1 ADD Paused"),
-        ("report R1 ADD held", "R1 ADD Held"),
-        ("report R1 ADD running", "R1 ADD Running"),
-        ("report R1 ADD stopped", "R1 ADD Stopped"),
-        ("report R1 ADD aborted", "R1 ADD Aborted"),
-        ("report R1 ADD fault", "R1 ADD Fault"),
-        (
-            "  report  R1  ADD  done  X=7   Y=08 \r",
-            "R1 ADD Done X 7 Y 8",
-        ),
-        ("report R1 ADD done X=1 X=1", "R1 ADD Done X 1 X 1"),
-        ("# start 1", "nothing"),
-        ("  \r", "nothing"),
-    ];
-    for (line, want) in cases {
-        assert_eq!(rt; told(alloc, line.as_bytes())?.as_str(), want, "{line}");
-    }
-    Ok(())
+    assert_told(
+        &rt,
+        rt.alloc(),
+        b"create A 1000
+create A 0
+start 1
+hold 2
+restart 3
+pause 4
+resume 5
+stop 6
+abort 7
+reset 8
+remove 9
+report R1 ADD done
+report R1 ADD paused
+report R1 ADD held
+report R1 ADD running
+report R1 ADD stopped
+report R1 ADD aborted
+report R1 ADD fault
+  report  R1  ADD  done  X=7   Y=08 \r
+report R1 ADD done X=1 X=1
+# start 1
+  \r",
+        "create A 1000
+create A 0
+Start 1
+Hold 2
+Restart 3
+Pause 4
+Resume 5
+Stop 6
+Abort 7
+Reset 8
+remove 9
+R1 ADD Done
+R1 ADD Paused
+R1 ADD Held
+R1 ADD Running
+R1 ADD Stopped
+R1 ADD Aborted
+R1 ADD Fault
+R1 ADD Done X 7 Y 8
+R1 ADD Done X 1 X 1
+nothing
+nothing
+",
+    )
 }
 
 #[test]
 fn refused_lines(rt: HostRuntime) -> Result<(), Fail> {
-    let alloc = rt.alloc();
-    let cases: [(&str, &str); 33] = [
-        ("begin 1", "UnknownWord"),
-        ("Start 1", "UnknownWord"),
-        (" # start 1", "UnknownWord"),
-        ("start", "MissingArgument"),
-        ("remove", "MissingArgument"),
-        ("create A", "MissingArgument"),
-        ("report R1 ADD", "MissingArgument"),
-        ("report", "MissingArgument"),
-        ("start 1 2", "ExtraArgument"),
-        ("remove x y", "ExtraArgument"),
-        ("create A 1 1", "ExtraArgument"),
-        ("report R1 ADD paused X=1", "ExtraArgument"),
-        ("report R1 ADD fault x", "ExtraArgument"),
-        ("report R1 ADD begin X=1", "ExtraArgument"),
-        ("report 1 2 done=1 X=1", "ExtraArgument"),
-        ("abort x", "BadArgument"),
-        ("remove -1", "BadArgument"),
-        ("reset 00000000000000000001", "BadArgument"),
-        ("create 1A 1", "BadArgument"),
-        ("create A +1", "BadArgument"),
-        ("report R1 ADD begin", "BadArgument"),
-        ("report R1 ADD Done", "BadArgument"),
-        ("report R1 ADD done=1", "BadArgument"),
-        ("report R.1 ADD done", "BadArgument"),
-        ("report R1 A.D done", "BadArgument"),
-        ("report R1 ADD done X", "BadArgument"),
-        ("report R1 ADD done =1", "BadArgument"),
-        ("report R1 ADD done X=", "BadArgument"),
-        ("report R1 ADD done X=1=1", "BadArgument"),
-        ("report R1 ADD done X==1", "BadArgument"),
-        ("report R1 ADD done 1X=1", "BadArgument"),
-        ("report R1 ADD done X=1 Y", "BadArgument"),
-        ("report R1 ADD done X=00000000000000000001", "BadArgument"),
-    ];
-    for (line, want) in cases {
-        assert_eq!(rt; told(alloc, line.as_bytes())?.as_str(), want, "{line}");
-    }
-    Ok(())
+    assert_told(
+        &rt,
+        rt.alloc(),
+        b"begin 1
+Start 1
+ # start 1
+start
+remove
+create A
+report R1 ADD
+report
+start 1 2
+remove x y
+create A 1 1
+report R1 ADD paused X=1
+report R1 ADD fault x
+report R1 ADD begin X=1
+report 1 2 done=1 X=1
+abort x
+remove -1
+reset 00000000000000000001
+create 1A 1
+create A +1
+report R1 ADD begin
+report R1 ADD Done
+report R1 ADD done=1
+report R.1 ADD done
+report R1 A.D done
+report R1 ADD done X
+report R1 ADD done =1
+report R1 ADD done X=
+report R1 ADD done X=1=1
+report R1 ADD done X==1
+report R1 ADD done 1X=1
+report R1 ADD done X=1 Y
+report R1 ADD done X=00000000000000000001",
+        "UnknownWord
+UnknownWord
+UnknownWord
+MissingArgument
+MissingArgument
+MissingArgument
+MissingArgument
+MissingArgument
+ExtraArgument
+ExtraArgument
+ExtraArgument
+ExtraArgument
+ExtraArgument
+ExtraArgument
+ExtraArgument
+BadArgument
+BadArgument
+BadArgument
+BadArgument
+BadArgument
+BadArgument
+BadArgument
+BadArgument
+BadArgument
+BadArgument
+BadArgument
+BadArgument
+BadArgument
+BadArgument
+BadArgument
+BadArgument
+BadArgument
+BadArgument
+",
+    )
 }
 
 #[test]
-fn limits_of_lines(rt: HostRuntime) -> Result<(), Fail> {
+fn longest_numbers_and_names(rt: HostRuntime) -> Result<(), Fail> {
+    // Nineteen digits, and names of 32 and of 33 bytes.
+    assert_told(
+        &rt,
+        rt.alloc(),
+        b"start 9999999999999999999
+start 0000000000000000007
+create A2345678901234567890123456789012 1
+create A23456789012345678901234567890123 1",
+        "Start 9999999999999999999
+Start 7
+create A2345678901234567890123456789012 1
+BadArgument
+",
+    )
+}
+
+#[test]
+fn most_pairs(rt: HostRuntime) -> Result<(), Fail> {
+    // Sixteen pairs and seventeen, and then a word that is none.
     let alloc = rt.alloc();
-    limits();
-    // Nineteen digits, and a name of 32 bytes.
-    assert_eq!(rt;
-        told(alloc, b"start 9999999999999999999")?.as_str(),
-        "Start 9999999999999999999"
-    );
-    assert_eq!(rt;
-        told(alloc, b"start 0000000000000000007")?.as_str(),
-        "Start 7"
-    );
-    let longest = b"create A2345678901234567890123456789012 1";
-    assert_eq!(rt;
-        told(alloc, longest)?.as_str(),
-        "create A2345678901234567890123456789012 1"
-    );
-    let longer = b"create A23456789012345678901234567890123 1";
-    assert_eq!(rt; told(alloc, longer)?.as_str(), "BadArgument");
-
-    // Sixteen pairs and seventeen, and then words that are none.
-    let mut line = Vec::from_slice(alloc, b"report R1 ADD done")?;
-    let mut want = Vec::from_slice(alloc, b"R1 ADD Done")?;
-    for _ in 0..16 {
-        line.extend_from_slice(b" X=1")?;
-        want.extend_from_slice(b" X 1")?;
-    }
-    assert!(rt; told(alloc, line.as_slice())?.as_bytes() == want.as_slice());
-    line.extend_from_slice(b" X=1")?;
-    assert_eq!(rt; told(alloc, line.as_slice())?.as_str(), "ExtraArgument");
-    line.extend_from_slice(b" x")?;
-    assert_eq!(rt; told(alloc, line.as_slice())?.as_str(), "ExtraArgument");
-
-    // 1,024 bytes and 1,025, with and without a carriage return behind them.
-    for (len, end, want) in [
-        (1_024, "", "Start 1"),
-        (1_024, "\r", "Start 1"),
-        (1_025, "", "TooLong"),
-        (1_025, "\r", "TooLong"),
-    ] {
-        let mut line = Vec::from_slice(alloc, b"start 1")?;
-        for _ in line.len()..len {
-            line.push(b' ')?;
-        }
-        line.extend_from_slice(end.as_bytes())?;
-        assert_eq!(rt; told(alloc, line.as_slice())?.as_str(), want, "{len}");
-    }
-    let mut comment = Vec::from_slice(alloc, b"#")?;
-    for _ in 1..1_025 {
-        comment.push(b'x')?;
-    }
-    assert_eq!(rt; told(alloc, comment.as_slice())?.as_str(), "TooLong");
+    let report = "report R1 ADD done";
+    let sixteen = told_of_long(alloc, report, " X=1", 16, "")?;
+    let expected = filled(alloc, "R1 ADD Done", " X 1", 16)?;
+    assert!(rt; sixteen.as_bytes() == expected.as_slice());
+    let seventeen = told_of_long(alloc, report, " X=1", 17, "")?;
+    assert_eq!(rt; seventeen.as_str(), "ExtraArgument");
+    let word_behind = told_of_long(alloc, report, " X=1", 17, " x")?;
+    assert_eq!(rt; word_behind.as_str(), "ExtraArgument");
     Ok(())
+}
+
+/// What lines of 1,024 and of 1,025 bytes give, with and without a carriage return behind them, and a long comment.
+fn long_lines_told(alloc: Global) -> Result<String, Fail> {
+    let longest = told_of_long(alloc, "start 1", " ", 1_017, "")?;
+    let longest_ended = told_of_long(alloc, "start 1", " ", 1_017, "\r")?;
+    let longer = told_of_long(alloc, "start 1", " ", 1_018, "")?;
+    let longer_ended = told_of_long(alloc, "start 1", " ", 1_018, "\r")?;
+    let comment = told_of_long(alloc, "#", "x", 1_024, "")?;
+    Ok(format!(in alloc; "{longest}, {longest_ended}, {longer}, {longer_ended}, {comment}")?)
+}
+
+#[test]
+fn longest_lines(rt: HostRuntime) -> Result<(), Fail> {
+    limits();
+    assert_eq!(rt;
+        long_lines_told(rt.alloc())?.as_str(),
+        "Start 1, Start 1, TooLong, TooLong, TooLong"
+    );
+    Ok(())
+}
+
+/// The first byte that alone doesn't give what it should.
+fn odd_byte(alloc: Global) -> Result<Option<u8>, Fail> {
+    for byte in 0..=255u8 {
+        let expected = match byte {
+            b'\r' | b' ' | b'#' => "nothing",
+            _ => "UnknownWord",
+        };
+        if told(alloc, &[byte])?.as_str() != expected {
+            return Ok(Some(byte));
+        }
+    }
+    Ok(None)
 }
 
 #[test]
 fn lines_of_one_byte(rt: HostRuntime) -> Result<(), Fail> {
-    let alloc = rt.alloc();
-    for byte in 0..=255u8 {
-        let want = match byte {
-            b'\r' | b' ' | b'#' => "nothing",
-            _ => "UnknownWord",
-        };
-        assert_eq!(rt; told(alloc, &[byte])?.as_str(), want, "{byte}");
-    }
+    assert_eq!(rt; odd_byte(rt.alloc())?, None);
     Ok(())
 }

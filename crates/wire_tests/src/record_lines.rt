@@ -1,3 +1,4 @@
+//! Lines of the record.
 use batch_cell::Cell;
 use batch_engine::{Line, Out, Refusal, Reply};
 use batch_matrix::{Command, Report, State};
@@ -8,6 +9,7 @@ use batch_wire::{WriteFault, record_lines, write_out};
 use std::alloc::Global;
 use std::io;
 use std::io::{ErrorKind, Write};
+use std::process::Abort;
 use std::test::Fail;
 
 const CELL: &str = "cell = \"DEMO\"
@@ -104,6 +106,23 @@ fn line_of(alloc: Global, cleared: &Cleared, out: Out) -> Result<String, Fail> {
     Ok(String::from_utf8(record).map_err(|_| "bytes")?)
 }
 
+/// The lines that tell the outs.
+fn lines_of(alloc: Global, outs: &[Out]) -> Result<String, Fail> {
+    let cleared = cleared(alloc)?;
+    let mut lines = String::new(alloc);
+    for out in outs {
+        let line = line_of(alloc, &cleared, *out)?;
+        lines.push_str(line.as_str())?;
+    }
+    Ok(lines)
+}
+
+/// That the lines that tell the outs are the text expected.
+fn assert_lines(rt: &impl Abort, alloc: Global, outs: &[Out], expected: &str) -> Result<(), Fail> {
+    assert_eq!(rt; lines_of(alloc, outs)?.as_str(), expected);
+    Ok(())
+}
+
 /// Takes one byte a call, and fails at one call.
 #[derive(Drop)]
 struct Narrow {
@@ -154,28 +173,22 @@ fn front_of(
 
 #[test]
 fn replies(rt: HostRuntime) -> Result<(), Fail> {
-    let alloc = rt.alloc();
-    let cleared = cleared(alloc)?;
-    let cases: [(Reply, &str); 17] = [
-        (
-            Reply::Created {
+    assert_lines(
+        &rt,
+        rt.alloc(),
+        &[
+            Out::Reply(Reply::Created {
                 batch: 1,
                 recipe: 0,
                 size: 1000,
-            },
-            "created 1 P 1000\n",
-        ),
-        (
-            Reply::Ordered {
+            }),
+            Out::Reply(Reply::Ordered {
                 command: Command::Restart,
                 batch: 2,
                 state: State::Restarting,
-            },
-            "ok restart 2 restarting\n",
-        ),
-        (Reply::Removed { batch: 12 }, "ok remove 12\n"),
-        (
-            Reply::Reported {
+            }),
+            Out::Reply(Reply::Removed { batch: 12 }),
+            Out::Reply(Reply::Reported {
                 unit: 0,
                 phase: 1,
                 word: Report::Fault,
@@ -183,178 +196,149 @@ fn replies(rt: HostRuntime) -> Result<(), Fail> {
                 recipe: 0,
                 node: 7,
                 state: State::Holding,
-            },
-            "ok report R1 HEAT fault 3 0.0.0.0.1.1 holding\n",
-        ),
-        (Reply::Refused(Refusal::UnknownRecipe), "refused E1\n"),
-        (Reply::Refused(Refusal::UnknownBatch), "refused E2\n"),
-        (
-            Reply::Refused(Refusal::CommandNotAccepted(State::Idle)),
-            "refused E3 idle\n",
-        ),
-        (Reply::Refused(Refusal::NoLivePhase), "refused E4\n"),
-        (
-            Reply::Refused(Refusal::ReportNotExpected(State::Aborting)),
-            "refused E5 aborting\n",
-        ),
-        (Reply::Refused(Refusal::BadOutput), "refused E6\n"),
-        (Reply::Refused(Refusal::BadSize), "refused E7 F1\n"),
-        (
-            Reply::Refused(Refusal::BadValue {
+            }),
+            Out::Reply(Reply::Refused(Refusal::UnknownRecipe)),
+            Out::Reply(Reply::Refused(Refusal::UnknownBatch)),
+            Out::Reply(Reply::Refused(Refusal::CommandNotAccepted(State::Idle))),
+            Out::Reply(Reply::Refused(Refusal::NoLivePhase)),
+            Out::Reply(Reply::Refused(Refusal::ReportNotExpected(State::Aborting))),
+            Out::Reply(Reply::Refused(Refusal::BadOutput)),
+            Out::Reply(Reply::Refused(Refusal::BadSize)),
+            Out::Reply(Reply::Refused(Refusal::BadValue {
                 recipe: 0,
                 value: 0,
-            }),
-            "refused E7 F2 QTY\n",
-        ),
-        (
-            Reply::Refused(Refusal::BadValue {
+            })),
+            Out::Reply(Reply::Refused(Refusal::BadValue {
                 recipe: 0,
                 value: 1,
-            }),
-            "refused E7 F2 T\n",
-        ),
-        (Reply::Refused(Refusal::Full), "refused E8\n"),
-        (
-            Reply::Refused(Refusal::NotIdle(State::Complete)),
-            "refused E9 complete\n",
-        ),
-        (Reply::Refused(Refusal::MovesPending), "refused E10\n"),
-        (Reply::Refused(Refusal::Memory), "refused E11\n"),
-    ];
-    for (reply, want) in cases {
-        let line = line_of(alloc, &cleared, Out::Reply(reply))?;
-        assert_eq!(rt; line.as_str(), want);
-    }
-    Ok(())
+            })),
+            Out::Reply(Reply::Refused(Refusal::Full)),
+            Out::Reply(Reply::Refused(Refusal::NotIdle(State::Complete))),
+            Out::Reply(Reply::Refused(Refusal::MovesPending)),
+            Out::Reply(Reply::Refused(Refusal::Memory)),
+        ],
+        "created 1 P 1000
+ok restart 2 restarting
+ok remove 12
+ok report R1 HEAT fault 3 0.0.0.0.1.1 holding
+refused E1
+refused E2
+refused E3 idle
+refused E4
+refused E5 aborting
+refused E6
+refused E7 F1
+refused E7 F2 QTY
+refused E7 F2 T
+refused E8
+refused E9 complete
+refused E10
+refused E11
+",
+    )
 }
 
 #[test]
 fn moves(rt: HostRuntime) -> Result<(), Fail> {
-    let alloc = rt.alloc();
-    let cleared = cleared(alloc)?;
-    let cases: [(Line, &str); 12] = [
-        (
-            Line::Send {
+    assert_lines(
+        &rt,
+        rt.alloc(),
+        &[
+            Out::Move(Line::Send {
                 batch: 1,
                 recipe: 0,
                 node: 6,
                 unit: 0,
                 phase: 2,
                 command: Command::Hold,
-            },
-            "send 1 0.0.0.0.1.0 R1 DRAIN hold\n",
-        ),
-        (
-            Line::State {
+            }),
+            Out::Move(Line::State {
                 batch: 1,
                 state: State::Paused,
-            },
-            "state 1 paused\n",
-        ),
-        (
-            Line::Release {
+            }),
+            Out::Move(Line::Release {
                 batch: 1,
                 recipe: 0,
                 node: 1,
                 resource: 0,
                 units: 1,
-            },
-            "release 1 0.0 R1\n",
-        ),
-        (
-            Line::Begin {
+            }),
+            Out::Move(Line::Begin {
                 batch: 1,
                 recipe: 0,
                 node: 0,
-            },
-            "begin 1 0 P\n",
-        ),
-        (
-            Line::Begin {
+            }),
+            Out::Move(Line::Begin {
                 batch: 1,
                 recipe: 0,
                 node: 2,
-            },
-            "begin 1 0.0.0 O\n",
-        ),
-        (
-            Line::Start {
+            }),
+            Out::Move(Line::Start {
                 batch: 1,
                 recipe: 0,
                 node: 4,
                 unit: 0,
                 phase: 0,
                 values: [7, 0, 1_000_000_000_000, 9],
-            },
-            "start 1 0.0.0.0.0 R1 ADD QTY=7 T=0 X=1000000000000\n",
-        ),
-        (
-            Line::Start {
+            }),
+            Out::Move(Line::Start {
                 batch: 1,
                 recipe: 0,
                 node: 6,
                 unit: 0,
                 phase: 2,
                 values: [7; 4],
-            },
-            "start 1 0.0.0.0.1.0 R1 DRAIN\n",
-        ),
-        (
-            Line::End {
+            }),
+            Out::Move(Line::End {
                 batch: 1,
                 recipe: 0,
                 node: 2,
-            },
-            "end 1 0.0.0\n",
-        ),
-        (
-            Line::Ask {
+            }),
+            Out::Move(Line::Ask {
                 batch: 1,
                 recipe: 0,
                 node: 7,
                 resource: 3,
                 units: 2,
-            },
-            "ask 1 0.0.0.0.1.1 STEAM*2\n",
-        ),
-        (
-            Line::Grant {
+            }),
+            Out::Move(Line::Grant {
                 batch: 1_000_000_000_000,
                 recipe: 0,
                 node: 4,
                 resource: 2,
                 units: 1_000,
-            },
-            "grant 1000000000000 0.0.0.0.0 HDR*1000\n",
-        ),
-        (
-            Line::Release {
+            }),
+            Out::Move(Line::Release {
                 batch: 1,
                 recipe: 0,
                 node: 7,
                 resource: 3,
                 units: 10,
-            },
-            "release 1 0.0.0.0.1.1 STEAM*10\n",
-        ),
-        // Numbers that name nothing.
-        (
-            Line::Send {
+            }),
+            // Numbers that name nothing.
+            Out::Move(Line::Send {
                 batch: 1,
                 recipe: 1,
                 node: 0,
                 unit: 4,
                 phase: 0,
                 command: Command::Stop,
-            },
-            "send 1    stop\n",
-        ),
-    ];
-    for (line, want) in cases {
-        let line = line_of(alloc, &cleared, Out::Move(line))?;
-        assert_eq!(rt; line.as_str(), want);
-    }
-    Ok(())
+            }),
+        ],
+        "send 1 0.0.0.0.1.0 R1 DRAIN hold
+state 1 paused
+release 1 0.0 R1
+begin 1 0 P
+begin 1 0.0.0 O
+start 1 0.0.0.0.0 R1 ADD QTY=7 T=0 X=1000000000000
+start 1 0.0.0.0.1.0 R1 DRAIN
+end 1 0.0.0
+ask 1 0.0.0.0.1.1 STEAM*2
+grant 1000000000000 0.0.0.0.0 HDR*1000
+release 1 0.0.0.0.1.1 STEAM*10
+send 1    stop
+",
+    )
 }
 
 #[test]
