@@ -21,6 +21,26 @@ fn odd_one(alloc: Global, cases: &[(&'static str, usize)]) -> Option<&'static st
     None
 }
 
+/// The first text that isn't told as a number out of range at its byte.
+fn odd_number(alloc: Global, cases: &[(&'static str, usize)]) -> Option<&'static str> {
+    for (text, place) in cases {
+        if fault(alloc, text) != Some(ChartFault::OutOfRange(*place)) {
+            return Some(text);
+        }
+    }
+    None
+}
+
+/// The first text that isn't taken as a chart.
+fn refused_one(alloc: Global, texts: &[&'static str]) -> Option<&'static str> {
+    for text in texts {
+        if fault(alloc, text).is_some() {
+            return Some(text);
+        }
+    }
+    None
+}
+
 /// The chart of the text, or why there is none, as text.
 fn told(alloc: Global, text: &str) -> Result<String, AllocError> {
     format!(in alloc; "{:?}", read_chart(alloc, text.as_bytes()))
@@ -46,31 +66,32 @@ fn nested(alloc: Global, depth: usize) -> Result<String, AllocError> {
     Ok(text)
 }
 
+/// Texts that are charts.
+const CHARTS: [&str; 18] = [
+    "a",
+    " skip\t\r\n",
+    "skipx",
+    "seqs",
+    "loop1",
+    "el",
+    "els",
+    "par-1",
+    "abcdefghijklmnopqrstuvwxyzabcdef",
+    "seq(a)",
+    "par(a, b)",
+    "seq ( a , skip,par(b,c) )",
+    "sel(X = 1: a, else: b)",
+    "sel(X<1:a,Y>=Z:skip,else:b)",
+    "loop(1000, X > 0, a)",
+    "loop(1, X > 1000000000000, a)",
+    "loop(007,X/=0000000000000000001,a)",
+    "sel(X <= 3: loop(1, A = B, c), else: seq(d))",
+];
+
 #[test]
 fn charts_are_taken(rt: HostRuntime) -> Result<(), Fail> {
     let alloc = rt.alloc();
-    for text in [
-        "a",
-        " skip\t\r\n",
-        "skipx",
-        "seqs",
-        "loop1",
-        "el",
-        "els",
-        "par-1",
-        "abcdefghijklmnopqrstuvwxyzabcdef",
-        "seq(a)",
-        "par(a, b)",
-        "seq ( a , skip,par(b,c) )",
-        "sel(X = 1: a, else: b)",
-        "sel(X<1:a,Y>=Z:skip,else:b)",
-        "loop(1000, X > 0, a)",
-        "loop(1, X > 1000000000000, a)",
-        "loop(007,X/=0000000000000000001,a)",
-        "sel(X <= 3: loop(1, A = B, c), else: seq(d))",
-    ] {
-        assert_eq!(rt; fault(alloc, text), None, "{text}");
-    }
+    assert_eq!(rt; refused_one(alloc, &CHARTS), None);
     let deep = nested(alloc, 32)?;
     assert_eq!(rt; fault(alloc, deep.as_str()), None);
     Ok(())
@@ -121,37 +142,48 @@ fn no_charts_are_told_at_their_byte(rt: HostRuntime) -> Result<(), Fail> {
 
 #[test]
 fn numbers_out_of_range_are_told_at_their_first_digit(rt: HostRuntime) -> Result<(), Fail> {
-    let alloc = rt.alloc();
-    for (text, place) in [
+    let cases = [
         ("loop(0,X > 0,a)", 5),
         ("loop(1001, X > 0, a)", 5),
         ("loop(1, X > 1000000000001, a)", 12),
         ("loop( 0, X > 1000000000001, a)", 6),
         ("seq(a, sel(X = 9999999999999999999: b, else: c))", 15),
-    ] {
-        assert_eq!(rt;
-            fault(alloc, text),
-            Some(ChartFault::OutOfRange(place)),
-            "{text}"
-        );
-    }
+    ];
+    assert_eq!(rt; odd_number(rt.alloc(), &cases), None);
     Ok(())
+}
+
+/// The first length of a front that isn't told as it should be: three fronts are charts, and the others go wrong at their end.
+fn odd_front(alloc: Global, text: &[u8], charts: &[usize]) -> Result<Option<usize>, Fail> {
+    for length in 0..=text.len() {
+        let front = text.get(..length).ok_or("a front")?;
+        let expected = if charts.contains(&length) {
+            None
+        } else {
+            Some(ChartFault::NotAChart(length))
+        };
+        if read_chart(alloc, front).err() != expected {
+            return Ok(Some(length));
+        }
+    }
+    Ok(None)
 }
 
 #[test]
 fn fronts_of_a_chart(rt: HostRuntime) -> Result<(), Fail> {
-    let alloc = rt.alloc();
-    let text = "seq(a,par(b,c))".as_bytes();
-    for length in 0..=text.len() {
-        let front = text.get(..length).ok_or("a front")?;
-        let fault = read_chart(alloc, front).err();
-        if length == 1 || length == 2 || length == 15 {
-            assert_eq!(rt; fault, None, "{length}");
-        } else {
-            assert_eq!(rt; fault, Some(ChartFault::NotAChart(length)), "{length}");
-        }
-    }
+    let odd = odd_front(rt.alloc(), b"seq(a,par(b,c))", &[1, 2, 15])?;
+    assert_eq!(rt; odd, None);
     Ok(())
+}
+
+/// What is told of each of the texts, a line each.
+fn all_told(alloc: Global, texts: &[&str]) -> Result<String, Fail> {
+    let mut lines = String::new(alloc);
+    for text in texts {
+        lines.push_str(told(alloc, text)?.as_str())?;
+        lines.push_str("\n")?;
+    }
+    Ok(lines)
 }
 
 #[test]
@@ -159,12 +191,12 @@ fn chart_offsets(rt: HostRuntime) -> Result<(), Fail> {
     let alloc = rt.alloc();
     let cases = [("seq(a,par(b,c)", 14), ("seq()", 4), ("", 0)];
     assert_eq!(rt; odd_one(alloc, &cases), None);
-    let close = told(alloc, "seq(a,par(b,c))")?;
     assert_eq!(rt;
-        close.as_str(),
-        r#"Ok(Seq([Label("a"), Par([Label("b"), Label("c")])]))"#
+        all_told(alloc, &["seq(a,par(b,c))", "seq( a , par( b , c ) )"])?.as_str(),
+        r#"Ok(Seq([Label("a"), Par([Label("b"), Label("c")])]))
+Ok(Seq([Label("a"), Par([Label("b"), Label("c")])]))
+"#
     );
-    assert_eq!(rt; told(alloc, "seq( a , par( b , c ) )")?, close);
     Ok(())
 }
 
