@@ -9,7 +9,7 @@ use std::test::Fail;
 /// Ranks that clear recipe A, and not N, which asks for HDR twice.
 const RANKS: &str = "rank HDR 2\nrank R1 1\nrank R2 1\nrank STEAM 1\n";
 
-/// How a run over the shelf ends, or None where it is to serve.
+/// How a run over the shelf ends, or None where it is to serve or to run a plant.
 fn status_of<O: Write, E: Write>(
     alloc: Global,
     words: &[&str],
@@ -30,7 +30,7 @@ fn status_of<O: Write, E: Write>(
 fn status_at_end(course: &Course) -> Option<u8> {
     match course {
         Course::Ends(status) => Some(*status),
-        Course::Serves(_) => None,
+        Course::Serves(_) | Course::Plants { .. } => None,
     }
 }
 
@@ -95,13 +95,18 @@ fn help_is_output(rt: HostRuntime) -> Result<(), Fail> {
 
 #[test]
 fn faults_are_errors(rt: HostRuntime) -> Result<(), Fail> {
-    let rows: [(&[&str], &str, &str); 6] = [
+    let rows: [(&[&str], &str, &str); 7] = [
         (&["explain", "E12"], "Some(2) |", "no such code"),
         (&["check", "cell", "nowhere", "bad"], "Some(3) |", "nowhere"),
         (&["check"], "Some(2) |", "<CELL>"),
         (&["run"], "Some(2) |", "<CERT>"),
         (&["run", "cell", "nowhere"], "Some(3) |", "nowhere"),
-        (&["plant"], "Some(2) |", "plant"),
+        (&["serve"], "Some(2) |", "serve"),
+        (
+            &["plant", "--ring", "65"],
+            "Some(2) |",
+            "invalid value '65'",
+        ),
     ];
     for (words, front, part) in rows {
         assert!(rt;
@@ -149,12 +154,19 @@ fn sets_are_to_be_served(rt: HostRuntime) -> Result<(), Fail> {
 }
 
 #[test]
+fn plants_are_to_be_run(rt: HostRuntime) -> Result<(), Fail> {
+    let told = told(rt.alloc(), &["plant", "--ticks", "0"])?;
+    assert_eq!(rt; told.as_str(), "None |");
+    Ok(())
+}
+
+#[test]
 fn writes_fail(rt: HostRuntime) -> Result<(), Fail> {
     let rows: [(&[&str], u8); 4] = [
         (&["verify", "cell", "ranks", "a"], 3),
         (&["check", "cell", "bad"], 3),
         (&["--help"], 3),
-        (&["plant"], 2),
+        (&["plant", "--ring", "65"], 2),
     ];
     for (words, status) in rows {
         // A slice takes no more than its room.
