@@ -1,2 +1,3 @@
 mod Changed
 mod Reporting
+mod Boxes

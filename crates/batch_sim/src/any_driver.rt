@@ -1,24 +1,31 @@
 //! A driver of any kind.
+ghost use Rattle.std.specs.Prelude.{◌≡◌};
+
 use crate::driver::UnitDriver;
 use crate::order::Order;
 use batch_matrix::Report;
 
-/// A driver of which nothing is known, in a box: so the units of one cell may be driven in different ways.
+/// A driver of any kind, in a box: so the units of one cell may be driven in different ways. An order and a tick make of it
+/// what they make of the driver in the box.
 #[derive(Drop)]
 pub struct AnyDriver {
-    driver: Box<dyn UnitDriver + Send>,
+    pub driver: Box<dyn UnitDriver + Send>,
 }
 
 impl AnyDriver {
-    pub fn new(driver: Box<dyn UnitDriver + Send>) -> AnyDriver {
+    pub fn new(driver: Box<dyn UnitDriver + Send>) -> AnyDriver
+        ensures { result.driver ≡ driver }
+    {
         AnyDriver { driver }
     }
 }
 
 impl UnitDriver for AnyDriver {
-    ghost command_gives = { λ _ _ _ _. Unit {0} };
+    ghost use Rattle.batch_sim.specs.AnyDriver.{HoldsNext};
 
-    ghost tick_gives = { λ _ _ _. Unit {0} };
+    ghost command_gives = { λ old phase order new. HoldsNext old.driver ((UnitDriver-box old.driver).command_gives old.driver.value phase order) new.driver };
+
+    ghost tick_gives = { λ old answer new. HoldsNext old.driver ((UnitDriver-box old.driver).tick_gives old.driver.value answer) new.driver };
 
     fn command(&mut self, phase: u16, order: Order) {
         self.driver.command(phase, order);

@@ -9,11 +9,11 @@ use std::marker::Model;
 
 /// The units of a cell. A contract sees them as the list of their drivers, in the order of the units' numbers.
 #[derive(Drop)]
-pub struct Simulator<D: UnitDriver> {
+pub struct Simulator<D: Drop> {
     drivers: Vec<D>,
 }
 
-impl<D: UnitDriver> Model for Simulator<D> {
+impl<D: Drop> Model for Simulator<D> {
     ghost use Rattle.std.specs.Prelude.{List};
 
     ghost Value = { List D };

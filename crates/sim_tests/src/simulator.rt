@@ -1,6 +1,6 @@
 //! Scripts of a simulator: an order or a tick a line, whose answers are one text.
 use batch_matrix::{Command, Report};
-use batch_sim::{Order, Simulator, SteadyUnit};
+use batch_sim::{Order, Simulator, SteadyUnit, UnitDriver};
 use std::alloc::{AllocError, Global};
 use std::process::Abort;
 use std::test::Fail;
@@ -32,7 +32,11 @@ fn order_of(word: &str) -> Option<Order> {
 }
 
 /// Gives the order of `UNIT PHASE WORD`, and tells whether there is such a unit.
-fn order(alloc: Global, units: &mut Simulator<SteadyUnit>, words: &str) -> Result<String, Fail> {
+fn order<D: UnitDriver>(
+    alloc: Global,
+    units: &mut Simulator<D>,
+    words: &str,
+) -> Result<String, Fail> {
     let (unit, words) = words.split_once(' ').ok_or("no phase")?;
     let (phase, word) = words.split_once(' ').ok_or("no order")?;
     let order = order_of(word).ok_or("no such order")?;
@@ -41,13 +45,21 @@ fn order(alloc: Global, units: &mut Simulator<SteadyUnit>, words: &str) -> Resul
 }
 
 /// A tick of a unit, and what it reports.
-fn tick(alloc: Global, units: &mut Simulator<SteadyUnit>, unit: &str) -> Result<String, Fail> {
+fn tick<D: UnitDriver>(
+    alloc: Global,
+    units: &mut Simulator<D>,
+    unit: &str,
+) -> Result<String, Fail> {
     let answer: Option<(u16, Report)> = units.tick(unit.parse()?);
     Ok(format!(in alloc; "tick: {answer:?}\n")?)
 }
 
 /// What is told of a line of a script.
-fn answer(alloc: Global, units: &mut Simulator<SteadyUnit>, line: &str) -> Result<String, Fail> {
+fn answer<D: UnitDriver>(
+    alloc: Global,
+    units: &mut Simulator<D>,
+    line: &str,
+) -> Result<String, Fail> {
     match line.split_once(' ') {
         Some(("order", words)) => order(alloc, units, words),
         Some(("tick", unit)) => tick(alloc, units, unit),
@@ -56,7 +68,11 @@ fn answer(alloc: Global, units: &mut Simulator<SteadyUnit>, line: &str) -> Resul
 }
 
 /// What is told of each line.
-fn answers(alloc: Global, units: &mut Simulator<SteadyUnit>, script: &str) -> Result<String, Fail> {
+pub(crate) fn answers<D: UnitDriver>(
+    alloc: Global,
+    units: &mut Simulator<D>,
+    script: &str,
+) -> Result<String, Fail> {
     let mut told = String::new(alloc);
     for line in script.lines() {
         let answer = answer(alloc, units, line)?;

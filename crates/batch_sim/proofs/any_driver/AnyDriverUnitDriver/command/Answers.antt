@@ -1,0 +1,7 @@
+use Rattle.batch_sim.proofs.Boxes.{leads_on}
+use Rattle.batch_sim.proofs.any_driver.AnyDriverUnitDriver.command.Goals as goal
+
+pub returns : goal.returns
+returns g c =
+    leads_on (λ v x y. (goal.UnitDriver-dyn g (v, x)).command_gives x c.args.phase c.args.order y)
+    (λ v x. record c.args.self.now.driver { vtable = v; value = x }) _ _ _ _ _ c.command.ensures search
