@@ -4,6 +4,10 @@
 #[cfg(test)]
 mod documents;
 #[cfg(test)]
+mod ending;
+#[cfg(test)]
+mod ends;
+#[cfg(test)]
 mod limits;
 #[cfg(test)]
 mod lines;
