@@ -17,7 +17,6 @@ fn eight_outs_are_left(rt: HostRuntime) -> Result<(), Fail> {
 send 0 start 1
 turn 0
 turn 0
-seal 0
 finish
 seal 0
 close 0
@@ -32,14 +31,12 @@ take 0
 take 0
 take 0
 seal 0
-seal 1
 ",
         "turn: Ok(Handled)
 turn: Ok(Handled)
 seal: Err(NotSealable)
-seal: Err(NotSealable)
 close: Ok(())
-sealed, rest: 8
+seal: Ok(Some(8))
 created 1 A 1000
 ok start 1 running
 begin 1 0 A
@@ -50,10 +47,32 @@ begin 1 0.0.0 CHARGE
 start 1 0.0.0.0 R1 ADD
 nothing
 seal: Err(NotSealable)
-seal: Err(UnknownPort)
 0: Create { recipe: \"A\", size: 1000 }
 0: Order { command: Start, batch: 1 }
 batch 1: Some(Running)
+",
+    )
+}
+
+/// A port isn't sealed before it is closed, also where all that it is due is in its ring.
+#[test]
+fn open_port_is_not_sealed(rt: HostRuntime) -> Result<(), Fail> {
+    assert_told(
+        &rt,
+        rt.alloc(),
+        A,
+        &[console(8)],
+        "send 0 create A 1000
+send 0 start 1
+turn 0
+turn 0
+waiting 0
+seal 0
+",
+        "turn: Ok(Handled)
+turn: Ok(Handled)
+waiting: Some(0)
+seal: Err(NotSealable)
 ",
     )
 }
@@ -85,7 +104,7 @@ close: Err(EventsRemain)
 turn: Ok(Handled)
 close: Ok(())
 turn: Ok(Handled)
-sealed, rest: 8
+seal: Ok(Some(8))
 cut: Err(Closed)
 turn: Ok(Idle)
 cut: Err(UnknownPort)
@@ -131,7 +150,7 @@ cut: Err(Closed)
 history: 1
 turn: Ok(Handled)
 refused E4
-sealed, rest: 1
+seal: Ok(Some(1))
 created 1 A 1000
 nothing
 0: Create { recipe: \"A\", size: 1000 }
@@ -157,6 +176,8 @@ turn 0
 history 0
 seal 0
 turn 0
+seal 0
+seal 2
 ",
         "seal: Err(NotSealable)
 cut: Ok(())
@@ -164,6 +185,8 @@ turn: Ok(Idle)
 history: 0
 seal: Ok(false)
 turn: Ok(Idle)
+seal: Err(NotSealable)
+seal: Err(UnknownPort)
 ",
     )
 }

@@ -8,6 +8,8 @@ mod ending;
 #[cfg(test)]
 mod ends;
 #[cfg(test)]
+mod left;
+#[cfg(test)]
 mod limits;
 #[cfg(test)]
 mod lines;
@@ -17,6 +19,8 @@ mod loops;
 mod ports;
 #[cfg(test)]
 mod script;
+#[cfg(test)]
+mod seats;
 #[cfg(test)]
 mod stage;
 #[cfg(test)]

@@ -1,5 +1,5 @@
 //! What is done at a hub and at the desks of its ports.
-ghost use Rattle.std.specs.Prelude.{◌≡◌, OnOk};
+ghost use Rattle.std.specs.Prelude.{◌≡◌};
 ghost use Rattle.batch_desk.specs.DeskState.{desk_rings};
 ghost use Rattle.batch_desk.specs.HubState.{rings};
 
@@ -80,24 +80,13 @@ fn cut(alloc: Global, hub: &mut Hub, port: &str) -> Result<String, Fail>
     Ok(format!(in alloc; "cut: {done:?}\n")?)
 }
 
-/// A port that can't be sealed.
-fn refused_seal(alloc: Global, hub: &mut Hub, port: &str) -> Result<String, Fail>
-    ensures { OnOk result (rings hub.new ≡ rings hub.old) }
-{
-    match hub.seal(port.parse()?) {
-        Ok(_) => Err(Fail::from("sealed")),
-        Err(fault) => Ok(format!(in alloc; "seal: Err({fault:?})\n")?),
-    }
-}
-
 /// What is done at the hub, and what it is asked for.
 pub(crate) fn at_hub(alloc: Global, hub: &mut Hub, word: &str, port: &str) -> Result<String, Fail>
-    ensures { OnOk result (rings hub.new ≡ rings hub.old) }
+    ensures { rings hub.new ≡ rings hub.old }
 {
     match word {
         "turn" => turn(alloc, hub, port),
         "cut" => cut(alloc, hub, port),
-        "seal" => refused_seal(alloc, hub, port),
         _ => asked(alloc, hub, word, port),
     }
 }
