@@ -4,6 +4,12 @@
 #[cfg(test)]
 mod documents;
 #[cfg(test)]
+mod ending;
+#[cfg(test)]
+mod ends;
+#[cfg(test)]
+mod left;
+#[cfg(test)]
 mod limits;
 #[cfg(test)]
 mod lines;
@@ -13,6 +19,8 @@ mod loops;
 mod ports;
 #[cfg(test)]
 mod script;
+#[cfg(test)]
+mod seats;
 #[cfg(test)]
 mod stage;
 #[cfg(test)]

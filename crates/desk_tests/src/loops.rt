@@ -1,7 +1,7 @@
 //! The loops of a hub and of a console, one after the other in one thread.
 use crate::documents::A;
 use crate::lines::{cleared_of, engine_of};
-use crate::ports::{asked, console, send, take};
+use crate::ports::{at_desk, at_hub, console};
 use batch_desk::{Desk, Gate, Hub, LoopEnd, PortPlan, console_loop, hub_loop};
 use batch_text::Name;
 use batch_verify::Cleared;
@@ -74,11 +74,10 @@ impl Loops {
     fn answer(&mut self, alloc: Global, line: &str) -> Result<String, Fail> {
         let (word, words) = line.split_once(' ').ok_or("no words")?;
         match word {
-            "send" => send(alloc, &mut self.desks, words),
-            "take" => take(alloc, &self.cleared, &mut self.desks, words),
+            "send" | "take" => at_desk(alloc, &self.cleared, &mut self.desks, 0, words),
             "hub" => self.hub_told(alloc, words),
             "console" => self.console_told(alloc, words),
-            _ => asked(alloc, &self.hub, word, words),
+            _ => at_hub(alloc, &mut self.hub, word, words),
         }
     }
 }

@@ -1,6 +1,6 @@
 //! A hub, and the desks of its ports.
 use crate::lines::{cleared_of, engine_of};
-use crate::ports::{asked, send, take};
+use crate::ports::{at_desk, at_hub};
 use batch_desk::{Desk, Hub, PortPlan};
 use batch_verify::Cleared;
 use std::alloc::Global;
@@ -28,19 +28,24 @@ impl Stage {
         }
     }
 
-    fn turn(&mut self, alloc: Global, port: &str) -> Result<String, Fail> {
-        let turned = self.hub.turn(port.parse()?);
-        Ok(format!(in alloc; "turn: {turned:?}\n")?)
+    /// Seals a port, and tells whether there is a token.
+    fn seal(&mut self, alloc: Global, port: &str) -> Result<String, Fail> {
+        let sealed = self.hub.seal(port.parse()?);
+        let told = sealed.map(|token| token.is_some());
+        Ok(format!(in alloc; "seal: {told:?}\n")?)
     }
 
     /// What is told of a line of a script.
     pub(crate) fn answer(&mut self, alloc: Global, line: &str) -> Result<String, Fail> {
         let (word, words) = line.split_once(' ').ok_or("no port")?;
         match word {
-            "send" => send(alloc, &mut self.desks, words),
-            "take" => take(alloc, &self.cleared, &mut self.desks, words),
-            "turn" => self.turn(alloc, words),
-            _ => asked(alloc, &self.hub, word, words),
+            "send" | "take" => at_desk(alloc, &self.cleared, &mut self.desks, 0, words),
+            "seal" => self.seal(alloc, words),
+            "lose" => {
+                self.desks.clear();
+                Ok(String::new(alloc))
+            }
+            _ => at_hub(alloc, &mut self.hub, word, words),
         }
     }
 }

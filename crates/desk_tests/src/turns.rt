@@ -5,6 +5,27 @@ use crate::script::assert_told;
 use std::test::Fail;
 
 #[test]
+fn turn_handles(rt: HostRuntime) -> Result<(), Fail> {
+    assert_told(
+        &rt,
+        rt.alloc(),
+        A,
+        &[console(2)],
+        "turn 0
+send 0 create A 1000
+turn 0
+take 0
+turn 0
+",
+        "turn: Ok(Idle)
+turn: Ok(Handled)
+created 1 A 1000
+turn: Ok(Idle)
+",
+    )
+}
+
+#[test]
 fn full_ring_gives_the_event_back(rt: HostRuntime) -> Result<(), Fail> {
     assert_told(
         &rt,

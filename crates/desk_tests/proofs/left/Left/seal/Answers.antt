@@ -1,0 +1,8 @@
+use Rattle.desk_tests.proofs.Seating.{left_sealed}
+use Rattle.desk_tests.proofs.left.Left.seal.Goals as goal
+
+pub invariant_of-self : goal.invariant_of-self
+invariant_of-self c = left_sealed _ _ _ _ _ _ c.in-Ok-Some.ensures.ok c.self.invariant
+
+pub invariant_of-self-in-Ok-None : goal.invariant_of-self-in-Ok-None
+invariant_of-self-in-Ok-None c = left_sealed _ _ _ _ _ _ c.in-Ok-None.ensures.ok c.self.invariant

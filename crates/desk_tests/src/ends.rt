@@ -1,0 +1,192 @@
+//! The end of a port: its desk finishes, it is closed or cut and sealed, and what is left is taken.
+use crate::documents::A;
+use crate::ending::assert_ended;
+use crate::ports::console;
+use crate::script::assert_told;
+use std::test::Fail;
+
+/// All that a port is due is in its ring when it is sealed: so many are left, and so many are taken.
+#[test]
+fn eight_outs_are_left(rt: HostRuntime) -> Result<(), Fail> {
+    assert_ended(
+        &rt,
+        rt.alloc(),
+        A,
+        &[console(8)],
+        "send 0 create A 1000
+send 0 start 1
+turn 0
+turn 0
+finish
+seal 0
+close 0
+seal 0
+take 0
+take 0
+take 0
+take 0
+take 0
+take 0
+take 0
+take 0
+take 0
+seal 0
+",
+        "turn: Ok(Handled)
+turn: Ok(Handled)
+seal: Err(NotSealable)
+close: Ok(())
+seal: Ok(Some(8))
+created 1 A 1000
+ok start 1 running
+begin 1 0 A
+ask 1 0.0 R1
+grant 1 0.0 R1
+begin 1 0.0 MAKE
+begin 1 0.0.0 CHARGE
+start 1 0.0.0.0 R1 ADD
+nothing
+seal: Err(NotSealable)
+0: Create { recipe: \"A\", size: 1000 }
+0: Order { command: Start, batch: 1 }
+batch 1: Some(Running)
+",
+    )
+}
+
+/// A port isn't sealed before it is closed, also where all that it is due is in its ring.
+#[test]
+fn open_port_is_not_sealed(rt: HostRuntime) -> Result<(), Fail> {
+    assert_told(
+        &rt,
+        rt.alloc(),
+        A,
+        &[console(8)],
+        "send 0 create A 1000
+send 0 start 1
+turn 0
+turn 0
+waiting 0
+seal 0
+",
+        "turn: Ok(Handled)
+turn: Ok(Handled)
+waiting: Some(0)
+seal: Err(NotSealable)
+",
+    )
+}
+
+/// A port isn't closed while an event of its desk remains. The other port goes on.
+#[test]
+fn events_remain(rt: HostRuntime) -> Result<(), Fail> {
+    assert_ended(
+        &rt,
+        rt.alloc(),
+        A,
+        &[console(16), console(16)],
+        "send 0 create A 1000
+turn 0
+send 0 start 1
+finish
+close 0
+turn 0
+close 0
+send 1 report R1 ADD done
+turn 1
+seal 0
+cut 0
+turn 0
+cut 2
+",
+        "turn: Ok(Handled)
+close: Err(EventsRemain)
+turn: Ok(Handled)
+close: Ok(())
+turn: Ok(Handled)
+seal: Ok(Some(8))
+cut: Err(Closed)
+turn: Ok(Idle)
+cut: Err(UnknownPort)
+0: Create { recipe: \"A\", size: 1000 }
+0: Order { command: Start, batch: 1 }
+1: Report(PhaseReport { unit: \"R1\", phase: \"ADD\", word: Done, outputs: [] })
+batch 1: Some(Complete)
+",
+    )
+}
+
+/// Of a port that is cut no event is taken any more, and it can't be closed. What waits is still put.
+#[test]
+fn cut_port_takes_nothing(rt: HostRuntime) -> Result<(), Fail> {
+    assert_ended(
+        &rt,
+        rt.alloc(),
+        A,
+        &[console(16), console(16)],
+        "send 0 create A 1000
+turn 0
+send 0 start 1
+finish
+close 0
+cut 0
+turn 0
+close 0
+cut 0
+history 0
+send 1 report R1 ADD done
+turn 1
+take 1
+seal 0
+take 0
+take 0
+",
+        "turn: Ok(Handled)
+close: Err(EventsRemain)
+cut: Ok(())
+turn: Ok(Idle)
+close: Err(Closed)
+cut: Err(Closed)
+history: 1
+turn: Ok(Handled)
+refused E4
+seal: Ok(Some(1))
+created 1 A 1000
+nothing
+0: Create { recipe: \"A\", size: 1000 }
+1: Report(PhaseReport { unit: \"R1\", phase: \"ADD\", word: Done, outputs: [] })
+batch 1: Some(Idle)
+",
+    )
+}
+
+/// The port of a desk that was lost is cut and sealed, and there is no token.
+#[test]
+fn lost_desk(rt: HostRuntime) -> Result<(), Fail> {
+    assert_told(
+        &rt,
+        rt.alloc(),
+        A,
+        &[console(2), console(2)],
+        "send 0 create A 1000
+lose all
+seal 0
+cut 0
+turn 0
+history 0
+seal 0
+turn 0
+seal 0
+seal 2
+",
+        "seal: Err(NotSealable)
+cut: Ok(())
+turn: Ok(Idle)
+history: 0
+seal: Ok(false)
+turn: Ok(Idle)
+seal: Err(NotSealable)
+seal: Err(UnknownPort)
+",
+    )
+}

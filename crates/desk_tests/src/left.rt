@@ -1,0 +1,112 @@
+//! A hub whose first desk has finished.
+ghost use Rattle.std.specs.Prelude.{◌≡◌, IfSome, slice_get};
+ghost use Rattle.batch_desk.specs.HubState.{rings};
+ghost use Rattle.batch_desk.specs.Rings.{IsOfRing};
+
+use crate::lines::text_of;
+use crate::ports::{at_desk, at_hub};
+use batch_desk::{Desk, Hub, HubFault, Inbox};
+use batch_engine::{Event, Out};
+use batch_verify::Cleared;
+use rtrb::Finished;
+use std::alloc::Global;
+use std::marker::Model;
+use std::test::Fail;
+
+/// A hub, what is left of the desk of its first port, and the desks of the others. The token is there until the port is closed.
+#[derive(Drop)]
+pub(crate) struct Left {
+    pub(crate) cleared: Cleared,
+    pub(crate) hub: Hub,
+    pub(crate) token: Option<Finished<Event>>,
+    pub(crate) inbox: Inbox,
+    pub(crate) others: Vec<Desk>,
+}
+
+impl Model for Left {
+    ghost use Rattle.std.specs.Prelude.{⊤};
+    ghost use Rattle.desk_tests.specs.Seats.{IsLeft};
+
+    ghost Value = { ⊤ };
+
+    ghost view = { λ _. tt };
+
+    ghost invariant = { λ l. IsLeft l.hub l.token l.inbox };
+}
+
+/// Closes the first port by the token, if there is one. A token that comes back is kept.
+fn close_by(hub: &mut Hub, token: &mut Option<Finished<Event>>) -> Option<Result<(), HubFault>>
+    requires { IfSome token.old (λ t. IfSome (slice_get hub.old.ports 0) (λ p. IsOfRing t p.events)) }
+    ensures rings { rings hub.new ≡ rings hub.old }
+    ensures token { IfSome token.new (λ t. IfSome (slice_get hub.old.ports 0) (λ p. IsOfRing t p.events)) }
+{
+    match token.take() {
+        None => None,
+        Some(kept) => match hub.close(0, kept) {
+            Ok(()) => Some(Ok(())),
+            Err((fault, back)) => {
+                *token = Some(back);
+                Some(Err(fault))
+            }
+        },
+    }
+}
+
+impl Left {
+    /// Closes the first port. None where there is no token.
+    fn close(&mut self) -> Option<Result<(), HubFault>> {
+        close_by(&mut self.hub, &mut self.token)
+    }
+
+    /// Seals the first port, and tells how many outs are left in the inbox. None where there is no token.
+    fn seal(&mut self) -> Result<Option<usize>, HubFault> {
+        match self.hub.seal(0) {
+            Ok(Some(token)) => Ok(Some(self.inbox.rest(token))),
+            Ok(None) => Ok(None),
+            Err(fault) => Err(fault),
+        }
+    }
+
+    /// Takes an out that is left.
+    #[tactic(auto, using(crate::proofs::Seating::left_stays))]
+    fn take(&mut self) -> Option<Out> {
+        self.inbox.take()
+    }
+
+    /// What is told where the first port is closed.
+    fn closed(&mut self, alloc: Global) -> Result<String, Fail> {
+        let closed = self.close().ok_or("no token")?;
+        Ok(format!(in alloc; "close: {closed:?}\n")?)
+    }
+
+    /// What is told where the first port is sealed.
+    fn sealed(&mut self, alloc: Global) -> Result<String, Fail> {
+        let rest = self.seal();
+        Ok(format!(in alloc; "seal: {rest:?}\n")?)
+    }
+
+    /// The line of an out that is left.
+    fn taken(&mut self, alloc: Global) -> Result<String, Fail> {
+        let out = self.take();
+        text_of(alloc, &self.cleared, out)
+    }
+
+    /// What is told of a line of a script.
+    #[tactic(auto, using(crate::proofs::Seating::left_stays))]
+    pub(crate) fn answer(&mut self, alloc: Global, line: &str) -> Result<String, Fail> {
+        let (word, words) = line.split_once(' ').ok_or("no port")?;
+        match (word, words) {
+            ("close", "0") => self.closed(alloc),
+            ("seal", "0") => self.sealed(alloc),
+            ("take", "0") => self.taken(alloc),
+            ("send" | "take", _) => at_desk(alloc, &self.cleared, &mut self.others, 1, words),
+            _ => at_hub(alloc, &mut self.hub, word, words),
+        }
+    }
+
+    /// The hub.
+    pub(crate) fn into_hub(self) -> Hub {
+        let Left { hub, .. } = self;
+        hub
+    }
+}

@@ -1,0 +1,82 @@
+//! A hub and the desks of its ports, of which the first is apart.
+use crate::left::Left;
+use crate::lines::{cleared_of, engine_of};
+use crate::ports::{at_desk, at_hub, send, take};
+use batch_desk::{Desk, Hub, PortPlan};
+use batch_verify::Cleared;
+use std::alloc::Global;
+use std::marker::Model;
+use std::test::Fail;
+
+/// A hub, the desk of its first port, and those of the others.
+#[derive(Drop)]
+pub(crate) struct Seats {
+    cleared: Cleared,
+    hub: Hub,
+    first: Desk,
+    others: Vec<Desk>,
+}
+
+impl Model for Seats {
+    ghost use Rattle.std.specs.Prelude.{⊤};
+    ghost use Rattle.desk_tests.specs.Seats.{IsSeated};
+
+    ghost Value = { ⊤ };
+
+    ghost view = { λ _. tt };
+
+    ghost invariant = { λ s. IsSeated s.hub s.first };
+}
+
+impl Seats {
+    #[tactic(auto, using(crate::proofs::Seating::first_seated))]
+    pub(crate) fn new(alloc: Global, recipe: &str, plans: &[PortPlan]) -> Result<Seats, Fail> {
+        let cleared = cleared_of(alloc, recipe)?;
+        let engine = engine_of(alloc, recipe)?;
+        let Ok((hub, mut others)) = Hub::new(alloc, engine, plans) else {
+            return Err(Fail::from("no hub"));
+        };
+        if others.is_empty() {
+            return Err(Fail::from("no desk"));
+        }
+        let first = others.remove(0);
+        Ok(Seats {
+            cleared,
+            hub,
+            first,
+            others,
+        })
+    }
+
+    /// What is told of a line of a script.
+    #[tactic(auto, using(crate::proofs::Seating::seated_stays))]
+    pub(crate) fn answer(&mut self, alloc: Global, line: &str) -> Result<String, Fail> {
+        let (word, words) = line.split_once(' ').ok_or("no port")?;
+        let (port, event) = words.split_once(' ').unwrap_or((words, ""));
+        match (word, port) {
+            ("send", "0") => send(alloc, &mut self.first, event),
+            ("take", "0") => take(alloc, &self.cleared, &mut self.first),
+            ("send" | "take", _) => at_desk(alloc, &self.cleared, &mut self.others, 1, words),
+            _ => at_hub(alloc, &mut self.hub, word, words),
+        }
+    }
+
+    /// The first desk finishes.
+    #[tactic(auto, using(crate::proofs::Seating::left_seated))]
+    pub(crate) fn finish(self) -> Left {
+        let Seats {
+            cleared,
+            hub,
+            first,
+            others,
+        } = self;
+        let (token, inbox) = first.finish();
+        Left {
+            cleared,
+            hub,
+            token,
+            inbox,
+            others,
+        }
+    }
+}
