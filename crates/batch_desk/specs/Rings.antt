@@ -1,4 +1,4 @@
--- surface: what tells one ring from another.
+-- trusted: what tells one ring from another.
 use Rattle.std.specs.Prelude.{◌≡◌}
 use denote.RawPtr.{Ptr}
 use Rattle.std.specs.declared.alloc.Global.{Global}
