@@ -1,0 +1,78 @@
+//! Plants in threads.
+use crate::gates::{Meeting, Open};
+use crate::plants::{run, steady_units};
+use crate::silent::Silent;
+use batch_plant::PlantGates;
+use batch_sim::Simulator;
+use std::alloc::Global;
+use std::sync::Arc;
+use std::sync::atomic::{AtomicU64, Ordering};
+use std::test::Fail;
+use std::thread::Threads;
+
+/// Gates that let every turn be made.
+fn open_gates() -> PlantGates<Open, Open, Open> {
+    PlantGates {
+        hub: Open,
+        console: Open,
+        link: Open,
+    }
+}
+
+#[test]
+fn plant_of_three(rt: HostRuntime) -> Result<(), Fail> {
+    let alloc = rt.alloc();
+    let told = run(
+        &rt,
+        alloc,
+        steady_units(alloc, 5)?,
+        3,
+        10_000_000,
+        open_gates(),
+    )?;
+    assert_eq!(&rt;
+        told.as_str(),
+        "complete 3, handled 9, PlantRests { console: Some(0), link: Some(0) }"
+    );
+    Ok(())
+}
+
+#[test]
+fn silent_units_let_the_turns_run_out(rt: HostRuntime) -> Result<(), Fail> {
+    let alloc = rt.alloc();
+    let mut drivers = Vec::new(alloc);
+    drivers.push(Silent)?;
+    drivers.push(Silent)?;
+    let told = run(&rt, alloc, Simulator::new(drivers), 1, 10_000, open_gates())?;
+    assert_eq!(&rt; told.as_str(), "the turns ran out");
+    Ok(())
+}
+
+/// How many of the gates of console and link saw that the other's loop runs.
+fn met<R: Threads>(rt: &R, alloc: Global) -> Result<u64, Fail> {
+    let console = Arc::new(alloc, AtomicU64::new(0))?;
+    let link = Arc::new(alloc, AtomicU64::new(0))?;
+    let met = Arc::new(alloc, AtomicU64::new(0))?;
+    let gates = PlantGates {
+        hub: Open,
+        console: Meeting {
+            mine: Arc::try_clone(&console)?,
+            other: Arc::try_clone(&link)?,
+            met: Arc::try_clone(&met)?,
+        },
+        link: Meeting {
+            mine: link,
+            other: console,
+            met: Arc::try_clone(&met)?,
+        },
+    };
+    run(rt, alloc, steady_units(alloc, 5)?, 1, 10_000_000, gates)?;
+    Ok(met.load(Ordering::SeqCst))
+}
+
+#[test]
+fn loops_run_at_once(rt: HostRuntime) -> Result<(), Fail> {
+    let alloc = rt.alloc();
+    assert_eq!(&rt; met(&rt, alloc)?, 2);
+    Ok(())
+}
