@@ -6,21 +6,21 @@ use Rattle.std.proofs.lemmas.Bool.Decides.{nat_tests}
 use Rattle.batch_recipe.specs.declared.need.Need.{Need}
 use Rattle.batch_recipe.specs.Tree.{Place, is_before}
 use Rattle.batch_model.specs.Lists.{Has, Each}
-use Rattle.batch_model.specs.Laws.{IsFirst}
+use Rattle.batch_machine.specs.Laws.{IsFirst}
 use Rattle.batch_model.specs.Placed.{Rises}
-use Rattle.batch_model.specs.Plant.{Documents, Batch, Plant, opening, place_of}
+use Rattle.batch_model.specs.Plant.{Setup, Batch, Plant, opening, place_of}
 use Rattle.batch_model.specs.Rest.{Rest, ready, asking, open_act, live, freeing, in_seq, in_par, in_loop, done, acts}
 use Rattle.batch_model.specs.Moves.{Move, send, state, release, begin, start, end, ask, grant, batch_of, kind_of, place_of_move, order_of, is_earlier, act_move, state_move, least, batch_moves, when, is_served}
-use Rattle.batch_model.proofs.Calming.{IsStateMove, state_move-is}
-use Rattle.batch_model.proofs.Lowering.{IsMoveOf, act_move-is}
+use Rattle.batch_machine.proofs.Calming.{IsStateMove, state_move-is}
+use Rattle.batch_machine.proofs.Lowering.{IsMoveOf, act_move-is}
 use Rattle.batch_model.proofs.Members.{Has-filter_map, Each-Has}
-use Rattle.batch_model.proofs.Ordering.{least-IsFirst, least-IsLeast, before-asym}
+use Rattle.batch_machine.proofs.Ordering.{least-IsFirst, least-IsLeast, before-asym}
 use Rattle.batch_chart.specs.OwnMoves.{own_move, own_moves, own_next, grant_move, grants, is_kind}
 use Rattle.batch_chart.proofs.MoveKinds.{kind_in}
 use Rattle.batch_chart.proofs.Firsts.{no-state, no-grant}
 
-abbrev nothing_cleared : Documents
-nothing_cleared = record { capacity = λ r. 0; offers = λ u p. false; recipes = []; batch_limit = 0 }
+abbrev nothing_cleared : Setup
+nothing_cleared = record { units = []; resources = []; capacity = λ r. 0; offers = λ u p. false; recipes = []; batch_limit = 0 }
 
 own-act : (b : Batch) (a : Rest) (m : Move) → own_move b a ≡ Some m → act_move nothing_cleared opening b a ≡ Some m
 own-act b (ready p w k) m e = e
@@ -267,7 +267,7 @@ grant-step g ls os gs first e =
     go None q = refl
     go (Some o) q = ap (λ b. elim b as (λ _. Option Move) [ true ↦ Some o | false ↦ Some g ]) (first o (least-IsLeast os o q).0)
 
-module _ (c : Documents) (s : Plant) (b : Batch) where
+module _ (c : Setup) (s : Plant) (b : Batch) where
   grant-is : (a : Rest) (g : Move) → grant_move c s b a ≡ Some g → (batch_of g ≡ b.number) × (kind_of g ≡ 6)
   grant-is (asking p w k) g e = read (slice_get p.needs k) e
     where
@@ -350,7 +350,7 @@ module _ (c : Documents) (s : Plant) (b : Batch) where
           own-step m (filter_map (act_move c s b) (acts b.rest)) (filter_map (own_move b) (acts b.rest)) (grants c s b)
           (λ g h. own-after m g (ap batch_of k.1, (let e : kind_of m ≡ 2 = ap kind_of k.1 in omega (arith, e))) (AllGrants (acts b.rest) g h)) (merges (acts b.rest))
 
-pub own-first-elim : (c : Documents) (s : Plant) (b : Batch) → least (batch_moves c s b) ≡ elim (own_next b) as (λ _. Option Move) [ Some m ↦ Some m | None ↦ least (grants c s b) ]
+pub own-first-elim : (c : Setup) (s : Plant) (b : Batch) → least (batch_moves c s b) ≡ elim (own_next b) as (λ _. Option Move) [ Some m ↦ Some m | None ↦ least (grants c s b) ]
 own-first-elim c s b = own-first c s b ∙ go (own_next b) (least (grants c s b))
   where
     go : (o y : Option Move) → chosen_of o y ≡ elim o as (λ _. Option Move) [ Some m ↦ Some m | None ↦ y ]

@@ -2,7 +2,7 @@
 use Rattle.std.proofs.Common.{◌≡◌, List, [], ◌∷◌, Bool, true, false, Some, None, refl, sym, ◌∙◌, ap}
 use Rattle.std.specs.Prelude.{Option}
 use Rattle.std.specs.List.{filter_map, cons_option}
-use Rattle.batch_model.specs.Plant.{Documents, Batch, Plant}
+use Rattle.batch_model.specs.Plant.{Setup, Batch, Plant}
 use Rattle.batch_model.specs.Rest.{Rest, ready, asking, open_act, live, freeing, in_seq, in_par, in_loop, done, acts}
 use Rattle.batch_model.specs.Moves.{Move, act_move, state_move, batch_moves, is_earlier, least}
 use Rattle.batch_chart.specs.OwnMoves.{own_move, own_moves, own_next, grant_move, grants}
@@ -19,7 +19,7 @@ least-empty (m ∷ ms) e = absurd (go (least ms) e)
     go None e = cc
     go (Some l) e = two (is_earlier l m) l e
 
-module _ (c : Documents) (s : Plant) (b : Batch) where
+module _ (c : Setup) (s : Plant) (b : Batch) where
   abbrev Alone : List Rest → Type 0
   Alone as' = filter_map (own_move b) as' ≡ [] → filter_map (act_move c s b) as' ≡ filter_map (grant_move c s b) as'
 

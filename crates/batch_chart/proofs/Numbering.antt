@@ -16,8 +16,8 @@ use Rattle.batch_model.specs.Placed.{IsPlaced, IsPlacedBelow, ArePlaced, IsChoic
 use Rattle.batch_model.specs.Rest.{same_place, Rest, ready, asking, live}
 use Rattle.batch_model.specs.Moves.{freed}
 use Rattle.batch_model.proofs.Members.{Has-split}
-use Rattle.batch_model.proofs.Ordering.{before-irrefl}
-use Rattle.batch_model.proofs.Changing.{to_same_place}
+use Rattle.batch_machine.proofs.Ordering.{before-irrefl}
+use Rattle.batch_machine.proofs.Changing.{to_same_place}
 use Rattle.batch_chart.specs.declared.node.Node as chart
 use Rattle.batch_chart.specs.declared.node.Detail.{Detail}
 use Rattle.batch_chart.specs.Compiled.{Stands, StandsAct, AreStanding, AreChoices}

@@ -1,5 +1,6 @@
 -- Phase steps stand on a unit.
 use Rattle.std.proofs.Common.{◌≡◌, Bool, true, false, not, ◌&&◌, cond, Option, Some, None, List, [], ◌∷◌, refl, subst}
+use Rattle.std.proofs.lemmas.Bool.{and_parts}
 use Rattle.std.specs.List.{list_all, find}
 use Rattle.std.specs.Prelude.{is_some}
 use Rattle.batch_recipe.specs.Conditions.{Name, same_name}
@@ -12,14 +13,6 @@ use Rattle.batch_recipe.specs.declared.acts.Level.{Level}
 use Rattle.batch_recipe.specs.declared.acts.Level.TheVariants.{UnitProcedures, Operations, Phases}
 use Rattle.batch_chart.specs.Building.{are_on_unit, own_unit, is_fit, unit_named}
 
-and_left : (a b : Bool) → (a && b) ≡ true → a ≡ true
-and_left true b h = refl
-and_left false b h = let bad : false ≡ true = h in cc
-
-and_right : (a b : Bool) → (a && b) ≡ true → b ≡ true
-and_right true b h = h
-and_right false b h = let bad : false ≡ true = h in cc
-
 found_step : (q : Act → Bool) (b : Bool) (x a : Act) (rest : Option Act) → cond b (Some x) rest ≡ Some a → q x ≡ true → (rest ≡ Some a → q a ≡ true) → q a ≡ true
 found_step q true x a rest e first later = let same : x ≡ a = cc in subst (λ y. q y ≡ true) same first
 found_step q false x a rest e first later = later e
@@ -28,7 +21,7 @@ found_step q false x a rest e first later = later e
 found_passes : (p q : Act → Bool) (xs : List Act) (a : Act) → find p xs ≡ Some a → list_all q xs ≡ true → q a ≡ true
 found_passes p q [] a h all = let bad : None ≡ Some a = h in cc
 found_passes p q (x ∷ xs) a h all =
-    found_step q (p x) x a (find p xs) h (and_left (q x) (list_all q xs) all) (λ e. found_passes p q xs a e (and_right (q x) (list_all q xs) all))
+    found_step q (p x) x a (find p xs) h ((and_parts (q x) (list_all q xs) all).0) (λ e. found_passes p q xs a e ((and_parts (q x) (list_all q xs) all).1))
 
 pub own-named : (u own : Option Name) → unit_named (own_unit u own) ≡ unit_below (unit_named u) own
 own-named u None = refl
@@ -47,7 +40,7 @@ has-some None e = e
 has-some (Some unit) e = refl
 
 pub procedure-fit : (acts : Acts) (unit : Option Name) → are_kinds acts ≡ true → is_fit (Some UnitProcedures) unit acts.procedure ≡ true
-procedure-fit acts unit k = and_right (not (has_unit acts.procedure)) _ (and_left (not (has_unit acts.procedure) && has_chart acts.procedure) _ k)
+procedure-fit acts unit k = (and_parts (not (has_unit acts.procedure)) _ ((and_parts (not (has_unit acts.procedure) && has_chart acts.procedure) _ k).0)).1
 
 -- a label names an act that fits
 pub named-fit : (acts : Acts) (table : Level) (unit : Option Name) (name : Name) (a : Act) → are_kinds acts ≡ true → are_on_unit (Some table) unit ≡ true → act_named (table_at acts table) name ≡ Some a
@@ -55,8 +48,8 @@ pub named-fit : (acts : Acts) (table : Level) (unit : Option Name) (name : Name)
 named-fit acts UnitProcedures unit name a k on h =
     let kind : (has_unit a && has_chart a) ≡ true =
     found_passes (λ x. same_name x.name name) (λ u. has_unit u && has_chart u) acts.unit_procedures.items a h
-    (and_left (list_all (λ u. has_unit u && has_chart u) acts.unit_procedures.items) _ (and_right (not (has_unit acts.procedure) && has_chart acts.procedure) _ k)) in
-    unit-own unit a.unit (has-some a.unit (and_left (has_unit a) (has_chart a) kind))
+    ((and_parts (list_all (λ u. has_unit u && has_chart u) acts.unit_procedures.items) _ ((and_parts (not (has_unit acts.procedure) && has_chart acts.procedure) _ k).1)).0) in
+    unit-own unit a.unit (has-some a.unit ((and_parts (has_unit a) (has_chart a) kind).0))
 named-fit acts Operations unit name a k on h = unit-above unit a.unit on
 named-fit acts Phases unit name a k on h = unit-above unit a.unit on
 

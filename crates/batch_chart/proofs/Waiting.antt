@@ -13,8 +13,8 @@ use Rattle.batch_model.specs.Placed.{IsPlaced, IsPlacedBelow, ArePlaced, IsChoic
 use Rattle.batch_model.specs.Plant.{place_of}
 use Rattle.batch_model.specs.Rest.{Rest, asking, acts, is_done}
 use Rattle.batch_model.proofs.Members.{Each-Has}
-use Rattle.batch_model.proofs.Ordering.{before-asym}
-use Rattle.batch_model.proofs.Rising.{acts-rise}
+use Rattle.batch_machine.proofs.Ordering.{before-asym}
+use Rattle.batch_machine.proofs.Rising.{acts-rise}
 use Rattle.batch_chart.specs.declared.node.Node.{Node}
 use Rattle.batch_chart.specs.declared.node.Detail.{Detail}
 use Rattle.batch_chart.specs.declared.stage.Stage.{Stage}

@@ -1,7 +1,7 @@
 -- Rising paths and rising edges.
 use Rattle.std.proofs.Common.{◌≡◌, ℕ, zero, suc, ◌<◌, ◌≤◌, List, [], ◌∷◌, IsTrue, Bool, true, false, ◌&&◌, nat_eq, map, length, position, get_or, slice_get, Option, Some, None, All, Contains, refl, sym, ap, ◌∙◌, subst, arith}
 use Rattle.std.specs.List.{Any}
-use Rattle.std.proofs.lemmas.Bool.{eqb-true}
+use Rattle.std.proofs.lemmas.Bool.{and_parts, eqb-true}
 use Rattle.std.proofs.lemmas.List.Quantifiers.{position-Some}
 use Rattle.std.proofs.lemmas.List.Folds.{Any-from_list_any}
 use Rattle.std.proofs.lemmas.List.Elements.{All-weaker, All-contains}
@@ -14,9 +14,8 @@ use Rattle.batch_recipe.specs.WellFormed.{is_among}
 use Rattle.batch_recipe.specs.declared.recipe.Recipe.{Recipe}
 use Rattle.batch_model.specs.Lists.{Each}
 use Rattle.batch_model.specs.Cleared.{Ranking, RiseStrictly, IsClear, Part, parts, is_procedure}
-use Rattle.batch_model.specs.Documents.{cell_of}
 use Rattle.batch_model.specs.Recipes.{recipe_of}
-use Rattle.batch_model.specs.Plant.{Documents}
+use Rattle.batch_model.specs.Plant.{Setup}
 use Rattle.batch_model.proofs.Members.{Each-map}
 use Rattle.batch_model.proofs.Parts.{parts-nodes}
 use Rattle.batch_check.specs.declared.edge.Edge.{Edge}
@@ -76,14 +75,10 @@ pub record HasEdge (edges : List Edge) (i j : ℕ) : Type 0 where
   pub from : edge.earlier ≡ i
   pub into : edge.later ≡ j
 
-both_true : (a b : Bool) → (a && b) ≡ true → (a ≡ true) × (b ≡ true)
-both_true true b h = (refl, h)
-both_true false b h = absurd cc
-
 edge_of : (edges : List Edge) (i j : ℕ) → IsTrue (has_pair edges i j) → HasEdge edges i j
 edge_of edges i j h =
     let any : Any (λ (e : Edge). (nat_eq e.earlier i && nat_eq e.later j) ≡ true) edges = Any-from_list_any (λ (e : Edge). nat_eq e.earlier i && nat_eq e.later j) edges h in
-    let both = both_true (nat_eq any.1.earlier i) (nat_eq any.1.later j) any.4 in
+    let both = and_parts (nat_eq any.1.earlier i) (nat_eq any.1.later j) any.4 in
     record { edge = any.1; stands = (any.0, any.2, any.3); from = eqb-true any.1.earlier i both.0; into = eqb-true any.1.later j both.1 }
 
 module _ (c : Cell) (edges : List Edge) (ranks : List ℕ) (rising : All (λ e. get_or ranks e.earlier 0 < get_or ranks e.later 0) edges) where
@@ -161,11 +156,11 @@ pub parts_hold : (P : Node → Type 0) (r : Recipe) → Each (λ x. P x.node) (p
 parts_hold P r h =
     subst (λ (ns : List Node). Each P ns) (parts-nodes is_procedure (0 ∷ []) [] (procedure_tree r.acts)) (Each-nodes P (parts is_procedure (0 ∷ []) [] (procedure_tree r.acts)) h)
 
-pub cleared_rises : (c : Cell) (d : Documents) (rank : Ranking) (recipes : List Recipe) → Each (λ r. Each (IsClear (cell_of c) d rank) (parts is_procedure (0 ∷ []) [] r.procedure)) (map recipe_of recipes)
+pub cleared_rises : (c : Cell) (d : Setup) (rank : Ranking) (recipes : List Recipe) → Each (λ r. Each (IsClear d rank) (parts is_procedure (0 ∷ []) [] r.procedure)) (map recipe_of recipes)
     → RiseAlongPaths rank recipes
 cleared_rises c d rank [] h = tt
 cleared_rises c d rank (r ∷ rs) h = (
   parts_hold (λ n. RiseStrictly rank n.asked) r
-      (Each-map (IsClear (cell_of c) d rank) (λ x. RiseStrictly rank x.node.asked) (λ x clear. clear.rising) (parts is_procedure (0 ∷ []) [] (procedure_tree r.acts)) h.0),
+      (Each-map (IsClear d rank) (λ x. RiseStrictly rank x.node.asked) (λ x clear. clear.rising) (parts is_procedure (0 ∷ []) [] (procedure_tree r.acts)) h.0),
   cleared_rises c d rank rs h.1,
 )

@@ -3,9 +3,9 @@ use Rattle.std.specs.Prelude.{◌≡◌, ℕ, List, take, Some, None, slice_get,
 use Rattle.batch_cell.specs.declared.cell.Cell as equipment
 use Rattle.batch_recipe.specs.declared.recipe.Recipe as document
 use Rattle.batch_model.specs.Lists.{Each}
-use Rattle.batch_model.specs.Plant.{Recipe, Documents}
-use Rattle.batch_model.specs.Cleared.{Cell, procedure_parts}
-use Rattle.batch_model.specs.Documents.{cell_of, documents_of}
+use Rattle.batch_model.specs.Plant.{Recipe, Setup}
+use Rattle.batch_model.specs.Cleared.{procedure_parts}
+use Rattle.batch_model.specs.Setups.{setup_of}
 use Rattle.batch_verify.specs.Refusals.{IsSound, IsFirstBroken}
 use Rattle.batch_verify.specs.Verifying.{IsRecipeSet}
 use Rattle.batch_verify.specs.declared.rule.Broken.{Broken}
@@ -15,29 +15,29 @@ use Rattle.batch_check.specs.ByName.{BeginsWithLeastName}
 use Rattle.batch_check.specs.Clearing.{StandsAsCircle}
 
 -- all nodes of the recipe meet the rules that don't speak of ranks
-abbrev pub IsSoundRecipe : Cell → Documents → Recipe → Type 0
-IsSoundRecipe cell d r = Each (IsSound cell d) (procedure_parts r)
+abbrev pub IsSoundRecipe : Setup → Recipe → Type 0
+IsSoundRecipe setup r = Each (IsSound setup) (procedure_parts r)
 
 -- recipe k is the first with a node that breaks such a rule, and this is the first that does
-pub record IsFirstUnsound (cell : Cell) (d : Documents) (recipes : List Recipe) (k : ℕ) (broken : Broken) : Type 0 where
+pub record IsFirstUnsound (setup : Setup) (recipes : List Recipe) (k : ℕ) (broken : Broken) : Type 0 where
   pub recipe : Recipe
   pub found : slice_get recipes k ≡ Some recipe
-  pub before : Each (IsSoundRecipe cell d) (take k recipes)
-  pub first : IsFirstBroken cell d None (procedure_parts recipe) 0 broken
+  pub before : Each (IsSoundRecipe setup) (take k recipes)
+  pub first : IsFirstBroken setup None (procedure_parts recipe) 0 broken
 
 -- the fault stands, and nothing does that is looked for before it: names and number of the recipes, then the recipes one
 -- after another, then circles; want of memory says nothing
 abbrev pub IsFault : equipment.Cell → List document.Recipe → CheckFault → Type 0
-IsFault c recipes Recipes = ¬ (IsRecipeSet (documents_of c recipes).recipes)
+IsFault c recipes Recipes = ¬ (IsRecipeSet (setup_of c recipes).recipes)
 IsFault c recipes (in_recipe k broken) =
-    IsRecipeSet (documents_of c recipes).recipes × IsFirstUnsound (cell_of c) (documents_of c recipes) (documents_of c recipes).recipes k broken
+    IsRecipeSet (setup_of c recipes).recipes × IsFirstUnsound (setup_of c recipes) (setup_of c recipes).recipes k broken
 IsFault c recipes (Circle circle) =
-    IsRecipeSet (documents_of c recipes).recipes × Each (IsSoundRecipe (cell_of c) (documents_of c recipes)) (documents_of c recipes).recipes
+    IsRecipeSet (setup_of c recipes).recipes × Each (IsSoundRecipe (setup_of c recipes)) (setup_of c recipes).recipes
     × StandsAsCircle c recipes circle.items × BeginsWithLeastName c circle.items
 IsFault c recipes Memory = ⊤
 
 -- the recipes are no set, or memory was wanting
 abbrev pub IsSetFault : equipment.Cell → List document.Recipe → CheckFault → Type 0
-IsSetFault c recipes Recipes = ¬ (IsRecipeSet (documents_of c recipes).recipes)
+IsSetFault c recipes Recipes = ¬ (IsRecipeSet (setup_of c recipes).recipes)
 IsSetFault c recipes Memory = ⊤
 IsSetFault c recipes _ = ⊥

@@ -9,7 +9,7 @@ use Rattle.batch_recipe.specs.WellFormed.{is_among}
 use Rattle.batch_recipe.specs.declared.recipe.Recipe as document
 use Rattle.batch_model.specs.Lists.{Each}
 use Rattle.batch_model.specs.Cleared.{Ranking, NeedsResources, RiseStrictly, IsCleared, CanBeCleared}
-use Rattle.batch_model.specs.Documents.{cell_of, documents_of}
+use Rattle.batch_model.specs.Setups.{setup_of}
 use Rattle.batch_check.specs.declared.edge.Edge.{Edge}
 use Rattle.batch_verify.specs.Refusals.{rank_in}
 use Rattle.batch_check.specs.Edges.{Stands, AreEdgesOf}
@@ -17,7 +17,7 @@ use Rattle.batch_check.specs.LeastRanking.{IsCircle, IsLeastRanking}
 
 -- each need is a resource of the cell
 abbrev pub NeedResources : equipment.Cell → List document.Recipe → Type 0
-NeedResources c recipes = Each (λ recipe. Each (λ node. NeedsResources (cell_of c) node.here) (procedure_nodes recipe.acts)) recipes
+NeedResources c recipes = Each (λ recipe. Each (λ node. NeedsResources (resources_of c) node.here) (procedure_nodes recipe.acts)) recipes
 
 -- the ranks rise strictly along all paths of the recipes
 abbrev pub RiseAlongPaths : Ranking → List document.Recipe → Type 0
@@ -40,10 +40,10 @@ pub record RiseLeast (c : equipment.Cell) (recipes : List document.Recipe) (rank
 
 -- a ranking that clears the recipes, and no ranking that does has a lower rank anywhere
 pub record IsLeastClearance (c : equipment.Cell) (recipes : List document.Recipe) (rank : Ranking) : Type 0 where
-  pub clearing : IsCleared (cell_of c) (documents_of c recipes) rank
+  pub clearing : IsCleared (setup_of c recipes) rank
   pub positive : RanksResources c rank
   pub bounded : (name : Name) → rank name ≤ length (resources_of c)
-  pub least : (other : Ranking) → RanksResources c other → IsCleared (cell_of c) (documents_of c recipes) other → IsAtMost c rank other
+  pub least : (other : Ranking) → RanksResources c other → IsCleared (setup_of c recipes) other → IsAtMost c rank other
 
 -- a circle of edges that stand in the recipes
 pub record StandsAsCircle (c : equipment.Cell) (recipes : List document.Recipe) (edges : List Edge) : Type 0 where
@@ -60,7 +60,7 @@ CirclesLeaveNoRising = (c : equipment.Cell) (recipes : List document.Recipe) (ci
 -- so no ranking clears them
 abbrev pub CirclesLeaveNoClearance : Type 0
 CirclesLeaveNoClearance = (c : equipment.Cell) (recipes : List document.Recipe) (circle : List Edge)
-    → StandsAsCircle c recipes circle → CanBeCleared (cell_of c) (documents_of c recipes) → ⊥
+    → StandsAsCircle c recipes circle → CanBeCleared (setup_of c recipes) → ⊥
 
 -- the least ranks along the edges of recipes are the least that rise along all their paths
 abbrev pub LeastRanksRise : Type 0

@@ -3,8 +3,7 @@ use Rattle.std.specs.Prelude.{ℕ, ◌≡◌, List, length, ⊤}
 use Rattle.batch_cell.specs.LookUps.{resources_of}
 use Rattle.batch_cell.specs.declared.cell.Cell as equipment
 use Rattle.batch_recipe.specs.declared.recipe.Recipe as document
-use Rattle.batch_model.specs.Plant.{Documents}
-use Rattle.batch_model.specs.Cleared.{Cell}
+use Rattle.batch_model.specs.Plant.{Setup}
 use Rattle.batch_verify.specs.Refusals.{rank_in}
 use Rattle.batch_check.specs.declared.edge.Edge.{Edge}
 use Rattle.batch_check.specs.declared.fault.CheckFault.{CheckFault}
@@ -23,10 +22,10 @@ IsRankingOf count edges (Ranks ranks) = IsLeastRanking count edges ranks.items
 IsRankingOf count edges (Circle circle) = IsCircle edges circle.items
 
 -- a fault of a recipe, where recipes alone were looked at
-abbrev pub IsRecipeFault : Cell → Documents → CheckFault → Type 0
-IsRecipeFault cell d (fault.Recipe k broken) = IsFirstUnsound cell d d.recipes k broken
-IsRecipeFault cell d fault.Memory = ⊤
-IsRecipeFault cell d _ = ⊥
+abbrev pub IsRecipeFault : Setup → CheckFault → Type 0
+IsRecipeFault setup (fault.Recipe k broken) = IsFirstUnsound setup setup.recipes k broken
+IsRecipeFault setup fault.Memory = ⊤
+IsRecipeFault setup _ = ⊥
 
 -- a circle, where the orders of needs alone were looked at
 abbrev pub IsCircleFault : equipment.Cell → List document.Recipe → CheckFault → Type 0

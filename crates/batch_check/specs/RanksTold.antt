@@ -2,7 +2,6 @@
 use Rattle.std.specs.Prelude.{◌≡◌, ℕ, List, length, map}
 use Rattle.batch_cell.specs.LookUps.{resources_of}
 use Rattle.batch_cell.specs.declared.cell.Cell.{Cell}
-use Rattle.batch_model.specs.Documents.{cell_of}
 use Rattle.batch_check.specs.ByName.{IsCertificateOf}
 use Rattle.batch_verify.specs.CertificateText.{Rank, AreInOrder}
 use Rattle.batch_verify.specs.Ranked.{rank_of, RanksAll}
@@ -11,7 +10,7 @@ use Rattle.batch_verify.specs.Refusals.{rank_in}
 -- each resource has exactly one entry, there is no other entry, each gives the resource's rank, and no name is below the one
 -- before it
 pub record TellsRanks (c : Cell) (ranks : List ℕ) (entries : List Rank) : Type 0 where
-  pub ranked : RanksAll (cell_of c) entries
+  pub ranked : RanksAll (resources_of c) entries
   pub by_number : map (rank_of entries) (resources_of c) ≡ ranks
   pub by_name : rank_of entries ≡ rank_in c ranks
   pub in_order : AreInOrder entries

@@ -8,7 +8,7 @@ use Rattle.batch_recipe.specs.declared.recipe.Recipe as document
 use Rattle.batch_model.specs.Lists.{Has}
 use Rattle.batch_model.specs.Plant.{Recipe}
 use Rattle.batch_model.specs.Cleared.{Part, Ranking, procedure_parts}
-use Rattle.batch_model.specs.Documents.{documents_of}
+use Rattle.batch_model.specs.Setups.{setup_of}
 
 -- along the path of a node of a recipe, the one is asked for before the other
 pub record IsAskedBefore (recipes : List Recipe) (earlier later : Name) : Type 0 where
@@ -37,4 +37,4 @@ pub record IsLowest (recipes : List Recipe) (rank : Ranking) (name : Name) : Typ
 -- each resource's rank is one more than the greatest among those asked for before it on some path, and 1 where there are none
 abbrev pub RanksTightly : equipment.Cell → List document.Recipe → Ranking → Type 0
 RanksTightly c recipes rank = (name : Name) → IsTrue (is_among (resources_of c) name)
-    → FollowsGreatest (documents_of c recipes).recipes rank name ⊎ IsLowest (documents_of c recipes).recipes rank name
+    → FollowsGreatest (setup_of c recipes).recipes rank name ⊎ IsLowest (setup_of c recipes).recipes rank name

@@ -1,8 +1,9 @@
 //! The check of recipes.
 ghost use Rattle.std.specs.Prelude.{◌≡◌, ◌≢◌, ◌≤◌, map, length, OnOk, IfOk, IfErr};
+ghost use Rattle.batch_cell.specs.LookUps.{resources_of};
 ghost use Rattle.batch_model.specs.Lists.{Each};
 ghost use Rattle.batch_model.specs.Cleared.{CanBeCleared, IsCleared};
-ghost use Rattle.batch_model.specs.Documents.{cell_of, documents_of};
+ghost use Rattle.batch_model.specs.Setups.{setup_of};
 ghost use Rattle.batch_model.specs.Recipes.{recipe_of};
 ghost use Rattle.batch_model.specs.declared.limits.TheConstants.{MAX_RECIPES};
 ghost use Rattle.batch_verify.specs.CertificateText.{AreInOrder};
@@ -25,9 +26,9 @@ use std::alloc::Global;
 /// The least ranking that clears the recipes for the cell, in order of name, or why there is none.
 pub fn check(alloc: Global, cell: &Cell, recipes: &[Recipe]) -> Result<Certificate, CheckFault>
     // So `verify` accepts the certificate.
-    ensures ranked { IfOk result (λ certificate. RanksAll (cell_of cell.now) certificate.ranks.items) }
+    ensures ranked { IfOk result (λ certificate. RanksAll (resources_of cell.now) certificate.ranks.items) }
     ensures cleared { IfOk result
-        (λ certificate. IsCleared (cell_of cell.now) (documents_of cell.now recipes.now) (rank_of certificate.ranks.items)) }
+        (λ certificate. IsCleared (setup_of cell.now recipes.now) (rank_of certificate.ranks.items)) }
     ensures least { IfOk result (λ certificate. IsLeastClearance cell.now recipes.now (rank_of certificate.ranks.items)) }
     // A resource's rank is one more than the greatest among those asked for before it on some path, and 1 where there are none.
     ensures tight { IfOk result (λ certificate. RanksTightly cell.now recipes.now (rank_of certificate.ranks.items)) }
@@ -35,7 +36,7 @@ pub fn check(alloc: Global, cell: &Cell, recipes: &[Recipe]) -> Result<Certifica
 
     ensures first { IfErr result (IsFault cell.now recipes.now) }
     // What a caller needs of it: but for memory, no ranking clears the recipes.
-    ensures none { IfErr result (λ fault. fault ≢ CheckFault.Memory → ¬ (CanBeCleared (cell_of cell.now) (documents_of cell.now recipes.now))) }
+    ensures none { IfErr result (λ fault. fault ≢ CheckFault.Memory → ¬ (CanBeCleared (setup_of cell.now recipes.now))) }
 {
     if !is_recipe_set(recipes) {
         return Err(CheckFault::Recipes);
@@ -50,8 +51,8 @@ pub fn check(alloc: Global, cell: &Cell, recipes: &[Recipe]) -> Result<Certifica
 fn check_each(alloc: Global, cell: &Cell, recipes: &[Recipe]) -> Result<(), CheckFault>
     requires { length recipes.now ≤ MAX_RECIPES }
     ensures sound { OnOk result
-        (Each (IsSoundRecipe (cell_of cell.now) (documents_of cell.now recipes.now)) (map recipe_of recipes.now)) }
-    ensures fault { IfErr result (IsRecipeFault (cell_of cell.now) (documents_of cell.now recipes.now)) }
+        (Each (IsSoundRecipe (setup_of cell.now recipes.now)) (map recipe_of recipes.now)) }
+    ensures fault { IfErr result (IsRecipeFault (setup_of cell.now recipes.now)) }
 {
     for (number, recipe) in recipes.iter().enumerate() {
         match first_broken(alloc, cell, recipe, None)? {

@@ -27,7 +27,6 @@ use Rattle.batch_cell.proofs.Resources.{few_resources}
 use Rattle.batch_recipe.specs.Conditions.{Name, same_name}
 use Rattle.batch_recipe.specs.WellFormed.{is_among}
 use Rattle.batch_recipe.specs.declared.recipe.Recipe.{Recipe}
-use Rattle.batch_model.specs.Documents.{cell_of}
 use Rattle.batch_model.specs.Lists.{Each}
 use Rattle.batch_reader.proofs.DistinctNames.{IsDistinct-from_are_distinct}
 use Rattle.batch_verify.specs.CertificateText.{Rank, words, is_rank, rank_of_words, rank_of_line, AreInOrder, IsCertificateText}
@@ -181,7 +180,7 @@ each_from_places P [] h = tt
 each_from_places P (x ∷ xs) h = (h zero x refl, each_from_places P xs (λ k y e. h (suc k) y e))
 
 -- the ranks of a cell's resources, as a check finds them
-module _ (c : Cell) (rs : List Recipe) (ranks : List Rank) (names : All (λ (r : Rank). IsName r.0) ranks) (ranked : RanksAll (cell_of c) ranks) (least : IsLeastClearance c rs (rank_of ranks)) where
+module _ (c : Cell) (rs : List Recipe) (ranks : List Rank) (names : All (λ (r : Rank). IsName r.0) ranks) (ranked : RanksAll (resources_of c) ranks) (least : IsLeastClearance c rs (rank_of ranks)) where
   resources_fit : length (resources_of c) ≤ MAX_LINES
   resources_fit = omega (arith, few_resources c.units.items c.modules.items c.shared.items, c.few_units, c.few_modules, c.few_shared)
 

@@ -6,7 +6,7 @@ use Rattle.batch_verify.specs.ClearedSet.{ClearedSet}
 use Rattle.batch_commands.specs.Halting.{HaltsCheck, HaltsClearing}
 use Rattle.batch_commands.specs.Judging.{IsHalt}
 use Rattle.batch_commands.specs.Reading.{AreCleared, ChecksDocuments, DrawsDocuments, Gives, VerifiesDocuments}
-use Rattle.batch_commands.specs.Requests.{check, draw, verify, run, is_quiet, request_of, demo_gives, HaltsDemo, IsServed, HaltsServing}
+use Rattle.batch_commands.specs.Requests.{check, draw, verify, run, is_quiet, request_of, demo_gives, HaltsDemo, IsServed, HaltsSet}
 use Rattle.batch_commands.specs.declared.demo.TheConstants.{CELL_PATH, CERTIFICATE_PATH, RECIPE_PATH}
 use Rattle.batch_commands.specs.Running.{IsDone, IsOutcome, IsPlanned, IsTaken, Stream, serves, halts, plants}
 use Rattle.batch_words.specs.declared.command.Command.{Command}
@@ -46,7 +46,7 @@ outcome_of_verify gives cell certificate recipes path ranked paths (Err h) at by
 
 -- the set of a command is served, or it is told why there is none
 pub taken : (gives : Gives) (output errors : Stream) (command : Command) (set : Result ClearedSet Halt) (course : Course)
-    → IfOk set (IsServed gives (request_of command)) → IfErr set (HaltsServing gives (request_of command)) → IfErr set IsHalt
+    → IfOk set (IsServed gives (request_of command)) → IfErr set (HaltsSet gives (request_of command)) → IfErr set IsHalt
     → IsTaken (is_quiet command) output errors set course → IsDone gives command output errors course
 taken gives output errors command (Ok set) course served halted ends took = rw took.2 (serves set served took.0 took.1)
 taken gives output errors command (Err h) (Ends status) served halted is told = halts h status halted is told
@@ -72,7 +72,7 @@ served_by_run gives cell certificate recipes path ranked paths (Err h) at by all
 pub halted_by_run : (gives : Gives) (cell certificate : String Global) (recipes : Vec (String Global) Global) (path ranked : List ℕ)
     (paths : List (String Global)) (set : Result ClearedSet Halt)
     → path ≡ string_bytes cell → ranked ≡ string_bytes certificate → paths ≡ recipes.items
-    → IfErr set (HaltsClearing gives path ranked (map string_bytes paths)) → IfErr set (HaltsServing gives (run (string_bytes cell) (string_bytes certificate) (map string_bytes recipes.items)))
+    → IfErr set (HaltsClearing gives path ranked (map string_bytes paths)) → IfErr set (HaltsSet gives (run (string_bytes cell) (string_bytes certificate) (map string_bytes recipes.items)))
 halted_by_run gives cell certificate recipes path ranked paths (Ok set) at by all halted = tt
 halted_by_run gives cell certificate recipes path ranked paths (Err h) at by all halted = rw (← at, ← by, ← all) halted
 

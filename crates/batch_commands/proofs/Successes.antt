@@ -10,7 +10,7 @@ use Rattle.batch_words.specs.CommandLine.{IsCommandOf, batches_of, is_given, pro
 use Rattle.batch_verify.specs.ClearedSet.{ClearedSet}
 use Rattle.batch_commands.specs.Judging.{IsHalt, status_of}
 use Rattle.batch_commands.specs.Reading.{Gives}
-use Rattle.batch_commands.specs.Requests.{Request, serve, check, draw, verify, run, plant, explain, is_quiet, request_of, IsServed, HaltsServing}
+use Rattle.batch_commands.specs.Requests.{Request, serve, check, draw, verify, run, plant, explain, is_quiet, request_of, IsServed, HaltsSet}
 use Rattle.batch_commands.specs.Running.{IsDone, IsExplained, IsNamed, IsOutcome, IsPronounced, IsRun, IsTold, Stream, memory_status, commands, serves, plants, halts, judges, explains, helps, misuses, starves}
 use Rattle.batch_commands.specs.Statuses.{IsCodeTold, IsSuccess, NoCommandServes, ServesClearedSets, SuccessIsTold}
 use Rattle.batch_words.specs.declared.command.Command.{Command}
@@ -167,11 +167,11 @@ serves_no_code code is = cc
 
 demo_done : (gives : Gives) (output errors : Stream) (command : Command) (course : Course) → request_of command ≡ serve
     → IsDone gives command output errors course
-    → ((set : ClearedSet) × IsServed gives serve set × (course ≡ Serves set)) ⊎ ((h : Halt) × HaltsServing gives serve h) ⊎ (course ≡ Ends memory_status)
+    → ((set : ClearedSet) × IsServed gives serve set × (course ≡ Serves set)) ⊎ ((h : Halt) × HaltsSet gives serve h) ⊎ (course ≡ Ends memory_status)
 demo_done gives output errors command _ asked (serves set served _ _) = inl (set, subst (λ r. IsServed gives r set) asked served, refl)
 demo_done gives output errors command _ asked (plants _ _ options is _ _ _ _) =
     absurd (serves_no_plant options.batches options.ticks options.ring (sym asked ∙ is))
-demo_done gives output errors command _ asked (halts h status halted _ _) = inr (inl (h, subst (λ r. HaltsServing gives r h) asked halted))
+demo_done gives output errors command _ asked (halts h status halted _ _) = inr (inl (h, subst (λ r. HaltsSet gives r h) asked halted))
 demo_done gives output errors command _ asked (judges outcome status came _) =
     absurd (nothing_judged gives (request_of command) outcome asked came)
 demo_done gives output errors command _ asked (explains code status is _) = absurd (serves_no_code code (sym asked ∙ is))

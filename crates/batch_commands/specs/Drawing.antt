@@ -3,7 +3,7 @@ use Rattle.std.specs.Prelude.{◌≡◌, ◌≢◌, ℕ, List, []}
 use Rattle.batch_cell.specs.declared.cell.Cell.{Cell}
 use Rattle.batch_recipe.specs.declared.recipe.Recipe.{Recipe}
 use Rattle.batch_model.specs.Cleared.{CanBeCleared}
-use Rattle.batch_model.specs.Documents.{cell_of, documents_of}
+use Rattle.batch_model.specs.Setups.{setup_of}
 use Rattle.batch_check.specs.Checking.{IsFault}
 use Rattle.batch_check.specs.Edges.{AreEdgesOf}
 use Rattle.batch_check.specs.declared.edge.Edge.{Edge}
@@ -25,6 +25,6 @@ IsFaultDrawn c rs (Circle circle) text = IsDrawingOf c rs circle.items text
 IsFaultDrawn c rs fault text = text ≡ fault_text c rs fault
 
 abbrev pub IsDrawn : Cell → List Recipe → List ℕ → Ending → Type 0
-IsDrawn c rs text Accepted = CanBeCleared (cell_of c) (documents_of c rs) × IsDrawingOf c rs [] text
+IsDrawn c rs text Accepted = CanBeCleared (setup_of c rs) × IsDrawingOf c rs [] text
 IsDrawn c rs text Refused = (fault : CheckFault) × (fault ≢ Memory) × IsFault c rs fault × IsFaultDrawn c rs fault text
 IsDrawn c rs text OutOfMemory = text ≡ fault_text c rs Memory

@@ -1,10 +1,11 @@
 -- trusted: what verdicts say of the documents that they are on.
 use Rattle.std.specs.Prelude.{◌≡◌, ◌≢◌, ◌≤◌, ◌<◌, ℕ, List, true, length, string_bytes, IsSome, IsUtf8, ⊤}
 use Rattle.toml.specs.Parse.{parse_document}
+use Rattle.batch_cell.specs.LookUps.{resources_of}
 use Rattle.batch_cell.specs.declared.cell.Cell.{Cell}
 use Rattle.batch_recipe.specs.declared.recipe.Recipe.{Recipe}
 use Rattle.batch_model.specs.Cleared.{IsCleared}
-use Rattle.batch_model.specs.Documents.{cell_of, documents_of}
+use Rattle.batch_model.specs.Setups.{setup_of}
 use Rattle.batch_reader.specs.CellDocument.{IsCellDocument}
 use Rattle.batch_reader.specs.FaultStands.{FaultStands}
 use Rattle.batch_reader.specs.Faults.{is_of_cell, is_of_recipe}
@@ -100,13 +101,13 @@ pub record RefusesCertificate (text : List ℕ) (h : Halt) : Type 0 where
 
 -- the certificate ranks each resource once, and its ranks clear the recipes
 abbrev pub IsClearedBy : Cell → List Recipe → List Rank → Type 0
-IsClearedBy c rs ranks = RanksAll (cell_of c) ranks × IsCleared (cell_of c) (documents_of c rs) (rank_of ranks)
+IsClearedBy c rs ranks = RanksAll (resources_of c) ranks × IsCleared (setup_of c rs) (rank_of ranks)
 
 -- what is printed where it doesn't, and how the program ends
 abbrev pub IsSetRefused : Cell → List Recipe → List Rank → List ℕ → Ending → Type 0
 IsSetRefused c rs ranks text Accepted = ⊥
 IsSetRefused c rs ranks text Refused =
-    (refusal : Refusal) × (refusal ≢ set.Memory) × IsFirstRefusal (cell_of c) (documents_of c rs) ranks refusal
+    (refusal : Refusal) × (refusal ≢ set.Memory) × IsFirstRefusal (setup_of c rs) ranks refusal
     × (text ≡ refusal_text c rs ranks refusal)
 IsSetRefused c rs ranks text OutOfMemory = text ≡ refusal_text c rs ranks set.Memory
 
@@ -120,7 +121,7 @@ RefusesSet c rs ranks halt.Memory = ⊤
 -- or why there are none
 abbrev pub IsChecked : Cell → List Recipe → List ℕ → Ending → Type 0
 IsChecked c rs text Accepted =
-    (ranks : List Rank) × RanksAll (cell_of c) ranks × IsLeastClearance c rs (rank_of ranks) × AreInOrder ranks
+    (ranks : List Rank) × RanksAll (resources_of c) ranks × IsLeastClearance c rs (rank_of ranks) × AreInOrder ranks
     × (text ≡ certificate_text ranks) × IsCertificateText text ranks × (length text ≤ MAX_CERTIFICATE_LEN)
 IsChecked c rs text Refused = (fault : CheckFault) × (fault ≢ check.Memory) × IsFault c rs fault × (text ≡ fault_text c rs fault)
 IsChecked c rs text OutOfMemory = text ≡ fault_text c rs check.Memory

@@ -70,11 +70,11 @@ IsServed gives (plant batches ticks ring) set = ⊥
 IsServed gives (explain code) set = ⊥
 
 -- why there is no set to be served, or none whose plant is run
-abbrev pub HaltsServing : Gives → Request → Halt → Type 0
-HaltsServing gives serve h = HaltsDemo h
-HaltsServing gives (check cell recipes) h = ⊥
-HaltsServing gives (draw cell recipes) h = ⊥
-HaltsServing gives (verify cell certificate recipes) h = ⊥
-HaltsServing gives (run cell certificate recipes) h = HaltsClearing gives cell certificate recipes h
-HaltsServing gives (plant batches ticks ring) h = HaltsDemo h
-HaltsServing gives (explain code) h = ⊥
+abbrev pub HaltsSet : Gives → Request → Halt → Type 0
+HaltsSet gives serve h = HaltsDemo h
+HaltsSet gives (check cell recipes) h = ⊥
+HaltsSet gives (draw cell recipes) h = ⊥
+HaltsSet gives (verify cell certificate recipes) h = ⊥
+HaltsSet gives (run cell certificate recipes) h = HaltsClearing gives cell certificate recipes h
+HaltsSet gives (plant batches ticks ring) h = HaltsDemo h
+HaltsSet gives (explain code) h = ⊥

@@ -11,7 +11,7 @@ use Rattle.batch_words.specs.CommandLine.{IsCommandOf, IsShown, program_app}
 use Rattle.batch_commands.specs.Halting.{HaltsCheck, HaltsClearing}
 use Rattle.batch_commands.specs.Judging.{IsHalt, status_of}
 use Rattle.batch_commands.specs.Reading.{ChecksDocuments, DrawsDocuments, Gives, VerifiesDocuments}
-use Rattle.batch_commands.specs.Requests.{Request, serve, check, draw, verify, run, plant, explain, is_quiet, request_of, IsDemoCell, IsDemoSet, IsServed, HaltsDemo, HaltsServing}
+use Rattle.batch_commands.specs.Requests.{Request, serve, check, draw, verify, run, plant, explain, is_quiet, request_of, IsDemoCell, IsDemoSet, IsServed, HaltsDemo, HaltsSet}
 use Rattle.batch_commands.specs.Saying.{IsSaid}
 use Rattle.batch_cell.specs.declared.cell.Cell.{Cell}
 use Rattle.batch_verify.specs.ClearedSet.{ClearedSet}
@@ -131,7 +131,7 @@ pub data IsDone (gives : Gives) (command : Command) (output errors : Stream) : C
       → IsDone gives command output errors (Plants set c options)
   -- there is no set to be served
   halts : (h : Halt) (status : ℕ)
-      → HaltsServing gives (request_of command) h → IsHalt h → IsTold (is_quiet command) output errors (Err h) status
+      → HaltsSet gives (request_of command) h → IsHalt h → IsTold (is_quiet command) output errors (Err h) status
       → IsDone gives command output errors (Ends status)
   judges : (outcome : Result Verdict Halt) (status : ℕ)
       → IsOutcome gives (request_of command) outcome → IsTold (is_quiet command) output errors outcome status

@@ -4,7 +4,7 @@ use Rattle.std.specs.Io.KnownBytes.{Appends}
 use Rattle.clap.specs.Walk.{Text}
 use Rattle.batch_verify.specs.ClearedSet.{ClearedSet}
 use Rattle.batch_commands.specs.Reading.{AreCleared, ChecksDocuments, DrawsDocuments, Gives}
-use Rattle.batch_commands.specs.Requests.{Request, serve, check, draw, verify, run, plant, explain, request_of, IsServed, HaltsServing}
+use Rattle.batch_commands.specs.Requests.{Request, serve, check, draw, verify, run, plant, explain, request_of, IsServed, HaltsSet}
 use Rattle.batch_commands.specs.Running.{IsNamed, IsRun, Stream, memory_status}
 use Rattle.batch_commands.specs.VerdictTexts.{accepted_text}
 use Rattle.batch_explain.specs.Explaining.{told}
@@ -54,5 +54,5 @@ NoCommandServes gives =
     (words : List Text) (output errors : Stream) (course : Course)
     → IsNamed words Serve → IsRun gives words output errors course
     → ((set : ClearedSet) × IsServed gives serve set × (course ≡ Serves set))
-    ⊎ ((h : Halt) × HaltsServing gives serve h)
+    ⊎ ((h : Halt) × HaltsSet gives serve h)
     ⊎ (course ≡ Ends memory_status)

@@ -5,9 +5,9 @@ use Rattle.std.proofs.lemmas.Option.{slice_get-map}
 use Rattle.batch_model.specs.Plant.{Plant, opening}
 use Rattle.batch_model.specs.Moves.{next, after}
 use Rattle.batch_model.specs.Runs.{Leads}
-use Rattle.batch_model.proofs.Leading.{Leads-move, Leads-reply}
+use Rattle.batch_machine.proofs.Leading.{Leads-move, Leads-reply}
 use Rattle.batch_verify.specs.ClearedSet.{ClearedSet}
-use Rattle.batch_engine.specs.View.{EngineView, documents, plant_of}
+use Rattle.batch_engine.specs.View.{EngineView, setup, plant_of}
 use Rattle.batch_engine.specs.Answered.{IsAnswered}
 use Rattle.batch_engine.specs.Surface.{event_of, move_of, out_of, plant_after, reply_of}
 use Rattle.batch_engine.specs.declared.event.Event.{Event}
@@ -34,26 +34,26 @@ outs_in-append c (y ∷ outs) x = ap (λ ys. out_of c y ∷ ys) (outs_in-append 
 
 -- the record leads to where the engine is
 abbrev pub IsLed : EngineView → List (ℕ × Event) → List Out → Type 0
-IsLed v h outs = Leads (documents v.cleared) opening (events_in h) (outs_in v.cleared outs) (plant_of v)
+IsLed v h outs = Leads (setup v.cleared) opening (events_in h) (outs_in v.cleared outs) (plant_of v)
 
 pub replies_hub : (v : EngineView) (h : List (ℕ × Event)) (outs : List Out) → IsLed v h outs → replies outs ≡ length h
 replies_hub v h outs leads =
-    omega (arith, replies-led v.cleared (documents v.cleared) opening (plant_of v) (events_in h) outs leads, length-map h (λ (e : ℕ × Event). event_of e.1))
+    omega (arith, replies-led v.cleared (setup v.cleared) opening (plant_of v) (events_in h) outs leads, length-map h (λ (e : ℕ × Event). event_of e.1))
 
 led_event : (v w : EngineView) (h : List (ℕ × Event)) (outs : List Out) (i : ℕ) (event : Event) (answer : Answer)
     → IsLed v h outs → IsAnswered v (event_of event) answer w → IsLed w (h ++ (i, event) ∷ []) (outs ++ Reply answer ∷ [])
 led_event v w h outs i event answer leads step =
-    subst (λ (c : ClearedSet). Leads (documents c) opening (events_in (h ++ (i, event) ∷ [])) (outs_in c (outs ++ Reply answer ∷ [])) (plant_of w)) (sym step.cleared)
+    subst (λ (c : ClearedSet). Leads (setup c) opening (events_in (h ++ (i, event) ∷ [])) (outs_in c (outs ++ Reply answer ∷ [])) (plant_of w)) (sym step.cleared)
     (rw (events_in-append h (i, event), outs_in-append v.cleared outs (Reply answer))
-    (Leads-reply (documents v.cleared) opening (plant_of v) (plant_of w) (event_of event) (reply_of v.cleared answer) (events_in h) (outs_in v.cleared outs) leads step.reacts))
+    (Leads-reply (setup v.cleared) opening (plant_of v) (plant_of w) (event_of event) (reply_of v.cleared answer) (events_in h) (outs_in v.cleared outs) leads step.reacts))
 
 -- the engine made its next move, of which the line tells
 pub record IsMade (v : EngineView) (line : Line) (w : EngineView) : Type 0 where
-  pub next : next (documents v.cleared) (plant_of v) ≡ Some (move_of v.cleared line)
+  pub next : next (setup v.cleared) (plant_of v) ≡ Some (move_of v.cleared line)
   pub plant : plant_of w ≡ after (plant_of v) (move_of v.cleared line)
   pub cleared : w.cleared ≡ v.cleared
 
-pub made : (v w : EngineView) (r : Option Line) (line : Line) → r ≡ Some line → option_map (move_of v.cleared) r ≡ next (documents v.cleared) (plant_of v)
+pub made : (v w : EngineView) (r : Option Line) (line : Line) → r ≡ Some line → option_map (move_of v.cleared) r ≡ next (setup v.cleared) (plant_of v)
     → plant_of w ≡ plant_after v.cleared (plant_of v) r → w.cleared ≡ v.cleared → IsMade v line w
 made v w r line is told plant cleared = record {
   next = sym told ∙ ap (option_map (move_of v.cleared)) is;
@@ -63,10 +63,10 @@ made v w r line is told plant cleared = record {
 
 led_move : (v w : EngineView) (h : List (ℕ × Event)) (outs : List Out) (line : Line) → IsLed v h outs → IsMade v line w → IsLed w h (outs ++ Move line ∷ [])
 led_move v w h outs line leads step =
-    subst (λ (c : ClearedSet). Leads (documents c) opening (events_in h) (outs_in c (outs ++ Move line ∷ [])) (plant_of w)) (sym step.cleared)
-    (subst (λ (s : Plant). Leads (documents v.cleared) opening (events_in h) (outs_in v.cleared (outs ++ Move line ∷ [])) s) (sym step.plant)
+    subst (λ (c : ClearedSet). Leads (setup c) opening (events_in h) (outs_in c (outs ++ Move line ∷ [])) (plant_of w)) (sym step.cleared)
+    (subst (λ (s : Plant). Leads (setup v.cleared) opening (events_in h) (outs_in v.cleared (outs ++ Move line ∷ [])) s) (sym step.plant)
     (rw (outs_in-append v.cleared outs (Move line))
-    (Leads-move (documents v.cleared) opening (plant_of v) (move_of v.cleared line) (events_in h) (outs_in v.cleared outs) leads step.next)))
+    (Leads-move (setup v.cleared) opening (plant_of v) (move_of v.cleared line) (events_in h) (outs_in v.cleared outs) leads step.next)))
 
 pub hub_takes : (v w : EngineView) (h : List (ℕ × Event)) (outs : List Out) (ps : List PortState) (i : ℕ) (p q : PortState) (event : Event) (answer : Answer)
     → IsHub (record { engine = v; history = h; outs = outs; ports = ps }) → i < length ps → p ≡ get_or ps i p → IsNone p.closed → IsAnswered v (event_of event) answer w

@@ -1,6 +1,6 @@
 -- How many replies a record has.
 use Rattle.std.proofs.Common.{◌≡◌, ℕ, ◌+◌, List, [], ◌∷◌, ◌++◌, length, refl, sym, ◌∙◌, ap, arith}
-use Rattle.batch_model.specs.Plant.{Documents, Plant}
+use Rattle.batch_model.specs.Plant.{Setup, Plant}
 use Rattle.batch_model.specs.Moves.{after}
 use Rattle.batch_model.specs.Events as Events
 use Rattle.batch_model.specs.Runs as Runs
@@ -32,12 +32,12 @@ answers-in c (Reply r ∷ outs) = ap (λ n. 1 + n) (answers-in c outs)
 answers-in c (Move line ∷ outs) = answers-in c outs
 
 -- a record has a reply to each event
-pub Leads-answers : (c : Documents) (s t : Plant) (es : List Events.Event) (outs : List Runs.Out) → Leads c s es outs t → answers outs ≡ length es
+pub Leads-answers : (c : Setup) (s t : Plant) (es : List Events.Event) (outs : List Runs.Out) → Leads c s es outs t → answers outs ≡ length es
 Leads-answers c s t [] [] h = refl
 Leads-answers c s t (e ∷ es) [] h = absurd h
 Leads-answers c s t es (move m ∷ outs) h = Leads-answers c (after s m) t es outs h.1
 Leads-answers c s t [] (reply r ∷ outs) h = absurd h
 Leads-answers c s t (e ∷ es) (reply r ∷ outs) h = omega (arith, Leads-answers c h.0 t es outs h.2)
 
-pub replies-led : (set : ClearedSet) (c : Documents) (s t : Plant) (es : List Events.Event) (outs : List Out) → Leads c s es (outs_in set outs) t → replies outs ≡ length es
+pub replies-led : (set : ClearedSet) (c : Setup) (s t : Plant) (es : List Events.Event) (outs : List Out) → Leads c s es (outs_in set outs) t → replies outs ≡ length es
 replies-led set c s t es outs h = sym (answers-in set outs) ∙ Leads-answers c s t es (outs_in set outs) h

@@ -7,7 +7,7 @@ use Rattle.batch_model.specs.Runs as Runs
 use Rattle.batch_model.specs.Runs.{Leads}
 use Rattle.batch_verify.specs.ClearedSet.{ClearedSet}
 use Rattle.batch_engine.specs.Surface.{event_of, out_of}
-use Rattle.batch_engine.specs.View.{EngineView, documents, plant_of}
+use Rattle.batch_engine.specs.View.{EngineView, setup, plant_of}
 use Rattle.batch_engine.specs.declared.event.Event.{Event}
 use Rattle.batch_engine.specs.declared.out.Out.{Out}
 use Rattle.batch_desk.specs.Rings.{Ring}
@@ -45,7 +45,7 @@ outs_in c outs = map (out_of c) outs
 
 -- the record is what the machine does at the events of the history, the engine is where that leads, and each port has its share
 pub record IsHub (h : HubState) : Type 0 where
-  pub leads : Leads (documents h.engine.cleared) opening (events_in h.history) (outs_in h.engine.cleared h.outs) (plant_of h.engine)
+  pub leads : Leads (setup h.engine.cleared) opening (events_in h.history) (outs_in h.engine.cleared h.outs) (plant_of h.engine)
   pub ports : ArePorts h.history h.outs h.ports
 
 -- what a turn changes of no port
@@ -58,4 +58,4 @@ rings h = map port_rings h.ports
 
 -- no move is possible
 abbrev pub IsEngineSettled : EngineView → Type 0
-IsEngineSettled v = next (documents v.cleared) (plant_of v) ≡ None
+IsEngineSettled v = next (setup v.cleared) (plant_of v) ≡ None

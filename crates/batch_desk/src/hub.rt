@@ -2,7 +2,7 @@
 ghost use Rattle.std.specs.Prelude.{◌≡◌, length, slice_get, Some, None, OnOk, IfOk, IfErr, IfSome, MatchOption};
 ghost use Rattle.rtrb.specs.Ring.{all_sent};
 ghost use Rattle.batch_model.specs.Records.{IsSafe};
-ghost use Rattle.batch_engine.specs.View.{documents};
+ghost use Rattle.batch_engine.specs.View.{setup};
 ghost use Rattle.batch_desk.specs.Rings.{IsOfRing};
 ghost use Rattle.batch_desk.specs.HubState.{IsHub, outs_in, rings};
 ghost use Rattle.batch_desk.specs.Turns.{SameWork};
@@ -53,7 +53,7 @@ impl Hub {
     pub fn record(&self) -> &[Out]
         ensures value { result.now ≡ self.now.outs }
         ensures account { IsHub self.now }
-        ensures safe { IsSafe (documents self.now.engine.cleared) (outs_in self.now.engine.cleared self.now.outs) }
+        ensures safe { IsSafe (setup self.now.engine.cleared) (outs_in self.now.engine.cleared self.now.outs) }
     {
         cleared_runs_safely(self.engine.cleared());
         self.outs.as_slice()

@@ -8,7 +8,7 @@ use Rattle.batch_model.specs.Plant.{Plant}
 use Rattle.batch_model.specs.Runs.{Out}
 use Rattle.batch_safety.specs.Sets.{RunsSafely}
 use Rattle.batch_verify.specs.ClearedSet.{ClearedSet}
-use Rattle.batch_engine.specs.View.{documents}
+use Rattle.batch_engine.specs.View.{setup}
 use Rattle.batch_wire.specs.RecordText.{out_text}
 use Rattle.batch_wire.specs.Transcript.{Exchange, silence, followed_by, handled}
 use Rattle.batch_wire.specs.Written.{AppendsBeginning}
@@ -299,10 +299,10 @@ module _ {D : Type 0} (command_gives : D → ℕ → Order → D → Type 0) (ti
       h r new z (subst (λ (l : List ℕ). DrivesSome command_gives tick_gives set l now r new y z) (sym e) d)
 
   pub some_settle : (units : List ℕ) (old : Standing D) (r : Result (Unit {0}) DriveFault) (new : Standing D) (x y : Option (List ℕ)) → (IsErrOf r Write → ⊥)
-      → IsSettled (documents set) old.plant → DrivesSome command_gives tick_gives set units old r new x y → IsSettled (documents set) new.plant
+      → IsSettled (setup set) old.plant → DrivesSome command_gives tick_gives set units old r new x y → IsSettled (setup set) new.plant
   some_settle units old (Ok u) new x y n k (said, d, p) = drives_settle command_gives tick_gives set units old said new k d
   some_settle units old (Err Memory) new x y n k h =
-      subst (IsSettled (documents set)) (sym h.loses.same_plant) (drives_settle command_gives tick_gives set h.earlier old h.said h.mid k h.drives)
+      subst (IsSettled (setup set)) (sym h.loses.same_plant) (drives_settle command_gives tick_gives set h.earlier old h.said h.mid k h.drives)
   some_settle units old (Err Write) new x y n k h = absurd (n refl)
 
 -- Numbers of units, and rounds

@@ -8,7 +8,7 @@ use Rattle.batch_model.specs.Moves.{Move, next, after}
 use Rattle.batch_model.specs.Plant.{Plant}
 use Rattle.batch_model.specs.Runs.{Out, reply, move, Reacts, Leads}
 use Rattle.batch_verify.specs.ClearedSet.{ClearedSet}
-use Rattle.batch_engine.specs.View.{documents}
+use Rattle.batch_engine.specs.View.{setup}
 use Rattle.batch_wire.specs.RecordText.{out_text}
 use Rattle.batch_wire.specs.Transcript.{Settles}
 use Rattle.batch_wire.specs.Written.{AppendsBeginning}
@@ -35,8 +35,8 @@ module _ {D : Type 0} (command_gives : D → ℕ → Order → D → Type 0) (ti
   -- the moves made so far were written, and the units took their orders
   pub record AreGiven (first now : Standing D) (before written : Option (List ℕ)) : Type 0 where
     pub made : List Move
-    pub goes_on : (more : List Move) (new : Plant) → Settles (documents set) now.plant more new → Settles (documents set) first.plant (made ++ more) new
-    pub leads : Leads (documents set) first.plant [] (map move made) now.plant
+    pub goes_on : (more : List Move) (new : Plant) → Settles (setup set) now.plant more new → Settles (setup set) first.plant (made ++ more) new
+    pub leads : Leads (setup set) first.plant [] (map move made) now.plant
     pub orders : TakeOrders command_gives tick_gives set made first.units now.units
     pub appends : Appends before written (moves_text made)
 
@@ -45,28 +45,28 @@ module _ {D : Type 0} (command_gives : D → ℕ → Order → D → Type 0) (ti
   orders_more [] m old mid new h k = (new, subst (λ (u : List D). TakeOrder command_gives tick_gives set m u new) h k, refl)
   orders_more (x ∷ made) m old mid new h k = (h.0, h.1, orders_more made m h.0 mid new h.2 k)
 
-  lead_more : (made : List Move) (m : Move) (s t u : Plant) → Leads (documents set) s [] (map move made) t → next (documents set) t ≡ Some m → u ≡ after t m
-      → Leads (documents set) s [] (map move (made ++ m ∷ [])) u
-  lead_more [] m s t u h first_is is = (subst (λ (p : Plant). next (documents set) p ≡ Some m) (sym h) first_is, ap (λ (p : Plant). after p m) h ∙ sym is)
+  lead_more : (made : List Move) (m : Move) (s t u : Plant) → Leads (setup set) s [] (map move made) t → next (setup set) t ≡ Some m → u ≡ after t m
+      → Leads (setup set) s [] (map move (made ++ m ∷ [])) u
+  lead_more [] m s t u h first_is is = (subst (λ (p : Plant). next (setup set) p ≡ Some m) (sym h) first_is, ap (λ (p : Plant). after p m) h ∙ sym is)
   lead_more (x ∷ made) m s t u h first_is is = (h.0, lead_more made m (after s x) t u h.1 first_is is)
 
   pub none_given : (first : Standing D) (before : Option (List ℕ)) → Appends before before [] → AreGiven first first before before
   none_given first before p = record { made = []; goes_on = λ more new s. s; leads = refl; orders = refl; appends = p }
 
-  pub one_more : (first now new : Standing D) (m : Move) (x y z : Option (List ℕ)) → AreGiven first now x y → next (documents set) now.plant ≡ Some m
+  pub one_more : (first now new : Standing D) (m : Move) (x y z : Option (List ℕ)) → AreGiven first now x y → next (setup set) now.plant ≡ Some m
       → new.plant ≡ after now.plant m → TakeOrder command_gives tick_gives set m now.units new.units → Appends y z (out_text (move m)) → AreGiven first new x z
   one_more first now new m x y z h first_is is o p = record {
     made = h.made ++ m ∷ [];
-    goes_on = λ more last s. rw append_assoc (h.goes_on (m ∷ more) last (first_is, rw (← is) s));
+    goes_on = λ more last s. rw (append_assoc h.made (m ∷ []) more) (h.goes_on (m ∷ more) last (first_is, rw (← is) s));
     leads = lead_more h.made m first.plant now.plant new.plant h.leads first_is is;
     orders = orders_more h.made m first.units now.units new.units h.orders o;
     appends = rw (text-append h.made (m ∷ []), append-nil (out_text (move m))) (Appends-trans x y z _ _ h.appends p);
   }
 
   -- no move follows
-  pub all_given : (first now new : Standing D) (x y : Option (List ℕ)) → AreGiven first now x y → next (documents set) now.plant ≡ None → new.plant ≡ now.plant
+  pub all_given : (first now new : Standing D) (x y : Option (List ℕ)) → AreGiven first now x y → next (setup set) now.plant ≡ None → new.plant ≡ now.plant
       → new.units ≡ now.units
-      → (moves : List Move) × Settles (documents set) first.plant moves new.plant × TakeOrders command_gives tick_gives set moves first.units new.units
+      → (moves : List Move) × Settles (setup set) first.plant moves new.plant × TakeOrders command_gives tick_gives set moves first.units new.units
       × Appends x y (moves_text moves)
   all_given first now new x y h none same same_units = (
     h.made,
@@ -76,7 +76,7 @@ module _ {D : Type 0} (command_gives : D → ℕ → Order → D → Type 0) (ti
   )
 
   -- a fault came while a move was written
-  pub stopped_at : (first now new : Standing D) (m : Move) (x y z : Option (List ℕ)) → AreGiven first now x y → next (documents set) now.plant ≡ Some m
+  pub stopped_at : (first now new : Standing D) (m : Move) (x y z : Option (List ℕ)) → AreGiven first now x y → next (setup set) now.plant ≡ Some m
       → new.plant ≡ after now.plant m → new.units ≡ now.units → AppendsBeginning y z (out_text (move m)) → StopsMoves command_gives tick_gives set first new x z
   stopped_at first now new m x y z h first_is is same p = record {
     made = h.made;
@@ -90,7 +90,7 @@ module _ {D : Type 0} (command_gives : D → ℕ → Order → D → Type 0) (ti
 
   -- a fault came while the reply was written
   pub reply_stopped : (old new : Standing D) (event : Event) (answer : Reply) (x y : Option (List ℕ)) (f : WriteFault) → new.units ≡ old.units
-      → Reacts (documents set) old.plant event answer new.plant → AppendsBeginning x y (out_text (reply answer))
+      → Reacts (setup set) old.plant event answer new.plant → AppendsBeginning x y (out_text (reply answer))
       → WritesReported command_gives tick_gives set event old (Err f) new x y
   reply_stopped old new event answer x y f same h p = (
     reply answer ∷ [],
@@ -99,7 +99,7 @@ module _ {D : Type 0} (command_gives : D → ℕ → Order → D → Type 0) (ti
 
   -- the reply was written, and then the moves
   pub reported : (old mid new : Standing D) (event : Event) (answer : Reply) (r : Result (Unit {0}) WriteFault) (x y z : Option (List ℕ)) → mid.units ≡ old.units
-      → Reacts (documents set) old.plant event answer mid.plant → Appends x y (out_text (reply answer))
+      → Reacts (setup set) old.plant event answer mid.plant → Appends x y (out_text (reply answer))
       → WritesOrders command_gives tick_gives set mid r new y z → WritesReported command_gives tick_gives set event old r new x z
   reported old mid new event answer (Ok u) x y z same h p (moves, s, o, w) = (
     reply answer ∷ map move moves,

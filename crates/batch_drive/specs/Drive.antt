@@ -10,7 +10,7 @@ use Rattle.batch_model.specs.Plant.{Plant}
 use Rattle.batch_model.specs.Runs.{Out}
 use Rattle.batch_verify.specs.ClearedSet.{ClearedSet}
 use Rattle.batch_engine.specs.Names.{resource_name, phase_name}
-use Rattle.batch_engine.specs.View.{documents}
+use Rattle.batch_engine.specs.View.{setup}
 use Rattle.batch_wire.specs.Transcript.{Exchange, silence, handled, followed_by, Handles}
 use Rattle.batch_sim.specs.Units.{Takes, Ticks}
 use Rattle.batch_sim.specs.declared.order.Order.{Order}
@@ -60,7 +60,7 @@ module _ {D : Type 0} (command_gives : D → ℕ → Order → D → Type 0) (ti
 
   -- the machine handles a report, and the units take the orders of its moves
   pub record IsReported (event : Event) (old : Standing D) (outs : List Out) (new : Standing D) : Type 0 where
-    pub handles : Handles (documents set) old.plant event outs new.plant
+    pub handles : Handles (setup set) old.plant event outs new.plant
     pub orders : TakeOrders handles.moves old.units new.units
 
   -- what comes of the answer of a unit

@@ -6,7 +6,7 @@ use Rattle.batch_model.specs.Events.{Event}
 use Rattle.batch_model.specs.Moves.{Move}
 use Rattle.batch_model.specs.Runs.{Out, move, Leads}
 use Rattle.batch_verify.specs.ClearedSet.{ClearedSet}
-use Rattle.batch_engine.specs.View.{documents}
+use Rattle.batch_engine.specs.View.{setup}
 use Rattle.batch_wire.specs.RecordText.{out_text}
 use Rattle.batch_wire.specs.Transcript.{Exchange, Settles}
 use Rattle.batch_wire.specs.Written.{AppendsBeginning}
@@ -23,7 +23,7 @@ module _ {D : Type 0} (command_gives : D → ℕ → Order → D → Type 0) (ti
   pub record StopsMoves (old new : Standing D) (before written : Option (List ℕ)) : Type 0 where
     pub made : List Move
     pub last : Move
-    pub leads : Leads (documents set) old.plant [] (map move (made ++ last ∷ [])) new.plant
+    pub leads : Leads (setup set) old.plant [] (map move (made ++ last ∷ [])) new.plant
     pub orders : TakeOrders command_gives tick_gives set made old.units new.units
     pub mid : Option (List ℕ)
     pub whole : Appends before mid (moves_text made)
@@ -32,7 +32,7 @@ module _ {D : Type 0} (command_gives : D → ℕ → Order → D → Type 0) (ti
   -- moves are made and written until there is none, and the units take their orders
   abbrev pub WritesOrders : Standing D → Result (Unit {0}) WriteFault → Standing D → Option (List ℕ) → Option (List ℕ) → Type 0
   WritesOrders old (Ok done) new before written =
-      (moves : List Move) × Settles (documents set) old.plant moves new.plant × TakeOrders command_gives tick_gives set moves old.units new.units
+      (moves : List Move) × Settles (setup set) old.plant moves new.plant × TakeOrders command_gives tick_gives set moves old.units new.units
       × Appends before written (moves_text moves)
   WritesOrders old (Err fault) new before written =
       StopsMoves old new before written

@@ -8,7 +8,7 @@ use Rattle.batch_model.specs.Plant.{Plant, opening}
 use Rattle.batch_model.specs.Records.{IsSafe}
 use Rattle.batch_model.specs.Runs.{Out, reply, move, Leads}
 use Rattle.batch_verify.specs.ClearedSet.{ClearedSet}
-use Rattle.batch_engine.specs.View.{documents}
+use Rattle.batch_engine.specs.View.{setup}
 use Rattle.batch_wire.specs.RecordText.{out_text}
 use Rattle.batch_wire.specs.Transcript.{Exchange, silence, handled, followed_by}
 use Rattle.batch_wire.specs.Written.{AppendsBeginning}
@@ -20,9 +20,9 @@ use Rattle.batch_drive.specs.declared.fault.DriveFault.TheVariants.{Write, Memor
 
 -- the outs are the machine's record of the events, and whatever record led to the plant before, with them it is a safe one
 pub record KeepsRecord (set : ClearedSet) (old : Plant) (said : Exchange) (new : Plant) : Type 0 where
-  pub leads : Leads (documents set) old said.events said.outs new
-  pub goes_on : (events : List Event) (outs : List Out) → Leads (documents set) opening events outs old
-      → Leads (documents set) opening (events ++ said.events) (outs ++ said.outs) new × IsSafe (documents set) (outs ++ said.outs)
+  pub leads : Leads (setup set) old said.events said.outs new
+  pub goes_on : (events : List Event) (outs : List Out) → Leads (setup set) opening events outs old
+      → Leads (setup set) opening (events ++ said.events) (outs ++ said.outs) new × IsSafe (setup set) (outs ++ said.outs)
 
 -- the moves among outs
 abbrev pub moves_in : List Out → List Move
@@ -61,7 +61,7 @@ module _ {D : Type 0} (command_gives : D → ℕ → Order → D → Type 0) (ti
     pub told : List Out
     pub last : Out
     pub tells : outs ≡ told ++ last ∷ []
-    pub leads : Leads (documents set) old.plant (event ∷ []) outs new.plant
+    pub leads : Leads (setup set) old.plant (event ∷ []) outs new.plant
     pub orders : TakeOrders command_gives tick_gives set (moves_in told) old.units new.units
     pub mid : Option (List ℕ)
     pub whole : Appends before mid (flat_map out_text told)

@@ -8,7 +8,7 @@ use Rattle.batch_recipe.specs.declared.need.Need.{Need}
 use Rattle.batch_recipe.specs.Tree.{Step}
 use Rattle.batch_model.specs.Lists.{Each}
 use Rattle.batch_model.specs.Moves.{Move, act_move, batch_moves, giving_back, grant, is_served, is_stopped, when}
-use Rattle.batch_model.specs.Plant.{Documents, Batch, Plant}
+use Rattle.batch_model.specs.Plant.{Setup, Batch, Plant}
 use Rattle.batch_model.specs.Rest.{Rest, ready, asking, open_act, live, freeing, in_seq, in_par, in_loop, done, Rests, no_rests, rest, acts, acts_of_each}
 use Rattle.batch_model.proofs.Members.{Each-append}
 use Rattle.batch_laws.proofs.Facts.{Standing, facts, facts_of_each, held_at, awaited_at}
@@ -59,7 +59,7 @@ waits-for-nothing : {X : Type 0} (f : Need → Option X) (s : Step) (o : Option 
 waits-for-nothing f s None e = refl
 waits-for-nothing f s (Some r) e = absurd cc
 
-module _ (c : Documents) (s : Plant) (b : Batch) where
+module _ (c : Setup) (s : Plant) (b : Batch) where
   stopped-act : (a : Rest) → facts a ≡ [] → act_move c s (record b { state = Stopped }) a ≡ None
   stopped-act (ready p w k) e = refl
   stopped-act (asking p w k) e =

@@ -1,13 +1,13 @@
 -- The next move is that of the first batch that has one.
 use Rattle.std.proofs.Common.{◌≡◌, ◌<◌, refl, sym, ◌∙◌, ap, subst, ℕ, List, [], ◌∷◌, ◌++◌, Bool, true, false, Option, Some, None, inl, inr, arith, flat_map, nat_eq}
 use Rattle.batch_model.specs.Lists.{Has, Each}
-use Rattle.batch_model.specs.Plant.{Documents, Batch, Plant}
+use Rattle.batch_model.specs.Plant.{Setup, Batch, Plant}
 use Rattle.batch_model.specs.Moves.{Move, batch_of, is_earlier, least, batch_moves, next}
 use Rattle.batch_model.specs.Standing.{AreNumbered}
-use Rattle.batch_model.specs.Laws.{IsLeast}
+use Rattle.batch_machine.specs.Laws.{IsLeast}
 use Rattle.batch_model.proofs.Members.{Has-flat_map, Each-Has}
-use Rattle.batch_model.proofs.Ordering.{none_least, least-IsLeast}
-use Rattle.batch_model.proofs.Falling.{batch_moves-number}
+use Rattle.batch_machine.proofs.Ordering.{none_least, least-IsLeast}
+use Rattle.batch_machine.proofs.Falling.{batch_moves-number}
 
 least-one : (x : Move) (ys : List Move) → ((y : Move) → Has ys y → is_earlier y x ≡ false) → least (x ∷ ys) ≡ Some x
 least-one x ys h = go (least ys) refl
@@ -38,7 +38,7 @@ later-batch m l h = go (nat_eq (batch_of l) (batch_of m)) refl
     go : (b : Bool) → nat_eq (batch_of l) (batch_of m) ≡ b → is_earlier l m ≡ false
     go b e = grind arith
 
-module _ (c : Documents) (s : Plant) where
+module _ (c : Setup) (s : Plant) where
   pub flat-none : (front bs : List Batch) → Each (λ b. batch_moves c s b ≡ []) front → flat_map (batch_moves c s) (front ++ bs) ≡ flat_map (batch_moves c s) bs
   flat-none [] bs h = refl
   flat-none (b ∷ front) bs h = ap (λ xs. xs ++ flat_map (batch_moves c s) (front ++ bs)) h.0 ∙ flat-none front bs h.1

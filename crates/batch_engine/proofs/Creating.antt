@@ -20,7 +20,7 @@ use Rattle.batch_arbiter.specs.Allocation.{Claim, shares_of, line_of}
 use Rattle.batch_chart.specs.NodesOf.{needs_in, place_at}
 use Rattle.batch_chart.specs.Charts.{IsRunningOf}
 use Rattle.batch_engine.specs.declared.batch.Batch.{Batch}
-use Rattle.batch_engine.specs.View.{EngineView, documents, recipe_at, tree_at, batch_of, share_of, acts_of, place_in, number_of, line_in, line_at, plant_of, tree_of}
+use Rattle.batch_engine.specs.View.{EngineView, setup, recipe_at, tree_at, batch_of, share_of, acts_of, place_in, number_of, line_in, line_at, plant_of, tree_of}
 use Rattle.batch_engine.specs.Kept.{IsRunningBatch, IsKept, needs_of_all}
 use Rattle.batch_engine.specs.Creates.{IsCreate}
 use Rattle.batch_engine.proofs.Told.{told, standing}
@@ -41,13 +41,13 @@ test-other m n d = go (nat_eq m n) refl
 
 -- the machine's answer to a create that makes a batch
 pub react-create : (v : EngineView) (recipe : ℕ) (name : Name) (size : ℕ) (vs : ValueList) (o : IsCreate v recipe name size vs)
-    → react (documents v.cleared) (plant_of v) (create name size)
+    → react (setup v.cleared) (plant_of v) (create name size)
     ≡ (created v.next_number (recipe_at v.cleared recipe).name size, with_batch (plant_of v) (recipe_at v.cleared recipe) size vs)
 react-create v recipe name size vs o =
-    ap (λ (m : Option Move). let a : Answer = elim m [ Some l ↦ (refused moves_pending, plant_of v) | None ↦ judged (documents v.cleared) (plant_of v) (create name size) ] in a) o.settled
+    ap (λ (m : Option Move). let a : Answer = elim m [ Some l ↦ (refused moves_pending, plant_of v) | None ↦ judged (setup v.cleared) (plant_of v) (create name size) ] in a) o.settled
     ∙ ap (λ (x : Option Model.Recipe). let a : Answer = elim x [
       | None ↦ (refused unknown_recipe, plant_of v)
-      | Some r ↦ elim (is_full (documents v.cleared) (plant_of v)) [ true ↦ (refused full, plant_of v) | false ↦ creating (plant_of v) r size (r.formula size) ]
+      | Some r ↦ elim (is_full (setup v.cleared) (plant_of v)) [ true ↦ (refused full, plant_of v) | false ↦ creating (plant_of v) r size (r.formula size) ]
     ] in a) o.found
     ∙ ap (λ (t : Bool). let a : Answer = elim t [ true ↦ (refused full, plant_of v) | false ↦ creating (plant_of v) (recipe_at v.cleared recipe) size ((recipe_at v.cleared recipe).formula size) ] in a) o.free
     ∙ ap (λ (f : Formula). creating (plant_of v) (recipe_at v.cleared recipe) size f) o.formula
@@ -124,7 +124,7 @@ module _ (v : EngineView) (k : IsKept v) where
         (fun_ext line-more)
         ∙ ap (λ n. let p : Plant = record { batches = map (batch_of v.cleared) v.batches ++ new_batch v.next_number (recipe_at v.cleared recipe) size vs ∷ []; next_number = n; line = line_in v } in p) one
 
-    pub create-reacts : Reacts (documents v.cleared) (plant_of v) (create name size) (created v.next_number (recipe_at v.cleared recipe).name size)
+    pub create-reacts : Reacts (setup v.cleared) (plant_of v) (create name size) (created v.next_number (recipe_at v.cleared recipe).name size)
         (plant_of (with v (v.batches ++ b ∷ []) (v.next_number + 1) (record (v.allocation) { room = room })))
     create-reacts = inl (react-create v recipe name size vs o ∙ ap (λ (s : Plant). let a : Answer = (created v.next_number (recipe_at v.cleared recipe).name size, s) in a) (sym plant-more))
 
@@ -155,7 +155,7 @@ module _ (v : EngineView) (k : IsKept v) where
         tracked = record {
           events = k.tracked.events;
           outs = k.tracked.outs;
-          leads = subst (Rattle.batch_model.specs.Runs.Leads (documents v.cleared) Model.opening k.tracked.events k.tracked.outs) (sym same) k.tracked.leads;
+          leads = subst (Rattle.batch_model.specs.Runs.Leads (setup v.cleared) Model.opening k.tracked.events k.tracked.outs) (sym same) k.tracked.leads;
           shares = k.tracked.shares;
         };
         once = k.once;
@@ -174,31 +174,31 @@ module _ (v : EngineView) (k : IsKept v) where
 
 -- A create that is refused
 
-pub create-unknown : (v : EngineView) (name : Name) (size : ℕ) → next (documents v.cleared) (plant_of v) ≡ None → find (λ (r : Model.Recipe). same_name r.name name) (documents v.cleared).recipes ≡ None
-    → Reacts (documents v.cleared) (plant_of v) (create name size) (refused unknown_recipe) (plant_of v)
+pub create-unknown : (v : EngineView) (name : Name) (size : ℕ) → next (setup v.cleared) (plant_of v) ≡ None → find (λ (r : Model.Recipe). same_name r.name name) (setup v.cleared).recipes ≡ None
+    → Reacts (setup v.cleared) (plant_of v) (create name size) (refused unknown_recipe) (plant_of v)
 create-unknown v name size settled none =
-    inl (ap (λ (m : Option Move). let a : Answer = elim m [ Some l ↦ (refused moves_pending, plant_of v) | None ↦ judged (documents v.cleared) (plant_of v) (create name size) ] in a) settled
+    inl (ap (λ (m : Option Move). let a : Answer = elim m [ Some l ↦ (refused moves_pending, plant_of v) | None ↦ judged (setup v.cleared) (plant_of v) (create name size) ] in a) settled
     ∙ ap (λ (x : Option Model.Recipe). let a : Answer = elim x [
       | None ↦ (refused unknown_recipe, plant_of v)
-      | Some r ↦ elim (is_full (documents v.cleared) (plant_of v)) [ true ↦ (refused full, plant_of v) | false ↦ creating (plant_of v) r size (r.formula size) ]
+      | Some r ↦ elim (is_full (setup v.cleared) (plant_of v)) [ true ↦ (refused full, plant_of v) | false ↦ creating (plant_of v) r size (r.formula size) ]
     ] in a) none)
 
-module _ (v : EngineView) (name : Name) (size : ℕ) (r : Model.Recipe) (settled : next (documents v.cleared) (plant_of v) ≡ None)
-    (found : find (λ (r : Model.Recipe). same_name r.name name) (documents v.cleared).recipes ≡ Some r) where
-  judge : react (documents v.cleared) (plant_of v) (create name size)
-      ≡ (let a : Answer = elim (is_full (documents v.cleared) (plant_of v)) [ true ↦ (refused full, plant_of v) | false ↦ creating (plant_of v) r size (r.formula size) ] in a)
+module _ (v : EngineView) (name : Name) (size : ℕ) (r : Model.Recipe) (settled : next (setup v.cleared) (plant_of v) ≡ None)
+    (found : find (λ (r : Model.Recipe). same_name r.name name) (setup v.cleared).recipes ≡ Some r) where
+  judge : react (setup v.cleared) (plant_of v) (create name size)
+      ≡ (let a : Answer = elim (is_full (setup v.cleared) (plant_of v)) [ true ↦ (refused full, plant_of v) | false ↦ creating (plant_of v) r size (r.formula size) ] in a)
   judge =
-      ap (λ (m : Option Move). let a : Answer = elim m [ Some l ↦ (refused moves_pending, plant_of v) | None ↦ judged (documents v.cleared) (plant_of v) (create name size) ] in a) settled
+      ap (λ (m : Option Move). let a : Answer = elim m [ Some l ↦ (refused moves_pending, plant_of v) | None ↦ judged (setup v.cleared) (plant_of v) (create name size) ] in a) settled
       ∙ ap (λ (x : Option Model.Recipe). let a : Answer = elim x [
         | None ↦ (refused unknown_recipe, plant_of v)
-        | Some r ↦ elim (is_full (documents v.cleared) (plant_of v)) [ true ↦ (refused full, plant_of v) | false ↦ creating (plant_of v) r size (r.formula size) ]
+        | Some r ↦ elim (is_full (setup v.cleared) (plant_of v)) [ true ↦ (refused full, plant_of v) | false ↦ creating (plant_of v) r size (r.formula size) ]
       ] in a) found
 
-  pub create-full : is_full (documents v.cleared) (plant_of v) ≡ true → Reacts (documents v.cleared) (plant_of v) (create name size) (refused full) (plant_of v)
+  pub create-full : is_full (setup v.cleared) (plant_of v) ≡ true → Reacts (setup v.cleared) (plant_of v) (create name size) (refused full) (plant_of v)
   create-full e =
       inl (judge ∙ ap (λ (t : Bool). let a : Answer = elim t [ true ↦ (refused full, plant_of v) | false ↦ creating (plant_of v) r size (r.formula size) ] in a) e)
 
-  pub judge-values : (f : Formula) → is_full (documents v.cleared) (plant_of v) ≡ false → r.formula size ≡ f → react (documents v.cleared) (plant_of v) (create name size) ≡ creating (plant_of v) r size f
+  pub judge-values : (f : Formula) → is_full (setup v.cleared) (plant_of v) ≡ false → r.formula size ≡ f → react (setup v.cleared) (plant_of v) (create name size) ≡ creating (plant_of v) r size f
   judge-values f e g =
       judge ∙ ap (λ (t : Bool). let a : Answer = elim t [ true ↦ (refused full, plant_of v) | false ↦ creating (plant_of v) r size (r.formula size) ] in a) e
       ∙ ap (creating (plant_of v) r size) g

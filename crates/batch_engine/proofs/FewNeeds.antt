@@ -26,7 +26,7 @@ use Rattle.batch_verify.specs.ClearedSet.{ClearedSet}
 use Rattle.batch_chart.specs.NodesOf.{needs_below, needs_in, needs_of_choices, needs_of_each}
 use Rattle.batch_engine.specs.declared.batch.Batch.{Batch}
 use Rattle.batch_engine.specs.Kept.{needs_of_all}
-use Rattle.batch_engine.specs.View.{EngineView, batch_of, documents, no_recipe, plant_of, tree_at, tree_of}
+use Rattle.batch_engine.specs.View.{EngineView, batch_of, setup, no_recipe, plant_of, tree_at, tree_of}
 
 -- an act needs at most 16 resources beside its unit, so the acts of a tree need at most 17 a node
 abbrev pub HasFewNeeds : Tree → Type 0
@@ -106,7 +106,7 @@ not-within : (m n : ℕ) → nat_le m n ≡ false → n < m
 not-within m n h = grind (arith, nat_tests)
 
 -- where the plant isn't full there are fewer batches than may exist
-pub few-batches : (v : EngineView) → is_full (documents v.cleared) (plant_of v) ≡ false → length v.batches < MAX_LIVE_BATCHES
+pub few-batches : (v : EngineView) → is_full (setup v.cleared) (plant_of v) ≡ false → length v.batches < MAX_LIVE_BATCHES
 few-batches v h =
     let count = length (map (batch_of v.cleared) v.batches) in
     let within = or-first (nat_le MAX_LIVE_BATCHES count) (nat_lt LAST_NUMBER v.next_number) h in

@@ -9,15 +9,15 @@ use Rattle.batch_model.specs.Recipes.{recipe_of}
 use Rattle.batch_recipe.specs.Conditions.{Name, same_name}
 use Rattle.batch_recipe.specs.Tree.{Place, Step, Tree}
 use Rattle.batch_recipe.specs.declared.need.Need.{Need}
-use Rattle.batch_model.proofs.Batches.{one_batch}
+use Rattle.batch_machine.proofs.Batches.{one_batch}
 use Rattle.batch_model.specs.Lists.{Has, Each}
 use Rattle.batch_model.specs.Plant as Model
 use Rattle.batch_model.specs.Plant.{BatchAct, Share}
 use Rattle.batch_model.specs.Moves.{Move, grant, least, is_served}
 use Rattle.batch_model.specs.Placed.{IsPlaced}
 use Rattle.batch_model.specs.Rest.{asking, acts}
-use Rattle.batch_model.proofs.Falling.{one_act}
-use Rattle.batch_model.proofs.Rising.{acts-rise}
+use Rattle.batch_machine.proofs.Falling.{one_act}
+use Rattle.batch_machine.proofs.Rising.{acts-rise}
 use Rattle.batch_model.proofs.Members.{Each-Has}
 use Rattle.batch_laws.proofs.Entries.{name_same}
 use Rattle.batch_verify.specs.ClearedSet.{ClearedSet}
@@ -28,7 +28,7 @@ use Rattle.batch_chart.specs.OwnMoves.{grants}
 use Rattle.batch_chart.specs.Charts.{AsksAt, IsChartOf, IsRunningOf, IsRunning, remains}
 use Rattle.batch_chart.specs.declared.compiled.Compiled.{Compiled}
 use Rattle.batch_engine.specs.declared.batch.Batch.{Batch}
-use Rattle.batch_engine.specs.View.{EngineView, documents, recipe_at, batch_of, act_of, share_of, acts_of, place_in, names_of, number_of, line_at, plant_of, tree_of}
+use Rattle.batch_engine.specs.View.{EngineView, setup, recipe_at, batch_of, act_of, share_of, acts_of, place_in, names_of, number_of, line_at, plant_of, tree_of}
 use Rattle.batch_engine.specs.Kept.{IsKept, IsRunningBatch}
 use Rattle.batch_engine.proofs.Nodes.{same-node, within-or_past}
 use Rattle.batch_engine.proofs.Told.{placed, told, standing}
@@ -74,10 +74,10 @@ module _ (v : EngineView) (k : IsKept v) (i : ℕ) (b : Batch) (at : slice_get v
 
   pub tree-placed : IsPlaced (0 ∷ []) (tree_of v.cleared b)
   tree-placed =
-      let known : b.recipe < length (documents v.cleared).recipes = omega (arith, batch-runs.known, length-map v.cleared.recipes Rattle.batch_model.specs.Recipes.recipe_of) in
-      Each-at (λ (r : Model.Recipe). IsPlaced (0 ∷ []) r.procedure) (documents v.cleared).recipes b.recipe Rattle.batch_engine.specs.View.no_recipe (placed v.cleared k.cleared) known
+      let known : b.recipe < length (setup v.cleared).recipes = omega (arith, batch-runs.known, length-map v.cleared.recipes Rattle.batch_model.specs.Recipes.recipe_of) in
+      Each-at (λ (r : Model.Recipe). IsPlaced (0 ∷ []) r.procedure) (setup v.cleared).recipes b.recipe Rattle.batch_engine.specs.View.no_recipe (placed v.cleared k.cleared) known
 
-  pub in-recipes : b.recipe < length (documents v.cleared).recipes
+  pub in-recipes : b.recipe < length (setup v.cleared).recipes
   in-recipes = omega (arith, batch-runs.known, length-map v.cleared.recipes Rattle.batch_model.specs.Recipes.recipe_of)
 
   pub in-charts : b.recipe < length v.charts
@@ -94,7 +94,7 @@ module _ (v : EngineView) (k : IsKept v) (i : ℕ) (b : Batch) (at : slice_get v
 
   abbrev pub served_here : ℕ → ℕ → Type 0
   served_here j l =
-      is_served (documents v.cleared) (plant_of v) (need_at (tree_of v.cleared b) j l) (b.number, place_at (tree_of v.cleared b) j) ≡ true
+      is_served (setup v.cleared) (plant_of v) (need_at (tree_of v.cleared b) j l) (b.number, place_at (tree_of v.cleared b) j) ≡ true
 
   abbrev pub first_here : ℕ → ℕ → Type 0
   first_here q j = option_map batch_node (next_grant v.allocation q) ≡ Some (b.number, j)
@@ -148,13 +148,13 @@ module _ (v : EngineView) (k : IsKept v) (i : ℕ) (b : Batch) (at : slice_get v
       (b.number, place_at (tree_of v.cleared b) j) (λ x. act-claim x j asks.0) (λ x h. line-units j l q asks e x h)
       (sym (is-served v k q need (b.number, place_at (tree_of v.cleared b) j) e) ∙ s)
 
-  pub no-grants : ((j l : ℕ) → asks_here j l → served_here j l → ⊥) → grants (documents v.cleared) (plant_of v) (batch_of v.cleared b) ≡ []
-  no-grants none = Granting.grants-none (documents v.cleared) (plant_of v) (batch_of v.cleared b) (tree_of v.cleared b) tree-placed batch-runs.runs.stands none
+  pub no-grants : ((j l : ℕ) → asks_here j l → served_here j l → ⊥) → grants (setup v.cleared) (plant_of v) (batch_of v.cleared b) ≡ []
+  no-grants none = Granting.grants-none (setup v.cleared) (plant_of v) (batch_of v.cleared b) (tree_of v.cleared b) tree-placed batch-runs.runs.stands none
 
   pub first-grant : (j l : ℕ) → asks_here j l → served_here j l → ((x y : ℕ) → x < j → asks_here x y → served_here x y → ⊥)
-      → least (grants (documents v.cleared) (plant_of v) (batch_of v.cleared b)) ≡ Some (grant b.number (place_at (tree_of v.cleared b) j) (need_at (tree_of v.cleared b) j l))
+      → least (grants (setup v.cleared) (plant_of v) (batch_of v.cleared b)) ≡ Some (grant b.number (place_at (tree_of v.cleared b) j) (need_at (tree_of v.cleared b) j l))
   first-grant j l asks served before =
-      Granting.grants-first (documents v.cleared) (plant_of v) (batch_of v.cleared b) (tree_of v.cleared b) tree-placed batch-runs.runs.stands j l
+      Granting.grants-first (setup v.cleared) (plant_of v) (batch_of v.cleared b) (tree_of v.cleared b) tree-placed batch-runs.runs.stands j l
       (step-place (tree_of v.cleared b) j tree-placed asks.0 (omega (arith, asks.1))) asks served before
 
   -- nobody before `from` is served, and nobody from there on to `node` is in line

@@ -9,14 +9,14 @@ use Rattle.batch_recipe.specs.Tree.{Place, Step, Task, Tree, is_before}
 use Rattle.batch_model.specs.Lists.{Has}
 use Rattle.batch_model.specs.Rest.{Rest, ready, asking, open_act, live, freeing, in_seq, in_par, in_loop, done, acts}
 use Rattle.batch_model.specs.Plant as Model
-use Rattle.batch_model.specs.Plant.{Documents, BatchAct, Plant, place_of}
+use Rattle.batch_model.specs.Plant.{Setup, BatchAct, Plant, place_of}
 use Rattle.batch_model.specs.Moves.{Move, grant, is_earlier, least, is_served, when}
 use Rattle.batch_model.specs.Placed.{IsPlaced}
 use Rattle.batch_model.specs.Standing.{IsRestOf}
 use Rattle.batch_model.proofs.Members.{Has-filter_map}
-use Rattle.batch_model.proofs.Ordering.{least-IsFirst}
-use Rattle.batch_model.proofs.Falling.{one_act}
-use Rattle.batch_model.proofs.Rising.{acts-rise}
+use Rattle.batch_machine.proofs.Ordering.{least-IsFirst}
+use Rattle.batch_machine.proofs.Falling.{one_act}
+use Rattle.batch_machine.proofs.Rising.{acts-rise}
 use Rattle.batch_chart.specs.NodesOf.{no_need, place_at, step_at, task_at, need_at}
 use Rattle.batch_chart.specs.OwnMoves.{grant_move, grants}
 use Rattle.batch_chart.specs.Charts.{AsksAt}
@@ -33,7 +33,7 @@ filter_map-Has {X = X} {Y = Y} f (z ∷ xs) x y (inr h) e = go (f z) (filter_map
     go (Some w) k = inr k
 
 -- the act in line that makes a grant
-pub record Granted (c : Documents) (s : Plant) (b : Model.Batch) (m : Move) : Type 0 where
+pub record Granted (c : Setup) (s : Plant) (b : Model.Batch) (m : Move) : Type 0 where
   pub step : Step
   pub task : Task
   pub held : ℕ
@@ -43,7 +43,7 @@ pub record Granted (c : Documents) (s : Plant) (b : Model.Batch) (m : Move) : Ty
   pub served : is_served c s need (b.number, step.place) ≡ true
   pub is : m ≡ grant b.number step.place need
 
-granted-by : (c : Documents) (s : Plant) (b : Model.Batch) (m : Move) (a : Rest) → Has (acts b.rest) a → grant_move c s b a ≡ Some m → Granted c s b m
+granted-by : (c : Setup) (s : Plant) (b : Model.Batch) (m : Move) (a : Rest) → Has (acts b.rest) a → grant_move c s b a ≡ Some m → Granted c s b m
 granted-by c s b m (asking p w k) h e = go (slice_get p.needs k) refl e
   where
     served : (r : Need) → slice_get p.needs k ≡ Some r → (t : Bool) → is_served c s r (b.number, p.place) ≡ t → when t (grant b.number p.place r) ≡ Some m → Granted c s b m
@@ -62,7 +62,7 @@ granted-by c s b m (in_par rs) h e = absurd cc
 granted-by c s b m (in_loop n q body r) h e = absurd cc
 granted-by c s b m done h e = absurd cc
 
-grant-of : (c : Documents) (s : Plant) (b : Model.Batch) (p : Step) (w : Task) (k : ℕ) (r : Need) → slice_get p.needs k ≡ Some r → is_served c s r (b.number, p.place) ≡ true
+grant-of : (c : Setup) (s : Plant) (b : Model.Batch) (p : Step) (w : Task) (k : ℕ) (r : Need) → slice_get p.needs k ≡ Some r → is_served c s r (b.number, p.place) ≡ true
     → grant_move c s b (asking p w k) ≡ Some (grant b.number p.place r)
 grant-of c s b p w k r e f =
     ap (λ (o : Option Need). let g : Option Move = elim o [ None ↦ None | Some z ↦ when (is_served c s z (b.number, p.place)) (grant b.number p.place z) ] in g) e
@@ -72,7 +72,7 @@ no_members : {X : Type 0} (xs : List X) → ((x : X) → Has xs x → ⊥) → x
 no_members [] h = refl
 no_members (x ∷ xs) h = absurd (h x (inl refl))
 
-module _ (c : Documents) (s : Plant) (b : Model.Batch) (t : Tree) (placed : IsPlaced (0 ∷ []) t) (stands : IsRestOf t b.rest) where
+module _ (c : Setup) (s : Plant) (b : Model.Batch) (t : Tree) (placed : IsPlaced (0 ∷ []) t) (stands : IsRestOf t b.rest) where
   -- the act at node k that asks for its need i is served
   abbrev pub Served : ℕ → ℕ → Type 0
   Served k i = is_served c s (need_at t k i) (b.number, place_at t k) ≡ true

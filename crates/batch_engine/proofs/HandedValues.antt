@@ -1,7 +1,7 @@
 -- The values that phases are handed.
 use Rattle.std.proofs.Common.{◌≡◌, ◌<◌, ◌≤◌, refl, sym, ◌∙◌, ap, ap₂, subst, ℕ, zero, suc, List, [], ◌∷◌, Bool, true, false, cond, ◌&&◌, Option, Some, None, inl, inr, arith, ◌+◌, length, get_or, set, find, nat_le}
 use Rattle.std.specs.Prelude.{slice_get, unwrap_or}
-use Rattle.std.proofs.lemmas.Bool.{cases_lt}
+use Rattle.std.proofs.lemmas.Bool.{and_parts, cases_lt}
 use Rattle.std.proofs.lemmas.List.{get_or-set_same, get_or-set_other}
 use Rattle.std.specs.Global.{Vec}
 use Rattle.std.specs.List.{list_all, zip}
@@ -93,10 +93,6 @@ past-handed r k h = ap handed_of (past (procedure_nodes r.acts) k h)
 
 -- No more values than a phase may be handed
 
-both : (a b : Bool) → (a && b) ≡ true → (a ≡ true) × (b ≡ true)
-both true b e = (refl, e)
-both false b e = absurd cc
-
 at-most : (m n : ℕ) → nat_le m n ≡ true → m ≤ n
 at-most m n e = grind arith
 
@@ -106,7 +102,7 @@ work-few : (labels vs : List Name) (w : Work) (phase : Name) (values : Vec Name)
 work-few labels vs (Follows c) phase values e h = absurd cc
 work-few labels vs (Runs p handed) phase values e h =
     let same : handed ≡ values = cc in
-    subst (λ (z : Vec Name). length z.items ≤ MAX_VALUES) same (at-most (length handed.items) MAX_VALUES (both (nat_le (length handed.items) MAX_VALUES) (list_all (is_among vs) handed.items) h).0)
+    subst (λ (z : Vec Name). length z.items ≤ MAX_VALUES) same (at-most (length handed.items) MAX_VALUES (and_parts (nat_le (length handed.items) MAX_VALUES) (list_all (is_among vs) handed.items) h).0)
 
 one-of : (q : Act → Bool) (x a : Act) (o : Option Act) (rest : Bool) → (o ≡ Some a → rest ≡ true → q a ≡ true) → (t : Bool) → cond t (Some x) o ≡ Some a → (q x ≡ true) × (rest ≡ true) → q a ≡ true
 one-of q x a o rest later true f k = let same : x ≡ a = cc in ap q (sym same) ∙ k.0
@@ -114,7 +110,7 @@ one-of q x a o rest later false f k = later f k.1
 
 find-all : (p q : Act → Bool) (xs : List Act) (a : Act) → find p xs ≡ Some a → list_all q xs ≡ true → q a ≡ true
 find-all p q [] a e h = absurd cc
-find-all p q (x ∷ xs) a e h = one-of q x a (find p xs) (list_all q xs) (find-all p q xs a) (p x) e (both (q x) (list_all q xs) h)
+find-all p q (x ∷ xs) a e h = one-of q x a (find p xs) (list_all q xs) (find-all p q xs a) (p x) e (and_parts (q x) (list_all q xs) h)
 
 abbrev IsSomeWork : List Name → Act → Type 0
 IsSomeWork vs a = (labels : List Name) × (is_work labels vs a ≡ true)
@@ -141,16 +137,16 @@ pub record AreWorks (vs : List Name) (acts : Acts) : Type 0 where
 works : (vs : List Name) (acts : Acts) → is_well_formed vs acts ≡ true → AreWorks vs acts
 works vs acts w =
     let names : Bool = are_distinct vs && (are_distinct (act_names acts.unit_procedures.items) && (are_distinct (act_names acts.operations.items) && are_distinct (act_names acts.phases.items))) in
-    let all = both names (of_procedure vs acts && (of_unit_procedures vs acts && (of_operations vs acts && of_phases vs acts))) w in
-    let first = both (of_procedure vs acts) (of_unit_procedures vs acts && (of_operations vs acts && of_phases vs acts)) all.1 in
-    let second = both (of_unit_procedures vs acts) (of_operations vs acts && of_phases vs acts) first.1 in
-    let third = both (of_operations vs acts) (of_phases vs acts) second.1 in
+    let all = and_parts names (of_procedure vs acts && (of_unit_procedures vs acts && (of_operations vs acts && of_phases vs acts))) w in
+    let first = and_parts (of_procedure vs acts) (of_unit_procedures vs acts && (of_operations vs acts && of_phases vs acts)) all.1 in
+    let second = and_parts (of_unit_procedures vs acts) (of_operations vs acts && of_phases vs acts) first.1 in
+    let third = and_parts (of_operations vs acts) (of_phases vs acts) second.1 in
     record { procedure = first.0; unit_procedures = second.0; operations = third.0; phases = third.1 }
 
 named-work : (vs : List Name) (acts : Acts) (table : Level) (name : Name) (a : Act) → AreWorks vs acts → act_named (table_at acts table) name ≡ Some a → IsSomeWork vs a
 named-work vs acts UnitProcedures name a w f = (
   act_names acts.operations.items,
-  (both (is_work (act_names acts.operations.items) vs a) (follows_no_par a)
+  (and_parts (is_work (act_names acts.operations.items) vs a) (follows_no_par a)
       (find-all (λ z. same_name z.name name) (λ u. is_work (act_names acts.operations.items) vs u && follows_no_par u) acts.unit_procedures.items a f w.unit_procedures)).0,
 )
 named-work vs acts Operations name a w f = (

@@ -1,5 +1,6 @@
 -- The live phase with a name is that of a node.
 use Rattle.std.proofs.Common.{◌≡◌, ◌<◌, refl, sym, ◌∙◌, ap, subst, ℕ, List, [], ◌∷◌, Bool, true, false, ◌&&◌, Some, inl, inr}
+use Rattle.std.proofs.lemmas.Bool.{and_parts}
 use Rattle.batch_matrix.specs.declared.state.State.{State}
 use Rattle.batch_recipe.specs.Conditions.{Name, same_name}
 use Rattle.batch_recipe.specs.Nodes.{node_count}
@@ -25,11 +26,6 @@ pub record IsLiveAct (rs : List Rest) (unit name : Name) (l : LivePhase) : Type 
   pub name_is : phase.name ≡ name
   pub place_is : step.place ≡ l.place
 
-both : (a b : Bool) → (a && b) ≡ true → (a ≡ true) × (b ≡ true)
-both true true e = (refl, refl)
-both true false e = absurd cc
-both false b e = absurd cc
-
 deeper : (r : Rest) (rs : List Rest) (unit name : Name) (l : LivePhase) → IsLiveAct rs unit name l → IsLiveAct (r ∷ rs) unit name l
 deeper r rs unit name l k =
     record { step = k.step; phase = k.phase; state = k.state; has = inr k.has; unit_is = k.unit_is; name_is = k.name_is; place_is = k.place_is }
@@ -38,7 +34,7 @@ here-live : (d : Model.Batch) (unit name : Name) (s : Step) (p : Phase) (x : Sta
     → (t : Bool) → (same_name p.unit unit && same_name p.name name) ≡ t
     → elim t [ true ↦ Some (record { batch = d; place = s.place; state = x }) | false ↦ live_in d unit name rs ] ≡ Some l → IsLiveAct (live s p x ∷ rs) unit name l
 here-live d unit name s p x rs l later true f g =
-    let n = both (same_name p.unit unit) (same_name p.name name) f in
+    let n = and_parts (same_name p.unit unit) (same_name p.name name) f in
     let is : (let z : LivePhase = record { batch = d; place = s.place; state = x } in z) ≡ l = cc in
     record {
       step = s;

@@ -1,5 +1,6 @@
 -- The engine makes the next move.
 use Rattle.std.proofs.Common.{◌≡◌, ◌<◌, ◌+◌, refl, sym, ◌∙◌, ap, ap₂, subst, ℕ, zero, suc, List, [], ◌∷◌, Bool, true, false, ◌&&◌, Option, Some, None, inl, inr, arith, length, map, filter, take, flat_map, get_or, nat_eq}
+use Rattle.std.proofs.lemmas.Bool.{and_parts}
 use Rattle.std.specs.Prelude.{slice_get, option_map, Contains}
 use Rattle.batch_recipe.specs.Conditions.{Name, same_name}
 use Rattle.batch_recipe.specs.Tree.{Place, Tree}
@@ -13,9 +14,9 @@ use Rattle.batch_model.specs.Moves as Moves
 use Rattle.batch_model.specs.Moves.{batch_of, batch_after, line_after, after, next}
 use Rattle.batch_model.specs.Runs.{move}
 use Rattle.batch_model.specs.Records.{holders_after}
-use Rattle.batch_model.proofs.Batches.{one_batch}
-use Rattle.batch_model.proofs.Falling.{one_act}
-use Rattle.batch_model.proofs.Rising.{acts-rise}
+use Rattle.batch_machine.proofs.Batches.{one_batch}
+use Rattle.batch_machine.proofs.Falling.{one_act}
+use Rattle.batch_machine.proofs.Rising.{acts-rise}
 use Rattle.batch_model.proofs.Members.{Has-left, Has-right}
 use Rattle.batch_laws.proofs.Entries.{IsOnce, same_act, act_self, filter-Has, name_self}
 use Rattle.batch_arbiter.specs.Allocation.{Claim, shares_of, line_of, asked, granted, released, is_claim, IsHeld, next_grant, batch_node, capacity_of, resource_count}
@@ -29,7 +30,7 @@ use Rattle.batch_chart.specs.declared.chart_move.Move.TheVariants.{Send, State, 
 use Rattle.batch_chart.specs.declared.running.Running.{Running}
 use Rattle.batch_engine.specs.declared.batch.Batch.{Batch}
 use Rattle.batch_engine.specs.View as View
-use Rattle.batch_engine.specs.View.{EngineView, documents, act_of, share_of, acts_of, names_of, number_of, line_in, line_at, plant_of, tree_of}
+use Rattle.batch_engine.specs.View.{EngineView, act_of, share_of, acts_of, names_of, number_of, line_in, line_at, plant_of, tree_of}
 use Rattle.batch_engine.specs.Kept.{IsKept}
 use Rattle.batch_engine.specs.Steps.{IsNext, IsQuiet}
 use Rattle.batch_engine.proofs.Told.{told, safe, standing}
@@ -251,11 +252,6 @@ module _ (v : EngineView) (k : IsKept v) (i : ℕ) (b : Batch) (at : slice_get v
       both-true true false e f = absurd cc
       both-true false y e f = absurd cc
 
-      split : (x y : Bool) → (x && y) ≡ true → (x ≡ true) × (y ≡ true)
-      split true true e = (refl, refl)
-      split true false e = absurd cc
-      split false y e = absurd cc
-
       no : (t : Bool) → (t ≡ true → ⊥) → t ≡ false
       no true h = absurd (h refl)
       no false h = refl
@@ -266,7 +262,7 @@ module _ (v : EngineView) (k : IsKept v) (i : ℕ) (b : Batch) (at : slice_get v
           both-true (nat_eq x.batch b.number) (nat_eq x.node node) (test x.batch b.number (ap (λ (z : ℕ × ℕ). z.0) n)) (test x.node node (ap (λ (z : ℕ × ℕ). z.1) n))
       go false e =
           no (is_claim b.number node x) (λ h.
-          let s : (nat_eq x.batch b.number ≡ true) × (nat_eq x.node node ≡ true) = split (nat_eq x.batch b.number) (nat_eq x.node node) h in
+          let s : (nat_eq x.batch b.number ≡ true) × (nat_eq x.node node ≡ true) = and_parts (nat_eq x.batch b.number) (nat_eq x.node node) h in
           let n : batch_node x ≡ (b.number, node) = ap₂ (λ y z. let w : ℕ × ℕ = (y, z) in w) (untest x.batch b.number s.0) (untest x.node node s.1) in
           let f : is_same_act (act_of v.cleared v.batches x) (b.number, place_at (tree_of v.cleared b) node) ≡ true =
           subst (λ (z : BatchAct). is_same_act (act_of v.cleared v.batches x) z ≡ true) (claim-act v k i b at x node n) (act_self (act_of v.cleared v.batches x)) in

@@ -5,6 +5,7 @@ use Rattle.std.specs.List.{list_any, list_all}
 use Rattle.std.proofs.lemmas.List.{length-map, length-append}
 use Rattle.std.proofs.lemmas.List.Quantifiers.{position-Some}
 use Rattle.std.proofs.lemmas.Option.{slice_get-get_or, get_or_from_slice_get, slice_get_within}
+use Rattle.std.proofs.lemmas.Bool.{and_parts}
 use Rattle.batch_cell.specs.Equipment.{is_free, belongs_to, has_declared_unit, unit_phases}
 use Rattle.batch_cell.specs.LookUps.{units_of, resources_of, phases_of}
 use Rattle.batch_cell.specs.declared.cell.Cell.{Cell}
@@ -19,7 +20,6 @@ use Rattle.batch_recipe.specs.WellFormed.{is_among}
 use Rattle.batch_recipe.specs.declared.need.Need.{Need}
 use Rattle.batch_recipe.proofs.Order.{counted_nodes}
 use Rattle.batch_model.specs.Cleared.{CanBeCleared, IsClear, IsOffered, NeedsResources, Part, is_procedure, procedure_parts}
-use Rattle.batch_model.specs.Documents.{cell_of}
 use Rattle.batch_model.specs.Lists.{Each}
 use Rattle.batch_model.specs.Plant as Model
 use Rattle.batch_model.proofs.Members.{Each-map}
@@ -31,7 +31,7 @@ use Rattle.batch_chart.specs.NodesOf.{nodes_of, node_at, step_of, step_at, task_
 use Rattle.batch_engine.specs.Names as Names
 use Rattle.batch_engine.specs.Numbered as Numbers
 use Rattle.batch_engine.specs.Numbered.{need_number, phase_number, phase_among}
-use Rattle.batch_engine.specs.View.{documents, recipe_at, tree_at, no_recipe, number_of}
+use Rattle.batch_engine.specs.View.{setup, recipe_at, tree_at, no_recipe, number_of}
 use Rattle.batch_engine.specs.declared.numbers.PhaseNumber.{PhaseNumber}
 use Rattle.batch_engine.proofs.Finding.{Each-at}
 
@@ -65,10 +65,6 @@ own-unit : (units : List Name) (unit : Name) (o : Option Name) → elim o [ None
 own-unit units unit None e f = absurd cc
 own-unit units unit (Some own) e f = subst (λ z. list_any (same_name z) units ≡ true) (name_same own unit e) f
 
-both-true : (a b : Bool) → (a && b) ≡ true → (a ≡ true) × (b ≡ true)
-both-true true b e = (refl, e)
-both-true false b e = absurd cc
-
 or-true : (a b : Bool) → (a || b) ≡ true → a ≡ false → b ≡ true
 or-true true b e f = absurd cc
 or-true false b e f = e
@@ -79,7 +75,7 @@ offering-unit units [] unit phase d h = absurd cc
 offering-unit units (m ∷ ms) unit phase d h = go (belongs_to unit m) refl (offering-unit units ms unit phase)
   where
     declared : (has_declared_unit units m ≡ true) × (list_all (has_declared_unit units) ms ≡ true)
-    declared = both-true (has_declared_unit units m) (list_all (has_declared_unit units) ms) d
+    declared = and_parts (has_declared_unit units m) (list_all (has_declared_unit units) ms) d
 
     go : (b : Bool) → belongs_to unit m ≡ b
         → (list_all (has_declared_unit units) ms ≡ true → list_any (same_name phase) (unit_phases ms unit) ≡ true → list_any (same_name unit) units ≡ true) → list_any (same_name unit) units ≡ true
@@ -148,7 +144,7 @@ phase-named c p offers =
 -- Of each node of a cleared recipe
 
 abbrev pub IsNamed : ClearedSet → Tree → Type 0
-IsNamed c t = NeedsResources (cell_of c.cell) t × IsOffered (documents c) t
+IsNamed c t = NeedsResources (resources_of c.cell) t × IsOffered (setup c) t
 
 Each-mapped : {X Y : Type 0} (P : Y → Type 0) (f : X → Y) (xs : List X) → Each (λ x. P (f x)) xs → Each P (map f xs)
 Each-mapped P f [] h = tt
@@ -162,14 +158,14 @@ needs-same (par ts) = refl
 needs-same (sel cs) = refl
 needs-same (loop n c t) = refl
 
-module _ (c : ClearedSet) (cleared : CanBeCleared (cell_of c.cell) (documents c)) (recipe : ℕ) (known : recipe < length (documents c).recipes) where
+module _ (c : ClearedSet) (cleared : CanBeCleared (setup c)) (recipe : ℕ) (known : recipe < length (setup c).recipes) where
   pub node-named : (k : ℕ) → k < node_count (tree_at c recipe) → IsNamed c (node_at (tree_at c recipe) k).here
   node-named k l =
       let r : Model.Recipe = recipe_at c recipe in
-      let clear : Each (IsClear (cell_of c.cell) (documents c) cleared.0) (procedure_parts r) =
-      Each-at (λ (r : Model.Recipe). Each (IsClear (cell_of c.cell) (documents c) cleared.0) (procedure_parts r)) (documents c).recipes recipe no_recipe cleared.1.recipes known in
+      let clear : Each (IsClear (setup c) cleared.0) (procedure_parts r) =
+      Each-at (λ (r : Model.Recipe). Each (IsClear (setup c) cleared.0) (procedure_parts r)) (setup c).recipes recipe no_recipe cleared.1.recipes known in
       let parts-named : Each (λ (x : Part). IsNamed c x.node.here) (procedure_parts r) =
-      Each-map (IsClear (cell_of c.cell) (documents c) cleared.0) (λ (x : Part). IsNamed c x.node.here) (λ x h. (h.known, h.offered)) (procedure_parts r) clear in
+      Each-map (IsClear (setup c) cleared.0) (λ (x : Part). IsNamed c x.node.here) (λ x h. (h.known, h.offered)) (procedure_parts r) clear in
       let all : Each (λ (n : Node). IsNamed c n.here) (nodes_of (tree_at c recipe)) =
       subst (Each (λ (n : Node). IsNamed c n.here)) (parts-nodes is_procedure (0 ∷ []) [] (tree_at c recipe))
       (Each-mapped (λ (n : Node). IsNamed c n.here) (λ (x : Part). x.node) (procedure_parts r) parts-named) in
@@ -205,7 +201,7 @@ module _ (c : ClearedSet) (cleared : CanBeCleared (cell_of c.cell) (documents c)
         ap (λ (t : Bool). let z : Name = if t then unwrap_or (slice_get (phases_of c.cell 65535) 65535) [] else [] in z) (within-no 65535 (length (units_of c.cell)) fewer),
       )
 
-      go : (t : Tree) → IsOffered (documents c) t
+      go : (t : Tree) → IsOffered (setup c) t
           → (let x = Numbers.phase_in c.cell t in let p = phase_in (task_of t) in (Names.resource_name c x.unit ≡ p.unit) × (Names.phase_name c x.unit x.phase ≡ p.name))
       go (act s (runs p)) h = phase-named c p h
       go (act s (follows name t)) h = nothing

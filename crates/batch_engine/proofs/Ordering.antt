@@ -23,7 +23,7 @@ use Rattle.batch_arbiter.specs.Allocation.{Claim, Allocation, shares_of, line_of
 use Rattle.batch_chart.specs.Charts.{IsRunningOf, remains}
 use Rattle.batch_chart.specs.declared.running.Running.{Running}
 use Rattle.batch_engine.specs.declared.batch.Batch.{Batch}
-use Rattle.batch_engine.specs.View.{EngineView, documents, tree_at, batch_of, share_of, acts_of, number_of, line_in, line_at, plant_of}
+use Rattle.batch_engine.specs.View.{EngineView, setup, tree_at, batch_of, share_of, acts_of, number_of, line_in, line_at, plant_of}
 use Rattle.batch_engine.specs.Kept.{IsOfCell, IsRunningBatch, HasRoom, IsKept}
 use Rattle.batch_engine.specs.Orders.{IsOrder, IsPlain, EndsAsks}
 use Rattle.batch_engine.proofs.Told.{standing}
@@ -35,10 +35,10 @@ use Rattle.batch_engine.proofs.Reacting.{event-kept}
 
 -- the machine's answer to an order that is accepted
 pub react-order : (v : EngineView) (i : ℕ) (command : Command) (n : ℕ) (o : IsOrder v i command n)
-    → react (documents v.cleared) (plant_of v) (order command n)
+    → react (setup v.cleared) (plant_of v) (order command n)
     ≡ (ordered command o.batch.number (target command), record (in_batch o.batch.number (commanded command) (plant_of v)) { line = lines_under command o.batch.number (line_in v) })
 react-order v i command n o =
-    ap (λ (m : Option Move). let a : Answer = elim m [ Some l ↦ (refused moves_pending, plant_of v) | None ↦ judged (documents v.cleared) (plant_of v) (order command n) ] in a) o.settled
+    ap (λ (m : Option Move). let a : Answer = elim m [ Some l ↦ (refused moves_pending, plant_of v) | None ↦ judged (setup v.cleared) (plant_of v) (order command n) ] in a) o.settled
     ∙ ap (λ (b : Option Model.Batch). let a : Answer = elim b [ None ↦ (refused unknown_batch, plant_of v) | Some d ↦ ordering (plant_of v) command d ] in a) o.found
     ∙ ap (λ (t : Bool). let a : Answer = elim t [
       | false ↦ (refused (command_not_accepted o.batch.state), plant_of v)
@@ -48,7 +48,7 @@ react-order v i command n o =
 -- what an order makes of the engine
 pub record Ordered (v : EngineView) (w : EngineView) (command : Command) (n : ℕ) : Type 0 where
   pub kept : IsKept w
-  pub reacts : Reacts (documents v.cleared) (plant_of v) (order command n) (ordered command n (target command)) (plant_of w)
+  pub reacts : Reacts (setup v.cleared) (plant_of v) (order command n) (ordered command n (target command)) (plant_of w)
 
 module _ (v : EngineView) (k : IsKept v) (i : ℕ) (command : Command) (n : ℕ) (o : IsOrder v i command n) (b' : Batch)
     (number : b'.number ≡ o.batch.number) (recipe : b'.recipe ≡ o.batch.recipe) (runs : IsRunningOf (tree_of v.cleared o.batch) b'.running)
@@ -61,7 +61,7 @@ module _ (v : EngineView) (k : IsKept v) (i : ℕ) (command : Command) (n : ℕ)
       go None = refl
       go (Some q) = acts-same v.cleared v.next_number b' v.batches i o.batch o.at number recipe (line_of a' q)
 
-  order-reacts : Reacts (documents v.cleared) (plant_of v) (order command n) (ordered command n (target command)) (plant_of (changed v i b' a'))
+  order-reacts : Reacts (setup v.cleared) (plant_of v) (order command n) (ordered command n (target command)) (plant_of (changed v i b' a'))
   order-reacts =
       inl (react-order v i command n o
       ∙ ap₂ (λ (m : ℕ) (s : Plant). let a : Answer = (ordered command m (target command), s) in a) o.number

@@ -15,7 +15,7 @@ use Rattle.batch_model.specs.Events as Events
 use Rattle.batch_model.specs.Events.{removed, refused, moves_pending, unknown_batch, not_idle, removing, without_batch, judged, react, Answer}
 use Rattle.batch_model.specs.Runs.{Reacts}
 use Rattle.batch_model.specs.Standing.{AreNumbered}
-use Rattle.batch_model.proofs.Batches.{one_batch}
+use Rattle.batch_machine.proofs.Batches.{one_batch}
 use Rattle.batch_laws.proofs.Entries.{IsOnce, Has-holders}
 use Rattle.batch_laws.proofs.Facts.{Fact, holding, awaiting, facts, entries}
 use Rattle.batch_laws.proofs.Batches.{entry-of}
@@ -24,7 +24,7 @@ use Rattle.batch_verify.specs.ClearedSet.{ClearedSet}
 use Rattle.batch_arbiter.specs.Allocation.{Claim, shares_of, line_of}
 use Rattle.batch_chart.specs.NodesOf.{needs_in, place_at}
 use Rattle.batch_engine.specs.declared.batch.Batch.{Batch}
-use Rattle.batch_engine.specs.View.{EngineView, documents, batch_of, act_of, share_of, acts_of, place_in, number_of, line_in, line_at, plant_of, tree_of}
+use Rattle.batch_engine.specs.View.{EngineView, setup, batch_of, act_of, share_of, acts_of, place_in, number_of, line_in, line_at, plant_of, tree_of}
 use Rattle.batch_engine.specs.Kept.{IsRunningBatch, IsKept, needs_of_all}
 use Rattle.batch_engine.proofs.Told.{safe, standing}
 use Rattle.batch_engine.proofs.BatchPlaces.{chosen-false, later-number, Has-batch_of}
@@ -53,10 +53,10 @@ test-other m n d = go (nat_eq m n) refl
     go false e = refl
 
 -- the machine's answer to the removal of an idle batch
-pub react-remove : (v : EngineView) (n : ℕ) (d : Model.Batch) → next (documents v.cleared) (plant_of v) ≡ None → batch_at (plant_of v) n ≡ Some d → d.state ≡ Idle
-    → react (documents v.cleared) (plant_of v) (Events.remove n) ≡ (removed d.number, without_batch d.number (plant_of v))
+pub react-remove : (v : EngineView) (n : ℕ) (d : Model.Batch) → next (setup v.cleared) (plant_of v) ≡ None → batch_at (plant_of v) n ≡ Some d → d.state ≡ Idle
+    → react (setup v.cleared) (plant_of v) (Events.remove n) ≡ (removed d.number, without_batch d.number (plant_of v))
 react-remove v n d settled found idle =
-    ap (λ (m : Option Move). let a : Answer = elim m [ Some l ↦ (refused moves_pending, plant_of v) | None ↦ judged (documents v.cleared) (plant_of v) (Events.remove n) ] in a) settled
+    ap (λ (m : Option Move). let a : Answer = elim m [ Some l ↦ (refused moves_pending, plant_of v) | None ↦ judged (setup v.cleared) (plant_of v) (Events.remove n) ] in a) settled
     ∙ ap (λ (b : Option Model.Batch). let a : Answer = elim b [ None ↦ (refused unknown_batch, plant_of v) | Some d ↦ removing (plant_of v) d ] in a) found
     ∙ ap (λ (x : State). let a : Answer = elim x [ Idle ↦ (removed d.number, without_batch d.number (plant_of v)) | y ↦ (refused (not_idle y), plant_of v) ] in a) idle
 
@@ -152,8 +152,8 @@ module _ (v : EngineView) (k : IsKept v) (i : ℕ) (b : Batch) (at : slice_get v
       go None e = refl
       go (Some q) e = lines-less name q e
 
-  module _ (n : ℕ) (settled : next (documents v.cleared) (plant_of v) ≡ None) (found : batch_at (plant_of v) n ≡ Some (batch_of v.cleared b)) where
-    pub remove-reacts : Reacts (documents v.cleared) (plant_of v) (Events.remove n) (removed b.number) (plant_of (with v (remove v.batches i) v.next_number v.allocation))
+  module _ (n : ℕ) (settled : next (setup v.cleared) (plant_of v) ≡ None) (found : batch_at (plant_of v) n ≡ Some (batch_of v.cleared b)) where
+    pub remove-reacts : Reacts (setup v.cleared) (plant_of v) (Events.remove n) (removed b.number) (plant_of (with v (remove v.batches i) v.next_number v.allocation))
     remove-reacts =
         inl (react-remove v n (batch_of v.cleared b) settled found idle
         ∙ ap (λ (s : Plant). let a : Answer = (removed b.number, s) in a)
@@ -169,10 +169,10 @@ module _ (v : EngineView) (k : IsKept v) (i : ℕ) (b : Batch) (at : slice_get v
         (omega (arith, k.room, needs-less v.cleared v.batches i))
 
 -- a removal that is refused
-pub remove-unknown : (v : EngineView) (n : ℕ) → next (documents v.cleared) (plant_of v) ≡ None → batch_at (plant_of v) n ≡ None
-    → Reacts (documents v.cleared) (plant_of v) (Events.remove n) (refused unknown_batch) (plant_of v)
+pub remove-unknown : (v : EngineView) (n : ℕ) → next (setup v.cleared) (plant_of v) ≡ None → batch_at (plant_of v) n ≡ None
+    → Reacts (setup v.cleared) (plant_of v) (Events.remove n) (refused unknown_batch) (plant_of v)
 remove-unknown v n settled none =
-    inl (ap (λ (m : Option Move). let a : Answer = elim m [ Some l ↦ (refused moves_pending, plant_of v) | None ↦ judged (documents v.cleared) (plant_of v) (Events.remove n) ] in a) settled
+    inl (ap (λ (m : Option Move). let a : Answer = elim m [ Some l ↦ (refused moves_pending, plant_of v) | None ↦ judged (setup v.cleared) (plant_of v) (Events.remove n) ] in a) settled
     ∙ ap (λ (b : Option Model.Batch). let a : Answer = elim b [ None ↦ (refused unknown_batch, plant_of v) | Some d ↦ removing (plant_of v) d ] in a) none)
 
 busy : (s : Plant) (d : Model.Batch) (x : State) → (x ≡ Idle → ⊥) → (let a : Answer = elim x [ Idle ↦ (removed d.number, without_batch d.number s) | y ↦ (refused (not_idle y), s) ] in a) ≡ (refused (not_idle x), s)
@@ -189,9 +189,9 @@ busy s d State.Aborting h = refl
 busy s d State.Aborted h = refl
 busy s d State.Complete h = refl
 
-pub remove-busy : (v : EngineView) (n : ℕ) (d : Model.Batch) → next (documents v.cleared) (plant_of v) ≡ None → batch_at (plant_of v) n ≡ Some d → (d.state ≡ Idle → ⊥)
-    → Reacts (documents v.cleared) (plant_of v) (Events.remove n) (refused (not_idle d.state)) (plant_of v)
+pub remove-busy : (v : EngineView) (n : ℕ) (d : Model.Batch) → next (setup v.cleared) (plant_of v) ≡ None → batch_at (plant_of v) n ≡ Some d → (d.state ≡ Idle → ⊥)
+    → Reacts (setup v.cleared) (plant_of v) (Events.remove n) (refused (not_idle d.state)) (plant_of v)
 remove-busy v n d settled found off =
-    inl (ap (λ (m : Option Move). let a : Answer = elim m [ Some l ↦ (refused moves_pending, plant_of v) | None ↦ judged (documents v.cleared) (plant_of v) (Events.remove n) ] in a) settled
+    inl (ap (λ (m : Option Move). let a : Answer = elim m [ Some l ↦ (refused moves_pending, plant_of v) | None ↦ judged (setup v.cleared) (plant_of v) (Events.remove n) ] in a) settled
     ∙ ap (λ (b : Option Model.Batch). let a : Answer = elim b [ None ↦ (refused unknown_batch, plant_of v) | Some e ↦ removing (plant_of v) e ] in a) found
     ∙ busy (plant_of v) d d.state off)

@@ -2,6 +2,7 @@
 use Rattle.std.proofs.Common.{◌≡◌, ◌+◌, refl, sym, ◌∙◌, ap, ap₂, subst, ℕ, List, [], ◌∷◌, Bool, true, false, ◌&&◌, cond, Option, Some, None, inl, get_or, map}
 use Rattle.std.specs.Prelude.{nat_le, option_map}
 use Rattle.std.proofs.lemmas.List.Sums.{sum_by-cons}
+use Rattle.std.proofs.lemmas.Bool.{and_parts}
 use Rattle.batch_recipe.specs.Conditions.{Name}
 use Rattle.batch_recipe.specs.declared.need.Need.{Need}
 use Rattle.batch_model.specs.Lists.{Has}
@@ -10,7 +11,7 @@ use Rattle.batch_model.specs.Moves.{is_served}
 use Rattle.batch_cell.specs.LookUps.{capacities_of}
 use Rattle.batch_laws.proofs.Entries.{act_self, same_act, units-cons}
 use Rattle.batch_arbiter.specs.Allocation.{Claim, Allocation, line_of, shares_of, held_units, next_in, next_grant, batch_node}
-use Rattle.batch_engine.specs.View.{EngineView, documents, act_of, acts_of, number_of, line_in, line_at, plant_of}
+use Rattle.batch_engine.specs.View.{EngineView, setup, act_of, acts_of, number_of, line_in, line_at, plant_of}
 use Rattle.batch_engine.specs.Kept.{IsKept}
 use Rattle.batch_engine.proofs.Told.{told}
 
@@ -26,11 +27,6 @@ serves held units capacity line a = nat_le (held + units) capacity && elim line 
 
 IsFor : ℕ → ℕ → Option Claim → Type 0
 IsFor n node o = option_map batch_node o ≡ Some (n, node)
-
-both : (a b : Bool) → (a && b) ≡ true → (a ≡ true) × (b ≡ true)
-both true true e = (refl, refl)
-both true false e = absurd cc
-both false b e = absurd cc
 
 and-true : (a b : Bool) → a ≡ true → b ≡ true → (a && b) ≡ true
 and-true true true e f = refl
@@ -67,7 +63,7 @@ module _ (act : Claim → BatchAct) where
       none true e = cc
       none false e = cc
   next-serves capacity units shares (x ∷ later) n node a same much e =
-      let h : (nat_le (held_units shares + units) capacity ≡ true) × (is_same_act (act x) a ≡ true) = both (nat_le (held_units shares + units) capacity) (is_same_act (act x) a) e in
+      let h : (nat_le (held_units shares + units) capacity ≡ true) × (is_same_act (act x) a ≡ true) = and_parts (nat_le (held_units shares + units) capacity) (is_same_act (act x) a) e in
       let at : batch_node x ≡ (n, node) = same x (same_act (act x) a h.1) in
       let ok : nat_le (held_units shares + x.units) capacity ≡ true = subst (λ u. nat_le (held_units shares + u) capacity ≡ true) (sym (much x (inl refl) at)) h.0 in
       ap (λ (b : Bool). option_map batch_node (cond b (Some x) None)) ok ∙ ap Some at
@@ -80,12 +76,12 @@ module _ (v : EngineView) (k : IsKept v) where
 
   -- the plant's test is that of the arbiter's lists
   pub is-served : (i : ℕ) (need : Need) (a : BatchAct) → number_of v.cleared need.resource ≡ Some i
-      → is_served (documents v.cleared) (plant_of v) need a
+      → is_served (setup v.cleared) (plant_of v) need a
       ≡ serves (held_units (shares_of v.allocation i)) need.units (Rattle.batch_arbiter.specs.Allocation.capacity_of v.allocation i) (acts_of v.cleared v.batches (line_of v.allocation i)) a
   is-served i need a e =
       let held : units_in (holders (plant_of v) need.resource) ≡ held_units (shares_of v.allocation i) = held-count i need.resource e in
-      let capacity : (documents v.cleared).capacity need.resource ≡ Rattle.batch_arbiter.specs.Allocation.capacity_of v.allocation i =
+      let capacity : (setup v.cleared).capacity need.resource ≡ Rattle.batch_arbiter.specs.Allocation.capacity_of v.allocation i =
       ap (λ (o : Option ℕ). elim o [ None ↦ 0 | Some number ↦ get_or (capacities_of v.cleared.cell) number 0 ]) e ∙ ap (λ xs. get_or xs i 0) (sym k.cell.capacities) in
       let line : line_in v need.resource ≡ acts_of v.cleared v.batches (line_of v.allocation i) = ap (line_at v) e in
-      ap₂ (λ h l. serves h need.units ((documents v.cleared).capacity need.resource) l a) held line
+      ap₂ (λ h l. serves h need.units ((setup v.cleared).capacity need.resource) l a) held line
       ∙ ap (λ z. serves (held_units (shares_of v.allocation i)) need.units z (acts_of v.cleared v.batches (line_of v.allocation i)) a) capacity

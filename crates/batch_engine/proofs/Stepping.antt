@@ -8,15 +8,15 @@ use Rattle.batch_model.specs.Plant.{Share, Plant, opening}
 use Rattle.batch_model.specs.Moves.{Move, batch_of, batch_after, line_after, after}
 use Rattle.batch_model.specs.Runs.{move, Leads}
 use Rattle.batch_model.specs.Records.{holders_after}
-use Rattle.batch_model.proofs.Batches.{only}
-use Rattle.batch_model.proofs.Leading.{Leads-move}
-use Rattle.batch_model.proofs.Telling.{holders_told-last}
+use Rattle.batch_machine.proofs.Batches.{only}
+use Rattle.batch_machine.proofs.Leading.{Leads-move}
+use Rattle.batch_machine.proofs.Telling.{holders_told-last}
 use Rattle.batch_laws.proofs.Entries.{IsOnce}
 use Rattle.batch_arbiter.specs.Allocation.{Allocation, shares_of, line_of}
 use Rattle.batch_chart.specs.Charts.{IsRunningOf}
 use Rattle.batch_engine.specs.declared.batch.Batch.{Batch}
 use Rattle.batch_engine.specs.View as View
-use Rattle.batch_engine.specs.View.{EngineView, documents, tree_at, act_of, acts_of, names_of, number_of, line_in, line_at, plant_of, tree_of}
+use Rattle.batch_engine.specs.View.{EngineView, setup, tree_at, act_of, acts_of, names_of, number_of, line_in, line_at, plant_of, tree_of}
 use Rattle.batch_engine.specs.Kept.{IsTracked, IsOfCell, IsRunningBatch, HasRoom, IsKept}
 use Rattle.batch_engine.specs.Steps.{IsNext}
 use Rattle.batch_engine.proofs.Told.{standing}
@@ -64,8 +64,8 @@ module _ (v : EngineView) (k : IsKept v) (i : ℕ) (b b' : Batch) (m : Move) (t 
       record {
         events = k.tracked.events;
         outs = k.tracked.outs ++ move m ∷ [];
-        leads = subst (Leads (documents v.cleared) opening k.tracked.events (k.tracked.outs ++ move m ∷ [])) (sym plant-after)
-            (Leads-move (documents v.cleared) opening (plant_of v) m k.tracked.events k.tracked.outs k.tracked.leads t.is);
+        leads = subst (Leads (setup v.cleared) opening k.tracked.events (k.tracked.outs ++ move m ∷ [])) (sym plant-after)
+            (Leads-move (setup v.cleared) opening (plant_of v) m k.tracked.events k.tracked.outs k.tracked.leads t.is);
         shares = λ q name e.
             acts-same v.cleared v.next_number b' v.batches i b t.at t.number t.recipe (shares_of a' q) ∙ shares name q e
             ∙ ap (λ hs. holders_after name hs (move m)) (k.tracked.shares q name e) ∙ sym (holders_told-last k.tracked.outs (move m) name);

@@ -12,7 +12,7 @@ use Rattle.batch_chart.specs.Seen.{move_of}
 use Rattle.batch_engine.specs.declared.batch.Batch.{Batch}
 use Rattle.batch_engine.specs.declared.step.Step.{Step}
 use Rattle.batch_engine.specs.declared.step.Step.TheVariants.{Own, Grant}
-use Rattle.batch_engine.specs.View.{EngineView, documents, batch_of, plant_of, tree_of}
+use Rattle.batch_engine.specs.View.{EngineView, setup, batch_of, plant_of, tree_of}
 use Rattle.batch_engine.specs.Kept.{IsKept}
 use Rattle.batch_engine.specs.Steps.{IsStep, HasNoMove, IsLeastAt, IsNext}
 use Rattle.batch_engine.proofs.Choosing.{next-first, next-none}
@@ -53,25 +53,25 @@ Each-mapped P f (x ∷ xs) h = (h.0, Each-mapped P f xs h.1)
 
 module _ (v : EngineView) (k : IsKept v) where
   abbrev NoMoves : Batch → Type 0
-  NoMoves b = batch_moves (documents v.cleared) (plant_of v) (batch_of v.cleared b) ≡ []
+  NoMoves b = batch_moves (setup v.cleared) (plant_of v) (batch_of v.cleared b) ≡ []
 
   none-at : (j : ℕ) (b : Batch) → slice_get v.batches j ≡ Some b → HasNoMove v j → NoMoves b
-  none-at j b e h = subst (λ (z : Batch). batch_moves (documents v.cleared) (plant_of v) (batch_of v.cleared z) ≡ []) (let f : ◌≡◌ {A = Option Batch} (Some h.batch) (Some b) = sym h.at ∙ e in let g : h.batch ≡ b = cc in g) h.none
+  none-at j b e h = subst (λ (z : Batch). batch_moves (setup v.cleared) (plant_of v) (batch_of v.cleared z) ≡ []) (let f : ◌≡◌ {A = Option Batch} (Some h.batch) (Some b) = sym h.at ∙ e in let g : h.batch ≡ b = cc in g) h.none
 
   -- the least move of the first batch that has one is the next
   pub next-at : (i : ℕ) (m : Moves.Move) → ((j : ℕ) → j < i → HasNoMove v j) → IsLeastAt v i m → IsNext v m
   next-at i m before l =
-      let r = split-at (λ b. batch_moves (documents v.cleared) (plant_of v) (batch_of v.cleared b) ≡ []) v.batches i l.batch l.at (λ j b lt e. none-at j b e (before j lt)) in
-      next-first (documents v.cleared) (plant_of v) (map (batch_of v.cleared) r.0) (batch_of v.cleared l.batch) (map (batch_of v.cleared) r.1) m (standing v k).numbers
+      let r = split-at (λ b. batch_moves (setup v.cleared) (plant_of v) (batch_of v.cleared b) ≡ []) v.batches i l.batch l.at (λ j b lt e. none-at j b e (before j lt)) in
+      next-first (setup v.cleared) (plant_of v) (map (batch_of v.cleared) r.0) (batch_of v.cleared l.batch) (map (batch_of v.cleared) r.1) m (standing v k).numbers
       (ap (map (batch_of v.cleared)) r.2 ∙ map-append (batch_of v.cleared) r.0 (l.batch ∷ r.1))
-      (Each-mapped (λ (b : Model.Batch). batch_moves (documents v.cleared) (plant_of v) b ≡ []) (batch_of v.cleared) r.0 r.3) l.least_is
+      (Each-mapped (λ (b : Model.Batch). batch_moves (setup v.cleared) (plant_of v) b ≡ []) (batch_of v.cleared) r.0 r.3) l.least_is
 
   -- where no batch has a move there is none
-  pub none-next : ((j : ℕ) → j < length v.batches → HasNoMove v j) → next (documents v.cleared) (plant_of v) ≡ None
+  pub none-next : ((j : ℕ) → j < length v.batches → HasNoMove v j) → next (setup v.cleared) (plant_of v) ≡ None
   none-next h =
-      next-none (documents v.cleared) (plant_of v)
-      (Each-mapped (λ (b : Model.Batch). batch_moves (documents v.cleared) (plant_of v) b ≡ []) (batch_of v.cleared) v.batches
-      (all-at (λ b. batch_moves (documents v.cleared) (plant_of v) (batch_of v.cleared b) ≡ []) v.batches
+      next-none (setup v.cleared) (plant_of v)
+      (Each-mapped (λ (b : Model.Batch). batch_moves (setup v.cleared) (plant_of v) b ≡ []) (batch_of v.cleared) v.batches
+      (all-at (λ b. batch_moves (setup v.cleared) (plant_of v) (batch_of v.cleared b) ≡ []) v.batches
       (λ j b e. none-at j b e (h j (Rattle.std.proofs.lemmas.Option.slice_get_within v.batches j b e)))))
 
 -- nothing is least in an empty list alone
@@ -92,28 +92,28 @@ own-least v i b m at e =
     record {
       batch = b;
       at = at;
-      least_is = own-first-elim (documents v.cleared) (plant_of v) (batch_of v.cleared b)
-          ∙ ap (λ (o : Option Moves.Move). let r : Option Moves.Move = elim o [ Some l ↦ Some l | None ↦ least (grants (documents v.cleared) (plant_of v) (batch_of v.cleared b)) ] in r) e;
+      least_is = own-first-elim (setup v.cleared) (plant_of v) (batch_of v.cleared b)
+          ∙ ap (λ (o : Option Moves.Move). let r : Option Moves.Move = elim o [ Some l ↦ Some l | None ↦ least (grants (setup v.cleared) (plant_of v) (batch_of v.cleared b)) ] in r) e;
     }
 
 pub grant-least : (v : EngineView) (i : ℕ) (b : Batch) (m : Moves.Move) → slice_get v.batches i ≡ Some b → own_next (batch_of v.cleared b) ≡ None
-    → least (grants (documents v.cleared) (plant_of v) (batch_of v.cleared b)) ≡ Some m → IsLeastAt v i m
+    → least (grants (setup v.cleared) (plant_of v) (batch_of v.cleared b)) ≡ Some m → IsLeastAt v i m
 grant-least v i b m at e f =
     record {
       batch = b;
       at = at;
-      least_is = own-first-elim (documents v.cleared) (plant_of v) (batch_of v.cleared b)
-          ∙ ap (λ (o : Option Moves.Move). let r : Option Moves.Move = elim o [ Some l ↦ Some l | None ↦ least (grants (documents v.cleared) (plant_of v) (batch_of v.cleared b)) ] in r) e ∙ f;
+      least_is = own-first-elim (setup v.cleared) (plant_of v) (batch_of v.cleared b)
+          ∙ ap (λ (o : Option Moves.Move). let r : Option Moves.Move = elim o [ Some l ↦ Some l | None ↦ least (grants (setup v.cleared) (plant_of v) (batch_of v.cleared b)) ] in r) e ∙ f;
     }
 
 pub no-move : (v : EngineView) (i : ℕ) (b : Batch) → slice_get v.batches i ≡ Some b → own_next (batch_of v.cleared b) ≡ None
-    → grants (documents v.cleared) (plant_of v) (batch_of v.cleared b) ≡ [] → HasNoMove v i
+    → grants (setup v.cleared) (plant_of v) (batch_of v.cleared b) ≡ [] → HasNoMove v i
 no-move v i b at e f =
     record {
       batch = b;
       at = at;
-      none = least-nothing (batch_moves (documents v.cleared) (plant_of v) (batch_of v.cleared b))
-          (own-first-elim (documents v.cleared) (plant_of v) (batch_of v.cleared b)
-          ∙ ap (λ (o : Option Moves.Move). let r : Option Moves.Move = elim o [ Some l ↦ Some l | None ↦ least (grants (documents v.cleared) (plant_of v) (batch_of v.cleared b)) ] in r) e
+      none = least-nothing (batch_moves (setup v.cleared) (plant_of v) (batch_of v.cleared b))
+          (own-first-elim (setup v.cleared) (plant_of v) (batch_of v.cleared b)
+          ∙ ap (λ (o : Option Moves.Move). let r : Option Moves.Move = elim o [ Some l ↦ Some l | None ↦ least (grants (setup v.cleared) (plant_of v) (batch_of v.cleared b)) ] in r) e
           ∙ ap least f);
     }

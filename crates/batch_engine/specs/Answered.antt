@@ -4,9 +4,9 @@ use Rattle.batch_model.specs.Events as Events
 use Rattle.batch_model.specs.Runs.{Reacts}
 use Rattle.batch_engine.specs.declared.reply.Reply.{Reply}
 use Rattle.batch_engine.specs.Surface.{reply_of}
-use Rattle.batch_engine.specs.View.{EngineView, documents, plant_of}
+use Rattle.batch_engine.specs.View.{EngineView, setup, plant_of}
 
 -- the event is answered so, and the engine becomes `new`: a step of the machine
 pub record IsAnswered (old : EngineView) (e : Events.Event) (r : Reply) (new : EngineView) : Type 0 where
   pub cleared : new.cleared ≡ old.cleared
-  pub reacts : Reacts (documents old.cleared) (plant_of old) e (reply_of old.cleared r) (plant_of new)
+  pub reacts : Reacts (setup old.cleared) (plant_of old) e (reply_of old.cleared r) (plant_of new)

@@ -6,7 +6,6 @@ use Rattle.batch_recipe.specs.Procedure.{procedure_tree}
 use Rattle.batch_recipe.specs.declared.recipe.Recipe as document
 use Rattle.batch_model.specs.Lists.{Each}
 use Rattle.batch_model.specs.Cleared.{CanBeCleared}
-use Rattle.batch_model.specs.Documents.{cell_of}
 use Rattle.batch_model.specs.Plant.{opening}
 use Rattle.batch_model.specs.Events.{Event}
 use Rattle.batch_model.specs.Runs.{Out, Leads}
@@ -20,13 +19,13 @@ use Rattle.batch_chart.specs.declared.compiled.Compiled.{Compiled}
 use Rattle.batch_engine.specs.declared.batch.Batch.{Batch}
 use Rattle.batch_engine.specs.Batches.{BatchList, HaveOwnNumbers}
 use Rattle.batch_engine.specs.Numbered.{AreRecipesNumbered}
-use Rattle.batch_engine.specs.View.{EngineView, documents, tree_at, acts_of, names_of, number_of, plant_of, tree_of}
+use Rattle.batch_engine.specs.View.{EngineView, setup, tree_at, acts_of, names_of, number_of, plant_of, tree_of}
 
 -- there is a record that leads to the plant, and the shares are what it tells, each in the order in which it was granted
 pub record IsTracked (v : EngineView) : Type 0 where
   pub events : List Event
   pub outs : List Out
-  pub leads : Leads (documents v.cleared) opening events outs (plant_of v)
+  pub leads : Leads (setup v.cleared) opening events outs (plant_of v)
   pub shares : (k : ℕ) (name : Name) → number_of v.cleared name ≡ Some k → acts_of v.cleared v.batches (shares_of v.allocation k) ≡ holders_told outs name
 
 -- the arbiter has the cell's resources
@@ -63,7 +62,7 @@ abbrev pub HasRoom : EngineView → Type 0
 HasRoom v = needs_of_all v.cleared v.batches ≤ v.allocation.room + claims v.allocation
 
 pub record IsKept (v : EngineView) : Type 0 where
-  pub cleared : CanBeCleared (cell_of v.cleared.cell) (documents v.cleared)
+  pub cleared : CanBeCleared (setup v.cleared)
   pub charts : AreCompiled v.cleared v.charts
   pub numbers : AreRecipesNumbered v.cleared.cell v.cleared.recipes v.numbers
   pub batches : Each (IsRunningBatch v.cleared) v.batches

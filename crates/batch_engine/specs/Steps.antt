@@ -16,7 +16,7 @@ use Rattle.batch_engine.specs.declared.step.Step.{Step}
 use Rattle.batch_engine.specs.declared.step.Step.TheVariants.{Own, Grant}
 use Rattle.batch_engine.specs.Names.{resource_name, phase_name}
 use Rattle.batch_engine.specs.Surface as Surface
-use Rattle.batch_engine.specs.View.{EngineView, documents, batch_of, number_of, plant_of, tree_of}
+use Rattle.batch_engine.specs.View.{EngineView, setup, batch_of, number_of, plant_of, tree_of}
 
 -- the batch at an index, and the compiled chart of its recipe
 pub record BatchAt (v : EngineView) (i : ℕ) (b : Batch) (chart : Compiled) : Type 0 where
@@ -57,29 +57,29 @@ index_of (Grant i node resource units) = i
 pub record HasNoMove (v : EngineView) (i : ℕ) : Type 0 where
   pub batch : Batch
   pub at : slice_get v.batches i ≡ Some batch
-  pub none : batch_moves (documents v.cleared) (plant_of v) (batch_of v.cleared batch) ≡ []
+  pub none : batch_moves (setup v.cleared) (plant_of v) (batch_of v.cleared batch) ≡ []
 
 -- the least move of the batch at an index
 pub record IsLeastAt (v : EngineView) (i : ℕ) (m : Model.Move) : Type 0 where
   pub batch : Batch
   pub at : slice_get v.batches i ≡ Some batch
-  pub least_is : least (batch_moves (documents v.cleared) (plant_of v) (batch_of v.cleared batch)) ≡ Some m
+  pub least_is : least (batch_moves (setup v.cleared) (plant_of v) (batch_of v.cleared batch)) ≡ Some m
 
 abbrev pub IsBatchStep : EngineView → ℕ → Option Step → Type 0
 IsBatchStep v i None = HasNoMove v i
 IsBatchStep v i (Some s) = (index_of s ≡ i) × IsStep v (IsLeastAt v i) s
 
 abbrev pub IsNext : EngineView → Model.Move → Type 0
-IsNext v m = next (documents v.cleared) (plant_of v) ≡ Some m
+IsNext v m = next (setup v.cleared) (plant_of v) ≡ Some m
 
 abbrev pub IsNextStep : EngineView → Option Step → Type 0
-IsNextStep v None = next (documents v.cleared) (plant_of v) ≡ None
+IsNextStep v None = next (setup v.cleared) (plant_of v) ≡ None
 IsNextStep v (Some s) = IsStep v (IsNext v) s
 
 -- the first act in line of the batch at an index that the arbiter would serve
 abbrev pub IsFirstGrant : EngineView → ℕ → Option (ℕ × ℕ × ℕ) → Type 0
-IsFirstGrant v i None = (b : Batch) → slice_get v.batches i ≡ Some b → Rattle.batch_chart.specs.OwnMoves.grants (documents v.cleared) (plant_of v) (batch_of v.cleared b) ≡ []
-IsFirstGrant v i (Some (node, resource, units)) = IsGrantStep v (λ m. (b : Batch) → slice_get v.batches i ≡ Some b → least (Rattle.batch_chart.specs.OwnMoves.grants (documents v.cleared) (plant_of v) (batch_of v.cleared b)) ≡ Some m) i node resource units
+IsFirstGrant v i None = (b : Batch) → slice_get v.batches i ≡ Some b → Rattle.batch_chart.specs.OwnMoves.grants (setup v.cleared) (plant_of v) (batch_of v.cleared b) ≡ []
+IsFirstGrant v i (Some (node, resource, units)) = IsGrantStep v (λ m. (b : Batch) → slice_get v.batches i ≡ Some b → least (Rattle.batch_chart.specs.OwnMoves.grants (setup v.cleared) (plant_of v) (batch_of v.cleared b)) ≡ Some m) i node resource units
 
 -- a move that neither asks for anything, nor gives anything back, nor changes the batch's state
 abbrev pub IsQuiet : Move → Type 0

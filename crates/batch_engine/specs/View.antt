@@ -5,8 +5,8 @@ use Rattle.batch_cell.specs.LookUps.{resources_of}
 use Rattle.batch_recipe.specs.Conditions.{Name, same_name}
 use Rattle.batch_recipe.specs.Tree.{Place, Tree, skip}
 use Rattle.batch_model.specs.Plant as Model
-use Rattle.batch_model.specs.Plant.{Documents, BatchAct, Share, Plant, size_out_of_range}
-use Rattle.batch_model.specs.Documents.{documents_of}
+use Rattle.batch_model.specs.Plant.{Setup, BatchAct, Share, Plant, size_out_of_range}
+use Rattle.batch_model.specs.Setups.{setup_of}
 use Rattle.batch_verify.specs.ClearedSet.{ClearedSet}
 use Rattle.batch_arbiter.specs.Allocation.{Claim, Allocation, line_of}
 use Rattle.batch_chart.specs.NodesOf.{place_at}
@@ -29,15 +29,15 @@ abbrev pub seen : ClearedSet → List Compiled → List RecipeNumbers → List B
 seen cleared charts numbers batches next_number allocation =
     record { cleared = cleared; charts = charts; numbers = numbers; batches = batches; next_number = next_number; allocation = allocation }
 
--- the definitions' documents
-abbrev pub documents : ClearedSet → Documents
-documents c = documents_of c.cell c.recipes
+-- the setup of the machine
+abbrev pub setup : ClearedSet → Setup
+setup c = setup_of c.cell c.recipes
 
 abbrev pub no_recipe : Model.Recipe
 no_recipe = record { name = []; formula = λ size. size_out_of_range; outputs = []; procedure = skip }
 
 abbrev pub recipe_at : ClearedSet → ℕ → Model.Recipe
-recipe_at c k = slice_index_or (documents c).recipes k no_recipe
+recipe_at c k = slice_index_or (setup c).recipes k no_recipe
 
 -- the expanded tree of a recipe, by its number
 abbrev pub tree_at : ClearedSet → ℕ → Tree

@@ -10,7 +10,7 @@ ghost use Rattle.batch_engine.specs.Answered.{IsAnswered};
 ghost use Rattle.batch_engine.specs.Creates.{IsCreate};
 ghost use Rattle.batch_engine.specs.Kept.{needs_of_all};
 ghost use Rattle.batch_engine.specs.Values.{IsValuesFor};
-ghost use Rattle.batch_engine.specs.View.{documents, plant_of, tree_at};
+ghost use Rattle.batch_engine.specs.View.{setup, plant_of, tree_at};
 
 use crate::batch::Batch;
 use crate::engine::Engine;
@@ -106,14 +106,14 @@ impl Engine {
 
     /// Whether as many batches exist as may, or the last number was given.
     fn is_full(&self) -> bool
-        ensures { result ≡ is_full (documents self.now.cleared) (plant_of self.now) }
+        ensures { result ≡ is_full (setup self.now.cleared) (plant_of self.now) }
     {
         self.batches.len() as u64 >= MAX_LIVE_BATCHES || self.next_number > LAST_NUMBER
     }
 
     /// A batch of a recipe is to be made.
     pub(crate) fn create(&mut self, name: &Name, size: u64) -> Reply
-        requires { next (documents self.old.cleared) (plant_of self.old) ≡ None }
+        requires { next (setup self.old.cleared) (plant_of self.old) ≡ None }
         ensures { IsAnswered self.old (Events.create name.now size) result self.new }
     {
         let Some(recipe) = recipe_named(self.cleared.recipes(), name) else {

@@ -4,7 +4,7 @@ ghost use Rattle.batch_chart.specs.declared.chart_move.Move.TheVariants as Moves
 ghost use Rattle.batch_model.specs.Moves.{next};
 ghost use Rattle.batch_engine.specs.Steps.{IsGrantStep, IsNext, IsNextStep, IsNumberAt, IsOwnStep, IsQuiet, MakesNext};
 ghost use Rattle.batch_engine.specs.Surface.{move_of, plant_after};
-ghost use Rattle.batch_engine.specs.View.{documents, plant_of};
+ghost use Rattle.batch_engine.specs.View.{setup, plant_of};
 
 use crate::engine::Engine;
 use crate::line::Line;
@@ -111,7 +111,7 @@ impl Engine {
 
     /// Makes the next move, if one is possible.
     pub fn next_move(&mut self) -> Option<Line>
-        ensures next { option_map (move_of self.old.cleared) result ≡ next (documents self.old.cleared) (plant_of self.old) }
+        ensures next { option_map (move_of self.old.cleared) result ≡ next (setup self.old.cleared) (plant_of self.old) }
         ensures plant { plant_of self.new ≡ plant_after self.old.cleared (plant_of self.old) result }
         ensures cleared { self.new.cleared ≡ self.old.cleared }
     {

@@ -6,7 +6,7 @@ ghost use Rattle.batch_model.specs.Events as Events;
 ghost use Rattle.batch_model.specs.Moves.{next};
 ghost use Rattle.batch_engine.specs.Answered.{IsAnswered};
 ghost use Rattle.batch_engine.specs.Orders.{EndsAsks, IsOrder, IsOrdered, IsPlain};
-ghost use Rattle.batch_engine.specs.View.{documents, plant_of};
+ghost use Rattle.batch_engine.specs.View.{setup, plant_of};
 
 use crate::engine::Engine;
 use crate::refusal::Refusal;
@@ -60,7 +60,7 @@ impl Engine {
 
     /// A batch takes a command.
     pub(crate) fn order(&mut self, command: Command, number: u64) -> Reply
-        requires { next (documents self.old.cleared) (plant_of self.old) ≡ None }
+        requires { next (setup self.old.cleared) (plant_of self.old) ≡ None }
         ensures { IsAnswered self.old (Events.order command number) result self.new }
     {
         let Some(index) = self.index_of(number) else {
@@ -84,7 +84,7 @@ impl Engine {
 
     /// A batch is to be removed.
     pub(crate) fn remove(&mut self, number: u64) -> Reply
-        requires { next (documents self.old.cleared) (plant_of self.old) ≡ None }
+        requires { next (setup self.old.cleared) (plant_of self.old) ≡ None }
         ensures { IsAnswered self.old (Events.remove number) result self.new }
     {
         let Some(index) = self.index_of(number) else {

@@ -3,7 +3,7 @@ ghost use Rattle.std.specs.Prelude.{◌≡◌, ◌<◌, ◌↔◌, Some, None, l
 ghost use Rattle.batch_arbiter.specs.Allocation.{batch_node, next_grant, resource_count};
 ghost use Rattle.batch_model.specs.Moves.{is_stopped, next};
 ghost use Rattle.batch_engine.specs.Steps.{IsBatchStep, IsFirstGrant, IsNeedAt, IsNextStep, IsNumberAt};
-ghost use Rattle.batch_engine.specs.View.{documents, plant_of};
+ghost use Rattle.batch_engine.specs.View.{setup, plant_of};
 
 use crate::engine::Engine;
 use crate::step::Step;
@@ -96,7 +96,7 @@ impl Engine {
 
     /// Whether no move is possible.
     pub fn settled(&self) -> bool
-        ensures { IsTrue result ↔ (next (documents self.now.cleared) (plant_of self.now) ≡ None) }
+        ensures { IsTrue result ↔ (next (setup self.now.cleared) (plant_of self.now) ≡ None) }
     {
         self.upcoming().is_none()
     }

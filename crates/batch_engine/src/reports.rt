@@ -5,7 +5,7 @@ ghost use Rattle.batch_model.specs.Events.{batch_state_after};
 ghost use Rattle.batch_model.specs.Moves.{next};
 ghost use Rattle.batch_engine.specs.Answered.{IsAnswered};
 ghost use Rattle.batch_engine.specs.Reports.{IsLivePhase};
-ghost use Rattle.batch_engine.specs.View.{documents, plant_of};
+ghost use Rattle.batch_engine.specs.View.{setup, plant_of};
 
 use crate::engine::Engine;
 use crate::event::PhaseReport;
@@ -46,7 +46,7 @@ impl Engine {
 
     /// A live phase of a unit tells something.
     pub(crate) fn report(&mut self, report: &PhaseReport) -> Reply
-        requires { next (documents self.old.cleared) (plant_of self.old) ≡ None }
+        requires { next (setup self.old.cleared) (plant_of self.old) ≡ None }
         ensures { IsAnswered self.old (Events.report report.now.unit report.now.phase report.now.word report.now.outputs.items) result self.new }
     {
         let Some((index, node, state)) = self.live(&report.unit, &report.phase) else {

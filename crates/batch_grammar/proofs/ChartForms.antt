@@ -4,6 +4,7 @@ use Rattle.std.specs.Prelude.{nat_le, nat_lt, slice_index_or, if◌then◌else�
 use Rattle.std.specs.List.{list_all, AllByRecursion}
 use Rattle.std.proofs.lemmas.List.Folds.{list_all-append}
 use Rattle.std.proofs.lemmas.Bool.Decides.{nat_tests}
+use Rattle.std.proofs.lemmas.Bool.{and_parts}
 use Rattle.batch_text.specs.NumberText.{number_of}
 use Rattle.batch_recipe.specs.Conditions.{Name}
 use Rattle.batch_recipe.specs.declared.chart.TheConstants.{MAX_TURNS}
@@ -26,10 +27,6 @@ rest_nil : {A : Type 0} (a b : List A) → a ++ b ≡ [] → b ≡ []
 rest_nil [] b h = h
 rest_nil (x ∷ a) b h = absurd cc
 
-both_true : (a b : Bool) → (a && b) ≡ true → (a ≡ true) × (b ≡ true)
-both_true true b h = (refl, h)
-both_true false b h = absurd cc
-
 and_true : (a b : Bool) → a ≡ true → b ≡ true → (a && b) ≡ true
 and_true a b e f = rw (e, f) refl
 
@@ -42,7 +39,7 @@ Agree pars free = (pars ≡ [] → free ≡ true) × (free ≡ true → pars ≡
 agree_both : (a b : List ℕ) (x y : Bool) → Agree a x → Agree b y → Agree (a ++ b) (x && y)
 agree_both a b x y f g = (
   λ h. and_true x y (f.0 (front_nil a b h)) (g.0 (rest_nil a b h)),
-  λ h. let xy = both_true x y h in ap (λ l. l ++ b) (f.1 xy.0) ∙ g.1 xy.1,
+  λ h. let xy = and_parts x y h in ap (λ l. l ++ b) (f.1 xy.0) ∙ g.1 xy.1,
 )
 
 and_with_true : (x : Bool) → x ≡ (x && true)
@@ -143,7 +140,7 @@ in_range false n h = absurd cc
 
 -- every name of two lists, and of each
 each : (p : Name → Bool) (xs ys : List Name) → list_all p (xs ++ ys) ≡ true → (list_all p xs ≡ true) × (list_all p ys ≡ true)
-each p xs ys h = both_true (list_all p xs) (list_all p ys) (sym (list_all-append p xs ys) ∙ h)
+each p xs ys h = and_parts (list_all p xs) (list_all p ys) (sym (list_all-append p xs ys) ∙ h)
 
 abbrev count : Diagrams → ℕ
 count none = 0
@@ -172,17 +169,17 @@ module _ (labels values : List Name) where
 
   condition_limits : {total : ℕ} {s t : List ℕ} {c : Cond} {o : Offsets} → ReadsCond total s t c o → o.outside ≡ [] → list_all (is_among values) (names_compared c) ≡ true → is_condition values c ≡ true
   condition_limits (spec.condition {name = name} skips is_label op (spec.named {name = name2} skips2 is_label2)) within h =
-      let first = both_true (is_among values name) _ h in
-      let second = both_true (is_among values name2) true first.1 in
+      let first = and_parts (is_among values name) _ h in
+      let second = and_parts (is_among values name2) true first.1 in
       and_true _ _ first.0 second.0
   condition_limits (spec.condition {name = name} skips is_label op (spec.number {total = total} {t = t} digits skips2 number)) within h =
-      let first = both_true (is_among values name) _ h in
+      let first = and_parts (is_among values name) _ h in
       let ranged_at = in_range (nat_le 0 (number_of digits) && nat_le (number_of digits) MAX_VALUE) (total - length (digits ++ t)) within in
-      and_true _ _ first.0 (both_true _ _ ranged_at).1
+      and_true _ _ first.0 (and_parts _ _ ranged_at).1
 
   mutual
     chart_limits : {total depth : ℕ} {s t : List ℕ} {d : Diagram} {o : Offsets} → Reads total depth s t d o → o.outside ≡ [] → AreDeclared (labels_of d) (values_of d) → is_chart labels values depth d ≡ true
-    chart_limits (spec.label {name = name} skips is_label) within h = (both_true (is_among labels name) true h.0).0
+    chart_limits (spec.label {name = name} skips is_label) within h = (and_parts (is_among labels name) true h.0).0
     chart_limits (spec.skip skips) within h = refl
     chart_limits (spec.seq {depth = depth} {branches = ds} skips opens branches) within h =
         deeper depth (λ n. are_charts labels values n 1 ds) (branches_limits branches within h 1 (some_branch branches))

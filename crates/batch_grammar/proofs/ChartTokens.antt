@@ -4,6 +4,7 @@ use Rattle.std.specs.Prelude.{⊤}
 use Rattle.std.specs.List.{list_all}
 use Rattle.std.specs.Char.{is_ascii_alphabetic, is_ascii_digit}
 use Rattle.std.proofs.lemmas.Bool.Decides.{nat_tests}
+use Rattle.std.proofs.lemmas.Bool.{and_parts}
 use Rattle.batch_text.specs.NameText.{is_name_byte, IsName}
 use Rattle.batch_text.specs.NumberText.{number_of, IsNumber}
 use Rattle.batch_text.specs.declared.name.TheConstants.{MAX_NAME_LEN}
@@ -31,18 +32,14 @@ runs-skips (space {b = b} {s = s} e skips) total w frames o = rw e (runs-skips s
 
 -- ---- words
 
-both_true : (a b : Bool) → (a && b) ≡ true → (a ≡ true) × (b ≡ true)
-both_true true b h = (refl, h)
-both_true false b h = absurd cc
-
 letters_go_on : (rest read t : List ℕ) (total : ℕ) (w : Want) (frames : List Frame) (o : Firsts)
     → list_all is_name_byte rest ≡ true → length read + length rest ≤ MAX_NAME_LEN
     → runs total (rest ++ t) (in_token (letters read) w frames o) ≡ runs total t (in_token (letters (read ++ rest)) w frames o)
 unfolding runs step in_token
 letters_go_on [] read t total w frames o all short = rw append-nil refl
 letters_go_on (b ∷ bs) read t total w frames o all short =
-    let name_byte : is_name_byte b ≡ true = (both_true (is_name_byte b) _ all).0 in
-    let others : list_all is_name_byte bs ≡ true = (both_true (is_name_byte b) _ all).1 in
+    let name_byte : is_name_byte b ≡ true = (and_parts (is_name_byte b) _ all).0 in
+    let others : list_all is_name_byte bs ≡ true = (and_parts (is_name_byte b) _ all).1 in
     let room : ltb (length read) MAX_NAME_LEN ≡ true = grind (arith, nat_tests) in
     let longer : length (read ++ b ∷ []) + length bs ≤ MAX_NAME_LEN = omega (arith, length-append read (b ∷ [])) in
     let joined = append_assoc read (b ∷ []) bs in
@@ -66,8 +63,8 @@ digits_go_on : (rest read t : List ℕ) (total : ℕ) (w : Want) (frames : List 
 unfolding runs step in_token
 digits_go_on [] read t total w frames o all short = rw append-nil refl
 digits_go_on (b ∷ bs) read t total w frames o all short =
-    let digit : is_ascii_digit b ≡ true = (both_true (is_ascii_digit b) _ all).0 in
-    let others : list_all is_ascii_digit bs ≡ true = (both_true (is_ascii_digit b) _ all).1 in
+    let digit : is_ascii_digit b ≡ true = (and_parts (is_ascii_digit b) _ all).0 in
+    let others : list_all is_ascii_digit bs ≡ true = (and_parts (is_ascii_digit b) _ all).1 in
     let room : ltb (length read) MAX_DIGITS ≡ true = grind (arith, nat_tests) in
     let longer : length (read ++ b ∷ []) + length bs ≤ MAX_DIGITS = omega (arith, length-append read (b ∷ [])) in
     let joined = append_assoc read (b ∷ []) bs in

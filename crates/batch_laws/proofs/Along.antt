@@ -1,6 +1,6 @@
 -- What is kept is kept along a whole record.
 use Rattle.std.proofs.Common.{Some, ◌≡◌, refl, sym, subst, subst₂, zero-le, List, [], ◌∷◌, ◌++◌, append-nil, append_assoc}
-use Rattle.batch_model.specs.Plant.{Documents, Plant, opening}
+use Rattle.batch_model.specs.Plant.{Setup, Plant, opening}
 use Rattle.batch_model.specs.Moves.{Move, next, after}
 use Rattle.batch_model.specs.Events.{Event}
 use Rattle.batch_model.specs.Placed.{IsPlaced}
@@ -8,15 +8,15 @@ use Rattle.batch_model.specs.Standing.{HasPlacedTrees, IsStanding}
 use Rattle.batch_model.specs.Runs.{Out, move, reply, Leads}
 use Rattle.batch_model.specs.Cleared.{Ranking}
 use Rattle.batch_model.proofs.Members.{Each-map}
-use Rattle.batch_model.proofs.Falling.{next-possible}
-use Rattle.batch_model.proofs.Moving.{possible-stands}
-use Rattle.batch_model.proofs.Led.{reacts-stands}
+use Rattle.batch_machine.proofs.Falling.{next-possible}
+use Rattle.batch_machine.proofs.Moving.{possible-stands}
+use Rattle.batch_machine.proofs.Led.{reacts-stands}
 use Rattle.batch_laws.proofs.ClearedDown.{IsClearedDown, AreClearedDown}
 use Rattle.batch_laws.proofs.Invariant.{IsKept}
 use Rattle.batch_laws.proofs.Moving.{move-step}
 use Rattle.batch_laws.proofs.Reports.{reply-step}
 
-pub kept-at_first : (d : Documents) (rank : Ranking) → IsKept d rank [] opening
+pub kept-at_first : (d : Setup) (rank : Ranking) → IsKept d rank [] opening
 kept-at_first d rank =
     record {
       sound = λ b h. absurd h;
@@ -31,14 +31,14 @@ kept-at_first d rank =
       states = λ b h. absurd h;
     }
 
-pub placed-trees : (d : Documents) (rank : Ranking) → AreClearedDown d rank → HasPlacedTrees d
+pub placed-trees : (d : Setup) (rank : Ranking) → AreClearedDown d rank → HasPlacedTrees d
 placed-trees d rank cleared = Each-map (IsClearedDown d rank) (λ r. IsPlaced (0 ∷ []) r.procedure) (λ r k. k.placed) d.recipes cleared.recipes
 
-pub moved-stands : (d : Documents) (rank : Ranking) → AreClearedDown d rank → (s : Plant) (m : Move) → IsStanding d s → next d s ≡ Some m → IsStanding d (after s m)
+pub moved-stands : (d : Setup) (rank : Ranking) → AreClearedDown d rank → (s : Plant) (m : Move) → IsStanding d s → next d s ≡ Some m → IsStanding d (after s m)
 moved-stands d rank cleared s m sd e = possible-stands d s m (placed-trees d rank cleared) sd (next-possible d s m e)
 
 -- what is kept is kept along the whole record
-pub kept-along : (d : Documents) (rank : Ranking) → AreClearedDown d rank → (told : List Out) (s : Plant) → IsStanding d s → IsKept d rank told s → (es : List Event) (outs : List Out) (t : Plant) → Leads d s es outs t
+pub kept-along : (d : Setup) (rank : Ranking) → AreClearedDown d rank → (told : List Out) (s : Plant) → IsStanding d s → IsKept d rank told s → (es : List Event) (outs : List Out) (t : Plant) → Leads d s es outs t
     → IsKept d rank (told ++ outs) t
 kept-along d rank cleared told s sd k [] [] t l = subst₂ (λ y z. IsKept d rank y z) (sym (append-nil told)) l k
 kept-along d rank cleared told s sd k (v ∷ es) [] t l = absurd l

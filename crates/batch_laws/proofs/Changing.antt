@@ -7,7 +7,7 @@ use Rattle.batch_model.specs.Lists.{Has}
 use Rattle.batch_recipe.specs.Conditions.{Name, ValueList}
 use Rattle.batch_recipe.specs.Tree.{Place, Phase}
 use Rattle.batch_model.specs.Rest.{Rest, advance, changed_at}
-use Rattle.batch_model.specs.Plant.{Documents, Batch, BatchAct, Share, units_in, Plant, place_of}
+use Rattle.batch_model.specs.Plant.{Setup, Batch, BatchAct, Share, units_in, Plant, place_of}
 use Rattle.batch_model.specs.Runs.{Out}
 use Rattle.batch_model.specs.Records.{without, holders_after, holders_told, waiters_after, waiters_told, Active, active_after, active_told, state_after, state_told}
 use Rattle.batch_laws.proofs.Facts.{Fact, holding, awaiting, performing, Standing, held_at, facts, Entry, entry, entries, holders_among, need, share}
@@ -41,7 +41,7 @@ told-state outs o n = fold-append (state_after n) None outs (o ∷ [])
 abbrev pub changed_plant : Plant → ℕ → (Batch → Batch) → (Name → List Share) → Plant
 changed_plant s n g line = record s { batches = map (only n g) s.batches; line = line }
 
-module _ (d : Documents) (rank : Ranking) (outs : List Out) (s : Plant) (sd : IsStanding d s) (k : IsKept d rank outs s) (b : Batch) (i : Has s.batches b)
+module _ (d : Setup) (rank : Ranking) (outs : List Out) (s : Plant) (sd : IsStanding d s) (k : IsKept d rank outs s) (b : Batch) (i : Has s.batches b)
   where
     -- what is left to show when one batch changes and one line is told of it
     pub kept-after :
@@ -284,7 +284,7 @@ pub record IsChange (b : Batch) (a : Rest) (g : Batch → Batch) (f : Rest → R
 pub change-facts : (b : Batch) (a : Rest) (g : Batch → Batch) (f : Rest → Rest) (vs : ValueList) → IsChange b a g f vs → facts (g b).rest ≡ facts (changed_at (place_of a) f b.rest)
 change-facts b a g f vs c = ap facts c.goes_on ∙ advance-facts vs (changed_at (place_of a) f b.rest)
 
-pub change-sound : (d : Documents) (rank : Ranking) (b : Batch) (a : Rest) (g : Batch → Batch) (f : Rest → Rest) (vs : ValueList) → IsSound d rank b → IsChange b a g f vs
+pub change-sound : (d : Setup) (rank : Ranking) (b : Batch) (a : Rest) (g : Batch → Batch) (f : Rest → Rest) (vs : ValueList) → IsSound d rank b → IsChange b a g f vs
     → IsFitting (g b).state (facts (g b).rest) → IsSound d rank (g b)
 change-sound d rank b a g f vs s c fits = record { cleared = subst (IsClearedDown d rank) (sym c.recipe) s.cleared; fits = fits }
 

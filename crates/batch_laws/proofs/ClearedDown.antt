@@ -3,13 +3,13 @@ use Rattle.std.specs.Prelude.{◌≡◌, suc, List, [], ◌∷◌, ◌++◌, IsT
 use Rattle.batch_model.specs.Lists.{Has, Each}
 use Rattle.batch_recipe.specs.Tree.{Phase, Task, runs, follows, Tree, act, skip, seq, par, sel, loop, Trees, no_trees, tree, Choices, otherwise, choice}
 use Rattle.batch_model.specs.Placed.{IsPlaced}
-use Rattle.batch_model.specs.Plant.{Documents, Recipe}
+use Rattle.batch_model.specs.Plant.{Setup, Recipe}
 use Rattle.batch_model.specs.Cleared.{Ranking, phases, phases_of_each}
 use Rattle.batch_laws.specs.Ways.{RisesDown}
 use Rattle.batch_recipe.specs.declared.need.Need.{Need}
 use Rattle.batch_recipe.specs.Needs.{one_unit}
 
-abbrev pub IsOfferedPhase : Documents → Phase → Type 0
+abbrev pub IsOfferedPhase : Setup → Phase → Type 0
 IsOfferedPhase d x = IsTrue (d.offers x.unit x.name)
 
 abbrev pub IsSamePhase : Phase → Phase → Type 0
@@ -47,12 +47,12 @@ abbrev mutual
   ChoicesRunInUnits above (otherwise c) = RunsInUnits above c
   ChoicesRunInUnits above (choice d c ch) = RunsInUnits above c × ChoicesRunInUnits above ch
 
-pub record IsClearedDown (d : Documents) (rank : Ranking) (r : Recipe) : Type 0 where
+pub record IsClearedDown (d : Setup) (rank : Ranking) (r : Recipe) : Type 0 where
   pub placed : IsPlaced (0 ∷ []) r.procedure
   pub rising : RisesDown (λ q. suc (rank q)) 0 r.procedure
   pub in_units : RunsInUnits [] r.procedure
   pub offered : Each (IsOfferedPhase d) (phases r.procedure)
   pub single : Each (λ x. d.capacity x.unit ≡ 1) (phases r.procedure)
 
-pub record AreClearedDown (d : Documents) (rank : Ranking) : Type 0 where
+pub record AreClearedDown (d : Setup) (rank : Ranking) : Type 0 where
   pub recipes : Each (IsClearedDown d rank) d.recipes

@@ -6,12 +6,12 @@ use Rattle.batch_recipe.specs.Nodes.{Node, child}
 use Rattle.batch_recipe.specs.Tree.{Place, Phase, Task, runs, follows, Tree, act, skip, seq, par, sel, loop, Trees, no_trees, tree, Choices, otherwise, choice}
 use Rattle.batch_recipe.specs.WellFormed.{is_among}
 use Rattle.batch_model.specs.Lists.{Has, Each}
-use Rattle.batch_model.specs.Plant.{Recipe, Documents}
-use Rattle.batch_model.specs.Cleared.{Cell, Ranking, Level, is_procedure, in_procedure, in_unit_procedure, in_operation, below, Part, parts, parts_within, parts_of_each, parts_of_choices, procedure_parts, phases, phases_within, phases_of_each, phases_of_choices, RunApart, BranchesRunApart, RiseStrictly, BeginsWithUnit, IsClear, IsClearedRecipe, IsCleared}
+use Rattle.batch_model.specs.Plant.{Recipe, Setup}
+use Rattle.batch_model.specs.Cleared.{Ranking, Level, is_procedure, in_procedure, in_unit_procedure, in_operation, below, Part, parts, parts_within, parts_of_each, parts_of_choices, procedure_parts, phases, phases_within, phases_of_each, phases_of_choices, RunApart, BranchesRunApart, RiseStrictly, BeginsWithUnit, IsClear, IsClearedRecipe, IsCleared}
 use Rattle.batch_model.proofs.Members.{Has-right, Has-split, Each-Has, Each-map, Each-append}
 use Rattle.batch_model.proofs.Parts.{parts-nodes}
 use Rattle.batch_laws.specs.Procedures.{IsOfLevel, IsActOf, AreOfLevel, AreChoicesOf, HasLevels, IsProcedure}
-use Rattle.batch_laws.specs.Premises.{AreDocuments}
+use Rattle.batch_laws.specs.Premises.{IsOfDocuments}
 use Rattle.batch_laws.proofs.ClearedDown.{RunsInUnits, RunsInUnitsBelow, RunInUnits, RunSideBySide, ChoicesRunInUnits, AreApart, IsOfferedPhase, IsClearedDown, AreClearedDown}
 use Rattle.batch_laws.proofs.Members.{Each-left, Each-right, Each-image, map-Has}
 use Rattle.batch_laws.proofs.Ways.{paths-down}
@@ -93,9 +93,9 @@ branches-apart : (above : List Need) (xs ys : List Phase) → RunApart xs ys →
 branches-apart above xs ys h x y k m u same =
     different x.name y.name (Each-Has (λ y. same_name x.name y.name ≡ false) ys y (Each-Has (λ x. Each (λ y. same_name x.name y.name ≡ false) ys) xs x h k) m) same.1
 
-module _ (cell : Cell) (d : Documents) (rank : Ranking) where
+module _ (setup : Setup) (rank : Ranking) where
   abbrev Clear : Part → Type 0
-  Clear = IsClear cell d rank
+  Clear = IsClear setup rank
 
   -- In an operation: all runs on the unit, which is needed above
 
@@ -266,7 +266,7 @@ module _ (cell : Cell) (d : Documents) (rank : Ranking) where
   -- Phases are offered, and each runs on a unit with one user
 
   mutual
-    phases-offered : (l : Level) (p : Place) (asked : List Name) (t : Tree) → Each Clear (parts l p asked t) → Each (IsOfferedPhase d) (phases t)
+    phases-offered : (l : Level) (p : Place) (asked : List Name) (t : Tree) → Each Clear (parts l p asked t) → Each (IsOfferedPhase setup) (phases t)
     phases-offered l p asked (act s (runs x)) c = (c.0.offered, tt)
     phases-offered l p asked (act s (follows name t)) c = phases-offered (below l) (child p 0) (asked ++ resources_of s.needs) t c.1
     phases-offered l p asked skip c = tt
@@ -275,28 +275,28 @@ module _ (cell : Cell) (d : Documents) (rank : Ranking) where
     phases-offered l p asked (sel cs) c = phases-offered_choices l p asked 0 cs c.1
     phases-offered l p asked (loop n q t) c = phases-offered l (child p 0) asked t c.1
 
-    phases-offered_each : (l : Level) (p : Place) (asked : List Name) (i : ℕ) (ts : Trees) → Each Clear (parts_of_each l p asked i ts) → Each (IsOfferedPhase d) (phases_of_each ts)
+    phases-offered_each : (l : Level) (p : Place) (asked : List Name) (i : ℕ) (ts : Trees) → Each Clear (parts_of_each l p asked i ts) → Each (IsOfferedPhase setup) (phases_of_each ts)
     phases-offered_each l p asked i no_trees c = tt
     phases-offered_each l p asked i (tree t ts) c =
-        Each-append (IsOfferedPhase d) (phases t) (phases_of_each ts)
+        Each-append (IsOfferedPhase setup) (phases t) (phases_of_each ts)
         (phases-offered l (child p i) asked t (Each-left Clear (parts l (child p i) asked t) (parts_of_each l p asked (i + 1) ts) c))
         (phases-offered_each l p asked (i + 1) ts (Each-right Clear (parts l (child p i) asked t) (parts_of_each l p asked (i + 1) ts) c))
 
-    phases-offered_choices : (l : Level) (p : Place) (asked : List Name) (i : ℕ) (cs : Choices) → Each Clear (parts_of_choices l p asked i cs) → Each (IsOfferedPhase d) (phases_of_choices cs)
+    phases-offered_choices : (l : Level) (p : Place) (asked : List Name) (i : ℕ) (cs : Choices) → Each Clear (parts_of_choices l p asked i cs) → Each (IsOfferedPhase setup) (phases_of_choices cs)
     phases-offered_choices l p asked i (otherwise t) c = phases-offered l (child p i) asked t c
     phases-offered_choices l p asked i (choice q t cs) c =
-        Each-append (IsOfferedPhase d) (phases t) (phases_of_choices cs)
+        Each-append (IsOfferedPhase setup) (phases t) (phases_of_choices cs)
         (phases-offered l (child p i) asked t (Each-left Clear (parts l (child p i) asked t) (parts_of_choices l p asked (i + 1) cs) c))
         (phases-offered_choices l p asked (i + 1) cs (Each-right Clear (parts l (child p i) asked t) (parts_of_choices l p asked (i + 1) cs) c))
 
   abbrev HasOneUser : Phase → Type 0
-  HasOneUser x = d.capacity x.unit ≡ 1
+  HasOneUser x = setup.capacity x.unit ≡ 1
 
-  module _ (exclusive : (unit : Name) → IsTrue (is_among cell.units unit) → d.capacity unit ≡ 1) where
-    one-user-below : (own : Name) (xs : List Phase) → IsTrue (is_among cell.units own) → Each (RunsOn own) xs → Each HasOneUser xs
-    one-user-below own xs u h = Each-map (RunsOn own) HasOneUser (λ x e. ap d.capacity e ∙ exclusive own u) xs h
+  module _ (exclusive : (unit : Name) → IsTrue (is_among setup.units unit) → setup.capacity unit ≡ 1) where
+    one-user-below : (own : Name) (xs : List Phase) → IsTrue (is_among setup.units own) → Each (RunsOn own) xs → Each HasOneUser xs
+    one-user-below own xs u h = Each-map (RunsOn own) HasOneUser (λ x e. ap setup.capacity e ∙ exclusive own u) xs h
 
-    one-user_act : (unit : Name) (needs : List Need) (w : Task) → IsActOf in_procedure unit needs w → BeginsWithUnit cell needs → Each HasOneUser (phases_within w)
+    one-user_act : (unit : Name) (needs : List Need) (w : Task) → IsActOf in_procedure unit needs w → BeginsWithUnit setup.units needs → Each HasOneUser (phases_within w)
     one-user_act unit [] (runs x) h u = absurd h
     one-user_act unit (own ∷ needs) (runs x) h u = absurd h
     one-user_act unit [] (follows name t) h u = absurd h
@@ -352,7 +352,7 @@ module _ (cell : Cell) (d : Documents) (rank : Ranking) where
     abbrev AsksInOrder : Node → Type 0
     AsksInOrder n = RiseStrictly rank n.asked
 
-    recipe-down : (r : Recipe) → IsProcedure r.procedure → IsClearedRecipe cell d rank r → IsClearedDown d rank r
+    recipe-down : (r : Recipe) → IsProcedure r.procedure → IsClearedRecipe setup rank r → IsClearedDown setup rank r
     recipe-down r h c =
         record {
           placed = h.placed;
@@ -365,9 +365,9 @@ module _ (cell : Cell) (d : Documents) (rank : Ranking) where
           single = whole-one-user r.procedure h.levels c;
         }
 
-    recipes-down : (rs : List Recipe) → Each (λ r. IsProcedure r.procedure) rs → Each (IsClearedRecipe cell d rank) rs → Each (IsClearedDown d rank) rs
+    recipes-down : (rs : List Recipe) → Each (λ r. IsProcedure r.procedure) rs → Each (IsClearedRecipe setup rank) rs → Each (IsClearedDown setup rank) rs
     recipes-down [] h c = tt
     recipes-down (r ∷ rs) h c = (recipe-down r h.0 c.0, recipes-down rs h.1 c.1)
 
-pub cleared-down : (cell : Cell) (d : Documents) (rank : Ranking) → AreDocuments cell d → IsCleared cell d rank → AreClearedDown d rank
-cleared-down cell d rank h c = record { recipes = recipes-down cell d rank h.exclusive d.recipes h.procedures c.recipes }
+pub cleared-down : (setup : Setup) (rank : Ranking) → IsOfDocuments setup → IsCleared setup rank → AreClearedDown setup rank
+cleared-down setup rank h c = record { recipes = recipes-down setup rank h.exclusive setup.recipes h.procedures c.recipes }

@@ -3,6 +3,7 @@ use Rattle.std.proofs.Common.{◌≡◌, refl, sym, ◌∙◌, ap, ap₂, subst,
 use Rattle.std.proofs.lemmas.List.Sums.{sum_by-append, sum_by-cons}
 use Rattle.std.proofs.lemmas.Slice.Eq.{bytes_eq-Decides}
 use Rattle.std.proofs.lemmas.Grind.{flat_map-append}
+use Rattle.std.proofs.lemmas.Bool.{and_parts}
 use Rattle.batch_model.specs.Lists.{Has}
 use Rattle.batch_recipe.specs.Conditions.{Name}
 use Rattle.batch_model.specs.Plant.{BatchAct, Share, units_in, is_same_act}
@@ -30,11 +31,6 @@ name_self r = (bytes_eq-Decides r r).1 refl
 pub name_same : (q r : Name) → bytes_eq q r ≡ true → q ≡ r
 name_same q r e = (bytes_eq-Decides q r).0 e
 
-both : (a b : Bool) → (a && b) ≡ true → (a ≡ true) × (b ≡ true)
-both true true e = (refl, refl)
-both true false e = absurd cc
-both false b e = absurd cc
-
 and-true : (a b : Bool) → a ≡ true → b ≡ true → (a && b) ≡ true
 and-true true true e f = refl
 and-true true false e f = absurd cc
@@ -42,7 +38,7 @@ and-true false b e f = absurd cc
 
 pub same_act : (a b : BatchAct) → is_same_act a b ≡ true → a ≡ b
 same_act a b e =
-    let h : (nat_eq a.0 b.0 ≡ true) × (bytes_eq a.1 b.1 ≡ true) = both (nat_eq a.0 b.0) (bytes_eq a.1 b.1) e in
+    let h : (nat_eq a.0 b.0 ≡ true) × (bytes_eq a.1 b.1 ≡ true) = and_parts (nat_eq a.0 b.0) (bytes_eq a.1 b.1) e in
     ap₂ (λ x y. let z : BatchAct = (x, y) in z) (nat_same a.0 b.0 h.0) (name_same a.1 b.1 h.1)
 
 pub act_self : (a : BatchAct) → is_same_act a a ≡ true

@@ -9,7 +9,7 @@ use Rattle.batch_model.specs.Lists.{Has}
 use Rattle.batch_recipe.specs.Conditions.{Name, ValueList}
 use Rattle.batch_recipe.specs.Tree.{Place, Phase}
 use Rattle.batch_model.specs.Rest.{withdrawn}
-use Rattle.batch_model.specs.Plant.{Recipe, Documents, Batch, BatchAct, Share, units_in, Plant, in_batch}
+use Rattle.batch_model.specs.Plant.{Recipe, Setup, Batch, BatchAct, Share, units_in, Plant, in_batch}
 use Rattle.batch_recipe.specs.Values.{with_outputs_zero}
 use Rattle.batch_model.specs.Events.{Refusal, created, ordered, removed, refused, command_not_accepted, not_idle, Answer, new_batch, with_batch, reset, stopped, commanded, lines_under, ordering, without_batch, removing}
 use Rattle.batch_model.specs.Runs.{Out, reply}
@@ -34,7 +34,7 @@ use Rattle.batch_recipe.specs.declared.need.Need.{Need}
 
 -- Answers: the record with the reply, and the plant
 
-abbrev pub Answered : Documents → Ranking → List Out → Answer → Type 0
+abbrev pub Answered : Setup → Ranking → List Out → Answer → Type 0
 Answered d rank outs a = IsKept d rank (outs ++ reply a.0 ∷ []) a.1
 
 pub find-Has : {X : Type 0} (p : X → Bool) (xs : List X) (x : X) → find p xs ≡ Some x → Has xs x × (p x ≡ true)
@@ -46,7 +46,7 @@ find-Has p (y ∷ xs) x e = go (p y) refl e (find-Has p xs x)
     go false q f h = let w = h f in (inr w.0, w.1)
 
 -- a refusal changes nothing
-pub kept-refused : (d : Documents) (rank : Ranking) (outs : List Out) (s : Plant) (x : Refusal) → IsKept d rank outs s → IsKept d rank (outs ++ reply (refused x) ∷ []) s
+pub kept-refused : (d : Setup) (rank : Ranking) (outs : List Out) (s : Plant) (x : Refusal) → IsKept d rank outs s → IsKept d rank (outs ++ reply (refused x) ∷ []) s
 kept-refused d rank outs s x k =
     let o : Out = reply (refused x) in
     record {
@@ -68,7 +68,7 @@ entries-append : (bs cs : List Batch) → entries (bs ++ cs) ≡ entries bs ++ e
 entries-append [] cs = refl
 entries-append (b ∷ bs) cs = ap (λ z. entries_of b ++ z) (entries-append bs cs) ∙ sym (Rattle.std.proofs.Common.append_assoc (entries_of b) (entries bs) (entries cs))
 
-pub kept-created : (d : Documents) (rank : Ranking) (outs : List Out) (s : Plant) (r : Recipe) (name : Name) (size : ℕ) (vs : ValueList) → IsClearedDown d rank r → IsStanding d s → IsKept d rank outs s
+pub kept-created : (d : Setup) (rank : Ranking) (outs : List Out) (s : Plant) (r : Recipe) (name : Name) (size : ℕ) (vs : ValueList) → IsClearedDown d rank r → IsStanding d s → IsKept d rank outs s
     → IsKept d rank (outs ++ reply (created s.next_number name size) ∷ []) (with_batch s r size vs)
 kept-created d rank outs s r name size vs cleared sd k =
     let o : Out = reply (created s.next_number name size) in
@@ -110,7 +110,7 @@ entries-without n (b ∷ bs) h = go (nat_eq b.number n) refl (entries-without n 
     go true e f = f ∙ ap (λ z. map (entry b.number) z ++ entries bs) (sym (h b (inl refl) (nat_same b.number n e)))
     go false e f = ap (λ z. entries_of b ++ z) f
 
-kept-removed : (d : Documents) (rank : Ranking) (outs : List Out) (s : Plant) (b : Batch) → Has s.batches b → b.state ≡ Idle → IsStanding d s → IsKept d rank outs s
+kept-removed : (d : Setup) (rank : Ranking) (outs : List Out) (s : Plant) (b : Batch) → Has s.batches b → b.state ≡ Idle → IsStanding d s → IsKept d rank outs s
     → IsKept d rank (outs ++ reply (removed b.number) ∷ []) (without_batch b.number s)
 kept-removed d rank outs s b i idle sd k =
     let o : Out = reply (removed b.number) in
@@ -168,7 +168,7 @@ holders-only q n g (c ∷ bs) f =
     ∙ ap₂ (λ xs ys. xs ++ ys) (f c (inl refl)) (holders-only q n g bs (λ e h. f e (inr h)))
     ∙ sym (holders-append q (entries_of c) (entries bs))
 
-module _ (d : Documents) (rank : Ranking) (outs : List Out) (s : Plant) (sd : IsStanding d s) (k : IsKept d rank outs s) (b : Batch) (i : Has s.batches b) where
+module _ (d : Setup) (rank : Ranking) (outs : List Out) (s : Plant) (sd : IsStanding d s) (k : IsKept d rank outs s) (b : Batch) (i : Has s.batches b) where
   sound-b : IsSound d rank b
   sound-b = k.sound b i
 

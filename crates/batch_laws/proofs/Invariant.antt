@@ -5,7 +5,7 @@ use Rattle.batch_matrix.specs.declared.state.State.TheVariants.{Idle, Running, P
 use Rattle.batch_model.specs.Lists.{Has}
 use Rattle.batch_recipe.specs.Conditions.{Name}
 use Rattle.batch_recipe.specs.Tree.{Place, Phase}
-use Rattle.batch_model.specs.Plant.{Documents, Batch, BatchAct, Share, units_in, Plant}
+use Rattle.batch_model.specs.Plant.{Setup, Batch, BatchAct, Share, units_in, Plant}
 use Rattle.batch_model.specs.Moves.{is_running}
 use Rattle.batch_model.specs.Runs.{Out}
 use Rattle.batch_model.specs.Records.{holders_told, waiters_told, Active, active_told, state_told, IsAtRest}
@@ -37,12 +37,12 @@ IsFitting Held es = Unit {0}
 IsFitting Restarting es = Unit {0}
 
 -- a batch of a cleared recipe, whose facts fit its state
-pub record IsSound (d : Documents) (rank : Ranking) (b : Batch) : Type 0 where
+pub record IsSound (d : Setup) (rank : Ranking) (b : Batch) : Type 0 where
   pub cleared : IsClearedDown d rank b.recipe
   pub fits : IsFitting b.state (facts b.rest)
 
 -- the record so far tells the plant's facts, and these are in order
-pub record IsKept (d : Documents) (rank : Ranking) (outs : List Out) (s : Plant) : Type 0 where
+pub record IsKept (d : Setup) (rank : Ranking) (outs : List Out) (s : Plant) : Type 0 where
   pub sound : (b : Batch) → Has s.batches b → IsSound d rank b
   pub held : (q : Name) → Agrees (holders_told outs q) (holders_among q (entries s.batches))
   pub within : (q : Name) → units_in (holders_among q (entries s.batches)) ≤ d.capacity q
@@ -56,7 +56,7 @@ pub record IsKept (d : Documents) (rank : Ranking) (outs : List Out) (s : Plant)
 
 -- of a plant that stands
 
-pub standing-of : (d : Documents) (s : Plant) → IsStanding d s → (b : Batch) → Has s.batches b → IsStandingBatch d b
+pub standing-of : (d : Setup) (s : Plant) → IsStanding d s → (b : Batch) → Has s.batches b → IsStandingBatch d b
 standing-of d s sd b i = Each-Has (IsStandingBatch d) s.batches b sd.batches i
 
 differ : (next : ℕ) (bs : List Batch) → AreNumbered next bs → NumbersDiffer next bs
@@ -67,7 +67,7 @@ differ next (b ∷ bs) h = (
   differ next bs h.2,
 )
 
-pub numbers-of : (d : Documents) (s : Plant) → IsStanding d s → NumbersDiffer s.next_number s.batches
+pub numbers-of : (d : Setup) (s : Plant) → IsStanding d s → NumbersDiffer s.next_number s.batches
 numbers-of d s sd = differ s.next_number s.batches sd.numbers
 
 pub no_members : (es : List Standing) → ((e : Standing) → Has es e → ⊥) → es ≡ []

@@ -6,7 +6,7 @@ use Rattle.batch_model.specs.Lists.{Has}
 use Rattle.batch_recipe.specs.Conditions.{Name, ValueList}
 use Rattle.batch_recipe.specs.Tree.{Place, Phase}
 use Rattle.batch_model.specs.Rest.{Rest, acts}
-use Rattle.batch_model.specs.Plant.{Documents, Batch, BatchAct, Share, units_in, Plant, place_of, is_same_act}
+use Rattle.batch_model.specs.Plant.{Setup, Batch, BatchAct, Share, units_in, Plant, place_of, is_same_act}
 use Rattle.batch_model.specs.Moves.{start, ask, grant, release, line_after, is_running}
 use Rattle.batch_model.specs.Events.{reported}
 use Rattle.batch_model.specs.Runs.{Out, move, reply}
@@ -76,7 +76,7 @@ tail-asked n p r q a (inr e) = absurd e
 abbrev pub TellsState : Out → ℕ → State → State → Type 0
 TellsState o n was is = ((m : ℕ) (old : Option State) → (m ≡ n → ⊥) → state_after m old o ≡ old) × (state_after n (Some was) o ≡ Some is)
 
-module _ (d : Documents) (rank : Ranking) (outs : List Out) (s : Plant) (sd : IsStanding d s) (k : IsKept d rank outs s) (b : Batch) (i : Has s.batches b) where
+module _ (d : Setup) (rank : Ranking) (outs : List Out) (s : Plant) (sd : IsStanding d s) (k : IsKept d rank outs s) (b : Batch) (i : Has s.batches b) where
   -- no facts change
   pub kept-quiet : (o : Out) (g : Batch → Batch) → (g b).number ≡ b.number → IsSound d rank (g b) → facts (g b).rest ≡ facts b.rest → TellsState o b.number b.state (g b).state
       → ((q : Name) (hs : List Share) → holders_after q hs o ≡ hs) → ((q : Name) (ws : List Share) → waiters_after q ws o ≡ ws) → ((xs : List Active) → active_after xs o ≡ xs)

@@ -1,5 +1,6 @@
 -- The expanded tree of a recipe has the levels of a procedure.
 use Rattle.std.proofs.Common.{◌≡◌, refl, ap, ℕ, ◌+◌, List, [], ◌∷◌, Bool, true, false, ◌&&◌, not, Option, Some, None, inl, inr}
+use Rattle.std.proofs.lemmas.Bool.{and_parts}
 use Rattle.std.specs.List.{list_all}
 use Rattle.batch_recipe.specs.Conditions.{Name}
 use Rattle.batch_recipe.specs.Diagram as chart
@@ -16,18 +17,14 @@ use Rattle.batch_recipe.specs.declared.acts.Level.TheVariants.{UnitProcedures}
 use Rattle.batch_model.specs.Lists.{Has}
 use Rattle.batch_model.specs.Cleared.{Level, in_procedure, in_unit_procedure, in_operation}
 use Rattle.batch_model.proofs.Members.{find-Has}
-use Rattle.batch_model.proofs.Placed.{procedure_tree-IsPlaced}
+use Rattle.batch_machine.proofs.Placed.{procedure_tree-IsPlaced}
 use Rattle.batch_laws.specs.Procedures.{AllowsPar, IsOfLevel, IsActOf, AreOfLevel, AreChoicesOf, HasLevels, TreesAreProcedures, RecipesAreProcedures}
 use Rattle.batch_recipe.specs.declared.need.Need.{Need}
-
-both : (a b : Bool) → (a && b) ≡ true → (a ≡ true) × (b ≡ true)
-both true b e = (refl, e)
-both false b e = absurd cc
 
 list_all-Has : (p : Act → Bool) (xs : List Act) → list_all p xs ≡ true → (x : Act) → Has xs x → p x ≡ true
 list_all-Has p [] e x h = absurd h
 list_all-Has p (y ∷ ys) e x h =
-    let k = both (p y) (list_all p ys) e in
+    let k = and_parts (p y) (list_all p ys) e in
     elim h [ inl q ↦ let f : p y ≡ p x = ap p q in let g : p y ≡ true = k.0 in cc | inr m ↦ list_all-Has p ys k.1 x m ]
 
 -- Charts
@@ -143,17 +140,17 @@ module _ (steps : List Act) (kinds : list_all (λ s. not (has_unit s) && not (ha
 
 pub trees_are_procedures : TreesAreProcedures
 trees_are_procedures acts values kinds formed =
-    let procedure_kind = both (not (has_unit acts.procedure) && has_chart acts.procedure) _ kinds in
-    let unit_kind = both (list_all (λ u. has_unit u && has_chart u) acts.unit_procedures.items) _ procedure_kind.1 in
-    let kind = both (list_all (λ o. not (has_unit o) && has_chart o) acts.operations.items) _ unit_kind.1 in
-    let work = both (is_work (act_names acts.unit_procedures.items) values acts.procedure) _ (both _ _ formed).1 in
-    let unit_work = both (list_all (λ u. is_work (act_names acts.operations.items) values u && follows_no_par u) acts.unit_procedures.items) _ work.1 in
+    let procedure_kind = and_parts (not (has_unit acts.procedure) && has_chart acts.procedure) _ kinds in
+    let unit_kind = and_parts (list_all (λ u. has_unit u && has_chart u) acts.unit_procedures.items) _ procedure_kind.1 in
+    let kind = and_parts (list_all (λ o. not (has_unit o) && has_chart o) acts.operations.items) _ unit_kind.1 in
+    let work = and_parts (is_work (act_names acts.unit_procedures.items) values acts.procedure) _ (and_parts _ _ formed).1 in
+    let unit_work = and_parts (list_all (λ u. is_work (act_names acts.operations.items) values u && follows_no_par u) acts.unit_procedures.items) _ work.1 in
     record {
       placed = procedure_tree-IsPlaced acts;
       levels =
           procedure-level (named_tree (tables_from acts (Some UnitProcedures)))
           (unit_procedures-level acts.phases.items kind.1 acts.operations.items kind.0 acts.unit_procedures.items unit_kind.0
-          (λ u h. (both (is_work (act_names acts.operations.items) values u) (follows_no_par u)
+          (λ u h. (and_parts (is_work (act_names acts.operations.items) values u) (follows_no_par u)
           (list_all-Has (λ u. is_work (act_names acts.operations.items) values u && follows_no_par u) acts.unit_procedures.items unit_work.0 u h)).1))
           acts.procedure (0 ∷ []) acts.procedure.unit acts.procedure.work procedure_kind.0;
     }

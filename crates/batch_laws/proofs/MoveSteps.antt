@@ -1,6 +1,7 @@
 -- Each move keeps what is kept.
 use Rattle.std.proofs.Common.{◌≡◌, ⊎_elim, refl, sym, ◌∙◌, ap, subst, ℕ, zero, suc, pred, ◌<◌, ◌≤◌, ◌+◌, nat_le, arith, List, [], ◌∷◌, ◌++◌, Bool, true, false, ◌&&◌, ◌||◌, take, slice_get, Option, Some, None, inl, length, append-nil}
 use Rattle.std.proofs.lemmas.List.{map-append}
+use Rattle.std.proofs.lemmas.Bool.{and_parts}
 use Rattle.batch_matrix.specs.declared.state.State.{State}
 use Rattle.batch_matrix.specs.declared.command.Command.{Command}
 use Rattle.batch_matrix.specs.Matrix.{accepts}
@@ -8,7 +9,7 @@ use Rattle.batch_model.specs.Lists.{Has}
 use Rattle.batch_recipe.specs.Conditions.{Name, ValueList}
 use Rattle.batch_recipe.specs.Tree.{Place, Step, Phase, Task, runs, follows, Tree}
 use Rattle.batch_model.specs.Rest.{Rest, ready, asking, open_act, live, freeing, in_seq, in_par, in_loop, done, is_done, acts}
-use Rattle.batch_model.specs.Plant.{Documents, Batch, units_in, Plant, in_act, place_of, held_in, holders}
+use Rattle.batch_model.specs.Plant.{Setup, Batch, units_in, Plant, in_act, place_of, held_in, holders}
 use Rattle.batch_model.specs.Moves.{Move, send, release, begin, start, end, ask, grant, is_running, is_stopping, is_stopped, is_quiet, is_empty, passed_on, entering, giving_back, when, is_served, act_move, freed, sent, released, begun, ended, asked, granted, batch_after, after, handed_values}
 use Rattle.batch_model.specs.Runs.{Out, move}
 use Rattle.batch_model.specs.Records.{StartsIdle}
@@ -56,13 +57,8 @@ pub freed-facts : (s : Step) (k : ℕ) → facts (freed s k) ≡ held_at s.place
 freed-facts s zero = refl
 freed-facts s (suc k) = refl
 
-both : (a b : Bool) → (a && b) ≡ true → (a ≡ true) × (b ≡ true)
-both true true e = (refl, refl)
-both true false e = absurd cc
-both false b e = absurd cc
-
 -- what a move must bring about
-abbrev pub Stepped : Documents → Ranking → List Out → Plant → Move → Type 0
+abbrev pub Stepped : Setup → Ranking → List Out → Plant → Move → Type 0
 Stepped d rank outs s m = IsKept d rank (outs ++ move m ∷ []) (after s m) × StartsIdle d (outs ++ move m ∷ [])
 
 some_move : (m l : Move) → ◌≡◌ {A = Option Move} (Some m) (Some l) → m ≡ l
@@ -71,7 +67,7 @@ some_move m l e = cc
 no_move : (l : Move) → ◌≡◌ {A = Option Move} None (Some l) → ⊥
 no_move l e = cc
 
-module _ (d : Documents) (rank : Ranking) (outs : List Out) (s : Plant) (sd : IsStanding d s) (k : IsKept d rank outs s) (b : Batch) (i : Has s.batches b) where
+module _ (d : Setup) (rank : Ranking) (outs : List Out) (s : Plant) (sd : IsStanding d s) (k : IsKept d rank outs s) (b : Batch) (i : Has s.batches b) where
   fine : IsSound d rank b
   fine = k.sound b i
 
@@ -186,7 +182,7 @@ module _ (d : Documents) (rank : Ranking) (outs : List Out) (s : Plant) (sd : Is
       let ch = change a m granted refl in
       let was : facts a ≡ held_at p.place (take n p.needs) ++ (p.place, awaiting r) ∷ [] = ap (λ z. held_at p.place (take n p.needs) ++ awaited_at p.place z) e in
       let room : nat_le (units_in (holders s r.resource) + r.units) (d.capacity r.resource) ≡ true
-      = (both (nat_le (units_in (holders s r.resource) + r.units) (d.capacity r.resource)) _ served).0 in
+      = (and_parts (nat_le (units_in (holders s r.resource) + r.units) (d.capacity r.resource)) _ served).0 in
       let same : units_in (holders s r.resource) ≡ units_in (holders_among r.resource (entries s.batches)) = ap (λ z. units_in z) (holders-entries s r.resource) in (
         kept-granted d rank outs s sd k b i a j (batch_after m) granted b.values ch (take n p.needs) r
             (record { was = was; is = held-next p.place n p.needs r e })
@@ -281,8 +277,8 @@ module _ (d : Documents) (rank : Ranking) (outs : List Out) (s : Plant) (sd : Is
       back : (t : Bool) → (is_stopping b.state && is_quiet b.rest && is_empty (held_in r)) ≡ t
           → ◌≡◌ {A = Option Move} (elim t [ true ↦ giving_back b p (length p.needs) | false ↦ None ]) (Some m) → Stepped d rank outs s m
       back true q f =
-          let one = both (is_stopping b.state && is_quiet b.rest) (is_empty (held_in r)) q in
-          let two = both (is_stopping b.state) (is_quiet b.rest) one.0 in
+          let one = and_parts (is_stopping b.state && is_quiet b.rest) (is_empty (held_in r)) q in
+          let two = and_parts (is_stopping b.state) (is_quiet b.rest) one.0 in
           let none : facts r ≡ [] = nothing_below p r j two.0 two.1 one.1 in
           given_back (open_act p r) j p (length p.needs) m refl refl
           (λ l x g h. ap (λ z. held_at p.place p.needs ++ z) none ∙ append-nil (held_at p.place p.needs) ∙ ap (held_at p.place) (sym (take-length p.needs)) ∙ ap (λ z. held_at p.place (take z p.needs)) g)

@@ -1,17 +1,18 @@
 -- The next move keeps what is kept.
 use Rattle.std.proofs.Common.{◌≡◌, refl, sym, subst, ℕ, List, [], ◌∷◌, Bool, true, false, ◌&&◌, Option, Some, None, inl, inr, nat_eq, filter_map}
+use Rattle.std.proofs.lemmas.Bool.{and_parts}
 use Rattle.batch_matrix.specs.declared.state.State.{State}
 use Rattle.batch_matrix.specs.declared.state.State.TheVariants.{Idle, Running, Pausing, Paused, Holding, Held, Restarting, Stopping, Stopped, Aborting, Aborted, Complete}
 use Rattle.batch_matrix.specs.Matrix.{ends_as}
 use Rattle.batch_model.specs.Lists.{Has}
 use Rattle.batch_recipe.specs.Tree.{Place}
 use Rattle.batch_model.specs.Rest.{Rest, acts}
-use Rattle.batch_model.specs.Plant.{Documents, Batch, Plant, held_in}
+use Rattle.batch_model.specs.Plant.{Setup, Batch, Plant, held_in}
 use Rattle.batch_model.specs.Moves.{after, Move, state, is_quiet, is_empty, is_reached, act_move, state_move, batch_moves, next, batch_after}
 use Rattle.batch_model.specs.Runs.{Out, move}
 use Rattle.batch_laws.proofs.Facts.{Standing, facts}
 use Rattle.batch_model.specs.Cleared.{Ranking}
-use Rattle.batch_model.proofs.Falling.{next-possible}
+use Rattle.batch_machine.proofs.Falling.{next-possible}
 use Rattle.batch_model.proofs.Members.{Has-filter_map, Has-flat_map}
 use Rattle.batch_laws.proofs.Reaching.{done-facts}
 use Rattle.batch_laws.proofs.Entries.{nat_self, nat_differs}
@@ -39,17 +40,12 @@ tells-own n new old = go (nat_eq n n) (nat_self n)
     go true e = refl
     go false e = absurd cc
 
-both : (a b : Bool) → (a && b) ≡ true → (a ≡ true) × (b ≡ true)
-both true true e = (refl, refl)
-both true false e = absurd cc
-both false b e = absurd cc
-
 same_some : (x y : State) → ◌≡◌ {A = Option State} (Some x) (Some y) → x ≡ y
 same_some x y e = cc
 
 nothing_left : (r : Rest) → (is_quiet r && is_empty (held_in r)) ≡ true → ((p : Place) (x : _) → Has (facts r) (p, Rattle.batch_laws.proofs.Facts.awaiting x) → ⊥) → facts r ≡ []
 nothing_left r e h =
-    let q = both (is_quiet r) (is_empty (held_in r)) e in
+    let q = and_parts (is_quiet r) (is_empty (held_in r)) e in
     no_facts (facts r) h (quiet-performs_nothing r q.0) (holding-nothing r q.1)
 
 -- what a state ends as fits what it waited for
@@ -73,7 +69,7 @@ some_move m l e = cc
 no_move : (l : Move) → ◌≡◌ {A = Option Move} None (Some l) → ⊥
 no_move l e = cc
 
-module _ (d : Documents) (rank : Ranking) (outs : List Out) (s : Plant) (sd : IsStanding d s) (k : IsKept d rank outs s) where
+module _ (d : Setup) (rank : Ranking) (outs : List Out) (s : Plant) (sd : IsStanding d s) (k : IsKept d rank outs s) where
   state-step : (b : Batch) → Has s.batches b → (m : Move) → state_move b ≡ Some m → Stepped d rank outs s m
   state-step b i m e = go (is_reached b.state b.rest) refl e
     where

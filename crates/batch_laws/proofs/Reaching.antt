@@ -1,6 +1,7 @@
 -- Reaching a chart and advancing change no facts; withdrawing takes the asks away.
 use Rattle.std.proofs.Common.{◌≡◌, refl, sym, ◌∙◌, ap, ap₂, ℕ, zero, suc, pred, List, [], ◌∷◌, ◌++◌, Bool, true, false, ◌&&◌, filter, take, slice_get, Option, Some, None, append-nil}
 use Rattle.std.proofs.lemmas.List.Elements.{filter-append}
+use Rattle.std.proofs.lemmas.Bool.{and_parts}
 use Rattle.batch_recipe.specs.Conditions.{ValueList, holds}
 use Rattle.batch_recipe.specs.declared.condition.Cond.{Cond}
 use Rattle.batch_recipe.specs.Tree.{Place, Tree, act, skip, seq, par, sel, loop, Trees, no_trees, tree, Choices, otherwise, choice}
@@ -19,15 +20,10 @@ done-facts (in_seq r cs) e = absurd cc
 done-facts (in_par rs) e = absurd cc
 done-facts (in_loop n c body r) e = absurd cc
 
-both : (a b : Bool) → (a && b) ≡ true → (a ≡ true) × (b ≡ true)
-both true true e = (refl, refl)
-both true false e = absurd cc
-both false b e = absurd cc
-
 all_done-facts : (rs : Rests) → all_done rs ≡ true → facts_of_each rs ≡ []
 all_done-facts no_rests e = refl
 all_done-facts (rest r rs) e =
-    let h : (is_done r ≡ true) × (all_done rs ≡ true) = both (is_done r) (all_done rs) e in
+    let h : (is_done r ≡ true) × (all_done rs ≡ true) = and_parts (is_done r) (all_done rs) e in
     ap (λ xs. xs ++ facts_of_each rs) (done-facts r h.0) ∙ all_done-facts rs h.1
 
 joined-facts : (rs : Rests) → facts (joined rs) ≡ facts_of_each rs

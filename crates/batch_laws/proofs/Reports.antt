@@ -11,10 +11,10 @@ use Rattle.batch_model.specs.Lists.{Has}
 use Rattle.batch_recipe.specs.Conditions.{Name, ValueList}
 use Rattle.batch_recipe.specs.Tree.{Place, Phase, Step}
 use Rattle.batch_model.specs.Rest.{Rest, ready, asking, open_act, live, freeing, in_seq, in_par, in_loop, done, acts}
-use Rattle.batch_model.specs.Plant.{Formula, size_out_of_range, value_out_of_range, scaled, Recipe, Documents, Batch, BatchAct, Plant, batch_at, in_batch, in_act, place_of}
+use Rattle.batch_model.specs.Plant.{Formula, size_out_of_range, value_out_of_range, scaled, Recipe, Setup, Batch, BatchAct, Plant, batch_at, in_batch, in_act, place_of}
 use Rattle.batch_model.specs.Moves.{Move, ended, next}
 use Rattle.batch_recipe.specs.Values.{with_values, are_outputs}
-use Rattle.batch_model.specs.Events.{Event, create, order, remove, report, Reply, reported, refused, unknown_recipe, unknown_batch, no_live_phase, report_not_expected, bad_output, bad_size, bad_value, full, moves_pending, no_memory, is_full, creating, ordering, removing, LivePhase, live_in, live_phase, now, batch_state_after, batch_reported, reporting, judged, react}
+use Rattle.batch_model.specs.Events.{Event, create, order, remove, report, Reply, reported, refused, unknown_recipe, unknown_batch, no_live_phase, report_not_expected, bad_output, bad_size, bad_value, full, moves_pending, no_memory, is_full, creating, ordering, removing, LivePhase, live_in, live_phase, now, batch_state_after, outputs_of, batch_reported, reporting, judged, react}
 use Rattle.batch_model.specs.Runs.{Out, reply, Reacts}
 use Rattle.batch_model.specs.Records.{Active, active_after, ends_phase}
 use Rattle.batch_laws.proofs.Facts.{Standing, held_at, facts}
@@ -240,7 +240,7 @@ not_ending word unit name n p x xs e = go (ends_phase word) e
     go true q = absurd cc
     go false q = refl
 
-module _ (d : Documents) (rank : Ranking) (outs : List Out) (s : Plant) (sd : IsStanding d s) (k : IsKept d rank outs s) (b : Batch) (i : Has s.batches b)
+module _ (d : Setup) (rank : Ranking) (outs : List Out) (s : Plant) (sd : IsStanding d s) (k : IsKept d rank outs s) (b : Batch) (i : Has s.batches b)
     (unit name : Name) (word : Report) (outputs : ValueList) (p : Step) (x : Phase) (t : State) (j : Has (acts b.rest) (live p x t)) where
   abbrev then_state : State
   then_state = batch_state_after word b.state
@@ -276,7 +276,7 @@ module _ (d : Documents) (rank : Ranking) (outs : List Out) (s : Plant) (sd : Is
   reported-step Same q =
       kept-reported Same (λ r. r) (record { number = refl; recipe = refl; goes_on = refl }) refl (same-word t word q)
 
-module _ (d : Documents) (rank : Ranking) (cleared : AreClearedDown d rank) (outs : List Out) (s : Plant) (sd : IsStanding d s) (k : IsKept d rank outs s) where
+module _ (d : Setup) (rank : Ranking) (cleared : AreClearedDown d rank) (outs : List Out) (s : Plant) (sd : IsStanding d s) (k : IsKept d rank outs s) where
   reporting-step : (unit name : Name) (word : Report) (outputs : ValueList) (b : Batch) → Has s.batches b → (l : LivePhase) → IsFound b (acts b.rest) l
       → Answered d rank outs (reporting s unit name word outputs l)
   reporting-step unit name word outputs b i l h = go (after_report l.state word) refl
@@ -339,9 +339,9 @@ module _ (d : Documents) (rank : Ranking) (cleared : AreClearedDown d rank) (out
   judged-step (report unit name word outputs) = go (live_phase s.batches unit name) refl
     where
       go : (o : Option LivePhase) → live_phase s.batches unit name ≡ o
-          → Answered d rank outs (elim o [ None ↦ (refused no_live_phase, s) | Some l ↦ reporting s unit name word outputs l ])
+          → Answered d rank outs (elim o [ None ↦ (refused no_live_phase, s) | Some l ↦ reporting s unit name word (outputs_of word outputs) l ])
       go None q = kept-refused d rank outs s no_live_phase k
-      go (Some l) q = let m = live_phase-found s.batches unit name l q in reporting-step unit name word outputs m.0 m.1 l m.2
+      go (Some l) q = let m = live_phase-found s.batches unit name l q in reporting-step unit name word (outputs_of word outputs) m.0 m.1 l m.2
 
   react-step : (e : Event) → Answered d rank outs (react d s e)
   react-step e = go (next d s)

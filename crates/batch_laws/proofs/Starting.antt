@@ -4,7 +4,7 @@ use Rattle.batch_laws.proofs.Units as units
 use Rattle.batch_model.specs.Lists.{Has, Each}
 use Rattle.batch_recipe.specs.Conditions.{Name, ValueList}
 use Rattle.batch_recipe.specs.Tree.{Place, Phase}
-use Rattle.batch_model.specs.Plant.{Documents, Batch, BatchAct, Share, units_in, Plant}
+use Rattle.batch_model.specs.Plant.{Setup, Batch, BatchAct, Share, units_in, Plant}
 use Rattle.batch_model.specs.Moves.{start}
 use Rattle.batch_model.specs.Runs.{Out, move}
 use Rattle.batch_model.specs.Records.{active_told, StartsIdle, IsOnUnit}
@@ -37,7 +37,7 @@ same-last (z ∷ xs) (w ∷ ys) x y e =
     (ap₂ (λ a as'. a ∷ as') h k.0, k.1)
 
 -- a line that starts no phase
-pub starts-nothing : (d : Documents) (outs : List Out) (o : Out) → ((n : ℕ) (p : Place) (x : Phase) (vs : ValueList) → o ≡ move (start n p x vs) → ⊥) → StartsIdle d (outs ++ o ∷ [])
+pub starts-nothing : (d : Setup) (outs : List Out) (o : Out) → ((n : ℕ) (p : Place) (x : Phase) (vs : ValueList) → o ≡ move (start n p x vs) → ⊥) → StartsIdle d (outs ++ o ∷ [])
 starts-nothing d outs o h before n p x vs e = absurd (h n p x vs (same-last outs before o (move (start n p x vs)) e).1)
 
 shares-holders : (n : ℕ) (u : Name) (es : List Standing) → units_in (holders_among u (map (entry n) es)) ≡ shares u es
@@ -86,7 +86,7 @@ alone (x ∷ xs) a b l (inr h) (inr k) =
     alone xs a b (let c : units_in (x ∷ xs) ≡ x.units + units_in xs = units-cons x xs in let m : units_in xs ≤ 1 = omega arith in m) h k
 
 -- two live phases of one unit and name are one step
-pub phase-alone : (d : Documents) (rank : Ranking) (outs : List Out) (s : Plant) → IsStanding d s → IsKept d rank outs s → (a b : BatchAct) (x y : Phase)
+pub phase-alone : (d : Setup) (rank : Ranking) (outs : List Out) (s : Plant) → IsStanding d s → IsKept d rank outs s → (a b : BatchAct) (x y : Phase)
     → Has (entries s.batches) (a, performing x) → Has (entries s.batches) (b, performing y) → (x.unit ≡ y.unit) × (x.name ≡ y.name) → (a ≡ b → ⊥) → ⊥
 phase-alone d rank outs s sd k a b x y hx hy same apart = go e f (nat_eq e.0.number f.0.number) refl
   where
@@ -142,7 +142,7 @@ same_start : (n n' : ℕ) (p p' : Place) (x x' : Phase) (vs vs' : ValueList) →
 same_start n n' p p' x x' vs vs' e = cc
 
 -- after its start a phase is the only one of its unit and name that is active, so it was idle before
-pub starts-idle : (d : Documents) (rank : Ranking) (outs : List Out) (s t : Plant) (n : ℕ) (p : Place) (x : Phase) (vs : ValueList)
+pub starts-idle : (d : Setup) (rank : Ranking) (outs : List Out) (s t : Plant) (n : ℕ) (p : Place) (x : Phase) (vs : ValueList)
     → IsStanding d s → IsKept d rank outs s → IsStanding d t → IsKept d rank (outs ++ move (start n p x vs) ∷ []) t
     → Has (entries t.batches) ((n, p), performing x)
     → ((a : BatchAct) (y : Phase) → Has (entries s.batches) (a, performing y) → Has (entries t.batches) (a, performing y) × (a ≡ (n, p) → ⊥))

@@ -4,10 +4,10 @@ use Rattle.batch_matrix.specs.declared.state.State.{State}
 use Rattle.batch_model.specs.Lists.{Has}
 use Rattle.batch_recipe.specs.Tree.{Place, Step, Phase}
 use Rattle.batch_model.specs.Rest.{Rest, ready, asking, open_act, live, freeing, in_seq, in_par, in_loop, done, Rests, no_rests, rest, acts, acts_of_each}
-use Rattle.batch_model.specs.Plant.{Documents, Share, units_in, Plant, opening, holders}
+use Rattle.batch_model.specs.Plant.{Setup, Share, units_in, Plant, opening, holders}
 use Rattle.batch_model.specs.Records.{holders_told}
 use Rattle.batch_model.specs.Events.{Event}
-use Rattle.batch_model.proofs.Led.{opening-stands}
+use Rattle.batch_machine.proofs.Led.{opening-stands}
 use Rattle.batch_model.specs.Runs.{Out, Leads}
 use Rattle.batch_laws.proofs.ClearedDown.{AreClearedDown}
 use Rattle.batch_laws.proofs.Facts.{performing, Standing, held_at, awaited_at, facts, facts_of_each, entries, awaiting, need}
@@ -83,7 +83,7 @@ mutual
       (λ m. Has-right (facts r) (facts_of_each rs) (p.place, performing x) (live-performing_of_each rs p x t m))
       (Has-split (acts r) (acts_of_each rs) (live p x t) e)
 
-told : (d : Documents) (rank : Ranking) (outs : List Out) (s : Plant) → IsKept d rank outs s → IsTold outs s
+told : (d : Setup) (rank : Ranking) (outs : List Out) (s : Plant) → IsKept d rank outs s → IsTold outs s
 told d rank outs s k =
     record {
       held = λ r. (λ a h. subst (λ z. Has z a) (sym (holders-entries s r)) ((k.held r).1 a h), λ a h. (k.held r).2 a (subst (λ z. Has z a) (holders-entries s r) h));
@@ -110,5 +110,5 @@ told d rank outs s k =
       states = k.states;
     }
 
-pub tells_the_plant : (d : Documents) (rank : Ranking) → AreClearedDown d rank → (es : List Event) (outs : List Out) (t : Plant) → Leads d opening es outs t → IsTold outs t
+pub tells_the_plant : (d : Setup) (rank : Ranking) → AreClearedDown d rank → (es : List Event) (outs : List Out) (t : Plant) → Leads d opening es outs t → IsTold outs t
 tells_the_plant d rank cleared es outs t l = told d rank outs t (kept-along d rank cleared [] opening (opening-stands d) (kept-at_first d rank) es outs t l)

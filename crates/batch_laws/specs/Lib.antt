@@ -3,4 +3,3 @@ pub mod Premises
 pub mod Telling
 pub mod Ways
 pub mod Sets
-pub mod Example

@@ -20,42 +20,43 @@ AllowsPar _ = ⊤
 abbrev mutual
   -- a tree in a chart of the level, below a unit procedure on this unit
   pub IsOfLevel : Level → Name → Tree → Type 0
-  IsOfLevel l unit (act s w) = IsActOf l unit s.needs w
-  IsOfLevel l unit skip = ⊤
-  IsOfLevel l unit (seq ts) = AreOfLevel l unit ts
-  IsOfLevel l unit (par ts) = AllowsPar l × AreOfLevel l unit ts
-  IsOfLevel l unit (sel cs) = AreChoicesOf l unit cs
-  IsOfLevel l unit (loop n c t) = IsOfLevel l unit t
+  IsOfLevel level unit (act step task) = IsActOf level unit step.needs task
+  IsOfLevel level unit skip = ⊤
+  IsOfLevel level unit (seq charts) = AreOfLevel level unit charts
+  IsOfLevel level unit (par charts) = AllowsPar level × AreOfLevel level unit charts
+  IsOfLevel level unit (sel choices) = AreChoicesOf level unit choices
+  IsOfLevel level unit (loop turns until body) = IsOfLevel level unit body
 
   -- a unit procedure's first need is one unit of its unit, and phase steps alone run a phase, on that unit
   pub IsActOf : Level → Name → List Need → Task → Type 0
-  IsActOf in_procedure unit (own ∷ needs) (follows name t) = (own.units ≡ 1) × IsOfLevel in_unit_procedure own.resource t
-  IsActOf in_unit_procedure unit needs (follows name t) = IsOfLevel in_operation unit t
+  IsActOf in_procedure unit (own ∷ needs) (follows name chart) = (own.units ≡ 1) × IsOfLevel in_unit_procedure own.resource chart
+  IsActOf in_unit_procedure unit needs (follows name chart) = IsOfLevel in_operation unit chart
   IsActOf in_operation unit needs (runs phase) = phase.unit ≡ unit
   IsActOf _ _ _ _ = ⊥
 
   pub AreOfLevel : Level → Name → Trees → Type 0
-  AreOfLevel l unit no_trees = ⊤
-  AreOfLevel l unit (tree t ts) = IsOfLevel l unit t × AreOfLevel l unit ts
+  AreOfLevel level unit no_trees = ⊤
+  AreOfLevel level unit (tree chart charts) = IsOfLevel level unit chart × AreOfLevel level unit charts
 
   pub AreChoicesOf : Level → Name → Choices → Type 0
-  AreChoicesOf l unit (otherwise t) = IsOfLevel l unit t
-  AreChoicesOf l unit (choice c t cs) = IsOfLevel l unit t × AreChoicesOf l unit cs
+  AreChoicesOf level unit (otherwise chart) = IsOfLevel level unit chart
+  AreChoicesOf level unit (choice condition chart choices) = IsOfLevel level unit chart × AreChoicesOf level unit choices
 
 -- an act that follows a chart of unit procedures; no unit stands above these
 abbrev pub HasLevels : Tree → Type 0
-HasLevels (act s (follows name t)) = IsOfLevel in_procedure [] t
+HasLevels (act step (follows name chart)) = IsOfLevel in_procedure [] chart
 HasLevels _ = ⊥
 
 -- the expanded tree of a procedure
-pub record IsProcedure (t : Tree) : Type 0 where
-  pub placed : IsPlaced (0 ∷ []) t
-  pub levels : HasLevels t
+pub record IsProcedure (chart : Tree) : Type 0 where
+  pub placed : IsPlaced (0 ∷ []) chart
+  pub levels : HasLevels chart
 
 -- where acts are of their kinds and well formed, the expanded tree is one of a procedure
 abbrev pub TreesAreProcedures : Type 0
-TreesAreProcedures = (acts : Acts) (values : List Name) → are_kinds acts ≡ true → is_well_formed values acts ≡ true → IsProcedure (procedure_tree acts)
+TreesAreProcedures =
+    (acts : Acts) (values : List Name) → are_kinds acts ≡ true → is_well_formed values acts ≡ true → IsProcedure (procedure_tree acts)
 
 -- as the acts of every recipe are
 abbrev pub RecipesAreProcedures : Type 0
-RecipesAreProcedures = (documents : List document.Recipe) → Each (λ r. IsProcedure r.procedure) (map recipe_of documents)
+RecipesAreProcedures = (documents : List document.Recipe) → Each (λ recipe. IsProcedure recipe.procedure) (map recipe_of documents)

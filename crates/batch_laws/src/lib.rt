@@ -4,7 +4,6 @@
 //! Nothing runs here. The functions are empty: their contracts are the laws.
 #![tactic(auto)]
 
-ghost use Rattle.batch_laws.specs.Example.{PremisesCanBeMet};
 ghost use Rattle.batch_laws.specs.Procedures.{RecipesAreProcedures, TreesAreProcedures};
 ghost use Rattle.batch_laws.specs.Sets.{SetsAreDocuments};
 ghost use Rattle.batch_laws.specs.Telling.{TellsThePlant};
@@ -26,11 +25,6 @@ pub fn ways_rise()
 pub fn trees_have_units()
     ensures trees { TreesAreProcedures }
     ensures recipes { RecipesAreProcedures }
-{}
-
-/// There are documents that meet the premises of these laws.
-pub fn premises_can_be_met()
-    ensures { PremisesCanBeMet }
 {}
 
 /// What these laws ask of documents beside clearance holds of every cell and of all recipes, since their types keep it.

@@ -11,7 +11,7 @@ use Rattle.batch_cell.specs.declared.cell.Cell as equipment
 use Rattle.batch_cell.specs.declared.unit.Unit.{Unit}
 use Rattle.batch_recipe.specs.Conditions.{Name, same_name}
 use Rattle.batch_recipe.specs.WellFormed.{is_among}
-use Rattle.batch_model.specs.Documents.{capacity_of}
+use Rattle.batch_model.specs.Setups.{capacity_of}
 
 module _ {X : Type 0} (p : X → Bool) where
   before_step : (b : Bool) (x : X) (xs : List X) → (b || list_any p xs) ≡ true → (list_any p xs ≡ true → prefix_len (λ y. not (p y)) xs < length xs)

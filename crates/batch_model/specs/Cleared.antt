@@ -7,14 +7,8 @@ use Rattle.batch_recipe.specs.WellFormed.{is_among, are_distinct}
 use Rattle.batch_recipe.specs.Needs.{resources_of}
 use Rattle.batch_recipe.specs.declared.need.Need.{Need}
 use Rattle.batch_model.specs.Lists.{Each}
-use Rattle.batch_model.specs.Plant.{Recipe, Documents}
+use Rattle.batch_model.specs.Plant.{Recipe, Setup}
 use Rattle.batch_model.specs.declared.limits.TheConstants.{MAX_RECIPES}
-
--- what a process cell has, by name
-pub record Cell : Type 0 where
-  pub units : List Name
-  -- the units, the free modules and the shared resources
-  pub resources : List Name
 
 abbrev pub Ranking : Type 0
 Ranking = Name → ℕ
@@ -42,149 +36,152 @@ pub record Part : Type 0 where
   pub node : Node
 
 abbrev pub part : Level → Place → List Name → Tree → Part
-part l p above t = record { level = l; node = node p above t }
+part level place above chart = record { level = level; node = node place above chart }
 
 -- the nodes of a tree, as `nodes` lists them, with their levels
 abbrev mutual
   pub parts : Level → Place → List Name → Tree → List Part
-  parts l p above (act s w) = part l p above (act s w) ∷ parts_within (below l) p (above ++ resources_of s.needs) w
-  parts l p above skip = part l p above skip ∷ []
-  parts l p above (seq ts) = part l p above (seq ts) ∷ parts_of_each l p above 0 ts
-  parts l p above (par ts) = part l p above (par ts) ∷ parts_of_each l p above 0 ts
-  parts l p above (sel cs) = part l p above (sel cs) ∷ parts_of_choices l p above 0 cs
-  parts l p above (loop n c t) = part l p above (loop n c t) ∷ parts l (child p 0) above t
+  parts level place above (act step task) =
+      part level place above (act step task) ∷ parts_within (below level) place (above ++ resources_of step.needs) task
+  parts level place above skip = part level place above skip ∷ []
+  parts level place above (seq charts) = part level place above (seq charts) ∷ parts_of_each level place above 0 charts
+  parts level place above (par charts) = part level place above (par charts) ∷ parts_of_each level place above 0 charts
+  parts level place above (sel choices) = part level place above (sel choices) ∷ parts_of_choices level place above 0 choices
+  parts level place above (loop turns until body) = part level place above (loop turns until body) ∷ parts level (child place 0) above body
 
   pub parts_within : Level → Place → List Name → Task → List Part
-  parts_within l p above (runs phase) = []
-  parts_within l p above (follows name t) = parts l (child p 0) above t
+  parts_within level place above (runs phase) = []
+  parts_within level place above (follows name chart) = parts level (child place 0) above chart
 
   pub parts_of_each : Level → Place → List Name → ℕ → Trees → List Part
-  parts_of_each l p above i no_trees = []
-  parts_of_each l p above i (tree t ts) = parts l (child p i) above t ++ parts_of_each l p above (i + 1) ts
+  parts_of_each level place above child_number no_trees = []
+  parts_of_each level place above child_number (tree chart charts) =
+      parts level (child place child_number) above chart ++ parts_of_each level place above (child_number + 1) charts
 
   pub parts_of_choices : Level → Place → List Name → ℕ → Choices → List Part
-  parts_of_choices l p above i (otherwise t) = parts l (child p i) above t
-  parts_of_choices l p above i (choice c t cs) = parts l (child p i) above t ++ parts_of_choices l p above (i + 1) cs
+  parts_of_choices level place above child_number (otherwise chart) = parts level (child place child_number) above chart
+  parts_of_choices level place above child_number (choice condition chart choices) =
+      parts level (child place child_number) above chart ++ parts_of_choices level place above (child_number + 1) choices
 
 abbrev pub procedure_parts : Recipe → List Part
-procedure_parts r = parts is_procedure (0 ∷ []) [] r.procedure
+procedure_parts recipe = parts is_procedure (0 ∷ []) [] recipe.procedure
 
 -- Phases
 
 -- the phases that the steps of a tree run, in the order of their places
 abbrev mutual
   pub phases : Tree → List Phase
-  phases (act s w) = phases_within w
+  phases (act step task) = phases_within task
   phases skip = []
-  phases (seq ts) = phases_of_each ts
-  phases (par ts) = phases_of_each ts
-  phases (sel cs) = phases_of_choices cs
-  phases (loop n c t) = phases t
+  phases (seq charts) = phases_of_each charts
+  phases (par charts) = phases_of_each charts
+  phases (sel choices) = phases_of_choices choices
+  phases (loop turns until body) = phases body
 
   pub phases_within : Task → List Phase
   phases_within (runs phase) = phase ∷ []
-  phases_within (follows name t) = phases t
+  phases_within (follows name chart) = phases chart
 
   pub phases_of_each : Trees → List Phase
   phases_of_each no_trees = []
-  phases_of_each (tree t ts) = phases t ++ phases_of_each ts
+  phases_of_each (tree chart charts) = phases chart ++ phases_of_each charts
 
   pub phases_of_choices : Choices → List Phase
-  phases_of_choices (otherwise t) = phases t
-  phases_of_choices (choice c t cs) = phases t ++ phases_of_choices cs
+  phases_of_choices (otherwise chart) = phases chart
+  phases_of_choices (choice condition chart choices) = phases chart ++ phases_of_choices choices
 
 -- no step of the one branch runs the same phase as a step of the other
 abbrev pub RunApart : List Phase → List Phase → Type 0
-RunApart xs ys = Each (λ x. Each (λ y. same_name x.name y.name ≡ false) ys) xs
+RunApart ones others = Each (λ one. Each (λ other. same_name one.name other.name ≡ false) others) ones
 
 -- no two branches have steps that run the same phase
 abbrev pub BranchesRunApart : Trees → Type 0
 BranchesRunApart no_trees = ⊤
-BranchesRunApart (tree t ts) = RunApart (phases t) (phases_of_each ts) × BranchesRunApart ts
+BranchesRunApart (tree chart charts) = RunApart (phases chart) (phases_of_each charts) × BranchesRunApart charts
 
 -- every way through the tree runs a phase
 abbrev mutual
   pub surely_runs : Tree → Bool
-  surely_runs (act s w) = task_surely_runs w
+  surely_runs (act step task) = task_surely_runs task
   surely_runs skip = false
-  surely_runs (seq ts) = some_surely_runs ts
-  surely_runs (par ts) = some_surely_runs ts
-  surely_runs (sel cs) = each_surely_runs cs
-  surely_runs (loop n c t) = surely_runs t
+  surely_runs (seq charts) = some_surely_runs charts
+  surely_runs (par charts) = some_surely_runs charts
+  surely_runs (sel choices) = each_surely_runs choices
+  surely_runs (loop turns until body) = surely_runs body
 
   pub task_surely_runs : Task → Bool
   task_surely_runs (runs phase) = true
-  task_surely_runs (follows name t) = surely_runs t
+  task_surely_runs (follows name chart) = surely_runs chart
 
   pub some_surely_runs : Trees → Bool
   some_surely_runs no_trees = false
-  some_surely_runs (tree t ts) = surely_runs t || some_surely_runs ts
+  some_surely_runs (tree chart charts) = surely_runs chart || some_surely_runs charts
 
   pub each_surely_runs : Choices → Bool
-  each_surely_runs (otherwise t) = surely_runs t
-  each_surely_runs (choice c t cs) = surely_runs t && each_surely_runs cs
+  each_surely_runs (otherwise chart) = surely_runs chart
+  each_surely_runs (choice condition chart choices) = surely_runs chart && each_surely_runs choices
 
 -- The rules
 
--- each need is of a resource of the cell
-abbrev pub NeedsResources : Cell → Tree → Type 0
-NeedsResources cell t = Each (λ need. IsTrue (is_among cell.resources need.resource)) (needs_of t)
+-- each need is of one of these resources
+abbrev pub NeedsResources : List Name → Tree → Type 0
+NeedsResources resources chart = Each (λ need. IsTrue (is_among resources need.resource)) (needs_of chart)
 
 -- each need is of no more units than the resource has
-abbrev pub NeedsWithinCapacity : Documents → Tree → Type 0
-NeedsWithinCapacity d t = Each (λ need. need.units ≤ d.capacity need.resource) (needs_of t)
+abbrev pub NeedsWithinCapacity : Setup → Tree → Type 0
+NeedsWithinCapacity setup chart = Each (λ need. need.units ≤ setup.capacity need.resource) (needs_of chart)
 
-abbrev pub BeginsWithUnit : Cell → List Need → Type 0
-BeginsWithUnit cell [] = ⊥
-BeginsWithUnit cell (unit ∷ needs) = IsTrue (is_among cell.units unit.resource)
+abbrev pub BeginsWithUnit : List Name → List Need → Type 0
+BeginsWithUnit units [] = ⊥
+BeginsWithUnit units (own ∷ needs) = IsTrue (is_among units own.resource)
 
--- the unit of a unit procedure, its first need, is a unit of the cell
-abbrev pub HasUnit : Cell → Level → Tree → Type 0
-HasUnit cell in_procedure (act s w) = BeginsWithUnit cell s.needs
-HasUnit cell _ _ = ⊤
+-- the unit of a unit procedure, its first need, is one of these units
+abbrev pub HasUnit : List Name → Level → Tree → Type 0
+HasUnit units in_procedure (act step task) = BeginsWithUnit units step.needs
+HasUnit units _ _ = ⊤
 
 -- the phase that a phase step runs is offered by the unit of its unit procedure
-abbrev pub IsOffered : Documents → Tree → Type 0
-IsOffered d (act s (runs phase)) = IsTrue (d.offers phase.unit phase.name)
-IsOffered d _ = ⊤
+abbrev pub IsOffered : Setup → Tree → Type 0
+IsOffered setup (act step (runs phase)) = IsTrue (setup.offers phase.unit phase.name)
+IsOffered setup _ = ⊤
 
 -- no two branches of a `par` in an operation have steps that run the same phase
 abbrev pub IsApart : Level → Tree → Type 0
-IsApart in_operation (par ts) = BranchesRunApart ts
+IsApart in_operation (par charts) = BranchesRunApart charts
 IsApart _ _ = ⊤
 
 -- every way through the body of a loop runs a phase
 abbrev pub TurnsRun : Tree → Type 0
-TurnsRun (loop n c t) = IsTrue (surely_runs t)
+TurnsRun (loop turns until body) = IsTrue (surely_runs body)
 TurnsRun _ = ⊤
 
 -- the ranks of the names rise strictly
 abbrev pub RiseStrictly : Ranking → List Name → Type 0
 RiseStrictly rank [] = ⊤
-RiseStrictly rank (x ∷ []) = ⊤
-RiseStrictly rank (x ∷ y ∷ ys) = (rank x < rank y) × RiseStrictly rank (y ∷ ys)
+RiseStrictly rank (resource ∷ []) = ⊤
+RiseStrictly rank (resource ∷ following ∷ more) = (rank resource < rank following) × RiseStrictly rank (following ∷ more)
 
 -- a node meets the rules
-pub record IsClear (cell : Cell) (d : Documents) (rank : Ranking) (x : Part) : Type 0 where
-  pub known : NeedsResources cell x.node.here
-  pub on_unit : HasUnit cell x.level x.node.here
-  pub within : NeedsWithinCapacity d x.node.here
-  pub offered : IsOffered d x.node.here
-  pub apart : IsApart x.level x.node.here
-  pub turning : TurnsRun x.node.here
+pub record IsClear (setup : Setup) (rank : Ranking) (this_part : Part) : Type 0 where
+  pub known : NeedsResources setup.resources this_part.node.here
+  pub on_unit : HasUnit setup.units this_part.level this_part.node.here
+  pub within : NeedsWithinCapacity setup this_part.node.here
+  pub offered : IsOffered setup this_part.node.here
+  pub apart : IsApart this_part.level this_part.node.here
+  pub turning : TurnsRun this_part.node.here
   -- along the path from the root, in the order in which the needs are asked for
-  pub rising : RiseStrictly rank x.node.asked
+  pub rising : RiseStrictly rank this_part.node.asked
 
 -- the ranking clears the recipe
-abbrev pub IsClearedRecipe : Cell → Documents → Ranking → Recipe → Type 0
-IsClearedRecipe cell d rank r = Each (IsClear cell d rank) (procedure_parts r)
+abbrev pub IsClearedRecipe : Setup → Ranking → Recipe → Type 0
+IsClearedRecipe setup rank recipe = Each (IsClear setup rank) (procedure_parts recipe)
 
 -- the ranking clears the recipes for the cell
-pub record IsCleared (cell : Cell) (d : Documents) (rank : Ranking) : Type 0 where
-  pub names_differ : IsTrue (are_distinct (map (λ r. r.name) d.recipes))
-  pub few : length d.recipes ≤ MAX_RECIPES
-  pub recipes : Each (IsClearedRecipe cell d rank) d.recipes
+pub record IsCleared (setup : Setup) (rank : Ranking) : Type 0 where
+  pub names_differ : IsTrue (are_distinct (map (λ recipe. recipe.name) setup.recipes))
+  pub few : length setup.recipes ≤ MAX_RECIPES
+  pub recipes : Each (IsClearedRecipe setup rank) setup.recipes
 
 -- some ranking clears them
-abbrev pub CanBeCleared : Cell → Documents → Type 0
-CanBeCleared cell d = (rank : Ranking) × IsCleared cell d rank
+abbrev pub CanBeCleared : Setup → Type 0
+CanBeCleared setup = (rank : Ranking) × IsCleared setup rank

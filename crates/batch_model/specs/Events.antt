@@ -3,7 +3,7 @@ use Rattle.std.specs.Prelude.{ℕ, suc, List, [], ◌∷◌, ◌++◌, length, f
 use Rattle.batch_matrix.specs.declared.state.State.{State}
 use Rattle.batch_matrix.specs.declared.state.State.TheVariants.{Idle, Holding}
 use Rattle.batch_matrix.specs.declared.command.Command.{Command}
-use Rattle.batch_matrix.specs.declared.command.Command.TheVariants.{Hold, Stop, Abort, Reset}
+use Rattle.batch_matrix.specs.declared.command.Command.TheVariants.{Start, Pause, Resume, Hold, Restart, Stop, Abort, Reset}
 use Rattle.batch_matrix.specs.declared.report.Report.{Report}
 use Rattle.batch_matrix.specs.declared.report.PhaseEnd.{PhaseEnd}
 use Rattle.batch_matrix.specs.declared.report.PhaseEnd.TheVariants.{Ended, Now, Same}
@@ -13,7 +13,7 @@ use Rattle.batch_recipe.specs.Values.{with_values, with_outputs_zero, are_output
 use Rattle.batch_recipe.specs.Tree.{Place}
 use Rattle.batch_recipe.specs.declared.scaling.TheConstants.{MAX_VALUE}
 use Rattle.batch_model.specs.Rest.{Rest, live, acts, reach, withdrawn}
-use Rattle.batch_model.specs.Plant.{Formula, size_out_of_range, value_out_of_range, scaled, Recipe, Documents, Batch, Share, Plant, batch_at, in_batch, in_act}
+use Rattle.batch_model.specs.Plant.{Formula, size_out_of_range, value_out_of_range, scaled, Recipe, Setup, Batch, Share, Plant, batch_at, in_batch, in_act}
 use Rattle.batch_model.specs.Moves.{ended, next}
 use Rattle.batch_model.specs.declared.limits.TheConstants.{LAST_NUMBER}
 
@@ -21,7 +21,7 @@ pub data Event : Type 0 where
   create : Name → ℕ → Event
   order : Command → ℕ → Event
   remove : ℕ → Event
-  -- the unit, the phase, the word, and the outputs that a done report sets
+  -- the unit, the phase, the word, and the outputs, which count where the phase is done
   report : Name → Name → Report → ValueList → Event
 
 pub data Refusal : Type 0 where
@@ -53,69 +53,84 @@ abbrev pub Answer : Type 0
 Answer = Reply × Plant
 
 -- as many batches exist as may, or the last number was given
-abbrev pub is_full : Documents → Plant → Bool
-is_full c s = nat_le c.batch_limit (length s.batches) || nat_lt LAST_NUMBER s.next_number
+abbrev pub is_full : Setup → Plant → Bool
+is_full setup plant = nat_le setup.batch_limit (length plant.batches) || nat_lt LAST_NUMBER plant.next_number
 
 -- an idle batch whose procedure is reached
 abbrev pub new_batch : ℕ → Recipe → ℕ → ValueList → Batch
-new_batch n r size vs = record { number = n; recipe = r; size = size; values = vs; state = Idle; rest = reach vs r.procedure }
+new_batch number recipe size values =
+    record { number = number; recipe = recipe; size = size; values = values; state = Idle; rest = reach values recipe.procedure }
 
 abbrev pub with_batch : Plant → Recipe → ℕ → ValueList → Plant
-with_batch s r size vs =
-    record s { batches = s.batches ++ new_batch s.next_number r size vs ∷ []; next_number = suc s.next_number }
+with_batch plant recipe size values =
+    record plant { batches = plant.batches ++ new_batch plant.next_number recipe size values ∷ []; next_number = suc plant.next_number }
 
 abbrev pub creating : Plant → Recipe → ℕ → Formula → Answer
-creating s r size size_out_of_range = (refused bad_size, s)
-creating s r size (value_out_of_range name) = (refused (bad_value name), s)
-creating s r size (scaled vs) = (created s.next_number r.name size, with_batch s r size vs)
+creating plant recipe size size_out_of_range = (refused bad_size, plant)
+creating plant recipe size (value_out_of_range name) = (refused (bad_value name), plant)
+creating plant recipe size (scaled values) = (created plant.next_number recipe.name size, with_batch plant recipe size values)
 
 -- Commands
 
 -- the procedure is reached anew, and the outputs are 0
 abbrev pub reset : Batch → Batch
-reset b =
-    let vs = with_outputs_zero b.recipe.outputs b.values in
-    record b { values = vs; state = Idle; rest = reach vs b.recipe.procedure }
+reset batch =
+    let values = with_outputs_zero batch.recipe.outputs batch.values in
+    record batch { values = values; state = Idle; rest = reach values batch.recipe.procedure }
 
 abbrev pub stopped : Command → Batch → Batch
-stopped command b = record b { state = target command; rest = withdrawn b.rest }
+stopped command batch = record batch { state = target command; rest = withdrawn batch.rest }
+
+-- the batch in the state to which the command leads
+abbrev pub in_target : Command → Batch → Batch
+in_target command batch = record batch { state = target command }
 
 -- the batch after a command that its state accepts
 abbrev pub commanded : Command → Batch → Batch
-commanded Stop b = stopped Stop b
-commanded Abort b = stopped Abort b
-commanded Reset b = reset b
-commanded command b = record b { state = target command }
+commanded Start batch = in_target Start batch
+commanded Pause batch = in_target Pause batch
+commanded Resume batch = in_target Resume batch
+commanded Hold batch = in_target Hold batch
+commanded Restart batch = in_target Restart batch
+commanded Stop batch = stopped Stop batch
+commanded Abort batch = stopped Abort batch
+commanded Reset batch = reset batch
 
 abbrev pub ends_asks : Command → Bool
+ends_asks Start = false
+ends_asks Pause = false
+ends_asks Resume = false
+ends_asks Hold = false
+ends_asks Restart = false
 ends_asks Stop = true
 ends_asks Abort = true
-ends_asks _ = false
+ends_asks Reset = false
 
--- the lines without the asks of batch n, where the command ends them
+-- the lines without the asks of the batch with this number, where the command ends them
 abbrev pub lines_under : Command → ℕ → (Name → List Share) → Name → List Share
-lines_under command n line r = elim (ends_asks command) [ false ↦ line r | true ↦ filter (λ a. not (nat_eq a.act.0 n)) (line r) ]
+lines_under command number line resource =
+    elim (ends_asks command) [ false ↦ line resource | true ↦ filter (λ share. not (nat_eq share.act.0 number)) (line resource) ]
 
 abbrev pub ordering : Plant → Command → Batch → Answer
-ordering s command b =
-    elim (accepts b.state command) [
-      | false ↦ (refused (command_not_accepted b.state), s)
+ordering plant command batch =
+    elim (accepts batch.state command) [
+      | false ↦ (refused (command_not_accepted batch.state), plant)
       | true ↦ (
-        ordered command b.number (target command),
-        record (in_batch b.number (commanded command) s) { line = lines_under command b.number s.line },
+        ordered command batch.number (target command),
+        record (in_batch batch.number (commanded command) plant) { line = lines_under command batch.number plant.line },
       )
     ]
 
 -- Removal
 
 abbrev pub without_batch : ℕ → Plant → Plant
-without_batch n s = record s { batches = filter (λ b. not (nat_eq b.number n)) s.batches }
+without_batch number plant = record plant { batches = filter (λ batch. not (nat_eq batch.number number)) plant.batches }
 
 abbrev pub removing : Plant → Batch → Answer
-removing s b =
-    elim b.state [
-      | Idle ↦ (removed b.number, without_batch b.number s)
-      | x ↦ (refused (not_idle x), s)
+removing plant batch =
+    elim batch.state [
+      | Idle ↦ (removed batch.number, without_batch batch.number plant)
+      | state ↦ (refused (not_idle state), plant)
     ]
 
 -- Reports
@@ -127,61 +142,80 @@ pub record LivePhase : Type 0 where
   pub state : State
 
 abbrev pub live_in : Batch → Name → Name → List Rest → Option LivePhase
-live_in b unit name [] = None
-live_in b unit name (live p x t ∷ more) =
-    elim (same_name x.unit unit && same_name x.name name)
-    [ true ↦ Some (record { batch = b; place = p.place; state = t }) | false ↦ live_in b unit name more ]
-live_in b unit name (_ ∷ more) = live_in b unit name more
+live_in batch unit name [] = None
+live_in batch unit name (live step phase state ∷ more) =
+    elim (same_name phase.unit unit && same_name phase.name name)
+    [ true ↦ Some (record { batch = batch; place = step.place; state = state }) | false ↦ live_in batch unit name more ]
+live_in batch unit name (_ ∷ more) = live_in batch unit name more
 
 abbrev pub live_phase : List Batch → Name → Name → Option LivePhase
 live_phase [] unit name = None
-live_phase (b ∷ bs) unit name = elim (live_in b unit name (acts b.rest)) [ Some l ↦ Some l | None ↦ live_phase bs unit name ]
+live_phase (batch ∷ more) unit name =
+    elim (live_in batch unit name (acts batch.rest)) [ Some found ↦ Some found | None ↦ live_phase more unit name ]
 
 abbrev pub now : State → Rest → Rest
-now y (live p x t) = live p x y
-now y r = r
+now becomes (live step phase state) = live step phase becomes
+now becomes rest = rest
 
 abbrev pub phase_after : PhaseEnd → Rest → Rest
-phase_after Ended r = ended r
-phase_after (Now y) r = now y r
-phase_after Same r = r
+phase_after Ended rest = ended rest
+phase_after (Now becomes) rest = now becomes rest
+phase_after Same rest = rest
 
 -- a fault takes the batch to Holding where its state accepts hold
 abbrev pub batch_state_after : Report → State → State
-batch_state_after Report.Fault x = elim (accepts x Hold) [ true ↦ Holding | false ↦ x ]
-batch_state_after _ x = x
+batch_state_after Report.Done state = state
+batch_state_after Report.Paused state = state
+batch_state_after Report.Held state = state
+batch_state_after Report.Running state = state
+batch_state_after Report.Stopped state = state
+batch_state_after Report.Aborted state = state
+batch_state_after Report.Fault state = elim (accepts state Hold) [ true ↦ Holding | false ↦ state ]
+
+-- the outputs of a report, which a phase that is done alone has
+abbrev pub outputs_of : Report → ValueList → ValueList
+outputs_of Report.Done outputs = outputs
+outputs_of Report.Paused outputs = []
+outputs_of Report.Held outputs = []
+outputs_of Report.Running outputs = []
+outputs_of Report.Stopped outputs = []
+outputs_of Report.Aborted outputs = []
+outputs_of Report.Fault outputs = []
 
 -- the batch after a report: first the outputs are set, then the phase changes
 abbrev pub batch_reported : Report → ValueList → Place → PhaseEnd → Batch → Batch
-batch_reported word outputs p e b =
-    in_act p (phase_after e) (record b { values = with_values outputs b.values; state = batch_state_after word b.state })
+batch_reported word outputs place phase_end batch =
+    in_act place (phase_after phase_end)
+    (record batch { values = with_values outputs batch.values; state = batch_state_after word batch.state })
 
 abbrev pub reporting : Plant → Name → Name → Report → ValueList → LivePhase → Answer
-reporting s unit name word outputs l =
-    elim (after_report l.state word) [
-      | None ↦ (refused (report_not_expected l.state), s)
-      | Some e ↦
-          elim (are_outputs l.batch.recipe.outputs outputs) [
-            | false ↦ (refused bad_output, s)
+reporting plant unit name word outputs found =
+    elim (after_report found.state word) [
+      | None ↦ (refused (report_not_expected found.state), plant)
+      | Some phase_end ↦
+          elim (are_outputs found.batch.recipe.outputs outputs) [
+            | false ↦ (refused bad_output, plant)
             | true ↦ (
-              reported unit name word l.batch.number l.place (batch_state_after word l.batch.state),
-              in_batch l.batch.number (batch_reported word outputs l.place e) s,
+              reported unit name word found.batch.number found.place (batch_state_after word found.batch.state),
+              in_batch found.batch.number (batch_reported word outputs found.place phase_end) plant,
             )
           ]
     ]
 
 -- the reply to an event while no move is pending, and the plant after it: the first refusal that has a cause, or what was asked for
-abbrev pub judged : Documents → Plant → Event → Answer
-judged c s (create name size) =
-    elim (find (λ r. same_name r.name name) c.recipes) [
-      | None ↦ (refused unknown_recipe, s)
-      | Some r ↦ elim (is_full c s) [ true ↦ (refused full, s) | false ↦ creating s r size (r.formula size) ]
+abbrev pub judged : Setup → Plant → Event → Answer
+judged setup plant (create name size) =
+    elim (find (λ recipe. same_name recipe.name name) setup.recipes) [
+      | None ↦ (refused unknown_recipe, plant)
+      | Some recipe ↦ elim (is_full setup plant) [ true ↦ (refused full, plant) | false ↦ creating plant recipe size (recipe.formula size) ]
     ]
-judged c s (order command n) = elim (batch_at s n) [ None ↦ (refused unknown_batch, s) | Some b ↦ ordering s command b ]
-judged c s (remove n) = elim (batch_at s n) [ None ↦ (refused unknown_batch, s) | Some b ↦ removing s b ]
-judged c s (report unit name word outputs) =
-    elim (live_phase s.batches unit name)
-    [ None ↦ (refused no_live_phase, s) | Some l ↦ reporting s unit name word outputs l ]
+judged setup plant (order command number) =
+    elim (batch_at plant number) [ None ↦ (refused unknown_batch, plant) | Some batch ↦ ordering plant command batch ]
+judged setup plant (remove number) =
+    elim (batch_at plant number) [ None ↦ (refused unknown_batch, plant) | Some batch ↦ removing plant batch ]
+judged setup plant (report unit name word outputs) =
+    elim (live_phase plant.batches unit name)
+    [ None ↦ (refused no_live_phase, plant) | Some found ↦ reporting plant unit name word (outputs_of word outputs) found ]
 
-abbrev pub react : Documents → Plant → Event → Answer
-react c s e = elim (next c s) [ Some m ↦ (refused moves_pending, s) | None ↦ judged c s e ]
+abbrev pub react : Setup → Plant → Event → Answer
+react setup plant event = elim (next setup plant) [ Some move ↦ (refused moves_pending, plant) | None ↦ judged setup plant event ]

@@ -2,15 +2,15 @@
 use Rattle.std.specs.Prelude.{ℕ, zero, suc, pred, List, [], ◌∷◌, ◌++◌, length, map, filter, flat_map, Bool, true, false, ◌&&◌, ◌||◌, not, Option, Some, None, nat_le, ◌+◌, slice_get}
 use Rattle.std.specs.List.{list_all, filter_map}
 use Rattle.batch_matrix.specs.declared.state.State.{State}
-use Rattle.batch_matrix.specs.declared.state.State.TheVariants.{Running, Pausing, Paused, Holding, Held, Restarting, Stopping, Stopped, Aborting, Aborted}
+use Rattle.batch_matrix.specs.declared.state.State.TheVariants.{Idle, Running, Pausing, Paused, Holding, Held, Restarting, Stopping, Stopped, Aborting, Aborted, Complete}
 use Rattle.batch_matrix.specs.declared.command.Command.{Command}
 use Rattle.batch_matrix.specs.declared.command.Command.TheVariants.{Pause, Resume, Hold, Restart, Stop, Abort}
-use Rattle.batch_matrix.specs.Matrix.{accepts, target, ends_as}
+use Rattle.batch_matrix.specs.Matrix.{same_state, accepts, target, ends_as}
 use Rattle.batch_recipe.specs.Conditions.{Name, ValueList, value_or_0, same_name}
 use Rattle.batch_recipe.specs.Tree.{Place, is_before, Step, Phase, Task, runs, follows}
 use Rattle.batch_recipe.specs.declared.need.Need.{Need}
 use Rattle.batch_model.specs.Rest.{Rest, ready, asking, open_act, live, freeing, done, is_done, acts, reach}
-use Rattle.batch_model.specs.Plant.{Documents, Batch, BatchAct, Share, units_in, Plant, is_same_act, in_batch, in_act, held_in, phase_states, holders}
+use Rattle.batch_model.specs.Plant.{Setup, Batch, BatchAct, Share, units_in, Plant, is_same_act, in_batch, in_act, held_in, phase_states, holders}
 
 -- a move is what its record line says: the number of its batch, mostly the place of an act, and what is done there
 pub data Move : Type 0 where
@@ -26,41 +26,41 @@ pub data Move : Type 0 where
 -- The order of moves
 
 abbrev pub batch_of : Move → ℕ
-batch_of (send n p x c) = n
-batch_of (state n x) = n
-batch_of (release n p r) = n
-batch_of (begin n p a) = n
-batch_of (start n p x vs) = n
-batch_of (end n p) = n
-batch_of (ask n p r) = n
-batch_of (grant n p r) = n
+batch_of (send number place phase command) = number
+batch_of (state number becomes) = number
+batch_of (release number place need) = number
+batch_of (begin number place name) = number
+batch_of (start number place phase handed) = number
+batch_of (end number place) = number
+batch_of (ask number place need) = number
+batch_of (grant number place need) = number
 
 abbrev pub kind_of : Move → ℕ
-kind_of (send n p x c) = 1
-kind_of (state n x) = 2
-kind_of (release n p r) = 3
-kind_of (begin n p a) = 4
-kind_of (start n p x vs) = 4
-kind_of (end n p) = 4
-kind_of (ask n p r) = 5
-kind_of (grant n p r) = 6
+kind_of (send number place phase command) = 1
+kind_of (state number becomes) = 2
+kind_of (release number place need) = 3
+kind_of (begin number place name) = 4
+kind_of (start number place phase handed) = 4
+kind_of (end number place) = 4
+kind_of (ask number place need) = 5
+kind_of (grant number place need) = 6
 
 abbrev pub place_of_move : Move → Place
-place_of_move (send n p x c) = p
-place_of_move (state n x) = []
-place_of_move (release n p r) = p
-place_of_move (begin n p a) = p
-place_of_move (start n p x vs) = p
-place_of_move (end n p) = p
-place_of_move (ask n p r) = p
-place_of_move (grant n p r) = p
+place_of_move (send number place phase command) = place
+place_of_move (state number becomes) = []
+place_of_move (release number place need) = place
+place_of_move (begin number place name) = place
+place_of_move (start number place phase handed) = place
+place_of_move (end number place) = place
+place_of_move (ask number place need) = place
+place_of_move (grant number place need) = place
 
--- m is made before l: by batch, then kind, then place
+-- the move is made before the other: by batch, then kind, then place
 abbrev pub order_of : Move → List ℕ
-order_of m = batch_of m ∷ kind_of m ∷ place_of_move m
+order_of move = batch_of move ∷ kind_of move ∷ place_of_move move
 
 abbrev pub is_earlier : Move → Move → Bool
-is_earlier m l = is_before (order_of m) (order_of l)
+is_earlier move other = is_before (order_of move) (order_of other)
 
 -- What is possible
 
@@ -72,30 +72,28 @@ passed_on Holding = Some Hold
 passed_on Restarting = Some Restart
 passed_on Stopping = Some Stop
 passed_on Aborting = Some Abort
-passed_on _ = None
+passed_on Idle = None
+passed_on Paused = None
+passed_on Held = None
+passed_on Stopped = None
+passed_on Aborted = None
+passed_on Complete = None
 
 abbrev pub is_running : State → Bool
-is_running Running = true
-is_running _ = false
+is_running now = same_state now Running
 
 abbrev pub is_paused : State → Bool
-is_paused Paused = true
-is_paused _ = false
+is_paused now = same_state now Paused
 
 abbrev pub is_held : State → Bool
-is_held Held = true
-is_held _ = false
+is_held now = same_state now Held
 
 -- the batch is on its way to Stopped or Aborted
 abbrev pub is_stopping : State → Bool
-is_stopping Stopping = true
-is_stopping Aborting = true
-is_stopping _ = false
+is_stopping now = same_state now Stopping || same_state now Aborting
 
 abbrev pub is_stopped : State → Bool
-is_stopped Stopped = true
-is_stopped Aborted = true
-is_stopped _ = false
+is_stopped now = same_state now Stopped || same_state now Aborted
 
 abbrev pub is_empty : {X : Type 0} → List X → Bool
 is_empty [] = true
@@ -103,154 +101,167 @@ is_empty (x ∷ xs) = false
 
 -- no phase is live
 abbrev pub is_quiet : Rest → Bool
-is_quiet r = is_empty (phase_states (acts r))
+is_quiet rest = is_empty (phase_states (acts rest))
 
 -- what a batch in this state waits for has come about
 abbrev pub is_reached : State → Rest → Bool
-is_reached Running r = is_done r
-is_reached Pausing r = list_all is_paused (phase_states (acts r))
-is_reached Holding r = list_all is_held (phase_states (acts r))
-is_reached Restarting r = list_all is_running (phase_states (acts r))
-is_reached Stopping r = is_quiet r && is_empty (held_in r)
-is_reached Aborting r = is_quiet r && is_empty (held_in r)
-is_reached _ r = false
+is_reached Running rest = is_done rest
+is_reached Pausing rest = list_all is_paused (phase_states (acts rest))
+is_reached Holding rest = list_all is_held (phase_states (acts rest))
+is_reached Restarting rest = list_all is_running (phase_states (acts rest))
+is_reached Stopping rest = is_quiet rest && is_empty (held_in rest)
+is_reached Aborting rest = is_quiet rest && is_empty (held_in rest)
+is_reached Idle rest = false
+is_reached Paused rest = false
+is_reached Held rest = false
+is_reached Stopped rest = false
+is_reached Aborted rest = false
+is_reached Complete rest = false
 
 -- the values that a phase is handed
 abbrev pub handed_values : ValueList → List Name → ValueList
-handed_values vs names = map (λ name. (name, value_or_0 vs name)) names
+handed_values values names = map (λ name. (name, value_or_0 values name)) names
 
 abbrev pub when : Bool → Move → Option Move
-when true m = Some m
-when false m = None
+when true move = Some move
+when false move = None
 
 -- a ready act that holds all its needs begins, one that lacks a need asks for it
 abbrev pub entering : Batch → Step → Task → ℕ → Option Move
-entering b s w k =
-    elim (slice_get s.needs k) [
-      | Some r ↦ Some (ask b.number s.place r)
+entering batch step task held =
+    elim (slice_get step.needs held) [
+      | Some need ↦ Some (ask batch.number step.place need)
       | None ↦
-          elim w [
-            | runs x ↦ Some (start b.number s.place x (handed_values b.values x.handed))
-            | follows name c ↦ Some (begin b.number s.place name)
+          elim task [
+            | runs phase ↦ Some (start batch.number step.place phase (handed_values batch.values phase.handed))
+            | follows name chart ↦ Some (begin batch.number step.place name)
           ]
     ]
 
--- the last of the first k needs is given back
+-- the last of the needs that are held, so many of the first, is given back
 abbrev pub giving_back : Batch → Step → ℕ → Option Move
-giving_back b s zero = None
-giving_back b s (suc k) = elim (slice_get s.needs k) [ None ↦ None | Some r ↦ Some (release b.number s.place r) ]
+giving_back batch step zero = None
+giving_back batch step (suc fewer) =
+    elim (slice_get step.needs fewer) [ None ↦ None | Some need ↦ Some (release batch.number step.place need) ]
 
 -- as many units of the resource are free as are needed, and the act is first in its line
-abbrev pub is_served : Documents → Plant → Need → BatchAct → Bool
-is_served c s r a =
-    nat_le (units_in (holders s r.resource) + r.units) (c.capacity r.resource)
-    && elim (s.line r.resource) [ [] ↦ false | x ∷ xs ↦ is_same_act x.act a ]
+abbrev pub is_served : Setup → Plant → Need → BatchAct → Bool
+is_served setup plant need act =
+    nat_le (units_in (holders plant need.resource) + need.units) (setup.capacity need.resource)
+    && elim (plant.line need.resource) [ [] ↦ false | first ∷ more ↦ is_same_act first.act act ]
 
 -- the move that an act of a batch can make: there is at most one
-abbrev pub act_move : Documents → Plant → Batch → Rest → Option Move
-act_move c s b (ready p w k) =
-    elim (is_running b.state) [
-      | true ↦ entering b p w k
-      | false ↦ elim (is_stopping b.state && is_quiet b.rest) [ true ↦ giving_back b p k | false ↦ None ]
+abbrev pub act_move : Setup → Plant → Batch → Rest → Option Move
+act_move setup plant batch (ready step task held) =
+    elim (is_running batch.state) [
+      | true ↦ entering batch step task held
+      | false ↦ elim (is_stopping batch.state && is_quiet batch.rest) [ true ↦ giving_back batch step held | false ↦ None ]
     ]
-act_move c s b (asking p w k) =
-    elim (slice_get p.needs k) [
+act_move setup plant batch (asking step task held) =
+    elim (slice_get step.needs held) [
       | None ↦ None
-      | Some r ↦ when (is_served c s r (b.number, p.place)) (grant b.number p.place r)
+      | Some need ↦ when (is_served setup plant need (batch.number, step.place)) (grant batch.number step.place need)
     ]
-act_move c s b (open_act p r) =
-    elim (is_stopping b.state || is_stopped b.state) [
-      | false ↦ when (is_done r) (end b.number p.place)
+act_move setup plant batch (open_act step rest) =
+    elim (is_stopping batch.state || is_stopped batch.state) [
+      | false ↦ when (is_done rest) (end batch.number step.place)
       | true ↦
-          elim (is_stopping b.state && is_quiet b.rest && is_empty (held_in r))
-          [ true ↦ giving_back b p (length p.needs) | false ↦ None ]
+          elim (is_stopping batch.state && is_quiet batch.rest && is_empty (held_in rest))
+          [ true ↦ giving_back batch step (length step.needs) | false ↦ None ]
     ]
-act_move c s b (live p x t) =
-    elim (passed_on b.state) [
+act_move setup plant batch (live step phase now) =
+    elim (passed_on batch.state) [
       | None ↦ None
-      | Some command ↦ when (accepts t command) (send b.number p.place x command)
+      | Some command ↦ when (accepts now command) (send batch.number step.place phase command)
     ]
-act_move c s b (freeing p k) = giving_back b p k
-act_move c s b _ = None
+act_move setup plant batch (freeing step left) = giving_back batch step left
+act_move setup plant batch _ = None
 
 abbrev pub state_move : Batch → Option Move
-state_move b =
-    elim (is_reached b.state b.rest) [
+state_move batch =
+    elim (is_reached batch.state batch.rest) [
       | false ↦ None
-      | true ↦ elim (ends_as b.state) [ None ↦ None | Some x ↦ Some (state b.number x) ]
+      | true ↦ elim (ends_as batch.state) [ None ↦ None | Some becomes ↦ Some (state batch.number becomes) ]
     ]
 
-abbrev pub batch_moves : Documents → Plant → Batch → List Move
-batch_moves c s b = elim (state_move b) [ None ↦ filter_map (act_move c s b) (acts b.rest) | Some m ↦ m ∷ filter_map (act_move c s b) (acts b.rest) ]
+abbrev pub batch_moves : Setup → Plant → Batch → List Move
+batch_moves setup plant batch =
+    elim (state_move batch) [
+      | None ↦ filter_map (act_move setup plant batch) (acts batch.rest)
+      | Some move ↦ move ∷ filter_map (act_move setup plant batch) (acts batch.rest)
+    ]
 
-abbrev pub possible : Documents → Plant → List Move
-possible c s = flat_map (batch_moves c s) s.batches
+abbrev pub possible : Setup → Plant → List Move
+possible setup plant = flat_map (batch_moves setup plant) plant.batches
 
 abbrev pub least : List Move → Option Move
 least [] = None
-least (m ∷ ms) = elim (least ms) [ None ↦ Some m | Some l ↦ elim (is_earlier l m) [ true ↦ Some l | false ↦ Some m ] ]
+least (move ∷ more) =
+    elim (least more) [ None ↦ Some move | Some other ↦ elim (is_earlier other move) [ true ↦ Some other | false ↦ Some move ] ]
 
 -- the least possible move
-abbrev pub next : Documents → Plant → Option Move
-next c s = least (possible c s)
+abbrev pub next : Setup → Plant → Option Move
+next setup plant = least (possible setup plant)
 
 -- What a move changes
 
--- an act that has ended holds its first k needs still, and is finished where it holds none
+-- an act that has ended holds so many of its first needs still, and is finished where it holds none
 abbrev pub freed : Step → ℕ → Rest
-freed s zero = done
-freed s (suc k) = freeing s (suc k)
+freed step zero = done
+freed step (suc fewer) = freeing step (suc fewer)
 
 abbrev pub sent : Command → Rest → Rest
-sent command (live s p x) = live s p (target command)
-sent command r = r
+sent command (live step phase now) = live step phase (target command)
+sent command rest = rest
 
 abbrev pub released : Rest → Rest
-released (ready s w k) = ready s w (pred k)
-released (open_act s r) = freed s (pred (length s.needs))
-released (freeing s k) = freed s (pred k)
-released r = r
+released (ready step task held) = ready step task (pred held)
+released (open_act step rest) = freed step (pred (length step.needs))
+released (freeing step left) = freed step (pred left)
+released rest = rest
 
 abbrev pub begun : ValueList → Rest → Rest
-begun vs (ready s (runs p) k) = live s p Running
-begun vs (ready s (follows name c) k) = open_act s (reach vs c)
-begun vs r = r
+begun values (ready step (runs phase) held) = live step phase Running
+begun values (ready step (follows name chart) held) = open_act step (reach values chart)
+begun values rest = rest
 
 abbrev pub ended : Rest → Rest
-ended (open_act s r) = freed s (length s.needs)
-ended (live s p x) = freed s (length s.needs)
-ended r = r
+ended (open_act step rest) = freed step (length step.needs)
+ended (live step phase now) = freed step (length step.needs)
+ended rest = rest
 
 abbrev pub asked : Rest → Rest
-asked (ready s w k) = asking s w k
-asked r = r
+asked (ready step task held) = asking step task held
+asked rest = rest
 
 abbrev pub granted : Rest → Rest
-granted (asking s w k) = ready s w (suc k)
-granted r = r
+granted (asking step task held) = ready step task (suc held)
+granted rest = rest
 
 -- what a move makes of the act at its place
 abbrev pub act_after : ValueList → Move → Rest → Rest
-act_after vs (send n p x command) = sent command
-act_after vs (state n x) = λ r. r
-act_after vs (release n p r) = released
-act_after vs (begin n p name) = begun vs
-act_after vs (start n p x hs) = begun vs
-act_after vs (end n p) = ended
-act_after vs (ask n p r) = asked
-act_after vs (grant n p r) = granted
+act_after values (send number place phase command) = sent command
+act_after values (state number becomes) = λ rest. rest
+act_after values (release number place need) = released
+act_after values (begin number place name) = begun values
+act_after values (start number place phase handed) = begun values
+act_after values (end number place) = ended
+act_after values (ask number place need) = asked
+act_after values (grant number place need) = granted
 
 abbrev pub line_after : Move → (Name → List Share) → Name → List Share
-line_after (ask n p r) line q =
-    elim (same_name q r.resource) [ true ↦ line q ++ record { act = (n, p); units = r.units } ∷ [] | false ↦ line q ]
-line_after (grant n p r) line q =
-    elim (same_name q r.resource) [ true ↦ filter (λ a. not (is_same_act a.act (n, p))) (line q) | false ↦ line q ]
-line_after _ line q = line q
+line_after (ask number place need) line resource =
+    elim (same_name resource need.resource)
+    [ true ↦ line resource ++ record { act = (number, place); units = need.units } ∷ [] | false ↦ line resource ]
+line_after (grant number place need) line resource =
+    elim (same_name resource need.resource)
+    [ true ↦ filter (λ share. not (is_same_act share.act (number, place))) (line resource) | false ↦ line resource ]
+line_after _ line resource = line resource
 
 abbrev pub batch_after : Move → Batch → Batch
-batch_after (state n x) b = record b { state = x }
-batch_after m b = in_act (place_of_move m) (act_after b.values m) b
+batch_after (state number becomes) batch = record batch { state = becomes }
+batch_after move batch = in_act (place_of_move move) (act_after batch.values move) batch
 
 -- the plant after a move
 abbrev pub after : Plant → Move → Plant
-after s m = record (in_batch (batch_of m) (batch_after m) s) { line = line_after m s.line }
+after plant move = record (in_batch (batch_of move) (batch_after move) plant) { line = line_after move plant.line }

@@ -8,27 +8,28 @@ use Rattle.batch_recipe.specs.Nodes.{child}
 
 abbrev mutual
   pub IsPlaced : Place → Tree → Type 0
-  IsPlaced p (act s w) = (s.place ≡ p) × IsPlacedBelow p w
-  IsPlaced p skip = ⊤
-  IsPlaced p (seq cs) = ArePlaced p 0 cs
-  IsPlaced p (par cs) = ArePlaced p 0 cs
-  IsPlaced p (sel ch) = IsChoicePlaced p 0 ch
-  IsPlaced p (loop n c body) = IsPlaced (child p 0) body
+  IsPlaced place (act step task) = (step.place ≡ place) × IsPlacedBelow place task
+  IsPlaced place skip = ⊤
+  IsPlaced place (seq charts) = ArePlaced place 0 charts
+  IsPlaced place (par charts) = ArePlaced place 0 charts
+  IsPlaced place (sel choices) = IsChoicePlaced place 0 choices
+  IsPlaced place (loop turns until body) = IsPlaced (child place 0) body
 
   pub IsPlacedBelow : Place → Task → Type 0
-  IsPlacedBelow p (runs x) = ⊤
-  IsPlacedBelow p (follows name c) = IsPlaced (child p 0) c
+  IsPlacedBelow place (runs phase) = ⊤
+  IsPlacedBelow place (follows name chart) = IsPlaced (child place 0) chart
 
-  -- from child i on
+  -- from the child with this number on
   pub ArePlaced : Place → ℕ → Trees → Type 0
-  ArePlaced p i no_trees = ⊤
-  ArePlaced p i (tree c cs) = IsPlaced (child p i) c × ArePlaced p (i + 1) cs
+  ArePlaced place child_number no_trees = ⊤
+  ArePlaced place child_number (tree chart charts) = IsPlaced (child place child_number) chart × ArePlaced place (child_number + 1) charts
 
   pub IsChoicePlaced : Place → ℕ → Choices → Type 0
-  IsChoicePlaced p i (otherwise c) = IsPlaced (child p i) c
-  IsChoicePlaced p i (choice q c ch) = IsPlaced (child p i) c × IsChoicePlaced p (i + 1) ch
+  IsChoicePlaced place child_number (otherwise chart) = IsPlaced (child place child_number) chart
+  IsChoicePlaced place child_number (choice condition chart choices) =
+      IsPlaced (child place child_number) chart × IsChoicePlaced place (child_number + 1) choices
 
 -- each act stands before all that come after it
 abbrev pub Rises : List Rest → Type 0
 Rises [] = ⊤
-Rises (a ∷ more) = Each (λ b. is_before (place_of a) (place_of b) ≡ true) more × Rises more
+Rises (first ∷ more) = Each (λ other. is_before (place_of first) (place_of other) ≡ true) more × Rises more

@@ -19,9 +19,12 @@ pub record Recipe : Type 0 where
   pub outputs : List Name
   pub procedure : Tree
 
--- the cleared documents: the capacity of each resource, which phases a unit offers, and the recipes; and the most batches
+-- what the machine is set up with: the names of its cell's units and of all its resources, which are the units, the free
+-- modules and what is shared; the capacity of each resource, which phases a unit offers, and the recipes; and the most batches
 -- that may exist at once
-pub record Documents : Type 0 where
+pub record Setup : Type 0 where
+  pub units : List Name
+  pub resources : List Name
   pub capacity : Name → ℕ
   pub offers : Name → Name → Bool
   pub recipes : List Recipe
@@ -46,11 +49,11 @@ pub record Share : Type 0 where
 
 -- the units of all shares together
 abbrev pub units_in : List Share → ℕ
-units_in shares = sum_by (λ h. h.units) shares
+units_in shares = sum_by (λ share. share.units) shares
 
 -- the acts whose shares they are, in order
 abbrev pub acts_in : List Share → List BatchAct
-acts_in shares = map (λ h. h.act) shares
+acts_in shares = map (λ share. share.act) shares
 
 pub record Plant : Type 0 where
   pub batches : List Batch
@@ -60,67 +63,69 @@ pub record Plant : Type 0 where
 
 -- the plant in which nothing has happened
 abbrev pub opening : Plant
-opening = record { batches = []; next_number = 1; line = λ r. [] }
+opening = record { batches = []; next_number = 1; line = λ resource. [] }
 
 abbrev pub is_same_act : BatchAct → BatchAct → Bool
-is_same_act a b = nat_eq a.0 b.0 && same_place a.1 b.1
+is_same_act act other = nat_eq act.0 other.0 && same_place act.1 other.1
 
 abbrev pub batch_at : Plant → ℕ → Option Batch
-batch_at s n = find (λ b. nat_eq b.number n) s.batches
+batch_at plant number = find (λ batch. nat_eq batch.number number) plant.batches
 
--- the plant in which f has changed batch n
+-- the plant in which the batch with this number has been changed
 abbrev pub in_batch : ℕ → (Batch → Batch) → Plant → Plant
-in_batch n f s = record s { batches = map (λ b. elim (nat_eq b.number n) [ true ↦ f b | false ↦ b ]) s.batches }
+in_batch number change plant =
+    record plant { batches = map (λ batch. elim (nat_eq batch.number number) [ true ↦ change batch | false ↦ batch ]) plant.batches }
 
--- the batch in which f has changed the act at this place, and its charts have gone on from there
+-- the batch in which the act at this place has been changed, and its charts have gone on from there
 abbrev pub in_act : Place → (Rest → Rest) → Batch → Batch
-in_act p f b = record b { rest = advance b.values (changed_at p f b.rest) }
+in_act place change batch = record batch { rest = advance batch.values (changed_at place change batch.rest) }
 
 abbrev pub place_of : Rest → Place
-place_of (ready s w k) = s.place
-place_of (asking s w k) = s.place
-place_of (open_act s r) = s.place
-place_of (live s p x) = s.place
-place_of (freeing s k) = s.place
+place_of (ready step task granted) = step.place
+place_of (asking step task granted) = step.place
+place_of (open_act step rest) = step.place
+place_of (live step phase state) = step.place
+place_of (freeing step left) = step.place
 place_of _ = []
 
 -- what an act itself holds, in the order in which it asked for it
 abbrev pub held_by : Rest → List Need
-held_by (ready s w k) = take k s.needs
-held_by (asking s w k) = take k s.needs
-held_by (open_act s r) = s.needs
-held_by (live s p x) = s.needs
-held_by (freeing s k) = take k s.needs
+held_by (ready step task granted) = take granted step.needs
+held_by (asking step task granted) = take granted step.needs
+held_by (open_act step rest) = step.needs
+held_by (live step phase state) = step.needs
+held_by (freeing step left) = take left step.needs
 held_by _ = []
 
 -- what an act in line asks for
 abbrev pub asked_by : Rest → Option Need
-asked_by (asking s w k) = slice_get s.needs k
+asked_by (asking step task granted) = slice_get step.needs granted
 asked_by _ = None
 
 -- what is held by an act or by any below it
 abbrev pub held_in : Rest → List Need
-held_in r = flat_map held_by (acts r)
+held_in rest = flat_map held_by (acts rest)
 
 -- the states of the live phases
 abbrev pub phase_states : List Rest → List State
 phase_states [] = []
-phase_states (live s p x ∷ more) = x ∷ phase_states more
+phase_states (live step phase state ∷ more) = state ∷ phase_states more
 phase_states (_ ∷ more) = phase_states more
 
 -- each act of a plant that its charts have reached, with its batch's number
 abbrev pub acts_of : Batch → List (ℕ × Rest)
-acts_of b = map (λ a. (b.number, a)) (acts b.rest)
+acts_of batch = map (λ act. (batch.number, act)) (acts batch.rest)
 
 -- who holds how much of a resource: a share for each need by which an act holds it
 abbrev pub holders : Plant → Name → List Share
-holders s resource =
+holders plant resource =
     flat_map
-    (λ b. flat_map
-    (λ a. map (λ r. record { act = (b.number, place_of a); units = r.units }) (filter (λ r. same_name resource r.resource) (held_by a)))
-    (acts b.rest))
-    s.batches
+    (λ batch. flat_map
+    (λ act. map (λ need. record { act = (batch.number, place_of act); units = need.units })
+    (filter (λ need. same_name resource need.resource) (held_by act)))
+    (acts batch.rest))
+    plant.batches
 
 -- who asks for how much of a resource, in the order in which the asks came
 abbrev pub askers : Plant → Name → List Share
-askers s resource = s.line resource
+askers plant resource = plant.line resource

@@ -7,12 +7,19 @@ use Rattle.batch_model.specs.Plant.{Formula, size_out_of_range, value_out_of_ran
 
 -- the first value out of its range is refused
 abbrev pub values_for : document.Recipe → ℕ → Formula
-values_for r size =
-    elim (find (λ q. not (is_in_range r.basis size q)) (quantities_of r)) [ None ↦ scaled (batch_values r size) | Some q ↦ value_out_of_range q.name ]
+values_for recipe size =
+    elim (find (λ quantity. not (is_in_range recipe.basis size quantity)) (quantities_of recipe))
+    [ None ↦ scaled (batch_values recipe size) | Some quantity ↦ value_out_of_range quantity.name ]
 
 abbrev pub formula_of : document.Recipe → ℕ → Formula
-formula_of r size = elim (is_size size) [ true ↦ values_for r size | false ↦ size_out_of_range ]
+formula_of recipe size = elim (is_size size) [ true ↦ values_for recipe size | false ↦ size_out_of_range ]
 
 -- a recipe's name is that of its procedure
 abbrev pub recipe_of : document.Recipe → Recipe
-recipe_of r = record { name = r.acts.procedure.name; formula = formula_of r; outputs = r.outputs.items; procedure = procedure_tree r.acts }
+recipe_of recipe =
+    record {
+      name = recipe.acts.procedure.name;
+      formula = formula_of recipe;
+      outputs = recipe.outputs.items;
+      procedure = procedure_tree recipe.acts;
+    }

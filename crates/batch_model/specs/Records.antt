@@ -1,11 +1,11 @@
 -- trusted: what a record alone tells, and when it is safe.
 use Rattle.std.specs.Prelude.{◌≡◌, ◌⊎◌, ℕ, ◌≤◌, List, [], ◌∷◌, ◌++◌, filter, fold, Bool, true, false, not, IsTrue, ⊤, Option, Some, None, nat_eq}
 use Rattle.batch_matrix.specs.declared.state.State.{State}
-use Rattle.batch_matrix.specs.declared.state.State.TheVariants.{Idle, Stopped, Aborted, Complete}
+use Rattle.batch_matrix.specs.declared.state.State.TheVariants.{Idle, Running, Pausing, Paused, Holding, Held, Restarting, Stopping, Stopped, Aborting, Aborted, Complete}
 use Rattle.batch_matrix.specs.declared.command.Command.TheVariants.{Stop, Abort}
 use Rattle.batch_matrix.specs.declared.report.Report.{Report}
 use Rattle.batch_model.specs.Lists.{Has, Each}
-use Rattle.batch_model.specs.Plant.{Documents, BatchAct, Share, units_in, acts_in, Plant, is_same_act, holders, askers}
+use Rattle.batch_model.specs.Plant.{Setup, BatchAct, Share, units_in, acts_in, Plant, is_same_act, holders, askers}
 use Rattle.batch_model.specs.Moves.{state, release, start, ask, grant}
 use Rattle.batch_model.specs.Events.{created, ordered, reported}
 use Rattle.batch_model.specs.Runs.{Out, reply, move}
@@ -13,32 +13,34 @@ use Rattle.batch_recipe.specs.Conditions.{Name, same_name}
 use Rattle.batch_recipe.specs.Tree.{Place, Phase}
 
 abbrev pub without : BatchAct → List Share → List Share
-without a shares = filter (λ b. not (is_same_act b.act a)) shares
+without act shares = filter (λ share. not (is_same_act share.act act)) shares
 
 abbrev pub without_batch : ℕ → List Share → List Share
-without_batch n shares = filter (λ b. not (nat_eq b.act.0 n)) shares
+without_batch number shares = filter (λ share. not (nat_eq share.act.0 number)) shares
 
 -- a place of a batch holds its share of a resource from its grant to its release
 abbrev pub holders_after : Name → List Share → Out → List Share
-holders_after r hs (move (grant n p q)) =
-    elim (same_name r q.resource) [ true ↦ hs ++ record { act = (n, p); units = q.units } ∷ [] | false ↦ hs ]
-holders_after r hs (move (release n p q)) = elim (same_name r q.resource) [ true ↦ without (n, p) hs | false ↦ hs ]
-holders_after r hs _ = hs
+holders_after resource shares (move (grant number place need)) =
+    elim (same_name resource need.resource) [ true ↦ shares ++ record { act = (number, place); units = need.units } ∷ [] | false ↦ shares ]
+holders_after resource shares (move (release number place need)) =
+    elim (same_name resource need.resource) [ true ↦ without (number, place) shares | false ↦ shares ]
+holders_after resource shares _ = shares
 
 abbrev pub holders_told : List Out → Name → List Share
-holders_told outs r = fold (holders_after r) [] outs
+holders_told outs resource = fold (holders_after resource) [] outs
 
 -- it waits from its ask to its grant, or to the next stop or abort of its batch
 abbrev pub waiters_after : Name → List Share → Out → List Share
-waiters_after r ws (move (ask n p q)) =
-    elim (same_name r q.resource) [ true ↦ ws ++ record { act = (n, p); units = q.units } ∷ [] | false ↦ ws ]
-waiters_after r ws (move (grant n p q)) = elim (same_name r q.resource) [ true ↦ without (n, p) ws | false ↦ ws ]
-waiters_after r ws (reply (ordered Stop n x)) = without_batch n ws
-waiters_after r ws (reply (ordered Abort n x)) = without_batch n ws
-waiters_after r ws _ = ws
+waiters_after resource shares (move (ask number place need)) =
+    elim (same_name resource need.resource) [ true ↦ shares ++ record { act = (number, place); units = need.units } ∷ [] | false ↦ shares ]
+waiters_after resource shares (move (grant number place need)) =
+    elim (same_name resource need.resource) [ true ↦ without (number, place) shares | false ↦ shares ]
+waiters_after resource shares (reply (ordered Stop number becomes)) = without_batch number shares
+waiters_after resource shares (reply (ordered Abort number becomes)) = without_batch number shares
+waiters_after resource shares _ = shares
 
 abbrev pub waiters_told : List Out → Name → List Share
-waiters_told outs r = fold (waiters_after r) [] outs
+waiters_told outs resource = fold (waiters_after resource) [] outs
 
 -- a phase step of a batch that runs its phase
 pub record Active : Type 0 where
@@ -49,28 +51,32 @@ abbrev pub ends_phase : Report → Bool
 ends_phase Report.Done = true
 ends_phase Report.Stopped = true
 ends_phase Report.Aborted = true
-ends_phase _ = false
+ends_phase Report.Paused = false
+ends_phase Report.Held = false
+ends_phase Report.Running = false
+ends_phase Report.Fault = false
 
 -- a phase of a unit is active from its start to the report at its place that ends it
 abbrev pub active_after : List Active → Out → List Active
-active_after xs (move (start n p x vs)) = xs ++ (record { act = (n, p); phase = x }) ∷ []
-active_after xs (reply (reported unit name word n p x)) =
-    elim (ends_phase word) [ true ↦ filter (λ a. not (is_same_act a.act (n, p))) xs | false ↦ xs ]
-active_after xs _ = xs
+active_after actives (move (start number place phase handed)) = actives ++ (record { act = (number, place); phase = phase }) ∷ []
+active_after actives (reply (reported unit name word number place becomes)) =
+    elim (ends_phase word) [ true ↦ filter (λ active. not (is_same_act active.act (number, place))) actives | false ↦ actives ]
+active_after actives _ = actives
 
 abbrev pub active_told : List Out → List Active
 active_told outs = fold active_after [] outs
 
 -- a batch's state is the last one that a line tells
 abbrev pub state_after : ℕ → Option State → Out → Option State
-state_after n old (reply (created m r size)) = elim (nat_eq m n) [ true ↦ Some Idle | false ↦ old ]
-state_after n old (reply (ordered command m x)) = elim (nat_eq m n) [ true ↦ Some x | false ↦ old ]
-state_after n old (reply (reported unit name word m p x)) = elim (nat_eq m n) [ true ↦ Some x | false ↦ old ]
-state_after n old (move (state m x)) = elim (nat_eq m n) [ true ↦ Some x | false ↦ old ]
-state_after n old _ = old
+state_after number old (reply (created its_number recipe size)) = elim (nat_eq its_number number) [ true ↦ Some Idle | false ↦ old ]
+state_after number old (reply (ordered command its_number becomes)) = elim (nat_eq its_number number) [ true ↦ Some becomes | false ↦ old ]
+state_after number old (reply (reported unit name word its_number place becomes)) =
+    elim (nat_eq its_number number) [ true ↦ Some becomes | false ↦ old ]
+state_after number old (move (state its_number becomes)) = elim (nat_eq its_number number) [ true ↦ Some becomes | false ↦ old ]
+state_after number old _ = old
 
 abbrev pub state_told : List Out → ℕ → Option State
-state_told outs n = fold (state_after n) None outs
+state_told outs number = fold (state_after number) None outs
 
 -- Circles
 
@@ -80,47 +86,50 @@ pub record Scene : Type 0 where
   pub waiters : Name → List BatchAct
 
 abbrev pub scene_told : List Out → Scene
-scene_told outs = record { holders = λ r. acts_in (holders_told outs r); waiters = λ r. acts_in (waiters_told outs r) }
+scene_told outs =
+    record { holders = λ resource. acts_in (holders_told outs resource); waiters = λ resource. acts_in (waiters_told outs resource) }
 
 abbrev pub scene_of : Plant → Scene
-scene_of s = record { holders = λ r. acts_in (holders s r); waiters = λ r. acts_in (askers s r) }
+scene_of plant = record { holders = λ resource. acts_in (holders plant resource); waiters = λ resource. acts_in (askers plant resource) }
 
 pub record Waiting : Type 0 where
   pub act : BatchAct
   pub resource : Name
 
 abbrev pub IsWaiting : Scene → Waiting → Type 0
-IsWaiting sc w = Has (sc.waiters w.resource) w.act
+IsWaiting scene waiting = Has (scene.waiters waiting.resource) waiting.act
 
--- p is q or stands above it
+-- the upper place is the other or stands above it
 abbrev pub IsAtOrAbove : Place → Place → Type 0
-IsAtOrAbove p q = (below : Place) × (p ++ below ≡ q)
+IsAtOrAbove upper place = (below : Place) × (upper ++ below ≡ place)
 
--- the resource that w waits for is held by v's batch, at v's place or above it
+-- the resource that is waited for is held by the other's batch, at the other's place or above it
 abbrev pub WaitsForHolder : Scene → Waiting → Waiting → Type 0
-WaitsForHolder sc w v = (p : Place) × Has (sc.holders w.resource) (v.act.0, p) × IsAtOrAbove p v.act.1
+WaitsForHolder scene waiting other =
+    (place : Place) × Has (scene.holders waiting.resource) (other.act.0, place) × IsAtOrAbove place other.act.1
 
--- a stands before b in the list
+-- the earlier stands before the later in the list
 abbrev pub StandsBefore : {X : Type 0} → List X → X → X → Type 0
-StandsBefore [] a b = ⊥
-StandsBefore (x ∷ xs) a b = ((x ≡ a) × Has xs b) ⊎ StandsBefore xs a b
+StandsBefore [] earlier later = ⊥
+StandsBefore (x ∷ xs) earlier later = ((x ≡ earlier) × Has xs later) ⊎ StandsBefore xs earlier later
 
--- v asked for the same resource as w, and before it
+-- the other asked for the same resource, and before it
 abbrev pub WaitsForOlder : Scene → Waiting → Waiting → Type 0
-WaitsForOlder sc w v = (v.resource ≡ w.resource) × StandsBefore (sc.waiters w.resource) v.act w.act
+WaitsForOlder scene waiting other =
+    (other.resource ≡ waiting.resource) × StandsBefore (scene.waiters waiting.resource) other.act waiting.act
 
--- w waits until v has gone on
+-- the one waits until the other has gone on
 abbrev pub PointsTo : Scene → Waiting → Waiting → Type 0
-PointsTo sc w v = WaitsForHolder sc w v ⊎ WaitsForOlder sc w v
+PointsTo scene waiting other = WaitsForHolder scene waiting other ⊎ WaitsForOlder scene waiting other
 
--- w points to the first of the others, each to the next, and the last to `last`
+-- the waiting step points to the first of the others, each to the next, and the last to `last`
 abbrev pub PointAlong : Scene → Waiting → List Waiting → Waiting → Type 0
-PointAlong sc w [] last = PointsTo sc w last
-PointAlong sc w (v ∷ vs) last = PointsTo sc w v × PointAlong sc v vs last
+PointAlong scene waiting [] last = PointsTo scene waiting last
+PointAlong scene waiting (other ∷ others) last = PointsTo scene waiting other × PointAlong scene other others last
 
 abbrev pub IsCircle : Scene → List Waiting → Type 0
-IsCircle sc [] = ⊥
-IsCircle sc (w ∷ ws) = Each (IsWaiting sc) (w ∷ ws) × PointAlong sc w ws w
+IsCircle scene [] = ⊥
+IsCircle scene (waiting ∷ others) = Each (IsWaiting scene) (waiting ∷ others) × PointAlong scene waiting others waiting
 
 -- a waiting step and a holder of its resource
 pub record Link : Type 0 where
@@ -128,17 +137,17 @@ pub record Link : Type 0 where
   pub holder : BatchAct
 
 abbrev pub IsLink : Scene → Link → Type 0
-IsLink sc l = IsWaiting sc l.waiting × Has (sc.holders l.waiting.resource) l.holder
+IsLink scene link = IsWaiting scene link.waiting × Has (scene.holders link.waiting.resource) link.holder
 
 -- the waiting step stands at or below the holder
 abbrev pub StandsUnder : BatchAct → Waiting → Type 0
-StandsUnder h w = (w.act.0 ≡ h.0) × IsAtOrAbove h.1 w.act.1
+StandsUnder holder waiting = (waiting.act.0 ≡ holder.0) × IsAtOrAbove holder.1 waiting.act.1
 
 -- each link's waiting step stands at or below the holder of the link before
 abbrev pub IsChain : Scene → List Link → Type 0
-IsChain sc [] = ⊤
-IsChain sc (l ∷ []) = IsLink sc l
-IsChain sc (l ∷ k ∷ ls) = IsLink sc l × StandsUnder l.holder k.waiting × IsChain sc (k ∷ ls)
+IsChain scene [] = ⊤
+IsChain scene (link ∷ []) = IsLink scene link
+IsChain scene (link ∷ following ∷ links) = IsLink scene link × StandsUnder link.holder following.waiting × IsChain scene (following ∷ links)
 
 -- Safety
 
@@ -146,43 +155,55 @@ abbrev pub IsAtRest : State → Type 0
 IsAtRest Complete = ⊤
 IsAtRest Stopped = ⊤
 IsAtRest Aborted = ⊤
-IsAtRest _ = ⊥
+IsAtRest Idle = ⊥
+IsAtRest Running = ⊥
+IsAtRest Pausing = ⊥
+IsAtRest Paused = ⊥
+IsAtRest Holding = ⊥
+IsAtRest Held = ⊥
+IsAtRest Restarting = ⊥
+IsAtRest Stopping = ⊥
+IsAtRest Aborting = ⊥
 
 -- the shares held of a resource are together no more than its capacity
-abbrev pub HasCapacity : Documents → List Out → Type 0
-HasCapacity c outs = (r : Name) → units_in (holders_told outs r) ≤ c.capacity r
+abbrev pub HasCapacity : Setup → List Out → Type 0
+HasCapacity setup outs = (resource : Name) → units_in (holders_told outs resource) ≤ setup.capacity resource
 
 -- the unit of each active phase is held by the phase's batch, above the phase
 abbrev pub HoldsUnits : List Out → Type 0
 HoldsUnits outs =
-    (a : Active) → Has (active_told outs) a
-    → (p : Place) × Has (acts_in (holders_told outs a.phase.unit)) (a.act.0, p) × IsAtOrAbove p a.act.1 × (p ≡ a.act.1 → ⊥)
+    (active : Active) → Has (active_told outs) active
+    → (place : Place) × Has (acts_in (holders_told outs active.phase.unit)) (active.act.0, place) × IsAtOrAbove place active.act.1
+    × (place ≡ active.act.1 → ⊥)
 
 abbrev pub IsOnUnit : Name → Name → Active → Type 0
-IsOnUnit unit name a = (a.phase.unit ≡ unit) × (a.phase.name ≡ name)
+IsOnUnit unit name active = (active.phase.unit ≡ unit) × (active.phase.name ≡ name)
 
 -- a phase that the last line starts is offered by its unit and wasn't active there before
-abbrev pub StartsIdle : Documents → List Out → Type 0
-StartsIdle c outs =
-    (before : List Out) (n : ℕ) (p : Place) (x : Phase) (vs : List (Name × ℕ)) → outs ≡ before ++ move (start n p x vs) ∷ []
-    → IsTrue (c.offers x.unit x.name) × Each (λ a. IsOnUnit x.unit x.name a → ⊥) (active_told before)
+abbrev pub StartsIdle : Setup → List Out → Type 0
+StartsIdle setup outs =
+    (before : List Out) (number : ℕ) (place : Place) (phase : Phase) (handed : List (Name × ℕ))
+    → outs ≡ before ++ move (start number place phase handed) ∷ []
+    → IsTrue (setup.offers phase.unit phase.name) × Each (λ active. IsOnUnit phase.unit phase.name active → ⊥) (active_told before)
 
 abbrev pub HasNoCircle : List Out → Type 0
-HasNoCircle outs = (ws : List Waiting) → IsCircle (scene_told outs) ws → ⊥
+HasNoCircle outs = (circle : List Waiting) → IsCircle (scene_told outs) circle → ⊥
 
 -- a batch that is complete, stopped or aborted holds nothing and waits for nothing
 abbrev pub RestsEmpty : List Out → Type 0
 RestsEmpty outs =
-    (n : ℕ) (x : State) → state_told outs n ≡ Some x → IsAtRest x
-    → (r : Name) → Each (λ h. h.act.0 ≡ n → ⊥) (holders_told outs r) × Each (λ h. h.act.0 ≡ n → ⊥) (waiters_told outs r)
+    (number : ℕ) (now : State) → state_told outs number ≡ Some now → IsAtRest now
+    → (resource : Name)
+    → Each (λ share. share.act.0 ≡ number → ⊥) (holders_told outs resource)
+    × Each (λ share. share.act.0 ≡ number → ⊥) (waiters_told outs resource)
 
-pub record IsSafeNow (c : Documents) (outs : List Out) : Type 0 where
-  pub capacity : HasCapacity c outs
+pub record IsSafeNow (setup : Setup) (outs : List Out) : Type 0 where
+  pub capacity : HasCapacity setup outs
   pub units : HoldsUnits outs
-  pub starts : StartsIdle c outs
+  pub starts : StartsIdle setup outs
   pub circles : HasNoCircle outs
   pub rests : RestsEmpty outs
 
 -- after every line of the record
-abbrev pub IsSafe : Documents → List Out → Type 0
-IsSafe c outs = (front more : List Out) → front ++ more ≡ outs → IsSafeNow c front
+abbrev pub IsSafe : Setup → List Out → Type 0
+IsSafe setup outs = (front more : List Out) → front ++ more ≡ outs → IsSafeNow setup front

@@ -11,15 +11,15 @@ same_place = pointwise nat_eq
 
 mutual
   pub data Rest : Type 0 where
-    -- reached, and holds its first k needs
+    -- reached, and holds so many of its first needs
     ready : Step → Task → ℕ → Rest
-    -- holds its first k needs and stands in line for the next
+    -- holds so many of its first needs and stands in line for the next
     asking : Step → Task → ℕ → Rest
     -- begun, holds all its needs; below it what remains of its chart
     open_act : Step → Rest → Rest
     -- a begun phase, holds all its needs
     live : Step → Phase → State → Rest
-    -- ended, and holds its first k needs still
+    -- ended, and holds so many of its first needs still
     freeing : Step → ℕ → Rest
     -- the branch that runs, and the charts after it
     in_seq : Rest → Trees → Rest
@@ -38,117 +38,125 @@ is_done _ = false
 
 abbrev pub all_done : Rests → Bool
 all_done no_rests = true
-all_done (rest r rs) = is_done r && all_done rs
+all_done (rest remaining rests) = is_done remaining && all_done rests
 
 -- `par` is finished when all branches are
 abbrev pub joined : Rests → Rest
-joined rs = elim (all_done rs) [ true ↦ done | false ↦ in_par rs ]
+joined rests = elim (all_done rests) [ true ↦ done | false ↦ in_par rests ]
 
 -- a body in which nothing is left to run is finished in all its turns
 abbrev pub turning : ℕ → Cond → Tree → Rest → Rest
-turning n c body r = elim (is_done r) [ true ↦ done | false ↦ in_loop n c body r ]
+turning turns until body remaining = elim (is_done remaining) [ true ↦ done | false ↦ in_loop turns until body remaining ]
 
 -- what remains of a chart that has just been reached
 abbrev mutual
   pub reach : ValueList → Tree → Rest
-  reach vs (act s w) = ready s w 0
-  reach vs skip = done
-  reach vs (seq cs) = reach_first vs cs
-  reach vs (par cs) = joined (reach_each vs cs)
-  reach vs (sel ch) = reach_chosen vs ch
-  reach vs (loop n c body) = turning (pred n) c body (reach vs body)
+  reach values (act step task) = ready step task 0
+  reach values skip = done
+  reach values (seq charts) = reach_first values charts
+  reach values (par charts) = joined (reach_each values charts)
+  reach values (sel choices) = reach_chosen values choices
+  reach values (loop turns until body) = turning (pred turns) until body (reach values body)
 
   -- one branch after the other
   pub reach_first : ValueList → Trees → Rest
-  reach_first vs no_trees = done
-  reach_first vs (tree c cs) = let r = reach vs c in elim (is_done r) [ true ↦ reach_first vs cs | false ↦ in_seq r cs ]
+  reach_first values no_trees = done
+  reach_first values (tree chart charts) =
+      let remaining = reach values chart in elim (is_done remaining) [ true ↦ reach_first values charts | false ↦ in_seq remaining charts ]
 
   pub reach_each : ValueList → Trees → Rests
-  reach_each vs no_trees = no_rests
-  reach_each vs (tree c cs) = rest (reach vs c) (reach_each vs cs)
+  reach_each values no_trees = no_rests
+  reach_each values (tree chart charts) = rest (reach values chart) (reach_each values charts)
 
   -- the first branch whose condition holds, else the last
   pub reach_chosen : ValueList → Choices → Rest
-  reach_chosen vs (otherwise c) = reach vs c
-  reach_chosen vs (choice p c ch) = elim (holds vs p) [ true ↦ reach vs c | false ↦ reach_chosen vs ch ]
+  reach_chosen values (otherwise chart) = reach values chart
+  reach_chosen values (choice condition chart choices) =
+      elim (holds values condition) [ true ↦ reach values chart | false ↦ reach_chosen values choices ]
 
 -- a branch of `seq` that is finished gives way to the next
 abbrev pub continued : ValueList → Rest → Trees → Rest
-continued vs r cs = elim (is_done r) [ true ↦ reach_first vs cs | false ↦ in_seq r cs ]
+continued values remaining charts = elim (is_done remaining) [ true ↦ reach_first values charts | false ↦ in_seq remaining charts ]
 
 -- a turn that is finished is the last where the condition holds or no turn may follow
 abbrev pub turned : ValueList → ℕ → Cond → Tree → Rest → Rest
-turned vs zero c body r = elim (is_done r) [ true ↦ done | false ↦ in_loop 0 c body r ]
-turned vs (suc n) c body r =
-    elim (is_done r) [
-      | false ↦ in_loop (suc n) c body r
-      | true ↦ elim (holds vs c) [ true ↦ done | false ↦ turning n c body (reach vs body) ]
+turned values zero until body remaining = elim (is_done remaining) [ true ↦ done | false ↦ in_loop 0 until body remaining ]
+turned values (suc turns) until body remaining =
+    elim (is_done remaining) [
+      | false ↦ in_loop (suc turns) until body remaining
+      | true ↦ elim (holds values until) [ true ↦ done | false ↦ turning turns until body (reach values body) ]
     ]
 
 -- what remains once everything is reached that can be, and finished what is
 abbrev mutual
   pub advance : ValueList → Rest → Rest
-  advance vs (ready s w k) = ready s w k
-  advance vs (asking s w k) = asking s w k
-  advance vs (open_act s r) = open_act s (advance vs r)
-  advance vs (live s p x) = live s p x
-  advance vs (freeing s k) = freeing s k
-  advance vs (in_seq r cs) = continued vs (advance vs r) cs
-  advance vs (in_par rs) = joined (advance_each vs rs)
-  advance vs (in_loop n c body r) = turned vs n c body (advance vs r)
-  advance vs done = done
+  advance values (ready step task granted) = ready step task granted
+  advance values (asking step task granted) = asking step task granted
+  advance values (open_act step remaining) = open_act step (advance values remaining)
+  advance values (live step phase state) = live step phase state
+  advance values (freeing step left) = freeing step left
+  advance values (in_seq remaining charts) = continued values (advance values remaining) charts
+  advance values (in_par rests) = joined (advance_each values rests)
+  advance values (in_loop turns until body remaining) = turned values turns until body (advance values remaining)
+  advance values done = done
 
   pub advance_each : ValueList → Rests → Rests
-  advance_each vs no_rests = no_rests
-  advance_each vs (rest r rs) = rest (advance vs r) (advance_each vs rs)
+  advance_each values no_rests = no_rests
+  advance_each values (rest remaining rests) = rest (advance values remaining) (advance_each values rests)
 
 -- the acts that the charts have reached and that aren't finished, each as it stands, in the order of their places
 abbrev mutual
   pub acts : Rest → List Rest
-  acts (ready s w k) = ready s w k ∷ []
-  acts (asking s w k) = asking s w k ∷ []
-  acts (open_act s r) = open_act s r ∷ acts r
-  acts (live s p x) = live s p x ∷ []
-  acts (freeing s k) = freeing s k ∷ []
-  acts (in_seq r cs) = acts r
-  acts (in_par rs) = acts_of_each rs
-  acts (in_loop n c body r) = acts r
+  acts (ready step task granted) = ready step task granted ∷ []
+  acts (asking step task granted) = asking step task granted ∷ []
+  acts (open_act step remaining) = open_act step remaining ∷ acts remaining
+  acts (live step phase state) = live step phase state ∷ []
+  acts (freeing step left) = freeing step left ∷ []
+  acts (in_seq remaining charts) = acts remaining
+  acts (in_par rests) = acts_of_each rests
+  acts (in_loop turns until body remaining) = acts remaining
   acts done = []
 
   pub acts_of_each : Rests → List Rest
   acts_of_each no_rests = []
-  acts_of_each (rest r rs) = acts r ++ acts_of_each rs
+  acts_of_each (rest remaining rests) = acts remaining ++ acts_of_each rests
 
--- the rest in which f has changed the act at this place
+-- the rest in which the act at this place has been changed
 abbrev mutual
   pub changed_at : Place → (Rest → Rest) → Rest → Rest
-  changed_at p f (ready s w k) = elim (same_place s.place p) [ true ↦ f (ready s w k) | false ↦ ready s w k ]
-  changed_at p f (asking s w k) = elim (same_place s.place p) [ true ↦ f (asking s w k) | false ↦ asking s w k ]
-  changed_at p f (open_act s r) = elim (same_place s.place p) [ true ↦ f (open_act s r) | false ↦ open_act s (changed_at p f r) ]
-  changed_at p f (live s x t) = elim (same_place s.place p) [ true ↦ f (live s x t) | false ↦ live s x t ]
-  changed_at p f (freeing s k) = elim (same_place s.place p) [ true ↦ f (freeing s k) | false ↦ freeing s k ]
-  changed_at p f (in_seq r cs) = in_seq (changed_at p f r) cs
-  changed_at p f (in_par rs) = in_par (changed_in_each p f rs)
-  changed_at p f (in_loop n c body r) = in_loop n c body (changed_at p f r)
-  changed_at p f done = done
+  changed_at place change (ready step task granted) =
+      elim (same_place step.place place) [ true ↦ change (ready step task granted) | false ↦ ready step task granted ]
+  changed_at place change (asking step task granted) =
+      elim (same_place step.place place) [ true ↦ change (asking step task granted) | false ↦ asking step task granted ]
+  changed_at place change (open_act step remaining) =
+      elim (same_place step.place place)
+      [ true ↦ change (open_act step remaining) | false ↦ open_act step (changed_at place change remaining) ]
+  changed_at place change (live step phase state) =
+      elim (same_place step.place place) [ true ↦ change (live step phase state) | false ↦ live step phase state ]
+  changed_at place change (freeing step left) =
+      elim (same_place step.place place) [ true ↦ change (freeing step left) | false ↦ freeing step left ]
+  changed_at place change (in_seq remaining charts) = in_seq (changed_at place change remaining) charts
+  changed_at place change (in_par rests) = in_par (changed_in_each place change rests)
+  changed_at place change (in_loop turns until body remaining) = in_loop turns until body (changed_at place change remaining)
+  changed_at place change done = done
 
   pub changed_in_each : Place → (Rest → Rest) → Rests → Rests
-  changed_in_each p f no_rests = no_rests
-  changed_in_each p f (rest r rs) = rest (changed_at p f r) (changed_in_each p f rs)
+  changed_in_each place change no_rests = no_rests
+  changed_in_each place change (rest remaining rests) = rest (changed_at place change remaining) (changed_in_each place change rests)
 
 -- no ask is left: every act in line is ready again
 abbrev mutual
   pub withdrawn : Rest → Rest
-  withdrawn (ready s w k) = ready s w k
-  withdrawn (asking s w k) = ready s w k
-  withdrawn (open_act s r) = open_act s (withdrawn r)
-  withdrawn (live s p x) = live s p x
-  withdrawn (freeing s k) = freeing s k
-  withdrawn (in_seq r cs) = in_seq (withdrawn r) cs
-  withdrawn (in_par rs) = in_par (withdrawn_each rs)
-  withdrawn (in_loop n c body r) = in_loop n c body (withdrawn r)
+  withdrawn (ready step task granted) = ready step task granted
+  withdrawn (asking step task granted) = ready step task granted
+  withdrawn (open_act step remaining) = open_act step (withdrawn remaining)
+  withdrawn (live step phase state) = live step phase state
+  withdrawn (freeing step left) = freeing step left
+  withdrawn (in_seq remaining charts) = in_seq (withdrawn remaining) charts
+  withdrawn (in_par rests) = in_par (withdrawn_each rests)
+  withdrawn (in_loop turns until body remaining) = in_loop turns until body (withdrawn remaining)
   withdrawn done = done
 
   pub withdrawn_each : Rests → Rests
   withdrawn_each no_rests = no_rests
-  withdrawn_each (rest r rs) = rest (withdrawn r) (withdrawn_each rs)
+  withdrawn_each (rest remaining rests) = rest (withdrawn remaining) (withdrawn_each rests)

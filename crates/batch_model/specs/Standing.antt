@@ -3,58 +3,59 @@ use Rattle.std.specs.Prelude.{◌≡◌, ◌⊎◌, ℕ, ◌<◌, ◌≤◌, Lis
 use Rattle.batch_recipe.specs.Tree.{Task, runs, follows, Tree, act, seq, par, sel, loop, Trees, no_trees, tree, Choices, otherwise, choice}
 use Rattle.batch_model.specs.Lists.{Has, Each}
 use Rattle.batch_model.specs.Rest.{Rest, ready, asking, open_act, live, freeing, in_seq, in_par, in_loop, done, Rests, no_rests, rest}
-use Rattle.batch_model.specs.Plant.{Documents, Batch, Plant}
+use Rattle.batch_model.specs.Plant.{Setup, Batch, Plant}
 use Rattle.batch_model.specs.Settled.{IsAdvanced}
 use Rattle.batch_model.specs.Placed.{IsPlaced}
 
 abbrev mutual
   pub IsRestOf : Tree → Rest → Type 0
-  IsRestOf (act s w) (ready t v k) = (t ≡ s) × (v ≡ w) × (k ≤ length t.needs)
-  IsRestOf (act s w) (asking t v k) = (t ≡ s) × (v ≡ w) × (k < length t.needs)
-  IsRestOf (act s w) (open_act t r) = (t ≡ s) × IsRestBelow w r
-  IsRestOf (act s w) (live t p x) = (t ≡ s) × (w ≡ runs p)
-  IsRestOf (act s w) (freeing t k) = (t ≡ s) × (0 < k) × (k ≤ length t.needs)
-  IsRestOf (seq cs) (in_seq r ds) = IsBranch cs r ds
-  IsRestOf (par cs) (in_par rs) = AreBranches cs rs
-  IsRestOf (sel ch) r = IsChosen ch r
-  IsRestOf (loop n c body) (in_loop m d b r) = (m ≤ n) × (d ≡ c) × (b ≡ body) × IsRestOf body r
+  IsRestOf (act step task) (ready its_step its_task granted) = (its_step ≡ step) × (its_task ≡ task) × (granted ≤ length its_step.needs)
+  IsRestOf (act step task) (asking its_step its_task granted) = (its_step ≡ step) × (its_task ≡ task) × (granted < length its_step.needs)
+  IsRestOf (act step task) (open_act its_step remaining) = (its_step ≡ step) × IsRestBelow task remaining
+  IsRestOf (act step task) (live its_step phase state) = (its_step ≡ step) × (task ≡ runs phase)
+  IsRestOf (act step task) (freeing its_step left) = (its_step ≡ step) × (0 < left) × (left ≤ length its_step.needs)
+  IsRestOf (seq charts) (in_seq remaining following) = IsBranch charts remaining following
+  IsRestOf (par charts) (in_par rests) = AreBranches charts rests
+  IsRestOf (sel choices) remaining = IsChosen choices remaining
+  IsRestOf (loop turns until body) (in_loop its_turns its_until its_body remaining) =
+      (its_turns ≤ turns) × (its_until ≡ until) × (its_body ≡ body) × IsRestOf body remaining
   IsRestOf _ done = ⊤
   IsRestOf _ _ = ⊥
 
   -- what remains of the chart of an open act
   pub IsRestBelow : Task → Rest → Type 0
-  IsRestBelow (runs p) r = ⊥
-  IsRestBelow (follows name c) r = IsRestOf c r
+  IsRestBelow (runs phase) remaining = ⊥
+  IsRestBelow (follows name chart) remaining = IsRestOf chart remaining
 
   -- what remains of one of the branches, with the charts after it
   pub IsBranch : Trees → Rest → Trees → Type 0
-  IsBranch no_trees r ds = ⊥
-  IsBranch (tree c cs) r ds = (IsRestOf c r × (ds ≡ cs)) ⊎ IsBranch cs r ds
+  IsBranch no_trees remaining following = ⊥
+  IsBranch (tree chart charts) remaining following = (IsRestOf chart remaining × (following ≡ charts)) ⊎ IsBranch charts remaining following
 
   pub AreBranches : Trees → Rests → Type 0
   AreBranches no_trees no_rests = ⊤
-  AreBranches (tree c cs) (rest r rs) = IsRestOf c r × AreBranches cs rs
+  AreBranches (tree chart charts) (rest remaining rests) = IsRestOf chart remaining × AreBranches charts rests
   AreBranches _ _ = ⊥
 
   pub IsChosen : Choices → Rest → Type 0
-  IsChosen (otherwise c) r = IsRestOf c r
-  IsChosen (choice p c ch) r = IsRestOf c r ⊎ IsChosen ch r
+  IsChosen (otherwise chart) remaining = IsRestOf chart remaining
+  IsChosen (choice condition chart choices) remaining = IsRestOf chart remaining ⊎ IsChosen choices remaining
 
 -- each recipe's expanded tree carries the places of its acts
-abbrev pub HasPlacedTrees : Documents → Type 0
-HasPlacedTrees c = Each (λ r. IsPlaced (0 ∷ []) r.procedure) c.recipes
+abbrev pub HasPlacedTrees : Setup → Type 0
+HasPlacedTrees setup = Each (λ recipe. IsPlaced (0 ∷ []) recipe.procedure) setup.recipes
 
 -- the batch makes one of the recipes, its rest is what can remain of that, and nothing is left to be reached
-pub record IsStandingBatch (c : Documents) (b : Batch) : Type 0 where
-  pub known : Has c.recipes b.recipe
-  pub stands : IsRestOf b.recipe.procedure b.rest
-  pub advanced : IsAdvanced b.rest
+pub record IsStandingBatch (setup : Setup) (batch : Batch) : Type 0 where
+  pub known : Has setup.recipes batch.recipe
+  pub stands : IsRestOf batch.recipe.procedure batch.rest
+  pub advanced : IsAdvanced batch.rest
 
 -- the numbers rise, and stay below the next one
 abbrev pub AreNumbered : ℕ → List Batch → Type 0
 AreNumbered next [] = ⊤
-AreNumbered next (b ∷ bs) = (b.number < next) × Each (λ d. b.number < d.number) bs × AreNumbered next bs
+AreNumbered next (batch ∷ more) = (batch.number < next) × Each (λ other. batch.number < other.number) more × AreNumbered next more
 
-pub record IsStanding (c : Documents) (s : Plant) : Type 0 where
-  pub batches : Each (IsStandingBatch c) s.batches
-  pub numbers : AreNumbered s.next_number s.batches
+pub record IsStanding (setup : Setup) (plant : Plant) : Type 0 where
+  pub batches : Each (IsStandingBatch setup) plant.batches
+  pub numbers : AreNumbered plant.next_number plant.batches

@@ -2,7 +2,7 @@
 ghost use Rattle.std.specs.Prelude.{◌≡◌, List};
 ghost use Rattle.batch_cell.specs.declared.cell.Cell.{Cell};
 ghost use Rattle.batch_recipe.specs.declared.recipe.Recipe.{Recipe};
-ghost use Rattle.batch_model.specs.Documents.{documents_of};
+ghost use Rattle.batch_model.specs.Setups.{setup_of};
 ghost use Rattle.batch_model.specs.declared.limits.TheConstants.{LAST_NUMBER, MAX_LIVE_BATCHES, MAX_RECIPES};
 
 /// The most batches that may exist at once.
@@ -17,7 +17,7 @@ pub const MAX_RECIPES: usize = 256;
 /// The limits are these numbers, and that of live batches is the limit of every cell and all recipes.
 pub fn limits_are_fixed()
     ensures live_batches { MAX_LIVE_BATCHES ≡ 4096 }
-    ensures documents { (cell : Cell) (recipes : List Recipe) → (documents_of cell recipes).batch_limit ≡ 4096 }
+    ensures setups { (cell : Cell) (recipes : List Recipe) → (setup_of cell recipes).batch_limit ≡ 4096 }
     ensures last_number { LAST_NUMBER ≡ 1000000000000 }
     ensures recipes { MAX_RECIPES ≡ 256 }
 {}

@@ -4,8 +4,8 @@ use Rattle.std.specs.Prelude.{IfSome, take}
 use Rattle.std.specs.Io.KnownBytes.{Appends, Keeps}
 use Rattle.clap.specs.Walk.{Text}
 use Rattle.batch_verify.specs.ClearedSet.{ClearedSet}
-use Rattle.batch_model.specs.Plant.{Documents}
-use Rattle.batch_engine.specs.View.{documents}
+use Rattle.batch_model.specs.Plant.{Setup}
+use Rattle.batch_engine.specs.View.{setup}
 use Rattle.batch_wire.specs.Transcript.{lines_of, whole_lines}
 use Rattle.batch_wire.specs.Written.{AppendsBeginning}
 use Rattle.batch_serve.specs.Safe.{BeginsSafely, WritesSafely, WritesWholeSafely}
@@ -58,28 +58,28 @@ kept_then_kept (Some xs) None after kept more = absurd kept
 kept_then_kept (Some xs) (Some ys) None kept more = absurd more
 kept_then_kept (Some xs) (Some ys) (Some zs) kept more = more ∙ kept
 
-written_kept : (c : Documents) (lines : List (List ℕ)) (before mid after : Option (List ℕ)) → Keeps before mid
+written_kept : (c : Setup) (lines : List (List ℕ)) (before mid after : Option (List ℕ)) → Keeps before mid
     → WritesSafely c lines mid after → WritesSafely c lines before after
 written_kept c lines before mid after kept writes =
     record { said = writes.said; transcript = writes.transcript; appends = kept_then_appended before mid after writes.said.text kept writes.appends }
 
-begun_kept : (c : Documents) (lines : List (List ℕ)) (before mid after : Option (List ℕ)) → Keeps before mid
+begun_kept : (c : Setup) (lines : List (List ℕ)) (before mid after : Option (List ℕ)) → Keeps before mid
     → BeginsSafely c lines mid after → BeginsSafely c lines before after
 begun_kept c lines before mid after kept begins =
     record { said = begins.said; transcript = begins.transcript; begins = kept_then_begun before mid after begins.said.text kept begins.begins }
 
-all_kept : (c : Documents) (unread before mid after : Option (List ℕ)) → Keeps before mid
+all_kept : (c : Setup) (unread before mid after : Option (List ℕ)) → Keeps before mid
     → IfSome unread (λ input. WritesSafely c (lines_of input) mid after) → IfSome unread (λ input. WritesSafely c (lines_of input) before after)
 all_kept c None before mid after kept writes = tt
 all_kept c (Some input) before mid after kept writes = written_kept c (lines_of input) before mid after kept writes
 
-first_kept : (c : Documents) (unread before mid after : Option (List ℕ)) → Keeps before mid
+first_kept : (c : Setup) (unread before mid after : Option (List ℕ)) → Keeps before mid
     → IfSome unread (λ input. (n : ℕ) × BeginsSafely c (take n (lines_of input)) mid after)
     → IfSome unread (λ input. (n : ℕ) × BeginsSafely c (take n (lines_of input)) before after)
 first_kept c None before mid after kept begins = tt
 first_kept c (Some input) before mid after kept (n, begins) = (n, begun_kept c (take n (lines_of input)) before mid after kept begins)
 
-whole_kept : (c : Documents) (unread left before mid after : Option (List ℕ)) → Keeps before mid
+whole_kept : (c : Setup) (unread left before mid after : Option (List ℕ)) → Keeps before mid
     → WritesWholeSafely c unread left mid after → WritesWholeSafely c unread left before after
 whole_kept c unread left before mid after kept writes =
     record { read = writes.read; consumes = writes.consumes; writes = written_kept c (whole_lines writes.read) before mid after kept writes.writes }
@@ -89,11 +89,11 @@ pub served_kept : (set : ClearedSet) (n : ℕ) (served : Result (Unit {0}) SetFa
     → Serves set n served (record { unread = unread; left = left; before = mid; after = after })
     → Serves set n served (record { unread = unread; left = left; before = before; after = after })
 served_kept set n (Ok done) unread left before mid after kept all =
-    record { writes = all_kept (documents set) unread before mid after kept all.writes; ended = all.ended }
-served_kept set n (Err (Stopped Read)) unread left before mid after kept whole = whole_kept (documents set) unread left before mid after kept whole
+    record { writes = all_kept (setup set) unread before mid after kept all.writes; ended = all.ended }
+served_kept set n (Err (Stopped Read)) unread left before mid after kept whole = whole_kept (setup set) unread left before mid after kept whole
 served_kept set n (Err (Stopped TooManyReads)) unread left before mid after kept (whole, many) =
-    (whole_kept (documents set) unread left before mid after kept whole, many)
-served_kept set n (Err (Stopped Write)) unread left before mid after kept first = first_kept (documents set) unread before mid after kept first
+    (whole_kept (setup set) unread left before mid after kept whole, many)
+served_kept set n (Err (Stopped Write)) unread left before mid after kept first = first_kept (setup set) unread before mid after kept first
 served_kept set n (Err Memory) unread left before mid after kept (unread_kept, more) = (unread_kept, kept_then_kept before mid after kept more)
 
 -- The set

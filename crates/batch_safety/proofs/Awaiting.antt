@@ -8,9 +8,9 @@ use Rattle.batch_recipe.specs.Tree.{Place, Task, runs, follows, Tree, act, seq, 
 use Rattle.batch_recipe.specs.WellFormed.{is_among}
 use Rattle.batch_model.specs.Lists.{Has, Each}
 use Rattle.batch_model.specs.Rest.{Rest, ready, asking, open_act, live, freeing, in_seq, in_par, in_loop, done, Rests, no_rests, rest}
-use Rattle.batch_model.specs.Plant.{Documents}
+use Rattle.batch_model.specs.Plant.{Setup}
 use Rattle.batch_model.specs.Standing.{IsRestOf, IsRestBelow, IsBranch, AreBranches, IsChosen}
-use Rattle.batch_model.specs.Cleared.{Cell, Ranking, Level, below, Part, parts, parts_within, parts_of_each, parts_of_choices, IsClear}
+use Rattle.batch_model.specs.Cleared.{Ranking, Level, below, Part, parts, parts_within, parts_of_each, parts_of_choices, IsClear}
 use Rattle.batch_model.proofs.Members.{Has-split, Each-Has}
 use Rattle.batch_laws.proofs.Facts.{awaiting, performing, held_at, awaited_at, facts, facts_of_each}
 use Rattle.batch_laws.proofs.Members.{Each-left, Each-right}
@@ -26,13 +26,13 @@ among-Has (y ∷ names) x h = go (same_name x y) refl h (among-Has names x)
     go true e k more = inl (let same : x ≡ y = (bytes_eq-Decides x y).0 e in cc)
     go false e k more = inr (more k)
 
-module _ (cell : Cell) (d : Documents) (rank : Ranking) where
+module _ (setup : Setup) (rank : Ranking) where
   abbrev Clear : Part → Type 0
-  Clear = IsClear cell d rank
+  Clear = IsClear setup rank
 
   -- a need is of a resource of the cell, and of no more units than this has
   abbrev pub CanBeMet : Need → Type 0
-  CanBeMet x = IsTrue (is_among cell.resources x.resource) × (x.units ≤ d.capacity x.resource)
+  CanBeMet x = IsTrue (is_among setup.resources x.resource) × (x.units ≤ setup.capacity x.resource)
 
   mutual
     pub awaited-known : (l : Level) (p : Place) (asked : List Name) (c : Tree) (r : Rest) → Each Clear (parts l p asked c) → IsRestOf c r → (q : Place) (x : Need)
@@ -44,8 +44,8 @@ module _ (cell : Cell) (d : Documents) (rank : Ranking) where
         (Has-get n u.needs x
         (⊎_elim (λ m. absurd (held-awaiting u.place (take n u.needs) q x m)) (awaited-awaiting u.place (slice_get u.needs n) q x)
         (Has-split (held_at u.place (take n u.needs)) (awaited_at u.place (slice_get u.needs n)) (q, awaiting x) k))) in (
-          Each-Has (λ z. IsTrue (is_among cell.resources z.resource)) s.needs x cl.0.known own,
-          Each-Has (λ z. z.units ≤ d.capacity z.resource) s.needs x cl.0.within own,
+          Each-Has (λ z. IsTrue (is_among setup.resources z.resource)) s.needs x cl.0.known own,
+          Each-Has (λ z. z.units ≤ setup.capacity z.resource) s.needs x cl.0.within own,
         )
     awaited-known l p asked (act s w) (open_act u r) cl h q x k =
         ⊎_elim (λ m. absurd (held-awaiting u.place u.needs q x m)) (awaited-known_below (below l) p (asked ++ resources_of s.needs) w r cl.1 h.1 q x)

@@ -1,6 +1,6 @@
 -- The promise for the documents of a cell and recipes.
-use Rattle.batch_model.specs.Documents.{cell_of, documents_of}
-use Rattle.batch_laws.specs.Premises.{AreDocuments}
+use Rattle.batch_model.specs.Setups.{setup_of}
+use Rattle.batch_laws.specs.Premises.{IsOfDocuments}
 use Rattle.batch_safety.specs.Sets.{ClearedSetsRunSafely}
 use Rattle.batch_laws.proofs.Clearing.{cleared-down}
 use Rattle.batch_laws.proofs.Sets.{sets_are_documents}
@@ -10,11 +10,10 @@ use Rattle.batch_safety.proofs.Working.{nobody_waits_in_vain}
 
 pub cleared_sets_run_safely : ClearedSetsRunSafely
 cleared_sets_run_safely c recipes (rank, cleared) =
-    let cell = cell_of c in
-    let documents = documents_of c recipes in
-    let kept : AreDocuments cell documents = sets_are_documents c recipes in
+    let setup = setup_of c recipes in
+    let kept : IsOfDocuments setup = sets_are_documents c recipes in
     record {
-      safe = safe documents rank (cleared-down cell documents rank kept cleared);
-      told = tells_the_plant documents rank (cleared-down cell documents rank kept cleared);
-      settled = nobody_waits_in_vain cell documents rank kept cleared;
+      safe = safe setup rank (cleared-down setup rank kept cleared);
+      told = tells_the_plant setup rank (cleared-down setup rank kept cleared);
+      settled = nobody_waits_in_vain setup rank kept cleared;
     }

@@ -3,6 +3,5 @@ pub mod Safety
 pub mod Safe
 pub mod Settling
 pub mod Working
-pub mod WorkRows
 pub mod Awaiting
 pub mod Joined

@@ -2,11 +2,11 @@
 use Rattle.std.proofs.Common.{◌≡◌, sym, ◌∙◌, ap, subst, ℕ, List, [], ◌∷◌, ◌++◌, append-nil, append_assoc}
 use Rattle.batch_recipe.specs.Conditions.{ValueList}
 use Rattle.batch_recipe.specs.Tree.{Phase, Place}
-use Rattle.batch_model.specs.Plant.{Documents, Plant, opening}
+use Rattle.batch_model.specs.Plant.{Setup, Plant, opening}
 use Rattle.batch_model.specs.Moves.{start, after}
 use Rattle.batch_model.specs.Events.{Event, Reply}
 use Rattle.batch_model.specs.Standing.{IsStanding}
-use Rattle.batch_model.proofs.Led.{opening-stands, reacts-stands}
+use Rattle.batch_machine.proofs.Led.{opening-stands, reacts-stands}
 use Rattle.batch_model.specs.Runs.{Out, move, reply, Leads}
 use Rattle.batch_model.specs.Records.{StartsIdle, IsSafeNow, IsSafe}
 use Rattle.batch_model.specs.Cleared.{Ranking}
@@ -22,7 +22,7 @@ no_line : (before : List Out) (o : Out) → ◌≡◌ {A = List Out} [] (before 
 no_line [] o e = cc
 no_line (p ∷ before) o e = cc
 
-starts-at_first : (d : Documents) → StartsIdle d []
+starts-at_first : (d : Setup) → StartsIdle d []
 starts-at_first d before n p x vs e = absurd (no_line before (move (start n p x vs)) e)
 
 -- a record leads from a plant so far to a plant, and so does each front of it
@@ -35,7 +35,7 @@ reply_no_start r n p x vs e = cc
 no_front : (o : Out) (xs : List Out) → ◌≡◌ {A = List Out} (o ∷ xs) [] → ⊥
 no_front o xs e = cc
 
-module _ (d : Documents) (rank : Ranking) (cleared : AreClearedDown d rank) where
+module _ (d : Setup) (rank : Ranking) (cleared : AreClearedDown d rank) where
   safe-along : (told : List Out) (s : Plant) → IsStanding d s → IsKept d rank told s → StartsIdle d told → (es : List Event) (outs : List Out) (t : Plant) → Leads d s es outs t
       → (front more : List Out) → front ++ more ≡ outs → IsSafeNow d (told ++ front)
   safe-along told s sd k st es outs t l [] more e = subst (IsSafeNow d) (sym (append-nil told)) (safe-now d rank told s sd k st)
@@ -54,5 +54,5 @@ module _ (d : Documents) (rank : Ranking) (cleared : AreClearedDown d rank) wher
       (safe-along (told ++ reply r ∷ []) l.0 (reacts-stands d s l.0 v r sd l.1) (reply-step d rank cleared told s sd k v r l.0 l.1)
       (starts-nothing d told (reply r) (λ n p x vs f. reply_no_start r n p x vs f)) es outs t l.2 front more q.1)
 
-pub safe : (d : Documents) (rank : Ranking) → AreClearedDown d rank → (es : List Event) (outs : List Out) (t : Plant) → Leads d opening es outs t → IsSafe d outs
+pub safe : (d : Setup) (rank : Ranking) → AreClearedDown d rank → (es : List Event) (outs : List Out) (t : Plant) → Leads d opening es outs t → IsSafe d outs
 safe d rank cleared es outs t l front more e = safe-along d rank cleared [] opening (opening-stands d) (kept-at_first d rank) (starts-at_first d) es outs t l front more e

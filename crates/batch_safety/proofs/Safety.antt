@@ -3,7 +3,7 @@ use Rattle.std.proofs.Common.{◌≡◌, ◌⊎◌, sym, ◌∙◌, ap, subst, �
 use Rattle.batch_matrix.specs.declared.state.State.{State}
 use Rattle.batch_model.specs.Lists.{Has, Each}
 use Rattle.batch_recipe.specs.Tree.{Place}
-use Rattle.batch_model.specs.Plant.{Documents, Batch, BatchAct, Share, acts_in, Plant}
+use Rattle.batch_model.specs.Plant.{Setup, Batch, BatchAct, Share, acts_in, Plant}
 use Rattle.batch_model.specs.Runs.{Out}
 use Rattle.batch_model.specs.Records.{holders_told, waiters_told, state_told, IsAtRest, scene_told, Waiting, IsWaiting, IsAtOrAbove, StandsBefore, WaitsForHolder, WaitsForOlder, PointsTo, PointAlong, HasCapacity, HoldsUnits, StartsIdle, HasNoCircle, RestsEmpty, IsSafeNow}
 use Rattle.batch_laws.proofs.Facts.{Fact, holding, awaiting, performing, facts, entries, need, share}
@@ -42,7 +42,7 @@ not_before [] h a p = p
 not_before (x ∷ xs) h a (inl p) = stands_once x xs h a p.0 p.1
 not_before (x ∷ xs) h a (inr p) = not_before xs h.1 a p
 
-module _ (d : Documents) (rank : Ranking) (outs : List Out) (s : Plant) (sd : IsStanding d s) (k : IsKept d rank outs s) where
+module _ (d : Setup) (rank : Ranking) (outs : List Out) (s : Plant) (sd : IsStanding d s) (k : IsKept d rank outs s) where
   within-capacity : HasCapacity d outs
   within-capacity r = subst (λ z. z ≤ d.capacity r) (sym ((k.held r).0 (λ h. h.units))) (k.within r)
 

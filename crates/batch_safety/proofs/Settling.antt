@@ -5,7 +5,7 @@ use Rattle.batch_model.specs.Lists.{Has}
 use Rattle.batch_recipe.specs.Conditions.{Name}
 use Rattle.batch_recipe.specs.Tree.{Step, Task}
 use Rattle.batch_model.specs.Rest.{Rest, asking, acts}
-use Rattle.batch_model.specs.Plant.{Documents, Batch, BatchAct, Share, units_in, acts_in, Plant, is_same_act, holders}
+use Rattle.batch_model.specs.Plant.{Setup, Batch, BatchAct, Share, units_in, acts_in, Plant, is_same_act, holders}
 use Rattle.batch_model.specs.Moves.{Move, grant, act_move, state_move, batch_moves, possible, least, next, is_earlier, is_served, when}
 use Rattle.batch_model.specs.Runs.{Out}
 use Rattle.batch_model.specs.Records.{holders_told, scene_of, Link, IsLink, IsChain, StandsUnder}
@@ -49,7 +49,7 @@ filter_map-Has {X = X} {Y = Y} h (z ∷ xs) x y (inr m) e = go (h z) (filter_map
     go (Some w) f = inr f
 
 -- no act of a settled plant has a move
-pub no_act_move : (d : Documents) (s : Plant) → next d s ≡ None → (b : Batch) → Has s.batches b → (a : Rest) → Has (acts b.rest) a → (m : Move) → act_move d s b a ≡ Some m → ⊥
+pub no_act_move : (d : Setup) (s : Plant) → next d s ≡ None → (b : Batch) → Has s.batches b → (a : Rest) → Has (acts b.rest) a → (m : Move) → act_move d s b a ≡ Some m → ⊥
 no_act_move d s e b i a j m f =
     let here : Has (filter_map (act_move d s b) (acts b.rest)) m = filter_map-Has (act_move d s b) (acts b.rest) a m j f in
     subst (λ ms. Has ms m) (none_least (possible d s) e) (flat_map-Has (batch_moves d s) s.batches b m i (go (state_move b) here))
@@ -70,7 +70,7 @@ abbrev first : List Share → BatchAct → Bool
 first line a = elim line [ [] ↦ false | x ∷ xs ↦ is_same_act x.act a ]
 
 -- an act that asks and isn't granted isn't served
-unserved : (d : Documents) (s : Plant) (b : Batch) (p : Step) (w : Task) (n : ℕ) (q : Need) → slice_get p.needs n ≡ Some q → ((m : Move) → act_move d s b (asking p w n) ≡ Some m → ⊥)
+unserved : (d : Setup) (s : Plant) (b : Batch) (p : Step) (w : Task) (n : ℕ) (q : Need) → slice_get p.needs n ≡ Some q → ((m : Move) → act_move d s b (asking p w n) ≡ Some m → ⊥)
     → is_served d s q (b.number, p.place) ≡ false
 unserved d s b p w n q e no_move = go (slice_get p.needs n) e no_move
   where
@@ -87,7 +87,7 @@ unserved d s b p w n q e no_move = go (slice_get p.needs n) e no_move
     go None f h = absurd cc
     go (Some r) f h = serve (is_served d s q (b.number, p.place)) (λ m g. h m (subst (λ z. when (is_served d s z (b.number, p.place)) (grant b.number p.place z) ≡ Some m) (sym (same_need r q f)) g))
 
-module _ (d : Documents) (rank : Ranking) (outs : List Out) (s : Plant) (sd : IsStanding d s) (k : IsKept d rank outs s) where
+module _ (d : Setup) (rank : Ranking) (outs : List Out) (s : Plant) (sd : IsStanding d s) (k : IsKept d rank outs s) where
   -- for the first in a line of a settled plant too little is free
   first-unserved : next d s ≡ None → (q : Name) (a : Share) (more : List Share) → s.line q ≡ a ∷ more → d.capacity q < units_in (holders s q) + a.units
   first-unserved e q a more f =

@@ -6,12 +6,12 @@ use Rattle.batch_model.specs.Lists.{Has, Each}
 use Rattle.batch_recipe.specs.Conditions.{Name}
 use Rattle.batch_recipe.specs.Tree.{Place, Step, Phase, Tree, act, seq, par, sel, loop, Task, runs, follows, Trees, no_trees, tree, Choices, otherwise, choice}
 use Rattle.batch_model.specs.Rest.{Rest, ready, asking, open_act, live, freeing, in_seq, in_par, in_loop, done, Rests, no_rests, rest, acts, acts_of_each, is_done, all_done}
-use Rattle.batch_model.specs.Plant.{Recipe, Documents, Batch, BatchAct, Share, Plant, opening, place_of, holders}
+use Rattle.batch_model.specs.Plant.{Recipe, Setup, Batch, BatchAct, Share, Plant, opening, place_of, holders}
 use Rattle.batch_model.specs.Moves.{Move, begin, start, end, ask, release, handed_values, entering, giving_back, when, is_running, is_stopping, is_stopped, is_quiet, is_empty, act_move, next}
 use Rattle.batch_model.specs.Runs.{Out}
-use Rattle.batch_model.specs.Cleared.{Cell, is_procedure, IsClearedRecipe, IsCleared}
+use Rattle.batch_model.specs.Cleared.{is_procedure, IsClearedRecipe, IsCleared}
 use Rattle.batch_model.specs.Standing.{IsStandingBatch, IsStanding}
-use Rattle.batch_model.proofs.Led.{opening-stands, leads-stands}
+use Rattle.batch_machine.proofs.Led.{opening-stands, leads-stands}
 use Rattle.batch_laws.specs.Procedures.{IsProcedure}
 use Rattle.batch_safety.proofs.Awaiting.{among-Has, CanBeMet, awaited-known}
 use Rattle.batch_laws.proofs.Clearing.{cleared-down}
@@ -192,7 +192,7 @@ mutual
 no_none : (m : Move) → ((l : Move) → ◌≡◌ {A = Option Move} (Some m) (Some l) → ⊥) → ⊥
 no_none m h = h m refl
 
-ready-moves : (d : Documents) (s : Plant) (b : Batch) (p : Step) (w : Task) (n : ℕ) → is_running b.state ≡ true → ((m : Move) → act_move d s b (ready p w n) ≡ Some m → ⊥) → ⊥
+ready-moves : (d : Setup) (s : Plant) (b : Batch) (p : Step) (w : Task) (n : ℕ) → is_running b.state ≡ true → ((m : Move) → act_move d s b (ready p w n) ≡ Some m → ⊥) → ⊥
 ready-moves d s b p w n run h = go (is_running b.state) run h
   where
     enter : (o : Option Need) (v : Task)
@@ -222,7 +222,7 @@ get-below [] n h = absurd (omega arith)
 get-below (x ∷ xs) zero h = (x, refl)
 get-below (x ∷ xs) (suc n) h = get-below xs n (omega arith)
 
-freeing-moves : (d : Documents) (s : Plant) (b : Batch) (p : Step) (n : ℕ) → IsBounded (freeing p n) → ((m : Move) → act_move d s b (freeing p n) ≡ Some m → ⊥) → ⊥
+freeing-moves : (d : Setup) (s : Plant) (b : Batch) (p : Step) (n : ℕ) → IsBounded (freeing p n) → ((m : Move) → act_move d s b (freeing p n) ≡ Some m → ⊥) → ⊥
 freeing-moves d s b p zero h f = absurd (let l : 0 < 0 = h.0 in omega arith)
 freeing-moves d s b p (suc n) h f =
     let l : suc n ≤ length p.needs = h.1 in
@@ -233,7 +233,7 @@ freeing-moves d s b p (suc n) h f =
     go None r e f = (let c : ◌≡◌ {A = Option Need} None (Some r) = e in absurd cc)
     go (Some x) r e f = no_none (release b.number p.place x) f
 
-open-moves : (d : Documents) (s : Plant) (b : Batch) (p : Step) (r : Rest) → b.state ≡ Running → is_done r ≡ true → ((m : Move) → act_move d s b (open_act p r) ≡ Some m → ⊥) → ⊥
+open-moves : (d : Setup) (s : Plant) (b : Batch) (p : Step) (r : Rest) → b.state ≡ Running → is_done r ≡ true → ((m : Move) → act_move d s b (open_act p r) ≡ Some m → ⊥) → ⊥
 open-moves d s b p r run fin h = go (is_stopping b.state || is_stopped b.state) (ap (λ z. is_stopping z || is_stopped z) run) h
   where
     end-now : (t : Bool) → t ≡ true → ((m : Move) → when t (end b.number p.place) ≡ Some m → ⊥) → ⊥
@@ -265,7 +265,7 @@ not_all : (a b : Bool) → (a && b) ≡ false → (a ≡ false) ⊎ (b ≡ false
 not_all true b e = inr e
 not_all false b e = inl refl
 
-module _ (d : Documents) (s : Plant) (b : Batch) (run : b.state ≡ Running) where
+module _ (d : Setup) (s : Plant) (b : Batch) (run : b.state ≡ Running) where
   -- no act among these has a move
   abbrev AreStuck : List Rest → Type 0
   AreStuck as' = (a : Rest) → Has as' a → (m : Move) → act_move d s b a ≡ Some m → ⊥
@@ -299,7 +299,7 @@ module _ (d : Documents) (s : Plant) (b : Batch) (run : b.state ≡ Running) whe
 abbrev LiveUnder : Batch → Place → Type 0
 LiveUnder b q = (p : Step) × (x : Phase) × (t : State) × Has (acts b.rest) (live p x t) × IsAtOrAbove q p.place
 
-module _ (d : Documents) (rank : Ranking) (outs : List Out) (s : Plant) (sd : IsStanding d s) (k : IsKept d rank outs s) (settled : next d s ≡ None) where
+module _ (d : Setup) (rank : Ranking) (outs : List Out) (s : Plant) (sd : IsStanding d s) (k : IsKept d rank outs s) (settled : next d s ≡ None) where
   -- an act that asks stands in line
   asks-in_line : (b : Batch) → Has s.batches b → (h : BatchAct) → b.number ≡ h.0 → (p : Step) (w : Task) (n : ℕ) → Has (acts b.rest) (asking p w n) → IsAtOrAbove h.1 p.place
       → ((v : Waiting) → IsWaiting (scene_of s) v → StandsUnder h v → ⊥) → ⊥
@@ -370,19 +370,19 @@ module _ (d : Documents) (rank : Ranking) (outs : List Out) (s : Plant) (sd : Is
       (Has-holders l.waiting.resource (entries s.batches) y.0 (subst (λ z. Has z y.0) (holders-entries s l.waiting.resource) y.1))) none
 
 -- each ask in a plant that is led to is for a resource of the cell, and for no more than its capacity
-ask-can_be_met : (cell : Cell) (d : Documents) (rank : Ranking) (outs : List Out) (s : Plant) → IsCleared cell d rank → IsStanding d s → IsKept d rank outs s
-    → (r : Name) (a : Share) → Has (s.line r) a → CanBeMet cell d rank (need r a.units)
-ask-can_be_met cell d rank outs s cleared stands k r a h =
+ask-can_be_met : (setup : Setup) (rank : Ranking) (outs : List Out) (s : Plant) → IsCleared setup rank → IsStanding setup s → IsKept setup rank outs s
+    → (r : Name) (a : Share) → Has (s.line r) a → CanBeMet setup rank (need r a.units)
+ask-can_be_met setup rank outs s cleared stands k r a h =
     let e = entry-of s.batches a.act (awaiting (need r a.units)) (k.asked r a h) in
-    let b : IsStandingBatch d e.0 = Each-Has (IsStandingBatch d) s.batches e.0 stands.batches e.1 in
-    awaited-known cell d rank is_procedure (0 ∷ []) [] e.0.recipe.procedure e.0.rest
-    (Each-Has (IsClearedRecipe cell d rank) d.recipes e.0.recipe cleared.recipes b.known) b.stands a.act.1 (need r a.units) e.3
+    let b : IsStandingBatch setup e.0 = Each-Has (IsStandingBatch setup) s.batches e.0 stands.batches e.1 in
+    awaited-known setup rank is_procedure (0 ∷ []) [] e.0.recipe.procedure e.0.rest
+    (Each-Has (IsClearedRecipe setup rank) setup.recipes e.0.recipe cleared.recipes b.known) b.stands a.act.1 (need r a.units) e.3
 
-waiting-known : (cell : Cell) (d : Documents) (rank : Ranking) (outs : List Out) (s : Plant) → IsCleared cell d rank → IsStanding d s → IsKept d rank outs s
-    → (w : Waiting) → IsWaiting (scene_of s) w → Has cell.resources w.resource
-waiting-known cell d rank outs s cleared stands k w h =
+waiting-known : (setup : Setup) (rank : Ranking) (outs : List Out) (s : Plant) → IsCleared setup rank → IsStanding setup s → IsKept setup rank outs s
+    → (w : Waiting) → IsWaiting (scene_of s) w → Has setup.resources w.resource
+waiting-known setup rank outs s cleared stands k w h =
     let x = Has-map (λ z. z.act) (s.line w.resource) w.act h in
-    among-Has cell.resources w.resource (ask-can_be_met cell d rank outs s cleared stands k w.resource x.0 x.1).0
+    among-Has setup.resources w.resource (ask-can_be_met setup rank outs s cleared stands k w.resource x.0 x.1).0
 
 each-waits : (s : Plant) (ls : List Link) → IsChain (scene_of s) ls → (l : Link) → Has ls l → IsWaiting (scene_of s) l.waiting
 each-waits s [] h l i = absurd i
@@ -395,12 +395,12 @@ placed-trees : (rs : List Recipe) → Each (λ r. IsProcedure r.procedure) rs �
 placed-trees rs h = Each-map (λ r. IsProcedure r.procedure) (λ r. IsPlaced (0 ∷ []) r.procedure) (λ r p. p.placed) rs h
 
 pub nobody_waits_in_vain : NobodyWaitsInVain
-nobody_waits_in_vain cell d rank kept cleared es outs t l settled =
-    let k : IsKept d rank outs t = kept-along d rank (cleared-down cell d rank kept cleared) [] opening (opening-stands d) (kept-at_first d rank) es outs t l in
-    let stands : IsStanding d t = leads-stands d (placed-trees d.recipes kept.procedures) opening t es outs (opening-stands d) l in
+nobody_waits_in_vain setup rank kept cleared es outs t l settled =
+    let k : IsKept setup rank outs t = kept-along setup rank (cleared-down setup rank kept cleared) [] opening (opening-stands setup) (kept-at_first setup rank) es outs t l in
+    let stands : IsStanding setup t = leads-stands setup (placed-trees setup.recipes kept.procedures) opening t es outs (opening-stands setup) l in
     record {
-      held = λ r oldest later f. held-by_others d rank outs t stands k settled r oldest later f
-          (ask-can_be_met cell d rank outs t cleared stands k r oldest (subst (λ z. Has z oldest) (sym f) (inl refl))).1;
-      short = λ ls h. short-chain d rank outs t stands k ls cell.resources h (λ m i. waiting-known cell d rank outs t cleared stands k m.waiting (each-waits t ls h m i));
-      ends = ends-at_work d rank outs t stands k settled;
+      held = λ r oldest later f. held-by_others setup rank outs t stands k settled r oldest later f
+          (ask-can_be_met setup rank outs t cleared stands k r oldest (subst (λ z. Has z oldest) (sym f) (inl refl))).1;
+      short = λ ls h. short-chain setup rank outs t stands k ls setup.resources h (λ m i. waiting-known setup rank outs t cleared stands k m.waiting (each-waits t ls h m i));
+      ends = ends-at_work setup rank outs t stands k settled;
     }

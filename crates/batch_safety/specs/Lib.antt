@@ -1,4 +1,3 @@
 pub mod Headline
 pub mod Settlement
-pub mod RowsOfSettlement
 pub mod Sets

@@ -8,18 +8,22 @@ use Rattle.batch_model.specs.Events.{Event}
 use Rattle.batch_model.specs.Runs.{Out, Leads}
 use Rattle.batch_model.specs.Records.{IsSafe}
 use Rattle.batch_model.specs.Cleared.{CanBeCleared}
-use Rattle.batch_model.specs.Documents.{cell_of, documents_of}
+use Rattle.batch_model.specs.Setups.{setup_of}
 use Rattle.batch_safety.specs.Settlement.{WaitsForSomething}
 use Rattle.batch_laws.specs.Telling.{IsTold}
 
 -- what is promised of every record that the recipes lead to in the cell
-pub record RunsSafely (c : equipment.Cell) (recipes : List document.Recipe) : Type 0 where
-  pub safe : (events : List Event) (record_so_far : List Out) (plant : Plant) → Leads (documents_of c recipes) opening events record_so_far plant
-      → IsSafe (documents_of c recipes) record_so_far
-  pub told : (events : List Event) (record_so_far : List Out) (plant : Plant) → Leads (documents_of c recipes) opening events record_so_far plant
+pub record RunsSafely (cell : equipment.Cell) (recipes : List document.Recipe) : Type 0 where
+  pub safe : (events : List Event) (record_so_far : List Out) (plant : Plant)
+      → Leads (setup_of cell recipes) opening events record_so_far plant
+      → IsSafe (setup_of cell recipes) record_so_far
+  pub told : (events : List Event) (record_so_far : List Out) (plant : Plant)
+      → Leads (setup_of cell recipes) opening events record_so_far plant
       → IsTold record_so_far plant
-  pub settled : (events : List Event) (record_so_far : List Out) (plant : Plant) → Leads (documents_of c recipes) opening events record_so_far plant
-      → next (documents_of c recipes) plant ≡ None → WaitsForSomething (cell_of c) (documents_of c recipes) plant
+  pub settled : (events : List Event) (record_so_far : List Out) (plant : Plant)
+      → Leads (setup_of cell recipes) opening events record_so_far plant
+      → next (setup_of cell recipes) plant ≡ None → WaitsForSomething (setup_of cell recipes) plant
 
 abbrev pub ClearedSetsRunSafely : Type 0
-ClearedSetsRunSafely = (c : equipment.Cell) (recipes : List document.Recipe) → CanBeCleared (cell_of c) (documents_of c recipes) → RunsSafely c recipes
+ClearedSetsRunSafely =
+    (cell : equipment.Cell) (recipes : List document.Recipe) → CanBeCleared (setup_of cell recipes) → RunsSafely cell recipes

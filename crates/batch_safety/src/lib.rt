@@ -3,17 +3,12 @@
 //! Nothing runs here. The functions are empty: their contracts are the laws.
 #![tactic(auto)]
 
-mod rows;
-
 ghost use Rattle.batch_safety.specs.Headline.{CanOnlyBeSafe};
 ghost use Rattle.batch_safety.specs.Sets.{ClearedSetsRunSafely, RunsSafely};
 ghost use Rattle.batch_safety.specs.Settlement.{NobodyWaitsInVain};
 
-pub use batch_laws::{
-    premises_can_be_met, records_tell_the_plant, sets_are_documents, trees_have_units, ways_rise,
-};
+pub use batch_laws::{records_tell_the_plant, sets_are_documents, trees_have_units, ways_rise};
 use batch_verify::Cleared;
-pub use rows::{holders_at_work, waits_for_nothing};
 
 /// Every record that a cleared set of recipes leads to is safe after each of its lines, whatever the events and however far
 /// the moves that they make possible have been made.

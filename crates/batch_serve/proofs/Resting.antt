@@ -2,10 +2,10 @@
 use Rattle.std.proofs.Common.{ℕ, List, [], ◌∷◌, Option, Some, None, Result, Ok, Err, refl, sym, ap, ◌∙◌, subst, inl, inr}
 use Rattle.batch_model.specs.Events.{Event}
 use Rattle.batch_model.specs.Moves.{Move, after}
-use Rattle.batch_model.specs.Plant.{Documents, Plant, opening}
+use Rattle.batch_model.specs.Plant.{Setup, Plant, opening}
 use Rattle.batch_safety.specs.Sets.{RunsSafely}
 use Rattle.batch_verify.specs.ClearedSet.{ClearedSet}
-use Rattle.batch_engine.specs.View.{documents}
+use Rattle.batch_engine.specs.View.{setup}
 use Rattle.batch_wire.specs.EventLine.{event_of_line}
 use Rattle.batch_wire.specs.Transcript.{Exchange, silence, followed_by, Settles, Answers, Transcript}
 use Rattle.batch_wire.specs.WrittenTranscript.{WritesTranscript}
@@ -14,18 +14,18 @@ use Rattle.batch_serve.specs.Safe.{TranscriptsAreSafe, TranscriptsLeaveNobodyInV
 use Rattle.batch_serve.specs.Settled.{IsSettled, TranscriptsSettle}
 use Rattle.batch_serve.proofs.Exchanges.{followed-assoc, transcript_leads}
 
-moves_settle : (c : Documents) (old new : Plant) (moves : List Move) → Settles c old moves new → IsSettled c new
+moves_settle : (c : Setup) (old new : Plant) (moves : List Move) → Settles c old moves new → IsSettled c new
 moves_settle c old new [] s = subst (IsSettled c) (sym s.1) s.0
 moves_settle c old new (m ∷ moves) s = moves_settle c (after old m) new moves s.1
 
-answer_settles : (c : Documents) (old new : Plant) (said : Result (Option Event) WireFault) (exchange : Exchange) → IsSettled c old
+answer_settles : (c : Setup) (old new : Plant) (said : Result (Option Event) WireFault) (exchange : Exchange) → IsSettled c old
     → Answers c old said exchange new → IsSettled c new
 answer_settles c old new (Ok None) exchange k h = subst (IsSettled c) (sym h.1) k
 answer_settles c old new (Err fault) exchange k h = subst (IsSettled c) (sym h.1) k
 answer_settles c old new (Ok (Some event)) exchange k (inl h) = subst (IsSettled c) (sym h.1) k
 answer_settles c old new (Ok (Some event)) exchange k (inr h) = moves_settle c h.1.mid new h.1.moves h.1.settles
 
-transcript_settles : (c : Documents) (old new : Plant) (lines : List (List ℕ)) (said : Exchange) → IsSettled c old → Transcript c old lines said new → IsSettled c new
+transcript_settles : (c : Setup) (old new : Plant) (lines : List (List ℕ)) (said : Exchange) → IsSettled c old → Transcript c old lines said new → IsSettled c new
 transcript_settles c old new [] said k t = subst (IsSettled c) (sym t.1) k
 transcript_settles c old new (line ∷ lines) said k t =
     transcript_settles c t.2 new lines t.1 (answer_settles c old t.2 (event_of_line line) t.0 k t.3) t.4
@@ -46,20 +46,20 @@ transcripts_settle c old new (line ∷ front) others said k t =
     }
 
 -- what is written of a transcript from a settled plant
-pub writes_settle : (c : Documents) (old new : Plant) (lines : List (List ℕ)) (x y : Option (List ℕ)) → WritesTranscript c old lines new x y → IsSettled c old → IsSettled c new
+pub writes_settle : (c : Setup) (old new : Plant) (lines : List (List ℕ)) (x y : Option (List ℕ)) → WritesTranscript c old lines new x y → IsSettled c old → IsSettled c new
 writes_settle c old new lines x y h k = transcript_settles c old new lines h.said k h.transcript
 
 pub transcripts_are_safe : (set : ClearedSet) → RunsSafely set.cell set.recipes → TranscriptsAreSafe set
 transcripts_are_safe set runs lines said new t =
-    let leads = transcript_leads (documents set) opening new lines said t in
+    let leads = transcript_leads (setup set) opening new lines said t in
     record {
       new = new;
       transcript = t;
       leads = leads;
       safe = runs.safe said.events said.outs new leads;
-      settled = transcript_settles (documents set) opening new lines said refl t;
+      settled = transcript_settles (setup set) opening new lines said refl t;
     }
 
 pub nobody_in_vain : (set : ClearedSet) → RunsSafely set.cell set.recipes → TranscriptsLeaveNobodyInVain set
 nobody_in_vain set runs lines said new t =
-    runs.settled said.events said.outs new (transcript_leads (documents set) opening new lines said t) (transcript_settles (documents set) opening new lines said refl t)
+    runs.settled said.events said.outs new (transcript_leads (setup set) opening new lines said t) (transcript_settles (setup set) opening new lines said refl t)

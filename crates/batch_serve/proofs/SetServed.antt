@@ -4,7 +4,7 @@ use Rattle.std.proofs.lemmas.Result.{err_from_is_err_and}
 use Rattle.std.specs.Io.KnownBytes.{IsAtEnd}
 use Rattle.batch_model.specs.Plant.{Plant, opening}
 use Rattle.batch_verify.specs.ClearedSet.{ClearedSet}
-use Rattle.batch_engine.specs.View.{documents}
+use Rattle.batch_engine.specs.View.{setup}
 use Rattle.batch_wire.specs.Transcript.{lines_of, Exchange, Transcript}
 use Rattle.batch_wire.specs.WrittenTranscript.{WritesTranscript, BeginsTranscript, WritesWholeLines}
 use Rattle.batch_serve.specs.Safe.{IsSafeTranscript, TranscriptsAreSafe, WritesSafely, BeginsSafely, WritesWholeSafely}
@@ -31,42 +31,42 @@ pub record IsNew (set a : ClearedSet) (s : Plant) : Type 0 where
   pub safe : TranscriptsAreSafe a
 
 safe_transcript : (set a : ClearedSet) (s new : Plant) (lines : List (List ℕ)) (said : Exchange) → IsNew set a s
-    → Transcript (documents a) s lines said new → IsSafeTranscript (documents set) lines said
+    → Transcript (setup a) s lines said new → IsSafeTranscript (setup set) lines said
 safe_transcript set a s new lines said k t =
-    subst (λ (x : ClearedSet). IsSafeTranscript (documents x) lines said) k.cleared
-    (k.safe lines said new (subst (λ (p : Plant). Transcript (documents a) p lines said new) k.opening_is t))
+    subst (λ (x : ClearedSet). IsSafeTranscript (setup x) lines said) k.cleared
+    (k.safe lines said new (subst (λ (p : Plant). Transcript (setup a) p lines said new) k.opening_is t))
 
 writes_safely : (set a : ClearedSet) (s new : Plant) (lines : List (List ℕ)) (x y : Option (List ℕ)) → IsNew set a s
-    → WritesTranscript (documents a) s lines new x y → WritesSafely (documents set) lines x y
+    → WritesTranscript (setup a) s lines new x y → WritesSafely (setup set) lines x y
 writes_safely set a s new lines x y k h = record { said = h.said; transcript = safe_transcript set a s new lines h.said k h.transcript; appends = h.appends }
 
 begins_safely : (set a : ClearedSet) (s : Plant) (lines : List (List ℕ)) (x y : Option (List ℕ)) → IsNew set a s
-    → BeginsTranscript (documents a) s lines x y → BeginsSafely (documents set) lines x y
+    → BeginsTranscript (setup a) s lines x y → BeginsSafely (setup set) lines x y
 begins_safely set a s lines x y k h = record { said = h.said; transcript = safe_transcript set a s h.new lines h.said k h.transcript; begins = h.begins }
 
 writes_all : (set a : ClearedSet) (s new : Plant) (unread x y : Option (List ℕ)) → IsNew set a s
-    → IfSome unread (λ input. WritesTranscript (documents a) s (lines_of input) new x y) → IfSome unread (λ input. WritesSafely (documents set) (lines_of input) x y)
+    → IfSome unread (λ input. WritesTranscript (setup a) s (lines_of input) new x y) → IfSome unread (λ input. WritesSafely (setup set) (lines_of input) x y)
 writes_all set a s new None x y k h = tt
 writes_all set a s new (Some input) x y k h = writes_safely set a s new (lines_of input) x y k h
 
 begins_first : (set a : ClearedSet) (s : Plant) (unread x y : Option (List ℕ)) → IsNew set a s
-    → IfSome unread (λ input. (n : ℕ) × BeginsTranscript (documents a) s (take n (lines_of input)) x y)
-    → IfSome unread (λ input. (n : ℕ) × BeginsSafely (documents set) (take n (lines_of input)) x y)
+    → IfSome unread (λ input. (n : ℕ) × BeginsTranscript (setup a) s (take n (lines_of input)) x y)
+    → IfSome unread (λ input. (n : ℕ) × BeginsSafely (setup set) (take n (lines_of input)) x y)
 begins_first set a s None x y k h = tt
 begins_first set a s (Some input) x y k (n, h) = (n, begins_safely set a s (take n (lines_of input)) x y k h)
 
 whole_safely : (set a : ClearedSet) (s new : Plant) (unread left x y : Option (List ℕ)) → IsNew set a s
-    → WritesWholeLines (documents a) s new unread left x y → WritesWholeSafely (documents set) unread left x y
+    → WritesWholeLines (setup a) s new unread left x y → WritesWholeSafely (setup set) unread left x y
 whole_safely set a s new unread left x y k h = record { read = h.read; consumes = h.consumes; writes = writes_safely set a s new _ x y k h.writes }
 
 -- the clauses of serving
 pub record IsServedBy (a : ClearedSet) (s new : Plant) (max_reads : ℕ) (r : Result (Unit {0}) ServeFault) (ends : Ends) : Type 0 where
-  pub served : OnOk r (IfSome ends.unread (λ input. WritesTranscript (documents a) s (lines_of input) new ends.before ends.after))
+  pub served : OnOk r (IfSome ends.unread (λ input. WritesTranscript (setup a) s (lines_of input) new ends.before ends.after))
   pub ended : OnOk r (IsAtEnd ends.left)
-  pub read_fault : IsErrOf r faults.Read → WritesWholeLines (documents a) s new ends.unread ends.left ends.before ends.after
-  pub too_many_reads : IsErrOf r faults.TooManyReads → WritesWholeLines (documents a) s new ends.unread ends.left ends.before ends.after
+  pub read_fault : IsErrOf r faults.Read → WritesWholeLines (setup a) s new ends.unread ends.left ends.before ends.after
+  pub too_many_reads : IsErrOf r faults.TooManyReads → WritesWholeLines (setup a) s new ends.unread ends.left ends.before ends.after
   pub reads_made : IsErrOf r faults.TooManyReads → IfSome ends.unread (λ input. max_reads ≤ length input)
-  pub write_fault : IsErrOf r faults.Write → IfSome ends.unread (λ input. (n : ℕ) × BeginsTranscript (documents a) s (take n (lines_of input)) ends.before ends.after)
+  pub write_fault : IsErrOf r faults.Write → IfSome ends.unread (λ input. (n : ℕ) × BeginsTranscript (setup a) s (take n (lines_of input)) ends.before ends.after)
 
 pub serves : (set a : ClearedSet) (s new : Plant) (max_reads : ℕ) (r : Result (Unit {0}) ServeFault) (ends : Ends) → IsNew set a s
     → IsServedBy a s new max_reads r ends → Serves set max_reads (stopped r) ends

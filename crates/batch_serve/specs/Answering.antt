@@ -3,7 +3,7 @@ use Rattle.std.specs.Prelude.{ℕ, List, map, flat_map, Option, Result, Ok, Err}
 use Rattle.std.specs.Io.KnownBytes.{Appends}
 use Rattle.batch_model.specs.Events as Model
 use Rattle.batch_model.specs.Moves.{Move}
-use Rattle.batch_model.specs.Plant.{Documents, Plant}
+use Rattle.batch_model.specs.Plant.{Setup, Plant}
 use Rattle.batch_model.specs.Runs.{Out, move}
 use Rattle.batch_wire.specs.RecordText.{out_text}
 use Rattle.batch_wire.specs.Transcript.{Exchange, Settles, Handles, Answers}
@@ -18,19 +18,19 @@ abbrev pub moves_text : List Move → List ℕ
 moves_text moves = outs_text (map move moves)
 
 -- moves are made and written until there is none
-abbrev pub WritesMoves : Documents → Plant → Result (Unit {0}) WriteFault → Plant → Option (List ℕ) → Option (List ℕ) → Type 0
+abbrev pub WritesMoves : Setup → Plant → Result (Unit {0}) WriteFault → Plant → Option (List ℕ) → Option (List ℕ) → Type 0
 WritesMoves c old (Ok done) new before after = (moves : List Move) × Settles c old moves new × Appends before after (moves_text moves)
 WritesMoves c old (Err fault) new before after =
     (moves : List Move) × (last : Plant) × Settles c old moves last × AppendsBeginning before after (moves_text moves)
 
 -- the event is handled, and what comes of it written
-abbrev pub WritesHandled : Documents → Plant → Model.Event → Result (Unit {0}) WriteFault → Plant → Option (List ℕ) → Option (List ℕ) → Type 0
+abbrev pub WritesHandled : Setup → Plant → Model.Event → Result (Unit {0}) WriteFault → Plant → Option (List ℕ) → Option (List ℕ) → Type 0
 WritesHandled c old event (Ok done) new before after = (outs : List Out) × Handles c old event outs new × Appends before after (outs_text outs)
 WritesHandled c old event (Err fault) new before after =
     (outs : List Out) × (last : Plant) × Handles c old event outs last × AppendsBeginning before after (outs_text outs)
 
 -- a line that says this is answered
-abbrev pub WritesAnswer : Documents → Plant → Result (Option Model.Event) WireFault → Result (Unit {0}) WriteFault → Plant → Option (List ℕ) → Option (List ℕ) → Type 0
+abbrev pub WritesAnswer : Setup → Plant → Result (Option Model.Event) WireFault → Result (Unit {0}) WriteFault → Plant → Option (List ℕ) → Option (List ℕ) → Type 0
 WritesAnswer c old said (Ok done) new before after = (exchange : Exchange) × Answers c old said exchange new × Appends before after exchange.text
 WritesAnswer c old said (Err fault) new before after =
     (exchange : Exchange) × (last : Plant) × Answers c old said exchange last × AppendsBeginning before after exchange.text

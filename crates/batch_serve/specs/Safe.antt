@@ -1,19 +1,18 @@
 -- trusted: transcripts from the opening of a cleared set: their outs are a safe record.
 use Rattle.std.specs.Prelude.{ℕ, List, Option}
 use Rattle.std.specs.Io.KnownBytes.{Appends, Consumes}
-use Rattle.batch_model.specs.Documents.{cell_of}
-use Rattle.batch_model.specs.Plant.{Documents, Plant, opening}
+use Rattle.batch_model.specs.Plant.{Setup, Plant, opening}
 use Rattle.batch_model.specs.Records.{IsSafe}
 use Rattle.batch_model.specs.Runs.{Leads}
 use Rattle.batch_safety.specs.Settlement.{WaitsForSomething}
 use Rattle.batch_verify.specs.ClearedSet.{ClearedSet}
-use Rattle.batch_engine.specs.View.{documents}
+use Rattle.batch_engine.specs.View.{setup}
 use Rattle.batch_wire.specs.Transcript.{whole_lines, Exchange, Transcript}
 use Rattle.batch_wire.specs.Written.{AppendsBeginning}
 use Rattle.batch_serve.specs.Settled.{IsSettled}
 
 -- from the opening the lines may come to this exchange: its outs are the machine's record of its events, and that record is safe
-pub record IsSafeTranscript (c : Documents) (lines : List (List ℕ)) (said : Exchange) : Type 0 where
+pub record IsSafeTranscript (c : Setup) (lines : List (List ℕ)) (said : Exchange) : Type 0 where
   pub new : Plant
   pub transcript : Transcript c opening lines said new
   pub leads : Leads c opening said.events said.outs new
@@ -24,28 +23,28 @@ pub record IsSafeTranscript (c : Documents) (lines : List (List ℕ)) (said : Ex
 -- every transcript from the opening of the cleared set is such
 abbrev pub TranscriptsAreSafe : ClearedSet → Type 0
 TranscriptsAreSafe set =
-    (lines : List (List ℕ)) (said : Exchange) (new : Plant) → Transcript (documents set) opening lines said new → IsSafeTranscript (documents set) lines said
+    (lines : List (List ℕ)) (said : Exchange) (new : Plant) → Transcript (setup set) opening lines said new → IsSafeTranscript (setup set) lines said
 
 -- after a transcript from the opening of the cleared set, whoever waits waits for something
 abbrev pub TranscriptsLeaveNobodyInVain : ClearedSet → Type 0
 TranscriptsLeaveNobodyInVain set =
-    (lines : List (List ℕ)) (said : Exchange) (new : Plant) → Transcript (documents set) opening lines said new
-    → WaitsForSomething (cell_of set.cell) (documents set) new
+    (lines : List (List ℕ)) (said : Exchange) (new : Plant) → Transcript (setup set) opening lines said new
+    → WaitsForSomething (setup set) new
 
 -- the text of a safe transcript of the lines was written
-pub record WritesSafely (c : Documents) (lines : List (List ℕ)) (before after : Option (List ℕ)) : Type 0 where
+pub record WritesSafely (c : Setup) (lines : List (List ℕ)) (before after : Option (List ℕ)) : Type 0 where
   pub said : Exchange
   pub transcript : IsSafeTranscript c lines said
   pub appends : Appends before after said.text
 
 -- a beginning of that text was written
-pub record BeginsSafely (c : Documents) (lines : List (List ℕ)) (before after : Option (List ℕ)) : Type 0 where
+pub record BeginsSafely (c : Setup) (lines : List (List ℕ)) (before after : Option (List ℕ)) : Type 0 where
   pub said : Exchange
   pub transcript : IsSafeTranscript c lines said
   pub begins : AppendsBeginning before after said.text
 
 -- the text of such a transcript of the whole lines read was written; the reader had unread bytes, and has these left
-pub record WritesWholeSafely (c : Documents) (unread left before after : Option (List ℕ)) : Type 0 where
+pub record WritesWholeSafely (c : Setup) (unread left before after : Option (List ℕ)) : Type 0 where
   pub read : List ℕ
   pub consumes : Consumes unread left read
   pub writes : WritesSafely c (whole_lines read) before after

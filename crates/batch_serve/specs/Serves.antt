@@ -2,7 +2,7 @@
 use Rattle.std.specs.Prelude.{ℕ, ◌≤◌, List, take, length, Option, IfSome, Result, Ok, Err}
 use Rattle.std.specs.Io.KnownBytes.{Keeps, IsAtEnd}
 use Rattle.batch_verify.specs.ClearedSet.{ClearedSet}
-use Rattle.batch_engine.specs.View.{documents}
+use Rattle.batch_engine.specs.View.{setup}
 use Rattle.batch_wire.specs.Transcript.{lines_of}
 use Rattle.batch_serve.specs.Safe.{WritesSafely, BeginsSafely, WritesWholeSafely}
 use Rattle.batch_serve.specs.declared.fault.ServeFault.TheVariants.{Read, Write, TooManyReads}
@@ -18,12 +18,12 @@ pub record Ends : Type 0 where
 
 -- all lines of the input were answered
 pub record AnswersAll (set : ClearedSet) (ends : Ends) : Type 0 where
-  pub writes : IfSome ends.unread (λ input. WritesSafely (documents set) (lines_of input) ends.before ends.after)
+  pub writes : IfSome ends.unread (λ input. WritesSafely (setup set) (lines_of input) ends.before ends.after)
   pub ended : IsAtEnd ends.left
 
 -- the whole lines read were answered
 abbrev pub AnswersWholeLines : ClearedSet → Ends → Type 0
-AnswersWholeLines set ends = WritesWholeSafely (documents set) ends.unread ends.left ends.before ends.after
+AnswersWholeLines set ends = WritesWholeSafely (setup set) ends.unread ends.left ends.before ends.after
 
 -- as many bytes stood there as the reader could be asked
 abbrev pub HasAsManyBytes : ℕ → Ends → Type 0
@@ -31,7 +31,7 @@ HasAsManyBytes n ends = IfSome ends.unread (λ input. n ≤ length input)
 
 -- the first lines of the input were answered, and a beginning of that was written
 abbrev pub AnswersFirstLines : ClearedSet → Ends → Type 0
-AnswersFirstLines set ends = IfSome ends.unread (λ input. (n : ℕ) × BeginsSafely (documents set) (take n (lines_of input)) ends.before ends.after)
+AnswersFirstLines set ends = IfSome ends.unread (λ input. (n : ℕ) × BeginsSafely (setup set) (take n (lines_of input)) ends.before ends.after)
 
 -- nothing was read and nothing written
 abbrev pub IsUntouched : Ends → Type 0

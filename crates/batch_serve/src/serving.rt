@@ -1,7 +1,7 @@
 //! Serving a reader and a writer.
 ghost use Rattle.std.specs.Prelude.{◌≡◌, ◌≤◌, ℕ, take, length, OnOk, IfSome, IsErrOf};
 ghost use Rattle.std.specs.Io.KnownBytes.{Keeps, IsAtEnd};
-ghost use Rattle.batch_engine.specs.View.{documents, plant_of};
+ghost use Rattle.batch_engine.specs.View.{setup, plant_of};
 ghost use Rattle.batch_serve.specs.Safe.{TranscriptsAreSafe};
 ghost use Rattle.batch_serve.specs.Serving.{Feeds, Finishes};
 ghost use Rattle.batch_serve.specs.Settled.{IsSettledEngine};
@@ -36,15 +36,15 @@ pub fn serve<R: Read, W: Write>(
 ) -> Result<(), ServeFault>
     ensures cleared { engine.new.cleared ≡ engine.old.cleared }
     ensures served { OnOk result (IfSome (R.remaining reader.old) (λ input.
-        WritesTranscript (documents engine.old.cleared) (plant_of engine.old) (lines_of input) (plant_of engine.new) (W.contents writer.old) (W.contents writer.new))) }
+        WritesTranscript (setup engine.old.cleared) (plant_of engine.old) (lines_of input) (plant_of engine.new) (W.contents writer.old) (W.contents writer.new))) }
     ensures ended { OnOk result (IsAtEnd (R.remaining reader.new)) }
-    ensures read_fault { IsErrOf result ServeFault.Read → WritesWholeLines (documents engine.old.cleared) (plant_of engine.old) (plant_of engine.new)
+    ensures read_fault { IsErrOf result ServeFault.Read → WritesWholeLines (setup engine.old.cleared) (plant_of engine.old) (plant_of engine.new)
         (R.remaining reader.old) (R.remaining reader.new) (W.contents writer.old) (W.contents writer.new) }
-    ensures too_many_reads { IsErrOf result ServeFault.TooManyReads → WritesWholeLines (documents engine.old.cleared) (plant_of engine.old) (plant_of engine.new)
+    ensures too_many_reads { IsErrOf result ServeFault.TooManyReads → WritesWholeLines (setup engine.old.cleared) (plant_of engine.old) (plant_of engine.new)
         (R.remaining reader.old) (R.remaining reader.new) (W.contents writer.old) (W.contents writer.new) }
     ensures reads_made { IsErrOf result ServeFault.TooManyReads → IfSome (R.remaining reader.old) (λ input. max_reads ≤ length input) }
     ensures write_fault { IsErrOf result ServeFault.Write → IfSome (R.remaining reader.old) (λ input.
-        (n : ℕ) × BeginsTranscript (documents engine.old.cleared) (plant_of engine.old) (take n (lines_of input)) (W.contents writer.old) (W.contents writer.new)) }
+        (n : ℕ) × BeginsTranscript (setup engine.old.cleared) (plant_of engine.old) (take n (lines_of input)) (W.contents writer.old) (W.contents writer.new)) }
     ensures settled { (IsErrOf result ServeFault.Write → ⊥) → IsSettledEngine engine.old → IsSettledEngine engine.new }
     // So the outs of all these transcripts are a safe record, where the engine was a new one.
     ensures safe { TranscriptsAreSafe engine.old.cleared }
@@ -77,7 +77,7 @@ fn feed<W: Write>(
     writer: &mut W,
 ) -> Result<(), WriteFault>
     ensures cleared { engine.new.cleared ≡ engine.old.cleared }
-    ensures feeds { Feeds (documents engine.old.cleared) (record { plant = plant_of engine.old; line = line.old; written = W.contents writer.old })
+    ensures feeds { Feeds (setup engine.old.cleared) (record { plant = plant_of engine.old; line = line.old; written = W.contents writer.old })
         piece.now result (record { plant = plant_of engine.new; line = line.new; written = W.contents writer.new }) }
 {
     for byte in piece {
@@ -99,7 +99,7 @@ fn finish<W: Write>(
     writer: &mut W,
 ) -> Result<(), WriteFault>
     ensures cleared { engine.new.cleared ≡ engine.old.cleared }
-    ensures finishes { Finishes (documents engine.old.cleared) (record { plant = plant_of engine.old; line = line.now; written = W.contents writer.old })
+    ensures finishes { Finishes (setup engine.old.cleared) (record { plant = plant_of engine.old; line = line.now; written = W.contents writer.old })
         result (plant_of engine.new) (W.contents writer.new) }
 {
     answer_line(alloc, engine, line.as_slice(), writer)?;

@@ -3,4 +3,4 @@ use Rattle.batch_laws.proofs.Clearing.{cleared-down}
 use Rattle.batch_laws.proofs.records_tell_the_plant.Goals as goal
 
 pub returns : goal.returns
-returns c cell documents rank kept cleared = tells_the_plant documents rank (cleared-down cell documents rank kept cleared)
+returns c setup rank kept cleared = tells_the_plant setup rank (cleared-down setup rank kept cleared)

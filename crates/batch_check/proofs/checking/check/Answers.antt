@@ -1,7 +1,7 @@
 use Rattle.std.proofs.Common.{sym, subst}
 use Rattle.std.proofs.lemmas.Result.{err_from_is_err_and}
 use Rattle.batch_model.specs.Cleared.{Ranking, IsCleared}
-use Rattle.batch_model.specs.Documents.{cell_of, documents_of}
+use Rattle.batch_model.specs.Setups.{setup_of}
 use Rattle.batch_check.specs.ByName.{IsCertificateOf}
 use Rattle.batch_check.specs.Clearing.{IsLeastClearance}
 use Rattle.batch_check.specs.TightRanks.{RanksTightly}
@@ -12,7 +12,7 @@ use Rattle.batch_check.proofs.checking.check.Goals as goal
 pub returns-in_err-check_each-clause-none : goal.returns-in_err-check_each-clause-none
 returns-in_err-check_each-clause-none c =
     let p = err_from_is_err_and c.from_residual.result c.from_residual.ensures.1 in
-    rw (p.1, p.2) (λ known. recipe_fault_none (cell_of c.args.cell.now) (documents_of c.args.cell.now c.args.recipes.now) c.in_err-check_each.field-0.0 c.in_err-check_each.ensures.fault known)
+    rw (p.1, p.2) (λ known. recipe_fault_none (setup_of c.args.cell.now c.args.recipes.now) c.in_err-check_each.field-0.0 c.in_err-check_each.ensures.fault known)
 
 pub returns-in_err-ranks-clause-none : goal.returns-in_err-ranks-clause-none
 returns-in_err-ranks-clause-none c =
@@ -44,7 +44,7 @@ returns-clause-cleared c =
     let ranks = c.in_ok-ranks.ranks.items in
     let entries = c.in_ok-ranks-2.ranks.items in
     let h : IsCertificateOf cell ranks entries = rw c.deref.ensures.value at c.in_ok-ranks-2.ensures in
-    subst (λ (rank : Ranking). IsCleared (cell_of cell) (documents_of cell c.args.recipes.now) rank) (sym (TellsRanks-certificate cell ranks entries c.in_ok-ranks.ensures.least.complete h).by_name)
+    subst (λ (rank : Ranking). IsCleared (setup_of cell c.args.recipes.now) rank) (sym (TellsRanks-certificate cell ranks entries c.in_ok-ranks.ensures.least.complete h).by_name)
     (least_clearance cell c.args.recipes.now ranks (c.is_recipe_set.ensures.0 c.if-not-is_recipe_set.false) c.in_ok-check_each.ensures.sound c.in_ok-ranks.ensures.least).clearing
 
 pub returns-clause-tight : goal.returns-clause-tight
@@ -54,4 +54,4 @@ returns-clause-tight c =
     let entries = c.in_ok-ranks-2.ranks.items in
     let h : IsCertificateOf cell ranks entries = rw c.deref.ensures.value at c.in_ok-ranks-2.ensures in
     subst (λ (rank : Ranking). RanksTightly cell c.args.recipes.now rank) (sym (TellsRanks-certificate cell ranks entries c.in_ok-ranks.ensures.least.complete h).by_name)
-    (c.in_ok-ranks.ensures.least.tight (needs_known cell (documents_of cell c.args.recipes.now) c.args.recipes.now c.in_ok-check_each.ensures.sound))
+    (c.in_ok-ranks.ensures.least.tight (needs_known cell c.args.recipes.now c.args.recipes.now c.in_ok-check_each.ensures.sound))

@@ -1,4 +1,4 @@
-use Rattle.batch_model.specs.Documents.{documents_of}
+use Rattle.batch_model.specs.Setups.{setup_of}
 use Rattle.batch_model.specs.Recipes.{recipe_of}
 use Rattle.batch_check.proofs.Verdicts.{recipe_at, sound_more}
 use Rattle.batch_check.proofs.checking.check_each.Goals as goal
@@ -16,5 +16,5 @@ returns-in-Some-clause-fault c =
 
 pub loop-number-preserved : goal.loop-number-preserved
 loop-number-preserved c =
-    sound_more c.args.cell.now (documents_of c.args.cell.now c.args.recipes.now) c.args.recipes.now c.loop-number.number c.index-recipes-number.result c.loop-number-test.true c.index-recipes-number.is
+    sound_more c.args.cell.now (setup_of c.args.cell.now c.args.recipes.now) c.args.recipes.now c.loop-number.number c.index-recipes-number.result c.loop-number-test.true c.index-recipes-number.is
     c.loop-number.invariant (rw c.in-None.is at (c.in_ok-first_broken.ensures c.args.recipes.now))

@@ -1,4 +1,4 @@
-use Rattle.batch_model.specs.Documents.{documents_of}
+use Rattle.batch_model.specs.Setups.{setup_of}
 use Rattle.batch_check.proofs.Rising.{circle_leaves_none, cleared_rises}
 use Rattle.batch_check.proofs.laws.standing_circles_leave_no_clearance.Goals as goal
 
@@ -6,5 +6,5 @@ pub returns : goal.returns
 returns c = record {
   rising = λ cell recipes circle rank. circle_leaves_none rank cell recipes circle;
   clearance = λ cell recipes circle stands (rank, cleared).
-      circle_leaves_none rank cell recipes circle stands (cleared_rises cell (documents_of cell recipes) rank recipes cleared.recipes);
+      circle_leaves_none rank cell recipes circle stands (cleared_rises cell (setup_of cell recipes) rank recipes cleared.recipes);
 }

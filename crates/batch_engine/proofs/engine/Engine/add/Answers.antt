@@ -10,7 +10,7 @@ use Rattle.batch_arbiter.specs.Allocation.{Allocation}
 use Rattle.batch_chart.specs.NodesOf.{needs_in}
 use Rattle.batch_chart.specs.declared.compiled.Compiled.{Compiled}
 use Rattle.batch_engine.specs.declared.batch.Batch.{Batch}
-use Rattle.batch_engine.specs.View.{EngineView, seen, documents, recipe_at, tree_at, batch_of, plant_of}
+use Rattle.batch_engine.specs.View.{EngineView, seen, setup, recipe_at, tree_at, batch_of, plant_of}
 use Rattle.batch_engine.specs.Kept.{IsKept, needs_of_all}
 use Rattle.batch_engine.proofs.FewNeeds.{few-batches}
 use Rattle.batch_engine.proofs.Finding.{got-chart}
@@ -96,7 +96,7 @@ returns c =
     let enough : needs_of_all v.cleared v.batches + needs_in t ≤ room = omega (arith, c.needs_with-needs.ensures, c.in-Ok-reserve.ensures.ok) in
     let arbiter : c.reserve.new.self ≡ record (c.self.inside.arbiter) { room = room } = c.in-Ok-reserve.ensures.rest in
     let items : c.add.new.self.batches ≡ c.self.inside.batches.batches ++ b ∷ [] = ap (λ (r : BatchList). r.batches) c.in-Ok-add.ensures.added in
-    let reacts : Reacts (documents v.cleared) (plant_of v) (Events.create c.args.name.now c.args.size) (Events.created v.next_number (recipe_at v.cleared c.args.recipe).name c.args.size)
+    let reacts : Reacts (setup v.cleared) (plant_of v) (Events.create c.args.name.now c.args.size) (Events.created v.next_number (recipe_at v.cleared c.args.recipe).name c.args.size)
     (plant_of (with v (v.batches ++ b ∷ []) (v.next_number + 1) (record (v.allocation) { room = room }))) =
     create-reacts v kept c.args.recipe c.args.name.now c.args.size c.args.values c.requires b room number refl (made c.args.values).0 new enough in
     let same : plant_of (seen c.self.inside.cleared c.self.inside.charts.items c.self.inside.numbers.items c.add.new.self.batches (c.self.inside.next_number + 1) c.reserve.new.self)
@@ -107,8 +107,8 @@ returns c =
     let called : recipe_name v.cleared c.args.recipe ≡ (recipe_at v.cleared c.args.recipe).name = recipe-named v.cleared c.args.recipe document.0 document.1 in
     record {
       cleared = ap (λ (z : EngineView). z.cleared) e;
-      reacts = subst (λ (called : Name). Reacts (documents v.cleared) (plant_of v) (Events.create c.args.name.now c.args.size) (Events.created b.number called c.args.size) (plant_of (seen c.self.inside.cleared c.self.inside.charts.items c.self.inside.numbers.items c.add.new.self.batches (c.self.inside.next_number + 1) c.reserve.new.self))) (sym called)
-          (subst (λ n. Reacts (documents v.cleared) (plant_of v) (Events.create c.args.name.now c.args.size) (Events.created n (recipe_at v.cleared c.args.recipe).name c.args.size) (plant_of (seen c.self.inside.cleared c.self.inside.charts.items c.self.inside.numbers.items c.add.new.self.batches (c.self.inside.next_number + 1) c.reserve.new.self)))
+      reacts = subst (λ (called : Name). Reacts (setup v.cleared) (plant_of v) (Events.create c.args.name.now c.args.size) (Events.created b.number called c.args.size) (plant_of (seen c.self.inside.cleared c.self.inside.charts.items c.self.inside.numbers.items c.add.new.self.batches (c.self.inside.next_number + 1) c.reserve.new.self))) (sym called)
+          (subst (λ n. Reacts (setup v.cleared) (plant_of v) (Events.create c.args.name.now c.args.size) (Events.created n (recipe_at v.cleared c.args.recipe).name c.args.size) (plant_of (seen c.self.inside.cleared c.self.inside.charts.items c.self.inside.numbers.items c.add.new.self.batches (c.self.inside.next_number + 1) c.reserve.new.self)))
           (sym number)
-          (subst (Reacts (documents v.cleared) (plant_of v) (Events.create c.args.name.now c.args.size) (Events.created v.next_number (recipe_at v.cleared c.args.recipe).name c.args.size)) (sym same) reacts));
+          (subst (Reacts (setup v.cleared) (plant_of v) (Events.create c.args.name.now c.args.size) (Events.created v.next_number (recipe_at v.cleared c.args.recipe).name c.args.size)) (sym same) reacts));
     }

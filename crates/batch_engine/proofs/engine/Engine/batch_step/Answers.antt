@@ -5,7 +5,7 @@ use Rattle.batch_chart.specs.OwnMoves.{own_next}
 use Rattle.batch_chart.specs.Seen.{move_of}
 use Rattle.batch_chart.specs.declared.compiled.Compiled.{Compiled}
 use Rattle.batch_engine.specs.declared.batch.Batch.{Batch}
-use Rattle.batch_engine.specs.View.{EngineView, batch_of, documents, plant_of, tree_of}
+use Rattle.batch_engine.specs.View.{EngineView, batch_of, setup, plant_of, tree_of}
 use Rattle.batch_engine.specs.Kept.{IsKept}
 use Rattle.batch_engine.specs.Steps.{IsFirstGrant, IsBatchStep}
 use Rattle.batch_engine.proofs.AtRest.{stopped-moves}
@@ -95,6 +95,6 @@ returns-then-is_stopped c =
     record {
       batch = b;
       at = at;
-      none = stopped-moves (documents v.cleared) (plant_of v) (batch_of v.cleared b) (sym c.is_stopped.ensures ∙ c.if-is_stopped.true)
+      none = stopped-moves (setup v.cleared) (plant_of v) (batch_of v.cleared b) (sym c.is_stopped.ensures ∙ c.if-is_stopped.true)
           ((safe v kept).sound (batch_of v.cleared b) (Has-batch_of v.cleared v.batches b (has v kept c.args.index b at))).fits;
     }

@@ -10,7 +10,7 @@ use Rattle.batch_model.specs.Recipes.{recipe_of}
 use Rattle.batch_model.specs.Events as Events
 use Rattle.batch_model.specs.Events.{is_full, Answer}
 use Rattle.batch_model.specs.Runs.{Reacts, IsCreated}
-use Rattle.batch_engine.specs.View.{EngineView, documents, recipe_at, plant_of}
+use Rattle.batch_engine.specs.View.{EngineView, setup, recipe_at, plant_of}
 use Rattle.batch_engine.specs.Creates.{IsCreate}
 use Rattle.batch_engine.specs.Values.{IsValuesFor}
 use Rattle.batch_engine.specs.declared.creates.BadValues.TheVariants.{Size, OutOfRange, Memory}
@@ -55,9 +55,9 @@ add-requires c =
     slice_get_read v.cleared.recipes (length v.cleared.recipes) c.in-Some.recipe r refl known (c.index-recipes-recipe.is ∙ ap (λ xs. get_or xs c.in-Some.recipe r) recipes') in
     let same : f.0 ≡ r = same-at v.cleared.recipes c.in-Some.recipe f.0 r f.1 read in
     let here : recipe_at v.cleared c.in-Some.recipe ≡ recipe_of r = recipe-read v.cleared c.recipes-2.result.now c.in-Some.recipe c.in-Some.recipe r recipes' refl known c.index-recipes-recipe.is in
-    let found : find (λ (r : Model.Recipe). same_name r.name name) (documents v.cleared).recipes ≡ Some (recipe_at v.cleared c.in-Some.recipe) =
+    let found : find (λ (r : Model.Recipe). same_name r.name name) (setup v.cleared).recipes ≡ Some (recipe_at v.cleared c.in-Some.recipe) =
     f.2 ∙ ap (λ z. Some (recipe_of z)) same ∙ ap Some (sym here) in
-    let free : is_full (documents v.cleared) (plant_of v) ≡ false = sym c.is_full.ensures ∙ c.if-is_full.false in
+    let free : is_full (setup v.cleared) (plant_of v) ≡ false = sym c.is_full.ensures ∙ c.if-is_full.false in
     let values : IsValuesFor r c.args.size (Ok c.in-Ok.values) = subst (IsValuesFor r c.args.size) c.in-Ok.is c.values_for.ensures in
     record { settled = c.requires; known = known; found = found; free = free; formula = ap (λ (z : Model.Recipe). z.formula c.args.size) here ∙ values }
 
@@ -76,9 +76,9 @@ returns-in-Err-Size c =
     slice_get_read v.cleared.recipes (length v.cleared.recipes) c.in-Some.recipe r refl known (c.index-recipes-recipe.is ∙ ap (λ xs. get_or xs c.in-Some.recipe r) recipes') in
     let same : f.0 ≡ r = same-at v.cleared.recipes c.in-Some.recipe f.0 r f.1 read in
     let here : recipe_at v.cleared c.in-Some.recipe ≡ recipe_of r = recipe-read v.cleared c.recipes-2.result.now c.in-Some.recipe c.in-Some.recipe r recipes' refl known c.index-recipes-recipe.is in
-    let found : find (λ (r : Model.Recipe). same_name r.name name) (documents v.cleared).recipes ≡ Some (recipe_at v.cleared c.in-Some.recipe) =
+    let found : find (λ (r : Model.Recipe). same_name r.name name) (setup v.cleared).recipes ≡ Some (recipe_at v.cleared c.in-Some.recipe) =
     f.2 ∙ ap (λ z. Some (recipe_of z)) same ∙ ap Some (sym here) in
-    let free : is_full (documents v.cleared) (plant_of v) ≡ false = sym c.is_full.ensures ∙ c.if-is_full.false in
+    let free : is_full (setup v.cleared) (plant_of v) ≡ false = sym c.is_full.ensures ∙ c.if-is_full.false in
     let values : IsValuesFor r c.args.size (Err Size) = subst (λ e. IsValuesFor r c.args.size (Err e)) c.in-Err-Size.field-0-is (subst (IsValuesFor r c.args.size) c.in-Err-Size.is c.values_for.ensures) in
     record { cleared = refl; reacts = inl (judge-values v name c.args.size (recipe_at v.cleared c.in-Some.recipe) c.requires found Model.size_out_of_range free (ap (λ (z : Model.Recipe). z.formula c.args.size) here ∙ values)) }
 
@@ -97,17 +97,17 @@ returns-in-Err-OutOfRange c =
     slice_get_read v.cleared.recipes (length v.cleared.recipes) c.in-Some.recipe r refl known (c.index-recipes-recipe.is ∙ ap (λ xs. get_or xs c.in-Some.recipe r) recipes') in
     let same : f.0 ≡ r = same-at v.cleared.recipes c.in-Some.recipe f.0 r f.1 read in
     let here : recipe_at v.cleared c.in-Some.recipe ≡ recipe_of r = recipe-read v.cleared c.recipes-2.result.now c.in-Some.recipe c.in-Some.recipe r recipes' refl known c.index-recipes-recipe.is in
-    let found : find (λ (r : Model.Recipe). same_name r.name name) (documents v.cleared).recipes ≡ Some (recipe_at v.cleared c.in-Some.recipe) =
+    let found : find (λ (r : Model.Recipe). same_name r.name name) (setup v.cleared).recipes ≡ Some (recipe_at v.cleared c.in-Some.recipe) =
     f.2 ∙ ap (λ z. Some (recipe_of z)) same ∙ ap Some (sym here) in
-    let free : is_full (documents v.cleared) (plant_of v) ≡ false = sym c.is_full.ensures ∙ c.if-is_full.false in
+    let free : is_full (setup v.cleared) (plant_of v) ≡ false = sym c.is_full.ensures ∙ c.if-is_full.false in
     let values : IsValuesFor r c.args.size (Err (OutOfRange c.in-Err-OutOfRange.value)) = subst (λ e. IsValuesFor r c.args.size (Err e)) c.in-Err-OutOfRange.field-0-is (subst (IsValuesFor r c.args.size) c.in-Err-OutOfRange.is c.values_for.ensures) in
     let k : ℕ = c.in-Err-OutOfRange.value in
     let called : value_name v.cleared c.in-Some.recipe k ≡ values.0.name =
     ap (λ (m : Option document.Recipe). unwrap_or (option_map (name_of_value k) m) []) read
     ∙ ap (λ (m : Option Quantity). unwrap_or (option_map quantity_name m) []) values.1 in
-    let reacts : Reacts (documents v.cleared) (plant_of v) (Events.create name c.args.size) (Events.refused (Events.bad_value values.0.name)) (plant_of v) =
+    let reacts : Reacts (setup v.cleared) (plant_of v) (Events.create name c.args.size) (Events.refused (Events.bad_value values.0.name)) (plant_of v) =
     inl (judge-values v name c.args.size (recipe_at v.cleared c.in-Some.recipe) c.requires found (Model.value_out_of_range values.0.name) free (ap (λ (z : Model.Recipe). z.formula c.args.size) here ∙ values.2)) in
-    record { cleared = refl; reacts = subst (λ (n : Name). Reacts (documents v.cleared) (plant_of v) (Events.create name c.args.size) (Events.refused (Events.bad_value n)) (plant_of v)) (sym called) reacts }
+    record { cleared = refl; reacts = subst (λ (n : Name). Reacts (setup v.cleared) (plant_of v) (Events.create name c.args.size) (Events.refused (Events.bad_value n)) (plant_of v)) (sym called) reacts }
 
 pub returns-in-Err-Memory : goal.returns-in-Err-Memory
 returns-in-Err-Memory c =
@@ -124,9 +124,9 @@ returns-in-Err-Memory c =
     slice_get_read v.cleared.recipes (length v.cleared.recipes) c.in-Some.recipe r refl known (c.index-recipes-recipe.is ∙ ap (λ xs. get_or xs c.in-Some.recipe r) recipes') in
     let same : f.0 ≡ r = same-at v.cleared.recipes c.in-Some.recipe f.0 r f.1 read in
     let here : recipe_at v.cleared c.in-Some.recipe ≡ recipe_of r = recipe-read v.cleared c.recipes-2.result.now c.in-Some.recipe c.in-Some.recipe r recipes' refl known c.index-recipes-recipe.is in
-    let found : find (λ (r : Model.Recipe). same_name r.name name) (documents v.cleared).recipes ≡ Some (recipe_at v.cleared c.in-Some.recipe) =
+    let found : find (λ (r : Model.Recipe). same_name r.name name) (setup v.cleared).recipes ≡ Some (recipe_at v.cleared c.in-Some.recipe) =
     f.2 ∙ ap (λ z. Some (recipe_of z)) same ∙ ap Some (sym here) in
-    let free : is_full (documents v.cleared) (plant_of v) ≡ false = sym c.is_full.ensures ∙ c.if-is_full.false in
+    let free : is_full (setup v.cleared) (plant_of v) ≡ false = sym c.is_full.ensures ∙ c.if-is_full.false in
     let values : IsValuesFor r c.args.size (Err Memory) = subst (λ e. IsValuesFor r c.args.size (Err e)) c.in-Err-Memory.field-0-is (subst (IsValuesFor r c.args.size) c.in-Err-Memory.is c.values_for.ensures) in
     let o : IsCreate v c.in-Some.recipe name c.args.size values.0 =
     record { settled = c.requires; known = known; found = found; free = free; formula = ap (λ (z : Model.Recipe). z.formula c.args.size) here ∙ values.1 } in

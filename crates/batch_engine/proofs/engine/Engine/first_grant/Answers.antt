@@ -6,7 +6,7 @@ use Rattle.batch_chart.specs.NodesOf.{need_at}
 use Rattle.batch_chart.specs.Charts.{AsksAt, remains}
 use Rattle.batch_chart.specs.declared.compiled.Compiled.{Compiled}
 use Rattle.batch_engine.specs.declared.batch.Batch.{Batch}
-use Rattle.batch_engine.specs.View.{EngineView, documents, plant_of, batch_of, tree_of}
+use Rattle.batch_engine.specs.View.{EngineView, setup, plant_of, batch_of, tree_of}
 use Rattle.batch_model.specs.Moves.{least}
 use Rattle.batch_chart.specs.OwnMoves.{grants}
 use Rattle.batch_engine.specs.Kept.{IsKept}
@@ -50,7 +50,7 @@ returns-then-serves c =
       number = (c.resource_at-resource.ensures b at).0;
       units_are = (c.resource_at-resource.ensures b at).1;
       first = first;
-      is = λ d e. one-batch v kept c.args.index b at (λ z. least (grants (documents v.cleared) (plant_of v) (batch_of v.cleared z))) _ d e
+      is = λ d e. one-batch v kept c.args.index b at (λ z. least (grants (setup v.cleared) (plant_of v) (batch_of v.cleared z))) _ d e
           (first-grant v kept c.args.index b at c.in-Some.node c.in-Some.need asks served (goes-on v kept c.args.index b at x compiled c.loop-node.from c.in-Some.node c.loop-node.invariant.1 c.in-Some.ensures.before));
     }
 
@@ -78,12 +78,12 @@ returns c =
     let kept : IsKept v = subst IsKept c.self.view_is c.self.invariant.kept in
     let at : slice_get v.batches c.args.index ≡ Some b = got-batch v _ c.args.index b c.self.view_is c.requires c.index-batch.ensures in
     let compiled : slice_get v.charts b.recipe ≡ Some x = got-chart v _ c.from.result b.recipe x c.self.view_is c.from.ensures (in-charts v kept c.args.index b at) c.index-chart.ensures in
-    let none : grants (documents v.cleared) (plant_of v) (batch_of v.cleared b) ≡ [] =
+    let none : grants (setup v.cleared) (plant_of v) (batch_of v.cleared b) ≡ [] =
     no-grants v kept c.args.index b at (λ j l asks served. elim (within-or_past j c.loop-node.from) [
       | inl q ↦ c.loop-node.invariant.1 j l q asks served
       | inr q ↦ c.in_default.ensures.none refl (tree_of v.cleared b) (kept.charts.each b.recipe x compiled) (batch-runs v kept c.args.index b at).runs j l q asks
     ]) in
-    λ d e. one-none v kept c.args.index b at (λ z. grants (documents v.cleared) (plant_of v) (batch_of v.cleared z)) d e none
+    λ d e. one-none v kept c.args.index b at (λ z. grants (setup v.cleared) (plant_of v) (batch_of v.cleared z)) d e none
 
 pub waiting-requires : goal.waiting-requires
 waiting-requires c =

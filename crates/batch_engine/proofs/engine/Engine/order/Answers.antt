@@ -31,11 +31,11 @@ returns-in_default-after c =
     not-accepted f.batch.state c.args.command (ap (λ (z : Batch). Rattle.batch_matrix.specs.Matrix.after z.state c.args.command) same ∙ sym c.after.ensures ∙ c.in_default-after.is) in
     record {
       cleared = refl;
-      reacts = subst (λ (x : State). Rattle.batch_model.specs.Runs.Reacts (Rattle.batch_engine.specs.View.documents v.cleared) (Rattle.batch_engine.specs.View.plant_of v) (Rattle.batch_model.specs.Events.order c.args.command c.args.number) (Rattle.batch_model.specs.Events.refused (Rattle.batch_model.specs.Events.command_not_accepted x)) (Rattle.batch_engine.specs.View.plant_of v))
+      reacts = subst (λ (x : State). Rattle.batch_model.specs.Runs.Reacts (Rattle.batch_engine.specs.View.setup v.cleared) (Rattle.batch_engine.specs.View.plant_of v) (Rattle.batch_model.specs.Events.order c.args.command c.args.number) (Rattle.batch_model.specs.Events.refused (Rattle.batch_model.specs.Events.command_not_accepted x)) (Rattle.batch_engine.specs.View.plant_of v))
           (ap (λ (z : Batch). z.state) same) (order-refused v c.args.command c.args.number (batch_of v.cleared f.batch) c.requires f.is off);
     }
 
-made-order : (v : EngineView) (i : ℕ) (command : Command) (n : ℕ) (f : Found v n i) → Rattle.batch_model.specs.Moves.next (Rattle.batch_engine.specs.View.documents v.cleared) (Rattle.batch_engine.specs.View.plant_of v) ≡ None
+made-order : (v : EngineView) (i : ℕ) (command : Command) (n : ℕ) (f : Found v n i) → Rattle.batch_model.specs.Moves.next (Rattle.batch_engine.specs.View.setup v.cleared) (Rattle.batch_engine.specs.View.plant_of v) ≡ None
     → accepts f.batch.state command ≡ true → IsOrder v i command n
 made-order v i command n f settled yes' = record { batch = f.batch; at = f.at; number = f.number; found = f.is; settled = settled; accepted = yes' }
 

@@ -6,7 +6,7 @@ use Rattle.batch_matrix.specs.declared.state.State.{State}
 use Rattle.batch_model.specs.Events as Events
 use Rattle.batch_model.specs.Runs.{Reacts}
 use Rattle.batch_engine.specs.declared.batch.Batch.{Batch}
-use Rattle.batch_engine.specs.View.{EngineView, seen, documents, batch_of, plant_of}
+use Rattle.batch_engine.specs.View.{EngineView, seen, setup, batch_of, plant_of}
 use Rattle.batch_engine.specs.Kept.{IsKept}
 use Rattle.batch_engine.proofs.Answering.{same-at}
 use Rattle.batch_engine.proofs.Finding.{got-batch}
@@ -31,7 +31,7 @@ returns-in_default-state c =
     let same : f.batch ≡ b = same-at v.batches c.in-Some.index f.batch b f.at at in
     record {
       cleared = refl;
-      reacts = subst (λ (x : State). Reacts (documents v.cleared) (plant_of v) (Events.remove c.args.number) (Events.refused (Events.not_idle x)) (plant_of v)) (ap (λ (z : Batch). z.state) same)
+      reacts = subst (λ (x : State). Reacts (setup v.cleared) (plant_of v) (Events.remove c.args.number) (Events.refused (Events.not_idle x)) (plant_of v)) (ap (λ (z : Batch). z.state) same)
           (remove-busy v c.args.number (batch_of v.cleared f.batch) c.requires f.is (λ e. c.in_default-state.not-Idle (sym (ap (λ (z : Batch). z.state) same) ∙ e)));
     }
 
@@ -61,12 +61,12 @@ returns c =
     let b : Batch = c.index.result.now in
     let at : slice_get v.batches i ≡ Some b = got-batch v _ i b c.self.view_is (slice_get_within v.batches i f.batch f.at) c.index.ensures in
     let same : f.batch ≡ b = same-at v.batches i f.batch b f.at at in
-    let reacts : Reacts (documents v.cleared) (plant_of v) (Events.remove c.args.number) (Events.removed c.args.number) (plant_of (with v (remove v.batches i) v.next_number v.allocation)) =
-    subst (λ n. Reacts (documents v.cleared) (plant_of v) (Events.remove c.args.number) (Events.removed n) (plant_of (with v (remove v.batches i) v.next_number v.allocation))) f.number
+    let reacts : Reacts (setup v.cleared) (plant_of v) (Events.remove c.args.number) (Events.removed c.args.number) (plant_of (with v (remove v.batches i) v.next_number v.allocation)) =
+    subst (λ n. Reacts (setup v.cleared) (plant_of v) (Events.remove c.args.number) (Events.removed n) (plant_of (with v (remove v.batches i) v.next_number v.allocation))) f.number
     (remove-reacts v kept i f.batch f.at (ap (λ (z : Batch). z.state) same ∙ c.in-Idle.is) c.args.number c.requires f.is) in
     record {
       cleared = ap (λ (z : EngineView). z.cleared) c.self.view_is;
       reacts =
-          subst (λ (r : BatchList). Reacts (documents v.cleared) (plant_of v) (Events.remove c.args.number) (Events.removed c.args.number) (plant_of (seen c.self.inside.cleared c.self.inside.charts.items c.self.inside.numbers.items r.batches c.self.inside.next_number c.self.inside.arbiter))) (sym c.remove-removed.ensures.rest)
-          (subst (λ (z : EngineView). Reacts (documents v.cleared) (plant_of v) (Events.remove c.args.number) (Events.removed c.args.number) (plant_of (with z (remove z.batches i) z.next_number z.allocation))) (sym c.self.view_is) reacts);
+          subst (λ (r : BatchList). Reacts (setup v.cleared) (plant_of v) (Events.remove c.args.number) (Events.removed c.args.number) (plant_of (seen c.self.inside.cleared c.self.inside.charts.items c.self.inside.numbers.items r.batches c.self.inside.next_number c.self.inside.arbiter))) (sym c.remove-removed.ensures.rest)
+          (subst (λ (z : EngineView). Reacts (setup v.cleared) (plant_of v) (Events.remove c.args.number) (Events.removed c.args.number) (plant_of (with z (remove z.batches i) z.next_number z.allocation))) (sym c.self.view_is) reacts);
     }

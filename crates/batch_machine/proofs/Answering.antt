@@ -1,0 +1,193 @@
+-- A plant that stands does so after each event.
+use Rattle.std.proofs.Common.{◌≡◌, refl, ℕ, List, [], ◌∷◌, Bool, true, false, Some, None}
+use Rattle.std.specs.Prelude.{Option, find, not, nat_eq}
+use Rattle.batch_matrix.specs.declared.state.State.{State}
+use Rattle.batch_matrix.specs.declared.state.State.TheVariants.{Idle, Running, Pausing, Paused, Holding, Held, Restarting, Stopping, Stopped, Aborting, Aborted, Complete}
+use Rattle.batch_matrix.specs.declared.command.Command.{Command}
+use Rattle.batch_matrix.specs.declared.command.Command.TheVariants.{Start, Pause, Resume, Hold, Restart, Stop, Abort, Reset}
+use Rattle.batch_matrix.specs.declared.report.Report.{Report}
+use Rattle.batch_matrix.specs.declared.report.PhaseEnd.{PhaseEnd}
+use Rattle.batch_matrix.specs.Matrix.{accepts, target, after_report}
+use Rattle.batch_recipe.specs.Conditions.{Name, ValueList, same_name}
+use Rattle.batch_recipe.specs.Tree.{Place}
+use Rattle.batch_model.specs.Lists.{Has}
+use Rattle.batch_model.specs.Rest.{reach}
+use Rattle.batch_model.specs.Plant.{Formula, size_out_of_range, value_out_of_range, scaled, Recipe, Setup, Batch, Share, Plant, batch_at, in_batch}
+use Rattle.batch_model.specs.Moves.{Move, next}
+use Rattle.batch_recipe.specs.Values.{with_values, with_outputs_zero, are_outputs}
+use Rattle.batch_model.specs.Events.{Event, create, order, remove, report, ordered, removed, reported, refused, unknown_recipe, unknown_batch, command_not_accepted, no_live_phase, report_not_expected, bad_output, full, not_idle, moves_pending, Answer, is_full, new_batch, with_batch, creating, stopped, commanded, lines_under, ordering, without_batch, removing, LivePhase, live_phase, phase_after, batch_state_after, outputs_of, batch_reported, reporting, judged, react}
+use Rattle.batch_model.specs.Standing.{IsStandingBatch, IsStanding}
+use Rattle.batch_model.proofs.Members.{Each-append, Each-filter, find-Has}
+use Rattle.batch_machine.proofs.Advancing.{reach-advanced, withdrawn-advanced}
+use Rattle.batch_machine.proofs.Standing.{reach-IsRestOf}
+use Rattle.batch_machine.proofs.Keeping.{withdrawn-IsRestOf, phase_after-remains}
+use Rattle.batch_machine.proofs.Batches.{Each-only, AreNumbered-only, AreNumbered-new, AreNumbered-filter}
+use Rattle.batch_machine.proofs.Moving.{in_act-stands}
+
+-- One batch
+
+-- a batch of a recipe of which everything is reached anew
+anew-stands : (c : Setup) (b : Batch) (vs : ValueList) → Has c.recipes b.recipe → IsStandingBatch c (record b { values = vs; state = Idle; rest = reach vs b.recipe.procedure })
+anew-stands c b vs known =
+    record { known = known; stands = reach-IsRestOf vs b.recipe.procedure; advanced = reach-advanced vs b.recipe.procedure }
+
+stopped-stands : (c : Setup) (command : Command) (b : Batch) → IsStandingBatch c b → IsStandingBatch c (stopped command b)
+stopped-stands c command b k =
+    record { known = k.known; stands = withdrawn-IsRestOf b.recipe.procedure b.rest k.stands; advanced = withdrawn-advanced b.rest k.advanced }
+
+in_state-stands : (c : Setup) (b : Batch) (x : State) → IsStandingBatch c b → IsStandingBatch c (record b { state = x })
+in_state-stands c b x k = record { known = k.known; stands = k.stands; advanced = k.advanced }
+
+commanded-stands : (c : Setup) (command : Command) (b : Batch) → IsStandingBatch c b → IsStandingBatch c (commanded command b)
+commanded-stands c Start b k = in_state-stands c b (target Start) k
+commanded-stands c Pause b k = in_state-stands c b (target Pause) k
+commanded-stands c Resume b k = in_state-stands c b (target Resume) k
+commanded-stands c Hold b k = in_state-stands c b (target Hold) k
+commanded-stands c Restart b k = in_state-stands c b (target Restart) k
+commanded-stands c Stop b k = stopped-stands c Stop b k
+commanded-stands c Abort b k = stopped-stands c Abort b k
+commanded-stands c Reset b k = anew-stands c b (with_outputs_zero b.recipe.outputs b.values) k.known
+
+commanded-number : (command : Command) (b : Batch) → (commanded command b).number ≡ b.number
+commanded-number Start b = refl
+commanded-number Pause b = refl
+commanded-number Resume b = refl
+commanded-number Hold b = refl
+commanded-number Restart b = refl
+commanded-number Stop b = refl
+commanded-number Abort b = refl
+commanded-number Reset b = refl
+
+reported-stands : (c : Setup) (word : Report) (outputs : ValueList) (p : Place) (e : PhaseEnd) (b : Batch) → IsStandingBatch c b
+    → IsStandingBatch c (batch_reported word outputs p e b)
+reported-stands c word outputs p e b k =
+    in_act-stands c (record b { values = with_values outputs b.values; state = batch_state_after word b.state }) p (phase_after e)
+    (record { known = k.known; stands = k.stands; advanced = k.advanced })
+    (λ a i at. phase_after-remains e a)
+
+-- The plant
+
+module _ (c : Setup) (s : Plant) (k : IsStanding c s) where
+  -- the plant after the answer stands
+  abbrev Stands : Answer → Type 0
+  Stands a = IsStanding c a.1
+
+  in_batch-stands : (n : ℕ) (f : Batch → Batch) (line : Name → List Share) → ((b : Batch) → IsStandingBatch c b → IsStandingBatch c (f b))
+      → ((b : Batch) → (f b).number ≡ b.number) → IsStanding c (record (in_batch n f s) { line = line })
+  in_batch-stands n f line keep same =
+      record {
+        batches = Each-only (IsStandingBatch c) n f s.batches (λ b i e h. keep b h) k.batches;
+        numbers = AreNumbered-only s.next_number n f s.batches same k.numbers;
+      }
+
+  with_batch-stands : (r : Recipe) (size : ℕ) (vs : ValueList) → Has c.recipes r → IsStanding c (with_batch s r size vs)
+  with_batch-stands r size vs known =
+      record {
+        batches =
+            Each-append (IsStandingBatch c) s.batches (new_batch s.next_number r size vs ∷ []) k.batches
+            (record { known = known; stands = reach-IsRestOf vs r.procedure; advanced = reach-advanced vs r.procedure }, tt);
+        numbers = AreNumbered-new s.next_number s.batches (new_batch s.next_number r size vs) refl k.numbers;
+      }
+
+  creating-stands : (r : Recipe) (size : ℕ) (f : Formula) → Has c.recipes r → Stands (creating s r size f)
+  creating-stands r size size_out_of_range known = k
+  creating-stands r size (value_out_of_range name) known = k
+  creating-stands r size (scaled vs) known = with_batch-stands r size vs known
+
+  ordering-stands : (command : Command) (b : Batch) → Stands (ordering s command b)
+  ordering-stands command b = go (accepts b.state command)
+    where
+      go : (t : Bool) → Stands
+          (elim t [
+            | false ↦ (refused (command_not_accepted b.state), s)
+            | true ↦ (ordered command b.number (target command), record (in_batch b.number (commanded command) s) { line = lines_under command b.number s.line })
+          ])
+      go false = k
+      go true = in_batch-stands b.number (commanded command) (lines_under command b.number s.line) (commanded-stands c command) (commanded-number command)
+
+  removing-stands : (b : Batch) → Stands (removing s b)
+  removing-stands b = go b.state
+    where
+      gone : IsStanding c (without_batch b.number s)
+      gone =
+          record {
+            batches = Each-filter (IsStandingBatch c) (λ d. not (nat_eq d.number b.number)) s.batches k.batches;
+            numbers = AreNumbered-filter s.next_number (λ d. not (nat_eq d.number b.number)) s.batches k.numbers;
+          }
+
+      go : (x : State) → Stands (elim x [ Idle ↦ (removed b.number, without_batch b.number s) | y ↦ (refused (not_idle y), s) ])
+      go Idle = gone
+      go Running = k
+      go Pausing = k
+      go Paused = k
+      go Holding = k
+      go Held = k
+      go Restarting = k
+      go Stopping = k
+      go Stopped = k
+      go Aborting = k
+      go Aborted = k
+      go Complete = k
+
+  reporting-stands : (unit name : Name) (word : Report) (outputs : ValueList) (l : LivePhase) → Stands (reporting s unit name word outputs l)
+  reporting-stands unit name word outputs l = go (after_report l.state word)
+    where
+      taken : (e : PhaseEnd) (t : Bool) → Stands
+          (elim t [
+            | false ↦ (refused bad_output, s)
+            | true ↦ (
+              reported unit name word l.batch.number l.place (batch_state_after word l.batch.state),
+              in_batch l.batch.number (batch_reported word outputs l.place e) s,
+            )
+          ])
+      taken e false = k
+      taken e true = in_batch-stands l.batch.number (batch_reported word outputs l.place e) s.line (reported-stands c word outputs l.place e) (λ b. refl)
+
+      go : (o : Option PhaseEnd) → Stands
+          (elim o [
+            | None ↦ (refused (report_not_expected l.state), s)
+            | Some e ↦
+                elim (are_outputs l.batch.recipe.outputs outputs) [
+                  | false ↦ (refused bad_output, s)
+                  | true ↦ (
+                    reported unit name word l.batch.number l.place (batch_state_after word l.batch.state),
+                    in_batch l.batch.number (batch_reported word outputs l.place e) s,
+                  )
+                ]
+          ])
+      go None = k
+      go (Some e) = taken e (are_outputs l.batch.recipe.outputs outputs)
+
+  judged-stands : (e : Event) → Stands (judged c s e)
+  judged-stands (create name size) = go (find (λ r. same_name r.name name) c.recipes) refl
+    where
+      room : (r : Recipe) → Has c.recipes r → (t : Bool) → Stands (elim t [ true ↦ (refused full, s) | false ↦ creating s r size (r.formula size) ])
+      room r h true = k
+      room r h false = creating-stands r size (r.formula size) h
+
+      go : (o : Option Recipe) → find (λ r. same_name r.name name) c.recipes ≡ o
+          → Stands (elim o [ None ↦ (refused unknown_recipe, s) | Some r ↦ elim (is_full c s) [ true ↦ (refused full, s) | false ↦ creating s r size (r.formula size) ] ])
+      go None e = k
+      go (Some r) e = room r (find-Has (λ d. same_name d.name name) c.recipes r e) (is_full c s)
+  judged-stands (order command n) = go (batch_at s n)
+    where
+      go : (o : Option Batch) → Stands (elim o [ None ↦ (refused unknown_batch, s) | Some b ↦ ordering s command b ])
+      go None = k
+      go (Some b) = ordering-stands command b
+  judged-stands (remove n) = go (batch_at s n)
+    where
+      go : (o : Option Batch) → Stands (elim o [ None ↦ (refused unknown_batch, s) | Some b ↦ removing s b ])
+      go None = k
+      go (Some b) = removing-stands b
+  judged-stands (report unit name word outputs) = go (live_phase s.batches unit name)
+    where
+      go : (o : Option LivePhase) → Stands (elim o [ None ↦ (refused no_live_phase, s) | Some l ↦ reporting s unit name word (outputs_of word outputs) l ])
+      go None = k
+      go (Some l) = reporting-stands unit name word (outputs_of word outputs) l
+
+  pub react-stands : (e : Event) → Stands (react c s e)
+  react-stands e = go (next c s)
+    where
+      go : (o : Option Move) → Stands (elim o [ Some m ↦ (refused moves_pending, s) | None ↦ judged c s e ])
+      go None = judged-stands e
+      go (Some m) = k

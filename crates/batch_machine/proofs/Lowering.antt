@@ -1,0 +1,220 @@
+-- Each move of an act takes some of that act's work, and leaves what can remain at its node.
+use Rattle.std.proofs.Common.{◌≡◌, refl, sym, ◌∙◌, ap, subst, ℕ, zero, suc, pred, Bool, true, false, Some, None, arith, ◌<◌, ◌≤◌, ◌+◌, ◌-◌, ◌*◌, length}
+use Rattle.std.specs.Prelude.{Option, slice_get, ◌&&◌, ◌||◌, not}
+use Rattle.std.proofs.lemmas.Option.{slice_get_within}
+use Rattle.batch_matrix.specs.declared.state.State.{State}
+use Rattle.batch_matrix.specs.declared.state.State.TheVariants.{Idle, Running, Pausing, Paused, Holding, Held, Restarting, Stopping, Stopped, Aborting, Aborted, Complete}
+use Rattle.batch_matrix.specs.declared.command.Command.{Command}
+use Rattle.batch_matrix.specs.declared.command.Command.TheVariants.{Start, Pause, Resume, Hold, Restart, Stop, Abort, Reset}
+use Rattle.batch_matrix.specs.Matrix.{accepts, target}
+use Rattle.batch_recipe.specs.Tree.{Step, Task, runs, follows}
+use Rattle.batch_model.specs.Rest.{Rest, ready, asking, open_act, live, freeing, in_seq, in_par, in_loop, done, is_done}
+use Rattle.batch_model.specs.Plant.{Setup, Batch, Plant, place_of, in_act, held_in}
+use Rattle.batch_model.specs.Moves.{Move, send, release, begin, start, end, ask, grant, batch_of, place_of_move, passed_on, is_running, is_stopping, is_stopped, is_quiet, is_empty, handed_values, when, entering, giving_back, is_served, act_move, act_after, batch_after, freed}
+use Rattle.batch_model.specs.Runs.{toil, toil_of_work, sends, goes_on, ahead, toil_left}
+use Rattle.batch_machine.proofs.Work.{going, going_no_further, reach-toil}
+use Rattle.batch_machine.proofs.Keeping.{RemainsAs, sent-remains, released-remains, ended-remains, begun-remains}
+use Rattle.batch_recipe.specs.declared.need.Need.{Need}
+
+-- m is a move of the act a of this batch
+pub record IsMoveOf (b : Batch) (a : Rest) (m : Move) : Type 0 where
+  pub number : batch_of m ≡ b.number
+  pub place : place_of_move m ≡ place_of a
+  pub changes : batch_after m b ≡ in_act (place_of_move m) (act_after b.values m) b
+  pub lowers : toil_left b.state (act_after b.values m a) < toil_left b.state a
+  pub remains : RemainsAs a (act_after b.values m a)
+
+-- States
+
+sends-bound : (x t : State) → sends x t ≤ 1
+sends-bound x t = go (passed_on x)
+  where
+    test : (b : Bool) → elim b [ true ↦ 1 | false ↦ 0 ] ≤ 1
+    test true = omega arith
+    test false = omega arith
+
+    go : (o : Option Command) → elim o [ None ↦ 0 | Some c ↦ elim (accepts t c) [ true ↦ 1 | false ↦ 0 ] ] ≤ 1
+    go None = omega arith
+    go (Some c) = test (accepts t c)
+
+-- no state that a command leads to accepts that command
+own : (c : Command) → accepts (target c) c ≡ false
+own Start = refl
+own Pause = refl
+own Resume = refl
+own Hold = refl
+own Restart = refl
+own Stop = refl
+own Abort = refl
+own Reset = refl
+
+-- a command that is passed on isn't passed on again
+sent-once : (x t : State) (c : Command) → passed_on x ≡ Some c → accepts t c ≡ true → (sends x (target c) ≡ 0) × (sends x t ≡ 1)
+sent-once x t c e a = (
+  ap (λ o. elim o [ None ↦ 0 | Some d ↦ elim (accepts (target c) d) [ true ↦ 1 | false ↦ 0 ] ]) e ∙ ap (λ b. elim b [ true ↦ 1 | false ↦ 0 ]) (own c),
+  ap (λ o. elim o [ None ↦ 0 | Some d ↦ elim (accepts t d) [ true ↦ 1 | false ↦ 0 ] ]) e ∙ ap (λ b. elim b [ true ↦ 1 | false ↦ 0 ]) a,
+)
+
+running-goes_on : (x : State) → is_running x ≡ true → goes_on x ≡ true
+running-goes_on Running e = refl
+running-goes_on Idle e = absurd cc
+running-goes_on Pausing e = absurd cc
+running-goes_on Paused e = absurd cc
+running-goes_on Holding e = absurd cc
+running-goes_on Held e = absurd cc
+running-goes_on Restarting e = absurd cc
+running-goes_on Stopping e = absurd cc
+running-goes_on Stopped e = absurd cc
+running-goes_on Aborting e = absurd cc
+running-goes_on Aborted e = absurd cc
+running-goes_on Complete e = absurd cc
+
+stopping-goes_no_further : (x : State) (quiet : Bool) → (is_stopping x && quiet) ≡ true → goes_on x ≡ false
+stopping-goes_no_further x quiet e = go (is_stopping x) e
+  where
+    go : (t : Bool) → (t && quiet) ≡ true → not (t || is_stopped x) ≡ false
+    go true h = refl
+    go false h = absurd cc
+
+-- Moves
+
+module _ (b : Batch) where
+  entering-is : (s : Step) (w : Task) (k : ℕ) (m : Move) → is_running b.state ≡ true → entering b s w k ≡ Some m → IsMoveOf b (ready s w k) m
+  entering-is s w k m on e = go (slice_get s.needs k) refl e
+    where
+      ahead-is : (n : ℕ) → ahead b.state n ≡ n
+      ahead-is n = going b.state n (running-goes_on b.state on)
+
+      begins : (v : Task) → w ≡ v
+          → elim v [ runs y ↦ Some (start b.number s.place y (handed_values b.values y.handed)) | follows name c ↦ Some (begin b.number s.place name) ] ≡ Some m
+          → IsMoveOf b (ready s w k) m
+      begins (runs y) q h =
+          subst (λ z. IsMoveOf b (ready s z k) m) (sym q)
+          (let n : start b.number s.place y (handed_values b.values y.handed) ≡ m = cc in
+          subst (IsMoveOf b (ready s (runs y) k)) n
+          (record {
+            number = refl;
+            place = refl;
+            changes = refl;
+            lowers = omega (arith, sends-bound b.state Running, ahead-is (3 * (length s.needs - k) + 2));
+            remains = begun-remains b.values s (runs y) k;
+          }))
+      begins (follows name c) q h =
+          subst (λ z. IsMoveOf b (ready s z k) m) (sym q)
+          (let n : begin b.number s.place name ≡ m = cc in
+          subst (IsMoveOf b (ready s (follows name c) k)) n
+          (record {
+            number = refl;
+            place = refl;
+            changes = refl;
+            lowers =
+                omega
+                (arith, reach-toil b.state b.values c, ahead-is (3 * (length s.needs - k) + (2 + toil c)), ahead-is (toil c), ahead-is 1);
+            remains = begun-remains b.values s (follows name c) k;
+          }))
+
+      go : (o : Option Need) → slice_get s.needs k ≡ o
+          → elim o [
+            | Some r ↦ Some (ask b.number s.place r)
+            | None ↦ elim w [ runs y ↦ Some (start b.number s.place y (handed_values b.values y.handed)) | follows name c ↦ Some (begin b.number s.place name) ]
+          ] ≡ Some m
+          → IsMoveOf b (ready s w k) m
+      go (Some r) q h =
+          let n : ask b.number s.place r ≡ m = cc in
+          let lt : k < length s.needs = slice_get_within s.needs k r q in
+          subst (IsMoveOf b (ready s w k)) n
+          (record {
+            number = refl;
+            place = refl;
+            changes = refl;
+            lowers =
+                omega
+                (arith, lt, ahead-is (3 * (length s.needs - k) + toil_of_work w), ahead-is (3 * (length s.needs - suc k) + toil_of_work w));
+            remains = λ t v i. (i.0, i.1, lt);
+          })
+      go None q h = begins w refl h
+
+  -- an act gives back the last of the k needs that it holds
+  giving_back-is : (s : Step) (k : ℕ) (m : Move) (a : Rest) → place_of a ≡ s.place → (0 < k → (r : Need) → toil_left b.state (act_after b.values (release b.number s.place r) a) < toil_left b.state a)
+      → giving_back b s k ≡ Some m → IsMoveOf b a m
+  giving_back-is s zero m a at lower e = absurd cc
+  giving_back-is s (suc k) m a at lower e = go (slice_get s.needs k) e
+    where
+      go : (o : Option Need) → elim o [ None ↦ None | Some r ↦ Some (release b.number s.place r) ] ≡ Some m → IsMoveOf b a m
+      go None h = absurd cc
+      go (Some r) h =
+          let n : release b.number s.place r ≡ m = cc in
+          subst (IsMoveOf b a) n
+          (record { number = refl; place = sym at; changes = refl; lowers = lower (omega arith) r; remains = released-remains a })
+
+  freed-toil : (s : Step) (n : ℕ) → toil_left b.state (freed s n) ≤ n
+  freed-toil s zero = omega arith
+  freed-toil s (suc n) = omega arith
+
+  when-is : (t : Bool) (m n : Move) → when t m ≡ Some n → (t ≡ true) × (m ≡ n)
+  when-is true m n e = (refl, cc)
+  when-is false m n e = absurd cc
+
+  pub act_move-is : (c : Setup) (s : Plant) (a : Rest) (m : Move) → act_move c s b a ≡ Some m → IsMoveOf b a m
+  act_move-is c s (ready p w k) m e = go (is_running b.state) refl (is_stopping b.state && is_quiet b.rest) refl e
+    where
+      go : (t : Bool) → is_running b.state ≡ t → (u : Bool) → (is_stopping b.state && is_quiet b.rest) ≡ u
+          → elim t [ true ↦ entering b p w k | false ↦ elim u [ true ↦ giving_back b p k | false ↦ None ] ] ≡ Some m
+          → IsMoveOf b (ready p w k) m
+      go true h u f g = entering-is p w k m h g
+      go false h true f g =
+          let none : goes_on b.state ≡ false = stopping-goes_no_further b.state (is_quiet b.rest) f in
+          giving_back-is p k m (ready p w k) refl
+          (λ some r. omega (
+            arith,
+            some,
+            going_no_further b.state (3 * (length p.needs - k) + toil_of_work w) none,
+            going_no_further b.state (3 * (length p.needs - pred k) + toil_of_work w) none,
+          ))
+          g
+      go false h false f g = absurd cc
+  act_move-is c s (asking p w k) m e = go (slice_get p.needs k) refl e
+    where
+      go : (o : Option Need) → slice_get p.needs k ≡ o
+          → elim o [ None ↦ None | Some r ↦ when (is_served c s r (b.number, p.place)) (grant b.number p.place r) ] ≡ Some m
+          → IsMoveOf b (asking p w k) m
+      go None h f = absurd cc
+      go (Some r) h f =
+          let lt : k < length p.needs = slice_get_within p.needs k r h in
+          let n = when-is (is_served c s r (b.number, p.place)) (grant b.number p.place r) m f in
+          subst (IsMoveOf b (asking p w k)) n.1
+          (record { number = refl; place = refl; changes = refl; lowers = omega arith; remains = λ t v i. (i.0, i.1, omega (arith, i.2)) })
+  act_move-is c s (open_act p r) m e = go (is_stopping b.state || is_stopped b.state) refl (is_stopping b.state && is_quiet b.rest && is_empty (held_in r)) e
+    where
+      go : (t : Bool) → (is_stopping b.state || is_stopped b.state) ≡ t → (u : Bool)
+          → elim t [ false ↦ when (is_done r) (end b.number p.place) | true ↦ elim u [ true ↦ giving_back b p (length p.needs) | false ↦ None ] ] ≡ Some m
+          → IsMoveOf b (open_act p r) m
+      go true h true f =
+          giving_back-is p (length p.needs) m (open_act p r) refl (λ some x. omega (arith, some, freed-toil p (pred (length p.needs)))) f
+      go true h false f = absurd cc
+      go false h u f =
+          let n = when-is (is_done r) (end b.number p.place) m f in
+          subst (IsMoveOf b (open_act p r)) n.1
+          (record {
+            number = refl;
+            place = refl;
+            changes = refl;
+            lowers = omega (arith, freed-toil p (length p.needs), going b.state 1 (ap not h));
+            remains = ended-remains (open_act p r);
+          })
+  act_move-is c s (live p y t) m e = go (passed_on b.state) refl e
+    where
+      go : (o : Option Command) → passed_on b.state ≡ o
+          → elim o [ None ↦ None | Some d ↦ when (accepts t d) (send b.number p.place y d) ] ≡ Some m
+          → IsMoveOf b (live p y t) m
+      go None h f = absurd cc
+      go (Some d) h f =
+          let n = when-is (accepts t d) (send b.number p.place y d) m f in
+          let z = sent-once b.state t d h n.0 in
+          subst (IsMoveOf b (live p y t)) n.1
+          (record { number = refl; place = refl; changes = refl; lowers = omega (arith, z.0, z.1); remains = sent-remains d (live p y t) })
+  act_move-is c s (freeing p k) m e = giving_back-is p k m (freeing p k) refl (λ some r. omega (arith, some, freed-toil p (pred k))) e
+  act_move-is c s (in_seq r cs) m e = absurd cc
+  act_move-is c s (in_par rs) m e = absurd cc
+  act_move-is c s (in_loop n d body r) m e = absurd cc
+  act_move-is c s done m e = absurd cc

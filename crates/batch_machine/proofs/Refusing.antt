@@ -1,0 +1,154 @@
+-- A refused event leaves the plant as it was, and some refusals come only where they have a cause.
+use Rattle.std.proofs.Common.{◌≡◌, ◌⊎◌, refl, sym, subst, ℕ, ◌<◌, ◌≤◌, arith, length, Bool, true, false, ◌||◌, nat_le, nat_lt, Some, None, inl, inr}
+use Rattle.std.specs.Prelude.{Option, find, ⊤}
+use Rattle.batch_matrix.specs.declared.state.State.{State}
+use Rattle.batch_matrix.specs.declared.state.State.TheVariants.{Idle, Running, Pausing, Paused, Holding, Held, Restarting, Stopping, Stopped, Aborting, Aborted, Complete}
+use Rattle.batch_matrix.specs.declared.command.Command.{Command}
+use Rattle.batch_matrix.specs.declared.report.Report.{Report}
+use Rattle.batch_matrix.specs.declared.report.PhaseEnd.{PhaseEnd}
+use Rattle.batch_matrix.specs.Matrix.{accepts, target, after_report}
+use Rattle.batch_recipe.specs.Conditions.{Name, ValueList, same_name}
+use Rattle.batch_model.specs.Plant.{Formula, size_out_of_range, value_out_of_range, scaled, Recipe, Setup, Batch, Plant, batch_at, in_batch}
+use Rattle.batch_model.specs.Moves.{Move, next}
+use Rattle.batch_recipe.specs.Values.{are_outputs}
+use Rattle.batch_model.specs.Events.{Event, create, order, remove, report, Reply, created, ordered, removed, reported, refused, Refusal, unknown_recipe, unknown_batch, command_not_accepted, no_live_phase, report_not_expected, bad_output, full, not_idle, moves_pending, no_memory, Answer, is_full, creating, commanded, lines_under, ordering, without_batch, removing, LivePhase, live_phase, batch_state_after, outputs_of, batch_reported, reporting, judged, react}
+use Rattle.batch_model.specs.Runs.{IsCreated, Reacts}
+use Rattle.batch_machine.specs.Laws.{IsCreate, HasCause}
+use Rattle.batch_model.specs.declared.limits.TheConstants.{LAST_NUMBER}
+
+-- a refusal has a cause and changes nothing, and a batch is created by a create
+abbrev IsJust : Setup → Plant → Event → Reply → Plant → Type 0
+IsJust c s e (refused x) t = (t ≡ s) × HasCause c s e x
+IsJust c s e (created n r size) t = IsCreate e
+IsJust c s e _ t = ⊤
+
+either-limit : (a b : Bool) (m n k l : ℕ) → (a ≡ true → m ≤ n) → (b ≡ true → k < l) → (a || b) ≡ true → (m ≤ n) ⊎ (k < l)
+either-limit true b m n k l f g e = inl (f refl)
+either-limit false true m n k l f g e = inr (g refl)
+either-limit false false m n k l f g e = absurd cc
+
+at-most : (m n : ℕ) → nat_le m n ≡ true → m ≤ n
+at-most m n e = grind arith
+
+less : (m n : ℕ) → nat_lt m n ≡ true → m < n
+less m n e = grind arith
+
+full-cause : (c : Setup) (s : Plant) → is_full c s ≡ true → (c.batch_limit ≤ length s.batches) ⊎ (LAST_NUMBER < s.next_number)
+full-cause c s e =
+    either-limit (nat_le c.batch_limit (length s.batches)) (nat_lt LAST_NUMBER s.next_number) c.batch_limit (length s.batches) LAST_NUMBER s.next_number
+    (at-most c.batch_limit (length s.batches)) (less LAST_NUMBER s.next_number) e
+
+module _ (c : Setup) (s : Plant) where
+  abbrev Just : Event → Answer → Type 0
+  Just e a = IsJust c s e a.0 a.1
+
+  creating-just : (name : Name) (size : ℕ) (r : Recipe) (f : Formula) → Just (create name size) (creating s r size f)
+  creating-just name size r size_out_of_range = (refl, tt)
+  creating-just name size r (value_out_of_range v) = (refl, tt)
+  creating-just name size r (scaled vs) = tt
+
+  ordering-just : (e : Event) (command : Command) (b : Batch) → Just e (ordering s command b)
+  ordering-just e command b = go (accepts b.state command)
+    where
+      go : (t : Bool) → Just e
+          (elim t [
+            | false ↦ (refused (command_not_accepted b.state), s)
+            | true ↦ (ordered command b.number (target command), record (in_batch b.number (commanded command) s) { line = lines_under command b.number s.line })
+          ])
+      go false = (refl, tt)
+      go true = tt
+
+  removing-just : (e : Event) (b : Batch) → Just e (removing s b)
+  removing-just e b = go b.state
+    where
+      go : (x : State) → Just e (elim x [ Idle ↦ (removed b.number, without_batch b.number s) | y ↦ (refused (not_idle y), s) ])
+      go Idle = tt
+      go Running = (refl, tt)
+      go Pausing = (refl, tt)
+      go Paused = (refl, tt)
+      go Holding = (refl, tt)
+      go Held = (refl, tt)
+      go Restarting = (refl, tt)
+      go Stopping = (refl, tt)
+      go Stopped = (refl, tt)
+      go Aborting = (refl, tt)
+      go Aborted = (refl, tt)
+      go Complete = (refl, tt)
+
+  reporting-just : (e : Event) (unit name : Name) (word : Report) (outputs : ValueList) (l : LivePhase) → Just e (reporting s unit name word outputs l)
+  reporting-just e unit name word outputs l = go (after_report l.state word)
+    where
+      taken : (end : PhaseEnd) (t : Bool) → Just e
+          (elim t [
+            | false ↦ (refused bad_output, s)
+            | true ↦ (
+              reported unit name word l.batch.number l.place (batch_state_after word l.batch.state),
+              in_batch l.batch.number (batch_reported word outputs l.place end) s,
+            )
+          ])
+      taken end false = (refl, tt)
+      taken end true = tt
+
+      go : (o : Option PhaseEnd) → Just e
+          (elim o [
+            | None ↦ (refused (report_not_expected l.state), s)
+            | Some end ↦
+                elim (are_outputs l.batch.recipe.outputs outputs) [
+                  | false ↦ (refused bad_output, s)
+                  | true ↦ (
+                    reported unit name word l.batch.number l.place (batch_state_after word l.batch.state),
+                    in_batch l.batch.number (batch_reported word outputs l.place end) s,
+                  )
+                ]
+          ])
+      go None = (refl, tt)
+      go (Some end) = taken end (are_outputs l.batch.recipe.outputs outputs)
+
+  judged-just : (e : Event) → Just e (judged c s e)
+  judged-just (create name size) = go (find (λ r. same_name r.name name) c.recipes)
+    where
+      room : (r : Recipe) (t : Bool) → is_full c s ≡ t → Just (create name size) (elim t [ true ↦ (refused full, s) | false ↦ creating s r size (r.formula size) ])
+      room r true e = (refl, full-cause c s e)
+      room r false e = creating-just name size r (r.formula size)
+
+      go : (o : Option Recipe) → Just (create name size)
+          (elim o [ None ↦ (refused unknown_recipe, s) | Some r ↦ elim (is_full c s) [ true ↦ (refused full, s) | false ↦ creating s r size (r.formula size) ] ])
+      go None = (refl, tt)
+      go (Some r) = room r (is_full c s) refl
+  judged-just (order command n) = go (batch_at s n)
+    where
+      go : (o : Option Batch) → Just (order command n) (elim o [ None ↦ (refused unknown_batch, s) | Some b ↦ ordering s command b ])
+      go None = (refl, tt)
+      go (Some b) = ordering-just (order command n) command b
+  judged-just (remove n) = go (batch_at s n)
+    where
+      go : (o : Option Batch) → Just (remove n) (elim o [ None ↦ (refused unknown_batch, s) | Some b ↦ removing s b ])
+      go None = (refl, tt)
+      go (Some b) = removing-just (remove n) b
+  judged-just (report unit name word outputs) = go (live_phase s.batches unit name)
+    where
+      go : (o : Option LivePhase) → Just (report unit name word outputs) (elim o [ None ↦ (refused no_live_phase, s) | Some l ↦ reporting s unit name word (outputs_of word outputs) l ])
+      go None = (refl, tt)
+      go (Some l) = reporting-just (report unit name word outputs) unit name word (outputs_of word outputs) l
+
+  react-just : (e : Event) → Just e (react c s e)
+  react-just e = go (next c s) refl
+    where
+      go : (o : Option Move) → next c s ≡ o → Just e (elim o [ Some m ↦ (refused moves_pending, s) | None ↦ judged c s e ])
+      go None f = judged-just e
+      go (Some m) f = (refl, λ g. absurd cc)
+
+  created-create : (e : Event) (a : Answer) → Just e a → IsCreated a.0 → IsCreate e
+  created-create e (created n r size, t) h k = h
+  created-create e (ordered command n x, t) h k = absurd k
+  created-create e (removed n, t) h k = absurd k
+  created-create e (reported unit name word n p x, t) h k = absurd k
+  created-create e (refused x, t) h k = absurd k
+
+  same-refusal : (x y : Refusal) → refused x ≡ refused y → x ≡ y
+  same-refusal x y e = cc
+
+  pub refusal-just : (e : Event) (x : Refusal) (t : Plant) → Reacts c s e (refused x) t → (t ≡ s) × HasCause c s e x
+  refusal-just e x t (inl h) = subst (Just e) h (react-just e)
+  refusal-just e x t (inr h) =
+      (h.2, subst (HasCause c s e) (sym (same-refusal x no_memory h.1)) (created-create e (react c s e) (react-just e) h.0))

@@ -1,0 +1,190 @@
+-- surface: the laws of the machine's steps.
+use Rattle.std.specs.Prelude.{◌≡◌, ◌⊎◌, ◌<◌, ◌≤◌, ℕ, List, [], ◌∷◌, ◌++◌, length, map, true, false, Some, None, ⊤}
+use Rattle.batch_recipe.specs.Conditions.{Name, ValueList}
+use Rattle.batch_recipe.specs.Procedure.{procedure_tree}
+use Rattle.batch_recipe.specs.Tree.{Place, Tree}
+use Rattle.batch_recipe.specs.declared.acts.Acts.{Acts}
+use Rattle.batch_model.specs.Lists.{Has, Each}
+use Rattle.batch_model.specs.Rest.{Rest, acts, reach, advance, withdrawn}
+use Rattle.batch_model.specs.Plant.{Setup, Plant, opening, place_of, held_in, phase_states}
+use Rattle.batch_model.specs.Moves.{Move, batch_of, place_of_move, is_earlier, possible, next, after}
+use Rattle.batch_model.specs.Events.{Event, create, Reply, refused, Refusal, full, moves_pending, no_memory}
+use Rattle.batch_model.specs.Runs.{Out, reply, move, Reacts, Leads, work_left, settling, run}
+use Rattle.batch_model.specs.Records.{holders_after, holders_told, waiters_after, waiters_told, active_after, active_told, state_after, state_told}
+use Rattle.batch_model.specs.Settled.{IsAdvanced}
+use Rattle.batch_model.specs.Standing.{IsRestOf, HasPlacedTrees, IsStanding}
+use Rattle.batch_model.specs.Placed.{IsPlaced, Rises}
+use Rattle.batch_model.specs.declared.limits.TheConstants.{LAST_NUMBER}
+
+-- What remains
+
+-- each act of a recipe's expanded tree carries the place at which it stands
+abbrev pub TreesArePlaced : Type 0
+TreesArePlaced = (recipe_acts : Acts) → IsPlaced (0 ∷ []) (procedure_tree recipe_acts)
+
+-- and so do the trees of setups whose recipes are expanded from acts
+abbrev pub SetupsArePlaced : Type 0
+SetupsArePlaced =
+    (setup : Setup) → Each (λ recipe. (recipe_acts : Acts) × (recipe.procedure ≡ procedure_tree recipe_acts)) setup.recipes
+    → HasPlacedTrees setup
+
+-- nothing is left to be reached of a chart that has just been reached, nor of a rest that has advanced
+abbrev pub ReachesFully : Type 0
+ReachesFully = (values : ValueList) (chart : Tree) → IsAdvanced (reach values chart)
+
+abbrev pub AdvancesFully : Type 0
+AdvancesFully = (values : ValueList) (rest : Rest) → IsAdvanced (advance values rest)
+
+-- what is reached of a chart can remain of it, and still can when it has advanced or its asks are withdrawn
+abbrev pub ReachingStands : Type 0
+ReachingStands = (values : ValueList) (chart : Tree) → IsRestOf chart (reach values chart)
+
+abbrev pub AdvancingStands : Type 0
+AdvancingStands = (values : ValueList) (chart : Tree) (rest : Rest) → IsRestOf chart rest → IsRestOf chart (advance values rest)
+
+abbrev pub WithdrawingStands : Type 0
+WithdrawingStands = (chart : Tree) (rest : Rest) → IsRestOf chart rest → IsRestOf chart (withdrawn rest)
+
+-- what has just been reached holds nothing, and advancing takes and gives back nothing
+abbrev pub ReachingHoldsNothing : Type 0
+ReachingHoldsNothing = (values : ValueList) (chart : Tree) → held_in (reach values chart) ≡ []
+
+abbrev pub AdvancingHoldsTheSame : Type 0
+AdvancingHoldsTheSame = (values : ValueList) (rest : Rest) → held_in (advance values rest) ≡ held_in rest
+
+-- what has just been reached runs no phase, and advancing changes the states of none
+abbrev pub ReachingRunsNoPhase : Type 0
+ReachingRunsNoPhase = (values : ValueList) (chart : Tree) → phase_states (acts (reach values chart)) ≡ []
+
+abbrev pub AdvancingRunsTheSamePhases : Type 0
+AdvancingRunsTheSamePhases = (values : ValueList) (rest : Rest) → phase_states (acts (advance values rest)) ≡ phase_states (acts rest)
+
+-- the acts of a rest are in the order of their places, and one stands at a place
+abbrev pub ActsRise : Type 0
+ActsRise = (place : Place) (chart : Tree) (rest : Rest) → IsPlaced place chart → IsRestOf chart rest → Rises (acts rest)
+
+abbrev pub OneActAPlace : Type 0
+OneActAPlace =
+    (place : Place) (chart : Tree) (rest : Rest) → IsPlaced place chart → IsRestOf chart rest
+    → (act other : Rest) → Has (acts rest) act → Has (acts rest) other → place_of act ≡ place_of other → act ≡ other
+
+-- Moves
+
+-- the move is among the moves, and none is earlier
+abbrev pub IsLeast : List Move → Move → Type 0
+IsLeast moves made = Has moves made × ((other : Move) → Has moves other → is_earlier other made ≡ false)
+
+-- the move is among the moves, and earlier than all others
+abbrev pub IsFirst : List Move → Move → Type 0
+IsFirst moves made = Has moves made × ((other : Move) → Has moves other → (other ≡ made) ⊎ (is_earlier made other ≡ true))
+
+abbrev pub NextIsLeast : Type 0
+NextIsLeast = (setup : Setup) (plant : Plant) (made : Move) → next setup plant ≡ Some made → IsLeast (possible setup plant) made
+
+abbrev pub FirstIsNext : Type 0
+FirstIsNext = (setup : Setup) (plant : Plant) (made : Move) → IsFirst (possible setup plant) made → next setup plant ≡ Some made
+
+abbrev pub NextIsFirst : Type 0
+NextIsFirst =
+    (setup : Setup) (plant : Plant) (made : Move) → HasPlacedTrees setup → IsStanding setup plant → next setup plant ≡ Some made
+    → IsFirst (possible setup plant) made
+
+abbrev pub NoneIsPossible : Type 0
+NoneIsPossible = (setup : Setup) (plant : Plant) → next setup plant ≡ None → possible setup plant ≡ []
+
+-- two possible moves of one batch at one place are the same
+abbrev pub ActsHaveOneMove : Type 0
+ActsHaveOneMove =
+    (setup : Setup) (plant : Plant) (made other : Move) → HasPlacedTrees setup → IsStanding setup plant → Has (possible setup plant) made
+    → Has (possible setup plant) other
+    → batch_of made ≡ batch_of other → place_of_move made ≡ place_of_move other → made ≡ other
+
+-- each possible move lowers the work left
+abbrev pub WorkFalls : Type 0
+WorkFalls =
+    (setup : Setup) (plant : Plant) (made : Move) → HasPlacedTrees setup → IsStanding setup plant → Has (possible setup plant) made
+    → work_left (after plant made) < work_left plant
+
+-- Events
+
+-- a refused event leaves the plant as it was
+abbrev pub RefusalsChangeNothing : Type 0
+RefusalsChangeNothing =
+    (setup : Setup) (plant later : Plant) (event : Event) (refusal : Refusal) → Reacts setup plant event (refused refusal) later
+    → later ≡ plant
+
+abbrev pub IsCreate : Event → Type 0
+IsCreate (create name size) = ⊤
+IsCreate _ = ⊥
+
+-- moves pend only where there is a next one, the plant is full only at a limit, and memory is wanted by a create alone
+abbrev pub HasCause : Setup → Plant → Event → Refusal → Type 0
+HasCause setup plant event moves_pending = next setup plant ≡ None → ⊥
+HasCause setup plant event full = (setup.batch_limit ≤ length plant.batches) ⊎ (LAST_NUMBER < plant.next_number)
+HasCause setup plant event no_memory = IsCreate event
+HasCause setup plant event _ = ⊤
+
+abbrev pub RefusalsHaveCauses : Type 0
+RefusalsHaveCauses =
+    (setup : Setup) (plant later : Plant) (event : Event) (refusal : Refusal) → Reacts setup plant event (refused refusal) later
+    → HasCause setup plant event refusal
+
+-- Runs
+
+-- a record that leads to a plant goes on by the plant's next move, or by its reply to an event
+abbrev pub RecordsGoOnByMoves : Type 0
+RecordsGoOnByMoves =
+    (setup : Setup) (plant later : Plant) (made : Move) (events : List Event) (outs : List Out)
+    → Leads setup plant events outs later → next setup later ≡ Some made
+    → Leads setup plant events (outs ++ move made ∷ []) (after later made)
+
+abbrev pub RecordsGoOnByReplies : Type 0
+RecordsGoOnByReplies =
+    (setup : Setup) (plant later last : Plant) (event : Event) (told : Reply) (events : List Event) (outs : List Out)
+    → Leads setup plant events outs later → Reacts setup later event told last
+    → Leads setup plant (events ++ event ∷ []) (outs ++ reply told ∷ []) last
+
+-- every plant that is led to stands
+abbrev pub PlantsStand : Type 0
+PlantsStand =
+    (setup : Setup) → HasPlacedTrees setup → (events : List Event) (outs : List Out) (plant : Plant) → Leads setup opening events outs plant
+    → IsStanding setup plant
+
+-- no move is possible after as many moves as the work left
+abbrev pub SettlingsEnd : Type 0
+SettlingsEnd =
+    (setup : Setup) → HasPlacedTrees setup → (events : List Event) (outs : List Out) (plant : Plant) → Leads setup opening events outs plant
+    → next setup (settling (work_left plant) setup plant).1 ≡ None
+
+-- the record leads from the plant to one with no next move
+abbrev pub LeadsToRest : Setup → Plant → List Event → List Out → Type 0
+LeadsToRest setup plant events outs = (later : Plant) × Leads setup plant events outs later × (next setup later ≡ None)
+
+abbrev pub PlantsComeToRest : Type 0
+PlantsComeToRest =
+    (setup : Setup) → HasPlacedTrees setup → (events : List Event) (outs : List Out) (plant : Plant) → Leads setup opening events outs plant
+    → (moves : List Move) × LeadsToRest setup plant [] (map move moves)
+
+-- the record of a run leads from the opening to a plant with no next move
+abbrev pub RunsComeToRest : Type 0
+RunsComeToRest = (setup : Setup) → HasPlacedTrees setup → (events : List Event) → LeadsToRest setup opening events (run setup events)
+
+-- Records
+
+-- what a record tells changes by its last line alone
+abbrev pub LastLineTellsHolders : Type 0
+LastLineTellsHolders =
+    (outs : List Out) (out : Out) (resource : Name)
+    → holders_told (outs ++ out ∷ []) resource ≡ holders_after resource (holders_told outs resource) out
+
+abbrev pub LastLineTellsWaiters : Type 0
+LastLineTellsWaiters =
+    (outs : List Out) (out : Out) (resource : Name)
+    → waiters_told (outs ++ out ∷ []) resource ≡ waiters_after resource (waiters_told outs resource) out
+
+abbrev pub LastLineTellsActive : Type 0
+LastLineTellsActive = (outs : List Out) (out : Out) → active_told (outs ++ out ∷ []) ≡ active_after (active_told outs) out
+
+abbrev pub LastLineTellsState : Type 0
+LastLineTellsState =
+    (outs : List Out) (out : Out) (number : ℕ) → state_told (outs ++ out ∷ []) number ≡ state_after number (state_told outs number) out

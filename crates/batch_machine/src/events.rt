@@ -1,0 +1,12 @@
+//! Replies to events.
+ghost use Rattle.batch_machine.specs.Laws.{RefusalsChangeNothing, RefusalsHaveCauses};
+
+/// A refused event leaves the plant as it was.
+pub fn refusals_change_nothing()
+    ensures { RefusalsChangeNothing }
+{}
+
+/// Moves pend only where there is a next one, the plant is full only at a limit, and memory is wanted by a create alone.
+pub fn refusals_have_causes()
+    ensures { RefusalsHaveCauses }
+{}

@@ -1,5 +1,0 @@
-use Rattle.batch_model.proofs.Telling.{active_told-last, holders_told-last, state_told-last, waiters_told-last}
-use Rattle.batch_model.proofs.laws.records.last_line_tells.Goals as goal
-
-pub returns : goal.returns
-returns c = record { holders = holders_told-last; waiters = waiters_told-last; active = active_told-last; state = state_told-last }

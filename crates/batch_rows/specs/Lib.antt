@@ -1,0 +1,11 @@
+pub mod RowDemo
+pub mod RowDocuments
+pub mod RowParts
+pub mod RowsOfMoves
+pub mod RowsOfCommands
+pub mod RowsOfReports
+pub mod RowsOfActStates
+pub mod RowsOfClearance
+pub mod RowsOfSafety
+pub mod RowsOfSettlement
+pub mod Example
