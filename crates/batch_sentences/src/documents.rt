@@ -49,7 +49,15 @@ fn toml_said(alloc: Global, bytes: &[u8]) -> Result<String, AllocError> {
     }
     match toml::table_from_slice(alloc, bytes) {
         Ok(_) => String::from_str(alloc, "it is no TOML"),
-        Err(error) => format!(in alloc; "it is no TOML: {error}"),
+        Err(error) => {
+            let told = format!(in alloc; "{error}")?;
+            let mut said = String::from_str(alloc, "it is no TOML")?;
+            for line in told.lines() {
+                said.push_str(": ")?;
+                said.push_str(line)?;
+            }
+            Ok(said)
+        }
     }
 }
 

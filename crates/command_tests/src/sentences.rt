@@ -80,6 +80,17 @@ fn of_recipes(rt: HostRuntime) -> Result<(), Fail> {
     Ok(())
 }
 
+/// What TOML says of it has two lines, and is told in one.
+#[test]
+fn of_no_toml(rt: HostRuntime) -> Result<(), Fail> {
+    let said = cell_said(rt.alloc(), "c", "cell = \"A\"\ncell = \"B\"\n")?;
+    assert_eq!(rt;
+        said.as_str(),
+        "refused D1 c|c: it is no TOML: TOML parse error at line 2, column 1: duplicate key"
+    );
+    Ok(())
+}
+
 /// Neither of the two lines is ended by the path.
 #[test]
 fn of_a_path_with_a_line_feed(rt: HostRuntime) -> Result<(), Fail> {
