@@ -45,12 +45,9 @@ abbrev pub check_app : App
 check_app = with_rule (with_rule (with_rule (with_rule (new_app (codes "check"))
     (word_rule (codes "CELL"))) recipes_rule) (flag_rule (codes "dot"))) (flag_rule (codes "quiet"))
 
-abbrev pub verify_app : App
-verify_app = with_rule (with_rule (with_rule (with_rule (new_app (codes "verify"))
-    (word_rule (codes "CELL"))) (word_rule (codes "CERT"))) recipes_rule) (flag_rule (codes "quiet"))
-
-abbrev pub run_app : App
-run_app = with_rule (with_rule (with_rule (with_rule (new_app (codes "run"))
+-- `verify` and `run`, by the name
+abbrev pub certified_app : Text → App
+certified_app name = with_rule (with_rule (with_rule (with_rule (new_app name)
     (word_rule (codes "CELL"))) (word_rule (codes "CERT"))) recipes_rule) (flag_rule (codes "quiet"))
 
 abbrev pub plant_app : App
@@ -67,7 +64,7 @@ bare_app = on_top (λ s. record s { has_version = true; no_binary_name = true; d
 abbrev pub program_app : App
 program_app =
     with_subcommand (with_subcommand (with_subcommand (with_subcommand (with_subcommand bare_app
-    check_app.top) verify_app.top) run_app.top) plant_app.top) explain_app.top
+    check_app.top) (certified_app (codes "verify")).top) (certified_app (codes "run")).top) plant_app.top) explain_app.top
 
 -- the word that was given for an argument
 abbrev pub word_of : Text → List Row → Text

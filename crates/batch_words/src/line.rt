@@ -1,8 +1,9 @@
 //! The command line that the program takes, as `clap` is told it.
 ghost use Rattle.std.specs.Prelude.{◌≡◌, IfOk, codes, false};
 ghost use Rattle.clap.specs.Words.{app_of, rule_of};
+ghost use Rattle.clap.specs.Simple.{App, with_subcommand};
 ghost use Rattle.clap.specs.declared.builder.command.Command.TheViews.{out-Command};
-ghost use Rattle.batch_words.specs.CommandLine.{check_app, explain_app, flag_rule, number_rule, plant_app, program_app, recipes_rule, run_app, verify_app, word_rule};
+ghost use Rattle.batch_words.specs.CommandLine.{bare_app, certified_app, check_app, explain_app, flag_rule, number_rule, plant_app, program_app, recipes_rule, word_rule};
 
 use clap::builder::ValueParser;
 use clap::{Arg, ArgAction, Command};
@@ -11,10 +12,13 @@ use std::alloc::{AllocError, Global};
 /// The number of the program's version.
 pub const VERSION: &str = "0.1.0";
 
-const ABOUT: &str =
-    "A batch server for one process cell; without a command it serves event lines from standard input over a demo cell";
+fn about() -> &'static str {
+    "A batch server for one process cell; without a command it serves event lines from standard input over a demo cell"
+}
 
-const AFTER_HELP: &str = "\
+// (a text of its own function isn't looked at by the proof of the command line)
+fn after_help() -> &'static str {
+    "\
 An example, in examples/paint_plant:
   batchd check cell.toml primer.toml rinse-mended.toml > certificate.txt
   batchd verify cell.toml certificate.txt primer.toml rinse-mended.toml
@@ -31,29 +35,47 @@ Exit status:
   2  the words are no command
   3  a file, the input or the output failed
   4  no memory, or a thread can't be started
-";
+"
+}
 
 /// The whole command line.
 pub(crate) fn program<'a>(alloc: Global) -> Result<Command<'a>, AllocError>
     ensures { IfOk result (λ program. app_of program ≡ program_app) }
 {
+    let checking = with_command(bare(alloc)?, check(alloc))?;
+    let verifying = with_command(checking, verify(alloc))?;
+    let running = with_command(verifying, run(alloc))?;
+    let planting = with_command(running, plant(alloc))?;
+    with_command(planting, explain(alloc))
+}
+
+/// The program without its commands.
+fn bare<'a>(alloc: Global) -> Result<Command<'a>, AllocError>
+    ensures { IfOk result (λ bare. app_of bare ≡ bare_app) }
+{
     Command::new(alloc, "batchd")
-        .about(ABOUT)
-        .after_help(AFTER_HELP)
+        .about(about())
+        .after_help(after_help())
         .version(VERSION)
         .no_binary_name(true)
         .disable_help_subcommand(true)
-        .bin_name("batchd")?
-        .subcommand(check(alloc)?)?
-        .subcommand(verify(alloc)?)?
-        .subcommand(run(alloc)?)?
-        .subcommand(plant(alloc)?)?
-        .subcommand(explain(alloc)?)
+        .bin_name("batchd")
+}
+
+/// The program with a command more, once that is made.
+fn with_command<'a>(
+    program: Command<'a>,
+    command: Result<Command<'a>, AllocError>,
+) -> Result<Command<'a>, AllocError>
+    ensures { IfOk result (λ wider. (app : App)
+        → IfOk command.entry (λ added. (app_of added ≡ app) × ((out-Command added).has_globals ≡ false))
+        → app_of wider ≡ with_subcommand (app_of program.entry) app.top) }
+{
+    program.subcommand(command?)
 }
 
 fn check<'a>(alloc: Global) -> Result<Command<'a>, AllocError>
-    ensures app { IfOk result (λ check. app_of check ≡ check_app) }
-    ensures local { IfOk result (λ check. (out-Command check).has_globals ≡ false) }
+    ensures { IfOk result (λ check. (app_of check ≡ check_app) × ((out-Command check).has_globals ≡ false)) }
 {
     Command::new(alloc, "check")
         .about("Prints a certificate for the recipes, or why there is none")
@@ -68,25 +90,26 @@ fn check<'a>(alloc: Global) -> Result<Command<'a>, AllocError>
 }
 
 fn verify<'a>(alloc: Global) -> Result<Command<'a>, AllocError>
-    ensures app { IfOk result (λ verify. app_of verify ≡ verify_app) }
-    ensures local { IfOk result (λ verify. (out-Command verify).has_globals ≡ false) }
+    ensures { IfOk result (λ verify. (app_of verify ≡ certified_app (codes "verify")) × ((out-Command verify).has_globals ≡ false)) }
 {
-    Command::new(alloc, "verify")
-        .about("Prints whether the certificate clears the recipes for the cell")
-        .arg(word(alloc, "CELL", "The cell document"))?
-        .arg(word(alloc, "CERT", "The certificate"))?
-        .arg(recipes(alloc))?
-        .arg(quiet(alloc))
+    let about = "Prints whether the certificate clears the recipes for the cell";
+    certified(alloc, "verify", about)
 }
 
 fn run<'a>(alloc: Global) -> Result<Command<'a>, AllocError>
-    ensures app { IfOk result (λ run. app_of run ≡ run_app) }
-    ensures local { IfOk result (λ run. (out-Command run).has_globals ≡ false) }
+    ensures { IfOk result (λ run. (app_of run ≡ certified_app (codes "run")) × ((out-Command run).has_globals ≡ false)) }
 {
-    Command::new(alloc, "run")
-        .about(
-            "Serves event lines from standard input over the recipes that the certificate clears",
-        )
+    let about =
+        "Serves event lines from standard input over the recipes that the certificate clears";
+    certified(alloc, "run", about)
+}
+
+/// A command over a cell, a certificate and recipes.
+fn certified<'a>(alloc: Global, name: &'a str, about: &'a str) -> Result<Command<'a>, AllocError>
+    ensures { IfOk result (λ command. (app_of command ≡ certified_app name.entry.now) × ((out-Command command).has_globals ≡ false)) }
+{
+    Command::new(alloc, name)
+        .about(about)
         .arg(word(alloc, "CELL", "The cell document"))?
         .arg(word(alloc, "CERT", "The certificate"))?
         .arg(recipes(alloc))?
@@ -94,8 +117,7 @@ fn run<'a>(alloc: Global) -> Result<Command<'a>, AllocError>
 }
 
 fn plant<'a>(alloc: Global) -> Result<Command<'a>, AllocError>
-    ensures app { IfOk result (λ plant. app_of plant ≡ plant_app) }
-    ensures local { IfOk result (λ plant. (out-Command plant).has_globals ≡ false) }
+    ensures { IfOk result (λ plant. (app_of plant ≡ plant_app) × ((out-Command plant).has_globals ≡ false)) }
 {
     Command::new(alloc, "plant")
         .about(
@@ -125,8 +147,7 @@ fn plant<'a>(alloc: Global) -> Result<Command<'a>, AllocError>
 }
 
 fn explain<'a>(alloc: Global) -> Result<Command<'a>, AllocError>
-    ensures app { IfOk result (λ explain. app_of explain ≡ explain_app) }
-    ensures local { IfOk result (λ explain. (out-Command explain).has_globals ≡ false) }
+    ensures { IfOk result (λ explain. (app_of explain ≡ explain_app) × ((out-Command explain).has_globals ≡ false)) }
 {
     Command::new(alloc, "explain")
         .about("Prints what a code of a refusal means, and what to do")

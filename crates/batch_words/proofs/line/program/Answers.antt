@@ -1,31 +1,23 @@
-use Rattle.std.proofs.Common.{ap, ap₂, ◌≡◌, ◌∙◌, true}
+use Rattle.std.proofs.Common.{ap, ◌≡◌, ◌∙◌, codes}
 use Rattle.std.proofs.lemmas.Result.{IfOk-weaker}
-use Rattle.clap.specs.Simple.{App, app_of, app_of_fields, on_top, with_subcommand}
-use Rattle.batch_words.specs.CommandLine.{bare_app, check_app, plant_app, run_app, verify_app}
+use Rattle.clap.specs.Simple.{App, app_of, with_subcommand}
+use Rattle.batch_words.specs.CommandLine.{bare_app, certified_app, check_app, explain_app, plant_app}
 use Rattle.batch_words.proofs.line.program.Goals as goal
+
+abbrev wider : App → App → App
+wider command program = with_subcommand program command.top
 
 pub returns : goal.returns
 returns c =
-    let bare : app_of c.in_ok-bin_name.field-0 ≡ bare_app =
-    ap app_of_fields c.in_ok-bin_name.ensures.0 ∙ ap app_of_fields c.disable_help_subcommand.ensures
-    ∙ ap (on_top (λ s. record s { disable_help_subcommand = true })) (ap app_of_fields c.no_binary_name.ensures
-    ∙ ap (on_top (λ s. record s { no_binary_name = true })) (ap app_of_fields c.version.ensures
-    ∙ ap (on_top (λ s. record s { has_version = true })) (ap app_of_fields c.after_help.ensures
-    ∙ ap app_of_fields c.about.ensures ∙ c.new.ensures.app))) in
-    let checking : app_of c.in_ok-subcommand.field-0 ≡ with_subcommand bare_app check_app.top =
-    c.in_ok-subcommand.ensures.shape c.in_ok-check.ensures.local
-    ∙ ap₂ with_subcommand bare (ap (λ (a : App). a.top) c.in_ok-check.ensures.app) in
-    let verifying : app_of c.in_ok-subcommand-2.field-0 ≡ with_subcommand (with_subcommand bare_app check_app.top) verify_app.top =
-    c.in_ok-subcommand-2.ensures.shape c.in_ok-verify.ensures.local
-    ∙ ap₂ with_subcommand checking (ap (λ (a : App). a.top) c.in_ok-verify.ensures.app) in
-    let running : app_of c.in_ok-subcommand-3.field-0
-    ≡ with_subcommand (with_subcommand (with_subcommand bare_app check_app.top) verify_app.top) run_app.top =
-    c.in_ok-subcommand-3.ensures.shape c.in_ok-run.ensures.local
-    ∙ ap₂ with_subcommand verifying (ap (λ (a : App). a.top) c.in_ok-run.ensures.app) in
-    let planting : app_of c.in_ok-subcommand-4.field-0
-    ≡ with_subcommand (with_subcommand (with_subcommand (with_subcommand bare_app check_app.top) verify_app.top) run_app.top) plant_app.top =
-    c.in_ok-subcommand-4.ensures.shape c.in_ok-plant.ensures.local
-    ∙ ap₂ with_subcommand running (ap (λ (a : App). a.top) c.in_ok-plant.ensures.app) in
-    IfOk-weaker c.subcommand-5.result _ _
-    (λ program added. added.shape c.in_ok-explain.ensures.local
-    ∙ ap₂ with_subcommand planting (ap (λ (a : App). a.top) c.in_ok-explain.ensures.app)) c.subcommand-5.ensures
+    let checking : app_of c.in_ok-checking.checking ≡ wider check_app bare_app =
+    c.in_ok-checking.ensures check_app c.check.ensures ∙ ap (wider check_app) c.in_ok-bare.ensures in
+    let verifying : app_of c.in_ok-verifying.verifying ≡ wider (certified_app (codes "verify")) (wider check_app bare_app) =
+    c.in_ok-verifying.ensures (certified_app (codes "verify")) c.verify.ensures ∙ ap (wider (certified_app (codes "verify"))) checking in
+    let running : app_of c.in_ok-running.running
+    ≡ wider (certified_app (codes "run")) (wider (certified_app (codes "verify")) (wider check_app bare_app)) =
+    c.in_ok-running.ensures (certified_app (codes "run")) c.run.ensures ∙ ap (wider (certified_app (codes "run"))) verifying in
+    let planting : app_of c.in_ok-planting.planting
+    ≡ wider plant_app (wider (certified_app (codes "run")) (wider (certified_app (codes "verify")) (wider check_app bare_app))) =
+    c.in_ok-planting.ensures plant_app c.plant.ensures ∙ ap (wider plant_app) running in
+    IfOk-weaker c.with_command-5.result _ _
+    (λ program added. added explain_app c.explain.ensures ∙ ap (wider explain_app) planting) c.with_command-5.ensures
