@@ -1,5 +1,5 @@
-//! The worked example: command lines of the program over the documents of a paint plant, each with what it prints and its
-//! exit status. The program itself ends with status 0.
+//! The worked example: command lines of the program over the documents of a paint plant, and one that runs the demo's plant
+//! in threads, each with what it prints and its exit status. The program itself ends with status 0.
 #![tactic(auto)]
 
 use batch_program::run_on_files;
@@ -7,10 +7,11 @@ use std::alloc::{AllocError, Global};
 
 /// The topcoat and the rinse can wait for each other. With the mended rinse there is a certificate, which is the file
 /// certificate.txt, and it is accepted.
-const LINES: [&str; 3] = [
+const LINES: [&str; 4] = [
     "check cell.toml primer.toml varnish.toml topcoat.toml rinse.toml",
     "check cell.toml primer.toml varnish.toml topcoat.toml rinse-mended.toml",
     "verify cell.toml certificate.txt primer.toml varnish.toml topcoat.toml rinse-mended.toml",
+    "plant",
 ];
 
 fn main(rt: HostRuntime) -> Result<(), anyhow::Error> {
