@@ -1,5 +1,5 @@
 use Rattle.std.proofs.Common.{◌≡◌, ◌+◌, ◌*◌}
-use Rattle.base_tests.proofs.charts.reference.+reference.Given as goal
+use Rattle.document_tests.proofs.charts.reference.+reference.Given as goal
 
 abbrev pub decreases-branches : goal.decreases-branches
 decreases-branches l = 2 * l.depth + 1

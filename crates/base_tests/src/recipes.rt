@@ -1,5 +1,0 @@
-//! Acts, the nodes that they expand to, and values.
-
-mod acts;
-mod parts;
-mod values;
