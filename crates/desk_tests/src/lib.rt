@@ -1,4 +1,4 @@
-//! Tests of desks and their hub over documents, by public names alone. Nothing stands on this crate.
+//! Tests of desks and their hub over documents, and of plants that run in threads, by public names alone. Nothing stands on this crate.
 #![tactic(auto)]
 
 #[cfg(test)]
@@ -8,6 +8,8 @@ mod ending;
 #[cfg(test)]
 mod ends;
 #[cfg(test)]
+mod gates;
+#[cfg(test)]
 mod left;
 #[cfg(test)]
 mod limits;
@@ -16,12 +18,18 @@ mod lines;
 #[cfg(test)]
 mod loops;
 #[cfg(test)]
+mod plants;
+#[cfg(test)]
 mod ports;
 #[cfg(test)]
 mod script;
 #[cfg(test)]
 mod seats;
 #[cfg(test)]
+mod silent;
+#[cfg(test)]
 mod stage;
+#[cfg(test)]
+mod threads;
 #[cfg(test)]
 mod turns;

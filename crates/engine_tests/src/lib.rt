@@ -1,21 +1,51 @@
-//! Tests of the engine over documents, by public names alone. Nothing stands on this crate.
+//! Tests of the engine over documents, of its lines, and of units that it drives, by public names alone. Nothing stands on this crate.
 #![tactic(auto)]
 
 #[cfg(test)]
 mod arbiter;
 #[cfg(test)]
+mod boxes;
+#[cfg(test)]
 mod calls;
 #[cfg(test)]
 mod documents;
 #[cfg(test)]
+mod driven;
+#[cfg(test)]
+mod drivers;
+#[cfg(test)]
+mod driving;
+#[cfg(test)]
+mod ends;
+#[cfg(test)]
+mod event_lines;
+#[cfg(test)]
+mod judge;
+#[cfg(test)]
 mod limits;
+#[cfg(test)]
+mod paint;
+#[cfg(test)]
+mod paint_plant;
+#[cfg(test)]
+mod record_lines;
 #[cfg(test)]
 mod records;
 #[cfg(test)]
 mod refusals;
+#[cfg(test)]
+mod reports;
 #[cfg(test)]
 mod runs;
 #[cfg(test)]
 mod script;
 #[cfg(test)]
 mod several;
+#[cfg(test)]
+mod simulator;
+#[cfg(test)]
+mod stage;
+#[cfg(test)]
+mod steady;
+#[cfg(test)]
+mod writers;

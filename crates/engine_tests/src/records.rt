@@ -47,7 +47,8 @@ pub(crate) fn engine_of(alloc: Global, cell: &str, recipes: &[&str]) -> Result<E
     Ok(Engine::new(alloc, cleared).map_err(|_| "no engine")?)
 }
 
-fn event_of(alloc: Global, line: &str) -> Result<Event, Fail> {
+/// The event of a line.
+pub(crate) fn event_of(alloc: Global, line: &str) -> Result<Event, Fail> {
     let event = read_event(alloc, line.as_bytes())?;
     Ok(event.ok_or("no event")?)
 }

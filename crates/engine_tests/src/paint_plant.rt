@@ -1,43 +1,4 @@
-//! The documents of the runs.
-
-/// The demo cell.
-pub(crate) const CELL1: &str = "cell = \"DEMO\"
-[[unit]]
-name = \"R1\"
-[[unit]]
-name = \"R2\"
-[[module]]
-name = \"M1\"
-unit = \"R1\"
-phases = [\"ADD\", \"HEAT\", \"DRAIN\"]
-[[module]]
-name = \"M2\"
-unit = \"R2\"
-phases = [\"ADD\", \"HEAT\", \"DRAIN\"]
-[[shared]]
-name = \"HDR\"
-capacity = 1
-[[shared]]
-name = \"STEAM\"
-capacity = 2
-";
-
-/// One phase on R1.
-pub(crate) const A: &str = "recipe = \"A\"
-version = \"1\"
-basis = 1000
-[procedure]
-chart = \"MAKE\"
-[[unit_procedure]]
-name = \"MAKE\"
-unit = \"R1\"
-chart = \"CHARGE\"
-[[operation]]
-name = \"CHARGE\"
-chart = \"ADD\"
-[[phase]]
-name = \"ADD\"
-";
+//! The documents of the paint plant.
 
 /// The cell of the paint plant.
 pub(crate) const PAINT: &str = "cell = \"PAINT\"

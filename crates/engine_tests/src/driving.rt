@@ -1,5 +1,5 @@
 //! Driving the demo cell, whose units work steadily: a phase runs two ticks.
-use crate::script::assert_steady;
+use crate::driven::assert_steady;
 use std::test::Fail;
 
 /// One round writes nothing, a second what comes of the phase's end.

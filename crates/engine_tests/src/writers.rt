@@ -1,6 +1,6 @@
 //! Driving to a writer that fails.
 use crate::ends::Narrow;
-use crate::script::{START, steady_stage};
+use crate::driven::{START, steady_stage};
 use batch_drive::DriveFault;
 use std::alloc::Global;
 use std::test::Fail;

@@ -1,5 +1,5 @@
 //! Driving the paint plant.
-use crate::documents::{PAINT, PRIMER, RINSE, TOPCOAT, VARNISH};
+use crate::paint_plant::{PAINT, PRIMER, RINSE, TOPCOAT, VARNISH};
 use crate::drivers::Random;
 use crate::judge::first_unsafe;
 use crate::simulator::steady;

@@ -1,15 +1,14 @@
 //! Plants over the demo cell, and what is told of their end.
 use crate::documents::{A, CELL1};
+use crate::lines::cleared_of;
 use batch_cell::Cell;
-use batch_check::check;
 use batch_desk::Gate;
 use batch_engine::{Line, Out};
 use batch_matrix::State;
 use batch_plant::{PlantEnd, PlantFault, PlantGates, PlantTask, plant_run};
-use batch_reader::{read_cell, read_recipe};
+use batch_reader::read_cell;
 use batch_sim::{Simulator, SteadyUnit, UnitDriver};
 use batch_text::Name;
-use batch_verify::{Cleared, verify};
 use std::alloc::Global;
 use std::test::Fail;
 use std::thread::Threads;
@@ -17,15 +16,6 @@ use std::thread::Threads;
 /// The demo cell.
 fn demo_cell(alloc: Global) -> Result<Cell, Fail> {
     Ok(read_cell(alloc, CELL1.as_bytes())?)
-}
-
-/// The demo recipe, cleared for the demo cell.
-fn demo_set(alloc: Global) -> Result<Cleared, Fail> {
-    let cell = demo_cell(alloc)?;
-    let mut recipes = Vec::new(alloc);
-    recipes.push(read_recipe(alloc, A.as_bytes())?)?;
-    let certificate = check(alloc, &cell, &recipes)?;
-    Ok(verify(alloc, cell, recipes, &certificate).map_err(|_| "not cleared")?)
 }
 
 /// As many batches of the demo recipe, over rings of one place.
@@ -90,7 +80,7 @@ pub(crate) fn run<
     limit: u64,
     gates: PlantGates<H, C, L>,
 ) -> Result<String, Fail> {
-    let cleared = demo_set(alloc)?;
+    let cleared = cleared_of(alloc, A)?;
     let cell = demo_cell(alloc)?;
     let task = task(alloc, batches, limit)?;
     if task.ring < 1 || task.ring > 64 {

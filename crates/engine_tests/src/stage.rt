@@ -1,5 +1,5 @@
 //! An engine, and the units of its cell.
-use crate::lines::{engine_of, event_of};
+use crate::records::{engine_of, event_of};
 use batch_drive::{DriveFault, drive};
 use batch_engine::{Engine, Line, Out};
 use batch_sim::{Order, Simulator, UnitDriver};
