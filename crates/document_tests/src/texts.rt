@@ -52,20 +52,35 @@ fn tells_the_bytes_of_names(rt: HostRuntime) {
     }
 }
 
+/// Whether the first name is less than the second, and whether they are equal.
+fn compared(alloc: Global, first: &[u8], second: &[u8]) -> Result<(bool, bool), Fail> {
+    let first = Name::read(alloc, first)?;
+    let second = Name::read(alloc, second)?;
+    Ok((first < second, first == second))
+}
+
+/// Whether a set of the one name has the other.
+fn is_found(alloc: Global, name: &[u8], other: &[u8]) -> Result<bool, Fail> {
+    let mut names = HashSet::new(alloc);
+    names.insert(Name::read(alloc, name)?)?;
+    Ok(names.contains(&Name::read(alloc, other)?))
+}
+
+/// A name, as it is printed and as it is shown.
+fn printed(alloc: Global, name: &[u8]) -> Result<String, Fail> {
+    let name = Name::read(alloc, name)?;
+    Ok(format!(in alloc; "{name} {name:?}")?)
+}
+
 #[test]
 fn names_compare_as_their_bytes(rt: HostRuntime) -> Result<(), Fail> {
     let alloc = rt.alloc();
-    let add = Name::read(alloc, b"ADD")?;
-    let adds = Name::read(alloc, b"ADDS")?;
-    let heat = Name::read(alloc, b"HEAT")?;
-    assert!(rt; add < adds && adds < heat && add != adds);
-    let mut names = HashSet::new(alloc);
-    names.insert(add.copy(alloc)?)?;
-    assert!(rt; names.contains(&add) && !names.contains(&heat));
-    assert_eq!(rt;
-        format!(in alloc; "{add} {adds:?}")?.as_str(),
-        "ADD \"ADDS\""
-    );
+    assert_eq!(rt; compared(alloc, b"ADD", b"ADDS")?, (true, false));
+    assert_eq!(rt; compared(alloc, b"ADDS", b"HEAT")?, (true, false));
+    assert_eq!(rt; compared(alloc, b"HEAT", b"ADD")?, (false, false));
+    assert_eq!(rt; compared(alloc, b"HEAT", b"HEAT")?, (false, true));
+    assert!(rt; is_found(alloc, b"ADD", b"ADD")? && !is_found(alloc, b"ADD", b"HEAT")?);
+    assert_eq!(rt; printed(alloc, b"ADDS")?.as_str(), "ADDS \"ADDS\"");
     Ok(())
 }
 

@@ -15,21 +15,19 @@ fn scales_to_the_nearest(rt: HostRuntime) {
     assert_eq!(rt; scale(333, 500, 1000), 167);
 }
 
+/// What the operator says of 1, 2 and 3 beside 2.
+fn compared(op: Op) -> (bool, bool, bool) {
+    (op.compares(1, 2), op.compares(2, 2), op.compares(3, 2))
+}
+
 #[test]
 fn compares_numbers(rt: HostRuntime) {
-    let cases: [(Op, bool, bool, bool); 6] = [
-        (Op::Less, true, false, false),
-        (Op::AtMost, true, true, false),
-        (Op::Equal, false, true, false),
-        (Op::NotEqual, true, false, true),
-        (Op::AtLeast, false, true, true),
-        (Op::Greater, false, false, true),
-    ];
-    for (op, below, same, above) in cases {
-        assert_eq!(rt; op.compares(1, 2), below, "{op:?}");
-        assert_eq!(rt; op.compares(2, 2), same, "{op:?}");
-        assert_eq!(rt; op.compares(3, 2), above, "{op:?}");
-    }
+    assert_eq!(rt; compared(Op::Less), (true, false, false));
+    assert_eq!(rt; compared(Op::AtMost), (true, true, false));
+    assert_eq!(rt; compared(Op::Equal), (false, true, false));
+    assert_eq!(rt; compared(Op::NotEqual), (true, false, true));
+    assert_eq!(rt; compared(Op::AtLeast), (false, true, true));
+    assert_eq!(rt; compared(Op::Greater), (false, false, true));
 }
 
 #[test]
