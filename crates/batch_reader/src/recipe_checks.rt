@@ -139,11 +139,7 @@ fn check_procedure(
 }
 
 /// Tests that the phase steps name nothing but these values. None has a chart, so there are no labels.
-fn check_phases(
-    alloc: Global,
-    phases: &[Act],
-    values: &IndexSet<Name>,
-) -> Result<(), TableFault>
+fn check_phases(alloc: Global, phases: &[Act], values: &IndexSet<Name>) -> Result<(), TableFault>
     requires { AreFormedActs phases.now }
     ensures ok { OnOk result (list_all (is_work [] values.now.keys) phases.now ≡ true) }
     ensures refused { IfErr result (λ fault. list_all (is_work [] values.now.keys) phases.now ≢ true) }
