@@ -1,10 +1,10 @@
 -- What is told of a table of a document stands there.
-use Rattle.std.proofs.Common.{◌≡◌, ℕ, ◌<◌, List, length, get_or, Option, Some, None, refl, sym, ap, subst}
+use Rattle.std.proofs.Common.{◌≡◌, ℕ, ◌<◌, ◌∙◌, Bool, true, List, length, get_or, Option, Some, None, refl, sym, ap, subst}
 use Rattle.toml.specs.Data.{Data, Items, Members, as_table, get_item}
 use Rattle.toml.specs.View.{view, items_view}
 use Rattle.toml.specs.declared.value.Value.{Value}
 use Rattle.batch_reader.proofs.Items.{get_item-view}
-use Rattle.batch_reader.specs.Faults.{Tells, TellsAt, TellsIn}
+use Rattle.batch_reader.specs.Faults.{IsAmong, Tells, TellsAt, TellsIn}
 use Rattle.batch_reader.specs.TableFaults.{IsArrayFault}
 use Rattle.batch_reader.specs.declared.fault.EntryFault.{EntryFault}
 use Rattle.batch_reader.specs.declared.fault.EntryFault.TheVariants.{WrongKind}
@@ -41,3 +41,17 @@ at_told spot P Q f (Entry here wrong) told = subst (λ s. Q s wrong) (sym told.0
 pub tells_weaker : (P Q : Spot → EntryFault → Type 0) → ((spot : Spot) (wrong : EntryFault) → P spot wrong → Q spot wrong) → (fault : TableFault) → Tells P fault → Tells Q fault
 tells_weaker P Q f Memory told = tt
 tells_weaker P Q f (Entry here wrong) told = f here wrong told
+
+-- what is told of the tables of one kind is told of a document, and of a kind of its own
+pub in_told : (kind : TableKind) (P : ℕ → EntryFault → Type 0) (Q : Spot → EntryFault → Type 0)
+    → ((entry : ℕ) (wrong : EntryFault) → P entry wrong → Q (record { kind = kind; entry = entry }) wrong) → (fault : TableFault) → TellsIn kind P fault → Tells Q fault
+in_told kind P Q f Memory told = tt
+in_told kind P Q f (Entry here wrong) told = subst (λ k. Q (record { kind = k; entry = here.entry }) wrong) (sym told.0) (f here.entry wrong told.1)
+
+pub in_among : (kinds : TableKind → Bool) (kind : TableKind) (P : ℕ → EntryFault → Type 0) → kinds kind ≡ true → (fault : TableFault) → TellsIn kind P fault → IsAmong kinds fault
+in_among kinds kind P is Memory told = tt
+in_among kinds kind P is (Entry here wrong) told = ap kinds told.0 ∙ is
+
+pub at_among : (kinds : TableKind → Bool) (spot : Spot) (P : EntryFault → Type 0) → kinds spot.kind ≡ true → (fault : TableFault) → TellsAt spot P fault → IsAmong kinds fault
+at_among kinds spot P is Memory told = tt
+at_among kinds spot P is (Entry here wrong) told = ap (λ (s : Spot). kinds s.kind) told.0 ∙ is

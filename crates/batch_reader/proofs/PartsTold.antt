@@ -26,6 +26,18 @@ pub never_told : (Q : Spot → EntryFault → Type 0) (fault : TableFault) → (
 never_told Q Memory never = tt
 never_told Q (Entry here wrong) never = absurd (never (λ e. cc e))
 
+-- where it is known what is wrong, or also in which tables, that is told of the spot
+pub wrong_told : (what : EntryFault) (P : Spot → Type 0) (Q : Spot → EntryFault → Type 0) → ((spot : Spot) → P spot → Q spot what) → (fault : TableFault)
+    → IsWrong what fault → Tells (λ spot _. P spot) fault → Tells Q fault
+wrong_told what P Q f Memory is_wrong told = tt
+wrong_told what P Q f (Entry here wrong) is_wrong told = subst (Q here) (sym is_wrong) (f here told)
+
+pub kind_told : (kind : TableKind) (what : EntryFault) (P : ℕ → Type 0) (Q : Spot → EntryFault → Type 0) → ((entry : ℕ) → P entry → Q (record { kind = kind; entry = entry }) what)
+    → (fault : TableFault) → IsToldIn kind what fault → Tells (λ spot _. P spot.entry) fault → Tells Q fault
+kind_told kind what P Q f Memory is_wrong told = tt
+kind_told kind what P Q f (Entry here wrong) is_wrong told =
+    subst (Q here) (sym is_wrong.1) (subst (λ k. Q (record { kind = k; entry = here.entry }) what) (sym is_wrong.0) (f here.entry told))
+
 -- names that are the same ones fail at the same table
 fails_along : {X : Type 0} (f g : List X → List Name) → ((front : List X) → f front ≡ g front) → (tables : List X) (entry : ℕ)
     → FailsFirst (λ front. AreDistinct (f front)) tables entry → FailsFirst (λ front. AreDistinct (g front)) tables entry

@@ -11,11 +11,14 @@ use Rattle.batch_recipe.specs.declared.acts.Acts.{Acts}
 abbrev pub is_declared : List Name → List Name → Diagram → Bool
 is_declared labels values chart = list_all (is_among labels) (labels_of chart) && list_all (is_among values) (values_of chart)
 
+-- the names of the acts of each table differ
+abbrev pub act_names_differ : Acts → Bool
+act_names_differ a =
+    are_distinct (act_names a.unit_procedures.items) && (are_distinct (act_names a.operations.items) && are_distinct (act_names a.phases.items))
+
 -- the names of values differ, and those of the acts of each table
 abbrev pub names_differ : List Name → Acts → Bool
-names_differ values a =
-    are_distinct values
-    && (are_distinct (act_names a.unit_procedures.items) && (are_distinct (act_names a.operations.items) && are_distinct (act_names a.phases.items)))
+names_differ values a = are_distinct values && act_names_differ a
 
 -- each act names acts of the table below it and values alone
 abbrev pub acts_are_declared : List Name → Acts → Bool

@@ -1,11 +1,14 @@
 //! The tables of a cell document.
-ghost use Rattle.std.specs.Prelude.{◌≡◌, ◌≢◌, None, codes, IfOk, IfErr, IsSome};
+ghost use Rattle.std.specs.Prelude.{◌≡◌, ◌≢◌, ℕ, None, codes, IfOk, IfErr, IsSome};
 ghost use Rattle.toml.specs.Data.{get_member};
 ghost use Rattle.toml.specs.View.{table_view};
 ghost use Rattle.batch_cell.specs.declared.module.Module.{Module};
 ghost use Rattle.batch_reader.specs.CellDocument.{IsUnitTable, IsModuleTable, IsSharedTable};
+ghost use Rattle.batch_cell.specs.declared.shared.TheConstants.{MAX_CAPACITY};
+ghost use Rattle.batch_reader.specs.Entries.{HasNumber};
 ghost use Rattle.batch_reader.specs.Faults.{TellsAt};
-ghost use Rattle.batch_reader.specs.TableFaults.{IsTableFault};
+ghost use Rattle.batch_reader.specs.Keys.{needed, a_number};
+ghost use Rattle.batch_reader.specs.TableFaults.{IsKeyFault, IsTableFault};
 ghost use Rattle.batch_reader.specs.declared.fault.TableKind.{TableKind};
 
 use crate::entries::{has_only_keys, member, name_at, names_at, number_at};
@@ -93,10 +96,17 @@ impl FromTable for Shared {
             return Err(TableFault::Entry(spot, EntryFault::UnknownKey));
         }
         let name = name_at(alloc, table, "name", spot)?;
-        let capacity = number_at(table, "capacity", 1, u64::from(MAX_CAPACITY), spot)?;
-        Ok(Shared {
-            name,
-            capacity: capacity as u32,
-        })
+        let capacity = capacity_at(table, spot)?;
+        Ok(Shared { name, capacity })
     }
+}
+
+/// The capacity in a shared resource's table.
+fn capacity_at(table: &Table, spot: Spot) -> Result<u32, TableFault>
+    ensures ok { IfOk result (HasNumber (codes "capacity") (table_view table.now) 1 MAX_CAPACITY) }
+    ensures refused { IfErr result (λ fault. (number : ℕ) → ¬ (HasNumber (codes "capacity") (table_view table.now) 1 MAX_CAPACITY number)) }
+    ensures told { IfErr result (TellsAt spot (IsKeyFault (needed (codes "capacity") (a_number 1 MAX_CAPACITY)) (table_view table.now))) }
+{
+    let capacity = number_at(table, "capacity", 1, u64::from(MAX_CAPACITY), spot)?;
+    Ok(capacity as u32)
 }

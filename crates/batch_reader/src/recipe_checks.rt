@@ -1,9 +1,9 @@
 //! The conditions on the parts of a recipe.
-ghost use Rattle.std.specs.Prelude.{◌≡◌, ◌≢◌, ◌≤◌, true, length, IfErr, IsErrOf, OnOk};
+ghost use Rattle.std.specs.Prelude.{◌≡◌, ◌≢◌, ◌<◌, ◌≤◌, true, [], length, IfErr, IsErrOf, OnOk};
 ghost use Rattle.std.specs.List.{list_all};
 ghost use Rattle.batch_recipe.specs.Procedure.{procedure_nodes};
-ghost use Rattle.batch_recipe.specs.WellFormed.{act_names, is_among, is_work};
-ghost use Rattle.batch_recipe.specs.declared.recipe.TheConstants.{MAX_NODES};
+ghost use Rattle.batch_recipe.specs.WellFormed.{act_names, is_among, is_well_formed, is_work, value_names};
+ghost use Rattle.batch_recipe.specs.declared.recipe.TheConstants.{MAX_ENTRIES, MAX_ACTS, MAX_NODES};
 ghost use Rattle.batch_reader.specs.Faults.{IsAmong, IsToldIn, IsWrong, Tells, is_of_recipe};
 ghost use Rattle.batch_reader.specs.PartFaults.{FailsFirst, HasUndeclaredName, IsPartFault};
 ghost use Rattle.batch_reader.specs.Naming.{acts_are_declared};
@@ -11,6 +11,7 @@ ghost use Rattle.batch_reader.specs.FormedActs.{AreFormed, AreFormedActs, IsForm
 ghost use Rattle.batch_reader.specs.SoundRecipe.{IsSoundRecipe};
 ghost use Rattle.batch_reader.specs.declared.fault.EntryFault.{EntryFault};
 ghost use Rattle.batch_reader.specs.declared.fault.Spot.{Spot};
+ghost use Rattle.batch_reader.specs.declared.fault.TableKind.{TableKind};
 
 use crate::chart_names::is_declared;
 use crate::equipment::check_count;
@@ -36,6 +37,25 @@ pub(crate) fn check_recipe(
     ensures told { IfErr result (IsAmong is_of_recipe) }
     ensures stands { IfErr result (Tells (λ spot. IsPartFault (record { inputs = inputs.now; parameters = parameters.now; outputs = outputs.now; acts = acts.now }) spot.kind spot.entry)) }
 {
+    check_counts(inputs, parameters, outputs, acts)?;
+    check_names(alloc, inputs, parameters, outputs, acts)?;
+    check_nodes(acts)
+}
+
+/// Tests how many tables of each kind there are.
+fn check_counts(
+    inputs: &[Quantity],
+    parameters: &[Quantity],
+    outputs: &[Name],
+    acts: &Acts,
+) -> Result<(), TableFault>
+    ensures values { OnOk result ((length inputs.now ≤ MAX_ENTRIES) × (length parameters.now ≤ MAX_ENTRIES) × (length outputs.now ≤ MAX_ENTRIES)) }
+    ensures some_acts { OnOk result ((0 < length acts.now.unit_procedures.items) × (0 < length acts.now.operations.items) × (0 < length acts.now.phases.items)) }
+    ensures few_acts { OnOk result ((length acts.now.unit_procedures.items ≤ MAX_ACTS) × (length acts.now.operations.items ≤ MAX_ACTS) × (length acts.now.phases.items ≤ MAX_ACTS)) }
+    ensures refused { IfErr result (λ fault. ¬ (IsSoundRecipe inputs.now parameters.now outputs.now acts.now)) }
+    ensures told { IfErr result (IsAmong is_of_recipe) }
+    ensures stands { IfErr result (Tells (λ spot. IsPartFault (record { inputs = inputs.now; parameters = parameters.now; outputs = outputs.now; acts = acts.now }) spot.kind spot.entry)) }
+{
     check_count(inputs.len(), 0, MAX_ENTRIES, TableKind::Input)?;
     check_count(parameters.len(), 0, MAX_ENTRIES, TableKind::Parameter)?;
     check_count(outputs.len(), 0, MAX_ENTRIES, TableKind::Output)?;
@@ -47,44 +67,88 @@ pub(crate) fn check_recipe(
     )?;
     check_count(acts.operations.len(), 1, MAX_ACTS, TableKind::Operation)?;
     check_count(acts.phases.len(), 1, MAX_ACTS, TableKind::Phase)?;
+    Ok(())
+}
+
+/// Tests that names differ, and that the acts name nothing that isn't declared.
+fn check_names(
+    alloc: Global,
+    inputs: &[Quantity],
+    parameters: &[Quantity],
+    outputs: &[Name],
+    acts: &Acts,
+) -> Result<(), TableFault>
+    requires { AreFormed acts.now }
+    ensures ok { OnOk result (is_well_formed (value_names inputs.now parameters.now outputs.now) acts.now ≡ true) }
+    ensures refused { IfErr result (λ fault. fault ≢ TableFault.Memory
+        → is_well_formed (value_names inputs.now parameters.now outputs.now) acts.now ≢ true) }
+    ensures told { IfErr result (IsAmong is_of_recipe) }
+    ensures stands { IfErr result (Tells (λ spot. IsPartFault (record { inputs = inputs.now; parameters = parameters.now; outputs = outputs.now; acts = acts.now }) spot.kind spot.entry)) }
+{
     let names = recipe_names(alloc, inputs, parameters, outputs, acts)?;
-    check_acts(alloc, acts, &names)?;
-    check_nodes(acts)
+    check_acts(alloc, acts, &names)
 }
 
 /// Tests that the acts name nothing that isn't declared.
 fn check_acts(alloc: Global, acts: &Acts, names: &RecipeNames) -> Result<(), TableFault>
     requires formed { AreFormed acts.now }
-    requires unit_procedures { names.now.unit_procedures.keys ≡ act_names acts.now.unit_procedures.items }
-    requires operations { names.now.operations.keys ≡ act_names acts.now.operations.items }
-    requires phases { names.now.phases.keys ≡ act_names acts.now.phases.items }
+    requires unit_procedures { names.now.acts.unit_procedures.keys ≡ act_names acts.now.unit_procedures.items }
+    requires operations { names.now.acts.operations.keys ≡ act_names acts.now.operations.items }
+    requires phases { names.now.acts.phases.keys ≡ act_names acts.now.phases.items }
     ensures ok { OnOk result (acts_are_declared names.now.values.keys acts.now ≡ true) }
     ensures refused { IfErr result (λ fault. acts_are_declared names.now.values.keys acts.now ≢ true) }
     ensures told { IfErr result (λ fault. (fault ≢ TableFault.Memory) × (IsAmong is_of_recipe fault × IsWrong EntryFault.Undeclared fault)) }
     ensures stands { IfErr result (Tells (λ spot _. HasUndeclaredName names.now.values.keys acts.now spot.kind spot.entry)) }
 {
     let values = &names.values;
-    if !is_work(&acts.procedure, &names.unit_procedures, values) {
+    check_procedure(&acts.procedure, &names.acts.unit_procedures, values)?;
+    check_table(
+        &acts.unit_procedures,
+        &names.acts.operations,
+        values,
+        TableKind::UnitProcedure,
+    )?;
+    check_table(
+        &acts.operations,
+        &names.acts.phases,
+        values,
+        TableKind::Operation,
+    )?;
+    check_phases(alloc, &acts.phases, values)
+}
+
+/// Tests that the procedure names nothing but these labels and values.
+fn check_procedure(
+    procedure: &Act,
+    labels: &IndexSet<Name>,
+    values: &IndexSet<Name>,
+) -> Result<(), TableFault>
+    requires { IsFormedWork procedure.now.work }
+    ensures ok { OnOk result (is_work labels.now.keys values.now.keys procedure.now ≡ true) }
+    ensures refused { IfErr result (λ fault. is_work labels.now.keys values.now.keys procedure.now ≢ true) }
+    ensures told { IfErr result (λ fault. fault ≡ TableFault.Entry (record { kind = TableKind.Procedure; entry = 0 }) EntryFault.Undeclared) }
+{
+    if !is_work(procedure, labels, values) {
         let spot = Spot {
             kind: TableKind::Procedure,
             entry: 0,
         };
         return Err(TableFault::Entry(spot, EntryFault::Undeclared));
     }
+    Ok(())
+}
+
+/// Tests that the phase steps name nothing but these values. None has a chart, so there are no labels.
+fn check_phases(alloc: Global, phases: &[Act], values: &IndexSet<Name>) -> Result<(), TableFault>
+    requires { AreFormedActs phases.now }
+    ensures ok { OnOk result (list_all (is_work [] values.now.keys) phases.now ≡ true) }
+    ensures refused { IfErr result (λ fault. list_all (is_work [] values.now.keys) phases.now ≢ true) }
+    ensures told { IfErr result (λ fault. (fault ≢ TableFault.Memory) × IsToldIn TableKind.Phase EntryFault.Undeclared fault) }
+    ensures first { (spot : Spot) (wrong : EntryFault) → IsErrOf result (TableFault.Entry spot wrong)
+        → FailsFirst (λ front. list_all (is_work [] values.now.keys) front ≡ true) phases.now spot.entry }
+{
     let none = IndexSet::new(alloc);
-    check_table(
-        &acts.unit_procedures,
-        &names.operations,
-        values,
-        TableKind::UnitProcedure,
-    )?;
-    check_table(
-        &acts.operations,
-        &names.phases,
-        values,
-        TableKind::Operation,
-    )?;
-    check_table(&acts.phases, &none, values, TableKind::Phase)
+    check_table(phases, &none, values, TableKind::Phase)
 }
 
 /// Tests that the acts of a table name nothing but these labels and values.

@@ -5,12 +5,14 @@ ghost use Rattle.toml.specs.View.{table_view};
 ghost use Rattle.batch_recipe.specs.declared.acts.Acts.{Acts};
 ghost use Rattle.batch_recipe.specs.declared.header.Header.{Header};
 ghost use Rattle.batch_recipe.specs.declared.recipe.Recipe.{Recipe};
-ghost use Rattle.batch_reader.specs.Entries.{HasName, has_only_keys};
+ghost use Rattle.batch_recipe.specs.declared.scaling.TheConstants.{MAX_SIZE};
+ghost use Rattle.batch_reader.specs.Entries.{HasName, HasNumber, HasTables, has_only_keys};
 ghost use Rattle.batch_reader.specs.Faults.{IsAmong, Tells, TellsAt, is_of_recipe};
 ghost use Rattle.batch_reader.specs.FaultStands.{FaultStands, IsWrongAt};
 ghost use Rattle.batch_reader.specs.TableFaults.{IsFaultOfTable, IsTableFault};
-ghost use Rattle.batch_reader.specs.RecipeTables.{HasHeader};
+ghost use Rattle.batch_reader.specs.RecipeTables.{HasHeader, IsQuantityTable, IsOutputTable, IsUnitProcedureTable, IsOperationTable, IsPhaseTable};
 ghost use Rattle.batch_reader.specs.RecipeDocument.{HasActs, IsRecipeTable, IsRecipeDocument, recipe_keys};
+ghost use Rattle.batch_reader.specs.SoundRecipe.{IsSoundRecipe};
 ghost use Rattle.batch_reader.specs.declared.document.TheConstants.{MAX_DOCUMENT_LEN};
 ghost use Rattle.batch_reader.specs.declared.fault.EntryFault.{EntryFault};
 ghost use Rattle.batch_reader.specs.declared.fault.Spot.{Spot};
@@ -66,21 +68,102 @@ fn recipe_from_table(alloc: Global, table: &Table) -> Result<Recipe, TableFault>
     if !has_recipe_keys(table) {
         return Err(TableFault::Entry(TOP, EntryFault::UnknownKey));
     }
+    let top = top_at(alloc, table)?;
+    let parts = parts_at(alloc, table, top.name)?;
+    Ok(Recipe {
+        header: top.header,
+        basis: top.basis,
+        inputs: parts.values.inputs,
+        parameters: parts.values.parameters,
+        outputs: parts.values.outputs,
+        acts: parts.acts,
+    })
+}
+
+/// What the entries of a recipe's top say.
+#[derive(Drop)]
+struct Top {
+    name: Name,
+    header: Header,
+    basis: u64,
+}
+
+/// The entries of the top. Its tables are looked at by themselves.
+fn top_at(alloc: Global, table: &Table) -> Result<Top, TableFault>
+    ensures name { IfOk result (λ top. HasName (codes "recipe") (table_view table.now) top.name) }
+    ensures header { IfOk result (λ top. HasHeader (table_view table.now) top.header) }
+    ensures basis { IfOk result (λ top. HasNumber (codes "basis") (table_view table.now) 1 MAX_SIZE top.basis) }
+    ensures refused { IfErr result (λ fault. fault ≢ TableFault.Memory
+        → (recipe : Recipe) → ¬ (IsRecipeTable (table_view table.now) recipe)) }
+    ensures told { IfErr result (TellsAt TOP (IsTableFault TableKind.Recipe (table_view table.now))) }
+{
     let name = name_at(alloc, table, "recipe", TOP)?;
     let header = header_at(alloc, table)?;
     let basis = number_at(table, "basis", 1, MAX_SIZE, TOP)?;
+    Ok(Top {
+        name,
+        header,
+        basis,
+    })
+}
+
+/// What the tables of a recipe stand for.
+#[derive(Drop)]
+struct Parts {
+    values: Values,
+    acts: Acts,
+}
+
+/// What the tables of a recipe stand for, where their counts and names are as they must be. The procedure gets the name.
+fn parts_at(alloc: Global, table: &Table, name: Name) -> Result<Parts, TableFault>
+    requires { HasName (codes "recipe") (table_view table.now) name }
+    ensures inputs { IfOk result (λ parts. HasTables IsQuantityTable (codes "input") (table_view table.now) parts.values.inputs.items) }
+    ensures parameters { IfOk result (λ parts. HasTables IsQuantityTable (codes "parameter") (table_view table.now) parts.values.parameters.items) }
+    ensures outputs { IfOk result (λ parts. HasTables IsOutputTable (codes "output") (table_view table.now) parts.values.outputs.items) }
+    ensures acts { IfOk result (λ parts. HasActs (table_view table.now) parts.acts) }
+    ensures sound { IfOk result (λ parts. IsSoundRecipe parts.values.inputs.items parts.values.parameters.items parts.values.outputs.items parts.acts) }
+    ensures refused { IfErr result (λ fault. fault ≢ TableFault.Memory
+        → (recipe : Recipe) → ¬ (IsRecipeTable (table_view table.now) recipe)) }
+    ensures told { IfErr result (IsAmong is_of_recipe) }
+    ensures stands { IfErr result (Tells (IsWrongAt (table_view table.now))) }
+{
+    let values = values_at(alloc, table)?;
+    let acts = acts_at(alloc, table, name)?;
+    check_recipe(
+        alloc,
+        &values.inputs,
+        &values.parameters,
+        &values.outputs,
+        &acts,
+    )?;
+    Ok(Parts { values, acts })
+}
+
+/// The inputs, parameters and outputs of a recipe.
+#[derive(Drop)]
+struct Values {
+    inputs: Vec<Quantity>,
+    parameters: Vec<Quantity>,
+    outputs: Vec<Name>,
+}
+
+/// The inputs, parameters and outputs, each as its table says.
+fn values_at(alloc: Global, table: &Table) -> Result<Values, TableFault>
+    ensures inputs { IfOk result (λ values. HasTables IsQuantityTable (codes "input") (table_view table.now) values.inputs.items) }
+    ensures parameters { IfOk result (λ values. HasTables IsQuantityTable (codes "parameter") (table_view table.now) values.parameters.items) }
+    ensures outputs { IfOk result (λ values. HasTables IsOutputTable (codes "output") (table_view table.now) values.outputs.items) }
+    ensures refused { IfErr result (λ fault. fault ≢ TableFault.Memory
+        → (recipe : Recipe) → ¬ (IsRecipeTable (table_view table.now) recipe)) }
+    ensures told { IfErr result (IsAmong is_of_recipe) }
+    ensures stands { IfErr result (Tells (λ spot. IsFaultOfTable (table_view table.now) spot.kind spot.entry)) }
+{
     let inputs = tables_at::<Quantity>(alloc, table, "input", TableKind::Input)?;
     let parameters = tables_at::<Quantity>(alloc, table, "parameter", TableKind::Parameter)?;
     let outputs = tables_at::<Name>(alloc, table, "output", TableKind::Output)?;
-    let acts = acts_at(alloc, table, name)?;
-    check_recipe(alloc, &inputs, &parameters, &outputs, &acts)?;
-    Ok(Recipe {
-        header,
-        basis,
+    Ok(Values {
         inputs,
         parameters,
         outputs,
-        acts,
     })
 }
 
@@ -137,6 +220,37 @@ fn acts_at(alloc: Global, table: &Table, name: Name) -> Result<Acts, TableFault>
     ensures stands { IfErr result (Tells (λ spot. IsFaultOfTable (table_view table.now) spot.kind spot.entry)) }
 {
     let procedure = procedure_at(alloc, table, name)?;
+    let ActTables {
+        unit_procedures,
+        operations,
+        phases,
+    } = act_tables_at(alloc, table)?;
+    Ok(Acts {
+        procedure,
+        unit_procedures,
+        operations,
+        phases,
+    })
+}
+
+/// The acts below the procedure.
+#[derive(Drop)]
+struct ActTables {
+    unit_procedures: Vec<Act>,
+    operations: Vec<Act>,
+    phases: Vec<Act>,
+}
+
+/// The acts below the procedure, each as its table says.
+fn act_tables_at(alloc: Global, table: &Table) -> Result<ActTables, TableFault>
+    ensures unit_procedures { IfOk result (λ acts. HasTables IsUnitProcedureTable (codes "unit_procedure") (table_view table.now) acts.unit_procedures.items) }
+    ensures operations { IfOk result (λ acts. HasTables IsOperationTable (codes "operation") (table_view table.now) acts.operations.items) }
+    ensures phases { IfOk result (λ acts. HasTables IsPhaseTable (codes "phase") (table_view table.now) acts.phases.items) }
+    ensures refused { IfErr result (λ fault. fault ≢ TableFault.Memory
+        → (acts : Acts) → ¬ (HasActs (table_view table.now) acts)) }
+    ensures told { IfErr result (IsAmong is_of_recipe) }
+    ensures stands { IfErr result (Tells (λ spot. IsFaultOfTable (table_view table.now) spot.kind spot.entry)) }
+{
     let unit_procedures = tables_at::<Act>(
         alloc,
         table,
@@ -145,8 +259,7 @@ fn acts_at(alloc: Global, table: &Table, name: Name) -> Result<Acts, TableFault>
     )?;
     let operations = tables_at::<Act>(alloc, table, "operation", TableKind::Operation)?;
     let phases = tables_at::<Act>(alloc, table, "phase", TableKind::Phase)?;
-    Ok(Acts {
-        procedure,
+    Ok(ActTables {
         unit_procedures,
         operations,
         phases,

@@ -3,7 +3,7 @@ ghost use Rattle.std.specs.Prelude.{◌≡◌, ◌≢◌, ◌⊎◌, true, IfErr
 ghost use Rattle.batch_recipe.specs.WellFormed.{act_names, are_distinct, value_names};
 ghost use Rattle.batch_reader.specs.Faults.{IsAmong, IsToldIn, IsWrong, Tells, is_of_recipe};
 ghost use Rattle.batch_reader.specs.PartFaults.{HasActTwice, HasValueTwice, IsFirstNamedAgain};
-ghost use Rattle.batch_reader.specs.Naming.{names_differ};
+ghost use Rattle.batch_reader.specs.Naming.{act_names_differ, names_differ};
 ghost use Rattle.batch_reader.specs.declared.fault.EntryFault.{EntryFault};
 
 use crate::fault::{TableFault, TableKind};
@@ -43,6 +43,12 @@ impl Named for Name {
 pub(crate) struct RecipeNames {
     /// The inputs, parameters and outputs.
     pub(crate) values: IndexSet<Name>,
+    pub(crate) acts: ActNames,
+}
+
+/// The names of a recipe's acts, table by table.
+#[derive(Drop)]
+pub(crate) struct ActNames {
     pub(crate) unit_procedures: IndexSet<Name>,
     pub(crate) operations: IndexSet<Name>,
     pub(crate) phases: IndexSet<Name>,
@@ -57,9 +63,9 @@ pub(crate) fn recipe_names(
     acts: &Acts,
 ) -> Result<RecipeNames, TableFault>
     ensures values { IfOk result (λ names. names.values.keys ≡ value_names inputs.now parameters.now outputs.now) }
-    ensures unit_procedures { IfOk result (λ names. names.unit_procedures.keys ≡ act_names acts.now.unit_procedures.items) }
-    ensures operations { IfOk result (λ names. names.operations.keys ≡ act_names acts.now.operations.items) }
-    ensures phases { IfOk result (λ names. names.phases.keys ≡ act_names acts.now.phases.items) }
+    ensures unit_procedures { IfOk result (λ names. names.acts.unit_procedures.keys ≡ act_names acts.now.unit_procedures.items) }
+    ensures operations { IfOk result (λ names. names.acts.operations.keys ≡ act_names acts.now.operations.items) }
+    ensures phases { IfOk result (λ names. names.acts.phases.keys ≡ act_names acts.now.phases.items) }
     ensures differ { OnOk result (names_differ (value_names inputs.now parameters.now outputs.now) acts.now ≡ true) }
     ensures refused { IfErr result (λ fault. fault ≢ TableFault.Memory
         → names_differ (value_names inputs.now parameters.now outputs.now) acts.now ≢ true) }
@@ -67,11 +73,24 @@ pub(crate) fn recipe_names(
     ensures stands { IfErr result (Tells (λ spot _. HasValueTwice inputs.now parameters.now outputs.now spot.kind spot.entry ⊎ HasActTwice acts.now spot.kind spot.entry)) }
 {
     let values = value_names(alloc, inputs, parameters, outputs)?;
+    let acts = names_of_acts(alloc, acts)?;
+    Ok(RecipeNames { values, acts })
+}
+
+/// The names of the acts, where those of each table differ.
+fn names_of_acts(alloc: Global, acts: &Acts) -> Result<ActNames, TableFault>
+    ensures unit_procedures { IfOk result (λ names. names.unit_procedures.keys ≡ act_names acts.now.unit_procedures.items) }
+    ensures operations { IfOk result (λ names. names.operations.keys ≡ act_names acts.now.operations.items) }
+    ensures phases { IfOk result (λ names. names.phases.keys ≡ act_names acts.now.phases.items) }
+    ensures differ { OnOk result (act_names_differ acts.now ≡ true) }
+    ensures refused { IfErr result (λ fault. fault ≢ TableFault.Memory → act_names_differ acts.now ≢ true) }
+    ensures told { IfErr result (λ fault. IsAmong is_of_recipe fault × IsWrong EntryFault.Duplicate fault) }
+    ensures stands { IfErr result (Tells (λ spot _. HasActTwice acts.now spot.kind spot.entry)) }
+{
     let unit_procedures = act_names(alloc, &acts.unit_procedures, TableKind::UnitProcedure)?;
     let operations = act_names(alloc, &acts.operations, TableKind::Operation)?;
     let phases = act_names(alloc, &acts.phases, TableKind::Phase)?;
-    Ok(RecipeNames {
-        values,
+    Ok(ActNames {
         unit_procedures,
         operations,
         phases,

@@ -1,5 +1,5 @@
 //! The names that a cell declares.
-ghost use Rattle.std.specs.Prelude.{◌≡◌, ◌≢◌, ◌++◌, map, filter, nat_eq, OnOk, IfOk, IfErr, IsErrOf};
+ghost use Rattle.std.specs.Prelude.{◌≡◌, ◌≢◌, [], ◌++◌, map, filter, nat_eq, OnOk, IfOk, IfErr, IsErrOf};
 ghost use Rattle.std.specs.Cmp.Lexicographic.{pointwise};
 ghost use Rattle.std.specs.List.{IsDistinct, list_any};
 ghost use Rattle.batch_cell.specs.Equipment.{IsDeclaredOnce, HasDeclaredUnits, is_free, has_declared_unit, resource_names, unit_names};
@@ -52,9 +52,27 @@ pub(crate) fn check_names(
     ensures stands { IfErr result (Tells (λ spot _. HasNameTwice (record { units = units.now; modules = modules.now; shared = shared.now }) spot.kind spot.entry)) }
 {
     let mut names = IndexSet::new(alloc);
-    add_names(alloc, &mut names, units, TableKind::Unit)?;
-    add_names(alloc, &mut names, modules, TableKind::Module)?;
-    add_names(alloc, &mut names, shared, TableKind::Shared)?;
+    add_declared(alloc, &mut names, units, modules, shared)
+}
+
+/// Adds the names of all tables to none so far.
+fn add_declared(
+    alloc: Global,
+    names: &mut IndexSet<Name>,
+    units: &[Unit],
+    modules: &[Module],
+    shared: &[Shared],
+) -> Result<(), TableFault>
+    requires none { names.old.keys ≡ [] }
+    requires distinct { IsDistinct (pointwise nat_eq) names.old.keys }
+    ensures ok { OnOk result (IsDeclaredOnce units.now modules.now shared.now) }
+    ensures refused { IfErr result (λ fault. fault ≢ TableFault.Memory → ¬ (IsDeclaredOnce units.now modules.now shared.now)) }
+    ensures told { IfErr result (λ fault. IsAmong is_of_cell fault × IsWrong EntryFault.Duplicate fault) }
+    ensures stands { IfErr result (Tells (λ spot _. HasNameTwice (record { units = units.now; modules = modules.now; shared = shared.now }) spot.kind spot.entry)) }
+{
+    add_names(alloc, names, units, TableKind::Unit)?;
+    add_names(alloc, names, modules, TableKind::Module)?;
+    add_names(alloc, names, shared, TableKind::Shared)?;
     Ok(())
 }
 

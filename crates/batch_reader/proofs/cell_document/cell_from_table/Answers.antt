@@ -1,11 +1,12 @@
 use Rattle.std.proofs.lemmas.Result.{err_from_is_err_and}
 use Rattle.toml.specs.View.{table_view}
 use Rattle.batch_reader.proofs.OneCell.{unsound_refused}
-use Rattle.std.proofs.Common.{codes, inl, refl}
-use Rattle.batch_reader.proofs.ArrayFaults.{at_told}
+use Rattle.std.proofs.Common.{codes, inl, inr, refl}
+use Rattle.batch_reader.proofs.ArrayFaults.{at_told, in_among, in_told, tells_weaker}
 use Rattle.batch_reader.specs.FaultStands.{IsWrongAt}
 use Rattle.batch_reader.proofs.EntryFaults.{name_told, table_told}
-use Rattle.batch_reader.specs.declared.fault.TableKind.TheVariants.{Cell}
+use Rattle.batch_reader.specs.declared.fault.TableKind.TheVariants.{Cell, Unit, Module, Shared}
+use Rattle.batch_reader.specs.Faults.{is_of_cell}
 use Rattle.batch_reader.proofs.cell_document.cell_from_table.Goals as goal
 
 pub returns-in_err-units-clause-refused : goal.returns-in_err-units-clause-refused
@@ -34,3 +35,49 @@ pub returns-in_err-name-clause-stands : goal.returns-in_err-name-clause-stands
 returns-in_err-name-clause-stands c =
     let p = err_from_is_err_and c.from_residual.result c.from_residual.ensures.1 in
     rw (p.1, p.2) (at_told _ _ (IsWrongAt _) (λ wrong h. inl (refl, h)) _ (table_told Cell (table_view c.args.table.now) 0 _ refl _ _ (name_told (codes "cell") (table_view c.args.table.now) _ _ c.in_err-name.ensures.refused c.in_err-name.ensures.told)))
+
+pub returns-in_err-units-clause-told : goal.returns-in_err-units-clause-told
+returns-in_err-units-clause-told c =
+    let p = err_from_is_err_and c.from_residual-in_err-units.result c.from_residual-in_err-units.ensures.1 in
+    rw (p.1, p.2) (in_among is_of_cell Unit _ refl _ c.in_err-units.ensures.told)
+
+pub returns-in_err-units-clause-stands : goal.returns-in_err-units-clause-stands
+returns-in_err-units-clause-stands c =
+    let p = err_from_is_err_and c.from_residual-in_err-units.result c.from_residual-in_err-units.ensures.1 in
+    rw (p.1, p.2) (in_told Unit _ (IsWrongAt (table_view c.args.table.now)) (λ entry wrong h. inl h) _ c.in_err-units.ensures.told)
+
+pub returns-in_err-modules-clause-told : goal.returns-in_err-modules-clause-told
+returns-in_err-modules-clause-told c =
+    let p = err_from_is_err_and c.from_residual-in_err-modules.result c.from_residual-in_err-modules.ensures.1 in
+    rw (p.1, p.2) (in_among is_of_cell Module _ refl _ c.in_err-modules.ensures.told)
+
+pub returns-in_err-modules-clause-stands : goal.returns-in_err-modules-clause-stands
+returns-in_err-modules-clause-stands c =
+    let p = err_from_is_err_and c.from_residual-in_err-modules.result c.from_residual-in_err-modules.ensures.1 in
+    rw (p.1, p.2) (in_told Module _ (IsWrongAt (table_view c.args.table.now)) (λ entry wrong h. inl h) _ c.in_err-modules.ensures.told)
+
+pub returns-in_err-shared-clause-told : goal.returns-in_err-shared-clause-told
+returns-in_err-shared-clause-told c =
+    let p = err_from_is_err_and c.from_residual-in_err-shared.result c.from_residual-in_err-shared.ensures.1 in
+    rw (p.1, p.2) (in_among is_of_cell Shared _ refl _ c.in_err-shared.ensures.told)
+
+pub returns-in_err-shared-clause-stands : goal.returns-in_err-shared-clause-stands
+returns-in_err-shared-clause-stands c =
+    let p = err_from_is_err_and c.from_residual-in_err-shared.result c.from_residual-in_err-shared.ensures.1 in
+    rw (p.1, p.2) (in_told Shared _ (IsWrongAt (table_view c.args.table.now)) (λ entry wrong h. inl h) _ c.in_err-shared.ensures.told)
+
+pub returns-in_err-names-clause-told : goal.returns-in_err-names-clause-told
+returns-in_err-names-clause-told c =
+    let p = err_from_is_err_and c.from_residual-in_err-names.result c.from_residual-in_err-names.ensures.1 in
+    rw (p.1, p.2) c.in_err-names.ensures.told
+
+pub returns-in_err-names-clause-stands : goal.returns-in_err-names-clause-stands
+returns-in_err-names-clause-stands c =
+    let p = err_from_is_err_and c.from_residual-in_err-names.result c.from_residual-in_err-names.ensures.1 in
+    rw (p.1, p.2) (tells_weaker _ (IsWrongAt (table_view c.args.table.now)) (λ spot wrong h. inr (inl (record {
+      equipment = record { units = c.in_ok-units.units.items; modules = c.in_ok-modules.modules.items; shared = c.in_ok-shared.shared.items };
+      units = c.in_ok-units.ensures.ok;
+      modules = c.in_ok-modules.ensures.ok;
+      shared = c.in_ok-shared.ensures.ok;
+      fault = h;
+    }))) _ (rw (c.deref.ensures.value, c.deref-2.ensures.value, c.deref-3.ensures.value) at c.in_err-names.ensures.stands))

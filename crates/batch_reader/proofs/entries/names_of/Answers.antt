@@ -1,4 +1,4 @@
-use Rattle.std.proofs.Common.{ℕ, List, get_or}
+use Rattle.std.proofs.Common.{ℕ, List, get_or, refl}
 use Rattle.std.proofs.lemmas.Result.{err_from_is_err_and}
 use Rattle.toml.specs.View.{view}
 use Rattle.batch_reader.proofs.Items.{AllItems_refused, AllItems-turn}
@@ -18,3 +18,18 @@ loop-value-preserved c =
     let here : IsNameItem (view (get_or c.args.values.now c.loop-value.value-index c.value-item.result)) c.in_ok-name.name = rw (← c.value-item.is) c.in_ok-name.ensures.ok in
     rw c.in_ok-push.ensures.items (AllItems-turn IsNameItem c.args.values.now c.loop-value.names.items c.loop-value.value-index c.value-item.result c.in_ok-name.name
     c.loop-value-test.true c.loop-value.invariant here)
+
+pub returns-in_err-name-clause-told : goal.returns-in_err-name-clause-told
+returns-in_err-name-clause-told c =
+    let p = err_from_is_err_and c.from_residual.result c.from_residual.ensures.1 in
+    rw (p.1, p.2) c.in_err-name.ensures.told
+
+pub returns-in_err-push-clause-refused : goal.returns-in_err-push-clause-refused
+returns-in_err-push-clause-refused c =
+    let p = err_from_is_err_and c.from_residual-in_err-push.result c.from_residual-in_err-push.ensures.1 in
+    rw (p.1, p.2) (λ known. absurd (known refl))
+
+pub returns-in_err-push-clause-told : goal.returns-in_err-push-clause-told
+returns-in_err-push-clause-told c =
+    let p = err_from_is_err_and c.from_residual-in_err-push.result c.from_residual-in_err-push.ensures.1 in
+    rw (p.1, p.2) tt

@@ -1,4 +1,9 @@
 use Rattle.std.proofs.lemmas.Result.{err_from_is_err_and}
+use Rattle.std.proofs.Common.{refl}
+use Rattle.batch_reader.proofs.ArrayFaults.{at_among, at_told}
+use Rattle.batch_reader.specs.Faults.{is_of_recipe}
+use Rattle.batch_reader.specs.TableFaults.{IsFaultOfTable}
+use Rattle.toml.specs.View.{table_view}
 use Rattle.batch_reader.proofs.recipe_document.acts_at.Goals as goal
 
 pub returns-in_err-procedure-clause-refused : goal.returns-in_err-procedure-clause-refused
@@ -6,17 +11,12 @@ returns-in_err-procedure-clause-refused c =
     let p = err_from_is_err_and c.from_residual.result c.from_residual.ensures.1 in
     rw (p.1, p.2) (λ known acts h. c.in_err-procedure.ensures.refused known acts.procedure h.procedure)
 
-pub returns-in_err-unit_procedures-clause-refused : goal.returns-in_err-unit_procedures-clause-refused
-returns-in_err-unit_procedures-clause-refused c =
-    let p = err_from_is_err_and c.from_residual-in_err-unit_procedures.result c.from_residual-in_err-unit_procedures.ensures.1 in
-    rw (p.1, p.2) (λ known acts h. c.in_err-unit_procedures.ensures.refused known acts.unit_procedures.items h.unit_procedures)
+pub returns-in_err-procedure-clause-told : goal.returns-in_err-procedure-clause-told
+returns-in_err-procedure-clause-told c =
+    let p = err_from_is_err_and c.from_residual.result c.from_residual.ensures.1 in
+    rw (p.1, p.2) (at_among is_of_recipe _ _ refl _ c.in_err-procedure.ensures.told)
 
-pub returns-in_err-operations-clause-refused : goal.returns-in_err-operations-clause-refused
-returns-in_err-operations-clause-refused c =
-    let p = err_from_is_err_and c.from_residual-in_err-operations.result c.from_residual-in_err-operations.ensures.1 in
-    rw (p.1, p.2) (λ known acts h. c.in_err-operations.ensures.refused known acts.operations.items h.operations)
-
-pub returns-in_err-phases-clause-refused : goal.returns-in_err-phases-clause-refused
-returns-in_err-phases-clause-refused c =
-    let p = err_from_is_err_and c.from_residual-in_err-phases.result c.from_residual-in_err-phases.ensures.1 in
-    rw (p.1, p.2) (λ known acts h. c.in_err-phases.ensures.refused known acts.phases.items h.phases)
+pub returns-in_err-procedure-clause-stands : goal.returns-in_err-procedure-clause-stands
+returns-in_err-procedure-clause-stands c =
+    let p = err_from_is_err_and c.from_residual.result c.from_residual.ensures.1 in
+    rw (p.1, p.2) (at_told _ _ (λ spot. IsFaultOfTable (table_view c.args.table.now) spot.kind spot.entry) (λ wrong h. (refl, h)) _ c.in_err-procedure.ensures.told)

@@ -1,8 +1,7 @@
-use Rattle.std.proofs.Common.{◌≡◌, codes, refl, rules}
+use Rattle.std.proofs.Common.{codes, refl}
 use Rattle.std.proofs.lemmas.Result.{err_from_is_err_and}
-use Rattle.batch_cell.specs.declared.shared.TheConstants.{MAX_CAPACITY}
 use Rattle.toml.specs.View.{table_view}
-use Rattle.batch_reader.proofs.EntryFaults.{name_told, number_told, table_told}
+use Rattle.batch_reader.proofs.EntryFaults.{name_told, table_told}
 use Rattle.batch_reader.specs.declared.fault.TableKind.TheVariants.{Shared}
 use Rattle.batch_reader.proofs.cell_tables.SharedFromTable.from_table.Goals as goal
 
@@ -14,5 +13,4 @@ returns-in_err-name-clause-told c =
 pub returns-in_err-capacity-clause-told : goal.returns-in_err-capacity-clause-told
 returns-in_err-capacity-clause-told c =
     let p = err_from_is_err_and c.from_residual-in_err-capacity.result c.from_residual-in_err-capacity.ensures.1 in
-    let most : c.from.result ≡ MAX_CAPACITY = search rules in
-    rw (p.1, p.2) (table_told Shared (table_view c.args.table.now) 1 _ refl _ _ (rw most at (number_told (codes "capacity") (table_view c.args.table.now) 1 c.from.result _ _ c.in_err-capacity.ensures.refused c.in_err-capacity.ensures.told)))
+    rw (p.1, p.2) (table_told Shared (table_view c.args.table.now) 1 _ refl _ _ c.in_err-capacity.ensures.told)

@@ -1,4 +1,4 @@
-use Rattle.std.proofs.Common.{codes, inr, refl}
+use Rattle.std.proofs.Common.{◌≡◌, arith, codes, inr, refl}
 use Rattle.std.proofs.lemmas.Result.{err_from_is_err_and}
 use Rattle.batch_recipe.specs.declared.scaling.TheConstants.{MAX_VALUE}
 use Rattle.toml.specs.View.{table_view}
@@ -41,3 +41,35 @@ pub returns-in_err-fixed-clause-told : goal.returns-in_err-fixed-clause-told
 returns-in_err-fixed-clause-told c =
     let p = err_from_is_err_and c.from_residual-in_err-fixed.result c.from_residual-in_err-fixed.ensures.1 in
     rw (p.1, p.2) (table_told Input (table_view c.args.table.now) 4 _ refl _ _ (truth_told (codes "fixed") (table_view c.args.table.now) _ _ c.in_err-fixed.ensures.refused c.in_err-fixed.ensures.told))
+
+pub returns-in_err-name-clause-refused : goal.returns-in_err-name-clause-refused
+returns-in_err-name-clause-refused c =
+    let p = err_from_is_err_and c.from_residual.result c.from_residual.ensures.1 in
+    rw (p.1, p.2) (λ known q h. c.in_err-name.ensures.refused known q.name h.name)
+
+pub returns-in_err-value-clause-refused : goal.returns-in_err-value-clause-refused
+returns-in_err-value-clause-refused c =
+    let p = err_from_is_err_and c.from_residual-in_err-value.result c.from_residual-in_err-value.ensures.1 in
+    rw (p.1, p.2) (λ known q h. c.in_err-value.ensures.refused q.value h.value)
+
+pub returns-in_err-min-clause-refused : goal.returns-in_err-min-clause-refused
+returns-in_err-min-clause-refused c =
+    let p = err_from_is_err_and c.from_residual-in_err-min.result c.from_residual-in_err-min.ensures.1 in
+    rw (p.1, p.2) (λ known q h. c.in_err-min.ensures.refused q.min h.least)
+
+pub returns-in_err-max-clause-refused : goal.returns-in_err-max-clause-refused
+returns-in_err-max-clause-refused c =
+    let p = err_from_is_err_and c.from_residual-in_err-max.result c.from_residual-in_err-max.ensures.1 in
+    rw (p.1, p.2) (λ known q h. c.in_err-max.ensures.refused q.max h.greatest)
+
+pub returns-in_err-fixed-clause-refused : goal.returns-in_err-fixed-clause-refused
+returns-in_err-fixed-clause-refused c =
+    let p = err_from_is_err_and c.from_residual-in_err-fixed.result c.from_residual-in_err-fixed.ensures.1 in
+    rw (p.1, p.2) (λ known q h. c.in_err-fixed.ensures.refused q.fixed h.fixed)
+
+pub returns-then-min-max-clause-refused : goal.returns-then-min-max-clause-refused
+returns-then-min-max-clause-refused c =
+    λ known q h.
+    let least : q.min ≡ c.in_ok-min.min = cc (h.least.integer, c.in_ok-min.ensures.ok.integer) in
+    let greatest : q.max ≡ c.in_ok-max.max = cc (h.greatest.integer, c.in_ok-max.ensures.ok.integer) in
+    omega (arith, least, greatest, h.ordered, c.if-min-max.true)

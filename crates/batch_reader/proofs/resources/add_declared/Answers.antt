@@ -8,12 +8,12 @@ use Rattle.batch_reader.proofs.PartsTold.{after_names, after_no_name, twice_told
 use Rattle.batch_reader.specs.PartFaults.{Equipment, HasNameTwice}
 use Rattle.batch_reader.specs.declared.fault.EntryFault.TheVariants.{Duplicate}
 use Rattle.batch_reader.specs.declared.fault.TableKind.TheVariants as table_kind
-use Rattle.batch_reader.proofs.resources.check_names.Goals as goal
+use Rattle.batch_reader.proofs.resources.add_declared.Goals as goal
 
 pub returns-in_err-add_names-clause-refused : goal.returns-in_err-add_names-clause-refused
 returns-in_err-add_names-clause-refused c =
     let p = err_from_is_err_and c.from_residual.result c.from_residual.ensures.1 in
-    rw (p.1, p.2) (λ known. declared_units_refused c.args.units.now c.args.modules.now c.args.shared.now c.new-names.result.keys c.new-names.ensures.empty (c.in_err-add_names.ensures.refused known))
+    rw (p.1, p.2) (λ known. declared_units_refused c.args.units.now c.args.modules.now c.args.shared.now c.args.names.now.keys c.requires.none (c.in_err-add_names.ensures.refused known))
 
 pub returns-in_err-add_names-2-clause-refused : goal.returns-in_err-add_names-2-clause-refused
 returns-in_err-add_names-2-clause-refused c =
@@ -25,7 +25,7 @@ pub returns-in_err-add_names-clause-stands : goal.returns-in_err-add_names-claus
 returns-in_err-add_names-clause-stands c =
     let p = err_from_is_err_and c.from_residual.result c.from_residual.ensures.1 in
     let e : Equipment = record { units = c.args.units.now; modules = c.args.modules.now; shared = c.args.shared.now } in
-    rw (p.1, p.2) (twice_told (λ (front : List Unit). c.new-names.result.keys ++ map (λ u. u.name) front) (λ front. declared_names front [] []) (after_no_name (λ (u : Unit). u.name) c.new-names.result.keys c.new-names.ensures.empty)
+    rw (p.1, p.2) (twice_told (λ (front : List Unit). c.args.names.now.keys ++ map (λ u. u.name) front) (λ front. declared_names front [] []) (after_no_name (λ (u : Unit). u.name) c.args.names.now.keys c.requires.none)
     c.args.units.now table_kind.Unit Duplicate (HasNameTwice e) (λ entry h. h) _ (λ spot wrong is_fault. c.in_err-add_names.ensures.first spot wrong (cc is_fault)) c.in_err-add_names.ensures.told)
 
 pub returns-in_err-add_names-2-clause-stands : goal.returns-in_err-add_names-2-clause-stands
