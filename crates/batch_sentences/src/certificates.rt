@@ -11,24 +11,35 @@ pub fn certificate_sentence(
     text: &[u8],
     fault: CertFault,
 ) -> Result<Sentence, AllocError> {
-    let said = match fault {
-        CertFault::NotARank(1) if is_toml(text) => String::from_str(
-            alloc,
-            "this looks like a document of a cell or a recipe, and the certificate is to stand here: CELL CERT RECIPE..",
-        )?,
-        CertFault::NotARank(line) => format!(in alloc;
-            "line {line} is no line `rank NAME NUMBER` with a number of 1 to {MAX_RANK}"
-        )?,
+    let said = fault_said(alloc, text, fault)?;
+    Sentence::at(alloc, path, said.as_str())
+}
+
+fn fault_said(alloc: Global, text: &[u8], fault: CertFault) -> Result<String, AllocError> {
+    match fault {
+        CertFault::NotARank(line) => no_rank_said(alloc, text, line),
         CertFault::NotInOrder(line) => format!(in alloc;
             "the name in line {line} comes before that of the line above it, by the order of bytes"
-        )?,
+        ),
         CertFault::TooManyLines => {
-            format!(in alloc; "a certificate has at most {MAX_LINES} lines")?
+            format!(in alloc; "a certificate has at most {MAX_LINES} lines")
         }
-        CertFault::Memory => String::from_str(alloc, "there is no memory to read it")?,
-    };
-    let said = format!(in alloc; "{path}: {said}")?;
-    Sentence::of(alloc, said.as_str())
+        CertFault::Memory => String::from_str(alloc, "there is no memory to read it"),
+    }
+}
+
+/// That this line ranks nothing.
+fn no_rank_said(alloc: Global, text: &[u8], line: usize) -> Result<String, AllocError> {
+    if line == 1 && is_toml(text) {
+        String::from_str(
+            alloc,
+            "this looks like a document of a cell or a recipe, and the certificate is to stand here: CELL CERT RECIPE..",
+        )
+    } else {
+        format!(in alloc;
+            "line {line} is no line `rank NAME NUMBER` with a number of 1 to {MAX_RANK}"
+        )
+    }
 }
 
 /// Whether the text begins as a document does.

@@ -44,23 +44,40 @@ pub(crate) fn undeclared_word<'a>(
     table: &'a Table,
     kind: TableKind,
 ) -> Option<&'a str> {
-    if kind == TableKind::Phase {
-        let values = table.get("values")?.as_array()?;
-        return values
-            .iter()
-            .filter_map(Value::as_str)
-            .find(|name| !is_value(document, name));
+    match kind {
+        TableKind::Phase => undeclared_value(document, table),
+        TableKind::Procedure => undeclared_part(document, table, "unit_procedure"),
+        TableKind::UnitProcedure => undeclared_part(document, table, "operation"),
+        _ => undeclared_part(document, table, "phase"),
     }
-    let below = match kind {
-        TableKind::Procedure => "unit_procedure",
-        TableKind::UnitProcedure => "operation",
-        _ => "phase",
-    };
+}
+
+/// The first of the table's values that isn't declared.
+fn undeclared_value<'a>(document: &Table, table: &'a Table) -> Option<&'a str> {
+    let values = table.get("values")?.as_array()?;
+    values
+        .iter()
+        .filter_map(Value::as_str)
+        .find(|name| !is_value(document, name))
+}
+
+/// The first word of the table's chart that names neither a table of the word below nor a value.
+fn undeclared_part<'a>(document: &Table, table: &'a Table, below: &str) -> Option<&'a str> {
     let chart = table.get("chart")?.as_str()?;
     chart
-        .split(|letter: char| !(letter.is_ascii_alphanumeric() || letter == '_' || letter == '-'))
-        .filter(|word| is_name(word.as_bytes()) && !is_chart_word(word.as_bytes()))
+        .split(is_between_names)
+        .filter(|word| is_reference(word))
         .find(|word| times_among(document, below, word) == 0 && !is_value(document, word))
+}
+
+/// Whether no name has this letter.
+fn is_between_names(letter: char) -> bool {
+    !(letter.is_ascii_alphanumeric() || letter == '_' || letter == '-')
+}
+
+/// Whether the word of a chart is a name.
+fn is_reference(word: &str) -> bool {
+    is_name(word.as_bytes()) && !is_chart_word(word.as_bytes())
 }
 
 fn is_value(document: &Table, name: &str) -> bool {

@@ -6,6 +6,7 @@ use crate::sentence::Sentence;
 use batch_reader::{DocFault, EntryFault, MAX_DOCUMENT_LEN, Spot};
 use std::alloc::{AllocError, Global};
 use toml::Table;
+use toml::de::Error;
 
 /// Which document is to stand at a path.
 #[derive(Clone, Copy, Debug, PartialEq, Eq)]
@@ -25,18 +26,28 @@ pub fn document_sentence(
     fault: DocFault,
 ) -> Result<Sentence, AllocError> {
     let said = match fault {
-        DocFault::NotToml => toml_said(alloc, bytes)?,
-        DocFault::Entry(spot, fault) => match parts_of(alloc, bytes) {
-            Some((text, document)) => match exchanged(asked, &document) {
-                Some(said) => String::from_str(alloc, said)?,
-                None => entry_said(alloc, text, &document, spot, fault)?,
-            },
-            None => format!(in alloc; "it is longer than {MAX_DOCUMENT_LEN} bytes")?,
-        },
-        DocFault::Memory => String::from_str(alloc, "there is no memory to read it")?,
+        DocFault::NotToml => toml_said(alloc, bytes),
+        DocFault::Entry(spot, fault) => refused_said(alloc, asked, bytes, spot, fault),
+        DocFault::Memory => String::from_str(alloc, "there is no memory to read it"),
     };
-    let said = format!(in alloc; "{path}: {said}")?;
-    Sentence::of(alloc, said.as_str())
+    Sentence::at(alloc, path, said?.as_str())
+}
+
+/// What is wrong with bytes that are TOML and no such document.
+fn refused_said(
+    alloc: Global,
+    asked: Asked,
+    bytes: &[u8],
+    spot: Spot,
+    fault: EntryFault,
+) -> Result<String, AllocError> {
+    match parts_of(alloc, bytes) {
+        Some((text, document)) => match exchanged(asked, &document) {
+            Some(said) => String::from_str(alloc, said),
+            None => entry_said(alloc, text, &document, spot, fault),
+        },
+        None => format!(in alloc; "it is longer than {MAX_DOCUMENT_LEN} bytes"),
+    }
 }
 
 /// Why the bytes are no TOML.
@@ -49,16 +60,23 @@ fn toml_said(alloc: Global, bytes: &[u8]) -> Result<String, AllocError> {
     }
     match toml::table_from_slice(alloc, bytes) {
         Ok(_) => String::from_str(alloc, "it is no TOML"),
-        Err(error) => {
-            let told = format!(in alloc; "{error}")?;
-            let mut said = String::from_str(alloc, "it is no TOML")?;
-            for line in told.lines() {
-                said.push_str(": ")?;
-                said.push_str(line)?;
-            }
-            Ok(said)
-        }
+        Err(error) => error_said(alloc, &error),
     }
+}
+
+fn error_said(alloc: Global, error: &Error) -> Result<String, AllocError> {
+    let told = format!(in alloc; "{error}")?;
+    lines_said(alloc, told.as_str())
+}
+
+/// What TOML tells, in one line.
+fn lines_said(alloc: Global, told: &str) -> Result<String, AllocError> {
+    let mut said = String::from_str(alloc, "it is no TOML")?;
+    for line in told.lines() {
+        said.push_str(": ")?;
+        said.push_str(line)?;
+    }
+    Ok(said)
 }
 
 /// The text of a document, and what TOML reads in it. None of one that is too long.
@@ -93,9 +111,18 @@ fn entry_said(
 ) -> Result<String, AllocError> {
     let wrong = wrong_at(alloc, document, spot, fault)?;
     let tables = tables_of(document, spot.kind);
-    let line = line_of(text, spot, tables, wrong.key.as_str());
+    let line = line_of(text, spot, tables, wrong.key);
+    wrong_said(alloc, spot, line, wrong.what.as_str())
+}
+
+/// What is wrong in the table at the spot, and in which line.
+fn wrong_said(
+    alloc: Global,
+    spot: Spot,
+    line: Option<usize>,
+    what: &str,
+) -> Result<String, AllocError> {
     let table = table_said(alloc, spot)?;
-    let what = wrong.what;
     match line {
         Some(line) => format!(in alloc; "line {line}, {table}: {what}"),
         None => format!(in alloc; "{table}: {what}"),

@@ -9,21 +9,18 @@ use toml::{Table, Value};
 
 /// What is wrong with a table, and under which key, which is empty where that can't be told.
 #[derive(Drop)]
-pub(crate) struct Wrong {
-    pub(crate) key: String,
+pub(crate) struct Wrong<'a> {
+    pub(crate) key: &'a str,
     pub(crate) what: String,
 }
 
-impl Wrong {
-    fn told(alloc: Global, key: &str, what: &str) -> Result<Wrong, AllocError> {
-        Wrong::with(alloc, key, String::from_str(alloc, what)?)
+impl<'a> Wrong<'a> {
+    fn told(alloc: Global, key: &'a str, what: &str) -> Result<Wrong<'a>, AllocError> {
+        Wrong::with(key, String::from_str(alloc, what))
     }
 
-    fn with(alloc: Global, key: &str, what: String) -> Result<Wrong, AllocError> {
-        Ok(Wrong {
-            key: String::from_str(alloc, key)?,
-            what,
-        })
+    fn with(key: &'a str, what: Result<String, AllocError>) -> Result<Wrong<'a>, AllocError> {
+        Ok(Wrong { key, what: what? })
     }
 }
 
@@ -43,20 +40,20 @@ pub(crate) fn tables_of(document: &Table, kind: TableKind) -> usize {
 fn entry_at(document: &Table, spot: Spot) -> Option<&Table> {
     match word_of(spot.kind) {
         None => Some(document),
-        Some(word) => match document.get(word)?.as_array() {
-            Some(tables) => tables.get(spot.entry)?.as_table(),
-            None => document.get(word)?.as_table(),
+        Some(word) => match document.get(word)? {
+            Value::Array(tables) => tables.get(spot.entry)?.as_table(),
+            value => value.as_table(),
         },
     }
 }
 
 /// What the fault of the table at the spot is.
-pub(crate) fn wrong_at(
+pub(crate) fn wrong_at<'a>(
     alloc: Global,
-    document: &Table,
+    document: &'a Table,
     spot: Spot,
     fault: EntryFault,
-) -> Result<Wrong, AllocError> {
+) -> Result<Wrong<'a>, AllocError> {
     let keys = keys_of(spot.kind);
     let Some(table) = entry_at(document, spot) else {
         return Wrong::told(
@@ -76,68 +73,63 @@ pub(crate) fn wrong_at(
     }
 }
 
-fn missing(alloc: Global, keys: &[Key], table: &Table) -> Result<Wrong, AllocError> {
+fn missing(alloc: Global, keys: &[Key], table: &Table) -> Result<Wrong<'static>, AllocError> {
     match keys.iter().find(|key| key.1 && !table.contains_key(key.0)) {
-        Some(key) => Wrong::with(
-            alloc,
-            "",
-            format!(in alloc; "the key `{}` is missing", key.0)?,
-        ),
+        Some(key) => Wrong::with("", format!(in alloc; "the key `{}` is missing", key.0)),
         // A module with a unit needs its phases.
         None => Wrong::told(alloc, "", "the key `phases` is missing"),
     }
 }
 
-fn unknown(alloc: Global, keys: &[Key], table: &Table) -> Result<Wrong, AllocError> {
-    let mut known = String::new(alloc);
-    for key in keys {
-        if !known.is_empty() {
-            known.push_str(", ")?;
-        }
-        known.push_str(key.0)?;
-    }
+fn unknown<'a>(alloc: Global, keys: &[Key], table: &'a Table) -> Result<Wrong<'a>, AllocError> {
+    let known = names_said(alloc, keys)?;
     let name = table
         .keys()
         .find(|name| !keys.iter().any(|key| key.0 == name.as_str()));
     match name {
-        Some(name) => {
-            let what = format!(in alloc; "the key `{name}` is unknown here; known are {known}")?;
-            Wrong::with(alloc, name.as_str(), what)
-        }
+        Some(name) => Wrong::with(
+            name.as_str(),
+            format!(in alloc; "the key `{name}` is unknown here; known are {known}"),
+        ),
         // The keys of a module don't stand alone.
         None => Wrong::told(alloc, "phases", "a module without `unit` has no `phases`"),
     }
 }
 
-fn wrong_kind(alloc: Global, keys: &[Key], table: &Table) -> Result<Wrong, AllocError> {
+/// The names of the keys.
+fn names_said(alloc: Global, keys: &[Key]) -> Result<String, AllocError> {
+    let mut names = String::new(alloc);
+    for key in keys {
+        if !names.is_empty() {
+            names.push_str(", ")?;
+        }
+        names.push_str(key.0)?;
+    }
+    Ok(names)
+}
+
+fn wrong_kind(alloc: Global, keys: &[Key], table: &Table) -> Result<Wrong<'static>, AllocError> {
     match first_unfit(keys, table, Fit::WrongKind) {
-        Some(key) => Wrong::with(
-            alloc,
-            key.0,
-            format!(in alloc; "`{}` has to be {}", key.0, shape_said(alloc, key.2)?)?,
-        ),
+        Some(key) => unfit(alloc, key, "has to be"),
         None => match name_of(table) {
             Some(name) if is_chart_word(name.as_bytes()) => Wrong::with(
-                alloc,
                 "name",
-                format!(in alloc; "the name `{name}` is a word of charts")?,
+                format!(in alloc; "the name `{name}` is a word of charts"),
             ),
             _ => Wrong::told(alloc, "", "a value is of another kind than its key has"),
         },
     }
 }
 
-fn out_of_limit(alloc: Global, keys: &[Key], table: &Table) -> Result<Wrong, AllocError> {
+/// That the value of the key is to be another.
+fn unfit(alloc: Global, key: &Key, front: &str) -> Result<Wrong<'static>, AllocError> {
+    let shape = shape_said(alloc, key.2)?;
+    Wrong::with(key.0, format!(in alloc; "`{}` {front} {shape}", key.0))
+}
+
+fn out_of_limit(alloc: Global, keys: &[Key], table: &Table) -> Result<Wrong<'static>, AllocError> {
     if let Some(key) = first_unfit(keys, table, Fit::OutOfLimit) {
-        return Wrong::with(
-            alloc,
-            key.0,
-            format!(in alloc;
-                "`{}` is out of its limits: it has to be {}",
-                key.0,
-                shape_said(alloc, key.2)?
-            )?,
-        );
+        return unfit(alloc, key, "is out of its limits: it has to be");
     }
     let least = table.get("min").and_then(Value::as_integer);
     let most = table.get("max").and_then(Value::as_integer);
@@ -158,50 +150,39 @@ fn undeclared(
     document: &Table,
     table: &Table,
     kind: TableKind,
-) -> Result<Wrong, AllocError> {
-    if kind == TableKind::Module {
-        let unit = table.get("unit").and_then(Value::as_str).unwrap_or("");
-        return Wrong::with(
-            alloc,
-            "unit",
-            format!(in alloc; "no [[unit]] is named `{unit}`")?,
-        );
-    }
-    let key = if kind == TableKind::Phase {
-        "values"
-    } else {
-        "chart"
+) -> Result<Wrong<'static>, AllocError> {
+    let key = match kind {
+        TableKind::Module => {
+            let unit = table.get("unit").and_then(Value::as_str).unwrap_or("");
+            return Wrong::with("unit", format!(in alloc; "no [[unit]] is named `{unit}`"));
+        }
+        TableKind::Phase => "values",
+        _ => "chart",
     };
     match undeclared_word(document, table, kind) {
-        Some(word) => Wrong::with(
-            alloc,
-            key,
-            format!(in alloc; "`{word}` is declared nowhere")?,
-        ),
+        Some(word) => Wrong::with(key, format!(in alloc; "`{word}` is declared nowhere")),
         None => Wrong::told(alloc, key, "a label or a name is declared nowhere"),
     }
 }
 
-fn duplicate(alloc: Global, document: &Table, table: &Table) -> Result<Wrong, AllocError> {
+fn duplicate(alloc: Global, document: &Table, table: &Table) -> Result<Wrong<'static>, AllocError> {
     match name_of(table) {
         Some(name) if times_declared(document, name) > 1 => Wrong::with(
-            alloc,
             "name",
-            format!(in alloc; "the name `{name}` is declared twice")?,
+            format!(in alloc; "the name `{name}` is declared twice"),
         ),
         _ => Wrong::told(alloc, "phases", "a phase is offered twice by one unit"),
     }
 }
 
-fn no_chart(alloc: Global, table: &Table, byte: usize) -> Result<Wrong, AllocError> {
+fn no_chart(alloc: Global, table: &Table, byte: usize) -> Result<Wrong<'static>, AllocError> {
     let rest = match chart_of(table) {
         Some(chart) => rest_said(alloc, chart, byte)?,
         None => String::new(alloc),
     };
     Wrong::with(
-        alloc,
         "chart",
-        format!(in alloc; "`chart` is no chart from byte {byte} on{rest}")?,
+        format!(in alloc; "`chart` is no chart from byte {byte} on{rest}"),
     )
 }
 

@@ -5,7 +5,7 @@ use std::alloc::{AllocError, Global};
 use toml::Value;
 
 /// How a value suits its key.
-#[derive(Clone, Copy, Debug, PartialEq, Eq)]
+#[derive(Clone, Copy, PartialEq)]
 pub(crate) enum Fit {
     Good,
     WrongKind,

@@ -2,7 +2,7 @@
 use batch_reader::{MAX_CHART_LEN, TableKind};
 
 /// What a key's value is to be.
-#[derive(Clone, Copy, Debug, PartialEq, Eq)]
+#[derive(Clone, Copy)]
 pub(crate) enum Shape {
     Name,
     /// A text of at most so many bytes.
@@ -19,7 +19,7 @@ pub(crate) enum Shape {
 }
 
 /// A key of a table: its name, whether the table needs it, and what its value is to be.
-#[derive(Clone, Copy, Debug, PartialEq, Eq)]
+#[derive(Clone, Copy)]
 pub(crate) struct Key(pub(crate) &'static str, pub(crate) bool, pub(crate) Shape);
 
 const NAME: Key = Key("name", true, Shape::Name);

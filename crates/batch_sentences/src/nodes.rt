@@ -12,6 +12,26 @@ struct Way<'a> {
     place: String,
 }
 
+impl<'a> Way<'a> {
+    /// Goes one deeper, to the branch of this number.
+    fn go_to(
+        &mut self,
+        alloc: Global,
+        recipe: &'a Recipe,
+        depth: u16,
+        number: u16,
+    ) -> Result<(), AllocError> {
+        if depth > 0 {
+            self.place.push_str(".")?;
+        }
+        write!(self.place, "{number}")?;
+        if let Some(act) = act_of(alloc, recipe, self.place.as_str()) {
+            self.acts.push(act)?;
+        }
+        Ok(())
+    }
+}
+
 /// Which rule is broken at the node, by what.
 pub(crate) fn broken_said(
     alloc: Global,
@@ -22,42 +42,62 @@ pub(crate) fn broken_said(
 ) -> Result<String, AllocError> {
     let way = way_to(alloc, recipe, broken.node)?;
     let name = &recipe.acts.procedure.name;
-    let place = &way.place;
-    let Some(act) = way.acts.last() else {
-        return format!(in alloc; "{name} breaks a rule at {place}");
-    };
-    let said = match broken.rule {
-        Rule::UnknownResource => unknown_said(alloc, cell, act)?,
-        Rule::ShareAboveCapacity => share_said(alloc, cell, act)?,
-        Rule::PhaseNotOffered => phase_said(alloc, &way.acts, act)?,
+    let place = way.place.as_str();
+    match way.acts.last() {
+        Some(act) => {
+            let said = rule_said(alloc, cell, certificate, broken.rule, &way.acts, act);
+            node_said(alloc, name, &act.name, place, said)
+        }
+        None => format!(in alloc; "{name} breaks a rule at {place}"),
+    }
+}
+
+/// What is said of the act of this name, at its place in the procedure.
+fn node_said(
+    alloc: Global,
+    procedure: &Name,
+    act: &Name,
+    place: &str,
+    said: Result<String, AllocError>,
+) -> Result<String, AllocError> {
+    let said = said?;
+    format!(in alloc; "{procedure}, {act} at {place}: {said}")
+}
+
+/// What of the act breaks the rule, which is the last on its way.
+fn rule_said(
+    alloc: Global,
+    cell: &Cell,
+    certificate: Option<&Certificate>,
+    rule: Rule,
+    acts: &[&Act],
+    act: &Act,
+) -> Result<String, AllocError> {
+    match rule {
+        Rule::UnknownResource => unknown_said(alloc, cell, act),
+        Rule::ShareAboveCapacity => share_said(alloc, cell, act),
+        Rule::PhaseNotOffered => phase_said(alloc, acts, act),
         Rule::SamePhaseInParallel => {
-            String::from_str(alloc, "two branches of this `par` run the same phase")?
+            String::from_str(alloc, "two branches of this `par` run the same phase")
         }
-        Rule::LoopWithoutPhase => {
-            String::from_str(alloc, "a turn of this `loop` may run no phase")?
-        }
-        Rule::RankNotRising => rank_said(alloc, certificate, &way.acts, act)?,
-    };
-    format!(in alloc; "{name}, {} at {place}: {said}", act.name)
+        Rule::LoopWithoutPhase => String::from_str(alloc, "a turn of this `loop` may run no phase"),
+        Rule::RankNotRising => rank_said(alloc, certificate, acts, act),
+    }
 }
 
 /// Follows the place of the node down from the root.
 fn way_to<'a>(alloc: Global, recipe: &'a Recipe, node: u16) -> Result<Way<'a>, AllocError> {
-    let mut acts = Vec::new(alloc);
-    let mut place = String::new(alloc);
+    let mut way = Way {
+        acts: Vec::new(alloc),
+        place: String::new(alloc),
+    };
     for depth in 0..MAX_NODES {
-        let Some(number) = place_at(recipe, node, depth) else {
-            break;
-        };
-        if depth > 0 {
-            place.push_str(".")?;
-        }
-        write!(place, "{number}")?;
-        if let Some(act) = act_of(alloc, recipe, place.as_str()) {
-            acts.push(act)?;
+        match place_at(recipe, node, depth) {
+            Some(number) => way.go_to(alloc, recipe, depth, number)?,
+            None => break,
         }
     }
-    Ok(Way { acts, place })
+    Ok(way)
 }
 
 /// The act at the place, where an act stands there.
@@ -126,6 +166,42 @@ struct Asked<'a> {
     rank: u32,
 }
 
+/// The ranks of what acts ask for, one behind the other.
+#[derive(Drop)]
+enum Ranks<'a> {
+    /// They rise, up to this one.
+    Rise(Option<Asked<'a>>),
+    /// The second of these is the first that isn't above the one before it.
+    Fall(Asked<'a>, Asked<'a>),
+}
+
+impl<'a> Ranks<'a> {
+    /// The ranks with that of one more name.
+    fn then(self, certificate: Option<&Certificate>, name: &'a Name) -> Ranks<'a> {
+        let later = Asked {
+            name,
+            rank: rank_of(certificate, name),
+        };
+        match self {
+            Ranks::Rise(Some(earlier)) if later.rank <= earlier.rank => Ranks::Fall(earlier, later),
+            Ranks::Rise(_) => Ranks::Rise(Some(later)),
+            Ranks::Fall(earlier, fallen) => Ranks::Fall(earlier, fallen),
+        }
+    }
+
+    /// The ranks with those of what the act asks for, in order.
+    fn then_those_of(self, certificate: Option<&Certificate>, act: &'a Act) -> Ranks<'a> {
+        let mut ranks = match &act.unit {
+            Some(unit) => self.then(certificate, unit),
+            None => self,
+        };
+        for need in &act.needs {
+            ranks = ranks.then(certificate, &need.resource);
+        }
+        ranks
+    }
+}
+
 /// Names the first of the act's needs whose rank isn't above that of what was asked for before it.
 fn rank_said(
     alloc: Global,
@@ -133,34 +209,24 @@ fn rank_said(
     acts: &[&Act],
     act: &Act,
 ) -> Result<String, AllocError> {
-    let mut before: Option<Asked<'_>> = None;
+    let mut ranks = Ranks::Rise(None);
     for above in acts {
-        for name in names_asked(alloc, above)? {
-            let rank = rank_of(certificate, name);
-            match before {
-                Some(earlier) if rank <= earlier.rank => {
-                    return format!(in alloc;
-                        "it asks for {name} of rank {rank} after {} of rank {}, and ranks have to rise",
-                        earlier.name, earlier.rank
-                    );
-                }
-                _ => before = Some(Asked { name, rank }),
-            }
-        }
+        ranks = ranks.then_those_of(certificate, above);
     }
-    format!(in alloc; "{} asks for resources whose ranks don't rise", act.name)
+    match ranks {
+        Ranks::Fall(earlier, later) => fall_said(alloc, earlier, later),
+        Ranks::Rise(_) => format!(in alloc;
+            "{} asks for resources whose ranks don't rise",
+            act.name
+        ),
+    }
 }
 
-/// The resources that the act asks for, in order.
-fn names_asked<'a>(alloc: Global, act: &'a Act) -> Result<Vec<&'a Name>, AllocError> {
-    let mut names = Vec::new(alloc);
-    if let Some(unit) = &act.unit {
-        names.push(unit)?;
-    }
-    for need in &act.needs {
-        names.push(&need.resource)?;
-    }
-    Ok(names)
+fn fall_said(alloc: Global, earlier: Asked<'_>, later: Asked<'_>) -> Result<String, AllocError> {
+    format!(in alloc;
+        "it asks for {} of rank {} after {} of rank {}, and ranks have to rise",
+        later.name, later.rank, earlier.name, earlier.rank
+    )
 }
 
 fn rank_of(certificate: Option<&Certificate>, name: &Name) -> u32 {

@@ -21,4 +21,10 @@ impl Sentence {
         let text = shown(alloc, text)?;
         Ok(Sentence { text })
     }
+
+    /// What is said of the document at this path.
+    pub(crate) fn at(alloc: Global, path: &str, said: &str) -> Result<Sentence, AllocError> {
+        let told = format!(in alloc; "{path}: {said}")?;
+        Sentence::of(alloc, told.as_str())
+    }
 }

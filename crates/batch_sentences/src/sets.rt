@@ -8,7 +8,7 @@ use crate::sentence::Sentence;
 use batch_cell::Cell;
 use batch_check::{CheckFault, Edge};
 use batch_recipe::Recipe;
-use batch_verify::{Certificate, Refusal};
+use batch_verify::{Broken, Certificate, Refusal};
 use std::alloc::{AllocError, Global};
 
 const TWO_OF_A_NAME: &str = "two of the recipes have one name, or there are more than 256";
@@ -24,32 +24,61 @@ pub fn refusal_sentence(
     refusal: Refusal,
 ) -> Result<Sentence, AllocError> {
     let said = match refusal {
-        Refusal::Unranked(resource) => {
-            let name = resource_name(cell, resource);
-            format!(in alloc;
-                "the certificate has no line for {name}, a resource of the cell {}",
-                cell.name
-            )?
+        Refusal::Unranked(resource) => unranked_said(alloc, cell, resource),
+        Refusal::RankedTwice(entry) => ranked_twice_said(alloc, certificate, entry),
+        Refusal::UnknownEntry(entry) => unknown_entry_said(alloc, cell, certificate, entry),
+        Refusal::Recipe { recipe, broken } => {
+            recipe_said(alloc, cell, recipes, recipe, Some(certificate), broken)
         }
-        Refusal::RankedTwice(entry) => {
-            let name = entry_name(certificate, entry);
-            format!(in alloc; "the certificate has two lines for {name}")?
-        }
-        Refusal::UnknownEntry(entry) => {
-            let name = entry_name(certificate, entry);
-            format!(in alloc;
-                "the certificate ranks {name}, which is no resource of the cell {}; it may be that of another cell",
-                cell.name
-            )?
-        }
-        Refusal::Recipe { recipe, broken } => match recipes.get(usize::from(recipe)) {
-            Some(recipe) => broken_said(alloc, cell, recipe, Some(certificate), broken)?,
-            None => String::new(alloc),
-        },
-        Refusal::Memory => String::from_str(alloc, NO_MEMORY)?,
-        Refusal::Recipes => String::from_str(alloc, TWO_OF_A_NAME)?,
+        Refusal::Memory => String::from_str(alloc, NO_MEMORY),
+        Refusal::Recipes => String::from_str(alloc, TWO_OF_A_NAME),
     };
-    Sentence::of(alloc, said.as_str())
+    Sentence::of(alloc, said?.as_str())
+}
+
+fn unranked_said(alloc: Global, cell: &Cell, resource: u16) -> Result<String, AllocError> {
+    let name = resource_name(cell, resource);
+    format!(in alloc;
+        "the certificate has no line for {name}, a resource of the cell {}",
+        cell.name
+    )
+}
+
+fn ranked_twice_said(
+    alloc: Global,
+    certificate: &Certificate,
+    entry: usize,
+) -> Result<String, AllocError> {
+    let name = entry_name(certificate, entry);
+    format!(in alloc; "the certificate has two lines for {name}")
+}
+
+fn unknown_entry_said(
+    alloc: Global,
+    cell: &Cell,
+    certificate: &Certificate,
+    entry: usize,
+) -> Result<String, AllocError> {
+    let name = entry_name(certificate, entry);
+    format!(in alloc;
+        "the certificate ranks {name}, which is no resource of the cell {}; it may be that of another cell",
+        cell.name
+    )
+}
+
+/// Which rule the recipe of this number breaks.
+fn recipe_said(
+    alloc: Global,
+    cell: &Cell,
+    recipes: &[Recipe],
+    recipe: u16,
+    certificate: Option<&Certificate>,
+    broken: Broken,
+) -> Result<String, AllocError> {
+    match recipes.get(usize::from(recipe)) {
+        Some(recipe) => broken_said(alloc, cell, recipe, certificate, broken),
+        None => Ok(String::new(alloc)),
+    }
 }
 
 /// What it means that the recipes have no certificate.
@@ -62,15 +91,14 @@ pub fn fault_sentence(
     ensures { IfOk result (λ sentence. SaysCircle cell.now recipes.now fault.now (string_bytes sentence.text)) }
 {
     let said = match fault {
-        CheckFault::Recipe { recipe, broken } => match recipes.get(usize::from(*recipe)) {
-            Some(recipe) => broken_said(alloc, cell, recipe, None, *broken)?,
-            None => String::new(alloc),
-        },
-        CheckFault::Recipes => String::from_str(alloc, TWO_OF_A_NAME)?,
-        CheckFault::Circle(edges) => circle_said(alloc, cell, recipes, edges)?,
-        CheckFault::Memory => String::from_str(alloc, NO_MEMORY)?,
+        CheckFault::Recipe { recipe, broken } => {
+            recipe_said(alloc, cell, recipes, *recipe, None, *broken)
+        }
+        CheckFault::Recipes => String::from_str(alloc, TWO_OF_A_NAME),
+        CheckFault::Circle(edges) => circle_said(alloc, cell, recipes, edges),
+        CheckFault::Memory => String::from_str(alloc, NO_MEMORY),
     };
-    Sentence::of(alloc, said.as_str())
+    Sentence::of(alloc, said?.as_str())
 }
 
 fn circle_said(
