@@ -1,7 +1,7 @@
 //! Driving the paint plant.
-use crate::paint_plant::{PAINT, PRIMER, RINSE, TOPCOAT, VARNISH};
 use crate::drivers::Random;
 use crate::judge::first_unsafe;
+use crate::paint_plant::{PAINT, PRIMER, RINSE, TOPCOAT, VARNISH};
 use crate::simulator::steady;
 use crate::stage::Stage;
 use batch_sim::UnitDriver;

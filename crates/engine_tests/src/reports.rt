@@ -1,6 +1,6 @@
 //! Driving units of the demo cell that report what they shouldn't, or nothing. A phase of R1 runs at first.
-use crate::drivers::Answer;
 use crate::driven::assert_scripted;
+use crate::drivers::Answer;
 use batch_matrix::Report;
 use std::test::Fail;
 

@@ -1,6 +1,6 @@
 //! Driving to a writer that fails.
-use crate::ends::Narrow;
 use crate::driven::{START, steady_stage};
+use crate::ends::Narrow;
 use batch_drive::DriveFault;
 use std::alloc::Global;
 use std::test::Fail;
