@@ -110,7 +110,7 @@ fn top_at(alloc: Global, table: &Table) -> Result<Top, TableFault>
 /// What the tables of a recipe stand for.
 #[derive(Drop)]
 struct Parts {
-    values: Values,
+    values: ValueTables,
     acts: Acts,
 }
 
@@ -141,14 +141,14 @@ fn parts_at(alloc: Global, table: &Table, name: Name) -> Result<Parts, TableFaul
 
 /// The inputs, parameters and outputs of a recipe.
 #[derive(Drop)]
-struct Values {
+struct ValueTables {
     inputs: Vec<Quantity>,
     parameters: Vec<Quantity>,
     outputs: Vec<Name>,
 }
 
 /// The inputs, parameters and outputs, each as its table says.
-fn values_at(alloc: Global, table: &Table) -> Result<Values, TableFault>
+fn values_at(alloc: Global, table: &Table) -> Result<ValueTables, TableFault>
     ensures inputs { IfOk result (λ values. HasTables IsQuantityTable (codes "input") (table_view table.now) values.inputs.items) }
     ensures parameters { IfOk result (λ values. HasTables IsQuantityTable (codes "parameter") (table_view table.now) values.parameters.items) }
     ensures outputs { IfOk result (λ values. HasTables IsOutputTable (codes "output") (table_view table.now) values.outputs.items) }
@@ -160,7 +160,7 @@ fn values_at(alloc: Global, table: &Table) -> Result<Values, TableFault>
     let inputs = tables_at::<Quantity>(alloc, table, "input", TableKind::Input)?;
     let parameters = tables_at::<Quantity>(alloc, table, "parameter", TableKind::Parameter)?;
     let outputs = tables_at::<Name>(alloc, table, "output", TableKind::Output)?;
-    Ok(Values {
+    Ok(ValueTables {
         inputs,
         parameters,
         outputs,

@@ -8,59 +8,32 @@ use batch_reader::{Spot, TableKind};
 /// Tables are looked for by their headers, each in a line of its own. None where these aren't as many as the document has
 /// tables of the kind, and for the top of a document.
 pub(crate) fn line_of(text: &str, spot: Spot, tables: usize, key: &str) -> Option<usize> {
-    if word_of(spot.kind).is_some() && headers_of(text, spot.kind) != tables {
+    let headers = text
+        .lines()
+        .filter(|line| is_header(line, spot.kind))
+        .count();
+    if word_of(spot.kind).is_some() && headers != tables {
         return None;
     }
-    let mut search = Search::of(spot);
+    let mut seen: usize = 0;
+    let mut header = None;
+    let mut is_inside = word_of(spot.kind).is_none();
     for (number, line) in text.lines().enumerate() {
         let line = line.trim();
         if line.starts_with('[') {
-            search.begin(line, number);
-        } else if search.is_inside && has_key(line, key) {
+            is_inside = false;
+            if is_header(line, spot.kind) {
+                is_inside = seen == spot.entry;
+                seen = seen.saturating_add(1);
+            }
+            if is_inside {
+                header = Some(number.saturating_add(1));
+            }
+        } else if is_inside && has_key(line, key) {
             return Some(number.saturating_add(1));
         }
     }
-    search.header
-}
-
-/// How many lines are headers of tables of this kind.
-fn headers_of(text: &str, kind: TableKind) -> usize {
-    text.lines().filter(|line| is_header(line, kind)).count()
-}
-
-/// A search for the table at a spot, line by line.
-#[derive(Drop)]
-struct Search {
-    spot: Spot,
-    /// How many tables of the kind began.
-    seen: usize,
-    /// The line of the table's header, counted from 1.
-    header: Option<usize>,
-    /// Whether the lines here are the table's.
-    is_inside: bool,
-}
-
-impl Search {
-    fn of(spot: Spot) -> Search {
-        Search {
-            spot,
-            seen: 0,
-            header: None,
-            is_inside: word_of(spot.kind).is_none(),
-        }
-    }
-
-    /// Goes past the line of this number, in which a table begins.
-    fn begin(&mut self, line: &str, number: usize) {
-        self.is_inside = false;
-        if is_header(line, self.spot.kind) {
-            self.is_inside = self.seen == self.spot.entry;
-            self.seen = self.seen.saturating_add(1);
-        }
-        if self.is_inside {
-            self.header = Some(number.saturating_add(1));
-        }
-    }
+    header
 }
 
 /// Whether the line is the header of a table of this kind.

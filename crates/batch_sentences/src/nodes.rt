@@ -12,26 +12,6 @@ struct Way<'a> {
     place: String,
 }
 
-impl<'a> Way<'a> {
-    /// Goes one deeper, to the branch of this number.
-    fn go_to(
-        &mut self,
-        alloc: Global,
-        recipe: &'a Recipe,
-        depth: u16,
-        number: u16,
-    ) -> Result<(), AllocError> {
-        if depth > 0 {
-            self.place.push_str(".")?;
-        }
-        write!(self.place, "{number}")?;
-        if let Some(act) = act_of(alloc, recipe, self.place.as_str()) {
-            self.acts.push(act)?;
-        }
-        Ok(())
-    }
-}
-
 /// Which rule is broken at the node, by what.
 pub(crate) fn broken_said(
     alloc: Global,
@@ -87,17 +67,21 @@ fn rule_said(
 
 /// Follows the place of the node down from the root.
 fn way_to<'a>(alloc: Global, recipe: &'a Recipe, node: u16) -> Result<Way<'a>, AllocError> {
-    let mut way = Way {
-        acts: Vec::new(alloc),
-        place: String::new(alloc),
-    };
+    let mut acts = Vec::new(alloc);
+    let mut place = String::new(alloc);
     for depth in 0..MAX_NODES {
-        match place_at(recipe, node, depth) {
-            Some(number) => way.go_to(alloc, recipe, depth, number)?,
-            None => break,
+        let Some(number) = place_at(recipe, node, depth) else {
+            break;
+        };
+        if depth > 0 {
+            place.push_str(".")?;
+        }
+        write!(place, "{number}")?;
+        if let Some(act) = act_of(alloc, recipe, place.as_str()) {
+            acts.push(act)?;
         }
     }
-    Ok(way)
+    Ok(Way { acts, place })
 }
 
 /// The act at the place, where an act stands there.

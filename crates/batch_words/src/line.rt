@@ -12,13 +12,10 @@ use std::alloc::{AllocError, Global};
 /// The number of the program's version.
 pub const VERSION: &str = "0.1.0";
 
-fn about() -> &'static str {
-    "A batch server for one process cell; without a command it serves event lines from standard input over a demo cell"
-}
+const ABOUT: &str =
+    "A batch server for one process cell; without a command it serves event lines from standard input over a demo cell";
 
-// (a text of its own function isn't looked at by the proof of the command line)
-fn after_help() -> &'static str {
-    "\
+const AFTER_HELP: &str = "\
 An example, in examples/paint_plant:
   batchd check cell.toml primer.toml rinse-mended.toml > certificate.txt
   batchd verify cell.toml certificate.txt primer.toml rinse-mended.toml
@@ -35,8 +32,7 @@ Exit status:
   2  the words are no command
   3  a file, the input or the output failed
   4  no memory, or a thread can't be started
-"
-}
+";
 
 /// The whole command line.
 pub(crate) fn program<'a>(alloc: Global) -> Result<Command<'a>, AllocError>
@@ -54,8 +50,8 @@ fn bare<'a>(alloc: Global) -> Result<Command<'a>, AllocError>
     ensures { IfOk result (λ bare. app_of bare ≡ bare_app) }
 {
     Command::new(alloc, "batchd")
-        .about(about())
-        .after_help(after_help())
+        .about(ABOUT)
+        .after_help(AFTER_HELP)
         .version(VERSION)
         .no_binary_name(true)
         .disable_help_subcommand(true)
