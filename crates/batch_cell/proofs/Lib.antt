@@ -1,3 +1,4 @@
 pub mod Resources
 pub mod Positions
 pub mod OfferedPhases
+pub mod Candidates

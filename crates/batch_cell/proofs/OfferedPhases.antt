@@ -6,6 +6,7 @@ use Rattle.batch_cell.specs.Equipment.{belongs_to, unit_names, phases_for, unit_
 use Rattle.batch_cell.specs.declared.module.TheConstants.{MAX_PHASES}
 use Rattle.batch_cell.specs.declared.unit.Unit.{Unit}
 use Rattle.batch_cell.specs.declared.module.Module.{Module}
+use Rattle.std.specs.Prelude.{None}
 
 phases_for_few : (unit : List ℕ) (b : Bool) (m : Module) → length (if b then m.phases.items else []) ≤ MAX_PHASES
 phases_for_few unit true m = m.few_phases
@@ -27,7 +28,7 @@ pub offered_at : {S : Type 0} (units : List Unit) (modules : List Module) (offer
 offered_at units modules offered unit d index below =
     let name : Unit → List ℕ = λ u. u.name in
     let phases : Unit → List (List ℕ) = λ u. unit_phases modules u.name in
-    let e : Unit = record { name = [] } in
+    let e : Unit = record { name = []; class = None } in
     let inside : unit < length offered = omega (arith, length-map offered keys, length-map units phases, ap length index) in
     sym (get_or-map keys offered unit d [] inside) ∙ ap (λ kss. get_or kss unit []) index ∙ get_or-map phases units unit e [] below
     ∙ ap (unit_phases modules) (sym (get_or-map name units unit e [] below))

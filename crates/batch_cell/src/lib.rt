@@ -2,6 +2,7 @@
 #![tactic(auto)]
 
 mod cell;
+mod classes;
 mod limits;
 mod look_ups;
 mod module;

@@ -3,15 +3,13 @@ use Rattle.std.proofs.Common.{Some, ◌≡◌, refl, sym, subst, subst₂, zero-
 use Rattle.batch_model.specs.Plant.{Setup, Plant, opening}
 use Rattle.batch_model.specs.Moves.{Move, next, after}
 use Rattle.batch_model.specs.Events.{Event}
-use Rattle.batch_model.specs.Placed.{IsPlaced}
 use Rattle.batch_model.specs.Standing.{HasPlacedTrees, IsStanding}
 use Rattle.batch_model.specs.Runs.{Out, move, reply, Leads}
 use Rattle.batch_model.specs.Cleared.{Ranking}
-use Rattle.batch_model.proofs.Members.{Each-map}
 use Rattle.batch_machine.proofs.Falling.{next-possible}
 use Rattle.batch_machine.proofs.Moving.{possible-stands}
 use Rattle.batch_machine.proofs.Led.{reacts-stands}
-use Rattle.batch_laws.proofs.ClearedDown.{IsClearedDown, AreClearedDown}
+use Rattle.batch_laws.proofs.ClearedDown.{AreClearedDown}
 use Rattle.batch_laws.proofs.Invariant.{IsKept}
 use Rattle.batch_laws.proofs.Moving.{move-step}
 use Rattle.batch_laws.proofs.Reports.{reply-step}
@@ -32,7 +30,7 @@ kept-at_first d rank =
     }
 
 pub placed-trees : (d : Setup) (rank : Ranking) → AreClearedDown d rank → HasPlacedTrees d
-placed-trees d rank cleared = Each-map (IsClearedDown d rank) (λ r. IsPlaced (0 ∷ []) r.procedure) (λ r k. k.placed) d.recipes cleared.recipes
+placed-trees d rank cleared r k = (cleared.recipes r k).placed
 
 pub moved-stands : (d : Setup) (rank : Ranking) → AreClearedDown d rank → (s : Plant) (m : Move) → IsStanding d s → next d s ≡ Some m → IsStanding d (after s m)
 moved-stands d rank cleared s m sd e = possible-stands d s m (placed-trees d rank cleared) sd (next-possible d s m e)

@@ -8,6 +8,7 @@ use Rattle.batch_model.specs.Cleared.{Ranking, phases, phases_of_each}
 use Rattle.batch_laws.specs.Ways.{RisesDown}
 use Rattle.batch_recipe.specs.declared.need.Need.{Need}
 use Rattle.batch_recipe.specs.Needs.{one_unit}
+use Rattle.batch_model.specs.Standing.{IsControl}
 
 abbrev pub IsOfferedPhase : Setup → Phase → Type 0
 IsOfferedPhase d x = IsTrue (d.offers x.unit x.name)
@@ -55,4 +56,4 @@ pub record IsClearedDown (d : Setup) (rank : Ranking) (r : Recipe) : Type 0 wher
   pub single : Each (λ x. d.capacity x.unit ≡ 1) (phases r.procedure)
 
 pub record AreClearedDown (d : Setup) (rank : Ranking) : Type 0 where
-  pub recipes : Each (IsClearedDown d rank) d.recipes
+  pub recipes : (r : Recipe) → IsControl d r → IsClearedDown d rank r

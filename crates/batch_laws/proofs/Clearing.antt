@@ -1,13 +1,18 @@
 -- Clearance over all nodes makes clearance on the way down.
-use Rattle.std.proofs.Common.{◌≡◌, refl, sym, ◌∙◌, ap, subst, ℕ, ◌+◌, ◌<◌, arith, List, [], ◌∷◌, ◌++◌, Bool, true, false, IsTrue, inl, inr, bytes_eq}
+use Rattle.std.proofs.Common.{◌≡◌, refl, sym, ◌∙◌, ap, subst, ℕ, ◌+◌, ◌<◌, arith, List, [], ◌∷◌, ◌++◌, Bool, true, false, map, IsTrue, inl, inr, bytes_eq}
+use Rattle.std.proofs.lemmas.Bool.{and_parts}
 use Rattle.std.proofs.lemmas.Slice.Eq.{bytes_eq-Decides}
+use Rattle.std.specs.List.{list_all}
 use Rattle.batch_recipe.specs.Conditions.{Name, same_name}
+use Rattle.batch_recipe.specs.Expanding.{Binding}
 use Rattle.batch_recipe.specs.Nodes.{Node, child}
 use Rattle.batch_recipe.specs.Tree.{Place, Phase, Task, runs, follows, Tree, act, skip, seq, par, sel, loop, Trees, no_trees, tree, Choices, otherwise, choice}
-use Rattle.batch_recipe.specs.WellFormed.{is_among}
+use Rattle.batch_recipe.specs.WellFormed.{is_among, are_distinct}
 use Rattle.batch_model.specs.Lists.{Has, Each}
-use Rattle.batch_model.specs.Plant.{Recipe, Setup}
-use Rattle.batch_model.specs.Cleared.{Ranking, Level, is_procedure, in_procedure, in_unit_procedure, in_operation, below, Part, parts, parts_within, parts_of_each, parts_of_choices, procedure_parts, phases, phases_within, phases_of_each, phases_of_choices, RunApart, BranchesRunApart, RiseStrictly, BeginsWithUnit, IsClear, IsClearedRecipe, IsCleared}
+use Rattle.batch_model.specs.Plant.{Recipe, Role, Master, Setup}
+use Rattle.batch_model.specs.Events.{is_binding, bound_by}
+use Rattle.batch_model.specs.Standing.{IsControl}
+use Rattle.batch_model.specs.Cleared.{Ranking, Level, is_procedure, in_procedure, in_unit_procedure, in_operation, below, Part, parts, parts_within, parts_of_each, parts_of_choices, procedure_parts, phases, phases_within, phases_of_each, phases_of_choices, RunApart, BranchesRunApart, RiseStrictly, BeginsWithUnit, IsServed, IsClear, IsClearedRecipe, IsCleared}
 use Rattle.batch_model.proofs.Members.{Has-right, Has-split, Each-Has, Each-map, Each-append}
 use Rattle.batch_model.proofs.Parts.{parts-nodes}
 use Rattle.batch_laws.specs.Procedures.{IsOfLevel, IsActOf, AreOfLevel, AreChoicesOf, HasLevels, IsProcedure}
@@ -352,7 +357,7 @@ module _ (setup : Setup) (rank : Ranking) where
     abbrev AsksInOrder : Node → Type 0
     AsksInOrder n = RiseStrictly rank n.asked
 
-    recipe-down : (r : Recipe) → IsProcedure r.procedure → IsClearedRecipe setup rank r → IsClearedDown setup rank r
+    recipe-down : (r : Recipe) → IsProcedure r.procedure → Each Clear (procedure_parts r) → IsClearedDown setup rank r
     recipe-down r h c =
         record {
           placed = h.placed;
@@ -365,9 +370,30 @@ module _ (setup : Setup) (rank : Ranking) where
           single = whole-one-user r.procedure h.levels c;
         }
 
-    recipes-down : (rs : List Recipe) → Each (λ r. IsProcedure r.procedure) rs → Each (IsClearedRecipe setup rank) rs → Each (IsClearedDown setup rank) rs
-    recipes-down [] h c = tt
-    recipes-down (r ∷ rs) h c = (recipe-down r h.0 c.0, recipes-down rs h.1 c.1)
+-- Pairs that bind every role serve, so the control recipe of a batch is cleared
+
+each-served : (master : Master) (pairs : List (Name × Name)) (roles : List Role) → list_all (λ role. is_among role.candidates (bound_by pairs role.name)) roles ≡ true
+    → Each (λ role. IsTrue (master.names_role role.name) → IsTrue (is_among role.candidates (bound_by pairs role.name))) roles
+each-served master pairs [] h = tt
+each-served master pairs (role ∷ roles) h =
+    let k = and_parts (is_among role.candidates (bound_by pairs role.name)) (list_all (λ role. is_among role.candidates (bound_by pairs role.name)) roles) h in
+    (λ u. k.0, each-served master pairs roles k.1)
+
+pub binding-serves : (master : Master) (pairs : List (Name × Name)) → is_binding master.roles pairs ≡ true → IsServed master (bound_by pairs)
+binding-serves master pairs e =
+    let declared : Bool = list_all (λ pair. is_among (map (λ role. role.name) master.roles) pair.0) pairs in
+    each-served master pairs master.roles (and_parts declared _ (and_parts (are_distinct (map (λ pair. pair.0) pairs)) _ e).1).1
+
+pub control-clear : (setup : Setup) (rank : Ranking) → IsCleared setup rank → (r : Recipe) → IsControl setup r → Each (IsClear setup rank) (procedure_parts r)
+control-clear setup rank c r (master, known, (pairs, is, made)) =
+    subst (λ z. Each (IsClear setup rank) (procedure_parts z)) (sym made)
+    ((Each-Has (IsClearedRecipe setup rank) setup.recipes master c.recipes known).1 (bound_by pairs) (binding-serves master pairs is))
+
+pub control-procedure : (setup : Setup) → IsOfDocuments setup → (r : Recipe) → IsControl setup r → IsProcedure r.procedure
+control-procedure setup h r (master, known, (pairs, is, made)) =
+    subst (λ z. IsProcedure z.procedure) (sym made)
+    (Each-Has (λ master. (bound : Binding) → IsProcedure (master.control bound).procedure) setup.recipes master h.procedures known (bound_by pairs))
 
 pub cleared-down : (setup : Setup) (rank : Ranking) → IsOfDocuments setup → IsCleared setup rank → AreClearedDown setup rank
-cleared-down setup rank h c = record { recipes = recipes-down setup rank h.exclusive setup.recipes h.procedures c.recipes }
+cleared-down setup rank h c =
+    record { recipes = λ r k. recipe-down setup rank h.exclusive r (control-procedure setup h r k) (control-clear setup rank c r k) }

@@ -68,10 +68,10 @@ entries-append : (bs cs : List Batch) → entries (bs ++ cs) ≡ entries bs ++ e
 entries-append [] cs = refl
 entries-append (b ∷ bs) cs = ap (λ z. entries_of b ++ z) (entries-append bs cs) ∙ sym (Rattle.std.proofs.Common.append_assoc (entries_of b) (entries bs) (entries cs))
 
-pub kept-created : (d : Setup) (rank : Ranking) (outs : List Out) (s : Plant) (r : Recipe) (name : Name) (size : ℕ) (vs : ValueList) → IsClearedDown d rank r → IsStanding d s → IsKept d rank outs s
-    → IsKept d rank (outs ++ reply (created s.next_number name size) ∷ []) (with_batch s r size vs)
-kept-created d rank outs s r name size vs cleared sd k =
-    let o : Out = reply (created s.next_number name size) in
+pub kept-created : (d : Setup) (rank : Ranking) (outs : List Out) (s : Plant) (r : Recipe) (name : Name) (size : ℕ) (told : List (Name × Name)) (vs : ValueList) → IsClearedDown d rank r → IsStanding d s → IsKept d rank outs s
+    → IsKept d rank (outs ++ reply (created s.next_number name size told) ∷ []) (with_batch s r size vs)
+kept-created d rank outs s r name size told vs cleared sd k =
+    let o : Out = reply (created s.next_number name size told) in
     let n : Batch = new_batch s.next_number r size vs in
     let none : facts n.rest ≡ [] = reach-facts vs r.procedure in
     let same : entries (s.batches ++ n ∷ []) ≡ entries s.batches

@@ -1,5 +1,5 @@
 -- The expanded tree of a recipe has the levels of a procedure.
-use Rattle.std.proofs.Common.{◌≡◌, refl, ap, ℕ, ◌+◌, List, [], ◌∷◌, Bool, true, false, ◌&&◌, not, Option, Some, None, inl, inr}
+use Rattle.std.proofs.Common.{◌≡◌, refl, ℕ, ◌+◌, List, [], ◌∷◌, Bool, true, false, ◌&&◌, not, Option, Some, None}
 use Rattle.std.proofs.lemmas.Bool.{and_parts}
 use Rattle.std.specs.List.{list_all}
 use Rattle.batch_recipe.specs.Conditions.{Name}
@@ -7,7 +7,7 @@ use Rattle.batch_recipe.specs.Diagram as chart
 use Rattle.batch_recipe.specs.Diagram.{Diagram, Diagrams, Cases, diagram_of}
 use Rattle.batch_recipe.specs.Tree.{Place, Tree, act, skip}
 use Rattle.batch_recipe.specs.Nodes.{child}
-use Rattle.batch_recipe.specs.Expanding.{expanded, expanded_each, expanded_cases, unit_below, asked_by, task_of, act_named, act_tree, named_tree}
+use Rattle.batch_recipe.specs.Expanding.{expanded, expanded_each, expanded_cases, unit_below, asked_by, task_of, act_named, Binding, unit_chosen, unit_with, act_tree_with, named_tree_with}
 use Rattle.batch_recipe.specs.Procedure.{tables_from}
 use Rattle.batch_recipe.specs.WellFormed.{has_unit, has_chart, has_no_par, follows_no_par, is_work, act_names, value_names}
 use Rattle.batch_recipe.specs.declared.act.Act.{Act}
@@ -16,16 +16,12 @@ use Rattle.batch_recipe.specs.declared.act.Work.TheVariants.{Follows, Runs}
 use Rattle.batch_recipe.specs.declared.acts.Level.TheVariants.{UnitProcedures}
 use Rattle.batch_model.specs.Lists.{Has}
 use Rattle.batch_model.specs.Cleared.{Level, in_procedure, in_unit_procedure, in_operation}
+use Rattle.batch_model.proofs.Bindings.{list_all-Has}
 use Rattle.batch_model.proofs.Members.{find-Has}
-use Rattle.batch_machine.proofs.Placed.{procedure_tree-IsPlaced}
+use Rattle.batch_machine.proofs.Placed.{bound_tree-IsPlaced}
 use Rattle.batch_laws.specs.Procedures.{AllowsPar, IsOfLevel, IsActOf, AreOfLevel, AreChoicesOf, HasLevels, TreesAreProcedures, RecipesAreProcedures}
 use Rattle.batch_recipe.specs.declared.need.Need.{Need}
-
-list_all-Has : (p : Act → Bool) (xs : List Act) → list_all p xs ≡ true → (x : Act) → Has xs x → p x ≡ true
-list_all-Has p [] e x h = absurd h
-list_all-Has p (y ∷ ys) e x h =
-    let k = and_parts (p y) (list_all p ys) e in
-    elim h [ inl q ↦ let f : p y ≡ p x = ap p q in let g : p y ≡ true = k.0 in cc | inr m ↦ list_all-Has p ys k.1 x m ]
+use Rattle.batch_recipe.specs.declared.act.UnitChoice.{UnitChoice}
 
 -- Charts
 
@@ -67,7 +63,7 @@ module _ (l : Level) (unit : Name) (acts : Name → Place → Tree) (named : (na
 
 -- Acts, by the tests on their units and work
 
-abbrev some_unit : Option Name → Bool
+abbrev some_unit : Option UnitChoice → Bool
 some_unit o = elim o [ None ↦ false | Some unit ↦ true ]
 
 abbrev some_chart : Work → Bool
@@ -76,86 +72,86 @@ some_chart w = elim w [ Follows c ↦ true | Runs phase values ↦ false ]
 abbrev no_par : Work → Bool
 no_par w = elim w [ Follows c ↦ has_no_par (diagram_of c) | Runs phase values ↦ true ]
 
-phase_step-level : (acts : Name → Place → Tree) (unit name : Name) (p : Place) (o : Option Name) (needs : List Need) (w : Work)
-    → (not (some_unit o) && not (some_chart w)) ≡ true → IsActOf in_operation unit (asked_by o needs) (task_of acts (unit_below unit o) name p w)
-phase_step-level acts unit name p None needs (Follows c) e = absurd cc
-phase_step-level acts unit name p None needs (Runs phase values) e = refl
-phase_step-level acts unit name p (Some own) needs w e = absurd cc
+module _ (bound : Binding) where
+  phase_step-level : (acts : Name → Place → Tree) (unit name : Name) (p : Place) (o : Option UnitChoice) (needs : List Need) (w : Work)
+      → (not (some_unit o) && not (some_chart w)) ≡ true → IsActOf in_operation unit (asked_by (unit_with bound o) needs) (task_of acts (unit_below unit (unit_with bound o)) name p w)
+  phase_step-level acts unit name p None needs (Follows c) e = absurd cc
+  phase_step-level acts unit name p None needs (Runs phase values) e = refl
+  phase_step-level acts unit name p (Some own) needs w e = absurd cc
 
-operation-level : (acts : Name → Name → Place → Tree) → ((unit name : Name) (p : Place) → IsOfLevel in_operation unit (acts unit name p))
-    → (unit name : Name) (p : Place) (o : Option Name) (needs : List Need) (w : Work)
-    → (not (some_unit o) && some_chart w) ≡ true → IsActOf in_unit_procedure unit (asked_by o needs) (task_of (acts (unit_below unit o)) (unit_below unit o) name p w)
-operation-level acts named unit name p None needs (Follows c) e = expanded-level in_operation unit (acts unit) (named unit) (child p 0) (diagram_of c) (λ q. tt)
-operation-level acts named unit name p None needs (Runs phase values) e = absurd cc
-operation-level acts named unit name p (Some own) needs w e = absurd cc
+  operation-level : (acts : Name → Name → Place → Tree) → ((unit name : Name) (p : Place) → IsOfLevel in_operation unit (acts unit name p))
+      → (unit name : Name) (p : Place) (o : Option UnitChoice) (needs : List Need) (w : Work)
+      → (not (some_unit o) && some_chart w) ≡ true → IsActOf in_unit_procedure unit (asked_by (unit_with bound o) needs) (task_of (acts (unit_below unit (unit_with bound o))) (unit_below unit (unit_with bound o)) name p w)
+  operation-level acts named unit name p None needs (Follows c) e = expanded-level in_operation unit (acts unit) (named unit) (child p 0) (diagram_of c) (λ q. tt)
+  operation-level acts named unit name p None needs (Runs phase values) e = absurd cc
+  operation-level acts named unit name p (Some own) needs w e = absurd cc
 
-unit_procedure-level : (acts : Name → Name → Place → Tree) → ((unit name : Name) (p : Place) → IsOfLevel in_unit_procedure unit (acts unit name p))
-    → (above unit name : Name) (p : Place) (o : Option Name) (needs : List Need) (w : Work)
-    → (some_unit o && some_chart w) ≡ true → no_par w ≡ true → IsActOf in_procedure above (asked_by o needs) (task_of (acts (unit_below unit o)) (unit_below unit o) name p w)
-unit_procedure-level acts named above unit name p None needs w e n = absurd cc
-unit_procedure-level acts named above unit name p (Some own) needs (Follows c) e n =
-    (refl, expanded-level in_unit_procedure own (acts own) (named own) (child p 0) (diagram_of c) (λ q. absurd cc))
-unit_procedure-level acts named above unit name p (Some own) needs (Runs phase values) e n = absurd cc
+  unit_procedure-level : (acts : Name → Name → Place → Tree) → ((unit name : Name) (p : Place) → IsOfLevel in_unit_procedure unit (acts unit name p))
+      → (above unit name : Name) (p : Place) (o : Option UnitChoice) (needs : List Need) (w : Work)
+      → (some_unit o && some_chart w) ≡ true → no_par w ≡ true → IsActOf in_procedure above (asked_by (unit_with bound o) needs) (task_of (acts (unit_below unit (unit_with bound o))) (unit_below unit (unit_with bound o)) name p w)
+  unit_procedure-level acts named above unit name p None needs w e n = absurd cc
+  unit_procedure-level acts named above unit name p (Some own) needs (Follows c) e n =
+      let unit : Name = unit_chosen bound own in
+      (refl, expanded-level in_unit_procedure unit (acts unit) (named unit) (child p 0) (diagram_of c) (λ q. absurd cc))
+  unit_procedure-level acts named above unit name p (Some own) needs (Runs phase values) e n = absurd cc
 
-procedure-level : (acts : Name → Name → Place → Tree) → ((unit name : Name) (p : Place) → IsOfLevel in_procedure [] (acts unit name p)) → (a : Act) (p : Place) (o : Option Name) (w : Work)
-    → (not (some_unit o) && some_chart w) ≡ true → HasLevels (act (record { place = p; needs = asked_by o a.needs.items }) (task_of (acts (unit_below [] o)) (unit_below [] o) a.name p w))
-procedure-level acts named a p None (Follows c) e = expanded-level in_procedure [] (acts []) (named []) (child p 0) (diagram_of c) (λ q. tt)
-procedure-level acts named a p None (Runs phase values) e = absurd cc
-procedure-level acts named a p (Some own) w e = absurd cc
+  procedure-level : (acts : Name → Name → Place → Tree) → ((unit name : Name) (p : Place) → IsOfLevel in_procedure [] (acts unit name p)) → (a : Act) (p : Place) (o : Option UnitChoice) (w : Work)
+      → (not (some_unit o) && some_chart w) ≡ true → HasLevels (act (record { place = p; needs = asked_by (unit_with bound o) a.needs.items }) (task_of (acts (unit_below [] (unit_with bound o))) (unit_below [] (unit_with bound o)) a.name p w))
+  procedure-level acts named a p None (Follows c) e = expanded-level in_procedure [] (acts []) (named []) (child p 0) (diagram_of c) (λ q. tt)
+  procedure-level acts named a p None (Runs phase values) e = absurd cc
+  procedure-level acts named a p (Some own) w e = absurd cc
 
--- Tables
+  -- Tables
 
-module _ (steps : List Act) (kinds : list_all (λ s. not (has_unit s) && not (has_chart s)) steps ≡ true) where
-  steps-level : (unit name : Name) (p : Place) → IsOfLevel in_operation unit (named_tree (steps ∷ []) unit name p)
-  steps-level unit name p = go (act_named steps name) refl
-    where
-      go : (o : Option Act) → act_named steps name ≡ o → IsOfLevel in_operation unit (elim o [ None ↦ skip | Some a ↦ act_tree (named_tree []) unit a p ])
-      go None e = tt
-      go (Some a) e =
-          phase_step-level (named_tree [] (unit_below unit a.unit)) unit a.name p a.unit a.needs.items a.work
-          (list_all-Has (λ s. not (has_unit s) && not (has_chart s)) steps kinds a (find-Has _ steps a e))
-
-  module _ (operations : List Act) (operation_kinds : list_all (λ o. not (has_unit o) && has_chart o) operations ≡ true) where
-    operations-level : (unit name : Name) (p : Place) → IsOfLevel in_unit_procedure unit (named_tree (operations ∷ steps ∷ []) unit name p)
-    operations-level unit name p = go (act_named operations name) refl
+  module _ (steps : List Act) (kinds : list_all (λ s. not (has_unit s) && not (has_chart s)) steps ≡ true) where
+    steps-level : (unit name : Name) (p : Place) → IsOfLevel in_operation unit (named_tree_with bound (steps ∷ []) unit name p)
+    steps-level unit name p = go (act_named steps name) refl
       where
-        go : (o : Option Act) → act_named operations name ≡ o → IsOfLevel in_unit_procedure unit (elim o [ None ↦ skip | Some a ↦ act_tree (named_tree (steps ∷ [])) unit a p ])
+        go : (o : Option Act) → act_named steps name ≡ o → IsOfLevel in_operation unit (elim o [ None ↦ skip | Some a ↦ act_tree_with bound (named_tree_with bound []) unit a p ])
         go None e = tt
         go (Some a) e =
-            operation-level (named_tree (steps ∷ [])) steps-level unit a.name p a.unit a.needs.items a.work
-            (list_all-Has (λ o. not (has_unit o) && has_chart o) operations operation_kinds a (find-Has _ operations a e))
+            phase_step-level (named_tree_with bound [] (unit_below unit (unit_with bound a.unit))) unit a.name p a.unit a.needs.items a.work
+            (list_all-Has (λ s. not (has_unit s) && not (has_chart s)) steps kinds a (find-Has _ steps a e))
 
-    module _ (unit_procedures : List Act) (unit_kinds : list_all (λ u. has_unit u && has_chart u) unit_procedures ≡ true)
-        (no_par_in : (u : Act) → Has unit_procedures u → follows_no_par u ≡ true) where
-      unit_procedures-level : (unit name : Name) (p : Place) → IsOfLevel in_procedure [] (named_tree (unit_procedures ∷ operations ∷ steps ∷ []) unit name p)
-      unit_procedures-level unit name p = go (act_named unit_procedures name) refl
+    module _ (operations : List Act) (operation_kinds : list_all (λ o. not (has_unit o) && has_chart o) operations ≡ true) where
+      operations-level : (unit name : Name) (p : Place) → IsOfLevel in_unit_procedure unit (named_tree_with bound (operations ∷ steps ∷ []) unit name p)
+      operations-level unit name p = go (act_named operations name) refl
         where
-          go : (o : Option Act) → act_named unit_procedures name ≡ o
-              → IsOfLevel in_procedure [] (elim o [ None ↦ skip | Some a ↦ act_tree (named_tree (operations ∷ steps ∷ [])) unit a p ])
+          go : (o : Option Act) → act_named operations name ≡ o → IsOfLevel in_unit_procedure unit (elim o [ None ↦ skip | Some a ↦ act_tree_with bound (named_tree_with bound (steps ∷ [])) unit a p ])
           go None e = tt
           go (Some a) e =
-              let there : Has unit_procedures a = find-Has _ unit_procedures a e in
-              unit_procedure-level (named_tree (operations ∷ steps ∷ [])) operations-level [] unit a.name p a.unit a.needs.items a.work
-              (list_all-Has (λ u. has_unit u && has_chart u) unit_procedures unit_kinds a there) (no_par_in a there)
+              operation-level (named_tree_with bound (steps ∷ [])) steps-level unit a.name p a.unit a.needs.items a.work
+              (list_all-Has (λ o. not (has_unit o) && has_chart o) operations operation_kinds a (find-Has _ operations a e))
+
+      module _ (unit_procedures : List Act) (unit_kinds : list_all (λ u. has_unit u && has_chart u) unit_procedures ≡ true)
+          (no_par_in : (u : Act) → Has unit_procedures u → follows_no_par u ≡ true) where
+        unit_procedures-level : (unit name : Name) (p : Place) → IsOfLevel in_procedure [] (named_tree_with bound (unit_procedures ∷ operations ∷ steps ∷ []) unit name p)
+        unit_procedures-level unit name p = go (act_named unit_procedures name) refl
+          where
+            go : (o : Option Act) → act_named unit_procedures name ≡ o
+                → IsOfLevel in_procedure [] (elim o [ None ↦ skip | Some a ↦ act_tree_with bound (named_tree_with bound (operations ∷ steps ∷ [])) unit a p ])
+            go None e = tt
+            go (Some a) e =
+                let there : Has unit_procedures a = find-Has _ unit_procedures a e in
+                unit_procedure-level (named_tree_with bound (operations ∷ steps ∷ [])) operations-level [] unit a.name p a.unit a.needs.items a.work
+                (list_all-Has (λ u. has_unit u && has_chart u) unit_procedures unit_kinds a there) (no_par_in a there)
 
 pub trees_are_procedures : TreesAreProcedures
-trees_are_procedures acts values kinds formed =
+trees_are_procedures bound acts values kinds formed =
     let procedure_kind = and_parts (not (has_unit acts.procedure) && has_chart acts.procedure) _ kinds in
     let unit_kind = and_parts (list_all (λ u. has_unit u && has_chart u) acts.unit_procedures.items) _ procedure_kind.1 in
     let kind = and_parts (list_all (λ o. not (has_unit o) && has_chart o) acts.operations.items) _ unit_kind.1 in
     let work = and_parts (is_work (act_names acts.unit_procedures.items) values acts.procedure) _ (and_parts _ _ formed).1 in
     let unit_work = and_parts (list_all (λ u. is_work (act_names acts.operations.items) values u && follows_no_par u) acts.unit_procedures.items) _ work.1 in
     record {
-      placed = procedure_tree-IsPlaced acts;
+      placed = bound_tree-IsPlaced acts bound;
       levels =
-          procedure-level (named_tree (tables_from acts (Some UnitProcedures)))
-          (unit_procedures-level acts.phases.items kind.1 acts.operations.items kind.0 acts.unit_procedures.items unit_kind.0
+          procedure-level bound (named_tree_with bound (tables_from acts (Some UnitProcedures)))
+          (unit_procedures-level bound acts.phases.items kind.1 acts.operations.items kind.0 acts.unit_procedures.items unit_kind.0
           (λ u h. (and_parts (is_work (act_names acts.operations.items) values u) (follows_no_par u)
           (list_all-Has (λ u. is_work (act_names acts.operations.items) values u && follows_no_par u) acts.unit_procedures.items unit_work.0 u h)).1))
           acts.procedure (0 ∷ []) acts.procedure.unit acts.procedure.work procedure_kind.0;
     }
 
 pub recipes_are_procedures : RecipesAreProcedures
-recipes_are_procedures [] = tt
-recipes_are_procedures (r ∷ documents) =
-    (trees_are_procedures r.acts (value_names r.inputs.items r.parameters.items r.outputs.items) r.kinds r.well_formed, recipes_are_procedures documents)
+recipes_are_procedures r bound = trees_are_procedures bound r.acts (value_names r.inputs.items r.parameters.items r.outputs.items) r.kinds r.well_formed

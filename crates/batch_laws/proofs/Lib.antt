@@ -24,3 +24,5 @@ pub mod Levels
 pub mod Asking
 pub mod Along
 pub mod Sets
+pub mod Roles
+pub mod Candidates

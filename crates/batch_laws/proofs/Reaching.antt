@@ -1,5 +1,5 @@
 -- Reaching a chart and advancing change no facts; withdrawing takes the asks away.
-use Rattle.std.proofs.Common.{◌≡◌, refl, sym, ◌∙◌, ap, ap₂, ℕ, zero, suc, pred, List, [], ◌∷◌, ◌++◌, Bool, true, false, ◌&&◌, filter, take, slice_get, Option, Some, None, append-nil}
+use Rattle.std.proofs.Common.{◌≡◌, refl, sym, ◌∙◌, ap, ap₂, ℕ, zero, suc, pred, List, [], ◌∷◌, ◌++◌, Bool, true, false, filter, take, slice_get, Option, Some, None, append-nil}
 use Rattle.std.proofs.lemmas.List.Elements.{filter-append}
 use Rattle.std.proofs.lemmas.Bool.{and_parts}
 use Rattle.batch_recipe.specs.Conditions.{ValueList, holds}

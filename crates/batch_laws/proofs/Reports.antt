@@ -11,16 +11,15 @@ use Rattle.batch_model.specs.Lists.{Has}
 use Rattle.batch_recipe.specs.Conditions.{Name, ValueList}
 use Rattle.batch_recipe.specs.Tree.{Place, Phase, Step}
 use Rattle.batch_model.specs.Rest.{Rest, ready, asking, open_act, live, freeing, in_seq, in_par, in_loop, done, acts}
-use Rattle.batch_model.specs.Plant.{Formula, size_out_of_range, value_out_of_range, scaled, Recipe, Setup, Batch, BatchAct, Plant, batch_at, in_batch, in_act, place_of}
+use Rattle.batch_model.specs.Plant.{Formula, size_out_of_range, value_out_of_range, scaled, Recipe, Master, Setup, Batch, BatchAct, Plant, batch_at, in_batch, in_act, place_of}
 use Rattle.batch_model.specs.Moves.{Move, ended, next}
 use Rattle.batch_recipe.specs.Values.{with_values, are_outputs}
-use Rattle.batch_model.specs.Events.{Event, create, order, remove, report, Reply, reported, refused, unknown_recipe, unknown_batch, no_live_phase, report_not_expected, bad_output, bad_size, bad_value, full, moves_pending, no_memory, is_full, creating, ordering, removing, LivePhase, live_in, live_phase, now, batch_state_after, outputs_of, batch_reported, reporting, judged, react}
+use Rattle.batch_model.specs.Events.{Event, create, order, remove, report, Reply, reported, refused, unknown_recipe, bad_binding, binding, is_binding, bound_by, roles_told, creating_for, unknown_batch, no_live_phase, report_not_expected, bad_output, bad_size, bad_value, full, moves_pending, no_memory, is_full, creating, ordering, removing, LivePhase, live_in, live_phase, now, batch_state_after, outputs_of, batch_reported, reporting, judged, react}
 use Rattle.batch_model.specs.Runs.{Out, reply, Reacts}
 use Rattle.batch_model.specs.Records.{Active, active_after, ends_phase}
 use Rattle.batch_laws.proofs.Facts.{Standing, held_at, facts}
 use Rattle.batch_model.specs.Cleared.{Ranking}
-use Rattle.batch_laws.proofs.ClearedDown.{IsClearedDown, AreClearedDown}
-use Rattle.batch_model.proofs.Members.{Each-Has}
+use Rattle.batch_laws.proofs.ClearedDown.{AreClearedDown}
 use Rattle.batch_laws.proofs.Invariant.{IsFitting, IsKept}
 use Rattle.batch_laws.proofs.Changing.{changed_plant, IsChange, change-facts, change-sound}
 use Rattle.batch_laws.proofs.Keeping.{kept-quiet, kept-finished, act_frame, TellsState}
@@ -28,7 +27,7 @@ use Rattle.batch_laws.proofs.MoveSteps.{freed-facts, take-length}
 use Rattle.batch_laws.proofs.Events.{Answered, find-Has, kept-refused, kept-created, ordering-step, removing-step}
 use Rattle.batch_laws.proofs.Moving.{tells-other, tells-own}
 use Rattle.std.proofs.lemmas.List.{append-nil}
-use Rattle.batch_model.specs.Standing.{IsStanding}
+use Rattle.batch_model.specs.Standing.{IsControl, IsStanding}
 
 -- Reports
 
@@ -310,22 +309,32 @@ module _ (d : Setup) (rank : Ranking) (cleared : AreClearedDown d rank) (outs : 
       go None q = kept-refused d rank outs s (report_not_expected l.state) k
       go (Some e) q = outs_of e q (are_outputs l.batch.recipe.outputs outputs)
 
-  creating-step : (r : Recipe) (size : ℕ) → Has d.recipes r → (f : Formula) → Answered d rank outs (creating s r size f)
-  creating-step r size h size_out_of_range = kept-refused d rank outs s bad_size k
-  creating-step r size h (value_out_of_range name) = kept-refused d rank outs s (bad_value name) k
-  creating-step r size h (scaled vs) = kept-created d rank outs s r r.name size vs (Each-Has (IsClearedDown d rank) d.recipes r cleared.recipes h) sd k
+  creating-step : (r : Recipe) (size : ℕ) (told : List (Name × Name)) → IsControl d r → (f : Formula) → Answered d rank outs (creating s r size told f)
+  creating-step r size told h size_out_of_range = kept-refused d rank outs s bad_size k
+  creating-step r size told h (value_out_of_range name) = kept-refused d rank outs s (bad_value name) k
+  creating-step r size told h (scaled vs) = kept-created d rank outs s r r.name size told vs (cleared.recipes r h) sd k
+
+  binding-step : (m : Master) (size : ℕ) (pairs : List (Name × Name)) → Has d.recipes m → Answered d rank outs (binding s m size pairs)
+  binding-step m size pairs h = go (is_binding m.roles pairs) refl
+    where
+      go : (t : Bool) → is_binding m.roles pairs ≡ t
+          → Answered d rank outs (elim t [ false ↦ (refused bad_binding, s) | true ↦ creating_for s m size (bound_by pairs) ])
+      go false e = kept-refused d rank outs s bad_binding k
+      go true e =
+          let r : Recipe = m.control (bound_by pairs) in
+          creating-step r size (roles_told m.roles (bound_by pairs)) (m, h, (pairs, e, refl)) (r.formula size)
 
   judged-step : (e : Event) → Answered d rank outs (judged d s e)
-  judged-step (create name size) = go (find (λ r. bytes_eq r.name name) d.recipes) refl
+  judged-step (create name size pairs) = go (find (λ m. bytes_eq m.name name) d.recipes) refl
     where
-      room : (r : Recipe) → Has d.recipes r → (t : Bool) → Answered d rank outs (elim t [ true ↦ (refused full, s) | false ↦ creating s r size (r.formula size) ])
-      room r h true = kept-refused d rank outs s full k
-      room r h false = creating-step r size h (r.formula size)
+      room : (m : Master) → Has d.recipes m → (t : Bool) → Answered d rank outs (elim t [ true ↦ (refused full, s) | false ↦ binding s m size pairs ])
+      room m h true = kept-refused d rank outs s full k
+      room m h false = binding-step m size pairs h
 
-      go : (o : Option Recipe) → find (λ r. bytes_eq r.name name) d.recipes ≡ o
-          → Answered d rank outs (elim o [ None ↦ (refused unknown_recipe, s) | Some r ↦ elim (is_full d s) [ true ↦ (refused full, s) | false ↦ creating s r size (r.formula size) ] ])
+      go : (o : Option Master) → find (λ m. bytes_eq m.name name) d.recipes ≡ o
+          → Answered d rank outs (elim o [ None ↦ (refused unknown_recipe, s) | Some m ↦ elim (is_full d s) [ true ↦ (refused full, s) | false ↦ binding s m size pairs ] ])
       go None q = kept-refused d rank outs s unknown_recipe k
-      go (Some r) q = room r ((find-Has (λ r. bytes_eq r.name name) d.recipes r q).0) (is_full d s)
+      go (Some m) q = room m ((find-Has (λ m. bytes_eq m.name name) d.recipes m q).0) (is_full d s)
   judged-step (order command n) = go (batch_at s n) refl
     where
       go : (o : Option Batch) → batch_at s n ≡ o → Answered d rank outs (elim o [ None ↦ (refused unknown_batch, s) | Some b ↦ ordering s command b ])

@@ -1,5 +1,6 @@
 pub mod Procedures
 pub mod Premises
+pub mod Candidates
 pub mod Telling
 pub mod Ways
 pub mod Sets

@@ -2,6 +2,7 @@
 use Rattle.std.specs.Prelude.{◌≡◌, IsTrue}
 use Rattle.batch_recipe.specs.Conditions.{Name}
 use Rattle.batch_recipe.specs.WellFormed.{is_among}
+use Rattle.batch_recipe.specs.Expanding.{Binding}
 use Rattle.batch_model.specs.Lists.{Each}
 use Rattle.batch_model.specs.Plant.{Setup}
 use Rattle.batch_laws.specs.Procedures.{IsProcedure}
@@ -9,4 +10,5 @@ use Rattle.batch_laws.specs.Procedures.{IsProcedure}
 pub record IsOfDocuments (setup : Setup) : Type 0 where
   -- a unit has one user at a time
   pub exclusive : (unit : Name) → IsTrue (is_among setup.units unit) → setup.capacity unit ≡ 1
-  pub procedures : Each (λ recipe. IsProcedure recipe.procedure) setup.recipes
+  -- whatever units take the roles
+  pub procedures : Each (λ master. (bound : Binding) → IsProcedure (master.control bound).procedure) setup.recipes

@@ -1,13 +1,13 @@
 -- trusted: expanded trees of the procedural model: a procedure of unit procedures, these of operations, and these of phase steps.
-use Rattle.std.specs.Prelude.{◌≡◌, List, [], ◌∷◌, map, true, ⊤}
+use Rattle.std.specs.Prelude.{◌≡◌, List, [], ◌∷◌, true, ⊤}
 use Rattle.batch_recipe.specs.Conditions.{Name}
 use Rattle.batch_recipe.specs.Tree.{Tree, act, skip, seq, par, sel, loop, Task, runs, follows, Trees, no_trees, tree, Choices, otherwise, choice}
-use Rattle.batch_recipe.specs.Procedure.{procedure_tree}
+use Rattle.batch_recipe.specs.Expanding.{Binding}
+use Rattle.batch_recipe.specs.Procedure.{bound_tree}
 use Rattle.batch_recipe.specs.WellFormed.{are_kinds, is_well_formed}
 use Rattle.batch_recipe.specs.declared.acts.Acts.{Acts}
 use Rattle.batch_recipe.specs.declared.recipe.Recipe as document
 use Rattle.batch_recipe.specs.declared.need.Need.{Need}
-use Rattle.batch_model.specs.Lists.{Each}
 use Rattle.batch_model.specs.Recipes.{recipe_of}
 use Rattle.batch_model.specs.Cleared.{Level, in_procedure, in_unit_procedure, in_operation}
 use Rattle.batch_model.specs.Placed.{IsPlaced}
@@ -52,11 +52,12 @@ pub record IsProcedure (chart : Tree) : Type 0 where
   pub placed : IsPlaced (0 ∷ []) chart
   pub levels : HasLevels chart
 
--- where acts are of their kinds and well formed, the expanded tree is one of a procedure
+-- where acts are of their kinds and well formed, the expanded tree is one of a procedure, whatever units take the roles
 abbrev pub TreesAreProcedures : Type 0
 TreesAreProcedures =
-    (acts : Acts) (values : List Name) → are_kinds acts ≡ true → is_well_formed values acts ≡ true → IsProcedure (procedure_tree acts)
+    (bound : Binding) (acts : Acts) (values : List Name) → are_kinds acts ≡ true → is_well_formed values acts ≡ true
+    → IsProcedure (bound_tree bound acts)
 
 -- as the acts of every recipe are
 abbrev pub RecipesAreProcedures : Type 0
-RecipesAreProcedures = (documents : List document.Recipe) → Each (λ recipe. IsProcedure recipe.procedure) (map recipe_of documents)
+RecipesAreProcedures = (recipe : document.Recipe) (bound : Binding) → IsProcedure (recipe_of recipe bound).procedure

@@ -4,6 +4,7 @@
 //! Nothing runs here. The functions are empty: their contracts are the laws.
 #![tactic(auto)]
 
+ghost use Rattle.batch_laws.specs.Candidates.{CandidatesSuffice};
 ghost use Rattle.batch_laws.specs.Procedures.{RecipesAreProcedures, TreesAreProcedures};
 ghost use Rattle.batch_laws.specs.Sets.{SetsAreDocuments};
 ghost use Rattle.batch_laws.specs.Telling.{TellsThePlant};
@@ -30,4 +31,10 @@ pub fn trees_have_units()
 /// What these laws ask of documents beside clearance holds of every cell and of all recipes, since their types keep it.
 pub fn sets_are_documents()
     ensures { SetsAreDocuments }
+{}
+
+/// A recipe is cleared for whatever units take its roles exactly where each unit procedure is clear on each unit that may run it,
+/// by itself: a path has one unit procedure.
+pub fn candidates_suffice()
+    ensures { CandidatesSuffice }
 {}

@@ -12,11 +12,11 @@ use Rattle.batch_recipe.specs.Conditions.{Name, ValueList, same_name}
 use Rattle.batch_recipe.specs.Tree.{Place}
 use Rattle.batch_model.specs.Lists.{Has}
 use Rattle.batch_model.specs.Rest.{reach}
-use Rattle.batch_model.specs.Plant.{Formula, size_out_of_range, value_out_of_range, scaled, Recipe, Setup, Batch, Share, Plant, batch_at, in_batch}
+use Rattle.batch_model.specs.Plant.{Formula, size_out_of_range, value_out_of_range, scaled, Recipe, Setup, Batch, Share, Plant, batch_at, in_batch, Master}
 use Rattle.batch_model.specs.Moves.{Move, next}
 use Rattle.batch_recipe.specs.Values.{with_values, with_outputs_zero, are_outputs}
-use Rattle.batch_model.specs.Events.{Event, create, order, remove, report, ordered, removed, reported, refused, unknown_recipe, unknown_batch, command_not_accepted, no_live_phase, report_not_expected, bad_output, full, not_idle, moves_pending, Answer, is_full, new_batch, with_batch, creating, stopped, commanded, lines_under, ordering, without_batch, removing, LivePhase, live_phase, phase_after, batch_state_after, outputs_of, batch_reported, reporting, judged, react}
-use Rattle.batch_model.specs.Standing.{IsStandingBatch, IsStanding}
+use Rattle.batch_model.specs.Events.{Event, create, order, remove, report, ordered, removed, reported, refused, unknown_recipe, bad_binding, binding, is_binding, bound_by, creating_for, roles_told, unknown_batch, command_not_accepted, no_live_phase, report_not_expected, bad_output, full, not_idle, moves_pending, Answer, is_full, new_batch, with_batch, creating, stopped, commanded, lines_under, ordering, without_batch, removing, LivePhase, live_phase, phase_after, batch_state_after, outputs_of, batch_reported, reporting, judged, react}
+use Rattle.batch_model.specs.Standing.{IsControl, IsStandingBatch, IsStanding}
 use Rattle.batch_model.proofs.Members.{Each-append, Each-filter, find-Has}
 use Rattle.batch_machine.proofs.Advancing.{reach-advanced, withdrawn-advanced}
 use Rattle.batch_machine.proofs.Standing.{reach-IsRestOf}
@@ -27,7 +27,7 @@ use Rattle.batch_machine.proofs.Moving.{in_act-stands}
 -- One batch
 
 -- a batch of a recipe of which everything is reached anew
-anew-stands : (c : Setup) (b : Batch) (vs : ValueList) → Has c.recipes b.recipe → IsStandingBatch c (record b { values = vs; state = Idle; rest = reach vs b.recipe.procedure })
+anew-stands : (c : Setup) (b : Batch) (vs : ValueList) → IsControl c b.recipe → IsStandingBatch c (record b { values = vs; state = Idle; rest = reach vs b.recipe.procedure })
 anew-stands c b vs known =
     record { known = known; stands = reach-IsRestOf vs b.recipe.procedure; advanced = reach-advanced vs b.recipe.procedure }
 
@@ -80,7 +80,7 @@ module _ (c : Setup) (s : Plant) (k : IsStanding c s) where
         numbers = AreNumbered-only s.next_number n f s.batches same k.numbers;
       }
 
-  with_batch-stands : (r : Recipe) (size : ℕ) (vs : ValueList) → Has c.recipes r → IsStanding c (with_batch s r size vs)
+  with_batch-stands : (r : Recipe) (size : ℕ) (vs : ValueList) → IsControl c r → IsStanding c (with_batch s r size vs)
   with_batch-stands r size vs known =
       record {
         batches =
@@ -89,10 +89,21 @@ module _ (c : Setup) (s : Plant) (k : IsStanding c s) where
         numbers = AreNumbered-new s.next_number s.batches (new_batch s.next_number r size vs) refl k.numbers;
       }
 
-  creating-stands : (r : Recipe) (size : ℕ) (f : Formula) → Has c.recipes r → Stands (creating s r size f)
-  creating-stands r size size_out_of_range known = k
-  creating-stands r size (value_out_of_range name) known = k
-  creating-stands r size (scaled vs) known = with_batch-stands r size vs known
+  creating-stands : (r : Recipe) (size : ℕ) (told : List (Name × Name)) (f : Formula) → IsControl c r → Stands (creating s r size told f)
+  creating-stands r size told size_out_of_range known = k
+  creating-stands r size told (value_out_of_range name) known = k
+  creating-stands r size told (scaled vs) known = with_batch-stands r size vs known
+
+  binding-stands : (m : Master) (size : ℕ) (pairs : List (Name × Name)) → Has c.recipes m → Stands (binding s m size pairs)
+  binding-stands m size pairs h = go (is_binding m.roles pairs) refl
+    where
+      r : Recipe
+      r = m.control (bound_by pairs)
+
+      go : (t : Bool) → is_binding m.roles pairs ≡ t
+          → Stands (elim t [ false ↦ (refused bad_binding, s) | true ↦ creating_for s m size (bound_by pairs) ])
+      go false e = k
+      go true e = creating-stands r size (roles_told m.roles (bound_by pairs)) (r.formula size) (m, h, (pairs, e, refl))
 
   ordering-stands : (command : Command) (b : Batch) → Stands (ordering s command b)
   ordering-stands command b = go (accepts b.state command)
@@ -159,16 +170,16 @@ module _ (c : Setup) (s : Plant) (k : IsStanding c s) where
       go (Some e) = taken e (are_outputs l.batch.recipe.outputs outputs)
 
   judged-stands : (e : Event) → Stands (judged c s e)
-  judged-stands (create name size) = go (find (λ r. same_name r.name name) c.recipes) refl
+  judged-stands (create name size pairs) = go (find (λ m. same_name m.name name) c.recipes) refl
     where
-      room : (r : Recipe) → Has c.recipes r → (t : Bool) → Stands (elim t [ true ↦ (refused full, s) | false ↦ creating s r size (r.formula size) ])
-      room r h true = k
-      room r h false = creating-stands r size (r.formula size) h
+      room : (m : Master) → Has c.recipes m → (t : Bool) → Stands (elim t [ true ↦ (refused full, s) | false ↦ binding s m size pairs ])
+      room m h true = k
+      room m h false = binding-stands m size pairs h
 
-      go : (o : Option Recipe) → find (λ r. same_name r.name name) c.recipes ≡ o
-          → Stands (elim o [ None ↦ (refused unknown_recipe, s) | Some r ↦ elim (is_full c s) [ true ↦ (refused full, s) | false ↦ creating s r size (r.formula size) ] ])
+      go : (o : Option Master) → find (λ m. same_name m.name name) c.recipes ≡ o
+          → Stands (elim o [ None ↦ (refused unknown_recipe, s) | Some m ↦ elim (is_full c s) [ true ↦ (refused full, s) | false ↦ binding s m size pairs ] ])
       go None e = k
-      go (Some r) e = room r (find-Has (λ d. same_name d.name name) c.recipes r e) (is_full c s)
+      go (Some m) e = room m (find-Has (λ d. same_name d.name name) c.recipes m e) (is_full c s)
   judged-stands (order command n) = go (batch_at s n)
     where
       go : (o : Option Batch) → Stands (elim o [ None ↦ (refused unknown_batch, s) | Some b ↦ ordering s command b ])

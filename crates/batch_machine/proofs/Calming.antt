@@ -1,7 +1,6 @@
 -- A batch that changes its state by itself has less work left.
 use Rattle.std.proofs.Common.{◌≡◌, refl, sym, ◌∙◌, ap, ℕ, suc, length, ◌-◌, Bool, true, false, List, [], ◌∷◌, Some, None, arith, inl, inr, ◌<◌, ◌≤◌, ◌+◌, ◌*◌}
 use Rattle.std.proofs.lemmas.Bool.{and_parts}
-use Rattle.std.specs.Prelude.{◌&&◌}
 use Rattle.std.specs.List.{list_all}
 use Rattle.batch_matrix.specs.declared.state.State.{State}
 use Rattle.batch_matrix.specs.declared.state.State.TheVariants.{Idle, Running, Pausing, Paused, Holding, Held, Restarting, Stopping, Stopped, Aborting, Aborted, Complete}

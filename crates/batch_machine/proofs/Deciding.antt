@@ -19,7 +19,7 @@ use Rattle.batch_machine.proofs.Falling.{one_act, batch-rises, Has-batch_moves, 
 -- no act stands at the place of a state move
 no_act : (c : Setup) (b : Batch) (a : Rest) → HasPlacedTrees c → IsStandingBatch c b → Has (acts b.rest) a → place_of a ≡ [] → ⊥
 no_act c b a placed k h e =
-    let tree = Each-Has (λ r. IsPlaced (0 ∷ []) r.procedure) c.recipes b.recipe placed k.known in
+    let tree : IsPlaced (0 ∷ []) b.recipe.procedure = placed b.recipe k.known in
     let under : IsUnder (0 ∷ []) a = Each-Has (IsUnder (0 ∷ [])) (acts b.rest) a (acts-under (0 ∷ []) b.recipe.procedure b.rest tree k.stands) h in
     let f : ◌≡◌ {A = Place} (0 ∷ under.0) [] = sym under.1 ∙ e in
     absurd cc

@@ -9,7 +9,7 @@ use Rattle.batch_model.specs.Plant.{Setup, Batch, Plant, place_of, in_act}
 use Rattle.batch_model.specs.Moves.{Move, batch_of, place_of_move, act_move, act_after, state_move, batch_moves, possible, batch_after, after, next}
 use Rattle.batch_model.specs.Runs.{toil_left, batch_work_left, work_left}
 use Rattle.batch_model.specs.Standing.{HasPlacedTrees, IsStandingBatch, IsStanding}
-use Rattle.batch_model.specs.Placed.{IsPlaced, Rises}
+use Rattle.batch_model.specs.Placed.{Rises}
 use Rattle.batch_model.proofs.Members.{Each-Has, Has-flat_map, Has-filter_map}
 use Rattle.batch_machine.proofs.Ordering.{before-irrefl, least-IsLeast}
 use Rattle.batch_machine.proofs.Rising.{acts-rise}
@@ -49,7 +49,7 @@ Has-batch_moves c s b m h = go (state_move b) refl h
 -- the acts of a standing batch rise
 pub batch-rises : (c : Setup) (b : Batch) → HasPlacedTrees c → IsStandingBatch c b → Rises (acts b.rest)
 batch-rises c b placed k =
-    acts-rise (0 ∷ []) b.recipe.procedure b.rest (Each-Has (λ r. IsPlaced (0 ∷ []) r.procedure) c.recipes b.recipe placed k.known) k.stands
+    acts-rise (0 ∷ []) b.recipe.procedure b.rest (placed b.recipe k.known) k.stands
 
 -- the move of an act lowers the work left of its batch
 in_act-falls : (b : Batch) (a : Rest) (m : Move) → Rises (acts b.rest) → Has (acts b.rest) a → IsMoveOf b a m

@@ -1,13 +1,13 @@
 -- Each act of an expanded recipe carries the place at which it stands.
-use Rattle.std.proofs.Common.{◌≡◌, refl, sym, subst, ℕ, ◌+◌, List, [], ◌∷◌, Some, None}
+use Rattle.std.proofs.Common.{refl, sym, ap, ◌∙◌, subst, ℕ, ◌+◌, List, [], ◌∷◌, Some, None}
 use Rattle.std.specs.Prelude.{Option}
 use Rattle.batch_recipe.specs.Conditions.{Name}
 use Rattle.batch_recipe.specs.Diagram as chart
 use Rattle.batch_recipe.specs.Diagram.{Diagram, Diagrams, Cases, diagram_of}
 use Rattle.batch_recipe.specs.Tree.{Place, Tree, skip}
 use Rattle.batch_recipe.specs.Nodes.{child}
-use Rattle.batch_recipe.specs.Expanding.{expanded, expanded_each, expanded_cases, unit_below, task_of, act_named, act_tree, named_tree}
-use Rattle.batch_recipe.specs.Procedure.{tables_from, procedure_tree}
+use Rattle.batch_recipe.specs.Expanding.{expanded, expanded_each, expanded_cases, unit_below, task_of, act_named, Binding, unit_with, act_tree_with, named_tree_with}
+use Rattle.batch_recipe.specs.Procedure.{tables_from, bound_tree}
 use Rattle.batch_recipe.specs.declared.act.Act.{Act}
 use Rattle.batch_recipe.specs.declared.act.Work.{Work}
 use Rattle.batch_recipe.specs.declared.act.Work.TheVariants.{Follows, Runs}
@@ -16,7 +16,9 @@ use Rattle.batch_recipe.specs.declared.acts.Level.TheVariants.{UnitProcedures}
 use Rattle.batch_model.specs.Lists.{Each}
 use Rattle.batch_model.specs.Plant.{Setup}
 use Rattle.batch_model.specs.Standing.{HasPlacedTrees}
-use Rattle.batch_model.proofs.Members.{Each-map}
+use Rattle.batch_model.specs.Events.{bound_by}
+use Rattle.batch_machine.specs.Laws.{IsExpanded}
+use Rattle.batch_model.proofs.Members.{Each-Has}
 use Rattle.batch_model.specs.Placed.{IsPlaced, IsPlacedBelow, ArePlaced, IsChoicePlaced}
 
 -- whatever the label names is placed
@@ -45,27 +47,30 @@ module _ (acts : Name → Place → Tree) (placed : ArePlacedActs acts) where
   task_of-IsPlacedBelow unit name p (Follows c) = expanded-IsPlaced (child p 0) (diagram_of c)
   task_of-IsPlacedBelow unit name p (Runs phase values) = tt
 
-pub act_tree-IsPlaced : (acts : Name → Name → Place → Tree) → ((unit : Name) → ArePlacedActs (acts unit)) → (unit : Name) (a : Act) (p : Place)
-    → IsPlaced p (act_tree acts unit a p)
-act_tree-IsPlaced acts placed unit a p =
-    (refl, task_of-IsPlacedBelow (acts (unit_below unit a.unit)) (placed (unit_below unit a.unit)) (unit_below unit a.unit) a.name p a.work)
+module _ (bound : Binding) where
+  pub act_tree-IsPlaced : (acts : Name → Name → Place → Tree) → ((unit : Name) → ArePlacedActs (acts unit)) → (unit : Name) (a : Act) (p : Place)
+      → IsPlaced p (act_tree_with bound acts unit a p)
+  act_tree-IsPlaced acts placed unit a p =
+      let own : Name = unit_below unit (unit_with bound a.unit) in
+      (refl, task_of-IsPlacedBelow (acts own) (placed own) own a.name p a.work)
 
-pub named_tree-IsPlaced : (tables : List (List Act)) (unit : Name) → ArePlacedActs (named_tree tables unit)
-named_tree-IsPlaced [] unit name p = tt
-named_tree-IsPlaced (table ∷ tables) unit name p = go (act_named table name) (named_tree-IsPlaced tables)
-  where
-    go : (o : Option Act) → ((own : Name) → ArePlacedActs (named_tree tables own)) → IsPlaced p (elim o [ None ↦ skip | Some a ↦ act_tree (named_tree tables) unit a p ])
-    go None placed = tt
-    go (Some a) placed = act_tree-IsPlaced (named_tree tables) placed unit a p
+  pub named_tree-IsPlaced : (tables : List (List Act)) (unit : Name) → ArePlacedActs (named_tree_with bound tables unit)
+  named_tree-IsPlaced [] unit name p = tt
+  named_tree-IsPlaced (table ∷ tables) unit name p = go (act_named table name) (named_tree-IsPlaced tables)
+    where
+      go : (o : Option Act) → ((own : Name) → ArePlacedActs (named_tree_with bound tables own))
+          → IsPlaced p (elim o [ None ↦ skip | Some a ↦ act_tree_with bound (named_tree_with bound tables) unit a p ])
+      go None placed = tt
+      go (Some a) placed = act_tree-IsPlaced (named_tree_with bound tables) placed unit a p
 
 -- each act of a recipe's expanded tree carries its place
-pub procedure_tree-IsPlaced : (acts : Acts) → IsPlaced (0 ∷ []) (procedure_tree acts)
-procedure_tree-IsPlaced acts =
+pub bound_tree-IsPlaced : (acts : Acts) (bound : Binding) → IsPlaced (0 ∷ []) (bound_tree bound acts)
+bound_tree-IsPlaced acts bound =
     let tables = tables_from acts (Some UnitProcedures) in
-    act_tree-IsPlaced (named_tree tables) (named_tree-IsPlaced tables) [] acts.procedure (0 ∷ [])
+    act_tree-IsPlaced bound (named_tree_with bound tables) (named_tree-IsPlaced bound tables) [] acts.procedure (0 ∷ [])
 
--- documents whose recipes have the expanded trees of acts have placed trees
-pub expanded-HasPlacedTrees : (c : Setup) → Each (λ r. (recipe_acts : Acts) × (r.procedure ≡ procedure_tree recipe_acts)) c.recipes → HasPlacedTrees c
-expanded-HasPlacedTrees c h =
-    Each-map (λ r. (recipe_acts : Acts) × (r.procedure ≡ procedure_tree recipe_acts)) (λ r. IsPlaced (0 ∷ []) r.procedure)
-    (λ r e. subst (IsPlaced (0 ∷ [])) (sym e.1) (procedure_tree-IsPlaced e.0)) c.recipes h
+-- setups whose recipes have the expanded trees of acts have placed trees
+pub expanded-HasPlacedTrees : (c : Setup) → Each IsExpanded c.recipes → HasPlacedTrees c
+expanded-HasPlacedTrees c h r (m, known, (pairs, is, made)) =
+    let acts : IsExpanded m = Each-Has IsExpanded c.recipes m h known in
+    subst (IsPlaced (0 ∷ [])) (sym (ap (λ z. z.procedure) made ∙ acts.1 (bound_by pairs))) (bound_tree-IsPlaced acts.0 (bound_by pairs))

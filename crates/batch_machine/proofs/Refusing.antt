@@ -1,5 +1,5 @@
 -- A refused event leaves the plant as it was, and some refusals come only where they have a cause.
-use Rattle.std.proofs.Common.{◌≡◌, ◌⊎◌, refl, sym, subst, ℕ, ◌<◌, ◌≤◌, arith, length, Bool, true, false, ◌||◌, nat_le, nat_lt, Some, None, inl, inr}
+use Rattle.std.proofs.Common.{◌≡◌, ◌⊎◌, refl, sym, subst, ℕ, ◌<◌, ◌≤◌, arith, length, Bool, true, false, ◌||◌, nat_le, nat_lt, Some, None, inl, inr, List}
 use Rattle.std.specs.Prelude.{Option, find, ⊤}
 use Rattle.batch_matrix.specs.declared.state.State.{State}
 use Rattle.batch_matrix.specs.declared.state.State.TheVariants.{Idle, Running, Pausing, Paused, Holding, Held, Restarting, Stopping, Stopped, Aborting, Aborted, Complete}
@@ -8,10 +8,10 @@ use Rattle.batch_matrix.specs.declared.report.Report.{Report}
 use Rattle.batch_matrix.specs.declared.report.PhaseEnd.{PhaseEnd}
 use Rattle.batch_matrix.specs.Matrix.{accepts, target, after_report}
 use Rattle.batch_recipe.specs.Conditions.{Name, ValueList, same_name}
-use Rattle.batch_model.specs.Plant.{Formula, size_out_of_range, value_out_of_range, scaled, Recipe, Setup, Batch, Plant, batch_at, in_batch}
+use Rattle.batch_model.specs.Plant.{Formula, size_out_of_range, value_out_of_range, scaled, Recipe, Setup, Batch, Plant, batch_at, in_batch, Master}
 use Rattle.batch_model.specs.Moves.{Move, next}
 use Rattle.batch_recipe.specs.Values.{are_outputs}
-use Rattle.batch_model.specs.Events.{Event, create, order, remove, report, Reply, created, ordered, removed, reported, refused, Refusal, unknown_recipe, unknown_batch, command_not_accepted, no_live_phase, report_not_expected, bad_output, full, not_idle, moves_pending, no_memory, Answer, is_full, creating, commanded, lines_under, ordering, without_batch, removing, LivePhase, live_phase, batch_state_after, outputs_of, batch_reported, reporting, judged, react}
+use Rattle.batch_model.specs.Events.{Event, create, order, remove, report, Reply, created, ordered, removed, reported, refused, Refusal, unknown_recipe, bad_binding, binding, is_binding, bound_by, creating_for, roles_told, unknown_batch, command_not_accepted, no_live_phase, report_not_expected, bad_output, full, not_idle, moves_pending, no_memory, Answer, is_full, creating, commanded, lines_under, ordering, without_batch, removing, LivePhase, live_phase, batch_state_after, outputs_of, batch_reported, reporting, judged, react}
 use Rattle.batch_model.specs.Runs.{IsCreated, Reacts}
 use Rattle.batch_machine.specs.Laws.{IsCreate, HasCause}
 use Rattle.batch_model.specs.declared.limits.TheConstants.{LAST_NUMBER}
@@ -19,7 +19,7 @@ use Rattle.batch_model.specs.declared.limits.TheConstants.{LAST_NUMBER}
 -- a refusal has a cause and changes nothing, and a batch is created by a create
 abbrev IsJust : Setup → Plant → Event → Reply → Plant → Type 0
 IsJust c s e (refused x) t = (t ≡ s) × HasCause c s e x
-IsJust c s e (created n r size) t = IsCreate e
+IsJust c s e (created n r size told) t = IsCreate e
 IsJust c s e _ t = ⊤
 
 either-limit : (a b : Bool) (m n k l : ℕ) → (a ≡ true → m ≤ n) → (b ≡ true → k < l) → (a || b) ≡ true → (m ≤ n) ⊎ (k < l)
@@ -42,10 +42,22 @@ module _ (c : Setup) (s : Plant) where
   abbrev Just : Event → Answer → Type 0
   Just e a = IsJust c s e a.0 a.1
 
-  creating-just : (name : Name) (size : ℕ) (r : Recipe) (f : Formula) → Just (create name size) (creating s r size f)
-  creating-just name size r size_out_of_range = (refl, tt)
-  creating-just name size r (value_out_of_range v) = (refl, tt)
-  creating-just name size r (scaled vs) = tt
+  creating-just : (name : Name) (size : ℕ) (pairs told : List (Name × Name)) (r : Recipe) (f : Formula) → Just (create name size pairs) (creating s r size told f)
+  creating-just name size pairs told r size_out_of_range = (refl, tt)
+  creating-just name size pairs told r (value_out_of_range v) = (refl, tt)
+  creating-just name size pairs told r (scaled vs) = tt
+
+  binding-just : (name : Name) (size : ℕ) (pairs : List (Name × Name)) (m : Master) → find (λ d. same_name d.name name) c.recipes ≡ Some m
+      → Just (create name size pairs) (binding s m size pairs)
+  binding-just name size pairs m found = go (is_binding m.roles pairs) refl
+    where
+      r : Recipe
+      r = m.control (bound_by pairs)
+
+      go : (t : Bool) → is_binding m.roles pairs ≡ t
+          → Just (create name size pairs) (elim t [ false ↦ (refused bad_binding, s) | true ↦ creating_for s m size (bound_by pairs) ])
+      go false e = (refl, (m, found, e))
+      go true e = creating-just name size pairs (roles_told m.roles (bound_by pairs)) r (r.formula size)
 
   ordering-just : (e : Event) (command : Command) (b : Batch) → Just e (ordering s command b)
   ordering-just e command b = go (accepts b.state command)
@@ -105,16 +117,17 @@ module _ (c : Setup) (s : Plant) where
       go (Some end) = taken end (are_outputs l.batch.recipe.outputs outputs)
 
   judged-just : (e : Event) → Just e (judged c s e)
-  judged-just (create name size) = go (find (λ r. same_name r.name name) c.recipes)
+  judged-just (create name size pairs) = go (find (λ m. same_name m.name name) c.recipes) refl
     where
-      room : (r : Recipe) (t : Bool) → is_full c s ≡ t → Just (create name size) (elim t [ true ↦ (refused full, s) | false ↦ creating s r size (r.formula size) ])
-      room r true e = (refl, full-cause c s e)
-      room r false e = creating-just name size r (r.formula size)
+      room : (m : Master) → find (λ d. same_name d.name name) c.recipes ≡ Some m → (t : Bool) → is_full c s ≡ t
+          → Just (create name size pairs) (elim t [ true ↦ (refused full, s) | false ↦ binding s m size pairs ])
+      room m found true e = (refl, full-cause c s e)
+      room m found false e = binding-just name size pairs m found
 
-      go : (o : Option Recipe) → Just (create name size)
-          (elim o [ None ↦ (refused unknown_recipe, s) | Some r ↦ elim (is_full c s) [ true ↦ (refused full, s) | false ↦ creating s r size (r.formula size) ] ])
-      go None = (refl, tt)
-      go (Some r) = room r (is_full c s) refl
+      go : (o : Option Master) → find (λ m. same_name m.name name) c.recipes ≡ o → Just (create name size pairs)
+          (elim o [ None ↦ (refused unknown_recipe, s) | Some m ↦ elim (is_full c s) [ true ↦ (refused full, s) | false ↦ binding s m size pairs ] ])
+      go None found = (refl, tt)
+      go (Some m) found = room m found (is_full c s) refl
   judged-just (order command n) = go (batch_at s n)
     where
       go : (o : Option Batch) → Just (order command n) (elim o [ None ↦ (refused unknown_batch, s) | Some b ↦ ordering s command b ])
@@ -139,7 +152,7 @@ module _ (c : Setup) (s : Plant) where
       go (Some m) f = (refl, λ g. absurd cc)
 
   created-create : (e : Event) (a : Answer) → Just e a → IsCreated a.0 → IsCreate e
-  created-create e (created n r size, t) h k = h
+  created-create e (created n r size told, t) h k = h
   created-create e (ordered command n x, t) h k = absurd k
   created-create e (removed n, t) h k = absurd k
   created-create e (reported unit name word n p x, t) h k = absurd k

@@ -1,14 +1,15 @@
 -- surface: the laws of the machine's steps.
-use Rattle.std.specs.Prelude.{◌≡◌, ◌⊎◌, ◌<◌, ◌≤◌, ℕ, List, [], ◌∷◌, ◌++◌, length, map, true, false, Some, None, ⊤}
-use Rattle.batch_recipe.specs.Conditions.{Name, ValueList}
-use Rattle.batch_recipe.specs.Procedure.{procedure_tree}
+use Rattle.std.specs.Prelude.{◌≡◌, ◌⊎◌, ◌<◌, ◌≤◌, ℕ, List, [], ◌∷◌, ◌++◌, length, map, find, true, false, Some, None, ⊤}
+use Rattle.batch_recipe.specs.Conditions.{Name, ValueList, same_name}
+use Rattle.batch_recipe.specs.Expanding.{Binding}
+use Rattle.batch_recipe.specs.Procedure.{bound_tree}
 use Rattle.batch_recipe.specs.Tree.{Place, Tree}
 use Rattle.batch_recipe.specs.declared.acts.Acts.{Acts}
 use Rattle.batch_model.specs.Lists.{Has, Each}
 use Rattle.batch_model.specs.Rest.{Rest, acts, reach, advance, withdrawn}
-use Rattle.batch_model.specs.Plant.{Setup, Plant, opening, place_of, held_in, phase_states}
+use Rattle.batch_model.specs.Plant.{Master, Setup, Plant, opening, place_of, held_in, phase_states}
 use Rattle.batch_model.specs.Moves.{Move, batch_of, place_of_move, is_earlier, possible, next, after}
-use Rattle.batch_model.specs.Events.{Event, create, Reply, refused, Refusal, full, moves_pending, no_memory}
+use Rattle.batch_model.specs.Events.{Event, create, Reply, refused, Refusal, bad_binding, full, moves_pending, no_memory, is_binding}
 use Rattle.batch_model.specs.Runs.{Out, reply, move, Reacts, Leads, work_left, settling, run}
 use Rattle.batch_model.specs.Records.{holders_after, holders_told, waiters_after, waiters_told, active_after, active_told, state_after, state_told}
 use Rattle.batch_model.specs.Settled.{IsAdvanced}
@@ -18,15 +19,17 @@ use Rattle.batch_model.specs.declared.limits.TheConstants.{LAST_NUMBER}
 
 -- What remains
 
--- each act of a recipe's expanded tree carries the place at which it stands
+-- each act of a recipe's expanded tree carries the place at which it stands, whatever units take its roles
 abbrev pub TreesArePlaced : Type 0
-TreesArePlaced = (recipe_acts : Acts) → IsPlaced (0 ∷ []) (procedure_tree recipe_acts)
+TreesArePlaced = (recipe_acts : Acts) (bound : Binding) → IsPlaced (0 ∷ []) (bound_tree bound recipe_acts)
+
+-- the control recipes of the master recipe are expanded from acts
+abbrev pub IsExpanded : Master → Type 0
+IsExpanded master = (recipe_acts : Acts) × ((bound : Binding) → (master.control bound).procedure ≡ bound_tree bound recipe_acts)
 
 -- and so do the trees of setups whose recipes are expanded from acts
 abbrev pub SetupsArePlaced : Type 0
-SetupsArePlaced =
-    (setup : Setup) → Each (λ recipe. (recipe_acts : Acts) × (recipe.procedure ≡ procedure_tree recipe_acts)) setup.recipes
-    → HasPlacedTrees setup
+SetupsArePlaced = (setup : Setup) → Each IsExpanded setup.recipes → HasPlacedTrees setup
 
 -- nothing is left to be reached of a chart that has just been reached, nor of a rest that has advanced
 abbrev pub ReachesFully : Type 0
@@ -114,12 +117,22 @@ RefusalsChangeNothing =
     → later ≡ plant
 
 abbrev pub IsCreate : Event → Type 0
-IsCreate (create name size) = ⊤
+IsCreate (create name size pairs) = ⊤
 IsCreate _ = ⊥
 
--- moves pend only where there is a next one, the plant is full only at a limit, and memory is wanted by a create alone
+-- the create's recipe is there, and its pairs are no binding of the recipe's roles
+abbrev pub BindsBadly : Setup → Event → Type 0
+BindsBadly setup (create name size pairs) =
+    (master : Master)
+    × (find (λ known. same_name known.name name) setup.recipes ≡ Some master)
+    × (is_binding master.roles pairs ≡ false)
+BindsBadly setup _ = ⊥
+
+-- moves pend only where there is a next one, a binding is bad only where the recipe's roles aren't bound by it, the plant is full
+-- only at a limit, and memory is wanted by a create alone
 abbrev pub HasCause : Setup → Plant → Event → Refusal → Type 0
 HasCause setup plant event moves_pending = next setup plant ≡ None → ⊥
+HasCause setup plant event bad_binding = BindsBadly setup event
 HasCause setup plant event full = (setup.batch_limit ≤ length plant.batches) ⊎ (LAST_NUMBER < plant.next_number)
 HasCause setup plant event no_memory = IsCreate event
 HasCause setup plant event _ = ⊤

@@ -6,7 +6,8 @@ pub fn refusals_change_nothing()
     ensures { RefusalsChangeNothing }
 {}
 
-/// Moves pend only where there is a next one, the plant is full only at a limit, and memory is wanted by a create alone.
+/// Moves pend only where there is a next one, a binding is bad only where the recipe's roles aren't bound by it, the plant is full
+/// only at a limit, and memory is wanted by a create alone.
 pub fn refusals_have_causes()
     ensures { RefusalsHaveCauses }
 {}

@@ -1,7 +1,7 @@
 //! What remains of a recipe.
 ghost use Rattle.batch_machine.specs.Laws.{ActsRise, AdvancesFully, AdvancingHoldsTheSame, AdvancingRunsTheSamePhases, AdvancingStands, SetupsArePlaced, OneActAPlace, ReachesFully, ReachingHoldsNothing, ReachingRunsNoPhase, ReachingStands, TreesArePlaced, WithdrawingStands};
 
-/// Each act of a recipe's expanded tree carries the place at which it stands, so the setups that recipes make have placed trees.
+/// Each act of a recipe's expanded tree carries the place at which it stands, whatever units take its roles, so the setups that recipes make have placed trees.
 pub fn trees_are_placed()
     ensures tree { TreesArePlaced }
     ensures setups { SetupsArePlaced }

@@ -7,7 +7,7 @@ pub fn records_go_on()
     ensures by_replies { RecordsGoOnByReplies }
 {}
 
-/// In every plant that is led to, each batch is of one of the recipes, its rest can remain of that, and batch numbers rise.
+/// In every plant that is led to, each batch is of a control recipe of one of the recipes, its rest can remain of that, and batch numbers rise.
 pub fn plants_stand()
     ensures { PlantsStand }
 {}

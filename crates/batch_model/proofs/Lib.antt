@@ -1,3 +1,4 @@
 pub mod Members
 pub mod Parts
 pub mod Exclusive
+pub mod Bindings

@@ -7,7 +7,8 @@ use Rattle.batch_recipe.specs.WellFormed.{is_among, are_distinct}
 use Rattle.batch_recipe.specs.Needs.{resources_of}
 use Rattle.batch_recipe.specs.declared.need.Need.{Need}
 use Rattle.batch_model.specs.Lists.{Each}
-use Rattle.batch_model.specs.Plant.{Recipe, Setup}
+use Rattle.batch_recipe.specs.Expanding.{Binding}
+use Rattle.batch_model.specs.Plant.{Recipe, Master, Setup}
 use Rattle.batch_model.specs.declared.limits.TheConstants.{MAX_RECIPES}
 
 abbrev pub Ranking : Type 0
@@ -172,9 +173,18 @@ pub record IsClear (setup : Setup) (rank : Ranking) (this_part : Part) : Type 0 
   -- along the path from the root, in the order in which the needs are asked for
   pub rising : RiseStrictly rank this_part.node.asked
 
--- the ranking clears the recipe
-abbrev pub IsClearedRecipe : Setup → Ranking → Recipe → Type 0
-IsClearedRecipe setup rank recipe = Each (IsClear setup rank) (procedure_parts recipe)
+-- each role that the tree names has a unit that may take it
+abbrev pub HasCandidates : Master → Type 0
+HasCandidates master = Each (λ role. IsTrue (master.names_role role.name) → (unit : Name) × IsTrue (is_among role.candidates unit)) master.roles
+
+-- each role that the tree names is taken by a unit that may take it
+abbrev pub IsServed : Master → Binding → Type 0
+IsServed master bound = Each (λ role. IsTrue (master.names_role role.name) → IsTrue (is_among role.candidates (bound role.name))) master.roles
+
+-- the ranking clears the recipe, whatever units take its roles
+abbrev pub IsClearedRecipe : Setup → Ranking → Master → Type 0
+IsClearedRecipe setup rank master =
+    HasCandidates master × ((bound : Binding) → IsServed master bound → Each (IsClear setup rank) (procedure_parts (master.control bound)))
 
 -- the ranking clears the recipes for the cell
 pub record IsCleared (setup : Setup) (rank : Ranking) : Type 0 where

@@ -1,5 +1,6 @@
 -- trusted: the events that come from outside, and what the plant replies and becomes.
-use Rattle.std.specs.Prelude.{ℕ, suc, List, [], ◌∷◌, ◌++◌, length, filter, find, Bool, true, false, ◌&&◌, ◌||◌, not, Option, Some, None, nat_eq, nat_lt, nat_le}
+use Rattle.std.specs.Prelude.{ℕ, suc, List, [], ◌∷◌, ◌++◌, length, map, filter, find, Bool, true, false, ◌&&◌, ◌||◌, not, Option, Some, None, nat_eq, nat_lt, nat_le}
+use Rattle.std.specs.List.{list_all}
 use Rattle.batch_matrix.specs.declared.state.State.{State}
 use Rattle.batch_matrix.specs.declared.state.State.TheVariants.{Idle, Holding}
 use Rattle.batch_matrix.specs.declared.command.Command.{Command}
@@ -10,15 +11,18 @@ use Rattle.batch_matrix.specs.declared.report.PhaseEnd.TheVariants.{Ended, Now, 
 use Rattle.batch_matrix.specs.Matrix.{accepts, target, after_report}
 use Rattle.batch_recipe.specs.Conditions.{Name, ValueList, same_name}
 use Rattle.batch_recipe.specs.Values.{with_values, with_outputs_zero, are_outputs}
+use Rattle.batch_recipe.specs.Expanding.{Binding}
+use Rattle.batch_recipe.specs.WellFormed.{is_among, are_distinct}
 use Rattle.batch_recipe.specs.Tree.{Place}
 use Rattle.batch_recipe.specs.declared.scaling.TheConstants.{MAX_VALUE}
 use Rattle.batch_model.specs.Rest.{Rest, live, acts, reach, withdrawn}
-use Rattle.batch_model.specs.Plant.{Formula, size_out_of_range, value_out_of_range, scaled, Recipe, Setup, Batch, Share, Plant, batch_at, in_batch, in_act}
+use Rattle.batch_model.specs.Plant.{Formula, size_out_of_range, value_out_of_range, scaled, Recipe, Role, Master, Setup, Batch, Share, Plant, batch_at, in_batch, in_act}
 use Rattle.batch_model.specs.Moves.{ended, next}
 use Rattle.batch_model.specs.declared.limits.TheConstants.{LAST_NUMBER}
 
 pub data Event : Type 0 where
-  create : Name → ℕ → Event
+  -- the recipe, the size, and pairs of a role and the unit that is to take it
+  create : Name → ℕ → List (Name × Name) → Event
   order : Command → ℕ → Event
   remove : ℕ → Event
   -- the unit, the phase, the word, and the outputs, which count where the phase is done
@@ -31,6 +35,7 @@ pub data Refusal : Type 0 where
   no_live_phase : Refusal
   report_not_expected : State → Refusal
   bad_output : Refusal
+  bad_binding : Refusal
   bad_size : Refusal
   bad_value : Name → Refusal
   full : Refusal
@@ -39,8 +44,8 @@ pub data Refusal : Type 0 where
   no_memory : Refusal
 
 pub data Reply : Type 0 where
-  -- the batch's number, its recipe and its size
-  created : ℕ → Name → ℕ → Reply
+  -- the batch's number, its recipe, its size, and each role with the unit that takes it, in the order of the roles
+  created : ℕ → Name → ℕ → List (Name × Name) → Reply
   -- the batch's state after it
   ordered : Command → ℕ → State → Reply
   removed : ℕ → Reply
@@ -65,10 +70,35 @@ abbrev pub with_batch : Plant → Recipe → ℕ → ValueList → Plant
 with_batch plant recipe size values =
     record plant { batches = plant.batches ++ new_batch plant.next_number recipe size values ∷ []; next_number = suc plant.next_number }
 
-abbrev pub creating : Plant → Recipe → ℕ → Formula → Answer
-creating plant recipe size size_out_of_range = (refused bad_size, plant)
-creating plant recipe size (value_out_of_range name) = (refused (bad_value name), plant)
-creating plant recipe size (scaled values) = (created plant.next_number recipe.name size, with_batch plant recipe size values)
+abbrev pub creating : Plant → Recipe → ℕ → List (Name × Name) → Formula → Answer
+creating plant recipe size told size_out_of_range = (refused bad_size, plant)
+creating plant recipe size told (value_out_of_range name) = (refused (bad_value name), plant)
+creating plant recipe size told (scaled values) = (created plant.next_number recipe.name size told, with_batch plant recipe size values)
+
+-- the unit that the first pair with this role gives it
+abbrev pub bound_by : List (Name × Name) → Binding
+bound_by [] role = []
+bound_by (pair ∷ pairs) role = elim (same_name pair.0 role) [ true ↦ pair.1 | false ↦ bound_by pairs role ]
+
+-- each role is bound once, to a unit that may take it, and no other name is
+abbrev pub is_binding : List Role → List (Name × Name) → Bool
+is_binding roles pairs =
+    are_distinct (map (λ pair. pair.0) pairs)
+    && (list_all (λ pair. is_among (map (λ role. role.name) roles) pair.0) pairs
+    && list_all (λ role. is_among role.candidates (bound_by pairs role.name)) roles)
+
+-- each role with the unit that takes it
+abbrev pub roles_told : List Role → Binding → List (Name × Name)
+roles_told roles bound = map (λ role. (role.name, bound role.name)) roles
+
+-- a batch of the control recipe for these units
+abbrev pub creating_for : Plant → Master → ℕ → Binding → Answer
+creating_for plant master size bound =
+    creating plant (master.control bound) size (roles_told master.roles bound) ((master.control bound).formula size)
+
+abbrev pub binding : Plant → Master → ℕ → List (Name × Name) → Answer
+binding plant master size pairs =
+    elim (is_binding master.roles pairs) [ false ↦ (refused bad_binding, plant) | true ↦ creating_for plant master size (bound_by pairs) ]
 
 -- Commands
 
@@ -204,10 +234,10 @@ reporting plant unit name word outputs found =
 
 -- the reply to an event while no move is pending, and the plant after it: the first refusal that has a cause, or what was asked for
 abbrev pub judged : Setup → Plant → Event → Answer
-judged setup plant (create name size) =
-    elim (find (λ recipe. same_name recipe.name name) setup.recipes) [
+judged setup plant (create name size pairs) =
+    elim (find (λ master. same_name master.name name) setup.recipes) [
       | None ↦ (refused unknown_recipe, plant)
-      | Some recipe ↦ elim (is_full setup plant) [ true ↦ (refused full, plant) | false ↦ creating plant recipe size (recipe.formula size) ]
+      | Some master ↦ elim (is_full setup plant) [ true ↦ (refused full, plant) | false ↦ binding plant master size pairs ]
     ]
 judged setup plant (order command number) =
     elim (batch_at plant number) [ None ↦ (refused unknown_batch, plant) | Some batch ↦ ordering plant command batch ]

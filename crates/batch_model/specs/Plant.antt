@@ -4,6 +4,7 @@ use Rattle.batch_matrix.specs.declared.state.State.{State}
 use Rattle.batch_recipe.specs.Conditions.{Name, ValueList}
 use Rattle.batch_recipe.specs.Tree.{Place, Tree}
 use Rattle.batch_recipe.specs.Conditions.{same_name}
+use Rattle.batch_recipe.specs.Expanding.{Binding}
 use Rattle.batch_recipe.specs.declared.need.Need.{Need}
 use Rattle.batch_model.specs.Rest.{same_place, Rest, ready, asking, open_act, live, freeing, acts, advance, changed_at}
 
@@ -13,21 +14,38 @@ pub data Formula : Type 0 where
   value_out_of_range : Name → Formula
   scaled : ValueList → Formula
 
+-- a control recipe: the recipe of one batch, in which the units of its unit procedures are known
 pub record Recipe : Type 0 where
   pub name : Name
   pub formula : ℕ → Formula
   pub outputs : List Name
   pub procedure : Tree
 
+-- a role, and the units that may take it
+pub record Role : Type 0 where
+  pub name : Name
+  pub candidates : List Name
+
+-- a master recipe: its roles, which of them its tree names, and the control recipe for units that take them
+pub record Master : Type 0 where
+  pub name : Name
+  pub roles : List Role
+  pub names_role : Name → Bool
+  pub control : Binding → Recipe
+
+-- a master recipe without roles
+abbrev pub plain : Recipe → Master
+plain recipe = record { name = recipe.name; roles = []; names_role = λ role. false; control = λ bound. recipe }
+
 -- what the machine is set up with: the names of its cell's units and of all its resources, which are the units, the free
--- modules and what is shared; the capacity of each resource, which phases a unit offers, and the recipes; and the most batches
--- that may exist at once
+-- modules and what is shared; the capacity of each resource, which phases a unit offers, and the master recipes; and the most
+-- batches that may exist at once
 pub record Setup : Type 0 where
   pub units : List Name
   pub resources : List Name
   pub capacity : Name → ℕ
   pub offers : Name → Name → Bool
-  pub recipes : List Recipe
+  pub recipes : List Master
   pub batch_limit : ℕ
 
 pub record Batch : Type 0 where

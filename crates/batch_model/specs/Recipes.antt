@@ -1,7 +1,8 @@
--- trusted: the recipe of the machine that a recipe document stands for.
+-- trusted: the control recipes of the machine that a recipe document stands for.
 use Rattle.std.specs.Prelude.{ℕ, true, false, not, Some, None, find}
 use Rattle.batch_recipe.specs.Formula.{is_size, is_in_range, quantities_of, batch_values}
-use Rattle.batch_recipe.specs.Procedure.{procedure_tree}
+use Rattle.batch_recipe.specs.Expanding.{Binding}
+use Rattle.batch_recipe.specs.Procedure.{bound_tree}
 use Rattle.batch_recipe.specs.declared.recipe.Recipe as document
 use Rattle.batch_model.specs.Plant.{Formula, size_out_of_range, value_out_of_range, scaled, Recipe}
 
@@ -14,12 +15,12 @@ values_for recipe size =
 abbrev pub formula_of : document.Recipe → ℕ → Formula
 formula_of recipe size = elim (is_size size) [ true ↦ values_for recipe size | false ↦ size_out_of_range ]
 
--- a recipe's name is that of its procedure
-abbrev pub recipe_of : document.Recipe → Recipe
-recipe_of recipe =
+-- a recipe's name is that of its procedure; its unit procedures run on the units that take their roles
+abbrev pub recipe_of : document.Recipe → Binding → Recipe
+recipe_of recipe bound =
     record {
       name = recipe.acts.procedure.name;
       formula = formula_of recipe;
       outputs = recipe.outputs.items;
-      procedure = procedure_tree recipe.acts;
+      procedure = bound_tree bound recipe.acts;
     }

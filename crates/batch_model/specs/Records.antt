@@ -68,7 +68,7 @@ active_told outs = fold active_after [] outs
 
 -- a batch's state is the last one that a line tells
 abbrev pub state_after : ℕ → Option State → Out → Option State
-state_after number old (reply (created its_number recipe size)) = elim (nat_eq its_number number) [ true ↦ Some Idle | false ↦ old ]
+state_after number old (reply (created its_number recipe size roles)) = elim (nat_eq its_number number) [ true ↦ Some Idle | false ↦ old ]
 state_after number old (reply (ordered command its_number becomes)) = elim (nat_eq its_number number) [ true ↦ Some becomes | false ↦ old ]
 state_after number old (reply (reported unit name word its_number place becomes)) =
     elim (nat_eq its_number number) [ true ↦ Some becomes | false ↦ old ]

@@ -14,7 +14,7 @@ pub data Out : Type 0 where
   move : Move → Out
 
 abbrev pub IsCreated : Reply → Type 0
-IsCreated (created number recipe size) = ⊤
+IsCreated (created number recipe size roles) = ⊤
 IsCreated _ = ⊥
 
 -- the plant may give this reply to the event and become the later one: what `react` says, or, where it would create, want of memory

@@ -1,9 +1,11 @@
 -- surface: a plant in which each batch's rest is what can remain of its recipe: every act of it stands at its node of the expanded tree.
-use Rattle.std.specs.Prelude.{◌≡◌, ◌⊎◌, ℕ, ◌<◌, ◌≤◌, List, [], ◌∷◌, length, ⊤}
+use Rattle.std.specs.Prelude.{◌≡◌, ◌⊎◌, ℕ, ◌<◌, ◌≤◌, List, [], ◌∷◌, length, true, ⊤}
+use Rattle.batch_recipe.specs.Conditions.{Name}
 use Rattle.batch_recipe.specs.Tree.{Task, runs, follows, Tree, act, seq, par, sel, loop, Trees, no_trees, tree, Choices, otherwise, choice}
 use Rattle.batch_model.specs.Lists.{Has, Each}
 use Rattle.batch_model.specs.Rest.{Rest, ready, asking, open_act, live, freeing, in_seq, in_par, in_loop, done, Rests, no_rests, rest}
-use Rattle.batch_model.specs.Plant.{Setup, Batch, Plant}
+use Rattle.batch_model.specs.Plant.{Recipe, Master, Setup, Batch, Plant}
+use Rattle.batch_model.specs.Events.{is_binding, bound_by}
 use Rattle.batch_model.specs.Settled.{IsAdvanced}
 use Rattle.batch_model.specs.Placed.{IsPlaced}
 
@@ -41,13 +43,22 @@ abbrev mutual
   IsChosen (otherwise chart) remaining = IsRestOf chart remaining
   IsChosen (choice condition chart choices) remaining = IsRestOf chart remaining ⊎ IsChosen choices remaining
 
--- each recipe's expanded tree carries the places of its acts
-abbrev pub HasPlacedTrees : Setup → Type 0
-HasPlacedTrees setup = Each (λ recipe. IsPlaced (0 ∷ []) recipe.procedure) setup.recipes
+-- the control recipe is made from the master recipe, for units that take its roles
+abbrev pub IsControlOf : Master → Recipe → Type 0
+IsControlOf master recipe =
+    (pairs : List (Name × Name)) × (is_binding master.roles pairs ≡ true) × (recipe ≡ master.control (bound_by pairs))
 
--- the batch makes one of the recipes, its rest is what can remain of that, and nothing is left to be reached
+-- and from one of those of the setup
+abbrev pub IsControl : Setup → Recipe → Type 0
+IsControl setup recipe = (master : Master) × Has setup.recipes master × IsControlOf master recipe
+
+-- each control recipe's expanded tree carries the places of its acts
+abbrev pub HasPlacedTrees : Setup → Type 0
+HasPlacedTrees setup = (recipe : Recipe) → IsControl setup recipe → IsPlaced (0 ∷ []) recipe.procedure
+
+-- the batch makes a control recipe of the setup, its rest is what can remain of that, and nothing is left to be reached
 pub record IsStandingBatch (setup : Setup) (batch : Batch) : Type 0 where
-  pub known : Has setup.recipes batch.recipe
+  pub known : IsControl setup batch.recipe
   pub stands : IsRestOf batch.recipe.procedure batch.rest
   pub advanced : IsAdvanced batch.rest
 

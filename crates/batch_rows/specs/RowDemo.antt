@@ -4,7 +4,7 @@ use Rattle.batch_recipe.specs.Conditions.{Name, same_name}
 use Rattle.batch_recipe.specs.Formula.{is_size}
 use Rattle.batch_recipe.specs.Tree.{Phase, Tree, act, runs, follows}
 use Rattle.batch_recipe.specs.Needs.{one_unit}
-use Rattle.batch_model.specs.Plant.{Formula, size_out_of_range, scaled, Recipe, Setup}
+use Rattle.batch_model.specs.Plant.{Formula, size_out_of_range, scaled, Recipe, plain, Setup}
 use Rattle.batch_model.specs.declared.limits.TheConstants.{MAX_LIVE_BATCHES}
 
 -- both units offer the three phases
@@ -42,6 +42,6 @@ demo = record {
   resources = codes "R1" ∷ codes "R2" ∷ codes "HDR" ∷ codes "STEAM" ∷ [];
   capacity = capacity;
   offers = offers;
-  recipes = recipe ∷ [];
+  recipes = plain recipe ∷ [];
   batch_limit = MAX_LIVE_BATCHES;
 }

@@ -1,5 +1,5 @@
 -- worked rows: the cells and the recipes of the worked rows.
-use Rattle.std.specs.Prelude.{ℕ, List, [], ◌∷◌, true, false, nat_le, codes}
+use Rattle.std.specs.Prelude.{ℕ, map, List, [], ◌∷◌, true, false, ◌||◌, nat_le, codes}
 use Rattle.batch_recipe.specs.Conditions.{Name, ValueList, same_name}
 use Rattle.batch_recipe.specs.declared.condition.Cond.{Cond}
 use Rattle.batch_recipe.specs.declared.condition.Op.TheVariants.{Equal, AtLeast, Greater}
@@ -13,7 +13,7 @@ use Rattle.batch_recipe.specs.Tree as node
 use Rattle.batch_recipe.specs.Tree.{Place, Tree, act, runs, follows}
 use Rattle.batch_recipe.specs.Needs.{one_unit}
 use Rattle.batch_recipe.specs.declared.need.Need.{Need}
-use Rattle.batch_model.specs.Plant.{Formula, size_out_of_range, value_out_of_range, scaled, Recipe, Setup}
+use Rattle.batch_model.specs.Plant.{Formula, size_out_of_range, value_out_of_range, scaled, Recipe, Master, plain, Setup}
 use Rattle.batch_rows.specs.RowDemo as demo
 
 -- Names
@@ -257,15 +257,70 @@ recipe_sides =
     recipe_with (codes "SIDES") [] []
     (plain_on r2 (codes "SIDES") (crossed_steps r2) (par (diagrams_of (label (codes "ADDH") ∷ label (codes "HEATS") ∷ []))))
 
+-- Roles
+
+abbrev pub rx : Name
+rx = codes "rx"
+
+abbrev pub ry : Name
+ry = codes "ry"
+
+-- A on a unit that takes the role rx, which these may take, beside what the procedure needs
+abbrev pub in_role : Name → List Name → List Need → Master
+in_role name candidates needs =
+    record {
+      name = name;
+      roles = record { name = rx; candidates = candidates } ∷ [];
+      names_role = same_name rx;
+      control = λ bound.
+          recipe_with name [] []
+          (chart_act name needs
+          (chart_act make (one_unit (bound rx) ∷ []) (chart_act charge [] (add_step (bound rx) ∷ []) (label add) ∷ []) (label charge) ∷ [])
+          (label make));
+    }
+
+-- either unit may take the role
+abbrev pub master_b : Master
+master_b = in_role (codes "B") (r1 ∷ r2 ∷ []) []
+
+-- the same, but the procedure needs R2
+abbrev pub master_c : Master
+master_c = in_role (codes "C") (r1 ∷ r2 ∷ []) (one_unit r2 ∷ [])
+
+-- one unit alone may take the role
+abbrev pub master_d : Master
+master_d = in_role (codes "D") (r1 ∷ []) []
+
+-- A on R1, which takes one role, and then on R2, which takes another
+abbrev pub master_e : Master
+master_e =
+    record {
+      name = codes "E";
+      roles = record { name = rx; candidates = r1 ∷ r2 ∷ [] } ∷ record { name = ry; candidates = r1 ∷ r2 ∷ [] } ∷ [];
+      names_role = λ role. same_name rx role || same_name ry role;
+      control = λ bound.
+          recipe_with (codes "E") [] []
+          (chart_act (codes "E") []
+          (chart_act make (one_unit (bound rx) ∷ []) (chart_act charge [] (add_step (bound rx) ∷ []) (label add) ∷ []) (label charge)
+          ∷ chart_act cook (one_unit (bound ry) ∷ []) (chart_act charge [] (add_step (bound ry) ∷ []) (label add) ∷ []) (label charge)
+          ∷ [])
+          (seq (diagrams_of (label make ∷ label cook ∷ []))));
+    }
+
 -- Cells
+
+-- the demo cell with recipes that have roles
+abbrev pub cell_with_roles : Setup
+cell_with_roles = record demo.demo { recipes = master_b ∷ master_d ∷ master_e ∷ []; batch_limit = 4096 }
 
 -- the demo cell with all these recipes
 abbrev pub cell : Setup
 cell =
     record demo.demo {
       recipes =
-          demo.recipe ∷ recipe_f ∷ recipe_s ∷ recipe_w ∷ recipe_t ∷ recipe_p ∷ recipe_q ∷ recipe_l ∷ recipe_j ∷ recipe_k
-          ∷ recipe_both ∷ recipe_pair ∷ recipe_twin ∷ recipe_sides ∷ recipe_y 2 ∷ [];
+          map plain
+          (demo.recipe ∷ recipe_f ∷ recipe_s ∷ recipe_w ∷ recipe_t ∷ recipe_p ∷ recipe_q ∷ recipe_l ∷ recipe_j ∷ recipe_k
+          ∷ recipe_both ∷ recipe_pair ∷ recipe_twin ∷ recipe_sides ∷ recipe_y 2 ∷ []);
       batch_limit = 4096;
     }
 

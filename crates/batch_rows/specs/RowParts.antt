@@ -53,7 +53,7 @@ p000011 = 0 ∷ 0 ∷ 0 ∷ 0 ∷ 1 ∷ 1 ∷ []
 -- Events
 
 abbrev pub create_a : Event
-create_a = create name_a 1000
+create_a = create name_a 1000 []
 
 -- the phase has taken the report, and sets no output
 abbrev pub says : Name → Name → Report → Event
@@ -104,7 +104,7 @@ closed n unit more =
     move (end n p000) ∷ move (end n p00) ∷ releases n p00 unit ∷ move (end n p0) ∷ move (state n Complete) ∷ more
 
 abbrev pub created_a : ℕ → Out
-created_a n = reply (created n name_a 1000)
+created_a n = reply (created n name_a 1000 [])
 
 -- a batch of A is started and comes to its phase
 abbrev pub opened_a : ℕ → List Out → List Out

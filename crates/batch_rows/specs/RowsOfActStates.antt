@@ -13,7 +13,7 @@ use Rattle.batch_rows.specs.RowParts.{p0, p00, p000, p0000, p00000, p00001, crea
 
 -- a batch of W, whose phases ADD and HEAT run at once, after further events
 abbrev pub plant_of_w : List Event → Plant
-plant_of_w es = settled_after cell (create (codes "W") 1000 ∷ order Start 1 ∷ es)
+plant_of_w es = settled_after cell (create (codes "W") 1000 [] ∷ order Start 1 ∷ es)
 
 abbrev pub with_states : State → State → State → Batch → Batch
 with_states batch first second b = record (in_act p00001 (now second) (in_act p00000 (now first) b)) { state = batch }
@@ -90,7 +90,7 @@ RootAloneComplete = AllShow (order Start 1 ∷ add_done ∷ []) Complete Idle Id
 -- acts that are open without a live phase show the batch's state, what is finished and what waits to begin is Idle
 abbrev pub OpenActsShowBatch : Type 0
 OpenActsShowBatch =
-    let s = settled_after cell (create (codes "S") 1000 ∷ order Start 1 ∷ order Hold 1 ∷ add_done ∷ []) in
+    let s = settled_after cell (create (codes "S") 1000 [] ∷ order Start 1 ∷ order Hold 1 ∷ add_done ∷ []) in
     BothShow s Held × (state_of s 1 p00000 ≡ Some Idle) × (state_of s 1 p00001 ≡ Some Idle)
 
 -- a unit procedure that waits for its unit is Idle

@@ -1,20 +1,20 @@
 -- worked rows: which recipes are cleared.
-use Rattle.std.specs.Prelude.{◌<◌, List, [], ◌∷◌, length, true, false, codes}
+use Rattle.std.specs.Prelude.{◌<◌, List, [], ◌∷◌, map, length, true, false, codes}
 use Rattle.batch_recipe.specs.Conditions.{Name, same_name}
 use Rattle.batch_recipe.specs.Diagram.{Diagram, label, skip, seq, par, sel, loop, otherwise, when, diagrams_of}
 use Rattle.batch_recipe.specs.Needs.{one_unit}
 use Rattle.batch_recipe.specs.declared.need.Need.{Need}
-use Rattle.batch_model.specs.Plant.{Recipe, Setup}
-use Rattle.batch_rows.specs.RowDocuments.{r1, r2, hdr, steam, add, make, charge, Entry, phase_step, chart_act, recipe_with, recipe_with_x, add_step, making, x_above_0, x_is_1, recipe_p, recipe_q, recipe_j, cell, narrow_cell, recipe_y}
+use Rattle.batch_model.specs.Plant.{Recipe, Master, plain, Setup}
+use Rattle.batch_rows.specs.RowDocuments.{r1, r2, hdr, steam, add, make, charge, Entry, phase_step, chart_act, recipe_with, recipe_with_x, add_step, making, x_above_0, x_is_1, recipe_p, recipe_q, recipe_j, cell, narrow_cell, recipe_y, master_b, master_c, in_role}
 use Rattle.batch_rows.specs.RowDemo as demo
 use Rattle.batch_model.specs.Cleared.{Ranking, IsCleared, CanBeCleared}
 
 abbrev pub with_recipes : List Recipe → Setup
-with_recipes recipes = record cell { recipes = recipes }
+with_recipes recipes = record cell { recipes = map plain recipes }
 
 -- STEAM has one user as well
 abbrev pub narrow : Setup
-narrow = record narrow_cell { recipes = recipe_p ∷ recipe_q ∷ [] }
+narrow = record narrow_cell { recipes = plain recipe_p ∷ plain recipe_q ∷ [] }
 
 -- the units before the header and steam
 abbrev pub units_first : Ranking
@@ -160,6 +160,26 @@ AllUnits = AreCleared (recipe_y 2 ∷ [])
 
 abbrev pub MoreUnitsThanThereAre : Type 0
 MoreUnitsThanThereAre = AreRefused (recipe_y 3 ∷ [])
+
+-- Roles
+
+abbrev pub with_master : Master → Setup
+with_master master = record cell { recipes = master ∷ [] }
+
+-- whichever unit takes the role
+abbrev pub EachUnitMayTakeTheRole : Type 0
+EachUnitMayTakeTheRole = IsCleared (with_master master_b) units_first
+
+-- one of the units is held already when the unit procedure asks for it
+abbrev pub OneUnitMayNot : Type 0
+OneUnitMayNot = (rank : Ranking) → ¬ (IsCleared (with_master master_c) rank)
+
+-- a resource that is no unit
+abbrev pub HeaderMayNot : Type 0
+HeaderMayNot = (rank : Ranking) → ¬ (IsCleared (with_master (in_role (codes "B") (r1 ∷ hdr ∷ []) [])) rank)
+
+abbrev pub NoUnitMay : Type 0
+NoUnitMay = (rank : Ranking) → ¬ (IsCleared (with_master (in_role (codes "B") [] [])) rank)
 
 -- a unit procedure on a resource, with nothing to do
 abbrev pub recipe_resting_on : Name → Recipe

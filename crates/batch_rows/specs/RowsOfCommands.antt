@@ -18,8 +18,8 @@ use Rattle.batch_rows.specs.RowParts.{p0, p00, p000, p001, p0000, p00000, p00001
 -- a phase is done while its batch comes to Held, and the next begins after the restart
 abbrev pub HoldBetweenPhases : Type 0
 HoldBetweenPhases =
-    run cell (create (codes "S") 1000 ∷ order Start 1 ∷ order Hold 1 ∷ add_done ∷ order Restart 1 ∷ [])
-    ≡ (reply (created 1 (codes "S") 1000)
+    run cell (create (codes "S") 1000 [] ∷ order Start 1 ∷ order Hold 1 ∷ add_done ∷ order Restart 1 ∷ [])
+    ≡ (reply (created 1 (codes "S") 1000 [])
     ∷ opened 1 (codes "S") r1 make cook
     (starts 1 p00000 r1 add
     ∷ reply (ordered Hold 1 Holding)
@@ -35,9 +35,9 @@ HoldBetweenPhases =
 abbrev pub NoAskWhileHeld : Type 0
 NoAskWhileHeld =
     run cell
-    (create (codes "P") 1000 ∷ order Start 1 ∷ order Hold 1 ∷ says r1 drain Report.Done ∷ says r1 add Report.Held
+    (create (codes "P") 1000 [] ∷ order Start 1 ∷ order Hold 1 ∷ says r1 drain Report.Done ∷ says r1 add Report.Held
     ∷ order Restart 1 ∷ says r1 add Report.Running ∷ [])
-    ≡ (reply (created 1 (codes "P") 1000)
+    ≡ (reply (created 1 (codes "P") 1000 [])
     ∷ opened 1 (codes "P") r1 (codes "U") (codes "O")
     (starts 1 p000010 r1 drain
     ∷ asks 1 p00000 hdr
@@ -101,10 +101,10 @@ HeldAskIsGranted =
 abbrev pub StopWithdrawsAsks : Type 0
 StopWithdrawsAsks =
     run narrow_cell
-    (create (codes "P") 1000 ∷ create (codes "Q") 1000 ∷ order Start 2 ∷ order Start 1 ∷ says r1 drain Report.Done
+    (create (codes "P") 1000 [] ∷ create (codes "Q") 1000 [] ∷ order Start 2 ∷ order Start 1 ∷ says r1 drain Report.Done
     ∷ order Stop 1 ∷ says r1 add Report.Stopped ∷ [])
-    ≡ (reply (created 1 (codes "P") 1000)
-    ∷ reply (created 2 (codes "Q") 1000)
+    ≡ (reply (created 1 (codes "P") 1000 [])
+    ∷ reply (created 2 (codes "Q") 1000 [])
     ∷ opened 2 (codes "Q") r2 (codes "U") (codes "O")
     (starts 2 p000010 r2 drain
     ∷ asks 2 p00000 steam
@@ -157,9 +157,9 @@ LaterAskPassesAborted = LaterAskPasses Abort Aborting Aborted
 -- a stop while an act holds two of its three needs: the last that it got is given back first
 abbrev pub StopGivesBackPartOfNeeds : Type 0
 StopGivesBackPartOfNeeds =
-    run cell (create_a ∷ create (codes "J") 1000 ∷ order Start 1 ∷ order Start 2 ∷ order Stop 2 ∷ [])
+    run cell (create_a ∷ create (codes "J") 1000 [] ∷ order Start 1 ∷ order Start 2 ∷ order Stop 2 ∷ [])
     ≡ (created_a 1
-    ∷ reply (created 2 (codes "J") 1000)
+    ∷ reply (created 2 (codes "J") 1000 [])
     ∷ opened_a 1
     (reply (ordered Start 2 Running)
     ∷ move (begin 2 p0 (codes "J"))
@@ -242,9 +242,9 @@ NoActBelowPhase = ShowsResumed p00000 None
 abbrev pub HoldWhilePausing : Type 0
 HoldWhilePausing =
     run cell
-    (create (codes "W") 1000 ∷ order Start 1 ∷ order Pause 1 ∷ says r1 add Report.Paused ∷ order Hold 1 ∷ says r1 add Report.Held
+    (create (codes "W") 1000 [] ∷ order Start 1 ∷ order Pause 1 ∷ says r1 add Report.Paused ∷ order Hold 1 ∷ says r1 add Report.Held
     ∷ says r1 heat Report.Held ∷ order Restart 1 ∷ says r1 add Report.Running ∷ says r1 heat Report.Running ∷ [])
-    ≡ (reply (created 1 (codes "W") 1000)
+    ≡ (reply (created 1 (codes "W") 1000 [])
     ∷ opened 1 (codes "W") r1 make cook
     (starts 1 p00000 r1 add
     ∷ starts 1 p00001 r1 heat
@@ -295,7 +295,7 @@ abbrev pub idle_plant : ℕ → Plant
 idle_plant k = record { batches = idle_batches 1 k; next_number = suc k; line = λ resource. [] }
 
 abbrev pub LastBatchIsCreated : Type 0
-LastBatchIsCreated = (react cell (idle_plant 4095) create_a).0 ≡ created 4096 name_a 1000
+LastBatchIsCreated = (react cell (idle_plant 4095) create_a).0 ≡ created 4096 name_a 1000 []
 
 abbrev pub NoBatchBeyondLimit : Type 0
 NoBatchBeyondLimit = (react cell (idle_plant 4096) create_a).0 ≡ refused full
@@ -305,7 +305,7 @@ abbrev pub numbered_plant : ℕ → Plant
 numbered_plant n = record { batches = []; next_number = n; line = λ resource. [] }
 
 abbrev pub LastNumberIsGiven : Type 0
-LastNumberIsGiven = (react cell (numbered_plant 1000000000000) create_a).0 ≡ created 1000000000000 name_a 1000
+LastNumberIsGiven = (react cell (numbered_plant 1000000000000) create_a).0 ≡ created 1000000000000 name_a 1000 []
 
 abbrev pub NoNumberBeyondLast : Type 0
 NoNumberBeyondLast = (react cell (numbered_plant 1000000000001) create_a).0 ≡ refused full

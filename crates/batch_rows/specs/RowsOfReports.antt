@@ -27,8 +27,8 @@ ReportTwiceChangesNothing =
 abbrev pub FaultHoldsTheBatch : Type 0
 FaultHoldsTheBatch =
     run cell
-    (create (codes "W") 1000 ∷ order Start 1 ∷ says r1 heat Report.Fault ∷ says r1 add Report.Held ∷ says r1 heat Report.Held ∷ [])
-    ≡ (reply (created 1 (codes "W") 1000)
+    (create (codes "W") 1000 [] ∷ order Start 1 ∷ says r1 heat Report.Fault ∷ says r1 add Report.Held ∷ says r1 heat Report.Held ∷ [])
+    ≡ (reply (created 1 (codes "W") 1000 [])
     ∷ opened 1 (codes "W") r1 make cook
     (starts 1 p00000 r1 add
     ∷ starts 1 p00001 r1 heat
@@ -60,9 +60,9 @@ sets outputs = report r1 add Report.Done outputs
 abbrev pub OutputRefusals : Type 0
 OutputRefusals =
     run cell
-    (create (codes "L") 1000 ∷ order Start 1
+    (create (codes "L") 1000 [] ∷ order Start 1
     ∷ sets ((codes "Y", 1) ∷ []) ∷ sets ((x_name, 1) ∷ (x_name, 2) ∷ []) ∷ sets ((x_name, 1000000000001) ∷ []) ∷ sets ((x_name, 0) ∷ []) ∷ [])
-    ≡ (reply (created 1 (codes "L") 1000)
+    ≡ (reply (created 1 (codes "L") 1000 [])
     ∷ opened 1 (codes "L") r1 make charge
     (starts 1 p00000 r1 add
     ∷ refuses bad_output
@@ -77,7 +77,7 @@ abbrev pub value_after : List Event → Name → Option ℕ
 value_after es name = elim (batch_at (settled_after cell es) 1) [ None ↦ None | Some b ↦ value_of b.values name ]
 
 abbrev pub three_turns : List Event → List Event
-three_turns more = create (codes "L") 1000 ∷ order Start 1 ∷ add_done ∷ add_done ∷ sets ((x_name, 1) ∷ []) ∷ more
+three_turns more = create (codes "L") 1000 [] ∷ order Start 1 ∷ add_done ∷ add_done ∷ sets ((x_name, 1) ∷ []) ∷ more
 
 -- a completed batch keeps its outputs
 abbrev pub OutputIsKept : Type 0
@@ -88,18 +88,18 @@ ResetClearsOutput = value_after (three_turns (order Reset 1 ∷ [])) x_name ≡ 
 
 -- a fault sets no outputs, whatever stands beside it
 abbrev pub FaultSetsNoOutput : Type 0
-FaultSetsNoOutput = value_after (create (codes "L") 1000 ∷ order Start 1 ∷ report r1 add Report.Fault ((x_name, 1) ∷ []) ∷ []) x_name ≡ Some 0
+FaultSetsNoOutput = value_after (create (codes "L") 1000 [] ∷ order Start 1 ∷ report r1 add Report.Fault ((x_name, 1) ∷ []) ∷ []) x_name ≡ Some 0
 
 -- Formula
 
 abbrev pub create_f : ℕ → Event
-create_f size = create (codes "F") size
+create_f size = create (codes "F") size []
 
 -- 333 scaled from 1000 to 500 is 167, and the phase is handed it
 abbrev pub ScaledQuantity : Type 0
 ScaledQuantity =
     run cell (create_f 500 ∷ order Start 1 ∷ [])
-    ≡ (reply (created 1 (codes "F") 500)
+    ≡ (reply (created 1 (codes "F") 500 [])
     ∷ opened 1 (codes "F") r1 make charge
     (move (start 1 p0000 (record { unit = r1; name = add; handed = quantity ∷ [] }) ((quantity, 167) ∷ []))
     ∷ []))
@@ -108,7 +108,7 @@ ScaledQuantity =
 abbrev pub FormulaRefusals : Type 0
 FormulaRefusals =
     run cell (create_f 0 ∷ create_f 1000000001 ∷ create_f 1503 ∷ create_f 1504 ∷ [])
-    ≡ (refuses bad_size ∷ refuses bad_size ∷ reply (created 1 (codes "F") 1503) ∷ refuses (bad_value quantity) ∷ [])
+    ≡ (refuses bad_size ∷ refuses bad_size ∷ reply (created 1 (codes "F") 1503 []) ∷ refuses (bad_value quantity) ∷ [])
 
 abbrev pub GreatestValueIsTaken : Type 0
 GreatestValueIsTaken = value_after (create_f 1503 ∷ []) quantity ≡ Some 500
@@ -119,7 +119,7 @@ GreatestValueIsTaken = value_after (create_f 1503 ∷ []) quantity ≡ Some 500
 abbrev pub RefusedEvents : Type 0
 RefusedEvents =
     run cell
-    (order Start 1 ∷ create name_a 0 ∷ create (codes "ZZ") 0 ∷ create_a ∷ order Start 9 ∷ order Pause 1 ∷ add_done ∷ order Start 1 ∷ order Start 1 ∷ [])
+    (order Start 1 ∷ create name_a 0 [] ∷ create (codes "ZZ") 0 [] ∷ create_a ∷ order Start 9 ∷ order Pause 1 ∷ add_done ∷ order Start 1 ∷ order Start 1 ∷ [])
     ≡ (refuses unknown_batch
     ∷ refuses bad_size
     ∷ refuses unknown_recipe

@@ -134,14 +134,14 @@ opposed = with_recipes (recipe_b ∷ recipe_h ∷ recipe_g ∷ [])
 -- HDR is in use when the second and the third batch are started, and is given back then
 abbrev pub opposed_events : List Event
 opposed_events =
-    create (codes "B") 1000 ∷ create (codes "H") 1000 ∷ create (codes "G") 1000 ∷ order Start 1 ∷ order Start 2 ∷ order Start 3
+    create (codes "B") 1000 [] ∷ create (codes "H") 1000 [] ∷ create (codes "G") 1000 [] ∷ order Start 1 ∷ order Start 2 ∷ order Start 3
     ∷ says r2 add Report.Done ∷ []
 
 abbrev pub opposed_record : List Out
 opposed_record =
-    reply (created 1 (codes "B") 1000)
-    ∷ reply (created 2 (codes "H") 1000)
-    ∷ reply (created 3 (codes "G") 1000)
+    reply (created 1 (codes "B") 1000 [])
+    ∷ reply (created 2 (codes "H") 1000 [])
+    ∷ reply (created 3 (codes "G") 1000 [])
     ∷ opened 1 (codes "B") r2 make charge
     (asks 1 p0000 hdr
     ∷ grants 1 p0000 hdr

@@ -25,6 +25,10 @@ ghost use Rattle.batch_rows.specs.RowsOfClearance.{
   StepNeedsWater,
   AllUnits,
   MoreUnitsThanThereAre,
+  EachUnitMayTakeTheRole,
+  OneUnitMayNot,
+  HeaderMayNot,
+  NoUnitMay,
   UnitIsAUnit,
   HeaderAsUnit,
   PhaseIsNotOffered,
@@ -100,6 +104,14 @@ pub fn unknown_need()
 pub fn share_above_capacity()
     ensures all { AllUnits }
     ensures more { MoreUnitsThanThereAre }
+{}
+
+/// A recipe with a role is cleared where each unit that may take the role could run it, and there is one.
+pub fn candidates_of_a_role()
+    ensures each { EachUnitMayTakeTheRole }
+    ensures one { OneUnitMayNot }
+    ensures header { HeaderMayNot }
+    ensures none { NoUnitMay }
 {}
 
 /// A unit procedure runs on a unit, and on no other resource.

@@ -12,18 +12,18 @@ mod safety;
 mod settlement;
 
 pub use clearance::{
-    act_runs_what_its_chart_runs, crossed_branches_are_cleared, each_branch_runs_a_phase,
-    else_branch_has_the_circle, every_turn_runs_a_phase, header_as_unit, one_part_runs_a_phase,
-    opposite_orders, phase_is_not_offered, same_phase_in_parallel, same_resource_twice,
-    sets_of_recipes, share_above_capacity, unknown_need,
+    act_runs_what_its_chart_runs, candidates_of_a_role, crossed_branches_are_cleared,
+    each_branch_runs_a_phase, else_branch_has_the_circle, every_turn_runs_a_phase, header_as_unit,
+    one_part_runs_a_phase, opposite_orders, phase_is_not_offered, same_phase_in_parallel,
+    same_resource_twice, sets_of_recipes, share_above_capacity, unknown_need,
 };
 pub use runs::{
-    abort_after_stop, abort_reset_start, act_states, choices, crossed_branches_without_circle,
-    demo_is_expanded, earlier_state_shows, event_while_moves_pend, fault_holds_the_batch,
-    held_ask_is_granted, hold_between_phases, hold_while_pausing, live_batch_limit,
-    one_batch_to_complete, outputs, pause_and_resume, refused_events, release_before_begin,
-    report_twice, scaled_quantity, second_batch_waits, shared_capacity, shares_of_several_units,
-    stop_withdraws_asks, thousand_turns,
+    abort_after_stop, abort_reset_start, act_states, bad_bindings, bound_units, choices,
+    crossed_branches_without_circle, demo_is_expanded, earlier_state_shows, event_while_moves_pend,
+    fault_holds_the_batch, held_ask_is_granted, hold_between_phases, hold_while_pausing,
+    live_batch_limit, one_batch_to_complete, outputs, pause_and_resume, refused_events,
+    release_before_begin, report_twice, scaled_quantity, second_batch_waits, shared_capacity,
+    shares_of_several_units, stop_withdraws_asks, thousand_turns,
 };
 pub use safety::{
     chains_go_on, held_past_capacity, not_empty_at_rest, phases_end, started_wrongly, steps_point,

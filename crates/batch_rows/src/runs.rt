@@ -9,6 +9,13 @@ ghost use Rattle.batch_rows.specs.RowsOfMoves.{
   SharedCapacity,
   SmallAskDoesNotPass,
   ReleaseGivesAllBack,
+  BoundUnitRuns,
+  EachRoleHasItsUnit,
+  OneUnitTakesTwoRoles,
+  BadBindings,
+  NoCandidate,
+  NoRoleToBind,
+  EarlierRefusals,
   ElseBranchIsTaken,
   OutputChoosesBranch,
   OutputChoosesElse,
@@ -107,6 +114,21 @@ pub fn shared_capacity()
 pub fn shares_of_several_units()
     ensures no_passing { SmallAskDoesNotPass }
     ensures all_back { ReleaseGivesAllBack }
+{}
+
+/// A batch runs on the units that are bound to the roles of its recipe.
+pub fn bound_units()
+    ensures bound { BoundUnitRuns }
+    ensures each { EachRoleHasItsUnit }
+    ensures both { OneUnitTakesTwoRoles }
+{}
+
+/// A create binds each role of its recipe once, to a unit that may take it, and nothing else.
+pub fn bad_bindings()
+    ensures refused { BadBindings }
+    ensures candidate { NoCandidate }
+    ensures no_role { NoRoleToBind }
+    ensures earlier { EarlierRefusals }
 {}
 
 /// Values choose a branch at the moment when the choice is reached.

@@ -2,19 +2,18 @@
 use Rattle.std.proofs.Common.{◌+◌, ◌≡◌, ◌⊎◌, ⊎_elim, refl, sym, ◌∙◌, ap, subst, ℕ, zero, suc, ◌≤◌, ◌<◌, arith, List, [], ◌∷◌, ◌++◌, Bool, true, false, ◌&&◌, ◌||◌, take, slice_get, Option, Some, None, inl, inr, length}
 use Rattle.batch_matrix.specs.declared.state.State.{State}
 use Rattle.batch_matrix.specs.declared.state.State.TheVariants.{Idle, Running, Pausing, Paused, Holding, Held, Restarting, Stopping, Stopped, Aborting, Aborted, Complete}
-use Rattle.batch_model.specs.Lists.{Has, Each}
+use Rattle.batch_model.specs.Lists.{Has}
 use Rattle.batch_recipe.specs.Conditions.{Name}
 use Rattle.batch_recipe.specs.Tree.{Place, Step, Phase, Tree, act, seq, par, sel, loop, Task, runs, follows, Trees, no_trees, tree, Choices, otherwise, choice}
 use Rattle.batch_model.specs.Rest.{Rest, ready, asking, open_act, live, freeing, in_seq, in_par, in_loop, done, Rests, no_rests, rest, acts, acts_of_each, is_done, all_done}
-use Rattle.batch_model.specs.Plant.{Recipe, Setup, Batch, BatchAct, Share, Plant, opening, place_of, holders}
+use Rattle.batch_model.specs.Plant.{Setup, Batch, BatchAct, Share, Plant, opening, place_of, holders}
 use Rattle.batch_model.specs.Moves.{Move, begin, start, end, ask, release, handed_values, entering, giving_back, when, is_running, is_stopping, is_stopped, is_quiet, is_empty, act_move, next}
 use Rattle.batch_model.specs.Runs.{Out}
-use Rattle.batch_model.specs.Cleared.{is_procedure, IsClearedRecipe, IsCleared}
+use Rattle.batch_model.specs.Cleared.{is_procedure, IsCleared}
 use Rattle.batch_model.specs.Standing.{IsStandingBatch, IsStanding}
 use Rattle.batch_machine.proofs.Led.{opening-stands, leads-stands}
-use Rattle.batch_laws.specs.Procedures.{IsProcedure}
 use Rattle.batch_safety.proofs.Awaiting.{among-Has, CanBeMet, awaited-known}
-use Rattle.batch_laws.proofs.Clearing.{cleared-down}
+use Rattle.batch_laws.proofs.Clearing.{cleared-down, control-clear, control-procedure}
 use Rattle.batch_model.specs.Records.{scene_of, Waiting, IsWaiting, IsAtOrAbove, Link, IsLink, IsChain, StandsUnder}
 use Rattle.batch_model.specs.Settled.{IsAdvanced, AreAdvanced}
 use Rattle.batch_recipe.specs.Nodes.{child}
@@ -23,7 +22,7 @@ use Rattle.batch_model.specs.Standing.{IsRestOf, IsRestBelow, IsBranch, AreBranc
 use Rattle.batch_model.specs.Placed.{IsPlaced, IsPlacedBelow, ArePlaced, IsChoicePlaced}
 use Rattle.batch_model.specs.Cleared.{Ranking}
 use Rattle.batch_safety.specs.Settlement.{IsHalting, IsAtWork, NobodyWaitsInVain}
-use Rattle.batch_model.proofs.Members.{Has-split, Has-left, Has-right, Each-Has, Each-map}
+use Rattle.batch_model.proofs.Members.{Has-split, Has-left, Has-right, Each-Has}
 use Rattle.batch_laws.proofs.Placing.{acts-below, under}
 use Rattle.batch_laws.proofs.Framing.{at_or_above}
 use Rattle.batch_laws.proofs.Asking.{asking-awaits}
@@ -376,7 +375,7 @@ ask-can_be_met setup rank outs s cleared stands k r a h =
     let e = entry-of s.batches a.act (awaiting (need r a.units)) (k.asked r a h) in
     let b : IsStandingBatch setup e.0 = Each-Has (IsStandingBatch setup) s.batches e.0 stands.batches e.1 in
     awaited-known setup rank is_procedure (0 ∷ []) [] e.0.recipe.procedure e.0.rest
-    (Each-Has (IsClearedRecipe setup rank) setup.recipes e.0.recipe cleared.recipes b.known) b.stands a.act.1 (need r a.units) e.3
+    (control-clear setup rank cleared e.0.recipe b.known) b.stands a.act.1 (need r a.units) e.3
 
 waiting-known : (setup : Setup) (rank : Ranking) (outs : List Out) (s : Plant) → IsCleared setup rank → IsStanding setup s → IsKept setup rank outs s
     → (w : Waiting) → IsWaiting (scene_of s) w → Has setup.resources w.resource
@@ -391,13 +390,10 @@ each-waits s (m ∷ []) h l (inr i) = absurd i
 each-waits s (m ∷ n ∷ ls) h l (inl e) = subst (λ z. IsWaiting (scene_of s) z.waiting) e h.0.0
 each-waits s (m ∷ n ∷ ls) h l (inr i) = each-waits s (n ∷ ls) h.2 l i
 
-placed-trees : (rs : List Recipe) → Each (λ r. IsProcedure r.procedure) rs → Each (λ r. IsPlaced (0 ∷ []) r.procedure) rs
-placed-trees rs h = Each-map (λ r. IsProcedure r.procedure) (λ r. IsPlaced (0 ∷ []) r.procedure) (λ r p. p.placed) rs h
-
 pub nobody_waits_in_vain : NobodyWaitsInVain
 nobody_waits_in_vain setup rank kept cleared es outs t l settled =
     let k : IsKept setup rank outs t = kept-along setup rank (cleared-down setup rank kept cleared) [] opening (opening-stands setup) (kept-at_first setup rank) es outs t l in
-    let stands : IsStanding setup t = leads-stands setup (placed-trees setup.recipes kept.procedures) opening t es outs (opening-stands setup) l in
+    let stands : IsStanding setup t = leads-stands setup (λ r c. (control-procedure setup kept r c).placed) opening t es outs (opening-stands setup) l in
     record {
       held = λ r oldest later f. held-by_others setup rank outs t stands k settled r oldest later f
           (ask-can_be_met setup rank outs t cleared stands k r oldest (subst (λ z. Has z oldest) (sym f) (inl refl))).1;

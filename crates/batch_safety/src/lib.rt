@@ -7,7 +7,9 @@ ghost use Rattle.batch_safety.specs.Headline.{CanOnlyBeSafe};
 ghost use Rattle.batch_safety.specs.Sets.{ClearedSetsRunSafely, RunsSafely};
 ghost use Rattle.batch_safety.specs.Settlement.{NobodyWaitsInVain};
 
-pub use batch_laws::{records_tell_the_plant, sets_are_documents, trees_have_units, ways_rise};
+pub use batch_laws::{
+    candidates_suffice, records_tell_the_plant, sets_are_documents, trees_have_units, ways_rise,
+};
 use batch_verify::Cleared;
 
 /// Every record that a cleared set of recipes leads to is safe after each of its lines, whatever the events and however far

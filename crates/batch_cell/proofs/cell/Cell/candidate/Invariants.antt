@@ -1,0 +1,10 @@
+use Rattle.std.proofs.Common.{◌≡◌, filter, drop, slice_get}
+use Rattle.batch_cell.specs.Equipment.{unit_names}
+use Rattle.batch_cell.specs.LookUps.{units_of_class, is_of_class}
+use Rattle.batch_cell.proofs.cell.Cell.candidate.Given as goal
+
+-- what is looked for stands this far among the units that weren't looked at
+abbrev pub invariant-loop-number : goal.invariant-loop-number
+invariant-loop-number l =
+    slice_get (units_of_class l.self l.class) l.index
+    ≡ slice_get (unit_names (filter (is_of_class l.class) (drop l.number l.self.units.items))) l.left

@@ -1,0 +1,83 @@
+-- Nodes stand at the same places whatever units take the roles.
+use Rattle.std.proofs.Common.{◌≡◌, refl, sym, ◌∙◌, ap, ap₂, ℕ, ◌+◌, List, [], ◌∷◌, ◌++◌, map, Option, Some, None}
+use Rattle.std.proofs.lemmas.List.{map-append}
+use Rattle.batch_recipe.specs.Conditions.{Name}
+use Rattle.batch_recipe.specs.Diagram as chart
+use Rattle.batch_recipe.specs.Diagram.{Diagram, Diagrams, Cases, diagram_of}
+use Rattle.batch_recipe.specs.Expanding.{Binding, unbound, unit_with, unit_below, asked_by, expanded, expanded_each, expanded_cases, task_of, act_named, act_tree_with, named_tree_with}
+use Rattle.batch_recipe.specs.Needs.{resources_of}
+use Rattle.batch_recipe.specs.Nodes.{Node, child, nodes, nodes_within, nodes_of_each, nodes_of_choices}
+use Rattle.batch_recipe.specs.Procedure.{bound_tree, procedure_nodes, tables_from}
+use Rattle.batch_recipe.specs.Tree.{Place, Tree, skip}
+use Rattle.batch_recipe.specs.declared.act.Act.{Act}
+use Rattle.batch_recipe.specs.declared.acts.Acts.{Acts}
+use Rattle.batch_recipe.specs.declared.acts.Level.TheVariants.{UnitProcedures}
+use Rattle.batch_recipe.specs.declared.act.Work.{Work}
+use Rattle.batch_recipe.specs.declared.act.Work.TheVariants.{Follows, Runs}
+
+abbrev places : List Node → List Place
+places ns = map (λ n. n.place) ns
+
+abbrev Labels : Type 0
+Labels = Name → Place → Tree
+
+-- the labels stand for trees with the same places
+abbrev AreAlike : Labels → Labels → Type 0
+AreAlike f g = (name : Name) (p : Place) (above other : List Name) → places (nodes p above (f name p)) ≡ places (nodes p other (g name p))
+
+joined : (ws xs ys zs : List Node) → places ws ≡ places ys → places xs ≡ places zs → places (ws ++ xs) ≡ places (ys ++ zs)
+joined ws xs ys zs e f = map-append (λ n. n.place) ws xs ∙ ap₂ (λ us vs. us ++ vs) e f ∙ sym (map-append (λ n. n.place) ys zs)
+
+module _ (f g : Labels) (alike : AreAlike f g) where
+  mutual
+    chart-places : (p : Place) (d : Diagram) (above other : List Name) → places (nodes p above (expanded f p d)) ≡ places (nodes p other (expanded g p d))
+    chart-places p (chart.label name) above other = alike name p above other
+    chart-places p chart.skip above other = refl
+    chart-places p (chart.seq ds) above other = ap (λ ps. p ∷ ps) (branch-places p 0 ds above other)
+    chart-places p (chart.par ds) above other = ap (λ ps. p ∷ ps) (branch-places p 0 ds above other)
+    chart-places p (chart.sel cs) above other = ap (λ ps. p ∷ ps) (case-places p 0 cs above other)
+    chart-places p (chart.loop n c d) above other = ap (λ ps. p ∷ ps) (chart-places (child p 0) d above other)
+
+    branch-places : (p : Place) (i : ℕ) (ds : Diagrams) (above other : List Name) → places (nodes_of_each p above i (expanded_each f p i ds)) ≡ places (nodes_of_each p other i (expanded_each g p i ds))
+    branch-places p i chart.none above other = refl
+    branch-places p i (chart.more d ds) above other =
+        joined (nodes (child p i) above (expanded f (child p i) d)) (nodes_of_each p above (i + 1) (expanded_each f p (i + 1) ds))
+        (nodes (child p i) other (expanded g (child p i) d)) (nodes_of_each p other (i + 1) (expanded_each g p (i + 1) ds))
+        (chart-places (child p i) d above other) (branch-places p (i + 1) ds above other)
+
+    case-places : (p : Place) (i : ℕ) (cs : Cases) (above other : List Name) → places (nodes_of_choices p above i (expanded_cases f p i cs)) ≡ places (nodes_of_choices p other i (expanded_cases g p i cs))
+    case-places p i (chart.otherwise d) above other = chart-places (child p i) d above other
+    case-places p i (chart.when c d cs) above other =
+        joined (nodes (child p i) above (expanded f (child p i) d)) (nodes_of_choices p above (i + 1) (expanded_cases f p (i + 1) cs))
+        (nodes (child p i) other (expanded g (child p i) d)) (nodes_of_choices p other (i + 1) (expanded_cases g p (i + 1) cs))
+        (chart-places (child p i) d above other) (case-places p (i + 1) cs above other)
+
+  task-places : (unit unit' name : Name) (p : Place) (w : Work) (above other : List Name)
+      → places (nodes_within p above (task_of f unit name p w)) ≡ places (nodes_within p other (task_of g unit' name p w))
+  task-places unit unit' name p (Follows c) above other = chart-places (child p 0) (diagram_of c) above other
+  task-places unit unit' name p (Runs phase values) above other = refl
+
+module _ (bound : Binding) where
+  act-places : (f g : Name → Labels) → ((unit unit' : Name) → AreAlike (f unit) (g unit')) → (unit unit' : Name) (a : Act) (p : Place) (above other : List Name)
+      → places (nodes p above (act_tree_with bound f unit a p)) ≡ places (nodes p other (act_tree_with unbound g unit' a p))
+  act-places f g alike unit unit' a p above other =
+      ap (λ ps. p ∷ ps)
+      (task-places (f (unit_below unit (unit_with bound a.unit))) (g (unit_below unit' (unit_with unbound a.unit)))
+      (alike (unit_below unit (unit_with bound a.unit)) (unit_below unit' (unit_with unbound a.unit)))
+      (unit_below unit (unit_with bound a.unit)) (unit_below unit' (unit_with unbound a.unit)) a.name p a.work
+      (above ++ resources_of (asked_by (unit_with bound a.unit) a.needs.items)) (other ++ resources_of (asked_by (unit_with unbound a.unit) a.needs.items)))
+
+  label-places : (tables : List (List Act)) (unit unit' : Name) → AreAlike (named_tree_with bound tables unit) (named_tree_with unbound tables unit')
+  label-places [] unit unit' name p above other = refl
+  label-places (table ∷ tables) unit unit' name p above other = go (act_named table name) (label-places tables)
+    where
+      go : (o : Option Act) → ((u u' : Name) → AreAlike (named_tree_with bound tables u) (named_tree_with unbound tables u'))
+          → places (nodes p above (elim o [ None ↦ skip | Some a ↦ act_tree_with bound (named_tree_with bound tables) unit a p ]))
+          ≡ places (nodes p other (elim o [ None ↦ skip | Some a ↦ act_tree_with unbound (named_tree_with unbound tables) unit' a p ]))
+      go None alike = refl
+      go (Some a) alike = act-places (named_tree_with bound tables) (named_tree_with unbound tables) alike unit unit' a p above other
+
+pub places_stay : (bound : Binding) (acts : Acts) → map (λ n. n.place) (nodes (0 ∷ []) [] (bound_tree bound acts)) ≡ map (λ n. n.place) (procedure_nodes acts)
+places_stay bound acts =
+    let tables : List (List Act) = tables_from acts (Some UnitProcedures) in
+    act-places bound (named_tree_with bound tables) (named_tree_with unbound tables) (label-places bound tables) [] [] acts.procedure (0 ∷ []) [] []
