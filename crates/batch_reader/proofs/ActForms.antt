@@ -5,19 +5,22 @@ use Rattle.std.proofs.lemmas.List.{length-map}
 use Rattle.std.specs.List.{list_all}
 use Rattle.batch_recipe.specs.Conditions.{Name, same_name}
 use Rattle.batch_recipe.specs.Diagram.{Diagram, diagram_of}
-use Rattle.batch_recipe.specs.Expanding.{act_tree, act_named, asked_by, expanded, named_tree, task_of, unit_below}
+use Rattle.batch_recipe.specs.Expanding.{act_tree, act_named, asked_by, expanded, named_tree, own_unit, task_of, unit_below}
 use Rattle.batch_recipe.specs.Nodes.{Node, child, nodes}
 use Rattle.batch_recipe.specs.Procedure.{procedure_nodes, procedure_tree}
 use Rattle.batch_recipe.specs.Tree as tree
 use Rattle.batch_recipe.specs.Tree.{Place, Tree, Task, act, skip}
-use Rattle.batch_recipe.specs.WellFormed.{act_names, are_distinct, follows_no_par, has_no_par, is_among, is_chart, is_well_formed, is_work, value_names}
+use Rattle.batch_recipe.specs.WellFormed.{act_names, are_distinct, are_roles, follows_no_par, has_no_par, is_among, is_chart, is_role_among, is_well_formed, is_work, value_names}
 use Rattle.batch_recipe.specs.declared.act.Act.{Act}
 use Rattle.batch_recipe.specs.declared.act.TheConstants.{MAX_VALUES}
+use Rattle.batch_recipe.specs.declared.act.UnitChoice.{UnitChoice}
+use Rattle.batch_recipe.specs.declared.act.UnitChoice.TheVariants.{Unit, Role}
 use Rattle.batch_recipe.specs.declared.act.Work.{Work}
 use Rattle.batch_recipe.specs.declared.act.Work.TheVariants.{Follows, Runs}
 use Rattle.batch_recipe.specs.declared.acts.Acts.{Acts}
 use Rattle.batch_recipe.specs.declared.quantity.Quantity.{Quantity}
 use Rattle.batch_recipe.specs.declared.recipe.TheConstants.{MAX_NODES}
+use Rattle.batch_recipe.specs.declared.role.Role.{Role as RecipeRole}
 use Rattle.batch_reader.specs.SoundRecipe.{IsSoundRecipe}
 use Rattle.batch_recipe.specs.declared.need.Need.{Need}
 
@@ -28,7 +31,7 @@ pub data WorkForm : Type 0 where
 
 pub record ActForm : Type 0 where
   pub name : Name
-  pub unit : Option Name
+  pub unit : Option UnitChoice
   pub needs : List Need
   pub work : WorkForm
 
@@ -99,6 +102,19 @@ well_formed_form values a =
     (and_same (all_form (is_work (act_names ss) values) (is_form_work (form_names (map form ss)) values) (work_same values ss) os)
     (all_form (is_work [] values) (is_form_work [] values) (λ s. work_case [] values s.work) ss))))
 
+-- ---- roles
+
+abbrev is_form_role : List Name → ActForm → Bool
+is_form_role roles f = elim f.unit [ None ↦ true | Some choice ↦ elim choice [ Unit unit ↦ true | Role role ↦ is_among roles role ] ]
+
+abbrev are_form_roles : List RecipeRole → List ActForm → Bool
+are_form_roles roles us = are_distinct (map (λ role. role.name) roles) && list_all (is_form_role (map (λ role. role.name) roles)) us
+
+roles_form : (roles : List RecipeRole) (a : Acts) → are_roles roles a ≡ are_form_roles roles (map form a.unit_procedures.items)
+roles_form roles a =
+    let names : List Name = map (λ role. role.name) roles in
+    and_same refl (all_form (is_role_among names) (is_form_role names) (λ u. refl) a.unit_procedures.items)
+
 -- ---- the expanded tree
 
 abbrev form_task : (Name → Place → Tree) → Name → Name → Place → WorkForm → Task
@@ -107,8 +123,8 @@ form_task acts unit name p (runs phase handed) = tree.runs (record { unit = unit
 
 abbrev form_act : (Name → Name → Place → Tree) → Name → ActForm → Place → Tree
 form_act acts unit f p =
-    act (record { place = p; needs = asked_by f.unit f.needs })
-    (form_task (acts (unit_below unit f.unit)) (unit_below unit f.unit) f.name p f.work)
+    act (record { place = p; needs = asked_by (own_unit f.unit) f.needs })
+    (form_task (acts (unit_below unit (own_unit f.unit))) (unit_below unit (own_unit f.unit)) f.name p f.work)
 
 abbrev form_named : List ActForm → Name → Option ActForm
 form_named fs name = find (λ f. same_name f.name name) fs
@@ -123,7 +139,8 @@ task_case acts unit name p (Runs phase handed) = refl
 
 act_same : (acts : Name → Name → Place → Tree) (unit : Name) (a : Act) (p : Place) → act_tree acts unit a p ≡ form_act acts unit (form a) p
 act_same acts unit a p =
-    ap (act (record { place = p; needs = asked_by a.unit a.needs.items })) (task_case (acts (unit_below unit a.unit)) (unit_below unit a.unit) a.name p a.work)
+    ap (act (record { place = p; needs = asked_by (own_unit a.unit) a.needs.items }))
+    (task_case (acts (unit_below unit (own_unit a.unit))) (unit_below unit (own_unit a.unit)) a.name p a.work)
 
 named_same : (xs : List Act) (name : Name) → option_map form (act_named xs name) ≡ form_named (map form xs) name
 named_same [] name = refl
@@ -162,33 +179,39 @@ module _ (a b : Acts) (procedure : form a.procedure ≡ form b.procedure) (unit_
   same_well_formed values =
       well_formed_form values a ∙ (λ i. are_well_formed values (procedure i) (unit_procedures i) (operations i) (phases i)) ∙ sym (well_formed_form values b)
 
+  same_roles : (roles : List RecipeRole) → are_roles roles a ≡ are_roles roles b
+  same_roles roles = roles_form roles a ∙ ap (are_form_roles roles) unit_procedures ∙ sym (roles_form roles b)
+
   same_nodes : procedure_nodes a ≡ procedure_nodes b
   same_nodes =
       ap (nodes (0 ∷ []) []) (procedure_form a ∙ (λ i. whole_tree (procedure i) (unit_procedures i) (operations i) (phases i)) ∙ sym (procedure_form b))
 
-pub sound_along : (inputs parameters inputs2 parameters2 : List Quantity) (outputs outputs2 : List Name) (a b : Acts)
-    → map (λ q. q.name) inputs ≡ map (λ q. q.name) inputs2 → map (λ q. q.name) parameters ≡ map (λ q. q.name) parameters2 → outputs ≡ outputs2
+pub sound_along : (inputs parameters inputs2 parameters2 : List Quantity) (outputs outputs2 : List Name) (roles roles2 : List RecipeRole) (a b : Acts)
+    → map (λ q. q.name) inputs ≡ map (λ q. q.name) inputs2 → map (λ q. q.name) parameters ≡ map (λ q. q.name) parameters2 → outputs ≡ outputs2 → roles ≡ roles2
     → form a.procedure ≡ form b.procedure → map form a.unit_procedures.items ≡ map form b.unit_procedures.items
     → map form a.operations.items ≡ map form b.operations.items → map form a.phases.items ≡ map form b.phases.items
-    → IsSoundRecipe inputs parameters outputs a → IsSoundRecipe inputs2 parameters2 outputs2 b
-sound_along is ps js qs os rs a b ei ep eo procedure unit_procedures operations phases h =
+    → IsSoundRecipe inputs parameters outputs roles a → IsSoundRecipe inputs2 parameters2 outputs2 roles2 b
+sound_along is ps js qs os rs roles roles2 a b ei ep eo er procedure unit_procedures operations phases h =
     let values : value_names is ps os ≡ value_names js qs rs = λ i. ei i ++ ep i ++ eo i in
     let li : length is ≡ length js = same_length (λ q. q.name) is js ei in
     let lp : length ps ≡ length qs = same_length (λ q. q.name) ps qs ep in
     let lo : length os ≡ length rs = ap length eo in
+    let lr : length roles ≡ length roles2 = ap length er in
     let lu : length a.unit_procedures.items ≡ length b.unit_procedures.items = same_length form _ _ unit_procedures in
-    let lr : length a.operations.items ≡ length b.operations.items = same_length form _ _ operations in
+    let lt : length a.operations.items ≡ length b.operations.items = same_length form _ _ operations in
     let ls : length a.phases.items ≡ length b.phases.items = same_length form _ _ phases in
     record {
       few_inputs = rw (← li) h.few_inputs;
       few_parameters = rw (← lp) h.few_parameters;
       few_outputs = rw (← lo) h.few_outputs;
+      few_roles = rw (← lr) h.few_roles;
       some_unit_procedures = rw (← lu) h.some_unit_procedures;
       few_unit_procedures = rw (← lu) h.few_unit_procedures;
-      some_operations = rw (← lr) h.some_operations;
-      few_operations = rw (← lr) h.few_operations;
+      some_operations = rw (← lt) h.some_operations;
+      few_operations = rw (← lt) h.few_operations;
       some_phases = rw (← ls) h.some_phases;
       few_phases = rw (← ls) h.few_phases;
       well_formed = sym (same_well_formed a b procedure unit_procedures operations phases (value_names js qs rs)) ∙ ap (λ names. is_well_formed names a) (sym values) ∙ h.well_formed;
+      own_roles = sym (same_roles a b procedure unit_procedures operations phases roles2) ∙ ap (λ rs. are_roles rs a) (sym er) ∙ h.own_roles;
       small = subst (λ (ns : List Node). length ns ≤ MAX_NODES) (same_nodes a b procedure unit_procedures operations phases) h.small;
     }

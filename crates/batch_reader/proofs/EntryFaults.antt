@@ -5,7 +5,7 @@ use Rattle.std.specs.List.{slice_get}
 use Rattle.std.specs.Option.{option_map_or}
 use Rattle.toml.specs.Data.{Data, Items, no_items, item, Members, get_member, as_str, as_integer, as_bool, as_array}
 use Rattle.batch_cell.specs.declared.module.TheConstants.{MAX_PHASES}
-use Rattle.batch_reader.specs.Entries.{AllItems, IsNameItem, HasName, HasLabel, HasNameOr, HasText, MayHaveText, HasNumber, HasNames, HasFewNames, IsTruth, items_at}
+use Rattle.batch_reader.specs.Entries.{AllItems, IsNameItem, HasName, HasLabel, HasNameOr, HasText, MayHaveName, MayHaveText, HasNumber, HasNames, HasFewNames, IsTruth, items_at}
 use Rattle.batch_reader.specs.Faults.{IsToldAs, TellsAt, missing_or_wrong, value_fault, kind_fault, few_names_fault}
 use Rattle.batch_reader.specs.Keys.{a_name, a_free_name, a_text, a_number, a_least, a_truth, some_names, Key, needed, optional, keys_of, module_keys}
 use Rattle.batch_reader.specs.TableFaults.{count_items, IsKeyFault, IsTableFault}
@@ -59,6 +59,17 @@ pub name_or_told : (key : List ℕ) (ms : Members) (other : List ℕ) (spot : Sp
     → IsToldAs spot WrongKind fault → TellsAt spot (IsKeyFault (optional key a_name) ms) fault
 name_or_told key ms other spot fault refused told =
     told_as (IsKeyFault (optional key a_name) ms) spot _ fault (name_or_fault key ms other (get_member key ms) refl) refused told
+
+optional_name_fault : (key : List ℕ) (ms : Members) (found : Option Data) → get_member key ms ≡ found → ((name : Option (List ℕ)) → MayHaveName key ms name → ⊥)
+    → IsKeyFault (optional key a_name) ms WrongKind
+optional_name_fault key ms None missing none = absurd (none None missing)
+optional_name_fault key ms (Some d) found none =
+    record { here = d; found = found; such = λ name h. none (Some name) (record { text = rw found h.text; valid = h.valid }) }
+
+pub optional_name_told : (key : List ℕ) (ms : Members) (spot : Spot) (fault : TableFault) → (fault ≢ Memory → (name : Option (List ℕ)) → MayHaveName key ms name → ⊥)
+    → IsToldAs spot WrongKind fault → TellsAt spot (IsKeyFault (optional key a_name) ms) fault
+optional_name_told key ms spot fault refused told =
+    told_as (IsKeyFault (optional key a_name) ms) spot _ fault (optional_name_fault key ms (get_member key ms) refl) refused told
 
 -- texts
 

@@ -1,10 +1,15 @@
 -- Keys of a table.
-use Rattle.std.proofs.Common.{◌≡◌, Bool, ◌&&◌, ◌||◌, List, [], ◌∷◌, ℕ, map, nat_eq, String, Global, string_bytes, refl, ap}
-use Rattle.std.specs.Cmp.Lexicographic.{pointwise}
+use Rattle.std.proofs.Common.{◌≡◌, Bool, false, true, ◌&&◌, ◌||◌, List, [], ◌∷◌, ℕ, map, nat_eq, String, Global, string_bytes, Some, None, Ordering, Less, Equal, Greater, nat_cmp, refl, sym, ap, ◌∙◌}
+use Rattle.std.proofs.lemmas.Bool.{false≢true}
+use Rattle.std.proofs.lemmas.Map.Lookups.{exact_bytes}
+use Rattle.std.specs.Cmp.Lexicographic.{pointwise, slice_cmp}
 use Rattle.std.specs.List.{list_any, list_all}
+use Rattle.std.specs.Ordering.{match_ordering}
 use Rattle.std.specs.Map.{keys_of}
+use Rattle.toml.specs.Data.{Data, Members, no_members, member, get_member}
 use Rattle.toml.specs.View.{members_view}
 use Rattle.toml.specs.declared.value.Value.{Value}
+use Rattle.batch_reader.proofs.Truth.{both_true}
 use Rattle.batch_reader.specs.Entries.{has_only_keys}
 
 pub list_any-map : {X Y : Type 0} (p : Y → Bool) (f : X → Y) (xs : List X) → list_any (λ x. p (f x)) xs ≡ list_any p (map f xs)
@@ -16,3 +21,19 @@ pub has_only_keys-view : (known : List (List ℕ)) (es : List (String Global × 
     → list_all (λ key. list_any (λ word. pointwise nat_eq word (string_bytes key)) known) (keys_of es) ≡ has_only_keys known (members_view es)
 has_only_keys-view known [] = refl
 has_only_keys-view known (e ∷ es) = ap (λ b. list_any (λ word. pointwise nat_eq word (string_bytes e.0)) known && b) (has_only_keys-view known es)
+
+-- a key that isn't the first one is missing where it is missing among the others
+other_missing : (key l : List ℕ) (d : Data) (ms : Members) (o : Ordering) → slice_cmp nat_cmp key l ≡ o → (key ≡ l → ⊥) → get_member key ms ≡ None
+    → match_ordering o (get_member key ms) (Some d) (get_member key ms) ≡ None
+other_missing key l d ms Less e other missing = missing
+other_missing key l d ms Equal e other missing = absurd (other (exact_bytes key l e))
+other_missing key l d ms Greater e other missing = missing
+
+-- a key that isn't known is missing
+pub unknown_missing : (known : List (List ℕ)) (key : List ℕ) (ms : Members) → has_only_keys known ms ≡ true
+    → list_any (λ word. pointwise nat_eq word key) known ≡ false → get_member key ms ≡ None
+unknown_missing known key no_members only unknown = refl
+unknown_missing known key (member l d ms) only unknown =
+    let parts = both_true (list_any (λ word. pointwise nat_eq word l) known) (has_only_keys known ms) only in
+    let other : key ≡ l → ⊥ = λ same. false≢true (sym unknown ∙ ap (λ k. list_any (λ word. pointwise nat_eq word k) known) same ∙ parts.0) in
+    other_missing key l d ms (slice_cmp nat_cmp key l) refl other (unknown_missing known key ms parts.1 unknown)

@@ -8,6 +8,7 @@ pub mod Truth
 pub mod ChartNaming
 pub mod DistinctNames
 pub mod WellFormedParts
+pub mod UnitChoices
 pub mod RecipeParts
 pub mod ActForms
 pub mod OneRecipe

@@ -1,5 +1,5 @@
 -- The tables of a recipe stand for one form of their parts at most.
-use Rattle.std.proofs.Common.{◌≡◌, ℕ, List, map, Some, codes, sym, ap, ◌∙◌}
+use Rattle.std.proofs.Common.{◌≡◌, ℕ, List, map, codes, sym, ap, ap₂, ◌∙◌}
 use Rattle.std.proofs.lemmas.List.{map-id}
 use Rattle.toml.specs.Data.{Members}
 use Rattle.batch_recipe.specs.Conditions.{Name}
@@ -8,11 +8,13 @@ use Rattle.batch_recipe.specs.declared.act.Act.{Act}
 use Rattle.batch_recipe.specs.declared.acts.Acts.{Acts}
 use Rattle.batch_recipe.specs.declared.quantity.Quantity.{Quantity}
 use Rattle.batch_recipe.specs.declared.recipe.Recipe.{Recipe}
+use Rattle.batch_recipe.specs.declared.role.Role.{Role}
 use Rattle.batch_reader.proofs.ActForms.{follows, runs, work_form, form, sound_along}
 use Rattle.batch_reader.proofs.Items.{HasTables_same}
 use Rattle.batch_reader.proofs.OneEntry.{HasName_unique, HasLabel_unique, HasNameOr_unique, HasChart_unique, HasFewNames_unique, HasFewNeeds_unique}
+use Rattle.batch_reader.proofs.UnitChoices.{same_unit}
 use Rattle.batch_reader.specs.Entries.{HasTables}
-use Rattle.batch_reader.specs.RecipeTables.{HasCourse, HasNeeds, IsQuantityTable, IsOutputTable, IsProcedureTable, IsUnitProcedureTable, IsOperationTable, IsPhaseTable}
+use Rattle.batch_reader.specs.RecipeTables.{HasCourse, HasNeeds, IsQuantityTable, IsOutputTable, IsRoleTable, IsProcedureTable, IsUnitProcedureTable, IsOperationTable, IsPhaseTable}
 use Rattle.batch_reader.specs.RecipeDocument.{HasActs, IsRecipeTable}
 use Rattle.batch_reader.specs.SoundRecipe.{IsSoundRecipe}
 
@@ -28,8 +30,7 @@ same_form a b name unit needs work = cc
 
 same_unit_procedure : (ms : Members) (a b : Act) → IsUnitProcedureTable ms a → IsUnitProcedureTable ms b → form a ≡ form b
 same_unit_procedure ms a b h k =
-    same_form a b (HasLabel_unique _ ms a.name b.name h.name k.name)
-    (h.runs_on ∙ ap Some (HasName_unique _ ms h.unit k.unit h.has_unit k.has_unit) ∙ sym k.runs_on)
+    same_form a b (HasLabel_unique _ ms a.name b.name h.name k.name) (same_unit ms a b h k)
     (same_needs ms a b h.needs k.needs) (same_work ms a b h.course k.course)
 
 same_operation : (ms : Members) (a b : Act) → IsOperationTable ms a → IsOperationTable ms b → form a ≡ form b
@@ -66,15 +67,24 @@ same_outputs : (ms : Members) (xs ys : List Name) → HasTables IsOutputTable (c
 same_outputs ms xs ys h k =
     sym (map-id xs) ∙ HasTables_same IsOutputTable (λ name. name) (λ ns x y a b. HasLabel_unique _ ns x y a.name b.name) _ ms xs ys h k ∙ map-id ys
 
+same_role : (ms : Members) (x y : Role) → IsRoleTable ms x → IsRoleTable ms y → x ≡ y
+same_role ms x y h k =
+    ap₂ (λ name class. let role : Role = record { name = name; class = class } in role)
+    (HasName_unique _ ms x.name y.name h.name k.name) (HasName_unique _ ms x.class y.class h.class k.class)
+
+same_roles : (ms : Members) (xs ys : List Role) → HasTables IsRoleTable (codes "role") ms xs → HasTables IsRoleTable (codes "role") ms ys → xs ≡ ys
+same_roles ms xs ys h k = sym (map-id xs) ∙ HasTables_same IsRoleTable (λ role. role) same_role _ ms xs ys h k ∙ map-id ys
+
 -- where the parts that a table stands for aren't sound, the table stands for no recipe
-pub unsound_recipe_refused : (ms : Members) (inputs parameters : List Quantity) (outputs : List Name) (acts : Acts)
+pub unsound_recipe_refused : (ms : Members) (inputs parameters : List Quantity) (outputs : List Name) (roles : List Role) (acts : Acts)
     → HasTables IsQuantityTable (codes "input") ms inputs → HasTables IsQuantityTable (codes "parameter") ms parameters → HasTables IsOutputTable (codes "output") ms outputs
-    → HasActs ms acts → (IsSoundRecipe inputs parameters outputs acts → ⊥) → (recipe : Recipe) → IsRecipeTable ms recipe → ⊥
-unsound_recipe_refused ms inputs parameters outputs acts hi hp ho ha unsound recipe h =
-    unsound (sound_along recipe.inputs.items recipe.parameters.items inputs parameters recipe.outputs.items outputs recipe.acts acts
+    → HasTables IsRoleTable (codes "role") ms roles → HasActs ms acts → (IsSoundRecipe inputs parameters outputs roles acts → ⊥) → (recipe : Recipe) → IsRecipeTable ms recipe → ⊥
+unsound_recipe_refused ms inputs parameters outputs roles acts hi hp ho hr ha unsound recipe h =
+    unsound (sound_along recipe.inputs.items recipe.parameters.items inputs parameters recipe.outputs.items outputs recipe.roles.items roles recipe.acts acts
     (same_quantities _ ms recipe.inputs.items inputs h.inputs hi)
     (same_quantities _ ms recipe.parameters.items parameters h.parameters hp)
     (same_outputs ms recipe.outputs.items outputs h.outputs ho)
+    (same_roles ms recipe.roles.items roles h.roles hr)
     (same_procedure ms recipe.acts acts h.acts ha)
     (HasTables_same IsUnitProcedureTable form same_unit_procedure _ ms recipe.acts.unit_procedures.items acts.unit_procedures.items h.acts.unit_procedures ha.unit_procedures)
     (HasTables_same IsOperationTable form same_operation _ ms recipe.acts.operations.items acts.operations.items h.acts.operations ha.operations)

@@ -9,6 +9,7 @@ use Rattle.batch_recipe.specs.Conditions.{Name}
 use Rattle.batch_recipe.specs.Diagram.{diagram_of}
 use Rattle.batch_recipe.specs.WellFormed.{is_among, chart_words, have_no_chart_word, value_names, has_unit, has_chart, are_kinds, follows_no_par, has_free_names}
 use Rattle.batch_recipe.specs.declared.act.Act.{Act}
+use Rattle.batch_recipe.specs.declared.act.UnitChoice.{UnitChoice}
 use Rattle.batch_recipe.specs.declared.act.Work.TheVariants.{Follows, Runs}
 use Rattle.batch_recipe.specs.declared.acts.Acts.{Acts}
 use Rattle.batch_recipe.specs.declared.quantity.Quantity.{Quantity}
@@ -49,8 +50,8 @@ each_table_true R p one key ms xs h = each_item_true R p one h.items xs h.tables
 unit_of_none : (a : Act) → a.unit ≡ None → has_unit a ≡ false
 unit_of_none a none = ap (λ u. elim u [ None ↦ false | Some unit ↦ true ]) none
 
-unit_of_some : (a : Act) (unit : Name) → a.unit ≡ Some unit → has_unit a ≡ true
-unit_of_some a unit some = ap (λ u. elim u [ None ↦ false | Some own ↦ true ]) some
+unit_of_some : (a : Act) (choice : UnitChoice) → a.unit ≡ Some choice → has_unit a ≡ true
+unit_of_some a choice some = ap (λ u. elim u [ None ↦ false | Some own ↦ true ]) some
 
 chart_of_course : (ms : Members) (a : Act) → HasCourse ms a → has_chart a ≡ true
 chart_of_course ms a h = ap (λ w. elim w [ Follows c ↦ true | Runs phase values ↦ false ]) h.follows
@@ -65,7 +66,7 @@ kinds_of_tables ms acts h =
     both_true _ _ (ap not (unit_of_none acts.procedure top.no_unit)) (chart_of_course h.procedure.members acts.procedure top.course) in
     let unit_procedures : list_all (λ u. has_unit u && has_chart u) acts.unit_procedures.items ≡ true =
     each_table_true IsUnitProcedureTable (λ u. has_unit u && has_chart u) (λ ns u t.
-    both_true _ _ (unit_of_some u t.unit t.runs_on) (chart_of_course ns u t.course)) _ ms _ h.unit_procedures in
+    both_true _ _ (unit_of_some u t.choice t.runs_on) (chart_of_course ns u t.course)) _ ms _ h.unit_procedures in
     let operations : list_all (λ o. not (has_unit o) && has_chart o) acts.operations.items ≡ true =
     each_table_true IsOperationTable (λ o. not (has_unit o) && has_chart o) (λ ns o t.
     both_true _ _ (ap not (unit_of_none o t.no_unit)) (chart_of_course ns o t.course)) _ ms _ h.operations in

@@ -10,13 +10,14 @@ use Rattle.batch_cell.specs.declared.module.TheConstants.{MAX_PHASES}
 use Rattle.batch_cell.specs.declared.shared.Shared.{Shared}
 use Rattle.batch_cell.specs.declared.shared.TheConstants.{MAX_CAPACITY}
 use Rattle.batch_cell.specs.declared.unit.Unit.{Unit}
-use Rattle.batch_reader.specs.Entries.{HasName, HasNames, HasNumber, HasTables, has_only_keys}
+use Rattle.batch_reader.specs.Entries.{HasName, HasNames, HasNumber, HasTables, MayHaveName, has_only_keys}
 use Rattle.batch_reader.specs.declared.document.TheConstants.{MAX_DOCUMENT_LEN}
 
 -- the table stands for the unit
 pub record IsUnitTable (ms : Members) (unit : Unit) : Type 0 where
-  pub keys : has_only_keys (codes "name" ∷ []) ms ≡ true
+  pub keys : has_only_keys (codes "name" ∷ codes "class" ∷ []) ms ≡ true
   pub name : HasName (codes "name") ms unit.name
+  pub class : MayHaveName (codes "class") ms unit.class
 
 -- the table has no unit, and stands for the free module
 pub record IsFreeModuleTable (ms : Members) (m : Module) : Type 0 where

@@ -37,6 +37,11 @@ pub record HasLabel (key : List ℕ) (ms : Members) (name : List ℕ) : Type 0 w
   pub text : option_and_then as_str (get_member key ms) ≡ Some name
   pub label : IsLabel name
 
+-- the key has the name; where it is missing, there is none
+abbrev pub MayHaveName : List ℕ → Members → Option (List ℕ) → Type 0
+MayHaveName key ms None = get_member key ms ≡ None
+MayHaveName key ms (Some name) = HasName key ms name
+
 -- the key has the name; where it is missing, the name is this other one
 abbrev pub HasNameOr : List ℕ → Members → List ℕ → List ℕ → Type 0
 HasNameOr key ms other name = HasName key ms name ⊎ ((get_member key ms ≡ None) × (name ≡ other))

@@ -1,16 +1,22 @@
 -- trusted: what the refusal of a table tells. Private contracts alone cite all but `is_of_cell` and `is_of_recipe`.
-use Rattle.std.specs.Prelude.{◌≡◌, ℕ, ◌≤◌, nat_lt, ⊤, List, Bool, true, false, not, position, if◌then◌else◌, Option, Some, None, codes}
+use Rattle.std.specs.Prelude.{◌≡◌, ℕ, ◌≤◌, nat_lt, ◌⊎◌, ⊤, List, Bool, true, false, not, position, if◌then◌else◌, Option, Some, None, codes}
 use Rattle.toml.specs.Data.{Data, Items, Members}
 use Rattle.batch_text.specs.NumberText.{IsNumber, number_of}
+use Rattle.batch_recipe.specs.Conditions.{Name}
 use Rattle.batch_recipe.specs.Diagram.{Diagram}
+use Rattle.batch_recipe.specs.WellFormed.{value_names}
+use Rattle.batch_recipe.specs.declared.acts.Acts.{Acts}
 use Rattle.batch_recipe.specs.declared.need.TheConstants.{MAX_UNITS}
+use Rattle.batch_recipe.specs.declared.quantity.Quantity.{Quantity}
+use Rattle.batch_recipe.specs.declared.role.Role.{Role}
 use Rattle.batch_grammar.specs.ChartAnswer.{IsRead}
 use Rattle.batch_grammar.specs.declared.reading.TheConstants.{MAX_CHART_LEN}
 use Rattle.batch_reader.specs.Entries.{HasText}
 use Rattle.batch_reader.specs.NeedText.{is_star}
+use Rattle.batch_reader.specs.PartFaults.{HasActTwice, HasRoleTwice, HasUndeclaredName, HasUndeclaredRole, HasValueTwice}
 use Rattle.batch_reader.specs.TableFaults.{count_items, HasItem, IsNoNeedCut, HasTooManyUnits, IsNoNeed, IsNeedOutOfLimits, IsTableFault}
 use Rattle.batch_reader.specs.declared.fault.EntryFault.{EntryFault}
-use Rattle.batch_reader.specs.declared.fault.EntryFault.TheVariants.{MissingKey, WrongKind, OutOfLimit}
+use Rattle.batch_reader.specs.declared.fault.EntryFault.TheVariants.{MissingKey, WrongKind, Undeclared, Duplicate, OutOfLimit}
 use Rattle.batch_reader.specs.declared.fault.Spot.{Spot}
 use Rattle.batch_reader.specs.declared.fault.TableFault.{TableFault}
 use Rattle.batch_reader.specs.declared.fault.TableFault.TheVariants.{Entry, Memory}
@@ -94,6 +100,18 @@ IsActFault UnitProcedure table wrong = IsTableFault UnitProcedure table wrong
 IsActFault Operation table wrong = IsTableFault Operation table wrong
 IsActFault Phase table wrong = IsTableFault Phase table wrong
 IsActFault _ table wrong = ⊤
+
+-- this is wrong among the names of values and acts, and what acts name of them
+abbrev pub IsNamingFault : List Quantity → List Quantity → List Name → Acts → TableKind → ℕ → EntryFault → Type 0
+IsNamingFault inputs parameters outputs acts kind entry Duplicate = HasValueTwice inputs parameters outputs kind entry ⊎ HasActTwice acts kind entry
+IsNamingFault inputs parameters outputs acts kind entry Undeclared = HasUndeclaredName (value_names inputs parameters outputs) acts kind entry
+IsNamingFault inputs parameters outputs acts kind entry _ = ⊥
+
+-- this is wrong among the roles, and what unit procedures name of them
+abbrev pub IsRoleFault : List Role → Acts → TableKind → ℕ → EntryFault → Type 0
+IsRoleFault roles acts kind entry Duplicate = HasRoleTwice roles kind entry
+IsRoleFault roles acts kind entry Undeclared = HasUndeclaredRole roles acts kind entry
+IsRoleFault roles acts kind entry _ = ⊥
 
 -- what is wrong with a key that has no value of its kind
 abbrev pub missing_or_wrong : Option Data → EntryFault

@@ -7,7 +7,7 @@ use Rattle.batch_recipe.specs.declared.act.TheConstants.{MAX_NEEDS, MAX_VALUES}
 use Rattle.batch_recipe.specs.declared.header.TheConstants.{MAX_VERSION_LEN, MAX_TEXT_LEN}
 use Rattle.batch_recipe.specs.declared.scaling.TheConstants.{MAX_SIZE, MAX_VALUE}
 use Rattle.batch_reader.specs.declared.fault.TableKind.{TableKind}
-use Rattle.batch_reader.specs.declared.fault.TableKind.TheVariants.{Cell, Unit, Module, Shared, Recipe, Input, Parameter, Output, Procedure, UnitProcedure, Operation, Phase}
+use Rattle.batch_reader.specs.declared.fault.TableKind.TheVariants.{Cell, Unit, Module, Shared, Recipe, Input, Parameter, Output, Role, Procedure, UnitProcedure, Operation, Phase}
 
 -- what the value at a key has to be
 pub data Form : Type 0 where
@@ -53,12 +53,17 @@ abbrev pub module_keys : Option Data → List Key
 module_keys None = needed (codes "name") a_name ∷ []
 module_keys (Some unit) = needed (codes "name") a_name ∷ needed (codes "unit") a_name ∷ needed (codes "phases") (some_names 1 MAX_PHASES) ∷ []
 
+-- the key that says on which unit a unit procedure runs: `role` where it is there, and else `unit`
+abbrev pub unit_key : Option Data → List ℕ
+unit_key None = codes "unit"
+unit_key (Some role) = codes "role"
+
 -- the keys that a table of this kind may have
 abbrev pub keys_of : TableKind → Members → List Key
 keys_of Cell table =
     needed (codes "cell") a_name
     ∷ optional (codes "unit") some_tables ∷ optional (codes "module") some_tables ∷ optional (codes "shared") some_tables ∷ []
-keys_of Unit table = needed (codes "name") a_name ∷ []
+keys_of Unit table = needed (codes "name") a_name ∷ optional (codes "class") a_name ∷ []
 keys_of Module table = module_keys (get_member (codes "unit") table)
 keys_of Shared table = needed (codes "name") a_name ∷ needed (codes "capacity") (a_number 1 MAX_CAPACITY) ∷ []
 keys_of Recipe table =
@@ -67,14 +72,16 @@ keys_of Recipe table =
     ∷ optional (codes "product") (a_text MAX_TEXT_LEN) ∷ optional (codes "author") (a_text MAX_TEXT_LEN) ∷ optional (codes "info") (a_text MAX_TEXT_LEN)
     ∷ needed (codes "basis") (a_number 1 MAX_SIZE)
     ∷ optional (codes "input") some_tables ∷ optional (codes "parameter") some_tables ∷ optional (codes "output") some_tables
-    ∷ optional (codes "procedure") some_tables
+    ∷ optional (codes "role") some_tables ∷ optional (codes "procedure") some_tables
     ∷ optional (codes "unit_procedure") some_tables ∷ optional (codes "operation") some_tables ∷ optional (codes "phase") some_tables ∷ []
 keys_of Input table = quantity_keys
 keys_of Parameter table = quantity_keys
 keys_of Output table = needed (codes "name") a_free_name ∷ []
+keys_of Role table = needed (codes "name") a_name ∷ needed (codes "class") a_name ∷ []
 keys_of Procedure table = optional (codes "needs") (some_needs MAX_NEEDS) ∷ needed (codes "chart") a_chart ∷ []
 keys_of UnitProcedure table =
-    needed (codes "name") a_free_name ∷ needed (codes "unit") a_name ∷ optional (codes "needs") (some_needs MAX_NEEDS) ∷ needed (codes "chart") a_chart_without_par ∷ []
+    needed (codes "name") a_free_name
+    ∷ needed (unit_key (get_member (codes "role") table)) a_name ∷ optional (codes "needs") (some_needs MAX_NEEDS) ∷ needed (codes "chart") a_chart_without_par ∷ []
 keys_of Operation table = needed (codes "name") a_free_name ∷ optional (codes "needs") (some_needs MAX_NEEDS) ∷ needed (codes "chart") a_chart ∷ []
 keys_of Phase table =
     needed (codes "name") a_free_name ∷ optional (codes "runs") a_name ∷ optional (codes "needs") (some_needs MAX_NEEDS) ∷ optional (codes "values") (some_names 0 MAX_VALUES) ∷ []

@@ -1,5 +1,5 @@
 -- trusted: what is wrong among the tables of a document, each of which is right by itself: how many there are, their names, and what they name.
-use Rattle.std.specs.Prelude.{◌≡◌, ◌≢◌, ℕ, ◌+◌, ◌<◌, ◌⊎◌, true, nat_eq, List, [], take, length, Some, codes}
+use Rattle.std.specs.Prelude.{◌≡◌, ◌≢◌, ℕ, ◌+◌, ◌<◌, ◌⊎◌, true, nat_eq, List, [], map, take, length, Some, codes}
 use Rattle.std.specs.Cmp.Lexicographic.{pointwise}
 use Rattle.std.specs.List.{IsDistinct, list_all, slice_get}
 use Rattle.toml.specs.Data.{Members}
@@ -10,15 +10,17 @@ use Rattle.batch_cell.specs.declared.shared.Shared.{Shared}
 use Rattle.batch_cell.specs.declared.unit.Unit.{Unit}
 use Rattle.batch_recipe.specs.Conditions.{Name}
 use Rattle.batch_recipe.specs.Procedure.{procedure_nodes}
-use Rattle.batch_recipe.specs.WellFormed.{act_names, value_names, is_work}
+use Rattle.batch_recipe.specs.WellFormed.{act_names, value_names, is_role_among, is_work}
 use Rattle.batch_recipe.specs.declared.act.Act.{Act}
 use Rattle.batch_recipe.specs.declared.acts.Acts.{Acts}
 use Rattle.batch_recipe.specs.declared.quantity.Quantity.{Quantity}
 use Rattle.batch_recipe.specs.declared.recipe.TheConstants.{MAX_ENTRIES, MAX_ACTS, MAX_NODES}
+use Rattle.batch_recipe.specs.declared.role.Role.{Role}
+use Rattle.batch_recipe.specs.declared.role.TheConstants.{MAX_ROLES}
 use Rattle.batch_reader.specs.CellDocument.{IsUnitTable, IsModuleTable, IsSharedTable}
 use Rattle.batch_reader.specs.Entries.{HasTables}
 use Rattle.batch_reader.specs.RecipeDocument.{HasActs}
-use Rattle.batch_reader.specs.RecipeTables.{IsQuantityTable, IsOutputTable}
+use Rattle.batch_reader.specs.RecipeTables.{IsQuantityTable, IsOutputTable, IsRoleTable}
 use Rattle.batch_reader.specs.declared.fault.EntryFault.{EntryFault}
 use Rattle.batch_reader.specs.declared.fault.EntryFault.TheVariants.{Undeclared, Duplicate, OutOfLimit}
 use Rattle.batch_reader.specs.declared.fault.TableKind.{TableKind}
@@ -93,6 +95,7 @@ pub record Parts : Type 0 where
   pub inputs : List Quantity
   pub parameters : List Quantity
   pub outputs : List Name
+  pub roles : List Role
   pub acts : Acts
 
 abbrev pub values_of_parts : Parts → List Name
@@ -102,6 +105,7 @@ abbrev pub HasWrongCountOfParts : Parts → TableKind → ℕ → Type 0
 HasWrongCountOfParts p table_kind.Input entry = IsCountFault 0 MAX_ENTRIES (length p.inputs) entry
 HasWrongCountOfParts p table_kind.Parameter entry = IsCountFault 0 MAX_ENTRIES (length p.parameters) entry
 HasWrongCountOfParts p table_kind.Output entry = IsCountFault 0 MAX_ENTRIES (length p.outputs) entry
+HasWrongCountOfParts p table_kind.Role entry = IsCountFault 0 MAX_ROLES (length p.roles) entry
 HasWrongCountOfParts p table_kind.UnitProcedure entry = IsCountFault 1 MAX_ACTS (length p.acts.unit_procedures.items) entry
 HasWrongCountOfParts p table_kind.Operation entry = IsCountFault 1 MAX_ACTS (length p.acts.operations.items) entry
 HasWrongCountOfParts p table_kind.Phase entry = IsCountFault 1 MAX_ACTS (length p.acts.phases.items) entry
@@ -141,11 +145,24 @@ HasUndeclaredName values acts table_kind.Operation entry = IsFirstUndeclared (ac
 HasUndeclaredName values acts table_kind.Phase entry = IsFirstUndeclared [] values acts.phases.items entry
 HasUndeclaredName values acts _ entry = ⊥
 
+abbrev pub role_names : List Role → List Name
+role_names roles = map (λ role. role.name) roles
+
+-- the role is the first that has the name of one before it
+abbrev pub HasRoleTwice : List Role → TableKind → ℕ → Type 0
+HasRoleTwice roles table_kind.Role entry = FailsFirst (λ front. AreDistinct (role_names front)) roles entry
+HasRoleTwice roles _ entry = ⊥
+
+-- the unit procedure is the first whose role is none of these
+abbrev pub HasUndeclaredRole : List Role → Acts → TableKind → ℕ → Type 0
+HasUndeclaredRole roles acts table_kind.UnitProcedure entry = FailsFirst (λ front. list_all (is_role_among (role_names roles)) front ≡ true) acts.unit_procedures.items entry
+HasUndeclaredRole roles acts _ entry = ⊥
+
 -- this is wrong with the parts of a recipe at the table that has this number among those of its kind
 abbrev pub IsPartFault : Parts → TableKind → ℕ → EntryFault → Type 0
 IsPartFault p kind entry OutOfLimit = HasWrongCountOfParts p kind entry ⊎ IsTooLarge p kind entry
-IsPartFault p kind entry Duplicate = HasValueTwice p.inputs p.parameters p.outputs kind entry ⊎ HasActTwice p.acts kind entry
-IsPartFault p kind entry Undeclared = HasUndeclaredName (values_of_parts p) p.acts kind entry
+IsPartFault p kind entry Duplicate = HasValueTwice p.inputs p.parameters p.outputs kind entry ⊎ (HasRoleTwice p.roles kind entry ⊎ HasActTwice p.acts kind entry)
+IsPartFault p kind entry Undeclared = HasUndeclaredName (values_of_parts p) p.acts kind entry ⊎ HasUndeclaredRole p.roles p.acts kind entry
 IsPartFault p kind entry _ = ⊥
 
 -- the tables of the document stand for parts of a recipe, with which this is wrong
@@ -154,5 +171,6 @@ pub record HasPartFault (document : Members) (kind : TableKind) (entry : ℕ) (w
   pub inputs : HasTables IsQuantityTable (codes "input") document parts.inputs
   pub parameters : HasTables IsQuantityTable (codes "parameter") document parts.parameters
   pub outputs : HasTables IsOutputTable (codes "output") document parts.outputs
+  pub roles : HasTables IsRoleTable (codes "role") document parts.roles
   pub acts : HasActs document parts.acts
   pub fault : IsPartFault parts kind entry wrong

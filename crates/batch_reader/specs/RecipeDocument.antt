@@ -6,7 +6,7 @@ use Rattle.batch_recipe.specs.declared.acts.Acts.{Acts}
 use Rattle.batch_recipe.specs.declared.recipe.Recipe.{Recipe}
 use Rattle.batch_recipe.specs.declared.scaling.TheConstants.{MAX_SIZE}
 use Rattle.batch_reader.specs.Entries.{HasName, HasNumber, HasTable, HasTables, has_only_keys}
-use Rattle.batch_reader.specs.RecipeTables.{HasHeader, IsQuantityTable, IsOutputTable, IsProcedureTable, IsUnitProcedureTable, IsOperationTable, IsPhaseTable}
+use Rattle.batch_reader.specs.RecipeTables.{HasHeader, IsQuantityTable, IsOutputTable, IsRoleTable, IsProcedureTable, IsUnitProcedureTable, IsOperationTable, IsPhaseTable}
 use Rattle.batch_reader.specs.SoundRecipe.{IsSoundRecipe}
 use Rattle.batch_reader.specs.declared.document.TheConstants.{MAX_DOCUMENT_LEN}
 
@@ -15,7 +15,7 @@ abbrev pub recipe_keys : List (List ℕ)
 recipe_keys =
     codes "recipe" ∷ codes "version" ∷ codes "product" ∷ codes "author" ∷ codes "info" ∷ codes "basis"
     ∷ codes "input" ∷ codes "parameter" ∷ codes "output"
-    ∷ codes "procedure" ∷ codes "unit_procedure" ∷ codes "operation" ∷ codes "phase" ∷ []
+    ∷ codes "role" ∷ codes "procedure" ∷ codes "unit_procedure" ∷ codes "operation" ∷ codes "phase" ∷ []
 
 -- the document has the acts; the recipe's name is that of its procedure
 pub record HasActs (ms : Members) (acts : Acts) : Type 0 where
@@ -33,8 +33,9 @@ pub record IsRecipeTable (ms : Members) (recipe : Recipe) : Type 0 where
   pub inputs : HasTables IsQuantityTable (codes "input") ms recipe.inputs.items
   pub parameters : HasTables IsQuantityTable (codes "parameter") ms recipe.parameters.items
   pub outputs : HasTables IsOutputTable (codes "output") ms recipe.outputs.items
+  pub roles : HasTables IsRoleTable (codes "role") ms recipe.roles.items
   pub acts : HasActs ms recipe.acts
-  pub sound : IsSoundRecipe recipe.inputs.items recipe.parameters.items recipe.outputs.items recipe.acts
+  pub sound : IsSoundRecipe recipe.inputs.items recipe.parameters.items recipe.outputs.items recipe.roles.items recipe.acts
 
 -- the bytes are a document that stands for the recipe
 pub record IsRecipeDocument (bytes : List ℕ) (recipe : Recipe) : Type 0 where

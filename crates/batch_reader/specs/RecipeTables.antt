@@ -1,5 +1,5 @@
 -- trusted: what the tables of a recipe document stand for.
-use Rattle.std.specs.Prelude.{◌≡◌, ◌≤◌, true, [], ◌∷◌, Some, None, codes, option_map, string_bytes}
+use Rattle.std.specs.Prelude.{◌≡◌, ◌≤◌, ℕ, true, List, [], ◌∷◌, Some, None, codes, option_map, string_bytes}
 use Rattle.std.specs.Global.{Vec}
 use Rattle.toml.specs.Data.{Members}
 use Rattle.batch_recipe.specs.Conditions.{Name}
@@ -7,11 +7,14 @@ use Rattle.batch_recipe.specs.Diagram.{diagram_of}
 use Rattle.batch_recipe.specs.WellFormed.{follows_no_par}
 use Rattle.batch_recipe.specs.declared.act.Act.{Act}
 use Rattle.batch_recipe.specs.declared.act.TheConstants.{MAX_NEEDS, MAX_VALUES}
+use Rattle.batch_recipe.specs.declared.act.UnitChoice.{UnitChoice}
+use Rattle.batch_recipe.specs.declared.act.UnitChoice.TheVariants.{Unit, Role}
 use Rattle.batch_recipe.specs.declared.act.Work.TheVariants.{Follows, Runs}
 use Rattle.batch_recipe.specs.declared.chart.Chart.{Chart}
 use Rattle.batch_recipe.specs.declared.header.Header.{Header}
 use Rattle.batch_recipe.specs.declared.header.TheConstants.{MAX_VERSION_LEN, MAX_TEXT_LEN}
 use Rattle.batch_recipe.specs.declared.quantity.Quantity.{Quantity}
+use Rattle.batch_recipe.specs.declared.role.Role.{Role as RecipeRole}
 use Rattle.batch_recipe.specs.declared.scaling.TheConstants.{MAX_VALUE}
 use Rattle.batch_reader.specs.Entries.{HasName, HasLabel, HasNameOr, HasNumber, HasText, MayHaveText, HasChart, HasFewNames, HasFewNeeds, IsTruth, has_only_keys}
 use Rattle.batch_reader.specs.declared.fault.TableKind.{TableKind}
@@ -39,6 +42,12 @@ pub record IsOutputTable (ms : Members) (output : Name) : Type 0 where
   pub keys : has_only_keys (codes "name" ∷ []) ms ≡ true
   pub name : HasLabel (codes "name") ms output
 
+-- the table stands for the role
+pub record IsRoleTable (ms : Members) (role : RecipeRole) : Type 0 where
+  pub keys : has_only_keys (codes "name" ∷ codes "class" ∷ []) ms ≡ true
+  pub name : HasName (codes "name") ms role.name
+  pub class : HasName (codes "class") ms role.class
+
 -- the table has the act's needs
 abbrev pub HasNeeds : Members → Act → Type 0
 HasNeeds ms a = HasFewNeeds (codes "needs") ms MAX_NEEDS a.needs.items
@@ -56,13 +65,22 @@ pub record IsProcedureTable (ms : Members) (a : Act) : Type 0 where
   pub needs : HasNeeds ms a
   pub course : HasCourse ms a
 
--- the table stands for the unit procedure, whose chart has no `par`
+-- the key at which a unit, or a role in its place, stands
+abbrev pub choice_key : UnitChoice → List ℕ
+choice_key (Unit unit) = codes "unit"
+choice_key (Role role) = codes "role"
+
+abbrev pub choice_name : UnitChoice → Name
+choice_name (Unit unit) = unit
+choice_name (Role role) = role
+
+-- the table has the unit or the role of the unit procedure that it stands for, and not both; its chart has no `par`
 pub record IsUnitProcedureTable (ms : Members) (a : Act) : Type 0 where
-  pub keys : has_only_keys (codes "name" ∷ codes "unit" ∷ codes "needs" ∷ codes "chart" ∷ []) ms ≡ true
+  pub choice : UnitChoice
+  pub runs_on : a.unit ≡ Some choice
+  pub keys : has_only_keys (codes "name" ∷ choice_key choice ∷ codes "needs" ∷ codes "chart" ∷ []) ms ≡ true
+  pub chosen : HasName (choice_key choice) ms (choice_name choice)
   pub name : HasLabel (codes "name") ms a.name
-  pub unit : Name
-  pub has_unit : HasName (codes "unit") ms unit
-  pub runs_on : a.unit ≡ Some unit
   pub needs : HasNeeds ms a
   pub course : HasCourse ms a
   pub no_par : follows_no_par a ≡ true

@@ -22,6 +22,33 @@ NoSecondUnitLacksOne = ¬ IsFaultOfTable nameless table_kind.Unit 1 MissingKey
 abbrev pub NoKeyIsUnknown : Type 0
 NoKeyIsUnknown = ¬ IsFaultOfTable nameless table_kind.Unit 0 UnknownKey
 
+-- the table of a unit procedure, with these keys between its name and its chart
+abbrev pub with_keys : (Members → Members) → Members
+with_keys keys = member (codes "name") (string (codes "U")) (keys (member (codes "chart") (string (codes "skip")) no_members))
+
+-- one `[[unit_procedure]]`, which has them
+abbrev pub one_unit_procedure : (Members → Members) → Members
+one_unit_procedure keys = member (codes "unit_procedure") (array (item (table (with_keys keys)) no_items)) no_members
+
+abbrev pub on_unit : Members → Members
+on_unit rest = member (codes "unit") (string (codes "R1")) rest
+
+abbrev pub for_role : Members → Members
+for_role rest = member (codes "role") (string (codes "rx")) rest
+
+-- `unit` isn't known beside `role`, and `role` alone is
+abbrev pub UnitBesideRoleIsUnknown : Type 0
+UnitBesideRoleIsUnknown = IsFaultOfTable (one_unit_procedure (λ rest. on_unit (for_role rest))) table_kind.UnitProcedure 0 UnknownKey
+
+abbrev pub RoleAloneIsKnown : Type 0
+RoleAloneIsKnown = ¬ IsFaultOfTable (one_unit_procedure for_role) table_kind.UnitProcedure 0 UnknownKey
+
+-- with neither of them one is missing, and no key is unknown
+abbrev pub NeitherIsMissing : Type 0
+NeitherIsMissing =
+    IsFaultOfTable (one_unit_procedure (λ rest. rest)) table_kind.UnitProcedure 0 MissingKey
+    × (¬ IsFaultOfTable (one_unit_procedure (λ rest. rest)) table_kind.UnitProcedure 0 UnknownKey)
+
 -- a text that begins with `s` isn't at fault there, since `skip` does too
 abbrev pub FirstByteIsGood : Type 0
 FirstByteIsGood = ¬ IsNoChartAt 0 (codes "seq(ADD")

@@ -3,7 +3,7 @@ use Rattle.std.specs.Prelude.{ℕ, List, ◌++◌, codes}
 use Rattle.std.specs.Fmt.{decimal}
 use Rattle.batch_reader.specs.declared.fault.Spot.{Spot}
 use Rattle.batch_reader.specs.declared.fault.TableKind.{TableKind}
-use Rattle.batch_reader.specs.declared.fault.TableKind.TheVariants.{Cell, Unit, Module, Shared, Recipe, Input, Parameter, Output, Procedure, UnitProcedure, Operation, Phase}
+use Rattle.batch_reader.specs.declared.fault.TableKind.TheVariants.{Cell, Unit, Module, Shared, Recipe, Input, Parameter, Output, Role, Procedure, UnitProcedure, Operation, Phase}
 
 abbrev pub table_word : TableKind → List ℕ
 table_word Cell = codes "cell"
@@ -14,6 +14,7 @@ table_word Recipe = codes "recipe"
 table_word Input = codes "input"
 table_word Parameter = codes "parameter"
 table_word Output = codes "output"
+table_word Role = codes "role"
 table_word Procedure = codes "procedure"
 table_word UnitProcedure = codes "unit_procedure"
 table_word Operation = codes "operation"

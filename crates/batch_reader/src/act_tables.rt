@@ -1,12 +1,13 @@
 //! The tables of a recipe's acts.
-ghost use Rattle.std.specs.Prelude.{◌≡◌, ◌≢◌, codes, IfOk, IfErr};
+ghost use Rattle.std.specs.Prelude.{◌≡◌, ◌≢◌, ℕ, List, [], ◌∷◌, codes, IfOk, IfErr};
 ghost use Rattle.toml.specs.Data.{get_member};
 ghost use Rattle.toml.specs.View.{table_view};
 ghost use Rattle.batch_recipe.specs.declared.act.Act.{Act};
-ghost use Rattle.batch_reader.specs.Entries.{HasTable};
-ghost use Rattle.batch_reader.specs.RecipeTables.{IsActTable, IsProcedureTable, IsUnitProcedureTable, IsOperationTable, IsPhaseTable};
+ghost use Rattle.batch_reader.specs.Entries.{HasName, HasTable, has_only_keys};
+ghost use Rattle.batch_reader.specs.RecipeTables.{IsActTable, IsProcedureTable, IsUnitProcedureTable, IsOperationTable, IsPhaseTable, choice_key, choice_name};
 ghost use Rattle.batch_reader.specs.Faults.{IsActFault, TellsAt};
-ghost use Rattle.batch_reader.specs.TableFaults.{IsProcedureFault, IsTableFault};
+ghost use Rattle.batch_reader.specs.Keys.{a_name, needed, unit_key};
+ghost use Rattle.batch_reader.specs.TableFaults.{IsKeyFault, IsProcedureFault, IsTableFault};
 ghost use Rattle.batch_reader.specs.declared.fault.TableKind.{TableKind};
 
 use crate::chart_entry::{chart_at, chart_without_par_at};
@@ -15,7 +16,7 @@ use crate::fault::{EntryFault, Spot, TableFault, TableKind};
 use crate::needs::few_needs_at;
 use crate::recipe_entries::{few_names_at, label_at, name_or};
 use crate::tables::FromTable;
-use batch_recipe::{Act, MAX_NEEDS, MAX_VALUES, Work};
+use batch_recipe::{Act, MAX_NEEDS, MAX_VALUES, UnitChoice, Work};
 use batch_text::Name;
 use std::alloc::Global;
 use toml::Table;
@@ -41,22 +42,48 @@ impl FromTable for Act {
     }
 }
 
+/// The unit of a unit procedure, or the role that stands in its place.
+fn choice_at(alloc: Global, table: &Table, spot: Spot) -> Result<UnitChoice, TableFault>
+    ensures ok { IfOk result (λ choice. HasName (choice_key choice) (table_view table.now) (choice_name choice)) }
+    ensures key { IfOk result (λ choice. choice_key choice ≡ unit_key (get_member (codes "role") (table_view table.now))) }
+    ensures refused { IfErr result (λ fault. fault ≢ TableFault.Memory
+        → (name : List ℕ) → ¬ (HasName (unit_key (get_member (codes "role") (table_view table.now))) (table_view table.now) name)) }
+    ensures told { IfErr result (TellsAt spot (IsKeyFault (needed (unit_key (get_member (codes "role") (table_view table.now))) a_name) (table_view table.now))) }
+{
+    if member(table, "role").is_some() {
+        let role = name_at(alloc, table, "role", spot)?;
+        return Ok(UnitChoice::Role(role));
+    }
+    let unit = name_at(alloc, table, "unit", spot)?;
+    Ok(UnitChoice::Unit(unit))
+}
+
+/// Whether the table has no keys but those of a unit procedure: `role`, or `unit` where that is missing.
+fn has_unit_procedure_keys(table: &Table) -> bool
+    ensures { result ≡ has_only_keys (codes "name" ∷ unit_key (get_member (codes "role") (table_view table.now)) ∷ codes "needs" ∷ codes "chart" ∷ []) (table_view table.now) }
+{
+    if member(table, "role").is_some() {
+        return has_only_keys(table, &["name", "role", "needs", "chart"]);
+    }
+    has_only_keys(table, &["name", "unit", "needs", "chart"])
+}
+
 fn unit_procedure(alloc: Global, table: &Table, spot: Spot) -> Result<Act, TableFault>
     ensures ok { IfOk result (IsUnitProcedureTable (table_view table.now)) }
     ensures refused { IfErr result (λ fault. fault ≢ TableFault.Memory
         → (act : Act) → ¬ (IsUnitProcedureTable (table_view table.now) act)) }
     ensures told { IfErr result (TellsAt spot (IsTableFault TableKind.UnitProcedure (table_view table.now))) }
 {
-    if !has_only_keys(table, &["name", "unit", "needs", "chart"]) {
+    if !has_unit_procedure_keys(table) {
         return Err(TableFault::Entry(spot, EntryFault::UnknownKey));
     }
     let name = label_at(alloc, table, "name", spot)?;
-    let unit = name_at(alloc, table, "unit", spot)?;
+    let choice = choice_at(alloc, table, spot)?;
     let needs = few_needs_at(alloc, table, "needs", MAX_NEEDS, spot)?;
     let chart = chart_without_par_at(alloc, table, spot)?;
     Ok(Act {
         name,
-        unit: Some(unit),
+        unit: Some(choice),
         needs,
         work: Work::Follows(chart),
     })

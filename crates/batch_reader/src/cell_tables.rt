@@ -11,7 +11,7 @@ ghost use Rattle.batch_reader.specs.Keys.{needed, a_number};
 ghost use Rattle.batch_reader.specs.TableFaults.{IsKeyFault, IsTableFault};
 ghost use Rattle.batch_reader.specs.declared.fault.TableKind.{TableKind};
 
-use crate::entries::{has_only_keys, member, name_at, names_at, number_at};
+use crate::entries::{has_only_keys, member, name_at, names_at, number_at, optional_name_at};
 use crate::fault::{EntryFault, Spot, TableFault};
 use crate::tables::FromTable;
 use batch_cell::{MAX_CAPACITY, MAX_PHASES, Module, Shared, Unit};
@@ -24,11 +24,12 @@ impl FromTable for Unit {
     ghost is_fault = { λ _. IsTableFault TableKind.Unit };
 
     fn from_table(alloc: Global, table: &Table, spot: Spot) -> Result<Unit, TableFault> {
-        if !has_only_keys(table, &["name"]) {
+        if !has_only_keys(table, &["name", "class"]) {
             return Err(TableFault::Entry(spot, EntryFault::UnknownKey));
         }
         let name = name_at(alloc, table, "name", spot)?;
-        Ok(Unit { name })
+        let class = optional_name_at(alloc, table, "class", spot)?;
+        Ok(Unit { name, class })
     }
 }
 

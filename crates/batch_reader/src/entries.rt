@@ -1,10 +1,10 @@
 //! The entries of a table.
-ghost use Rattle.std.specs.Prelude.{◌≡◌, ◌≢◌, ◌≤◌, ℕ, List, Some, None, map, option_map, nat_eq, IfOk, IfErr};
+ghost use Rattle.std.specs.Prelude.{◌≡◌, ◌≢◌, ◌≤◌, ℕ, List, Option, Some, None, map, option_map, nat_eq, IfOk, IfErr};
 ghost use Rattle.std.specs.Cmp.Lexicographic.{pointwise};
 ghost use Rattle.std.specs.List.{list_any};
 ghost use Rattle.toml.specs.Data.{as_integer, get_member};
 ghost use Rattle.toml.specs.View.{view, items_view, table_view};
-ghost use Rattle.batch_reader.specs.Entries.{HasName, HasNumber, HasNames, AllItems, IsNameItem, has_only_keys};
+ghost use Rattle.batch_reader.specs.Entries.{HasName, HasNumber, HasNames, AllItems, IsNameItem, MayHaveName, has_only_keys};
 ghost use Rattle.batch_reader.specs.Faults.{IsToldAs, missing_or_wrong, value_fault};
 
 use crate::fault::{EntryFault, Spot, TableFault};
@@ -65,6 +65,25 @@ pub(crate) fn name_at(
         return Err(TableFault::Entry(spot, EntryFault::MissingKey));
     };
     name_of(alloc, value, spot)
+}
+
+/// The name at a key, where the key is there.
+pub(crate) fn optional_name_at(
+    alloc: Global,
+    table: &Table,
+    key: &str,
+    spot: Spot,
+) -> Result<Option<Name>, TableFault>
+    ensures ok { IfOk result (MayHaveName key.now (table_view table.now)) }
+    ensures refused { IfErr result (λ fault. fault ≢ TableFault.Memory
+        → (name : Option (List ℕ)) → ¬ (MayHaveName key.now (table_view table.now) name)) }
+    ensures told { IfErr result (IsToldAs spot EntryFault.WrongKind) }
+{
+    if member(table, key).is_none() {
+        return Ok(None);
+    }
+    let name = name_at(alloc, table, key, spot)?;
+    Ok(Some(name))
 }
 
 /// The number at a key, from `low` to `high`.

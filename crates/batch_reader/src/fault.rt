@@ -26,6 +26,8 @@ pub enum TableKind {
     Parameter,
     /// A process output, `[[output]]`.
     Output,
+    /// A role, `[[role]]`.
+    Role,
     /// The procedure, `[procedure]`, the one table of its kind.
     Procedure,
     /// A unit procedure, `[[unit_procedure]]`.
@@ -49,6 +51,7 @@ impl fmt::Display for TableKind {
             TableKind::Input => "input",
             TableKind::Parameter => "parameter",
             TableKind::Output => "output",
+            TableKind::Role => "role",
             TableKind::Procedure => "procedure",
             TableKind::UnitProcedure => "unit_procedure",
             TableKind::Operation => "operation",
@@ -76,16 +79,16 @@ impl fmt::Display for Spot {
 /// What is wrong with a table.
 #[derive(Clone, Copy, Debug, PartialEq, Eq, Error)]
 pub enum EntryFault {
-    /// A key that the table needs is missing, or the document has no procedure.
+    /// A key that the table needs is missing (of a unit procedure, both `unit` and `role`), or the document has no procedure.
     #[error("a key is missing")]
     MissingKey,
     /// A value is of another kind than its key has, is no name, or declares a name that is a word of charts.
     #[error("a value is of the wrong kind, or is no name")]
     WrongKind,
-    /// The table has a key that tables of its kind don't have.
+    /// The table has a key that tables of its kind don't have, as a unit procedure's `unit` beside `role`.
     #[error("a key is unknown here")]
     UnknownKey,
-    /// A unit, a label or a value is named that the document doesn't declare.
+    /// A unit, a role, a label or a value is named that the document doesn't declare.
     #[error("a name is not declared")]
     Undeclared,
     /// A name is declared that an earlier table has, or a phase that its unit offers already.

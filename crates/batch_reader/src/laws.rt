@@ -1,12 +1,15 @@
 //! Worked faults of documents.
-ghost use Rattle.batch_reader.specs.RowsOfFaults.{UnitLacksItsName, NoSecondUnitLacksOne, NoKeyIsUnknown, FirstByteIsGood, FirstModuleIsUndeclared, NoLaterModuleIsTold, CountsAreTold};
+ghost use Rattle.batch_reader.specs.RowsOfFaults.{UnitLacksItsName, NoSecondUnitLacksOne, NoKeyIsUnknown, UnitBesideRoleIsUnknown, RoleAloneIsKnown, NeitherIsMissing, FirstByteIsGood, FirstModuleIsUndeclared, NoLaterModuleIsTold, CountsAreTold};
 
-/// Worked rows: a unit without its name is told as one, and no other unit, nor an unknown key; the first byte of a chart that
-/// goes on is good; the first module whose unit isn't declared is told, and no later one; one table too many is told at its number.
+/// Worked rows: a unit without its name is told as one, and no other unit, nor an unknown key; a unit procedure has `unit` or
+/// `role`, and not both; the first byte of a chart that goes on is good; the first module whose unit isn't declared is told, and no later one; one table too many is told at its number.
 pub fn worked_faults()
     ensures missing { UnitLacksItsName }
     ensures no_second { NoSecondUnitLacksOne }
     ensures known { NoKeyIsUnknown }
+    ensures beside_role { UnitBesideRoleIsUnknown }
+    ensures role_alone { RoleAloneIsKnown }
+    ensures neither { NeitherIsMissing }
     ensures first_byte { FirstByteIsGood }
     ensures undeclared { FirstModuleIsUndeclared }
     ensures no_later { NoLaterModuleIsTold }

@@ -4,7 +4,8 @@ ghost use Rattle.std.specs.List.{list_all};
 ghost use Rattle.batch_recipe.specs.Procedure.{procedure_nodes};
 ghost use Rattle.batch_recipe.specs.WellFormed.{act_names, is_among, is_well_formed, is_work, value_names};
 ghost use Rattle.batch_recipe.specs.declared.recipe.TheConstants.{MAX_ENTRIES, MAX_ACTS, MAX_NODES};
-ghost use Rattle.batch_reader.specs.Faults.{IsAmong, IsToldIn, IsWrong, Tells, is_of_recipe};
+ghost use Rattle.batch_recipe.specs.declared.role.TheConstants.{MAX_ROLES};
+ghost use Rattle.batch_reader.specs.Faults.{IsAmong, IsNamingFault, IsToldIn, IsWrong, Tells, is_of_recipe};
 ghost use Rattle.batch_reader.specs.PartFaults.{FailsFirst, HasUndeclaredName, IsPartFault};
 ghost use Rattle.batch_reader.specs.Naming.{acts_are_declared};
 ghost use Rattle.batch_reader.specs.FormedActs.{AreFormed, AreFormedActs, IsFormedWork};
@@ -17,7 +18,10 @@ use crate::chart_names::is_declared;
 use crate::equipment::check_count;
 use crate::fault::{EntryFault, Spot, TableFault, TableKind};
 use crate::recipe_names::{RecipeNames, recipe_names};
-use batch_recipe::{Act, Acts, MAX_ACTS, MAX_ENTRIES, Quantity, Work, count_nodes};
+use crate::roles::check_roles;
+use batch_recipe::{
+    Act, Acts, MAX_ACTS, MAX_ENTRIES, MAX_ROLES, Quantity, Role, Work, count_nodes,
+};
 use batch_text::Name;
 use indexmap::IndexSet;
 use std::alloc::Global;
@@ -28,17 +32,19 @@ pub(crate) fn check_recipe(
     inputs: &[Quantity],
     parameters: &[Quantity],
     outputs: &[Name],
+    roles: &[Role],
     acts: &Acts,
 ) -> Result<(), TableFault>
     requires { AreFormed acts.now }
-    ensures ok { OnOk result (IsSoundRecipe inputs.now parameters.now outputs.now acts.now) }
+    ensures ok { OnOk result (IsSoundRecipe inputs.now parameters.now outputs.now roles.now acts.now) }
     ensures refused { IfErr result (λ fault. fault ≢ TableFault.Memory
-        → ¬ (IsSoundRecipe inputs.now parameters.now outputs.now acts.now)) }
+        → ¬ (IsSoundRecipe inputs.now parameters.now outputs.now roles.now acts.now)) }
     ensures told { IfErr result (IsAmong is_of_recipe) }
-    ensures stands { IfErr result (Tells (λ spot. IsPartFault (record { inputs = inputs.now; parameters = parameters.now; outputs = outputs.now; acts = acts.now }) spot.kind spot.entry)) }
+    ensures stands { IfErr result (Tells (λ spot. IsPartFault (record { inputs = inputs.now; parameters = parameters.now; outputs = outputs.now; roles = roles.now; acts = acts.now }) spot.kind spot.entry)) }
 {
-    check_counts(inputs, parameters, outputs, acts)?;
+    check_counts(inputs, parameters, outputs, roles, acts)?;
     check_names(alloc, inputs, parameters, outputs, acts)?;
+    check_roles(alloc, roles, acts)?;
     check_nodes(acts)
 }
 
@@ -47,18 +53,21 @@ fn check_counts(
     inputs: &[Quantity],
     parameters: &[Quantity],
     outputs: &[Name],
+    roles: &[Role],
     acts: &Acts,
 ) -> Result<(), TableFault>
     ensures values { OnOk result ((length inputs.now ≤ MAX_ENTRIES) × (length parameters.now ≤ MAX_ENTRIES) × (length outputs.now ≤ MAX_ENTRIES)) }
+    ensures roles { OnOk result (length roles.now ≤ MAX_ROLES) }
     ensures some_acts { OnOk result ((0 < length acts.now.unit_procedures.items) × (0 < length acts.now.operations.items) × (0 < length acts.now.phases.items)) }
     ensures few_acts { OnOk result ((length acts.now.unit_procedures.items ≤ MAX_ACTS) × (length acts.now.operations.items ≤ MAX_ACTS) × (length acts.now.phases.items ≤ MAX_ACTS)) }
-    ensures refused { IfErr result (λ fault. ¬ (IsSoundRecipe inputs.now parameters.now outputs.now acts.now)) }
+    ensures refused { IfErr result (λ fault. ¬ (IsSoundRecipe inputs.now parameters.now outputs.now roles.now acts.now)) }
     ensures told { IfErr result (IsAmong is_of_recipe) }
-    ensures stands { IfErr result (Tells (λ spot. IsPartFault (record { inputs = inputs.now; parameters = parameters.now; outputs = outputs.now; acts = acts.now }) spot.kind spot.entry)) }
+    ensures stands { IfErr result (Tells (λ spot. IsPartFault (record { inputs = inputs.now; parameters = parameters.now; outputs = outputs.now; roles = roles.now; acts = acts.now }) spot.kind spot.entry)) }
 {
     check_count(inputs.len(), 0, MAX_ENTRIES, TableKind::Input)?;
     check_count(parameters.len(), 0, MAX_ENTRIES, TableKind::Parameter)?;
     check_count(outputs.len(), 0, MAX_ENTRIES, TableKind::Output)?;
+    check_count(roles.len(), 0, MAX_ROLES, TableKind::Role)?;
     check_count(
         acts.unit_procedures.len(),
         1,
@@ -83,7 +92,7 @@ fn check_names(
     ensures refused { IfErr result (λ fault. fault ≢ TableFault.Memory
         → is_well_formed (value_names inputs.now parameters.now outputs.now) acts.now ≢ true) }
     ensures told { IfErr result (IsAmong is_of_recipe) }
-    ensures stands { IfErr result (Tells (λ spot. IsPartFault (record { inputs = inputs.now; parameters = parameters.now; outputs = outputs.now; acts = acts.now }) spot.kind spot.entry)) }
+    ensures stands { IfErr result (Tells (λ spot. IsNamingFault inputs.now parameters.now outputs.now acts.now spot.kind spot.entry)) }
 {
     let names = recipe_names(alloc, inputs, parameters, outputs, acts)?;
     check_acts(alloc, acts, &names)

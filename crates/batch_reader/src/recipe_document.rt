@@ -10,7 +10,7 @@ ghost use Rattle.batch_reader.specs.Entries.{HasName, HasNumber, HasTables, has_
 ghost use Rattle.batch_reader.specs.Faults.{IsAmong, Tells, TellsAt, is_of_recipe};
 ghost use Rattle.batch_reader.specs.FaultStands.{FaultStands, IsWrongAt};
 ghost use Rattle.batch_reader.specs.TableFaults.{IsFaultOfTable, IsTableFault};
-ghost use Rattle.batch_reader.specs.RecipeTables.{HasHeader, IsQuantityTable, IsOutputTable, IsUnitProcedureTable, IsOperationTable, IsPhaseTable};
+ghost use Rattle.batch_reader.specs.RecipeTables.{HasHeader, IsQuantityTable, IsOutputTable, IsRoleTable, IsUnitProcedureTable, IsOperationTable, IsPhaseTable};
 ghost use Rattle.batch_reader.specs.RecipeDocument.{HasActs, IsRecipeTable, IsRecipeDocument, recipe_keys};
 ghost use Rattle.batch_reader.specs.SoundRecipe.{IsSoundRecipe};
 ghost use Rattle.batch_reader.specs.declared.document.TheConstants.{MAX_DOCUMENT_LEN};
@@ -25,7 +25,9 @@ use crate::fault::{DocFault, EntryFault, Spot, TableFault, TableKind};
 use crate::recipe_checks::check_recipe;
 use crate::recipe_entries::{optional_text_at, text_at};
 use crate::tables::tables_at;
-use batch_recipe::{Act, Acts, Header, MAX_SIZE, MAX_TEXT_LEN, MAX_VERSION_LEN, Quantity, Recipe};
+use batch_recipe::{
+    Act, Acts, Header, MAX_SIZE, MAX_TEXT_LEN, MAX_VERSION_LEN, Quantity, Recipe, Role,
+};
 use batch_text::Name;
 use std::alloc::Global;
 use toml::Table;
@@ -35,11 +37,12 @@ const TOP: Spot = Spot {
     entry: 0,
 };
 
-/// Reads a recipe document. The needs, the units and the phases that it names are looked up in no cell. It is refused as
+/// Reads a recipe document. The needs, the units, the classes and the phases that it names are looked up in no cell. It is refused as
 /// - `NotToml`, where its bytes are no TOML in UTF-8;
 /// - `Entry`, where it is too long, which is told at its top, or says no recipe. The first fault is told: of the top's
-///   entries, then of each table by itself (inputs, parameters, outputs, the procedure, unit procedures, operations,
-///   phase steps), then of how many there are, of their names, of what they name, and of the size of the expanded tree;
+///   entries, then of each table by itself (inputs, parameters, outputs, roles, the procedure, unit procedures, operations,
+///   phase steps), then of how many there are, of the names of values and acts, of the labels and values that acts name,
+///   of the names of roles, of the roles that unit procedures name, and of the size of the expanded tree;
 /// - `Memory`, where memory is refused on the way.
 pub fn read_recipe(alloc: Global, bytes: &[u8]) -> Result<Recipe, DocFault>
     ensures ok { IfOk result (IsRecipeDocument bytes.now) }
@@ -76,6 +79,7 @@ fn recipe_from_table(alloc: Global, table: &Table) -> Result<Recipe, TableFault>
         inputs: parts.values.inputs,
         parameters: parts.values.parameters,
         outputs: parts.values.outputs,
+        roles: parts.roles,
         acts: parts.acts,
     })
 }
@@ -111,6 +115,7 @@ fn top_at(alloc: Global, table: &Table) -> Result<Top, TableFault>
 #[derive(Drop)]
 struct Parts {
     values: ValueTables,
+    roles: Vec<Role>,
     acts: Acts,
 }
 
@@ -120,23 +125,30 @@ fn parts_at(alloc: Global, table: &Table, name: Name) -> Result<Parts, TableFaul
     ensures inputs { IfOk result (λ parts. HasTables IsQuantityTable (codes "input") (table_view table.now) parts.values.inputs.items) }
     ensures parameters { IfOk result (λ parts. HasTables IsQuantityTable (codes "parameter") (table_view table.now) parts.values.parameters.items) }
     ensures outputs { IfOk result (λ parts. HasTables IsOutputTable (codes "output") (table_view table.now) parts.values.outputs.items) }
+    ensures roles { IfOk result (λ parts. HasTables IsRoleTable (codes "role") (table_view table.now) parts.roles.items) }
     ensures acts { IfOk result (λ parts. HasActs (table_view table.now) parts.acts) }
-    ensures sound { IfOk result (λ parts. IsSoundRecipe parts.values.inputs.items parts.values.parameters.items parts.values.outputs.items parts.acts) }
+    ensures sound { IfOk result (λ parts. IsSoundRecipe parts.values.inputs.items parts.values.parameters.items parts.values.outputs.items parts.roles.items parts.acts) }
     ensures refused { IfErr result (λ fault. fault ≢ TableFault.Memory
         → (recipe : Recipe) → ¬ (IsRecipeTable (table_view table.now) recipe)) }
     ensures told { IfErr result (IsAmong is_of_recipe) }
     ensures stands { IfErr result (Tells (IsWrongAt (table_view table.now))) }
 {
     let values = values_at(alloc, table)?;
+    let roles = tables_at::<Role>(alloc, table, "role", TableKind::Role)?;
     let acts = acts_at(alloc, table, name)?;
     check_recipe(
         alloc,
         &values.inputs,
         &values.parameters,
         &values.outputs,
+        &roles,
         &acts,
     )?;
-    Ok(Parts { values, acts })
+    Ok(Parts {
+        values,
+        roles,
+        acts,
+    })
 }
 
 /// The inputs, parameters and outputs of a recipe.
@@ -183,6 +195,7 @@ fn has_recipe_keys(table: &Table) -> bool
             "input",
             "parameter",
             "output",
+            "role",
             "procedure",
             "unit_procedure",
             "operation",

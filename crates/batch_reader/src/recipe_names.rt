@@ -1,8 +1,8 @@
 //! The names that a recipe declares.
-ghost use Rattle.std.specs.Prelude.{◌≡◌, ◌≢◌, ◌⊎◌, true, IfErr, IfOk, OnOk};
+ghost use Rattle.std.specs.Prelude.{◌≡◌, ◌≢◌, ◌⊎◌, true, map, IfErr, IfOk, OnOk};
 ghost use Rattle.batch_recipe.specs.WellFormed.{act_names, are_distinct, value_names};
 ghost use Rattle.batch_reader.specs.Faults.{IsAmong, IsToldIn, IsWrong, Tells, is_of_recipe};
-ghost use Rattle.batch_reader.specs.PartFaults.{HasActTwice, HasValueTwice, IsFirstNamedAgain};
+ghost use Rattle.batch_reader.specs.PartFaults.{AreDistinct, FailsFirst, HasActTwice, HasValueTwice};
 ghost use Rattle.batch_reader.specs.Naming.{act_names_differ, names_differ};
 ghost use Rattle.batch_reader.specs.declared.fault.EntryFault.{EntryFault};
 
@@ -87,9 +87,9 @@ fn names_of_acts(alloc: Global, acts: &Acts) -> Result<ActNames, TableFault>
     ensures told { IfErr result (λ fault. IsAmong is_of_recipe fault × IsWrong EntryFault.Duplicate fault) }
     ensures stands { IfErr result (Tells (λ spot _. HasActTwice acts.now spot.kind spot.entry)) }
 {
-    let unit_procedures = act_names(alloc, &acts.unit_procedures, TableKind::UnitProcedure)?;
-    let operations = act_names(alloc, &acts.operations, TableKind::Operation)?;
-    let phases = act_names(alloc, &acts.phases, TableKind::Phase)?;
+    let unit_procedures = distinct_names(alloc, &acts.unit_procedures, TableKind::UnitProcedure)?;
+    let operations = distinct_names(alloc, &acts.operations, TableKind::Operation)?;
+    let phases = distinct_names(alloc, &acts.phases, TableKind::Phase)?;
     Ok(ActNames {
         unit_procedures,
         operations,
@@ -118,13 +118,17 @@ fn value_names(
     Ok(names)
 }
 
-/// The names of the acts of a table.
-fn act_names(alloc: Global, table: &[Act], kind: TableKind) -> Result<IndexSet<Name>, TableFault>
-    ensures ok { IfOk result (λ names. names.keys ≡ act_names table.now) }
-    ensures differ { OnOk result (are_distinct (act_names table.now) ≡ true) }
-    ensures refused { IfErr result (λ fault. fault ≢ TableFault.Memory → are_distinct (act_names table.now) ≢ true) }
+/// The names of all tables of a kind, where they differ.
+pub(crate) fn distinct_names<T: Named>(
+    alloc: Global,
+    table: &[T],
+    kind: TableKind,
+) -> Result<IndexSet<Name>, TableFault>
+    ensures ok { IfOk result (λ names. names.keys ≡ map T.name_of table.now) }
+    ensures differ { OnOk result (are_distinct (map T.name_of table.now) ≡ true) }
+    ensures refused { IfErr result (λ fault. fault ≢ TableFault.Memory → are_distinct (map T.name_of table.now) ≢ true) }
     ensures told { IfErr result (IsToldIn kind EntryFault.Duplicate) }
-    ensures stands { IfErr result (Tells (λ spot _. IsFirstNamedAgain table.now spot.entry)) }
+    ensures stands { IfErr result (Tells (λ spot _. FailsFirst (λ front. AreDistinct (map T.name_of front)) table.now spot.entry)) }
 {
     let mut names = IndexSet::new(alloc);
     add_names(alloc, &mut names, table, kind)?;

@@ -1,5 +1,6 @@
-//! Cell documents: worked examples, and documents that are refused or at their limits.
+//! Cell documents: worked examples, classes of units, and documents that are refused or at their limits.
 
+mod classes;
 mod limits;
 mod refusals;
 mod worked;

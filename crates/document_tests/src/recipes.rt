@@ -1,4 +1,4 @@
-//! Recipe documents: worked examples, one with each key, and documents that are refused or at their limits.
+//! Recipe documents: worked examples, one with each key, roles, and documents that are refused or at their limits.
 
 mod each_key;
 mod formulas;
@@ -6,6 +6,7 @@ mod limits;
 mod needs;
 mod nodes;
 mod refusals;
+mod roles;
 mod told;
 mod worked;
 

@@ -1,6 +1,6 @@
 //! Example acts, and the nodes that they expand to.
 use super::parts::{above_zero, act, label, labels, step, table};
-use batch_recipe::{Act, Acts, Chart, Level, act_named, count_nodes};
+use batch_recipe::{Act, Acts, Chart, Level, UnitChoice, act_named, count_nodes};
 use batch_text::Name;
 use std::alloc::Global;
 use std::test::Fail;
@@ -112,7 +112,7 @@ fn phases(alloc: Global) -> Result<Vec<Act>, Fail> {
 /// MAKE on R1, with CHARGE.
 fn unit_procedures(alloc: Global) -> Result<Vec<Act>, Fail> {
     let chart = label(alloc, b"CHARGE")?;
-    let unit = Name::read(alloc, b"R1")?;
+    let unit = UnitChoice::Unit(Name::read(alloc, b"R1")?);
     table(alloc, b"MAKE", Some(unit), chart)
 }
 

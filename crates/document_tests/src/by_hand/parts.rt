@@ -1,5 +1,5 @@
 //! Parts of example recipes.
-use batch_recipe::{Act, Chart, Cond, Op, Term, Work};
+use batch_recipe::{Act, Chart, Cond, Op, Term, UnitChoice, Work};
 use batch_text::Name;
 use std::alloc::Global;
 use std::test::Fail;
@@ -26,7 +26,12 @@ pub fn above_zero(alloc: Global) -> Result<Cond, Fail> {
 }
 
 /// An act with a chart and no needs beside its unit.
-pub fn act(alloc: Global, name: &[u8], unit: Option<Name>, chart: Chart) -> Result<Act, Fail> {
+pub fn act(
+    alloc: Global,
+    name: &[u8],
+    unit: Option<UnitChoice>,
+    chart: Chart,
+) -> Result<Act, Fail> {
     Ok(Act {
         name: Name::read(alloc, name)?,
         unit,
@@ -39,7 +44,7 @@ pub fn act(alloc: Global, name: &[u8], unit: Option<Name>, chart: Chart) -> Resu
 pub fn table(
     alloc: Global,
     name: &[u8],
-    unit: Option<Name>,
+    unit: Option<UnitChoice>,
     chart: Chart,
 ) -> Result<Vec<Act>, Fail> {
     let act = act(alloc, name, unit, chart)?;

@@ -104,7 +104,7 @@ capacity = 1000
 
 /// The worked cell as text, up to the capacity of its steam, and what stands after that.
 const TOLD: [&str; 2] = [
-    r#"Cell { name: "DEMO", units: [Unit { name: "R1" }, Unit { name: "R2" }], modules: [Module { name: "M1", unit: Some("R1"), phases: ["ADD", "HEAT", "DRAIN"] }, Module { name: "M2", unit: Some("R2"), phases: ["ADD", "HEAT", "DRAIN"] }], shared: [Shared { name: "HDR", capacity: 1 }, Shared { name: "STEAM", capacity: "#,
+    r#"Cell { name: "DEMO", units: [Unit { name: "R1", class: None }, Unit { name: "R2", class: None }], modules: [Module { name: "M1", unit: Some("R1"), phases: ["ADD", "HEAT", "DRAIN"] }, Module { name: "M2", unit: Some("R2"), phases: ["ADD", "HEAT", "DRAIN"] }], shared: [Shared { name: "HDR", capacity: 1 }, Shared { name: "STEAM", capacity: "#,
     r#" }], names: {"R1", "R2", "HDR", "STEAM"}, offered: [{"ADD", "HEAT", "DRAIN"}, {"ADD", "HEAT", "DRAIN"}] }"#,
 ];
 

@@ -26,10 +26,21 @@ fixed = false
 name = "C"
 [[output]]
 name = "D"
+[[role]]
+name = "loop"
+class = "else"
+[[role]]
+class = "A"
+name = "A"
 [[unit_procedure]]
 name = "A"
 unit = "seq"
 chart = "seq(A)"
+[[unit_procedure]]
+name = "B"
+role = "loop"
+needs = ["A"]
+chart = "skip"
 [[operation]]
 name = "A"
 chart = "sel(A<B:A,C/=D:skip,else:A)"
@@ -41,9 +52,10 @@ values = ["D", "A", "B", "A"]
 "#;
 
 const TOLD: &str =
-    r#""2.0 b" Some("brine") Some("") Some("é") 1000000000 [Quantity { name: "A", value: 1000000000000, min: 1000000000000, max: 1000000000000, fixed: true }] [Quantity { name: "B", value: 0, min: 0, max: 0, fixed: false }] ["C", "D"]
+    r#""2.0 b" Some("brine") Some("") Some("é") 1000000000 [Quantity { name: "A", value: 1000000000000, min: 1000000000000, max: 1000000000000, fixed: true }] [Quantity { name: "B", value: 0, min: 0, max: 0, fixed: false }] ["C", "D"] [Role { name: "loop", class: "else" }, Role { name: "A", class: "A" }]
 procedure ALL-1_abcdefghijklmnopqrstuvwxyz None [] Follows(Skip)
-unit_procedure A Some("seq") [] Follows(Seq([Label("A")]))
+unit_procedure A Some(Unit("seq")) [] Follows(Seq([Label("A")]))
+unit_procedure B Some(Role("loop")) ["A"] Follows(Skip)
 operation A None [] Follows(Sel([(Cond { name: "A", op: Less, term: Named("B") }, Label("A")), (Cond { name: "C", op: NotEqual, term: Named("D") }, Skip)], Label("A")))
 phase A None ["par", "A"*2] Runs { phase: "else", values: ["D", "A", "B", "A"] }
 "#;

@@ -5,7 +5,7 @@ use batch_reader::{DocFault, EntryFault, TableKind};
 use std::alloc::{AllocError, Global};
 use std::test::Fail;
 
-fn refusal(alloc: Global, parts: [&str; 5]) -> Result<Option<DocFault>, AllocError> {
+pub(super) fn refusal(alloc: Global, parts: [&str; 5]) -> Result<Option<DocFault>, AllocError> {
     let text = document(alloc, "A", parts)?;
     Ok(recipe_refusal(alloc, text.as_str()))
 }

@@ -16,9 +16,9 @@ struct Example {
 const ONE_PHASE: Example = Example {
     name: "A",
     parts: ["", PROCEDURE, MAKE, CHARGE, ADD],
-    told: r#""1" None None None 1000 [] [] []
+    told: r#""1" None None None 1000 [] [] [] []
 procedure A None [] Follows(Label("MAKE"))
-unit_procedure MAKE Some("R1") [] Follows(Label("CHARGE"))
+unit_procedure MAKE Some(Unit("R1")) [] Follows(Label("CHARGE"))
 operation CHARGE None [] Follows(Label("ADD"))
 phase ADD None [] Runs { phase: "ADD", values: [] }
 "#,
@@ -33,9 +33,9 @@ const WITH_AN_INPUT: Example = Example {
         CHARGE,
         "[[phase]]\nname = \"ADD\"\nvalues = [\"QTY\"]\n",
     ],
-    told: r#""1" None None None 1000 [Quantity { name: "QTY", value: 333, min: 0, max: 500, fixed: false }] [] []
+    told: r#""1" None None None 1000 [Quantity { name: "QTY", value: 333, min: 0, max: 500, fixed: false }] [] [] []
 procedure F None [] Follows(Label("MAKE"))
-unit_procedure MAKE Some("R1") [] Follows(Label("CHARGE"))
+unit_procedure MAKE Some(Unit("R1")) [] Follows(Label("CHARGE"))
 operation CHARGE None [] Follows(Label("ADD"))
 phase ADD None [] Runs { phase: "ADD", values: ["QTY"] }
 "#,
@@ -50,9 +50,9 @@ const NEEDS_OF_A_PHASE: Example = Example {
         CHARGE,
         "[[phase]]\nname = \"ADD\"\nneeds = [\"HDR\", \"HDR\"]\n",
     ],
-    told: r#""1" None None None 1000 [] [] []
+    told: r#""1" None None None 1000 [] [] [] []
 procedure N None [] Follows(Label("MAKE"))
-unit_procedure MAKE Some("R1") [] Follows(Label("CHARGE"))
+unit_procedure MAKE Some(Unit("R1")) [] Follows(Label("CHARGE"))
 operation CHARGE None [] Follows(Label("ADD"))
 phase ADD None ["HDR", "HDR"] Runs { phase: "ADD", values: [] }
 "#,
@@ -67,9 +67,9 @@ const NEEDS_OF_A_UNIT_PROCEDURE: Example = Example {
         CHARGE,
         ADD,
     ],
-    told: r#""1" None None None 1000 [] [] []
+    told: r#""1" None None None 1000 [] [] [] []
 procedure G None [] Follows(Label("MAKE"))
-unit_procedure MAKE Some("R1") ["HDR"] Follows(Label("CHARGE"))
+unit_procedure MAKE Some(Unit("R1")) ["HDR"] Follows(Label("CHARGE"))
 operation CHARGE None [] Follows(Label("ADD"))
 phase ADD None [] Runs { phase: "ADD", values: [] }
 "#,
@@ -84,9 +84,9 @@ const NEEDS_OF_A_PROCEDURE: Example = Example {
         CHARGE,
         ADD,
     ],
-    told: r#""1" None None None 1000 [] [] []
+    told: r#""1" None None None 1000 [] [] [] []
 procedure H None ["HDR"] Follows(Label("MAKE"))
-unit_procedure MAKE Some("R1") [] Follows(Label("CHARGE"))
+unit_procedure MAKE Some(Unit("R1")) [] Follows(Label("CHARGE"))
 operation CHARGE None [] Follows(Label("ADD"))
 phase ADD None [] Runs { phase: "ADD", values: [] }
 "#,
@@ -113,10 +113,10 @@ const SELECTION: Example = Example {
         CHARGE,
         ADD,
     ],
-    told: r#""1" None None None 1000 [] [] ["X"]
+    told: r#""1" None None None 1000 [] [] ["X"] []
 procedure J None [] Follows(Sel([(Cond { name: "X", op: Equal, term: Number(1) }, Label("GOOD"))], Label("BAD")))
-unit_procedure GOOD Some("R1") ["HDR"] Follows(Label("CHARGE"))
-unit_procedure BAD Some("R2") ["HDR", "R1"] Follows(Label("CHARGE"))
+unit_procedure GOOD Some(Unit("R1")) ["HDR"] Follows(Label("CHARGE"))
+unit_procedure BAD Some(Unit("R2")) ["HDR", "R1"] Follows(Label("CHARGE"))
 operation CHARGE None [] Follows(Label("ADD"))
 phase ADD None [] Runs { phase: "ADD", values: [] }
 "#,
@@ -135,9 +135,9 @@ const SEQUENCE: Example = Example {
         "[[operation]]\nname = \"COOK\"\nchart = \"seq(ADD, HEAT)\"\n",
         ADD_AND_HEAT,
     ],
-    told: r#""1" None None None 1000 [] [] []
+    told: r#""1" None None None 1000 [] [] [] []
 procedure S None [] Follows(Label("MAKE"))
-unit_procedure MAKE Some("R1") [] Follows(Label("COOK"))
+unit_procedure MAKE Some(Unit("R1")) [] Follows(Label("COOK"))
 operation COOK None [] Follows(Seq([Label("ADD"), Label("HEAT")]))
 phase ADD None [] Runs { phase: "ADD", values: [] }
 phase HEAT None [] Runs { phase: "HEAT", values: [] }
@@ -153,9 +153,9 @@ const PARALLEL: Example = Example {
         "[[operation]]\nname = \"COOK\"\nchart = \"par(ADD, HEAT)\"\n",
         ADD_AND_HEAT,
     ],
-    told: r#""1" None None None 1000 [] [] []
+    told: r#""1" None None None 1000 [] [] [] []
 procedure W None [] Follows(Label("MAKE"))
-unit_procedure MAKE Some("R1") [] Follows(Label("COOK"))
+unit_procedure MAKE Some(Unit("R1")) [] Follows(Label("COOK"))
 operation COOK None [] Follows(Par([Label("ADD"), Label("HEAT")]))
 phase ADD None [] Runs { phase: "ADD", values: [] }
 phase HEAT None [] Runs { phase: "HEAT", values: [] }
@@ -171,9 +171,9 @@ const LOOPING: Example = Example {
         "[[operation]]\nname = \"CHARGE\"\nchart = \"loop(1000, X > 0, ADD)\"\n",
         ADD,
     ],
-    told: r#""1" None None None 1000 [] [] ["X"]
+    told: r#""1" None None None 1000 [] [] ["X"] []
 procedure L None [] Follows(Label("MAKE"))
-unit_procedure MAKE Some("R1") [] Follows(Label("CHARGE"))
+unit_procedure MAKE Some(Unit("R1")) [] Follows(Label("CHARGE"))
 operation CHARGE None [] Follows(Loop(1000, Cond { name: "X", op: Greater, term: Number(0) }, Label("ADD")))
 phase ADD None [] Runs { phase: "ADD", values: [] }
 "#,
@@ -206,9 +206,9 @@ runs = "DRAIN"
 needs = ["STEAM"]
 "#,
     ],
-    told: r#""1" None None None 1000 [] [] []
+    told: r#""1" None None None 1000 [] [] [] []
 procedure T None [] Follows(Label("U"))
-unit_procedure U Some("R1") [] Follows(Label("O"))
+unit_procedure U Some(Unit("R1")) [] Follows(Label("O"))
 operation O None [] Follows(Par([Label("ADDS"), Label("HEATS"), Label("DRAINS")]))
 phase ADDS None ["STEAM"] Runs { phase: "ADD", values: [] }
 phase HEATS None ["STEAM"] Runs { phase: "HEAT", values: [] }
@@ -238,9 +238,9 @@ const HEADER_FIRST: Example = Example {
         "[[operation]]\nname = \"O\"\nchart = \"par(ADDH, seq(DRAIN, HEATS))\"\n",
         CROSSED,
     ],
-    told: r#""1" None None None 1000 [] [] []
+    told: r#""1" None None None 1000 [] [] [] []
 procedure P None [] Follows(Label("U"))
-unit_procedure U Some("R1") [] Follows(Label("O"))
+unit_procedure U Some(Unit("R1")) [] Follows(Label("O"))
 operation O None [] Follows(Par([Label("ADDH"), Seq([Label("DRAIN"), Label("HEATS")])]))
 phase ADDH None ["HDR"] Runs { phase: "ADD", values: [] }
 phase HEATS None ["STEAM"] Runs { phase: "HEAT", values: [] }
@@ -257,9 +257,9 @@ const STEAM_FIRST: Example = Example {
         "[[operation]]\nname = \"O\"\nchart = \"par(HEATS, seq(DRAIN, ADDH))\"\n",
         CROSSED,
     ],
-    told: r#""1" None None None 1000 [] [] []
+    told: r#""1" None None None 1000 [] [] [] []
 procedure Q None [] Follows(Label("U"))
-unit_procedure U Some("R2") [] Follows(Label("O"))
+unit_procedure U Some(Unit("R2")) [] Follows(Label("O"))
 operation O None [] Follows(Par([Label("HEATS"), Seq([Label("DRAIN"), Label("ADDH")])]))
 phase ADDH None ["HDR"] Runs { phase: "ADD", values: [] }
 phase HEATS None ["STEAM"] Runs { phase: "HEAT", values: [] }

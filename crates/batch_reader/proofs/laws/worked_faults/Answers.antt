@@ -7,6 +7,7 @@ use Rattle.toml.specs.Data.{no_members, table}
 use Rattle.batch_grammar.specs.ChartGrammar.{here, no_offsets, whole, skip as reads_skip}
 use Rattle.batch_recipe.specs.Diagram.{skip}
 use Rattle.batch_reader.specs.Keys.{needed, a_name}
+use Rattle.batch_reader.specs.RowsOfFaults.{on_unit, for_role, with_keys}
 use Rattle.batch_reader.proofs.laws.worked_faults.Goals as goal
 
 -- no unit of a cell without any is R9
@@ -29,6 +30,25 @@ returns-clause-known c = λ h.
     let same : table no_members ≡ h.here = cc h.found in
     let fault = rw (← same) at h.fault in
     elim fault [ inl u ↦ cc u.unknown | inr k ↦ k.fault ]
+
+pub returns-clause-beside_role : goal.returns-clause-beside_role
+returns-clause-beside_role c =
+    record { here = table (with_keys (λ rest. on_unit (for_role rest))); found = refl; fault = inl (record { unknown = refl; told = refl }); before = λ n d below. absurd (omega arith) }
+
+pub returns-clause-role_alone : goal.returns-clause-role_alone
+returns-clause-role_alone c = λ h.
+    let same : table (with_keys for_role) ≡ h.here = cc h.found in
+    let fault = rw (← same) at h.fault in
+    elim fault [ inl u ↦ cc u.unknown | inr k ↦ k.fault ]
+
+pub returns-clause-neither : goal.returns-clause-neither
+returns-clause-neither c = (
+  record { here = table (with_keys (λ rest. rest)); found = refl; fault = inr (record { place = 1; key = needed (codes "unit") a_name; listed = refl; fault = (refl, refl) }); before = λ n d below. absurd (omega arith) },
+  λ h.
+      let same : table (with_keys (λ rest. rest)) ≡ h.here = cc h.found in
+      let fault = rw (← same) at h.fault in
+      elim fault [ inl u ↦ cc u.unknown | inr k ↦ k.fault ],
+)
 
 pub returns-clause-first_byte : goal.returns-clause-first_byte
 returns-clause-first_byte c = λ h. h.1.no_front (omega arith) (codes "kip") skip no_offsets (whole (reads_skip here) here)

@@ -7,7 +7,6 @@ use Rattle.batch_reader.proofs.Truth.{both_true, and_true}
 use Rattle.batch_reader.proofs.WellFormedParts.{well_formed_parts}
 use Rattle.batch_reader.proofs.EntryFaults.{err_both}
 use Rattle.batch_reader.proofs.PartsTold.{undeclared_told}
-use Rattle.batch_reader.specs.PartFaults.{Parts}
 use Rattle.batch_reader.proofs.recipe_checks.check_names.Goals as goal
 
 pub returns-clause-ok : goal.returns-clause-ok
@@ -32,5 +31,4 @@ returns-clause-told c = IfErr-weaker c.check_acts.result _ _ (λ fault told. tol
 
 pub returns-clause-stands : goal.returns-clause-stands
 returns-clause-stands c =
-    let parts : Parts = record { inputs = c.args.inputs.now; parameters = c.args.parameters.now; outputs = c.args.outputs.now; acts = c.args.acts.now } in
-    err_both c.check_acts.result _ _ _ (λ fault told. undeclared_told parts _ fault c.in_ok-names.ensures.values told.1.1) c.check_acts.ensures.told c.check_acts.ensures.stands
+    err_both c.check_acts.result _ _ _ (λ fault told. undeclared_told c.args.inputs.now c.args.parameters.now c.args.outputs.now c.args.acts.now _ fault c.in_ok-names.ensures.values told.1.1) c.check_acts.ensures.told c.check_acts.ensures.stands

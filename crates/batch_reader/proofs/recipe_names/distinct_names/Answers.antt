@@ -1,28 +1,27 @@
 use Rattle.std.proofs.Common.{◌≡◌, [], ◌++◌, ap, ◌∙◌, append-nil, List, map}
 use Rattle.std.proofs.lemmas.Result.{err_from_is_err_and}
-use Rattle.batch_recipe.specs.WellFormed.{act_names}
+use Rattle.batch_recipe.specs.Conditions.{Name}
 use Rattle.batch_reader.proofs.DistinctNames.{are_distinct-from_IsDistinct, names_refused}
-use Rattle.batch_recipe.specs.declared.act.Act.{Act}
 use Rattle.batch_reader.proofs.PartsTold.{alone, twice_told}
-use Rattle.batch_reader.specs.PartFaults.{IsFirstNamedAgain}
+use Rattle.batch_reader.specs.PartFaults.{AreDistinct, FailsFirst}
 use Rattle.batch_reader.specs.declared.fault.EntryFault.TheVariants.{Duplicate}
-use Rattle.batch_reader.proofs.recipe_names.act_names.Goals as goal
+use Rattle.batch_reader.proofs.recipe_names.distinct_names.Goals as goal
 
 pub returns-in_err-add_names-clause-refused : goal.returns-in_err-add_names-clause-refused
-returns-in_err-add_names-clause-refused c =
+returns-in_err-add_names-clause-refused g c =
     let p = err_from_is_err_and c.from_residual.result c.from_residual.ensures.1 in
-    let names = act_names c.args.table.now in
+    let names : List Name = map g.T.Named.name_of c.args.table.now in
     let all : (c.new-names.result.keys ++ names) ++ [] ≡ names = rw c.new-names.ensures.empty (append-nil names) in
     rw (p.1, p.2) (λ known. names_refused names c.new-names.result.keys names [] all (c.in_err-add_names.ensures.refused known))
 
 pub returns-clause-differ : goal.returns-clause-differ
-returns-clause-differ c =
-    let names = act_names c.args.table.now in
+returns-clause-differ g c =
+    let names : List Name = map g.T.Named.name_of c.args.table.now in
     let all : c.add_names.new.names.keys ≡ names = c.in_ok-add_names.ensures.ok ∙ ap (λ ks. ks ++ names) c.new-names.ensures.empty in
     rw (← all) (are_distinct-from_IsDistinct c.add_names.new.names.keys c.in_ok-add_names.ensures.distinct)
 
 pub returns-in_err-add_names-clause-stands : goal.returns-in_err-add_names-clause-stands
-returns-in_err-add_names-clause-stands c =
+returns-in_err-add_names-clause-stands g c =
     let p = err_from_is_err_and c.from_residual.result c.from_residual.ensures.1 in
-    rw (p.1, p.2) (twice_told (λ (front : List Act). c.new-names.result.keys ++ map (λ a. a.name) front) act_names (alone (λ (a : Act). a.name) c.new-names.result.keys c.new-names.ensures.empty)
-    c.args.table.now c.args.kind Duplicate (λ kind. IsFirstNamedAgain c.args.table.now) (λ entry h. h) _ (λ spot wrong is_fault. c.in_err-add_names.ensures.first spot wrong (cc is_fault)) c.in_err-add_names.ensures.told)
+    rw (p.1, p.2) (twice_told (λ front. c.new-names.result.keys ++ map g.T.Named.name_of front) (map g.T.Named.name_of) (alone g.T.Named.name_of c.new-names.result.keys c.new-names.ensures.empty)
+    c.args.table.now c.args.kind Duplicate (λ kind entry. FailsFirst (λ front. AreDistinct (map g.T.Named.name_of front)) c.args.table.now entry) (λ entry h. h) _ (λ spot wrong is_fault. c.in_err-add_names.ensures.first spot wrong (cc is_fault)) c.in_err-add_names.ensures.told)

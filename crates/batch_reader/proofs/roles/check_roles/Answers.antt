@@ -1,0 +1,34 @@
+use Rattle.std.proofs.Common.{◌≡◌, true, List, sym, subst}
+use Rattle.std.proofs.lemmas.Result.{err_from_is_err_and, on_ok_weaker, IfErr-weaker}
+use Rattle.std.specs.List.{list_all}
+use Rattle.batch_recipe.specs.Conditions.{Name}
+use Rattle.batch_recipe.specs.WellFormed.{are_distinct, is_role_among}
+use Rattle.batch_reader.proofs.PartsTold.{kind_told}
+use Rattle.batch_reader.proofs.Truth.{both_true, and_true}
+use Rattle.batch_reader.specs.Faults.{IsRoleFault}
+use Rattle.batch_reader.specs.PartFaults.{AreDistinct, FailsFirst, role_names}
+use Rattle.batch_reader.specs.declared.fault.EntryFault.TheVariants.{Duplicate}
+use Rattle.batch_reader.specs.declared.fault.TableKind.TheVariants.{Role}
+use Rattle.batch_reader.proofs.roles.check_roles.Goals as goal
+
+pub returns-in_err-names-clause-stands : goal.returns-in_err-names-clause-stands
+returns-in_err-names-clause-stands c =
+    let p = err_from_is_err_and c.from_residual.result c.from_residual.ensures.1 in
+    rw (p.1, p.2) (kind_told Role Duplicate (λ entry. FailsFirst (λ front. AreDistinct (role_names front)) c.args.roles.now entry)
+    (λ spot. IsRoleFault c.args.roles.now c.args.acts.now spot.kind spot.entry) (λ entry h. h) _ c.in_err-names.ensures.told c.in_err-names.ensures.stands)
+
+pub returns-clause-ok : goal.returns-clause-ok
+returns-clause-ok c =
+    let names : List Name = role_names c.args.roles.now in
+    on_ok_weaker c.check_declared.result (λ (declared : list_all (is_role_among c.in_ok-names.names.keys) c.args.acts.now.unit_procedures.items ≡ true).
+    and_true (are_distinct names) (list_all (is_role_among names) c.args.acts.now.unit_procedures.items) c.in_ok-names.ensures.differ
+    (subst (λ keys. list_all (is_role_among keys) c.args.acts.now.unit_procedures.items ≡ true) c.in_ok-names.ensures.ok declared))
+    (rw c.deref.ensures.value at c.check_declared.ensures.ok)
+
+pub returns-clause-refused : goal.returns-clause-refused
+returns-clause-refused c =
+    let names : List Name = role_names c.args.roles.now in
+    IfErr-weaker c.check_declared.result _ _ (λ fault undeclared _ are.
+    undeclared (subst (λ keys. list_all (is_role_among keys) c.args.acts.now.unit_procedures.items ≡ true) (sym c.in_ok-names.ensures.ok)
+    (both_true (are_distinct names) (list_all (is_role_among names) c.args.acts.now.unit_procedures.items) are).1))
+    (rw c.deref.ensures.value at c.check_declared.ensures.refused)

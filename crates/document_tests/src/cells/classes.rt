@@ -1,0 +1,107 @@
+//! Classes of units: what a cell document says of them, and what is looked up by them.
+use super::refuses;
+use crate::reading::cell_of;
+use batch_cell::Cell;
+use batch_reader::{EntryFault, TableKind};
+use batch_text::Name;
+use std::alloc::Global;
+use std::test::Fail;
+
+/// Units of two classes and one of none, which have no modules.
+const CLASSED: &str = "cell = \"C\"
+[[unit]]
+name = \"R1\"
+class = \"RX\"
+[[unit]]
+name = \"T1\"
+class = \"TANK\"
+[[unit]]
+name = \"RX\"
+[[unit]]
+class = \"RX\"
+name = \"R2\"
+";
+
+const TOLD: &str =
+    r#"Cell { name: "C", units: [Unit { name: "R1", class: Some("RX") }, Unit { name: "T1", class: Some("TANK") }, Unit { name: "RX", class: None }, Unit { name: "R2", class: Some("RX") }], modules: [], shared: [], names: {"R1", "T1", "RX", "R2"}, offered: [{}, {}, {}, {}] }"#;
+
+#[test]
+fn reads_classes(rt: HostRuntime) -> Result<(), Fail> {
+    let alloc = rt.alloc();
+    let cell = cell_of(alloc, CLASSED)?;
+    let told = format!(in alloc; "{cell:?}")?;
+    assert!(rt; told.as_str() == TOLD, "{told}");
+    Ok(())
+}
+
+/// How many units are of each class, and the numbers of the first three.
+fn looked_up(alloc: Global, cell: &Cell, classes: &[&str]) -> Result<String, Fail> {
+    let mut text = String::new(alloc);
+    for class in classes {
+        let name = Name::read(alloc, class.as_bytes())?;
+        text.push_str(line_of(alloc, cell, &name)?.as_str())?;
+    }
+    Ok(text)
+}
+
+fn line_of(alloc: Global, cell: &Cell, class: &Name) -> Result<String, Fail> {
+    let count = cell.candidates(class);
+    let [first, second, third] = [
+        cell.candidate(class, 0),
+        cell.candidate(class, 1),
+        cell.candidate(class, 2),
+    ];
+    Ok(format!(in alloc; "{class} {count} {first:?} {second:?} {third:?}\n")?)
+}
+
+#[test]
+fn numbers_the_candidates(rt: HostRuntime) -> Result<(), Fail> {
+    let alloc = rt.alloc();
+    let cell = cell_of(alloc, CLASSED)?;
+    assert_eq!(rt;
+        looked_up(alloc, &cell, &["RX", "TANK", "R1", "NONE"])?.as_str(),
+        "RX 2 Some(0) Some(3) None\nTANK 1 Some(1) None None\nR1 0 None None None\nNONE 0 None None None\n"
+    );
+    Ok(())
+}
+
+/// Cells whose second unit has no name as its class, or whose class stands with a module.
+const REFUSED: [(&str, TableKind, usize, EntryFault); 5] = [
+    (
+        "cell = 'C'\n[[unit]]\nname = 'R1'\nclass = 'RX'\n[[unit]]\nname = 'R2'\nclass = 5\n",
+        TableKind::Unit,
+        1,
+        EntryFault::WrongKind,
+    ),
+    (
+        "cell = 'C'\n[[unit]]\nname = 'R1'\n[[unit]]\nname = 'R2'\nclass = ''\n",
+        TableKind::Unit,
+        1,
+        EntryFault::WrongKind,
+    ),
+    (
+        "cell = 'C'\n[[unit]]\nname = 'R1'\n[[unit]]\nname = 'R2'\nclass = ['RX']\n",
+        TableKind::Unit,
+        1,
+        EntryFault::WrongKind,
+    ),
+    (
+        "cell = 'C'\n[[unit]]\nname = 'R1'\n[[unit]]\nclass = 5\n",
+        TableKind::Unit,
+        1,
+        EntryFault::MissingKey,
+    ),
+    (
+        "cell = 'C'\n[[unit]]\nname = 'R1'\n[[module]]\nname = 'M1'\n[[module]]\nname = 'M2'\nclass = 'RX'\n",
+        TableKind::Module,
+        1,
+        EntryFault::UnknownKey,
+    ),
+];
+
+#[test]
+fn refuses_what_is_no_class(rt: HostRuntime) {
+    for (text, kind, entry, fault) in REFUSED {
+        assert!(rt; refuses(rt.alloc(), text, kind, entry, fault), "{text}");
+    }
+}
