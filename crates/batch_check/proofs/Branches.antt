@@ -5,7 +5,7 @@ use Rattle.batch_recipe.specs.Conditions.{Name}
 use Rattle.batch_recipe.specs.Diagram.{Diagram, diagram_of, diagrams_of, cases_of}
 use Rattle.batch_recipe.specs.Tree.{Place, Tree, seq, par, sel, loop}
 use Rattle.batch_recipe.specs.Nodes.{Node, node, nodes, nodes_within, nodes_of_each, nodes_of_choices, child}
-use Rattle.batch_recipe.specs.Expanding.{act_tree, task_of, asked_by, unit_below, expanded, expanded_each, expanded_cases}
+use Rattle.batch_recipe.specs.Expanding.{Binding, act_tree_with, task_of, asked_by, unit_below, unit_with, expanded, expanded_each, expanded_cases}
 use Rattle.batch_recipe.specs.declared.act.Act.{Act}
 use Rattle.batch_recipe.specs.declared.act.Work.{Work}
 use Rattle.batch_recipe.specs.declared.act.Work.TheVariants.{Follows, Runs}
@@ -137,13 +137,13 @@ module _ (F : Name → Name → Place → Tree) (cell : Cell) (path : Path) wher
         rw (is, diagram_of-loop turns until body) (collected-under cell path above first mid next place (loop turns until b) (nodes (child place 0) above b) old new refl mid_is (h unit (child place 0) above))
 
 -- the nodes of an act
-module _ (F : Name → Name → Place → Tree) (unit : Name) (a : Act) (place : Place) (above : List Name) where
+module _ (bound : Binding) (F : Name → Name → Place → Tree) (unit : Name) (a : Act) (place : Place) (above : List Name) where
   abbrev nodes_of_work : Work → List Node
-  nodes_of_work w = node place above (act_tree F unit a place) ∷ nodes_within place (above ++ resources_of (asked_by a.unit a.needs.items)) (task_of (F (unit_below unit a.unit)) (unit_below unit a.unit) a.name place w)
+  nodes_of_work w = node place above (act_tree_with bound F unit a place) ∷ nodes_within place (above ++ resources_of (asked_by (unit_with bound a.unit) a.needs.items)) (task_of (F (unit_below unit (unit_with bound a.unit))) (unit_below unit (unit_with bound a.unit)) a.name place w)
 
-  pub act_runs : (phase : Name) (values : Vec Name Global) → a.work ≡ Runs phase values → nodes place above (act_tree F unit a place) ≡ node place above (act_tree F unit a place) ∷ []
+  pub act_runs : (phase : Name) (values : Vec Name Global) → a.work ≡ Runs phase values → nodes place above (act_tree_with bound F unit a place) ≡ node place above (act_tree_with bound F unit a place) ∷ []
   act_runs phase values is = ap nodes_of_work is
 
-  pub act_follows : (c : Chart) → a.work ≡ Follows c → nodes place above (act_tree F unit a place)
-      ≡ node place above (act_tree F unit a place) ∷ nodes (child place 0) (above ++ resources_of (asked_by a.unit a.needs.items)) (expanded (F (unit_below unit a.unit)) (child place 0) (diagram_of c))
+  pub act_follows : (c : Chart) → a.work ≡ Follows c → nodes place above (act_tree_with bound F unit a place)
+      ≡ node place above (act_tree_with bound F unit a place) ∷ nodes (child place 0) (above ++ resources_of (asked_by (unit_with bound a.unit) a.needs.items)) (expanded (F (unit_below unit (unit_with bound a.unit))) (child place 0) (diagram_of c))
   act_follows c is = ap nodes_of_work is

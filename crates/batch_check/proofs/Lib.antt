@@ -9,9 +9,10 @@ pub mod Pairs
 pub mod Asking
 pub mod Collects
 pub mod Branches
-pub mod Recipes
 pub mod Known
 pub mod Rising
+pub mod Bound
+pub mod Recipes
 pub mod Circles
 pub mod Tight
 pub mod Verdicts

@@ -9,24 +9,27 @@ use Rattle.batch_cell.specs.LookUps.{resources_of}
 use Rattle.batch_cell.specs.declared.cell.Cell.{Cell}
 use Rattle.batch_recipe.specs.Conditions.{Name, same_name}
 use Rattle.batch_recipe.specs.Nodes.{Node}
-use Rattle.batch_recipe.specs.Procedure.{procedure_nodes, procedure_tree}
+use Rattle.batch_recipe.specs.Expanding.{Binding}
+use Rattle.batch_recipe.specs.Procedure.{bound_nodes, bound_tree}
 use Rattle.batch_recipe.specs.WellFormed.{is_among}
 use Rattle.batch_recipe.specs.declared.recipe.Recipe.{Recipe}
 use Rattle.batch_model.specs.Lists.{Each}
-use Rattle.batch_model.specs.Cleared.{Ranking, RiseStrictly, IsClear, Part, parts, is_procedure}
+use Rattle.batch_model.specs.Cleared.{Ranking, RiseStrictly, IsClear, IsClearedRecipe, Part, is_procedure, procedure_parts}
 use Rattle.batch_model.specs.Recipes.{recipe_of}
 use Rattle.batch_model.specs.Plant.{Setup}
+use Rattle.batch_model.specs.Setups.{master_of, setup_of}
 use Rattle.batch_model.proofs.Members.{Each-map}
 use Rattle.batch_model.proofs.Parts.{parts-nodes}
 use Rattle.batch_check.specs.declared.edge.Edge.{Edge}
 use Rattle.batch_check.specs.ByName.{name_in}
 use Rattle.batch_verify.specs.Refusals.{rank_in}
-use Rattle.batch_check.specs.Edges.{has_pair, Stands, Covers, CoversRecipes, AreEdgesOf, numbers_of, number_of, Follows}
+use Rattle.batch_check.specs.Edges.{has_pair, OfNodes, Stands, Covers, CoversRecipes, AreEdgesOf, numbers_of, number_of, Follows}
 use Rattle.batch_check.specs.LeastRanking.{IsLeastRanking}
 use Rattle.batch_check.specs.Clearing.{NeedResources, RiseAlongPaths, RiseLeast, StandsAsCircle}
 use Rattle.batch_check.proofs.Names.{name_in-found, rank_in-name}
 use Rattle.batch_check.proofs.Known.{IsFound, found, name_among, known_path}
 use Rattle.batch_check.proofs.Orders.{circle_rules_out}
+use Rattle.batch_verify.proofs.Served.{tried_serves}
 
 pub Each-get : {X : Type 0} (P : X → Type 0) (xs : List X) (i : ℕ) (x : X) → Each P xs → slice_get xs i ≡ Some x → P x
 Each-get P [] i x h is = let bad : None ≡ Some x = is in absurd cc
@@ -52,14 +55,14 @@ module _ (rank : Ranking) where
   rises_at (x ∷ xs) (suc i) (suc j) a b h ij at_i at_j = rises_at xs i j a b (tail x xs h) (omega arith) at_i at_j
 
   -- ranks that rise along all paths rise along each edge that stands
-  pub standing_rises : (c : Cell) (recipes : List Recipe) → RiseAlongPaths rank recipes → (e : Edge) → Stands c recipes e → rank (name_in c e.earlier) < rank (name_in c e.later)
+  pub standing_rises : (c : Cell) (recipes : List Recipe) → RiseAlongPaths c rank recipes → (e : Edge) → Stands c recipes e → rank (name_in c e.earlier) < rank (name_in c e.later)
   standing_rises c recipes rising e s =
-      let nodes = Each-get (λ (r : Recipe). Each (λ (n : Node). RiseStrictly rank n.asked) (procedure_nodes r.acts)) recipes e.recipe s.recipe rising s.found in
-      let here = Each-get (λ (n : Node). RiseStrictly rank n.asked) (procedure_nodes s.recipe.acts) e.node s.node nodes s.numbered in
+      let nodes = Each-get (OfNodes c (λ (n : Node). RiseStrictly rank n.asked)) recipes e.recipe s.recipe rising s.found s.bound s.tried in
+      let here = Each-get (λ (n : Node). RiseStrictly rank n.asked) (bound_nodes s.bound s.recipe.acts) e.node s.node nodes s.numbered in
       let up = rises_at s.node.asked s.asked.asked.before s.asked.asked.own s.asked.earlier_name s.asked.later_name here s.asked.asked.ordered s.asked.asked.earlier_is s.asked.asked.later_is in
       rw (name_in-found c e.earlier s.asked.earlier_name s.asked.earlier_named, name_in-found c e.later s.asked.later_name s.asked.later_named) up
 
-  pub circle_leaves_none : (c : Cell) (recipes : List Recipe) (circle : List Edge) → StandsAsCircle c recipes circle → RiseAlongPaths rank recipes → ⊥
+  pub circle_leaves_none : (c : Cell) (recipes : List Recipe) (circle : List Edge) → StandsAsCircle c recipes circle → RiseAlongPaths c rank recipes → ⊥
   circle_leaves_none c recipes circle h rising =
       circle_rules_out 0 circle circle (λ k. rank (name_in c k)) h.circle
       (record {
@@ -111,9 +114,12 @@ module _ (c : Cell) (edges : List Edge) (ranks : List ℕ) (rising : All (λ e. 
   nodes_rise [] k h = tt
   nodes_rise (n ∷ ns) k h = (covered_rises n.asked k.0 h.0, nodes_rise ns k.1 h.1)
 
-  pub recipes_rise : (recipes : List Recipe) → NeedResources c recipes → CoversRecipes c recipes edges → RiseAlongPaths (rank_in c ranks) recipes
+  pub recipes_rise : (recipes : List Recipe) → NeedResources c recipes → CoversRecipes c recipes edges → RiseAlongPaths c (rank_in c ranks) recipes
   recipes_rise [] k h = tt
-  recipes_rise (r ∷ rs) k h = (nodes_rise (procedure_nodes r.acts) (known_path K (0 ∷ []) [] (procedure_tree r.acts) tt k.0) h.0, recipes_rise rs k.1 h.1)
+  recipes_rise (r ∷ rs) k h = (
+    λ bound tried. nodes_rise (bound_nodes bound r.acts) (known_path K (0 ∷ []) [] (bound_tree bound r.acts) tt (k.0 bound tried)) (h.0 bound tried),
+    recipes_rise rs k.1 h.1,
+  )
 
 -- no name has a rank above that of each resource
 rank_bounded : (c : Cell) (ranks : List ℕ) (most : ℕ) → ((k : ℕ) → k < length (resources_of c) → get_or ranks k 0 ≤ most) → (name : Name) (o : Option ℕ)
@@ -152,15 +158,16 @@ nodes-Each P [] h = tt
 nodes-Each P (x ∷ xs) h = (h.0, nodes-Each P xs h.1)
 
 -- what holds of the nodes of all parts holds of all nodes
-pub parts_hold : (P : Node → Type 0) (r : Recipe) → Each (λ x. P x.node) (parts is_procedure (0 ∷ []) [] (procedure_tree r.acts)) → Each P (procedure_nodes r.acts)
-parts_hold P r h =
-    subst (λ (ns : List Node). Each P ns) (parts-nodes is_procedure (0 ∷ []) [] (procedure_tree r.acts)) (Each-nodes P (parts is_procedure (0 ∷ []) [] (procedure_tree r.acts)) h)
+pub parts_hold : (P : Node → Type 0) (r : Recipe) (bound : Binding) → Each (λ x. P x.node) (procedure_parts (recipe_of r bound)) → Each P (bound_nodes bound r.acts)
+parts_hold P r bound h =
+    subst (λ (ns : List Node). Each P ns) (parts-nodes is_procedure (0 ∷ []) [] (bound_tree bound r.acts)) (Each-nodes P (procedure_parts (recipe_of r bound)) h)
 
-pub cleared_rises : (c : Cell) (d : Setup) (rank : Ranking) (recipes : List Recipe) → Each (λ r. Each (IsClear d rank) (parts is_procedure (0 ∷ []) [] r.procedure)) (map recipe_of recipes)
-    → RiseAlongPaths rank recipes
+pub cleared_rises : (c : Cell) (d : Setup) (rank : Ranking) (recipes : List Recipe) → Each (IsClearedRecipe d rank) (map (master_of c) recipes) → RiseAlongPaths c rank recipes
 cleared_rises c d rank [] h = tt
 cleared_rises c d rank (r ∷ rs) h = (
-  parts_hold (λ n. RiseStrictly rank n.asked) r
-      (Each-map (IsClear d rank) (λ x. RiseStrictly rank x.node.asked) (λ x clear. clear.rising) (parts is_procedure (0 ∷ []) [] (procedure_tree r.acts)) h.0),
+  λ bound tried.
+      parts_hold (λ n. RiseStrictly rank n.asked) r bound
+      (Each-map (IsClear d rank) (λ x. RiseStrictly rank x.node.asked) (λ x clear. clear.rising) (procedure_parts (recipe_of r bound))
+      (h.0.1 bound (tried_serves (setup_of c (r ∷ [])) (master_of c r) h.0.0 bound tried))),
   cleared_rises c d rank rs h.1,
 )

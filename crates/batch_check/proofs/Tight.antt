@@ -7,24 +7,27 @@ use Rattle.batch_cell.specs.LookUps.{resources_of}
 use Rattle.batch_cell.specs.declared.cell.Cell as equipment
 use Rattle.batch_recipe.specs.Conditions.{Name}
 use Rattle.batch_recipe.specs.Nodes.{Node}
-use Rattle.batch_recipe.specs.Procedure.{procedure_nodes, procedure_tree}
+use Rattle.batch_recipe.specs.Expanding.{Binding}
+use Rattle.batch_recipe.specs.Procedure.{bound_nodes, bound_tree}
 use Rattle.batch_recipe.specs.WellFormed.{is_among}
 use Rattle.batch_recipe.specs.declared.recipe.Recipe as document
 use Rattle.batch_model.specs.Lists.{Has, Each}
-use Rattle.batch_model.specs.Plant.{Recipe}
-use Rattle.batch_model.specs.Cleared.{Ranking, RiseStrictly, Part, is_procedure, procedure_parts}
+use Rattle.batch_model.specs.Plant.{Master}
+use Rattle.batch_model.specs.Cleared.{Ranking, RiseStrictly, HasCandidates, IsServed, Part, is_procedure, procedure_parts}
 use Rattle.batch_model.specs.Recipes.{recipe_of}
+use Rattle.batch_model.specs.Setups.{master_of, setup_of}
 use Rattle.batch_model.proofs.Members.{Each-Has}
 use Rattle.batch_model.proofs.Parts.{parts-nodes}
 use Rattle.batch_verify.specs.Refusals.{rank_in}
 use Rattle.batch_check.specs.declared.edge.Edge.{Edge}
 use Rattle.batch_check.specs.ByName.{name_in}
 use Rattle.batch_check.specs.Clearing.{NeedResources}
-use Rattle.batch_check.specs.Edges.{Stands, AreEdgesOf}
+use Rattle.batch_check.specs.Edges.{OfNodes, Stands, AreEdgesOf}
 use Rattle.batch_check.specs.LeastRanking.{IsLeastRanking}
 use Rattle.batch_check.specs.TightRanks.{IsAskedBefore, FollowsGreatest, IsLowest, RanksTightly}
 use Rattle.batch_check.proofs.Known.{found, known_path}
 use Rattle.batch_check.proofs.Names.{name_in-found, rank_in-name}
+use Rattle.batch_verify.proofs.Served.{served_is_tried, tried_serves}
 use Rattle.batch_check.proofs.Rising.{Each-get, nodes-Each, rises_at, rank_of_found, recipes_rise}
 
 -- Elements
@@ -46,45 +49,54 @@ Has-mapped f (z ∷ xs) y (inr h) = let m = Has-mapped f xs y h in (m.0, inr m.1
 
 -- Paths
 
+-- of all paths of the recipe, whatever units may take its roles
+abbrev OfPaths : (List Name → Type 0) → Master → Type 0
+OfPaths P m = (bound : Binding) → IsServed m bound → Each (λ x. P x.node.asked) (procedure_parts (m.control bound))
+
 -- what holds of the paths of all nodes holds of the paths of all parts
-all_paths : (P : List Name → Type 0) (recipes : List document.Recipe) → Each (λ r. Each (λ n. P n.asked) (procedure_nodes r.acts)) recipes
-    → Each (λ r. Each (λ x. P x.node.asked) (procedure_parts r)) (map recipe_of recipes)
-all_paths P [] h = tt
-all_paths P (r ∷ rs) h = (
-  nodes-Each (λ n. P n.asked) (procedure_parts (recipe_of r))
-      (subst (λ (ns : List Node). Each (λ n. P n.asked) ns) (sym (parts-nodes is_procedure (0 ∷ []) [] (procedure_tree r.acts))) h.0),
-  all_paths P rs h.1,
+all_paths : (c : equipment.Cell) (P : List Name → Type 0) (recipes : List document.Recipe) → Each (OfNodes c (λ n. P n.asked)) recipes → Each (OfPaths P) (map (master_of c) recipes)
+all_paths c P [] h = tt
+all_paths c P (r ∷ rs) h = (
+  λ bound served. nodes-Each (λ n. P n.asked) (procedure_parts (recipe_of r bound))
+      (subst (λ (ns : List Node). Each (λ n. P n.asked) ns) (sym (parts-nodes is_procedure (0 ∷ []) [] (bound_tree bound r.acts)))
+      (h.0 bound (served_is_tried (setup_of c (r ∷ [])) (master_of c r) bound served))),
+  all_paths c P rs h.1,
 )
 
 -- so it holds of a path along which a resource is asked for before another
-on_path : (P : List Name → Type 0) (recipes : List Recipe) → Each (λ r. Each (λ x. P x.node.asked) (procedure_parts r)) recipes
-    → (earlier later : Name) (a : IsAskedBefore recipes earlier later) → P a.part.node.asked
+on_path : (P : List Name → Type 0) (recipes : List Master) → Each (OfPaths P) recipes → (earlier later : Name) (a : IsAskedBefore recipes earlier later) → P a.part.node.asked
 on_path P recipes all earlier later a =
-    Each-Has (λ (x : Part). P x.node.asked) (procedure_parts a.recipe) a.part
-    (Each-Has (λ (r : Recipe). Each (λ (x : Part). P x.node.asked) (procedure_parts r)) recipes a.recipe all a.listed) a.within
+    Each-Has (λ (x : Part). P x.node.asked) (procedure_parts (a.recipe.control a.bound)) a.part
+    (Each-Has (OfPaths P) recipes a.recipe all a.listed a.bound a.served) a.within
 
 known_paths : (c : equipment.Cell) (recipes : List document.Recipe) → NeedResources c recipes
-    → Each (λ r. Each (λ n. Each (λ name. IsTrue (is_among (resources_of c) name)) n.asked) (procedure_nodes r.acts)) recipes
+    → Each (OfNodes c (λ n. Each (λ name. IsTrue (is_among (resources_of c) name)) n.asked)) recipes
 known_paths c [] known = tt
-known_paths c (r ∷ rs) known =
-    (known_path (λ name. IsTrue (is_among (resources_of c) name)) (0 ∷ []) [] (procedure_tree r.acts) tt known.0, known_paths c rs known.1)
+known_paths c (r ∷ rs) known = (
+  λ bound tried. known_path (λ name. IsTrue (is_among (resources_of c) name)) (0 ∷ []) [] (bound_tree bound r.acts) tt (known.0 bound tried),
+  known_paths c rs known.1,
+)
 
 -- an edge that stands says that its earlier is asked for before its later
-asked_from_edge : (c : equipment.Cell) (recipes : List document.Recipe) (e : Edge) → Stands c recipes e
-    → IsAskedBefore (map recipe_of recipes) (name_in c e.earlier) (name_in c e.later)
-asked_from_edge c recipes e s =
+asked_from_edge : (c : equipment.Cell) (recipes : List document.Recipe) (e : Edge) → Each HasCandidates (map (master_of c) recipes) → Stands c recipes e
+    → IsAskedBefore (map (master_of c) recipes) (name_in c e.earlier) (name_in c e.later)
+asked_from_edge c recipes e candidates s =
     let node_of : Part → Node = λ x. x.node in
-    let among : Has (map node_of (procedure_parts (recipe_of s.recipe))) s.node =
-    subst (λ (ns : List Node). Has ns s.node) (sym (parts-nodes is_procedure (0 ∷ []) [] (procedure_tree s.recipe.acts)))
-    (Has-get (procedure_nodes s.recipe.acts) e.node s.node s.numbered) in
-    let part = Has-mapped node_of (procedure_parts (recipe_of s.recipe)) s.node among in
+    let ps : List Part = procedure_parts (recipe_of s.recipe s.bound) in
+    let among : Has (map node_of ps) s.node =
+    subst (λ (ns : List Node). Has ns s.node) (sym (parts-nodes is_procedure (0 ∷ []) [] (bound_tree s.bound s.recipe.acts)))
+    (Has-get (bound_nodes s.bound s.recipe.acts) e.node s.node s.numbered) in
+    let part = Has-mapped node_of ps s.node among in
+    let listed : Has (map (master_of c) recipes) (master_of c s.recipe) = Has-map (master_of c) recipes s.recipe (Has-get recipes e.recipe s.recipe s.found) in
     let earlier : slice_get s.node.asked s.asked.asked.before ≡ Some (name_in c e.earlier) =
     s.asked.asked.earlier_is ∙ ap (λ (n : Name). Some n) (sym (name_in-found c e.earlier s.asked.earlier_name s.asked.earlier_named)) in
     let later : slice_get s.node.asked s.asked.asked.own ≡ Some (name_in c e.later) =
     s.asked.asked.later_is ∙ ap (λ (n : Name). Some n) (sym (name_in-found c e.later s.asked.later_name s.asked.later_named)) in
     record {
-      recipe = recipe_of s.recipe;
-      listed = Has-map recipe_of recipes s.recipe (Has-get recipes e.recipe s.recipe s.found);
+      recipe = master_of c s.recipe;
+      listed = listed;
+      bound = s.bound;
+      served = tried_serves (setup_of c (s.recipe ∷ [])) (master_of c s.recipe) (Each-Has HasCandidates (map (master_of c) recipes) (master_of c s.recipe) candidates listed) s.bound s.tried;
       part = part.0;
       within = part.1;
       before = s.asked.asked.before;
@@ -96,20 +108,20 @@ asked_from_edge c recipes e s =
 
 -- Ranks
 
-module _ (c : equipment.Cell) (recipes : List document.Recipe) (edges : List Edge) (ranks : List ℕ) (known : NeedResources c recipes)
-    (of_recipes : AreEdgesOf c recipes edges)
+module _ (c : equipment.Cell) (recipes : List document.Recipe) (edges : List Edge) (ranks : List ℕ) (candidates : Each HasCandidates (map (master_of c) recipes))
+    (known : NeedResources c recipes) (of_recipes : AreEdgesOf c recipes edges)
     (least : IsLeastRanking (length (resources_of c)) edges ranks)
     (name : Name) where
   abbrev rank : Ranking
   rank = rank_in c ranks
 
   abbrev IsBefore : Name → Type 0
-  IsBefore other = IsAskedBefore (map recipe_of recipes) other name
+  IsBefore other = IsAskedBefore (map (master_of c) recipes) other name
 
   lower : (other : Name) → IsBefore other → rank other < rank name
   lower other a =
-      let rising = on_path (RiseStrictly rank) (map recipe_of recipes)
-      (all_paths (RiseStrictly rank) recipes (recipes_rise c edges ranks least.ranking.rising recipes known of_recipes.covering)) other name a in
+      let rising = on_path (RiseStrictly rank) (map (master_of c) recipes)
+      (all_paths c (RiseStrictly rank) recipes (recipes_rise c edges ranks least.ranking.rising recipes known of_recipes.covering)) other name a in
       rises_at rank a.part.node.asked a.before a.place other name rising a.ordered a.earlier_is a.later_is
 
   positive : (other : Name) → IsTrue (is_among (resources_of c) other) → 0 < rank other
@@ -120,9 +132,9 @@ module _ (c : equipment.Cell) (recipes : List document.Recipe) (edges : List Edg
   positive_before : (other : Name) → IsBefore other → 0 < rank other
   positive_before other a =
       let K : Name → Type 0 = λ n. IsTrue (is_among (resources_of c) n) in
-      positive other (Each-get K a.part.node.asked a.before other (on_path (Each K) (map recipe_of recipes) (all_paths (Each K) recipes (known_paths c recipes known)) other name a) a.earlier_is)
+      positive other (Each-get K a.part.node.asked a.before other (on_path (Each K) (map (master_of c) recipes) (all_paths c (Each K) recipes (known_paths c recipes known)) other name a) a.earlier_is)
 
-  pub least_rank_tight : IsTrue (is_among (resources_of c) name) → FollowsGreatest (map recipe_of recipes) rank name ⊎ IsLowest (map recipe_of recipes) rank name
+  pub least_rank_tight : IsTrue (is_among (resources_of c) name) → FollowsGreatest (map (master_of c) recipes) rank name ⊎ IsLowest (map (master_of c) recipes) rank name
   least_rank_tight among =
       let f = found c name among in
       let same : rank name ≡ get_or ranks f.number 0 = rank_of_found c edges ranks least.ranking.rising name f in
@@ -134,7 +146,7 @@ module _ (c : equipment.Cell) (recipes : List document.Recipe) (edges : List Edg
             rank_in-name c ranks under.edge.earlier (slice_get_within (resources_of c) under.edge.earlier stands.asked.earlier_name stands.asked.earlier_named) in
             inl (record {
               earlier = name_in c under.edge.earlier;
-              asked = subst (λ (n : Name). IsAskedBefore (map recipe_of recipes) (name_in c under.edge.earlier) n) (ap (name_in c) under.into ∙ f.named) (asked_from_edge c recipes under.edge stands);
+              asked = subst (λ (n : Name). IsAskedBefore (map (master_of c) recipes) (name_in c under.edge.earlier) n) (ap (name_in c) under.into ∙ f.named) (asked_from_edge c recipes under.edge candidates stands);
               one_more = omega (arith, same, below, under.just_above);
               greatest = λ other a. omega (arith, same, below, under.just_above, lower other a);
             })
@@ -144,6 +156,6 @@ module _ (c : equipment.Cell) (recipes : List document.Recipe) (edges : List Edg
         })
       ]
 
-pub least_ranks_tight : (c : equipment.Cell) (recipes : List document.Recipe) (edges : List Edge) (ranks : List ℕ) → NeedResources c recipes → AreEdgesOf c recipes edges
-    → IsLeastRanking (length (resources_of c)) edges ranks → RanksTightly c recipes (rank_in c ranks)
-least_ranks_tight c recipes edges ranks known of_recipes least name among = least_rank_tight c recipes edges ranks known of_recipes least name among
+pub least_ranks_tight : (c : equipment.Cell) (recipes : List document.Recipe) (edges : List Edge) (ranks : List ℕ) → Each HasCandidates (map (master_of c) recipes) → NeedResources c recipes
+    → AreEdgesOf c recipes edges → IsLeastRanking (length (resources_of c)) edges ranks → RanksTightly c recipes (rank_in c ranks)
+least_ranks_tight c recipes edges ranks candidates known of_recipes least name among = least_rank_tight c recipes edges ranks candidates known of_recipes least name among

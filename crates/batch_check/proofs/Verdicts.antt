@@ -1,20 +1,23 @@
 -- From what is found of recipes to what it means for clearance.
-use Rattle.std.proofs.Common.{◌≡◌, ◌≢◌, ℕ, ◌+◌, ◌<◌, ◌++◌, List, [], ◌∷◌, take, get_or, option_map, map, length, slice_get, Some, None, inl, inr, refl, sym, ap, ◌∙◌, subst}
+use Rattle.std.proofs.Common.{◌≡◌, ◌≢◌, ℕ, ◌+◌, ◌<◌, ◌≤◌, ◌++◌, List, [], ◌∷◌, take, get_or, option_map, map, length, slice_get, IsTrue, Some, None, inl, inr, refl, sym, ap, ◌∙◌, subst, arith}
 use Rattle.batch_cell.specs.LookUps.{resources_of}
 use Rattle.batch_cell.specs.declared.cell.Cell as equipment
+use Rattle.batch_recipe.specs.Conditions.{Name}
+use Rattle.batch_recipe.specs.Expanding.{Binding}
 use Rattle.batch_recipe.specs.Nodes.{Node}
-use Rattle.batch_recipe.specs.Procedure.{procedure_tree}
+use Rattle.batch_recipe.specs.Procedure.{bound_tree}
 use Rattle.batch_recipe.specs.declared.recipe.Recipe as document
 use Rattle.batch_model.specs.Lists.{Each}
-use Rattle.batch_model.specs.Plant.{Recipe, Setup}
-use Rattle.batch_model.specs.Cleared.{Ranking, Part, NeedsResources, RiseStrictly, IsClear, IsClearedRecipe, parts, is_procedure, procedure_parts, CanBeCleared}
-use Rattle.batch_model.specs.Setups.{setup_of}
+use Rattle.batch_model.specs.Plant.{Role, Master, Setup}
+use Rattle.batch_model.specs.Cleared.{Ranking, Part, NeedsResources, RiseStrictly, IsClear, IsClearedRecipe, HasCandidates, is_procedure, procedure_parts, CanBeCleared}
+use Rattle.batch_model.specs.Setups.{master_of, setup_of}
+use Rattle.batch_model.specs.declared.limits.TheConstants.{MAX_RECIPES}
 use Rattle.batch_model.specs.Recipes.{recipe_of}
 use Rattle.std.proofs.lemmas.List.{length-map, take_more}
 use Rattle.std.proofs.lemmas.Option.{get_or_from_slice_get, slice_get_read, slice_get-map}
 use Rattle.batch_model.proofs.Members.{Each-append, Each-map}
 use Rattle.batch_model.proofs.Parts.{parts-nodes}
-use Rattle.batch_verify.specs.Refusals.{rank_in, IsSound, Breaks, IsFirstBroken}
+use Rattle.batch_verify.specs.Refusals.{rank_in, IsSound, Breaks, IsFirstBroken, IsTried, IsTriedFor}
 use Rattle.batch_verify.specs.Verifying.{IsRecipeSet}
 use Rattle.batch_verify.specs.declared.rule.Rule.{Rule}
 use Rattle.batch_verify.specs.declared.rule.Rule.TheVariants.{UnknownResource, ShareAboveCapacity, PhaseNotOffered, SamePhaseInParallel, LoopWithoutPhase, RankNotRising}
@@ -25,6 +28,9 @@ use Rattle.batch_check.specs.Checking.{IsSoundRecipe}
 use Rattle.batch_check.specs.Finding.{IsRecipeFault, IsCircleFault, AreLeastRanks}
 use Rattle.batch_check.specs.Clearing.{NeedResources, RiseAlongPaths, IsLeastClearance}
 use Rattle.batch_check.proofs.Rising.{Each-get, nodes-Each, parts_hold, cleared_rises, circle_leaves_none}
+use Rattle.batch_verify.specs.Bindings.{nobody}
+use Rattle.batch_verify.proofs.Served.{served_is_tried, tried_serves}
+use Rattle.batch_verify.proofs.Serving.{has_candidates}
 
 -- A fault leaves no clearance
 
@@ -44,7 +50,9 @@ unsound_recipe setup rank (x ∷ xs) k b h clear =
 pub recipe_fault_none : (setup : Setup) (fault : CheckFault) → IsRecipeFault setup fault → fault ≢ Memory → CanBeCleared setup → ⊥
 recipe_fault_none setup Recipes h known cleared = h
 recipe_fault_none setup (in_recipe k broken) h known cleared =
-    unsound_recipe setup cleared.0 (procedure_parts h.recipe) 0 broken h.first (Each-get (IsClearedRecipe setup cleared.0) setup.recipes k h.recipe cleared.1.recipes h.found)
+    let clear = Each-get (IsClearedRecipe setup cleared.0) setup.recipes k h.recipe cleared.1.recipes h.found in
+    let bound = h.first.bound in
+    unsound_recipe setup cleared.0 (procedure_parts (h.recipe.control bound)) 0 broken h.first.breaks (clear.1 bound (tried_serves setup h.recipe clear.0 bound h.first.tried))
 recipe_fault_none setup (Circle circle) h known cleared = h
 recipe_fault_none setup Memory h known cleared = known refl
 
@@ -57,31 +65,58 @@ circle_fault_none c recipes Memory h known cleared = known refl
 
 -- The least clearance
 
-pub needs_known : (c : equipment.Cell) (all recipes : List document.Recipe) → Each (IsSoundRecipe (setup_of c all)) (map recipe_of recipes) → NeedResources c recipes
+tried_for : (d e : Setup) → d.resources ≡ e.resources → (candidates : List Name) (unit : Name) → IsTriedFor d candidates unit → IsTriedFor e candidates unit
+tried_for d e same [] unit tried = subst (λ (names : List Name). unit ≡ nobody names) same tried
+tried_for d e same (candidate ∷ more) unit tried = tried
+
+-- what is tried for roles depends on the names of resources alone
+tried_with : (d e : Setup) → d.resources ≡ e.resources → (m : Master) (bound : Binding) → IsTried d m bound → IsTried e m bound
+tried_with d e same m bound h = go m.roles h
+  where
+    go : (roles : List Role) → Each (λ role. IsTrue (m.names_role role.name) → IsTriedFor d role.candidates (bound role.name)) roles
+        → Each (λ role. IsTrue (m.names_role role.name) → IsTriedFor e role.candidates (bound role.name)) roles
+    go [] h = tt
+    go (role ∷ roles) h = ((λ named. tried_for d e same role.candidates (bound role.name) (h.0 named)), go roles h.1)
+
+pub needs_known : (c : equipment.Cell) (all recipes : List document.Recipe) → Each (IsSoundRecipe (setup_of c all)) (map (master_of c) recipes) → NeedResources c recipes
 needs_known c all [] h = tt
 needs_known c all (r ∷ rs) h = (
-  parts_hold (λ n. NeedsResources (resources_of c) n.here) r
-      (Each-map (IsSound (setup_of c all)) (λ x. NeedsResources (resources_of c) x.node.here) (λ x sound. sound.known) (parts is_procedure (0 ∷ []) [] (procedure_tree r.acts)) h.0),
+  λ bound tried.
+      parts_hold (λ n. NeedsResources (resources_of c) n.here) r bound
+      (Each-map (IsSound (setup_of c all)) (λ x. NeedsResources (resources_of c) x.node.here) (λ x sound. sound.known) (procedure_parts (recipe_of r bound))
+      (h.0 bound (tried_with (setup_of c (r ∷ [])) (setup_of c all) refl (master_of c r) bound tried))),
   needs_known c all rs h.1,
 )
+
+pub candidates_known : (c : equipment.Cell) (all recipes : List document.Recipe) → Each (IsSoundRecipe (setup_of c all)) (map (master_of c) recipes)
+    → Each HasCandidates (map (master_of c) recipes)
+candidates_known c all [] h = tt
+candidates_known c all (r ∷ rs) h = (has_candidates c all r r.kinds r.own_roles None h.0, candidates_known c all rs h.1)
 
 sound_rises : (setup : Setup) (rank : Ranking) (xs : List Part) → Each (IsSound setup) xs → Each (λ x. RiseStrictly rank x.node.asked) xs → Each (IsClear setup rank) xs
 sound_rises setup rank [] h g = tt
 sound_rises setup rank (x ∷ xs) h g =
     (record { known = h.0.known; on_unit = h.0.on_unit; within = h.0.within; offered = h.0.offered; apart = h.0.apart; turning = h.0.turning; rising = g.0 }, sound_rises setup rank xs h.1 g.1)
 
-rising_clears : (c : equipment.Cell) (d : Setup) (rank : Ranking) (recipes : List document.Recipe) → Each (IsSoundRecipe d) (map recipe_of recipes) → RiseAlongPaths rank recipes
-    → Each (IsClearedRecipe d rank) (map recipe_of recipes)
-rising_clears c d rank [] h g = tt
-rising_clears c d rank (r ∷ rs) h g =
-    let xs : List Part = parts is_procedure (0 ∷ []) [] (procedure_tree r.acts) in
-    let P : Node → Type 0 = λ n. RiseStrictly rank n.asked in (
-      sound_rises d rank xs h.0
-          (nodes-Each P xs (subst (λ (ns : List Node). Each P ns) (sym (parts-nodes is_procedure (0 ∷ []) [] (procedure_tree r.acts))) g.0)),
-      rising_clears c d rank rs h.1 g.1,
+rising_clears : (c : equipment.Cell) (all : List document.Recipe) (rank : Ranking) (recipes : List document.Recipe) → Each (IsSoundRecipe (setup_of c all)) (map (master_of c) recipes)
+    → RiseAlongPaths c rank recipes → Each (IsClearedRecipe (setup_of c all) rank) (map (master_of c) recipes)
+rising_clears c all rank [] h g = tt
+rising_clears c all rank (r ∷ rs) h g =
+    let P : Node → Type 0 = λ n. RiseStrictly rank n.asked in
+    let m : Master = master_of c r in (
+      (
+        has_candidates c all r r.kinds r.own_roles None h.0,
+        λ bound served.
+            let xs : List Part = procedure_parts (recipe_of r bound) in
+            sound_rises (setup_of c all) rank xs (h.0 bound (served_is_tried (setup_of c all) m bound served))
+            (nodes-Each P xs
+            (subst (λ (ns : List Node). Each P ns) (sym (parts-nodes is_procedure (0 ∷ []) [] (bound_tree bound r.acts)))
+            (g.0 bound (served_is_tried (setup_of c (r ∷ [])) m bound served)))),
+      ),
+      rising_clears c all rank rs h.1 g.1,
     )
 
-pub least_clearance : (c : equipment.Cell) (recipes : List document.Recipe) (ranks : List ℕ) → IsRecipeSet (map recipe_of recipes) → Each (IsSoundRecipe (setup_of c recipes)) (map recipe_of recipes)
+pub least_clearance : (c : equipment.Cell) (recipes : List document.Recipe) (ranks : List ℕ) → IsRecipeSet (map (master_of c) recipes) → Each (IsSoundRecipe (setup_of c recipes)) (map (master_of c) recipes)
     → AreLeastRanks c recipes ranks → IsLeastClearance c recipes (rank_in c ranks)
 least_clearance c recipes ranks set sound least =
     let rise = least.rising (needs_known c recipes recipes sound) in
@@ -89,23 +124,29 @@ least_clearance c recipes ranks set sound least =
       clearing = record {
         names_differ = set.names_differ;
         few = set.few;
-        recipes = rising_clears c (setup_of c recipes) (rank_in c ranks) recipes sound rise.rising;
+        recipes = rising_clears c recipes (rank_in c ranks) recipes sound rise.rising;
       };
       positive = rise.positive;
       bounded = rise.bounded;
       least = λ other positive cleared. rise.least other positive (cleared_rises c (setup_of c recipes) other recipes cleared.recipes);
     }
 
+pub few_recipes : (c : equipment.Cell) (recipes : List document.Recipe) → IsRecipeSet (map (master_of c) recipes) → length recipes ≤ MAX_RECIPES
+few_recipes c recipes set = omega (arith, set.few, length-map recipes (master_of c))
+
 -- Recipes one after another
 
-pub recipe_at : (recipes : List document.Recipe) (k : ℕ) (recipe : document.Recipe) → k < length recipes → recipe ≡ get_or recipes k recipe → slice_get (map recipe_of recipes) k ≡ Some (recipe_of recipe)
-recipe_at recipes k recipe in' is = slice_get-map recipe_of recipes k ∙ ap (option_map recipe_of) (slice_get_read recipes (length recipes) k recipe refl in' is)
+pub recipe_at : (c : equipment.Cell) (recipes : List document.Recipe) (k : ℕ) (recipe : document.Recipe) → k < length recipes → recipe ≡ get_or recipes k recipe
+    → slice_get (map (master_of c) recipes) k ≡ Some (master_of c recipe)
+recipe_at c recipes k recipe in' is = slice_get-map (master_of c) recipes k ∙ ap (option_map (master_of c)) (slice_get_read recipes (length recipes) k recipe refl in' is)
 
 pub sound_more : (c : equipment.Cell) (d : Setup) (recipes : List document.Recipe) (k : ℕ) (recipe : document.Recipe) → k < length recipes → recipe ≡ get_or recipes k recipe
-    → Each (IsSoundRecipe d) (take k (map recipe_of recipes)) → IsSoundRecipe d (recipe_of recipe) → Each (IsSoundRecipe d) (take (k + 1) (map recipe_of recipes))
+    → Each (IsSoundRecipe d) (take k (map (master_of c) recipes)) → IsSoundRecipe d (master_of c recipe) → Each (IsSoundRecipe d) (take (k + 1) (map (master_of c) recipes))
 sound_more c d recipes k recipe in' is before here =
-    let within : k < length (map recipe_of recipes) = rw length-map in' in
-    let next : take (k + 1) (map recipe_of recipes) ≡ take k (map recipe_of recipes) ++ recipe_of recipe ∷ [] =
-    take_more (map recipe_of recipes) k (recipe_of recipe) within
-    ∙ ap (λ (r : Recipe). take k (map recipe_of recipes) ++ r ∷ []) (get_or_from_slice_get (map recipe_of recipes) k (recipe_of recipe) (recipe_of recipe) (recipe_at recipes k recipe in' is)) in
-    subst (λ (rs : List Recipe). Each (IsSoundRecipe d) rs) (sym next) (Each-append (IsSoundRecipe d) (take k (map recipe_of recipes)) (recipe_of recipe ∷ []) before (here, tt))
+    let masters : List Master = map (master_of c) recipes in
+    let master : Master = master_of c recipe in
+    let within : k < length masters = rw length-map in' in
+    let next : take (k + 1) masters ≡ take k masters ++ master ∷ [] =
+    take_more masters k master within
+    ∙ ap (λ (r : Master). take k masters ++ r ∷ []) (get_or_from_slice_get masters k master master (recipe_at c recipes k recipe in' is)) in
+    subst (λ (rs : List Master). Each (IsSoundRecipe d) rs) (sym next) (Each-append (IsSoundRecipe d) (take k masters) (master ∷ []) before (here, tt))

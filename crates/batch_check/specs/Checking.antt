@@ -3,10 +3,9 @@ use Rattle.std.specs.Prelude.{◌≡◌, ℕ, List, take, Some, None, slice_get,
 use Rattle.batch_cell.specs.declared.cell.Cell as equipment
 use Rattle.batch_recipe.specs.declared.recipe.Recipe as document
 use Rattle.batch_model.specs.Lists.{Each}
-use Rattle.batch_model.specs.Plant.{Recipe, Setup}
-use Rattle.batch_model.specs.Cleared.{procedure_parts}
+use Rattle.batch_model.specs.Plant.{Master, Setup}
 use Rattle.batch_model.specs.Setups.{setup_of}
-use Rattle.batch_verify.specs.Refusals.{IsSound, IsFirstBroken}
+use Rattle.batch_verify.specs.Refusals.{IsFirstBrokenBy, IsVerdictOn}
 use Rattle.batch_verify.specs.Verifying.{IsRecipeSet}
 use Rattle.batch_verify.specs.declared.rule.Broken.{Broken}
 use Rattle.batch_check.specs.declared.fault.CheckFault.{CheckFault}
@@ -14,16 +13,16 @@ use Rattle.batch_check.specs.declared.fault.CheckFault.TheVariants.{Recipes, Rec
 use Rattle.batch_check.specs.ByName.{BeginsWithLeastName}
 use Rattle.batch_check.specs.Clearing.{StandsAsCircle}
 
--- all nodes of the recipe meet the rules that don't speak of ranks
-abbrev pub IsSoundRecipe : Setup → Recipe → Type 0
-IsSoundRecipe setup r = Each (IsSound setup) (procedure_parts r)
+-- all nodes of the recipe meet the rules that don't speak of ranks, whatever units are tried for its roles
+abbrev pub IsSoundRecipe : Setup → Master → Type 0
+IsSoundRecipe setup master = IsVerdictOn setup None master None
 
 -- recipe k is the first with a node that breaks such a rule, and this is the first that does
-pub record IsFirstUnsound (setup : Setup) (recipes : List Recipe) (k : ℕ) (broken : Broken) : Type 0 where
-  pub recipe : Recipe
+pub record IsFirstUnsound (setup : Setup) (recipes : List Master) (k : ℕ) (broken : Broken) : Type 0 where
+  pub recipe : Master
   pub found : slice_get recipes k ≡ Some recipe
   pub before : Each (IsSoundRecipe setup) (take k recipes)
-  pub first : IsFirstBroken setup None (procedure_parts recipe) 0 broken
+  pub first : IsFirstBrokenBy setup None recipe broken
 
 -- the fault stands, and nothing does that is looked for before it: names and number of the recipes, then the recipes one
 -- after another, then circles; want of memory says nothing

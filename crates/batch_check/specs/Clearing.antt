@@ -4,7 +4,6 @@ use Rattle.std.specs.List.{All}
 use Rattle.batch_cell.specs.LookUps.{resources_of}
 use Rattle.batch_cell.specs.declared.cell.Cell as equipment
 use Rattle.batch_recipe.specs.Conditions.{Name}
-use Rattle.batch_recipe.specs.Procedure.{procedure_nodes}
 use Rattle.batch_recipe.specs.WellFormed.{is_among}
 use Rattle.batch_recipe.specs.declared.recipe.Recipe as document
 use Rattle.batch_model.specs.Lists.{Each}
@@ -12,16 +11,16 @@ use Rattle.batch_model.specs.Cleared.{Ranking, NeedsResources, RiseStrictly, IsC
 use Rattle.batch_model.specs.Setups.{setup_of}
 use Rattle.batch_check.specs.declared.edge.Edge.{Edge}
 use Rattle.batch_verify.specs.Refusals.{rank_in}
-use Rattle.batch_check.specs.Edges.{Stands, AreEdgesOf}
+use Rattle.batch_check.specs.Edges.{OfNodes, Stands, AreEdgesOf}
 use Rattle.batch_check.specs.LeastRanking.{IsCircle, IsLeastRanking}
 
 -- each need is a resource of the cell
 abbrev pub NeedResources : equipment.Cell → List document.Recipe → Type 0
-NeedResources c recipes = Each (λ recipe. Each (λ node. NeedsResources (resources_of c) node.here) (procedure_nodes recipe.acts)) recipes
+NeedResources c recipes = Each (OfNodes c (λ node. NeedsResources (resources_of c) node.here)) recipes
 
--- the ranks rise strictly along all paths of the recipes
-abbrev pub RiseAlongPaths : Ranking → List document.Recipe → Type 0
-RiseAlongPaths rank recipes = Each (λ recipe. Each (λ node. RiseStrictly rank node.asked) (procedure_nodes recipe.acts)) recipes
+-- the ranks rise strictly along all paths of the recipes, whatever units take their roles
+abbrev pub RiseAlongPaths : equipment.Cell → Ranking → List document.Recipe → Type 0
+RiseAlongPaths c rank recipes = Each (OfNodes c (λ node. RiseStrictly rank node.asked)) recipes
 
 -- each resource has a rank above 0
 abbrev pub RanksResources : equipment.Cell → Ranking → Type 0
@@ -33,10 +32,10 @@ IsAtMost c rank other = (name : Name) → IsTrue (is_among (resources_of c) name
 
 -- ranks that rise along all paths, and no ranks that do are lower anywhere
 pub record RiseLeast (c : equipment.Cell) (recipes : List document.Recipe) (rank : Ranking) : Type 0 where
-  pub rising : RiseAlongPaths rank recipes
+  pub rising : RiseAlongPaths c rank recipes
   pub positive : RanksResources c rank
   pub bounded : (name : Name) → rank name ≤ length (resources_of c)
-  pub least : (other : Ranking) → RanksResources c other → RiseAlongPaths other recipes → IsAtMost c rank other
+  pub least : (other : Ranking) → RanksResources c other → RiseAlongPaths c other recipes → IsAtMost c rank other
 
 -- a ranking that clears the recipes, and no ranking that does has a lower rank anywhere
 pub record IsLeastClearance (c : equipment.Cell) (recipes : List document.Recipe) (rank : Ranking) : Type 0 where
@@ -55,7 +54,7 @@ pub record StandsAsCircle (c : equipment.Cell) (recipes : List document.Recipe) 
 -- no ranks rise along all paths of recipes in which a circle stands
 abbrev pub CirclesLeaveNoRising : Type 0
 CirclesLeaveNoRising = (c : equipment.Cell) (recipes : List document.Recipe) (circle : List Edge) (rank : Ranking)
-    → StandsAsCircle c recipes circle → RiseAlongPaths rank recipes → ⊥
+    → StandsAsCircle c recipes circle → RiseAlongPaths c rank recipes → ⊥
 
 -- so no ranking clears them
 abbrev pub CirclesLeaveNoClearance : Type 0

@@ -5,7 +5,7 @@ use Rattle.batch_cell.specs.LookUps.{resources_of}
 use Rattle.batch_cell.specs.declared.cell.Cell.{Cell}
 use Rattle.batch_recipe.specs.Conditions.{Name}
 use Rattle.batch_recipe.specs.Diagram.{diagram_of, diagrams_of, cases_of}
-use Rattle.batch_recipe.specs.Expanding.{act_tree, expanded, expanded_each, expanded_cases, named_tree}
+use Rattle.batch_recipe.specs.Expanding.{Binding, act_tree_with, expanded, expanded_each, expanded_cases, named_tree_with}
 use Rattle.batch_recipe.specs.Nodes.{Node, nodes, nodes_of_each, nodes_of_choices}
 use Rattle.batch_recipe.specs.Procedure.{tables_from}
 use Rattle.batch_recipe.specs.Tree.{Place}
@@ -15,10 +15,13 @@ use Rattle.batch_recipe.specs.declared.acts.Level.{Level}
 use Rattle.batch_recipe.specs.declared.chart.Chart.{Chart}
 use Rattle.batch_recipe.specs.declared.condition.Cond.{Cond}
 use Rattle.batch_model.specs.Lists.{Each}
+use Rattle.batch_recipe.specs.declared.recipe.Recipe.{Recipe}
+use Rattle.batch_verify.specs.Bindings.{numbered}
 use Rattle.batch_check.specs.declared.edge.Edge.{Edge}
 use Rattle.batch_check.specs.declared.edge_set.EdgeSet.{EdgeSet}
 use Rattle.batch_check.specs.declared.path.Path.{Path}
-use Rattle.batch_check.specs.Edges.{AsksByNumber, numbers_of, Follows, Covers}
+use Rattle.batch_check.specs.declared.path.Site.{Site}
+use Rattle.batch_check.specs.Edges.{AsksByNumber, OfNodes, Stands, numbers_of, Follows, Covers}
 use Rattle.batch_check.specs.Pairs.{Keeps}
 
 -- Sets of edges
@@ -34,6 +37,10 @@ pub record IsReady (cell : Cell) (path : Path) (edges : EdgeSet) : Type 0 where
   pub within : (number : ℕ) → path.last ≡ Some number → number < edges.count
 
 -- Paths
+
+-- how units take the roles on a walk
+abbrev pub bound_on : Site → Binding
+bound_on site = numbered site.cell.now site.roles.now site.binding
 
 -- the number of the last need, which is `last` where there are no more
 abbrev pub last_number : Option ℕ → List (Option ℕ) → Option ℕ
@@ -74,23 +81,23 @@ abbrev pub Standing : Type 0
 Standing = Name → Place → List Name → List Node
 
 -- those of an act, the labels of its chart looked up from the level on
-abbrev pub act_nodes : Acts → Option Level → Act → Standing
-act_nodes acts level act unit place above = nodes place above (act_tree (named_tree (tables_from acts level)) unit act place)
+abbrev pub act_nodes : Binding → Acts → Option Level → Act → Standing
+act_nodes bound acts level act unit place above = nodes place above (act_tree_with bound (named_tree_with bound (tables_from acts level)) unit act place)
 
 -- those of a chart
-abbrev pub chart_nodes : Acts → Option Level → Chart → Standing
-chart_nodes acts level chart unit place above = nodes place above (expanded (named_tree (tables_from acts level) unit) place (diagram_of chart))
+abbrev pub chart_nodes : Binding → Acts → Option Level → Chart → Standing
+chart_nodes bound acts level chart unit place above = nodes place above (expanded (named_tree_with bound (tables_from acts level) unit) place (diagram_of chart))
 
 -- those of branches
-abbrev pub branch_nodes : Acts → Option Level → List Chart → Standing
-branch_nodes acts level parts unit place above =
-    nodes_of_each place above 0 (expanded_each (named_tree (tables_from acts level) unit) place 0 (diagrams_of (map diagram_of parts)))
+abbrev pub branch_nodes : Binding → Acts → Option Level → List Chart → Standing
+branch_nodes bound acts level parts unit place above =
+    nodes_of_each place above 0 (expanded_each (named_tree_with bound (tables_from acts level) unit) place 0 (diagrams_of (map diagram_of parts)))
 
 -- those of a selection's branches
-abbrev pub choice_nodes : Acts → Option Level → List (Cond × Chart) → Chart → Standing
-choice_nodes acts level choices last unit place above =
+abbrev pub choice_nodes : Binding → Acts → Option Level → List (Cond × Chart) → Chart → Standing
+choice_nodes bound acts level choices last unit place above =
     nodes_of_choices place above 0
-    (expanded_cases (named_tree (tables_from acts level) unit) place 0 (cases_of (map (λ choice. (choice.0, diagram_of choice.1)) choices) (diagram_of last)))
+    (expanded_cases (named_tree_with bound (tables_from acts level) unit) place 0 (cases_of (map (λ choice. (choice.0, diagram_of choice.1)) choices) (diagram_of last)))
 
 -- the edge stands at one of these nodes, which are numbered from `first`
 pub record StandsAmong (cell : Cell) (recipe first : ℕ) (nodes : List Node) (edge : Edge) : Type 0 where
@@ -118,3 +125,12 @@ pub record IsCollected (cell : Cell) (path : Path) (first : ℕ) (above : List N
 abbrev pub AreCollected : Cell → Path → ℕ → Standing → EdgeSet → EdgeSet → ℕ → Type 0
 AreCollected cell path first standing old new next =
     (unit : Name) (place : Place) (above : List Name) → IsCollected cell path first above (standing unit place above) old.edges.items new.edges.items next
+
+-- Recipes
+
+-- the edges of the recipe with this number were collected: each new edge stands in it, and whatever edges come later, its nodes
+-- are covered
+pub record IsAdded (cell : Cell) (recipes : List Recipe) (recipe : Recipe) (old new : EdgeSet) : Type 0 where
+  pub grown : Grows old new
+  pub standing : (edge : Edge) → Contains new.edges.items edge → Contains old.edges.items edge ⊎ Stands cell recipes edge
+  pub covering : (final : List Edge) → Keeps new.edges.items final → OfNodes cell (Covers cell final) recipe

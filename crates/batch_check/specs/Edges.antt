@@ -5,10 +5,17 @@ use Rattle.batch_cell.specs.LookUps.{resources_of}
 use Rattle.batch_cell.specs.declared.cell.Cell.{Cell}
 use Rattle.batch_recipe.specs.Conditions.{Name, same_name}
 use Rattle.batch_recipe.specs.Nodes.{Node, needs_of}
-use Rattle.batch_recipe.specs.Procedure.{procedure_nodes}
+use Rattle.batch_recipe.specs.Expanding.{Binding}
+use Rattle.batch_recipe.specs.Procedure.{bound_nodes}
 use Rattle.batch_recipe.specs.declared.recipe.Recipe.{Recipe}
 use Rattle.batch_model.specs.Lists.{Each}
+use Rattle.batch_model.specs.Setups.{master_of, setup_of}
+use Rattle.batch_verify.specs.Refusals.{IsTried}
 use Rattle.batch_check.specs.declared.edge.Edge.{Edge}
+
+-- the units that take the recipe's roles are tried for them
+abbrev pub AreTried : Cell → Recipe → Binding → Type 0
+AreTried cell recipe bound = IsTried (setup_of cell (recipe ∷ [])) (master_of cell recipe) bound
 
 -- Edges that stand
 
@@ -30,12 +37,14 @@ pub record AsksByNumber (cell : Cell) (node : Node) (earlier later : ℕ) : Type
   pub later_named : slice_get (resources_of cell) later ≡ Some later_name
   pub asked : AsksInOrder node earlier_name later_name
 
--- the edge says in which order a node of a recipe asks for resources
+-- the edge says in which order a node of a recipe asks for resources, where some units take its roles
 pub record Stands (cell : Cell) (recipes : List Recipe) (edge : Edge) : Type 0 where
   pub recipe : Recipe
   pub found : slice_get recipes edge.recipe ≡ Some recipe
+  pub bound : Binding
+  pub tried : AreTried cell recipe bound
   pub node : Node
-  pub numbered : slice_get (procedure_nodes recipe.acts) edge.node ≡ Some node
+  pub numbered : slice_get (bound_nodes bound recipe.acts) edge.node ≡ Some node
   pub asked : AsksByNumber cell node edge.earlier edge.later
 
 -- Edges that cover
@@ -66,9 +75,13 @@ Follows edges last (need ∷ needs) = Joins edges last need × Follows edges nee
 abbrev pub Covers : Cell → List Edge → Node → Type 0
 Covers cell edges node = Follows edges None (numbers_of cell node.asked)
 
+-- the word is so of all nodes of the recipe, whatever units take its roles
+abbrev pub OfNodes : Cell → (Node → Type 0) → Recipe → Type 0
+OfNodes cell Is recipe = (bound : Binding) → AreTried cell recipe bound → Each Is (bound_nodes bound recipe.acts)
+
 -- the same of all nodes of all recipes
 abbrev pub CoversRecipes : Cell → List Recipe → List Edge → Type 0
-CoversRecipes cell recipes edges = Each (λ recipe. Each (Covers cell edges) (procedure_nodes recipe.acts)) recipes
+CoversRecipes cell recipes edges = Each (OfNodes cell (Covers cell edges)) recipes
 
 -- edges that stand for the orders in which the recipes ask
 pub record AreEdgesOf (cell : Cell) (recipes : List Recipe) (edges : List Edge) : Type 0 where

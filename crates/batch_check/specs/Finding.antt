@@ -3,7 +3,10 @@ use Rattle.std.specs.Prelude.{ℕ, ◌≡◌, List, length, ⊤}
 use Rattle.batch_cell.specs.LookUps.{resources_of}
 use Rattle.batch_cell.specs.declared.cell.Cell as equipment
 use Rattle.batch_recipe.specs.declared.recipe.Recipe as document
+use Rattle.batch_model.specs.Lists.{Each}
+use Rattle.batch_model.specs.Cleared.{HasCandidates}
 use Rattle.batch_model.specs.Plant.{Setup}
+use Rattle.batch_model.specs.Setups.{setup_of}
 use Rattle.batch_verify.specs.Refusals.{rank_in}
 use Rattle.batch_check.specs.declared.edge.Edge.{Edge}
 use Rattle.batch_check.specs.declared.fault.CheckFault.{CheckFault}
@@ -37,4 +40,4 @@ IsCircleFault c recipes _ = ⊥
 pub record AreLeastRanks (c : equipment.Cell) (recipes : List document.Recipe) (ranks : List ℕ) : Type 0 where
   pub complete : length ranks ≡ length (resources_of c)
   pub rising : NeedResources c recipes → RiseLeast c recipes (rank_in c ranks)
-  pub tight : NeedResources c recipes → RanksTightly c recipes (rank_in c ranks)
+  pub tight : Each HasCandidates (setup_of c recipes).recipes → NeedResources c recipes → RanksTightly c recipes (rank_in c ranks)

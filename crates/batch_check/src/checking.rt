@@ -3,8 +3,7 @@ ghost use Rattle.std.specs.Prelude.{◌≡◌, ◌≢◌, ◌≤◌, map, length
 ghost use Rattle.batch_cell.specs.LookUps.{resources_of};
 ghost use Rattle.batch_model.specs.Lists.{Each};
 ghost use Rattle.batch_model.specs.Cleared.{CanBeCleared, IsCleared};
-ghost use Rattle.batch_model.specs.Setups.{setup_of};
-ghost use Rattle.batch_model.specs.Recipes.{recipe_of};
+ghost use Rattle.batch_model.specs.Setups.{master_of, setup_of};
 ghost use Rattle.batch_model.specs.declared.limits.TheConstants.{MAX_RECIPES};
 ghost use Rattle.batch_verify.specs.CertificateText.{AreInOrder};
 ghost use Rattle.batch_verify.specs.Ranked.{rank_of, RanksAll};
@@ -51,7 +50,7 @@ pub fn check(alloc: Global, cell: &Cell, recipes: &[Recipe]) -> Result<Certifica
 fn check_each(alloc: Global, cell: &Cell, recipes: &[Recipe]) -> Result<(), CheckFault>
     requires { length recipes.now ≤ MAX_RECIPES }
     ensures sound { OnOk result
-        (Each (IsSoundRecipe (setup_of cell.now recipes.now)) (map recipe_of recipes.now)) }
+        (Each (IsSoundRecipe (setup_of cell.now recipes.now)) (map (master_of cell.now) recipes.now)) }
     ensures fault { IfErr result (IsRecipeFault (setup_of cell.now recipes.now)) }
 {
     for (number, recipe) in recipes.iter().enumerate() {

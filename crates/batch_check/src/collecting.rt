@@ -1,19 +1,11 @@
 //! The edges of recipes.
 ghost use Rattle.std.specs.Prelude.{IfOk, OnOk};
-ghost use Rattle.batch_check.specs.Collecting.{AreCollected, Grows, IsReady, act_nodes, branch_nodes, chart_nodes, choice_nodes};
+ghost use Rattle.batch_check.specs.Collecting.{AreCollected, Grows, IsReady, act_nodes, bound_on, branch_nodes, chart_nodes, choice_nodes};
 
 use crate::edge_set::EdgeSet;
-use crate::path::{Path, ask_all};
-use batch_cell::Cell;
-use batch_recipe::{Act, Acts, Chart, Cond, Level, Work, act_named};
+use crate::path::{Path, Site, ask_all};
+use batch_recipe::{Act, Chart, Cond, Level, Work, act_named};
 use std::alloc::AllocError;
-
-/// What a recipe's names are looked up in.
-#[derive(Clone, Copy)]
-pub(crate) struct Site<'a> {
-    pub(crate) cell: &'a Cell,
-    pub(crate) acts: &'a Acts,
-}
 
 /// Adds the edges of an act's nodes, of which the first has this number: the number after the last one.
 ///
@@ -30,9 +22,9 @@ pub(crate) fn collect_act(
     requires { IsReady site.now.cell.now path edges.old }
     ensures grown { OnOk result (Grows edges.old edges.new) }
     ensures collected { IfOk result
-        (AreCollected site.now.cell.now path node (act_nodes site.now.acts.now level act.now) edges.old edges.new) }
+        (AreCollected site.now.cell.now path node (act_nodes (bound_on site.now) site.now.acts.now level act.now) edges.old edges.new) }
 {
-    let below = ask_all(act, site.cell, path, node, edges)?;
+    let below = ask_all(act, site, path, node, edges)?;
     let next = node.saturating_add(1);
     match &act.work {
         Work::Runs { .. } => Ok(next),
@@ -53,7 +45,7 @@ fn collect(
     requires { IsReady site.now.cell.now path edges.old }
     ensures grown { OnOk result (Grows edges.old edges.new) }
     ensures collected { IfOk result
-        (AreCollected site.now.cell.now path node (chart_nodes site.now.acts.now level chart.now) edges.old edges.new) }
+        (AreCollected site.now.cell.now path node (chart_nodes (bound_on site.now) site.now.acts.now level chart.now) edges.old edges.new) }
 {
     let next = node.saturating_add(1);
     match chart {
@@ -86,7 +78,7 @@ fn collect_each(
     requires { IsReady site.now.cell.now path edges.old }
     ensures grown { OnOk result (Grows edges.old edges.new) }
     ensures collected { IfOk result
-        (AreCollected site.now.cell.now path node (branch_nodes site.now.acts.now level parts.now) edges.old edges.new) }
+        (AreCollected site.now.cell.now path node (branch_nodes (bound_on site.now) site.now.acts.now level parts.now) edges.old edges.new) }
 {
     let mut next = node;
     for part in parts {
@@ -109,7 +101,7 @@ fn collect_choices(
     requires { IsReady site.now.cell.now path edges.old }
     ensures grown { OnOk result (Grows edges.old edges.new) }
     ensures collected { IfOk result
-        (AreCollected site.now.cell.now path node (choice_nodes site.now.acts.now level choices.now last.now) edges.old edges.new) }
+        (AreCollected site.now.cell.now path node (choice_nodes (bound_on site.now) site.now.acts.now level choices.now last.now) edges.old edges.new) }
 {
     let mut next = node;
     for choice in choices {

@@ -1,15 +1,29 @@
 //! Paths of needs.
-ghost use Rattle.std.specs.Prelude.{◌≡◌, ℕ, [], ◌∷◌, IfOk};
-ghost use Rattle.batch_recipe.specs.Expanding.{asked_by};
+ghost use Rattle.std.specs.Prelude.{◌≡◌, ◌<◌, [], ◌∷◌, length, IfOk};
+ghost use Rattle.std.specs.Option.{ForSome};
+ghost use Rattle.batch_cell.specs.LookUps.{resources_of as cell_resources};
+ghost use Rattle.batch_recipe.specs.Conditions.{Name};
+ghost use Rattle.batch_recipe.specs.Expanding.{asked_by, unit_chosen, unit_with};
 ghost use Rattle.batch_recipe.specs.Needs.{resources_of};
-ghost use Rattle.batch_check.specs.Collecting.{HasAsked, IsReady};
+ghost use Rattle.batch_check.specs.Collecting.{HasAsked, IsReady, bound_on};
+ghost use Rattle.batch_check.specs.Edges.{number_of};
 
 use crate::edge::Edge;
 use crate::edge_set::EdgeSet;
 use batch_cell::Cell;
-use batch_recipe::{Act, Need};
-use batch_text::Name;
+use batch_recipe::{Act, Acts, Need, Role, UnitChoice};
+use batch_verify::unit_taking;
 use std::alloc::AllocError;
+
+/// What a recipe's names are looked up in: the cell, the acts and roles of the recipe, and the number of the binding by which
+/// units take these.
+#[derive(Clone, Copy)]
+pub(crate) struct Site<'a> {
+    pub(crate) cell: &'a Cell,
+    pub(crate) acts: &'a Acts,
+    pub(crate) roles: &'a [Role],
+    pub(crate) binding: u16,
+}
 
 /// A path down through the nodes of a recipe.
 #[derive(Clone, Copy)]
@@ -23,35 +37,53 @@ pub(crate) struct Path {
 /// The path after all needs of the act at the node. Adds the edges to them.
 pub(crate) fn ask_all(
     act: &Act,
-    cell: &Cell,
+    site: &Site,
     path: Path,
     node: u16,
     edges: &mut EdgeSet,
 ) -> Result<Path, AllocError>
-    requires { IsReady cell.now path edges.old }
-    ensures { IfOk result (HasAsked cell.now path node (resources_of (asked_by act.now.unit act.now.needs.items)) edges.old edges.new) }
+    requires { IsReady site.now.cell.now path edges.old }
+    ensures { IfOk result (HasAsked site.now.cell.now path node
+        (resources_of (asked_by (unit_with (bound_on site.now) act.now.unit) act.now.needs.items)) edges.old edges.new) }
 {
     match &act.unit {
-        None => ask_each(&act.needs, cell, path, node, edges),
-        Some(unit) => {
-            let on_unit = ask(unit, cell, path, node, edges)?;
-            ask_each(&act.needs, cell, on_unit, node, edges)
+        None => ask_each(&act.needs, site.cell, path, node, edges),
+        Some(choice) => {
+            let unit = unit_chosen(site, choice);
+            let on_unit = ask(unit, site.cell, path, node, edges)?;
+            ask_each(&act.needs, site.cell, on_unit, node, edges)
         }
     }
 }
 
-/// The path after one more resource that the act at the node needs. Adds the edge to it from the one before it.
+/// The number of the unit that is chosen.
+fn unit_chosen(site: &Site, choice: &UnitChoice) -> Option<u16>
+    ensures { result ≡ number_of site.now.cell.now (unit_chosen (bound_on site.now) choice.now) }
+{
+    match choice {
+        UnitChoice::Unit(unit) => site.cell.resource_of(unit),
+        UnitChoice::Role(role) => {
+            match unit_taking(site.cell, site.roles, site.binding, role) {
+                None => None,
+                Some(unit) => site.cell.resource_of(unit),
+            }
+        }
+    }
+}
+
+/// The path after one more need of the act at the node, the resource with this number. Adds the edge to it from the one before it.
 fn ask(
-    need: &Name,
+    number: Option<u16>,
     cell: &Cell,
     path: Path,
     node: u16,
     edges: &mut EdgeSet,
 ) -> Result<Path, AllocError>
-    requires { IsReady cell.now path edges.old }
-    ensures { IfOk result (HasAsked cell.now path node (need.now ∷ []) edges.old edges.new) }
+    requires ready { IsReady cell.now path edges.old }
+    requires known { ForSome number (λ resource. resource < length (cell_resources cell.now)) }
+    ensures { IfOk result (λ next. (need : Name) → number_of cell.now need ≡ number
+        → HasAsked cell.now path node (need ∷ []) edges.old edges.new next) }
 {
-    let number = cell.resource_of(need);
     let next = Path {
         recipe: path.recipe,
         last: number,
@@ -83,7 +115,7 @@ fn ask_each(
 {
     let mut at = path;
     for need in needs {
-        at = ask(&need.resource, cell, at, node, edges)?;
+        at = ask(cell.resource_of(&need.resource), cell, at, node, edges)?;
     }
     Ok(at)
 }

@@ -5,13 +5,13 @@ ghost use Rattle.batch_explain.specs.Explaining.{refusal_codes};
 use crate::explanation::Explanation;
 
 /// The explanations of all codes of refusals, in order of letter and number.
-pub fn explanations() -> [Explanation; 43]
+pub fn explanations() -> [Explanation; 44]
     ensures { map (λ explanation. explanation.code.now) result ≡ refusal_codes }
 {
     EXPLANATIONS
 }
 
-const EXPLANATIONS: [Explanation; 43] = [
+const EXPLANATIONS: [Explanation; 44] = [
     Explanation {
         code: "C1",
         meaning: "the recipes can bring batches into a circle of waiting",
@@ -24,7 +24,7 @@ const EXPLANATIONS: [Explanation; 43] = [
     },
     Explanation {
         code: "D2",
-        meaning: "a key that the table needs is missing, or there is no procedure",
+        meaning: "a key that the table needs is missing, a unit procedure has neither unit nor role, or there is no procedure",
         remedy: "add the key; docs/FORMATS.md lists the keys of each table",
     },
     Explanation {
@@ -34,12 +34,12 @@ const EXPLANATIONS: [Explanation; 43] = [
     },
     Explanation {
         code: "D4",
-        meaning: "the table has a key that tables of its kind don't have",
+        meaning: "the table has a key that tables of its kind don't have, or a unit procedure has a unit and a role",
         remedy: "take the key away, or write it as docs/FORMATS.md does",
     },
     Explanation {
         code: "D5",
-        meaning: "a label, a unit or a value is named that the document doesn't declare",
+        meaning: "a label, a unit, a role or a value is named that the document doesn't declare",
         remedy: "declare it, or name what is declared; capitals count",
     },
     Explanation {
@@ -118,6 +118,11 @@ const EXPLANATIONS: [Explanation; 43] = [
         remedy: "remove idle batches, or give the program more memory",
     },
     Explanation {
+        code: "E12",
+        meaning: "a role isn't bound or is bound twice, a name that is bound is no role, or a unit isn't of its role's class",
+        remedy: "bind each role of the recipe once, as ROLE=UNIT, to a unit of its class",
+    },
+    Explanation {
         code: "F1",
         meaning: "the size is out of range",
         remedy: "create the batch in a size of 1 to 1,000,000,000",
@@ -159,8 +164,8 @@ const EXPLANATIONS: [Explanation; 43] = [
     },
     Explanation {
         code: "V3",
-        meaning: "a line of the certificate names no resource; or a need is no resource of the cell, or a unit procedure's unit is no unit",
-        remedy: "name what the cell document declares; capitals count",
+        meaning: "a line of the certificate names no resource; or a need is no resource of the cell, a unit procedure's unit is no unit, or its role has a class that no unit is of",
+        remedy: "name what the cell document declares, capitals count; or give a unit the class",
     },
     Explanation {
         code: "V4",
@@ -169,7 +174,7 @@ const EXPLANATIONS: [Explanation; 43] = [
     },
     Explanation {
         code: "V5",
-        meaning: "the unit doesn't offer the phase",
+        meaning: "the unit, or one that may take the role, doesn't offer the phase",
         remedy: "let a module of the unit offer the phase, or name one that it offers",
     },
     Explanation {

@@ -5,13 +5,14 @@ use batch_text::is_name;
 use toml::{Table, Value};
 
 /// The words of the tables whose names a document declares.
-const DECLARING: [&str; 8] = [
+const DECLARING: [&str; 9] = [
     "unit",
     "module",
     "shared",
     "input",
     "parameter",
     "output",
+    "role",
     "unit_procedure",
     "operation",
 ];
@@ -35,6 +36,16 @@ fn times_among(document: &Table, word: &str, name: &str) -> usize {
             .filter(|table| table.get("name").and_then(Value::as_str) == Some(name))
             .count(),
         None => 0,
+    }
+}
+
+/// The role that the table names, where the document doesn't declare it.
+pub(crate) fn undeclared_role<'a>(document: &Table, table: &'a Table) -> Option<&'a str> {
+    let role = table.get("role")?.as_str()?;
+    if times_among(document, "role", role) > 0 {
+        None
+    } else {
+        Some(role)
     }
 }
 

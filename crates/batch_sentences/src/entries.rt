@@ -1,5 +1,5 @@
 //! What is wrong with a table of a document.
-use crate::declared::{times_declared, undeclared_word};
+use crate::declared::{times_declared, undeclared_role, undeclared_word};
 use crate::fits::{Fit, shape_said, suit};
 use crate::keys::{Key, keys_of, word_of};
 use batch_grammar::is_chart_word;
@@ -63,9 +63,9 @@ pub(crate) fn wrong_at<'a>(
         );
     };
     match fault {
-        EntryFault::MissingKey => missing(alloc, keys, table),
+        EntryFault::MissingKey => missing(alloc, keys, table, spot.kind),
         EntryFault::WrongKind => wrong_kind(alloc, keys, table),
-        EntryFault::UnknownKey => unknown(alloc, keys, table),
+        EntryFault::UnknownKey => unknown(alloc, keys, table, spot.kind),
         EntryFault::Undeclared => undeclared(alloc, document, table, spot.kind),
         EntryFault::Duplicate => duplicate(alloc, document, table),
         EntryFault::OutOfLimit => out_of_limit(alloc, keys, table),
@@ -73,15 +73,30 @@ pub(crate) fn wrong_at<'a>(
     }
 }
 
-fn missing(alloc: Global, keys: &[Key], table: &Table) -> Result<Wrong<'static>, AllocError> {
+fn missing(
+    alloc: Global,
+    keys: &[Key],
+    table: &Table,
+    kind: TableKind,
+) -> Result<Wrong<'static>, AllocError> {
     match keys.iter().find(|key| key.1 && !table.contains_key(key.0)) {
         Some(key) => Wrong::with("", format!(in alloc; "the key `{}` is missing", key.0)),
-        // A module with a unit needs its phases.
-        None => Wrong::told(alloc, "", "the key `phases` is missing"),
+        // A unit procedure needs one of these, and a module with a unit its phases.
+        None => match kind {
+            TableKind::UnitProcedure => {
+                Wrong::told(alloc, "", "one of the keys `unit` and `role` is missing")
+            }
+            _ => Wrong::told(alloc, "", "the key `phases` is missing"),
+        },
     }
 }
 
-fn unknown<'a>(alloc: Global, keys: &[Key], table: &'a Table) -> Result<Wrong<'a>, AllocError> {
+fn unknown<'a>(
+    alloc: Global,
+    keys: &[Key],
+    table: &'a Table,
+    kind: TableKind,
+) -> Result<Wrong<'a>, AllocError> {
     let known = names_said(alloc, keys)?;
     let name = table
         .keys()
@@ -91,8 +106,15 @@ fn unknown<'a>(alloc: Global, keys: &[Key], table: &'a Table) -> Result<Wrong<'a
             name.as_str(),
             format!(in alloc; "the key `{name}` is unknown here; known are {known}"),
         ),
-        // The keys of a module don't stand alone.
-        None => Wrong::told(alloc, "phases", "a module without `unit` has no `phases`"),
+        // Some keys of these two kinds suit one another badly.
+        None => match kind {
+            TableKind::UnitProcedure => Wrong::told(
+                alloc,
+                "role",
+                "`unit` and `role` don't stand together",
+            ),
+            _ => Wrong::told(alloc, "phases", "a module without `unit` has no `phases`"),
+        },
     }
 }
 
@@ -159,8 +181,11 @@ fn undeclared(
         TableKind::Phase => "values",
         _ => "chart",
     };
-    match undeclared_word(document, table, kind) {
-        Some(word) => Wrong::with(key, format!(in alloc; "`{word}` is declared nowhere")),
+    if let Some(word) = undeclared_word(document, table, kind) {
+        return Wrong::with(key, format!(in alloc; "`{word}` is declared nowhere"));
+    }
+    match undeclared_role(document, table) {
+        Some(role) => Wrong::with("role", format!(in alloc; "no [[role]] is named `{role}`")),
         None => Wrong::told(alloc, key, "a label or a name is declared nowhere"),
     }
 }

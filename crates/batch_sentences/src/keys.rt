@@ -37,6 +37,8 @@ const CELL: [Key; 4] = [
     Key("shared", false, Shape::Tables),
 ];
 
+const UNIT: [Key; 2] = [NAME, Key("class", false, Shape::Name)];
+
 const MODULE: [Key; 3] = [
     NAME,
     Key("unit", false, Shape::Name),
@@ -45,7 +47,7 @@ const MODULE: [Key; 3] = [
 
 const SHARED: [Key; 2] = [NAME, Key("capacity", true, Shape::Number(1, 1_000))];
 
-const RECIPE: [Key; 13] = [
+const RECIPE: [Key; 14] = [
     Key("recipe", true, Shape::Name),
     Key("version", true, Shape::Text(64)),
     Key("basis", true, Shape::Number(1, 1_000_000_000)),
@@ -56,6 +58,7 @@ const RECIPE: [Key; 13] = [
     Key("input", false, Shape::Tables),
     Key("parameter", false, Shape::Tables),
     Key("output", false, Shape::Tables),
+    Key("role", false, Shape::Tables),
     Key("unit_procedure", false, Shape::Tables),
     Key("operation", false, Shape::Tables),
     Key("phase", false, Shape::Tables),
@@ -71,9 +74,17 @@ const QUANTITY: [Key; 5] = [
 
 const ONLY_NAME: [Key; 1] = [NAME];
 
+const ROLE: [Key; 2] = [NAME, Key("class", true, Shape::Name)];
+
 const PROCEDURE: [Key; 2] = [CHART, NEEDS];
 
-const UNIT_PROCEDURE: [Key; 4] = [NAME, Key("unit", true, Shape::Name), CHART, NEEDS];
+const UNIT_PROCEDURE: [Key; 5] = [
+    NAME,
+    Key("unit", false, Shape::Name),
+    Key("role", false, Shape::Name),
+    CHART,
+    NEEDS,
+];
 
 const OPERATION: [Key; 3] = [NAME, CHART, NEEDS];
 
@@ -88,11 +99,13 @@ const PHASE: [Key; 4] = [
 pub(crate) fn keys_of(kind: TableKind) -> &'static [Key] {
     match kind {
         TableKind::Cell => &CELL,
-        TableKind::Unit | TableKind::Output => &ONLY_NAME,
+        TableKind::Unit => &UNIT,
+        TableKind::Output => &ONLY_NAME,
         TableKind::Module => &MODULE,
         TableKind::Shared => &SHARED,
         TableKind::Recipe => &RECIPE,
         TableKind::Input | TableKind::Parameter => &QUANTITY,
+        TableKind::Role => &ROLE,
         TableKind::Procedure => &PROCEDURE,
         TableKind::UnitProcedure => &UNIT_PROCEDURE,
         TableKind::Operation => &OPERATION,
@@ -110,6 +123,7 @@ pub(crate) fn word_of(kind: TableKind) -> Option<&'static str> {
         TableKind::Input => Some("input"),
         TableKind::Parameter => Some("parameter"),
         TableKind::Output => Some("output"),
+        TableKind::Role => Some("role"),
         TableKind::Procedure => Some("procedure"),
         TableKind::UnitProcedure => Some("unit_procedure"),
         TableKind::Operation => Some("operation"),

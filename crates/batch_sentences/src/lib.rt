@@ -10,6 +10,8 @@ mod keys;
 mod lines;
 mod names;
 mod nodes;
+mod ranks;
+mod roles;
 mod sentence;
 mod sets;
 mod showing;

@@ -1,6 +1,8 @@
 //! What is wrong at a node of a recipe.
+use crate::ranks::rank_said;
+use crate::roles::{class_of, unit_without};
 use batch_cell::Cell;
-use batch_recipe::{Act, MAX_NODES, Need, Recipe, Work, act_at, node_at, place_at};
+use batch_recipe::{Act, MAX_NODES, Recipe, UnitChoice, Work, act_at, node_at, place_at};
 use batch_text::{Name, Place};
 use batch_verify::{Broken, Certificate, Rule};
 use std::alloc::{AllocError, Global};
@@ -25,7 +27,15 @@ pub(crate) fn broken_said(
     let place = way.place.as_str();
     match way.acts.last() {
         Some(act) => {
-            let said = rule_said(alloc, cell, certificate, broken.rule, &way.acts, act);
+            let said = rule_said(
+                alloc,
+                cell,
+                recipe,
+                certificate,
+                broken.rule,
+                &way.acts,
+                act,
+            );
             node_said(alloc, name, &act.name, place, said)
         }
         None => format!(in alloc; "{name} breaks a rule at {place}"),
@@ -48,20 +58,21 @@ fn node_said(
 fn rule_said(
     alloc: Global,
     cell: &Cell,
+    recipe: &Recipe,
     certificate: Option<&Certificate>,
     rule: Rule,
     acts: &[&Act],
     act: &Act,
 ) -> Result<String, AllocError> {
     match rule {
-        Rule::UnknownResource => unknown_said(alloc, cell, act),
+        Rule::UnknownResource => unknown_said(alloc, cell, recipe, act),
         Rule::ShareAboveCapacity => share_said(alloc, cell, act),
-        Rule::PhaseNotOffered => phase_said(alloc, acts, act),
+        Rule::PhaseNotOffered => phase_said(alloc, cell, recipe, acts, act),
         Rule::SamePhaseInParallel => {
             String::from_str(alloc, "two branches of this `par` run the same phase")
         }
         Rule::LoopWithoutPhase => String::from_str(alloc, "a turn of this `loop` may run no phase"),
-        Rule::RankNotRising => rank_said(alloc, certificate, acts, act),
+        Rule::RankNotRising => rank_said(alloc, cell, recipe, certificate, acts),
     }
 }
 
@@ -95,12 +106,35 @@ fn act_of<'a>(alloc: Global, recipe: &'a Recipe, place: &str) -> Option<&'a Act>
     }
 }
 
-fn unknown_said(alloc: Global, cell: &Cell, act: &Act) -> Result<String, AllocError> {
-    if let Some(unit) = &act.unit {
-        if cell.unit_of(unit).is_none() {
-            return format!(in alloc; "{unit} is no unit of the cell {}", cell.name);
+fn unknown_said(
+    alloc: Global,
+    cell: &Cell,
+    recipe: &Recipe,
+    act: &Act,
+) -> Result<String, AllocError> {
+    match &act.unit {
+        Some(UnitChoice::Unit(unit)) => {
+            if cell.unit_of(unit).is_none() {
+                return format!(in alloc; "{unit} is no unit of the cell {}", cell.name);
+            }
         }
+        Some(UnitChoice::Role(role)) => {
+            if let Some(class) = class_of(recipe, role) {
+                if cell.candidates(class) == 0 {
+                    return format!(in alloc;
+                        "its role {role} needs a unit of class {class}, and the cell {} has none",
+                        cell.name
+                    );
+                }
+            }
+        }
+        None => {}
     }
+    need_said(alloc, cell, act)
+}
+
+/// The first need of the act that is no resource.
+fn need_said(alloc: Global, cell: &Cell, act: &Act) -> Result<String, AllocError> {
     let need = act
         .needs
         .iter()
@@ -131,95 +165,26 @@ fn share_said(alloc: Global, cell: &Cell, act: &Act) -> Result<String, AllocErro
     String::from_str(alloc, "it asks for more units than a resource has")
 }
 
-fn phase_said(alloc: Global, acts: &[&Act], act: &Act) -> Result<String, AllocError> {
-    let phase = match &act.work {
-        Work::Runs { phase, .. } => phase.text(),
-        Work::Follows(_) => "",
-    };
-    let unit = acts.iter().find_map(|above| above.unit.as_ref());
-    match unit {
-        Some(unit) => format!(in alloc; "the unit {unit} doesn't offer the phase {phase}"),
-        None => format!(in alloc; "its unit doesn't offer the phase {phase}"),
-    }
-}
-
-/// What is asked for with a rank.
-#[derive(Clone, Copy)]
-struct Asked<'a> {
-    name: &'a Name,
-    rank: u32,
-}
-
-/// The ranks of what acts ask for, one behind the other.
-#[derive(Drop)]
-enum Ranks<'a> {
-    /// They rise, up to this one.
-    Rise(Option<Asked<'a>>),
-    /// The second of these is the first that isn't above the one before it.
-    Fall(Asked<'a>, Asked<'a>),
-}
-
-impl<'a> Ranks<'a> {
-    /// The ranks with that of one more name.
-    fn then(self, certificate: Option<&Certificate>, name: &'a Name) -> Ranks<'a> {
-        let later = Asked {
-            name,
-            rank: rank_of(certificate, name),
-        };
-        match self {
-            Ranks::Rise(Some(earlier)) if later.rank <= earlier.rank => Ranks::Fall(earlier, later),
-            Ranks::Rise(_) => Ranks::Rise(Some(later)),
-            Ranks::Fall(earlier, fallen) => Ranks::Fall(earlier, fallen),
-        }
-    }
-
-    /// The ranks with those of what the act asks for, in order.
-    fn then_those_of(self, certificate: Option<&Certificate>, act: &'a Act) -> Ranks<'a> {
-        let mut ranks = match &act.unit {
-            Some(unit) => self.then(certificate, unit),
-            None => self,
-        };
-        for need in &act.needs {
-            ranks = ranks.then(certificate, &need.resource);
-        }
-        ranks
-    }
-}
-
-/// Names the first of the act's needs whose rank isn't above that of what was asked for before it.
-fn rank_said(
+fn phase_said(
     alloc: Global,
-    certificate: Option<&Certificate>,
+    cell: &Cell,
+    recipe: &Recipe,
     acts: &[&Act],
     act: &Act,
 ) -> Result<String, AllocError> {
-    let mut ranks = Ranks::Rise(None);
-    for above in acts {
-        ranks = ranks.then_those_of(certificate, above);
-    }
-    match ranks {
-        Ranks::Fall(earlier, later) => fall_said(alloc, earlier, later),
-        Ranks::Rise(_) => format!(in alloc;
-            "{} asks for resources whose ranks don't rise",
-            act.name
-        ),
-    }
-}
-
-fn fall_said(alloc: Global, earlier: Asked<'_>, later: Asked<'_>) -> Result<String, AllocError> {
-    format!(in alloc;
-        "it asks for {} of rank {} after {} of rank {}, and ranks have to rise",
-        later.name, later.rank, earlier.name, earlier.rank
-    )
-}
-
-fn rank_of(certificate: Option<&Certificate>, name: &Name) -> u32 {
-    let Some(certificate) = certificate else {
-        return 0;
+    let Work::Runs { phase, .. } = &act.work else {
+        return String::from_str(alloc, "its unit doesn't offer its phase");
     };
-    let entry = certificate.ranks.iter().find(|entry| entry.0 == *name);
-    match entry {
-        Some(entry) => entry.1,
-        None => 0,
+    match acts.iter().find_map(|above| above.unit.as_ref()) {
+        Some(UnitChoice::Unit(unit)) => {
+            format!(in alloc; "the unit {unit} doesn't offer the phase {phase}")
+        }
+        Some(UnitChoice::Role(role)) => {
+            let unit = unit_without(cell, recipe, role, phase);
+            format!(in alloc;
+                "the unit {unit}, which may take the role {role}, doesn't offer the phase {phase}"
+            )
+        }
+        None => format!(in alloc; "its unit doesn't offer the phase {phase}"),
     }
 }

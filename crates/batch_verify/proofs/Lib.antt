@@ -15,3 +15,11 @@ pub mod Sizes
 pub mod Levels
 pub mod Verdicts
 pub mod Walks
+pub mod Covering
+pub mod Least
+pub mod Served
+pub mod Tried
+pub mod Bound
+pub mod Serving
+pub mod Unbound
+pub mod Taking

@@ -1,5 +1,8 @@
+pub mod Bindings
 pub mod CertificateText
 pub mod ClearedSet
+pub mod Comparing
+pub mod Covering
 pub mod Judging
 pub mod Ranked
 pub mod Refusals

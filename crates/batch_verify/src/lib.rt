@@ -2,8 +2,10 @@
 #![tactic(auto)]
 
 mod apart;
+mod bindings;
 mod certificate;
 mod cleared;
+mod comparing;
 mod judgement;
 mod laws;
 mod lines;
@@ -19,10 +21,11 @@ mod running;
 mod site;
 mod walk;
 
+pub use bindings::{binding_count, unit_taking};
 pub use certificate::{CertFault, Certificate, MAX_LINES, MAX_RANK};
 pub use cleared::Cleared;
 pub use judgement::verify;
-pub use laws::{a_text_says_one_ranking, certificate_limits_are_fixed};
+pub use laws::{a_text_says_one_ranking, certificate_limits_are_fixed, numbered_bindings_suffice};
 pub use reading::read_certificate;
 pub use recipes::is_recipe_set;
 pub use refusal::Refusal;

@@ -44,6 +44,30 @@ name = \"STEAM\"
 capacity = 1
 ";
 
+/// The demo cell, whose two units are of one class.
+pub(crate) const CELL3: &str = "cell = \"DEMO\"
+[[unit]]
+name = \"R1\"
+class = \"RX\"
+[[unit]]
+name = \"R2\"
+class = \"RX\"
+[[module]]
+name = \"M1\"
+unit = \"R1\"
+phases = [\"ADD\", \"HEAT\", \"DRAIN\"]
+[[module]]
+name = \"M2\"
+unit = \"R2\"
+phases = [\"ADD\", \"HEAT\", \"DRAIN\"]
+[[shared]]
+name = \"HDR\"
+capacity = 1
+[[shared]]
+name = \"STEAM\"
+capacity = 2
+";
+
 /// One phase on R1.
 pub(crate) const A: &str = "recipe = \"A\"
 version = \"1\"
@@ -53,6 +77,47 @@ chart = \"MAKE\"
 [[unit_procedure]]
 name = \"MAKE\"
 unit = \"R1\"
+chart = \"CHARGE\"
+[[operation]]
+name = \"CHARGE\"
+chart = \"ADD\"
+[[phase]]
+name = \"ADD\"
+";
+
+/// One phase on the unit that takes a role.
+pub(crate) const B: &str = "recipe = \"B\"
+version = \"1\"
+basis = 1000
+[[role]]
+name = \"rx\"
+class = \"RX\"
+[procedure]
+chart = \"MAKE\"
+[[unit_procedure]]
+name = \"MAKE\"
+role = \"rx\"
+chart = \"CHARGE\"
+[[operation]]
+name = \"CHARGE\"
+chart = \"ADD\"
+[[phase]]
+name = \"ADD\"
+";
+
+/// The same, and R2 is held before.
+pub(crate) const C: &str = "recipe = \"C\"
+version = \"1\"
+basis = 1000
+[[role]]
+name = \"rx\"
+class = \"RX\"
+[procedure]
+needs = [\"R2\"]
+chart = \"MAKE\"
+[[unit_procedure]]
+name = \"MAKE\"
+role = \"rx\"
 chart = \"CHARGE\"
 [[operation]]
 name = \"CHARGE\"

@@ -16,6 +16,8 @@ mod least_ranks;
 #[cfg(test)]
 mod reading;
 #[cfg(test)]
+mod roles;
+#[cfg(test)]
 mod rows;
 #[cfg(test)]
 mod running;

@@ -96,7 +96,7 @@ fn help_is_output(rt: HostRuntime) -> Result<(), Fail> {
 #[test]
 fn faults_are_errors(rt: HostRuntime) -> Result<(), Fail> {
     let rows: [(&[&str], &str, &str); 7] = [
-        (&["explain", "E12"], "Some(2) |", "no such code"),
+        (&["explain", "E13"], "Some(2) |", "no such code"),
         (&["check", "cell", "nowhere", "bad"], "Some(3) |", "nowhere"),
         (&["check"], "Some(2) |", "<CELL>"),
         (&["run"], "Some(2) |", "<CERT>"),
@@ -119,7 +119,8 @@ fn faults_are_errors(rt: HostRuntime) -> Result<(), Fail> {
 
 #[test]
 fn codes_are_explained(rt: HostRuntime) -> Result<(), Fail> {
-    let want = "Some(0) D4: the table has a key that tables of its kind don't have.\n\
+    let want =
+        "Some(0) D4: the table has a key that tables of its kind don't have, or a unit procedure has a unit and a role.\n\
         To do: take the key away, or write it as docs/FORMATS.md does.\n|";
     assert_eq!(rt; told(rt.alloc(), &["explain", "D4"])?.as_str(), want);
     Ok(())

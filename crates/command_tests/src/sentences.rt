@@ -1,6 +1,7 @@
 //! What refusals mean, in words.
-use crate::documents::{A, CELL1};
-use batch_commands::{Halt, Verdict, check_recipes, judge_cell, judge_recipe};
+use crate::documents::{A, B, C, CELL1, CELL3};
+use crate::reading::{cell_of, certificate_of, recipes_of};
+use batch_commands::{Halt, Verdict, check_recipes, clear_recipes, judge_cell, judge_recipe};
 use batch_reader::{read_cell, read_recipe};
 use batch_sentences::Sentence;
 use std::alloc::Global;
@@ -111,5 +112,87 @@ fn of_sets(rt: HostRuntime) -> Result<(), Fail> {
         told(alloc, &verdict)?.as_str(),
         "refused V5 A 0.0.0.0|A, ADD at 0.0.0.0: the unit R1 doesn't offer the phase MIX"
     );
+    Ok(())
+}
+
+/// What both commands say of recipe B, changed at its end, for the cell.
+fn said_of_b(alloc: Global, cell: &str, end: &str) -> Result<String, Fail> {
+    let text = format!(in alloc; "{B}{end}")?;
+    let recipes = recipes_of(alloc, &[text.as_str()])?;
+    let verdict = check_recipes(alloc, &cell_of(alloc, cell)?, &recipes)?;
+    told(alloc, &verdict)
+}
+
+#[test]
+fn of_roles(rt: HostRuntime) -> Result<(), Fail> {
+    for (cell, end, want) in [
+        (
+            CELL1,
+            "",
+            "refused V3 B 0.0|B, MAKE at 0.0: its role rx needs a unit of class RX, and the cell DEMO has none",
+        ),
+        (
+            CELL3,
+            "runs = \"MIX\"\n",
+            "refused V5 B 0.0.0.0|B, ADD at 0.0.0.0: the unit R1, which may take the role rx, doesn't offer the phase MIX",
+        ),
+    ] {
+        assert_eq!(rt; said_of_b(rt.alloc(), cell, end)?.as_str(), want);
+    }
+    Ok(())
+}
+
+/// What `verify` says of recipe C, which holds R2 before, by these ranks.
+fn said_of_c(alloc: Global, ranks: &str) -> Result<String, Fail> {
+    let certificate = certificate_of(alloc, ranks)?;
+    let recipes = recipes_of(alloc, &[C])?;
+    match clear_recipes(alloc, cell_of(alloc, CELL3)?, recipes, &certificate) {
+        Err(Halt::Refused(verdict)) => told(alloc, &verdict),
+        _ => Err("not refused")?,
+    }
+}
+
+#[test]
+fn of_ranks_of_a_role(rt: HostRuntime) -> Result<(), Fail> {
+    let said = said_of_c(
+        rt.alloc(),
+        "rank HDR 1\nrank R1 2\nrank R2 1\nrank STEAM 1\n",
+    )?;
+    assert_eq!(rt;
+        said.as_str(),
+        "refused V4 C 0.0|C, MAKE at 0.0: where R2 takes the role rx, it asks for R2 of rank 1 after R2 of rank 1, and ranks have to rise"
+    );
+    Ok(())
+}
+
+/// What is said of a recipe whose unit procedure has these keys besides.
+fn said_of_keys(alloc: Global, keys: &str) -> Result<String, Fail> {
+    let front =
+        "recipe = 'B'\nversion = '1'\nbasis = 1000\n[[role]]\nname = 'rx'\nclass = 'RX'\n[procedure]\nchart = 'MAKE'\n";
+    let back = "[[operation]]\nname = 'CHARGE'\nchart = 'ADD'\n[[phase]]\nname = 'ADD'\n";
+    let text = format!(in alloc;
+        "{front}[[unit_procedure]]\nname = 'MAKE'\nchart = 'CHARGE'\n{keys}{back}"
+    )?;
+    recipe_said(alloc, text.as_str())
+}
+
+#[test]
+fn of_keys_of_roles(rt: HostRuntime) -> Result<(), Fail> {
+    for (keys, want) in [
+        (
+            "",
+            "refused D2 r unit_procedure 0|r: line 9, [[unit_procedure]] number 1: one of the keys `unit` and `role` is missing",
+        ),
+        (
+            "unit = 'R1'\nrole = 'rx'\n",
+            "refused D4 r unit_procedure 0|r: line 13, [[unit_procedure]] number 1: `unit` and `role` don't stand together",
+        ),
+        (
+            "role = 'ry'\n",
+            "refused D5 r unit_procedure 0|r: line 12, [[unit_procedure]] number 1: no [[role]] is named `ry`",
+        ),
+    ] {
+        assert_eq!(rt; said_of_keys(rt.alloc(), keys)?.as_str(), want);
+    }
     Ok(())
 }

@@ -6,7 +6,7 @@ use Rattle.batch_check.specs.ByName.{IsCertificateOf}
 use Rattle.batch_check.specs.Clearing.{IsLeastClearance}
 use Rattle.batch_check.specs.TightRanks.{RanksTightly}
 use Rattle.batch_check.proofs.Told.{TellsRanks-certificate}
-use Rattle.batch_check.proofs.Verdicts.{recipe_fault_none, circle_fault_none, least_clearance, needs_known}
+use Rattle.batch_check.proofs.Verdicts.{recipe_fault_none, circle_fault_none, least_clearance, candidates_known, few_recipes, needs_known}
 use Rattle.batch_check.proofs.checking.check.Goals as goal
 
 pub returns-in_err-check_each-clause-none : goal.returns-in_err-check_each-clause-none
@@ -36,7 +36,7 @@ returns-clause-least c =
     let entries = c.in_ok-ranks-2.ranks.items in
     let h : IsCertificateOf cell ranks entries = rw c.deref.ensures.value at c.in_ok-ranks-2.ensures in
     subst (λ (rank : Ranking). IsLeastClearance cell c.args.recipes.now rank) (sym (TellsRanks-certificate cell ranks entries c.in_ok-ranks.ensures.least.complete h).by_name)
-    (least_clearance cell c.args.recipes.now ranks (c.is_recipe_set.ensures.0 c.if-not-is_recipe_set.false) c.in_ok-check_each.ensures.sound c.in_ok-ranks.ensures.least)
+    (least_clearance cell c.args.recipes.now ranks ((c.is_recipe_set.ensures c.args.cell.now).0 c.if-not-is_recipe_set.false) c.in_ok-check_each.ensures.sound c.in_ok-ranks.ensures.least)
 
 pub returns-clause-cleared : goal.returns-clause-cleared
 returns-clause-cleared c =
@@ -45,7 +45,7 @@ returns-clause-cleared c =
     let entries = c.in_ok-ranks-2.ranks.items in
     let h : IsCertificateOf cell ranks entries = rw c.deref.ensures.value at c.in_ok-ranks-2.ensures in
     subst (λ (rank : Ranking). IsCleared (setup_of cell c.args.recipes.now) rank) (sym (TellsRanks-certificate cell ranks entries c.in_ok-ranks.ensures.least.complete h).by_name)
-    (least_clearance cell c.args.recipes.now ranks (c.is_recipe_set.ensures.0 c.if-not-is_recipe_set.false) c.in_ok-check_each.ensures.sound c.in_ok-ranks.ensures.least).clearing
+    (least_clearance cell c.args.recipes.now ranks ((c.is_recipe_set.ensures c.args.cell.now).0 c.if-not-is_recipe_set.false) c.in_ok-check_each.ensures.sound c.in_ok-ranks.ensures.least).clearing
 
 pub returns-clause-tight : goal.returns-clause-tight
 returns-clause-tight c =
@@ -54,4 +54,7 @@ returns-clause-tight c =
     let entries = c.in_ok-ranks-2.ranks.items in
     let h : IsCertificateOf cell ranks entries = rw c.deref.ensures.value at c.in_ok-ranks-2.ensures in
     subst (λ (rank : Ranking). RanksTightly cell c.args.recipes.now rank) (sym (TellsRanks-certificate cell ranks entries c.in_ok-ranks.ensures.least.complete h).by_name)
-    (c.in_ok-ranks.ensures.least.tight (needs_known cell c.args.recipes.now c.args.recipes.now c.in_ok-check_each.ensures.sound))
+    (c.in_ok-ranks.ensures.least.tight (candidates_known cell c.args.recipes.now c.args.recipes.now c.in_ok-check_each.ensures.sound) (needs_known cell c.args.recipes.now c.args.recipes.now c.in_ok-check_each.ensures.sound))
+
+pub check_each-requires : goal.check_each-requires
+check_each-requires c = few_recipes c.args.cell.now c.args.recipes.now ((c.is_recipe_set.ensures c.args.cell.now).0 c.if-not-is_recipe_set.false)

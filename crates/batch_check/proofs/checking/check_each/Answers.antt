@@ -1,5 +1,4 @@
-use Rattle.batch_model.specs.Setups.{setup_of}
-use Rattle.batch_model.specs.Recipes.{recipe_of}
+use Rattle.batch_model.specs.Setups.{master_of, setup_of}
 use Rattle.batch_check.proofs.Verdicts.{recipe_at, sound_more}
 use Rattle.batch_check.proofs.checking.check_each.Goals as goal
 
@@ -8,8 +7,8 @@ returns-in-Some-clause-fault c =
     let recipes = c.args.recipes.now in
     let recipe = c.index-recipes-number.result in
     record {
-      recipe = recipe_of recipe;
-      found = recipe_at recipes c.loop-number.number recipe c.loop-number-test.true c.index-recipes-number.is;
+      recipe = master_of c.args.cell.now recipe;
+      found = recipe_at c.args.cell.now recipes c.loop-number.number recipe c.loop-number-test.true c.index-recipes-number.is;
       before = c.loop-number.invariant;
       first = rw c.in-Some.is at (c.in_ok-first_broken.ensures recipes);
     }

@@ -13,7 +13,7 @@ returns-in-Ranks-clause-least c =
     record {
       complete = least.complete;
       rising = λ known. least_ranks_rise c.args.cell.now c.args.recipes.now edges c.in-Ranks.ranks.items known c.in_ok-edges.ensures.edges least;
-      tight = λ known. least_ranks_tight c.args.cell.now c.args.recipes.now edges c.in-Ranks.ranks.items known c.in_ok-edges.ensures.edges least;
+      tight = λ candidates known. least_ranks_tight c.args.cell.now c.args.recipes.now edges c.in-Ranks.ranks.items candidates known c.in_ok-edges.ensures.edges least;
     }
 
 pub turned-requires-clause-within : goal.turned-requires-clause-within

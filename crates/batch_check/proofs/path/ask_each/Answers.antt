@@ -18,4 +18,4 @@ loop-need-preserved c =
     ap resources_of more ∙ map-append (λ (n : Need). n.resource) (take c.loop-need.need-index needs) (need ∷ []) in
     subst (λ (own : List Name). HasAsked cell c.args.path c.args.node own c.args.edges.now c.ask.new.edges c.in_ok-at.at) (sym names)
     (HasAsked-append cell c.args.path c.args.node (resources_of (take c.loop-need.need-index needs)) (need.resource ∷ []) c.args.edges.now c.loop-need.edges c.ask.new.edges c.loop-need.at c.in_ok-at.at
-    c.loop-need.invariant c.in_ok-at.ensures)
+    c.loop-need.invariant (c.in_ok-at.ensures need.resource (sym c.resource_of.ensures)))
