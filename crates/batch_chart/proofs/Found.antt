@@ -22,7 +22,8 @@ use Rattle.batch_chart.specs.declared.wanted.Wanted.TheVariants as wanted
 use Rattle.batch_chart.specs.Stages.{stage_at, is_finished, is_begun, is_over, is_phase_over, is_over_at, turns_of}
 use Rattle.batch_chart.specs.Meaning.{meaning, meaning_below, meaning_each, act_as, loop_as, branch, chosen}
 use Rattle.batch_chart.specs.Compiled.{end_at, kind_at, IsPhase}
-use Rattle.batch_chart.specs.Finding.{wants_ready, wants_asking, wants_freeing, wants_live, wants_open, wants, still_wants, live_wants, phase_wants, entries, entries_in, numbered, numbered_below, numbered_each, numbered_branch, numbered_chosen, first_of, IsFirst, IsFirstInBranch, IsFirstOfEach, IsFirstInChoice, IsOpenWanted}
+use Rattle.batch_chart.specs.Finding.{wants_ready, wants_asking, wants_freeing, wants_live, wants_open, wants, still_wants, live_wants, phase_wants, first_of, IsFirst, IsFirstInBranch, IsFirstOfEach, IsFirstInChoice, IsOpenWanted}
+use Rattle.batch_chart.specs.Numbered.{entries, entries_in, numbered, numbered_below, numbered_each, numbered_branch, numbered_chosen}
 use Rattle.batch_chart.proofs.Standing.{SkipAt, skip_at, skip-at, PhaseAt, phase_at, phase-at, ActAt, act_at, act-at, SeqAt, seq_at, seq-at, ParAt, par_at, par-at, SelAt, sel_at, sel-at, LoopAt, loop_at, loop-at, RowAt, row_at, row-at, row-end, LastAt, last_at, last-at, ChoiceAt, choice_at, choice-at}
 use Rattle.batch_chart.proofs.Choosing.{chosen-true, chosen-false}
 use Rattle.batch_chart.proofs.Advanced.{begun-open, not-true, none-true}
@@ -66,15 +67,15 @@ still-act w n s name c r below (Live x) e = refl
 still-act w n s name c r below (Freeing k) e = ap (first_of (wants w)) (freed-entries n s k below []) ∙ first-freed w n s k
 still-act w n s name c r below (Turning k) e = refl
 
-phase-act : (ds : List Detail) (i : ℕ) (w : Wanted) (n : ℕ) (s : Step) (p : Phase) (x : Stage) → IsPhase ds i p
+phase-act : (ds : List Detail) (i : ℕ) (w : Wanted) (n : ℕ) (s : Step) (p : Phase) (x : Stage) → IsPhase None ds i p
     → first_of (wants w) (entries n (act_as s (runs p) done x) []) ≡ then_some (phase_wants (slice_get ds i) w n (length s.needs) x) n
 phase-act ds i w n s p Finished h = refl
 phase-act ds i w n s p (Ready k) h = one-choice (wants_ready w n (length s.needs) k) n
 phase-act ds i w n s p (Asking k) h = one-choice (wants_asking w n (length s.needs) k) n
 phase-act ds i w n s p Open h = refl
 phase-act ds i w n s p (Live x) h =
-    one-choice (wants_live w n (length s.needs) p.unit p.name x) n
-    ∙ ap (λ d. then_some (live_wants d w n (length s.needs) x) n) (sym h)
+    one-choice (wants_live w n (length s.needs) p.name x) n
+    ∙ ap (λ d. then_some (live_wants d w n (length s.needs) x) n) (sym h.1)
 phase-act ds i w n s p (Freeing k) h = first-freed w n s k
 phase-act ds i w n s p (Turning k) h = refl
 

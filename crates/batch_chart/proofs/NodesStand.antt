@@ -3,6 +3,7 @@ use Rattle.std.proofs.Common.{◌≡◌, inl, inr, ◌<◌, ◌≤◌, ℕ, zero
 use Rattle.std.specs.Prelude.{⊤, slice_get, slice_index_or, Option}
 use Rattle.std.proofs.lemmas.Bool.{cases_lt}
 use Rattle.batch_recipe.specs.Conditions.{Name}
+use Rattle.batch_recipe.specs.Expanding.{Binding}
 use Rattle.batch_recipe.specs.Needs.{resources_of}
 use Rattle.batch_recipe.specs.Nodes as nodes
 use Rattle.batch_recipe.specs.Nodes.{node_count, count_of_each, count_of_choices, nodes_within, nodes_of_each, nodes_of_choices, child}
@@ -12,7 +13,7 @@ use Rattle.batch_chart.specs.declared.node.Node.{Node}
 use Rattle.batch_chart.specs.declared.node.Kind.{Kind}
 use Rattle.batch_chart.specs.declared.node.Kind.TheVariants as kind
 use Rattle.batch_chart.specs.declared.node.Detail.{Detail}
-use Rattle.batch_chart.specs.Compiled.{kind_at, Stands, StandsAct, AreStanding, AreChoices, names_in}
+use Rattle.batch_chart.specs.Compiled.{kind_at, StandsOn, StandsActOn, AreStandingOn, AreChoicesOn, Stands, AreStanding, AreChoices, names_in}
 use Rattle.batch_chart.specs.Needs.{needs_of, needs_to}
 use Rattle.batch_chart.specs.NodesOf.{nodes_of, node_at, step_of, needs_in, needs_of_each, needs_of_choices, phase_named}
 use Rattle.batch_chart.specs.Running.{IsLaid}
@@ -29,20 +30,17 @@ past-end [] k d h = refl
 past-end (x ∷ l) zero d h = absurd (omega arith)
 past-end (x ∷ l) (suc k) d h = past-end l k d (omega arith)
 
-module _ (ns : List Node) (ds : List Detail) where
-  no-node : (t : Tree) → IsLaid ns ds t → (k : ℕ) → length ns ≤ k → length (nodes_of t) ≤ k
-  no-node t laid k le = omega (arith, le, laid.count, counted_nodes (0 ∷ []) [] t)
-
+module _ (some : Option Binding) (ns : List Node) (ds : List Detail) where
   abbrev AllStand : ℕ → List nodes.Node → Type 0
   AllStand n [] = ⊤
-  AllStand n (m ∷ l) = Stands ns ds n m.here × AllStand (n + 1) l
+  AllStand n (m ∷ l) = StandsOn some ns ds n m.here × AllStand (n + 1) l
 
   append : (n : ℕ) (l r : List nodes.Node) → AllStand n l → AllStand (n + length l) r → AllStand n (l ++ r)
   append n [] r g h = (let e : n + 0 ≡ n = omega arith in subst (λ z. AllStand z r) e h)
   append n (m ∷ l) r g h = (let e : n + length (m ∷ l) ≡ n + 1 + length l = omega arith in (g.0, append (n + 1) l r g.1 (subst (λ z. AllStand z r) e h)))
 
   mutual
-    all-stand : (c : Tree) (n : ℕ) (q : Place) (above : List Name) → Stands ns ds n c → AllStand n (nodes.nodes q above c)
+    all-stand : (c : Tree) (n : ℕ) (q : Place) (above : List Name) → StandsOn some ns ds n c → AllStand n (nodes.nodes q above c)
     all-stand (act s w) n q above h = (h, below-stand s w n q (above ++ resources_of s.needs) h)
     all-stand skip n q above h = (h, tt)
     all-stand (seq ts) n q above h = (h, each-stand ts (n + 1) (n + node_count (seq ts)) q above 0 h.1)
@@ -50,31 +48,38 @@ module _ (ns : List Node) (ds : List Detail) where
     all-stand (sel ch) n q above h = (h, choices-stand ch h.0 (n + 1) (n + node_count (sel ch)) q above 0 h.2)
     all-stand (loop i p body) n q above h = (h, all-stand body (n + 1) (child q 0) above h.3)
 
-    below-stand : (s : Step) (w : Task) (n : ℕ) (q : Place) (above : List Name) → StandsAct ns ds n s w → AllStand (n + 1) (nodes_within q above w)
+    below-stand : (s : Step) (w : Task) (n : ℕ) (q : Place) (above : List Name) → StandsActOn some ns ds n s w → AllStand (n + 1) (nodes_within q above w)
     below-stand s (runs p) n q above h = tt
     below-stand s (follows name c) n q above h = all-stand c (n + 1) (child q 0) above h.1
 
-    each-stand : (ts : Trees) (n m : ℕ) (q : Place) (above : List Name) (i : ℕ) → AreStanding ns ds n m ts → AllStand n (nodes_of_each q above i ts)
+    each-stand : (ts : Trees) (n m : ℕ) (q : Place) (above : List Name) (i : ℕ) → AreStandingOn some ns ds n m ts → AllStand n (nodes_of_each q above i ts)
     each-stand no_trees n m q above i h = tt
     each-stand (tree c ts) n m q above i h =
         append n (nodes.nodes (child q i) above c) (nodes_of_each q above (i + 1) ts) (all-stand c n (child q i) above h.0)
         (subst (λ z. AllStand (n + z) (nodes_of_each q above (i + 1) ts)) (sym (counted_nodes (child q i) above c)) (each-stand ts (n + node_count c) m q above (i + 1) h.1))
 
-    choices-stand : (ch : Choices) (d n m : ℕ) (q : Place) (above : List Name) (i : ℕ) → AreChoices ns ds d n m ch → AllStand n (nodes_of_choices q above i ch)
+    choices-stand : (ch : Choices) (d n m : ℕ) (q : Place) (above : List Name) (i : ℕ) → AreChoicesOn some ns ds d n m ch → AllStand n (nodes_of_choices q above i ch)
     choices-stand (otherwise c) d n m q above i h = all-stand c n (child q i) above h.0
     choices-stand (choice p c ch) d n m q above i h =
         append n (nodes.nodes (child q i) above c) (nodes_of_choices q above (i + 1) ch) (all-stand c n (child q i) above h.1)
         (subst (λ z. AllStand (n + z) (nodes_of_choices q above (i + 1) ch)) (sym (counted_nodes (child q i) above c)) (choices-stand ch (d + 1) (n + node_count c) m q above (i + 1) h.2))
 
-  got : (l : List nodes.Node) (n k : ℕ) (m : nodes.Node) → AllStand n l → slice_get l k ≡ Some m → Stands ns ds (n + k) m.here
+  got : (l : List nodes.Node) (n k : ℕ) (m : nodes.Node) → AllStand n l → slice_get l k ≡ Some m → StandsOn some ns ds (n + k) m.here
   got [] n k m g e = absurd (cc)
-  got (x ∷ l) n zero m g e = (let same : x ≡ m = cc in let z : n ≡ n + 0 = omega arith in subst (λ i. Stands ns ds i m.here) z (subst (λ (y : nodes.Node). Stands ns ds n y.here) same g.0))
-  got (x ∷ l) n (suc k) m g e = (let z : n + 1 + k ≡ n + suc k = omega arith in subst (λ i. Stands ns ds i m.here) z (got l (n + 1) k m g.1 e))
+  got (x ∷ l) n zero m g e = (let same : x ≡ m = cc in let z : n ≡ n + 0 = omega arith in subst (λ i. StandsOn some ns ds i m.here) z (subst (λ (y : nodes.Node). StandsOn some ns ds n y.here) same g.0))
+  got (x ∷ l) n (suc k) m g e = (let z : n + 1 + k ≡ n + suc k = omega arith in subst (λ i. StandsOn some ns ds i m.here) z (got l (n + 1) k m g.1 e))
+
+  pub stands-at : (t : Tree) → IsLaid ns ds t → StandsOn some ns ds 0 t → (k : ℕ) → k < length ns → StandsOn some ns ds k (node_at t k).here
+  stands-at t laid h k lt =
+      let z : 0 + k ≡ k = omega arith in
+      subst (λ i. StandsOn some ns ds i (node_at t k).here) z (got (nodes_of t) 0 k (node_at t k) (all-stand t 0 (0 ∷ []) [] h) (node-got ns ds t laid k lt))
+
+module _ (ns : List Node) (ds : List Detail) where
+  no-node : (t : Tree) → IsLaid ns ds t → (k : ℕ) → length ns ≤ k → length (nodes_of t) ≤ k
+  no-node t laid k le = omega (arith, le, laid.count, counted_nodes (0 ∷ []) [] t)
 
   pub node-stands : (t : Tree) → IsLaid ns ds t → (k : ℕ) → k < length ns → Stands ns ds k (node_at t k).here
-  node-stands t laid k lt =
-      let z : 0 + k ≡ k = omega arith in
-      subst (λ i. Stands ns ds i (node_at t k).here) z (got (nodes_of t) 0 k (node_at t k) (all-stand t 0 (0 ∷ []) [] laid.stands) (node-got ns ds t laid k lt))
+  node-stands t laid k lt = stands-at None ns ds t laid laid.stands k lt
 
   -- how many needs an act at a node has
   needs-here : (k : ℕ) (c : Tree) → Stands ns ds k c → needs_of (kind_at ns k) ≡ length (step_of c).needs
@@ -91,41 +96,6 @@ module _ (ns : List Node) (ds : List Detail) where
     | inl lt ↦ needs-here k (node_at t k).here (node-stands t laid k lt)
     | inr le ↦ ap (λ (z : Node). needs_of z.kind) (past-end ns k no_entry le) ∙ sym (ap (λ (z : nodes.Node). length (step_of z.here).needs) (past-end (nodes_of t) k no_node (no-node t laid k le)))
   ]
-
-  -- which phase an act at a node runs
-  abbrev phase_kind : Kind → Option (Name × Name)
-  phase_kind (kind.Phase j i) = names_in (slice_get ds i)
-  phase_kind _ = None
-
-  phase-here : (k : ℕ) (c : Tree) → Stands ns ds k c → phase_kind (kind_at ns k) ≡ phase_named c
-  phase-here k (act s (runs p)) h = ap phase_kind h.1.1 ∙ ap names_in h.2
-  phase-here k (act s (follows name c)) h = ap phase_kind h.0.1
-  phase-here k skip h = ap phase_kind h.1
-  phase-here k (seq ts) h = ap phase_kind h.0.1
-  phase-here k (par ts) h = ap phase_kind h.0.1
-  phase-here k (sel ch) h = ap phase_kind h.1.1
-  phase-here k (loop n p body) h = ap phase_kind h.1.1
-
-  phase-known : (t : Tree) → IsLaid ns ds t → (k : ℕ) → phase_kind (kind_at ns k) ≡ phase_named (node_at t k).here
-  phase-known t laid k = elim (cases_lt k (length ns)) [
-    | inl lt ↦ phase-here k (node_at t k).here (node-stands t laid k lt)
-    | inr le ↦ ap (λ (z : Node). phase_kind z.kind) (past-end ns k no_entry le) ∙ sym (ap (λ (z : nodes.Node). phase_named z.here) (past-end (nodes_of t) k no_node (no-node t laid k le)))
-  ]
-
-  pub runs-phase : (t : Tree) → IsLaid ns ds t → (j i k : ℕ) (o : Option (Name × Name)) → kind_at ns k ≡ kind.Phase j i → o ≡ names_in (slice_get ds i) → o ≡ phase_named (node_at t k).here
-  runs-phase t laid j i k o e f = f ∙ sym (ap phase_kind e) ∙ phase-known t laid k
-
-  pub runs-none : (t : Tree) → IsLaid ns ds t → (k : ℕ) (κ : Kind) → κ ≡ kind_at ns k → ((j i : ℕ) → κ ≡ kind.Phase j i → ⊥) → None ≡ phase_named (node_at t k).here
-  runs-none t laid k κ e other = sym (none κ other) ∙ ap phase_kind e ∙ phase-known t laid k
-    where
-      none : (κ : Kind) → ((j i : ℕ) → κ ≡ kind.Phase j i → ⊥) → phase_kind κ ≡ None
-      none (kind.Phase j i) other = absurd (other j i refl)
-      none (kind.Act j) other = refl
-      none kind.Skip other = refl
-      none kind.Seq other = refl
-      none kind.Par other = refl
-      none (kind.Sel i) other = refl
-      none (kind.Loop j i) other = refl
 
   -- the needs of all
 
@@ -168,3 +138,39 @@ module _ (ns : List Node) (ds : List Detail) where
 
   pub all-needs : (t : Tree) → IsLaid ns ds t → needs_to ns (length ns) ≡ needs_in t
   all-needs t laid = omega (arith, at-end (length ns) (0 + node_count t) (omega (arith, laid.count)), sum-of t 0 laid.stands, nothing-yet)
+
+module _ (bound : Binding) (ns : List Node) (ds : List Detail) where
+  -- which phase an act at a node runs, where the roles are bound so
+  abbrev phase_kind : Kind → Option (Name × Name)
+  phase_kind (kind.Phase j i) = names_in bound (slice_get ds i)
+  phase_kind _ = None
+
+  phase-here : (k : ℕ) (c : Tree) → StandsOn (Some bound) ns ds k c → phase_kind (kind_at ns k) ≡ phase_named c
+  phase-here k (act s (runs p)) h = ap phase_kind h.1.1 ∙ ap (names_in bound) h.2.1 ∙ ap (λ z. Some (z, p.name)) h.2.2
+  phase-here k (act s (follows name c)) h = ap phase_kind h.0.1
+  phase-here k skip h = ap phase_kind h.1
+  phase-here k (seq ts) h = ap phase_kind h.0.1
+  phase-here k (par ts) h = ap phase_kind h.0.1
+  phase-here k (sel ch) h = ap phase_kind h.1.1
+  phase-here k (loop n p body) h = ap phase_kind h.1.1
+
+  phase-known : (t : Tree) → IsLaid ns ds t → StandsOn (Some bound) ns ds 0 t → (k : ℕ) → phase_kind (kind_at ns k) ≡ phase_named (node_at t k).here
+  phase-known t laid h k = elim (cases_lt k (length ns)) [
+    | inl lt ↦ phase-here k (node_at t k).here (stands-at (Some bound) ns ds t laid h k lt)
+    | inr le ↦ ap (λ (z : Node). phase_kind z.kind) (past-end ns k no_entry le) ∙ sym (ap (λ (z : nodes.Node). phase_named z.here) (past-end (nodes_of t) k no_node (no-node ns ds t laid k le)))
+  ]
+
+  pub runs-phase : (t : Tree) → IsLaid ns ds t → StandsOn (Some bound) ns ds 0 t → (j i k : ℕ) (o : Option (Name × Name)) → kind_at ns k ≡ kind.Phase j i → o ≡ names_in bound (slice_get ds i) → o ≡ phase_named (node_at t k).here
+  runs-phase t laid h j i k o e f = f ∙ sym (ap phase_kind e) ∙ phase-known t laid h k
+
+  pub runs-none : (t : Tree) → IsLaid ns ds t → StandsOn (Some bound) ns ds 0 t → (k : ℕ) (κ : Kind) → κ ≡ kind_at ns k → ((j i : ℕ) → κ ≡ kind.Phase j i → ⊥) → None ≡ phase_named (node_at t k).here
+  runs-none t laid h k κ e other = sym (none κ other) ∙ ap phase_kind e ∙ phase-known t laid h k
+    where
+      none : (κ : Kind) → ((j i : ℕ) → κ ≡ kind.Phase j i → ⊥) → phase_kind κ ≡ None
+      none (kind.Phase j i) other = absurd (other j i refl)
+      none (kind.Act j) other = refl
+      none kind.Skip other = refl
+      none kind.Seq other = refl
+      none kind.Par other = refl
+      none (kind.Sel i) other = refl
+      none (kind.Loop j i) other = refl

@@ -25,7 +25,7 @@ use Rattle.batch_chart.specs.declared.stage.Stage.{Stage}
 use Rattle.batch_chart.specs.declared.stage.Stage.TheVariants as stage
 use Rattle.batch_chart.specs.Stages.{stage_at, is_begun, is_finished, turns_of}
 use Rattle.batch_chart.specs.Meaning.{act_as, meaning, meaning_below}
-use Rattle.batch_chart.specs.Finding.{entries, entries_in, numbered, numbered_below, numbered_each, numbered_branch, numbered_chosen}
+use Rattle.batch_chart.specs.Numbered.{entries, entries_in, numbered, numbered_below, numbered_each, numbered_branch, numbered_chosen}
 
 -- a list stands in another from n on
 abbrev pub Sits : List Node → ℕ → List Node → Type 0

@@ -26,7 +26,8 @@ use Rattle.batch_chart.specs.declared.wanted.Wanted.TheVariants as wanted
 use Rattle.batch_chart.specs.Stages.{stage_at, is_begun, is_finished, turns_of}
 use Rattle.batch_chart.specs.Meaning.{act_as, meaning, meaning_below}
 use Rattle.batch_chart.specs.Compiled.{kind_at, is_act_kind, Stands, StandsAct, AreStanding, AreChoices, IsCompiled}
-use Rattle.batch_chart.specs.Finding.{wants, first_of, numbered, numbered_below, numbered_each, numbered_branch, numbered_chosen, IsFirst}
+use Rattle.batch_chart.specs.Finding.{wants, first_of, IsFirst}
+use Rattle.batch_chart.specs.Numbered.{numbered, numbered_below, numbered_each, numbered_branch, numbered_chosen}
 use Rattle.batch_chart.specs.NodesOf.{nodes_of, node_at, place_at}
 use Rattle.batch_chart.specs.Nexts.{IsFoundFirst}
 use Rattle.batch_chart.specs.Running.{IsActTree, IsLaid, SomeLives}

@@ -3,6 +3,7 @@ use Rattle.std.proofs.Common.{◌≡◌, ℕ, ◌+◌, ◌-◌, ◌<◌, ◌≤�
 use Rattle.std.proofs.lemmas.Bool.Decides.{nat_tests}
 use Rattle.std.proofs.lemmas.List.Elements.{All-push}
 use Rattle.std.proofs.lemmas.List.Sums.{sum_by_push, sum_by-append}
+use Rattle.std.specs.Global.{Vec}
 use Rattle.batch_recipe.specs.Conditions.{Name}
 use Rattle.batch_matrix.specs.declared.command.Command.TheVariants as command
 use Rattle.batch_engine.specs.declared.event.Event.{Event}
@@ -26,11 +27,11 @@ creates_start : (n : ℕ) (es : List Event) → creates (es ++ Order command.Sta
 creates_start n es = sum_by_push creating es (Order command.Start n)
 
 -- one more create
-starts_create : (m : ℕ) (recipe : Name) (size : ℕ) (es : List Event) → starts m (es ++ Create recipe size ∷ []) ≡ starts m es + 0
-starts_create m recipe size es = sum_by_push (starting m) es (Create recipe size)
+starts_create : (m : ℕ) (recipe : Name) (size : ℕ) (roles : Vec (Name × Name)) (es : List Event) → starts m (es ++ Create recipe size roles ∷ []) ≡ starts m es + 0
+starts_create m recipe size roles es = sum_by_push (starting m) es (Create recipe size roles)
 
-creates_create : (recipe : Name) (size : ℕ) (es : List Event) → creates (es ++ Create recipe size ∷ []) ≡ creates es + 1
-creates_create recipe size es = sum_by_push creating es (Create recipe size)
+creates_create : (recipe : Name) (size : ℕ) (roles : Vec (Name × Name)) (es : List Event) → creates (es ++ Create recipe size roles ∷ []) ≡ creates es + 1
+creates_create recipe size roles es = sum_by_push creating es (Create recipe size roles)
 
 pub start_goes : (recipe : Name) (size n : ℕ) (c f : Console) (d e : DeskState) → c.step ≡ step.Start n → f.step ≡ step.Wait → f.last ≡ c.last → f.to_create ≡ c.to_create → f.to_complete ≡ c.to_complete
     → Sends d (Order command.Start n) e → GoesOn recipe size c d f e
@@ -57,25 +58,25 @@ start_goes recipe size n c f d e here waits last creates-left completing sends b
       };
     }
 
-pub create_goes : (recipe : Name) (size : ℕ) (c f : Console) (d e : DeskState) → 0 < c.to_create → f.step ≡ step.Wait → f.last ≡ c.last → f.to_create ≡ c.to_create - 1 → f.to_complete ≡ c.to_complete
-    → Sends d (Create recipe size) e → GoesOn recipe size c d f e
-create_goes recipe size c f d e some waits last creates-left completing sends batches before was = record {
+pub create_goes : (recipe : Name) (size : ℕ) (roles : Vec (Name × Name)) (c f : Console) (d e : DeskState) → roles.items ≡ [] → 0 < c.to_create → f.step ≡ step.Wait → f.last ≡ c.last → f.to_create ≡ c.to_create - 1 → f.to_complete ≡ c.to_complete
+    → Sends d (Create recipe size roles) e → GoesOn recipe size c d f e
+create_goes recipe size roles c f d e none some waits last creates-left completing sends batches before was = record {
   is = record {
     events = ap (λ (x : DeskState). x.events) sends.others ∙ was.is.events;
     outs = ap (λ (x : DeskState). x.outs) sends.others ∙ was.is.outs;
-    more = was.is.more ++ Create recipe size ∷ [];
+    more = was.is.more ++ Create recipe size roles ∷ [];
     seen = was.is.seen;
-    sent = more_appended before.sent was.is.more d.sent e.sent (Create recipe size) was.is.sent sends.sent;
+    sent = more_appended before.sent was.is.more d.sent e.sent (Create recipe size roles) was.is.sent sends.sent;
     taken = ap (λ (x : DeskState). x.taken) sends.others ∙ was.is.taken;
-    each = All-push (IsConsoleEvent recipe size) was.is.more (Create recipe size) was.is.each (refl, refl);
-    creates = omega (arith, creates_create recipe size was.is.more, was.minds.to_create, some);
-    once = λ m. omega (arith, was.is.once m, starts_create m recipe size was.is.more);
-    created = λ m. omega (arith, was.is.created m, starts_create m recipe size was.is.more);
+    each = All-push (IsConsoleEvent recipe size) was.is.more (Create recipe size roles) was.is.each (refl, refl, none);
+    creates = omega (arith, creates_create recipe size roles was.is.more, was.minds.to_create, some);
+    once = λ m. omega (arith, was.is.once m, starts_create m recipe size roles was.is.more);
+    created = λ m. omega (arith, was.is.created m, starts_create m recipe size roles was.is.more);
   };
   minds = record {
-    to_create = omega (arith, creates_create recipe size was.is.more, was.minds.to_create, creates-left, some);
+    to_create = omega (arith, creates_create recipe size roles was.is.more, was.minds.to_create, creates-left, some);
     to_complete = completing ∙ was.minds.to_complete;
-    above = λ m up. omega (arith, was.minds.above m (omega (arith, last, up)), starts_create m recipe size was.is.more);
+    above = λ m up. omega (arith, was.minds.above m (omega (arith, last, up)), starts_create m recipe size roles was.is.more);
     next = λ m at. cc;
   };
 }

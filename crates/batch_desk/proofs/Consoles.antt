@@ -28,27 +28,27 @@ others batches c sent taken out uncreated incomplete was = record {
 same_start : (m n : ℕ) → step.Start m ≡ step.Start n → m ≡ n
 same_start m n e = cc
 
-told_created : (n batch recipe size : ℕ) (taken : List Out) → creations n (taken ++ Reply (Created batch recipe size) ∷ []) ≡ creations n taken + cond (eqb batch n) 1 0
-told_created n batch recipe size taken = sum_by_push (telling_created n) taken (Reply (Created batch recipe size))
+told_created : (n batch recipe size : ℕ) (units : List ℕ) (taken : List Out) → creations n (taken ++ Reply (Created batch recipe size units) ∷ []) ≡ creations n taken + cond (eqb batch n) 1 0
+told_created n batch recipe size units taken = sum_by_push (telling_created n) taken (Reply (Created batch recipe size units))
 
-created : (batches : ℕ) (c : Console) (sent : List Event) (taken : List Out) (batch recipe size : ℕ) (later : Bool) → nat_lt c.last batch ≡ later → Minds batches c sent taken
-    → Minds batches (elim later [ true ↦ record c { step = step.Start batch; last = batch } | false ↦ c ]) sent (taken ++ Reply (Created batch recipe size) ∷ [])
-created batches c sent taken batch recipe size true is was =
+created : (batches : ℕ) (c : Console) (sent : List Event) (taken : List Out) (batch recipe size : ℕ) (units : List ℕ) (later : Bool) → nat_lt c.last batch ≡ later → Minds batches c sent taken
+    → Minds batches (elim later [ true ↦ record c { step = step.Start batch; last = batch } | false ↦ c ]) sent (taken ++ Reply (Created batch recipe size units) ∷ [])
+created batches c sent taken batch recipe size units true is was =
     let above : c.last < batch = grind (arith, nat_tests) in
     record {
       to_create = was.to_create;
-      to_complete = omega (arith, was.to_complete, sum_by_push telling_complete taken (Reply (Created batch recipe size)));
+      to_complete = omega (arith, was.to_complete, sum_by_push telling_complete taken (Reply (Created batch recipe size units)));
       above = λ n up. was.above n (omega (arith, above, up));
       next = λ n e.
           let same = same_start batch n e in
-          let told = told_created n batch recipe size taken in
+          let told = told_created n batch recipe size units taken in
           (omega (arith, same), was.above n (omega (arith, same, above)), grind (arith, nat_tests));
     }
-created batches c sent taken batch recipe size false is was = record {
+created batches c sent taken batch recipe size units false is was = record {
   to_create = was.to_create;
-  to_complete = omega (arith, was.to_complete, sum_by_push telling_complete taken (Reply (Created batch recipe size)));
+  to_complete = omega (arith, was.to_complete, sum_by_push telling_complete taken (Reply (Created batch recipe size units)));
   above = was.above;
-  next = λ n e. let w = was.next n e in (w.0, w.1, omega (arith, told_created n batch recipe size taken, w.2));
+  next = λ n e. let w = was.next n e in (w.0, w.1, omega (arith, told_created n batch recipe size units taken, w.2));
 }
 
 same_step : (s : Step) (n : ℕ) → step_after_start s ≡ step.Start n → s ≡ step.Start n
@@ -79,7 +79,7 @@ completed batches c sent taken batch was =
     }
 
 pub learns : (batches : ℕ) (c : Console) (sent : List Event) (taken : List Out) (out : Out) → Minds batches c sent taken → Minds batches (learned out c) sent (taken ++ out ∷ [])
-learns batches c sent taken (Reply (Created batch recipe size)) was = created batches c sent taken batch recipe size (nat_lt c.last batch) refl was
+learns batches c sent taken (Reply (Created batch recipe size units)) was = created batches c sent taken batch recipe size units (nat_lt c.last batch) refl was
 learns batches c sent taken (Reply (Ordered command.Start batch now)) was = started batches c sent taken batch now was
 learns batches c sent taken (Reply (Ordered command.Pause batch now)) was = others batches c sent taken (Reply (Ordered command.Pause batch now)) (λ n. refl) refl was
 learns batches c sent taken (Reply (Ordered command.Resume batch now)) was = others batches c sent taken (Reply (Ordered command.Resume batch now)) (λ n. refl) refl was

@@ -11,3 +11,4 @@ pub mod Safe
 pub mod Consoles
 pub mod ConsoleTurns
 pub mod HubTurns
+pub mod Settled

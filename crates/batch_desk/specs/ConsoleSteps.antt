@@ -38,7 +38,7 @@ step_after_start step = step
 
 -- what a console keeps in mind of an out
 abbrev pub learned : Out → Console → Console
-learned (Reply (Created batch recipe size)) c = elim (nat_lt c.last batch) [ true ↦ record c { step = Start batch; last = batch } | false ↦ c ]
+learned (Reply (Created batch recipe size units)) c = elim (nat_lt c.last batch) [ true ↦ record c { step = Start batch; last = batch } | false ↦ c ]
 learned (Reply (Ordered command.Start batch state)) c = record c { step = step_after_start c.step }
 learned (Move (State batch Complete)) c = record c { to_complete = c.to_complete - 1 }
 learned _ c = c

@@ -1,5 +1,5 @@
 -- surface: what a console sends and takes.
-use Rattle.std.specs.Prelude.{◌≡◌, ℕ, ◌≤◌, List, ◌++◌, cond, eqb}
+use Rattle.std.specs.Prelude.{◌≡◌, ℕ, ◌≤◌, List, [], ◌++◌, cond, eqb}
 use Rattle.std.specs.List.{All, sum_by}
 use Rattle.batch_recipe.specs.Conditions.{Name}
 use Rattle.batch_matrix.specs.declared.command.Command.TheVariants as command
@@ -12,15 +12,15 @@ use Rattle.batch_engine.specs.declared.out.Out.TheVariants.{Reply, Move}
 use Rattle.batch_engine.specs.declared.reply.Reply.TheVariants.{Created}
 use Rattle.batch_desk.specs.DeskState.{DeskState}
 
--- a create of this recipe in this size, or the start of a batch
+-- a create of this recipe in this size that binds no roles, or the start of a batch
 abbrev pub IsConsoleEvent : Name → ℕ → Event → Type 0
-IsConsoleEvent recipe size (Create name amount) = (name ≡ recipe) × (amount ≡ size)
+IsConsoleEvent recipe size (Create name amount roles) = (name ≡ recipe) × (amount ≡ size) × (roles.items ≡ [])
 IsConsoleEvent recipe size (Order word batch) = word ≡ command.Start
 IsConsoleEvent recipe size _ = ⊥
 
 -- one for a create, and for nothing else
 abbrev pub creating : Event → ℕ
-creating (Create name amount) = 1
+creating (Create name amount roles) = 1
 creating _ = 0
 
 -- one for the start of batch n
@@ -30,7 +30,7 @@ starting n _ = 0
 
 -- one for the reply that batch n was created
 abbrev pub telling_created : ℕ → Out → ℕ
-telling_created n (Reply (Created batch recipe size)) = cond (eqb batch n) 1 0
+telling_created n (Reply (Created batch recipe size units)) = cond (eqb batch n) 1 0
 telling_created n _ = 0
 
 -- one for the move by which a batch becomes complete

@@ -77,12 +77,17 @@ impl Console {
         }
     }
 
-    /// Sends a create, where there is a place for it.
-    fn create(&mut self, desk: &mut Desk, recipe: Name, size: u64)
+    /// Sends a create that binds no roles, where there is a place for it.
+    fn create(&mut self, alloc: Global, desk: &mut Desk, recipe: Name, size: u64)
         requires { 0 < self.old.to_create }
         ensures { GoesOn recipe size self.old desk.old self.new desk.new }
     {
-        match desk.send(Event::Create { recipe, size }) {
+        let roles = Vec::new(alloc);
+        match desk.send(Event::Create {
+            recipe,
+            size,
+            roles,
+        }) {
             Ok(()) => {
                 self.step = Step::Wait;
                 self.to_create -= 1;
@@ -101,7 +106,7 @@ impl Console {
             Step::Create => {
                 if self.to_create > 0 {
                     if let Ok(recipe) = recipe.copy(alloc) {
-                        self.create(desk, recipe, size);
+                        self.create(alloc, desk, recipe, size);
                     }
                 }
             }

@@ -3,14 +3,15 @@ use Rattle.std.proofs.Common.{◌≡◌, ◌<◌, ◌≤◌, ◌+◌, refl, sym,
 use Rattle.std.proofs.lemmas.List.{map-append}
 use Rattle.std.proofs.lemmas.List.Sums.{sum_by_push}
 use Rattle.batch_recipe.specs.Conditions.{Name, ValueList, same_name}
+use Rattle.batch_recipe.specs.Expanding.{Binding}
 use Rattle.batch_recipe.specs.Tree.{Place}
 use Rattle.batch_recipe.specs.declared.need.Need.{Need}
 use Rattle.batch_model.specs.Lists.{Has}
 use Rattle.batch_model.specs.Rest.{reach}
 use Rattle.batch_model.specs.Plant as Model
-use Rattle.batch_model.specs.Plant.{Formula, scaled, Share, Plant, holders}
+use Rattle.batch_model.specs.Plant.{Formula, scaled, Master, Share, Plant, holders}
 use Rattle.batch_model.specs.Moves.{Move, next}
-use Rattle.batch_model.specs.Events.{create, created, refused, moves_pending, unknown_recipe, full, is_full, creating, with_batch, new_batch, judged, react, Answer}
+use Rattle.batch_model.specs.Events.{create, created, refused, moves_pending, unknown_recipe, full, bad_binding, is_full, is_binding, bound_by, roles_told, binding, creating_for, creating, with_batch, new_batch, judged, react, Answer}
 use Rattle.batch_model.specs.Runs.{Reacts}
 use Rattle.batch_model.specs.Standing.{AreNumbered}
 use Rattle.batch_model.proofs.Members.{Each-append, Has-flat_map}
@@ -20,11 +21,12 @@ use Rattle.batch_arbiter.specs.Allocation.{Claim, shares_of, line_of}
 use Rattle.batch_chart.specs.NodesOf.{needs_in, place_at}
 use Rattle.batch_chart.specs.Charts.{IsRunningOf}
 use Rattle.batch_engine.specs.declared.batch.Batch.{Batch}
-use Rattle.batch_engine.specs.View.{EngineView, setup, recipe_at, tree_at, batch_of, share_of, acts_of, place_in, number_of, line_in, line_at, plant_of, tree_of}
-use Rattle.batch_engine.specs.Kept.{IsRunningBatch, IsKept, needs_of_all}
+use Rattle.batch_engine.specs.View.{EngineView, setup, master_at, recipe_at, tree_at, batch_of, share_of, acts_of, place_in, number_of, line_in, line_at, plant_of, tree_of}
+use Rattle.batch_engine.specs.Names as Names
+use Rattle.batch_engine.specs.Kept.{AreUnits, IsRunningBatch, IsKept, needs_of_all}
 use Rattle.batch_engine.specs.Creates.{IsCreate}
 use Rattle.batch_engine.proofs.Told.{told, standing}
-use Rattle.batch_engine.proofs.BatchPlaces.{chosen-false}
+use Rattle.batch_engine.proofs.BatchPlaces.{made_by, chosen-false}
 use Rattle.batch_engine.proofs.Making.{fun_ext}
 use Rattle.batch_engine.proofs.Made.{Has-mapped}
 use Rattle.batch_engine.proofs.Reacting.{with, event-kept}
@@ -39,18 +41,50 @@ test-other m n d = go (nat_eq m n) refl
     go true e = absurd (d (same m n e))
     go false e = refl
 
--- the machine's answer to a create that makes a batch
-pub react-create : (v : EngineView) (recipe : ℕ) (name : Name) (size : ℕ) (vs : ValueList) (o : IsCreate v recipe name size vs)
-    → react (setup v.cleared) (plant_of v) (create name size)
-    ≡ (created v.next_number (recipe_at v.cleared recipe).name size, with_batch (plant_of v) (recipe_at v.cleared recipe) size vs)
-react-create v recipe name size vs o =
-    ap (λ (m : Option Move). let a : Answer = elim m [ Some l ↦ (refused moves_pending, plant_of v) | None ↦ judged (setup v.cleared) (plant_of v) (create name size) ] in a) o.settled
-    ∙ ap (λ (x : Option Model.Recipe). let a : Answer = elim x [
-      | None ↦ (refused unknown_recipe, plant_of v)
-      | Some r ↦ elim (is_full (setup v.cleared) (plant_of v)) [ true ↦ (refused full, plant_of v) | false ↦ creating (plant_of v) r size (r.formula size) ]
-    ] in a) o.found
-    ∙ ap (λ (t : Bool). let a : Answer = elim t [ true ↦ (refused full, plant_of v) | false ↦ creating (plant_of v) (recipe_at v.cleared recipe) size ((recipe_at v.cleared recipe).formula size) ] in a) o.free
-    ∙ ap (λ (f : Formula). creating (plant_of v) (recipe_at v.cleared recipe) size f) o.formula
+-- The machine's answer to a create
+
+module _ (v : EngineView) (name : Name) (size : ℕ) (pairs : List (Name × Name)) (settled : next (setup v.cleared) (plant_of v) ≡ None) where
+  abbrev named_answer : Option Master → Answer
+  named_answer o = elim o [
+    | None ↦ (refused unknown_recipe, plant_of v)
+    | Some m ↦ elim (is_full (setup v.cleared) (plant_of v)) [ true ↦ (refused full, plant_of v) | false ↦ binding (plant_of v) m size pairs ]
+  ]
+
+  judge : react (setup v.cleared) (plant_of v) (create name size pairs) ≡ named_answer (find (λ (m : Master). same_name m.name name) (setup v.cleared).recipes)
+  judge = ap (λ (m : Option Move). let a : Answer = elim m [ Some l ↦ (refused moves_pending, plant_of v) | None ↦ judged (setup v.cleared) (plant_of v) (create name size pairs) ] in a) settled
+
+  pub create-unknown : find (λ (m : Master). same_name m.name name) (setup v.cleared).recipes ≡ None
+      → Reacts (setup v.cleared) (plant_of v) (create name size pairs) (refused unknown_recipe) (plant_of v)
+  create-unknown none = inl (judge ∙ ap named_answer none)
+
+  module _ (m : Master) (found : find (λ (m : Master). same_name m.name name) (setup v.cleared).recipes ≡ Some m) where
+    abbrev full_answer : Bool → Answer
+    full_answer t = elim t [ true ↦ (refused full, plant_of v) | false ↦ binding (plant_of v) m size pairs ]
+
+    abbrev bound_answer : Bool → Answer
+    bound_answer t = elim t [ false ↦ (refused bad_binding, plant_of v) | true ↦ creating_for (plant_of v) m size (bound_by pairs) ]
+
+    pub create-full : is_full (setup v.cleared) (plant_of v) ≡ true → Reacts (setup v.cleared) (plant_of v) (create name size pairs) (refused full) (plant_of v)
+    create-full e = inl (judge ∙ ap named_answer found ∙ ap full_answer e)
+
+    pub create-unbound : is_full (setup v.cleared) (plant_of v) ≡ false → is_binding m.roles pairs ≡ false
+        → Reacts (setup v.cleared) (plant_of v) (create name size pairs) (refused bad_binding) (plant_of v)
+    create-unbound e bad = inl (judge ∙ ap named_answer found ∙ ap full_answer e ∙ ap bound_answer bad)
+
+    pub judge-values : (f : Formula) → is_full (setup v.cleared) (plant_of v) ≡ false → is_binding m.roles pairs ≡ true → (m.control (bound_by pairs)).formula size ≡ f
+        → react (setup v.cleared) (plant_of v) (create name size pairs) ≡ creating (plant_of v) (m.control (bound_by pairs)) size (roles_told m.roles (bound_by pairs)) f
+    judge-values f e binds g =
+        judge ∙ ap named_answer found ∙ ap full_answer e ∙ ap bound_answer binds
+        ∙ ap (creating (plant_of v) (m.control (bound_by pairs)) size (roles_told m.roles (bound_by pairs))) g
+
+-- one that makes a batch
+pub react-create : (v : EngineView) (recipe : ℕ) (name : Name) (size : ℕ) (pairs : List (Name × Name)) (units : List ℕ) (vs : ValueList) (o : IsCreate v recipe name size pairs units vs)
+    → react (setup v.cleared) (plant_of v) (create name size pairs)
+    ≡ (created v.next_number (recipe_at v.cleared recipe units).name size (Names.roles_told v.cleared recipe units), with_batch (plant_of v) (recipe_at v.cleared recipe units) size vs)
+react-create v recipe name size pairs units vs o =
+    let m : Master = master_at v.cleared recipe in
+    judge-values v name size pairs o.settled m o.found (scaled vs) o.free o.taken.binds (ap (λ (bound : Binding). (m.control bound).formula size) o.taken.bound ∙ o.formula)
+    ∙ ap₂ (λ (bound : Binding) told. let a : Answer = (created v.next_number (m.control bound).name size told, with_batch (plant_of v) (m.control bound) size vs) in a) o.taken.bound o.taken.told
 
 module _ (c : ClearedSet) (b : Batch) where
   place-more : (bs : List Batch) (n j : ℕ) → (n ≡ b.number → ⊥) → place_in c (bs ++ b ∷ []) n j ≡ place_in c bs n j
@@ -96,10 +130,10 @@ module _ (v : EngineView) (k : IsKept v) where
       below-next next (d ∷ bs) b n h (inr i) e = below-next next bs b n h.2 i e
 
   -- the batch that is made
-  module _ (recipe : ℕ) (name : Name) (size : ℕ) (vs : ValueList) (o : IsCreate v recipe name size vs) (b : Batch) (room : ℕ)
-      (number : b.number ≡ v.next_number) (of_recipe : b.recipe ≡ recipe) (runs : IsRunningOf (tree_at v.cleared recipe) b.running)
-      (new : batch_of v.cleared b ≡ new_batch v.next_number (recipe_at v.cleared recipe) size vs)
-      (enough : needs_of_all v.cleared v.batches + needs_in (tree_at v.cleared recipe) ≤ room) where
+  module _ (recipe : ℕ) (name : Name) (size : ℕ) (pairs : List (Name × Name)) (units : List ℕ) (vs : ValueList) (o : IsCreate v recipe name size pairs units vs) (b : Batch) (room : ℕ)
+      (number : b.number ≡ v.next_number) (made : made_by b ≡ (recipe, units)) (runs : IsRunningOf (tree_at v.cleared recipe units) b.running)
+      (new : batch_of v.cleared b ≡ new_batch v.next_number (recipe_at v.cleared recipe units) size vs)
+      (enough : needs_of_all v.cleared v.batches + needs_in (tree_at v.cleared recipe units) ≤ room) where
     abbrev after_create : EngineView
     after_create = with v (v.batches ++ b ∷ []) (v.next_number + 1) (record (v.allocation) { room = room })
 
@@ -116,32 +150,36 @@ module _ (v : EngineView) (k : IsKept v) where
         go None e = refl
         go (Some q) e = lines-more n q e
 
-    plant-more : plant_of (with v (v.batches ++ b ∷ []) (v.next_number + 1) (record (v.allocation) { room = room })) ≡ with_batch (plant_of v) (recipe_at v.cleared recipe) size vs
+    plant-more : plant_of (with v (v.batches ++ b ∷ []) (v.next_number + 1) (record (v.allocation) { room = room })) ≡ with_batch (plant_of v) (recipe_at v.cleared recipe units) size vs
     plant-more =
         let one : v.next_number + 1 ≡ suc v.next_number = omega arith in
         ap₂ (λ (bs : List Model.Batch) (l : Name → List Share). let p : Plant = record { batches = bs; next_number = v.next_number + 1; line = l } in p)
         (map-append (batch_of v.cleared) v.batches (b ∷ []) ∙ ap (λ (d : Model.Batch). map (batch_of v.cleared) v.batches ++ d ∷ []) new)
         (fun_ext line-more)
-        ∙ ap (λ n. let p : Plant = record { batches = map (batch_of v.cleared) v.batches ++ new_batch v.next_number (recipe_at v.cleared recipe) size vs ∷ []; next_number = n; line = line_in v } in p) one
+        ∙ ap (λ n. let p : Plant = record { batches = map (batch_of v.cleared) v.batches ++ new_batch v.next_number (recipe_at v.cleared recipe units) size vs ∷ []; next_number = n; line = line_in v } in p) one
 
-    pub create-reacts : Reacts (setup v.cleared) (plant_of v) (create name size) (created v.next_number (recipe_at v.cleared recipe).name size)
+    pub create-reacts : Reacts (setup v.cleared) (plant_of v) (create name size pairs) (created v.next_number (recipe_at v.cleared recipe units).name size (Names.roles_told v.cleared recipe units))
         (plant_of (with v (v.batches ++ b ∷ []) (v.next_number + 1) (record (v.allocation) { room = room })))
-    create-reacts = inl (react-create v recipe name size vs o ∙ ap (λ (s : Plant). let a : Answer = (created v.next_number (recipe_at v.cleared recipe).name size, s) in a) (sym plant-more))
+    create-reacts =
+        inl (react-create v recipe name size pairs units vs o
+        ∙ ap (λ (s : Plant). let a : Answer = (created v.next_number (recipe_at v.cleared recipe units).name size (Names.roles_told v.cleared recipe units), s) in a) (sym plant-more))
 
     pub create-kept : IsKept (with v (v.batches ++ b ∷ []) (v.next_number + 1) (record (v.allocation) { room = room }))
     create-kept =
-        event-kept v k (v.batches ++ b ∷ []) (v.next_number + 1) (record (v.allocation) { room = room }) (create name size) (created v.next_number (recipe_at v.cleared recipe).name size) create-reacts
+        event-kept v k (v.batches ++ b ∷ []) (v.next_number + 1) (record (v.allocation) { room = room }) (create name size pairs)
+        (created v.next_number (recipe_at v.cleared recipe units).name size (Names.roles_told v.cleared recipe units)) create-reacts
         shares-more
         (Each-append (IsRunningBatch v.cleared) v.batches (b ∷ []) k.batches (
           record {
-            known = subst (λ r. r < length v.cleared.recipes) (sym of_recipe) o.known;
-            runs = subst (λ r. IsRunningOf (tree_at v.cleared r) b.running) (sym of_recipe) runs;
+            known = subst (λ (r : ℕ × List ℕ). r.0 < length v.cleared.recipes) (sym made) o.known;
+            units = subst (λ (r : ℕ × List ℕ). AreUnits v.cleared r.1) (sym made) o.taken.own;
+            runs = subst (λ (r : ℕ × List ℕ). IsRunningOf (tree_at v.cleared r.0 r.1) b.running) (sym made) runs;
           },
           tt,
         ))
         (record { capacities = k.cell.capacities; shares = k.cell.shares; lines = k.cell.lines })
         (λ n q e. subst IsOnce (sym (lines-more n q e)) (k.once n q e))
-        (omega (arith, enough, sum_by_push (λ (z : Batch). needs_in (tree_of v.cleared z)) v.batches b, ap (λ r. needs_in (tree_at v.cleared r)) of_recipe))
+        (omega (arith, enough, sum_by_push (λ (z : Batch). needs_in (tree_of v.cleared z)) v.batches b, ap (λ (r : ℕ × List ℕ). needs_in (tree_at v.cleared r.0 r.1)) made))
 
   -- where no batch is made, more room changes nothing of the plant
   pub room-kept : (room : ℕ) → v.allocation.room ≤ room → IsKept (with v v.batches v.next_number (record (v.allocation) { room = room }))
@@ -171,34 +209,3 @@ module _ (v : EngineView) (k : IsKept v) where
 
       same : plant_of (with v v.batches v.next_number (record (v.allocation) { room = room })) ≡ plant_of v
       same = ap (λ (l : Name → List Share). let p : Plant = record { batches = map (batch_of v.cleared) v.batches; next_number = v.next_number; line = l } in p) (fun_ext line)
-
--- A create that is refused
-
-pub create-unknown : (v : EngineView) (name : Name) (size : ℕ) → next (setup v.cleared) (plant_of v) ≡ None → find (λ (r : Model.Recipe). same_name r.name name) (setup v.cleared).recipes ≡ None
-    → Reacts (setup v.cleared) (plant_of v) (create name size) (refused unknown_recipe) (plant_of v)
-create-unknown v name size settled none =
-    inl (ap (λ (m : Option Move). let a : Answer = elim m [ Some l ↦ (refused moves_pending, plant_of v) | None ↦ judged (setup v.cleared) (plant_of v) (create name size) ] in a) settled
-    ∙ ap (λ (x : Option Model.Recipe). let a : Answer = elim x [
-      | None ↦ (refused unknown_recipe, plant_of v)
-      | Some r ↦ elim (is_full (setup v.cleared) (plant_of v)) [ true ↦ (refused full, plant_of v) | false ↦ creating (plant_of v) r size (r.formula size) ]
-    ] in a) none)
-
-module _ (v : EngineView) (name : Name) (size : ℕ) (r : Model.Recipe) (settled : next (setup v.cleared) (plant_of v) ≡ None)
-    (found : find (λ (r : Model.Recipe). same_name r.name name) (setup v.cleared).recipes ≡ Some r) where
-  judge : react (setup v.cleared) (plant_of v) (create name size)
-      ≡ (let a : Answer = elim (is_full (setup v.cleared) (plant_of v)) [ true ↦ (refused full, plant_of v) | false ↦ creating (plant_of v) r size (r.formula size) ] in a)
-  judge =
-      ap (λ (m : Option Move). let a : Answer = elim m [ Some l ↦ (refused moves_pending, plant_of v) | None ↦ judged (setup v.cleared) (plant_of v) (create name size) ] in a) settled
-      ∙ ap (λ (x : Option Model.Recipe). let a : Answer = elim x [
-        | None ↦ (refused unknown_recipe, plant_of v)
-        | Some r ↦ elim (is_full (setup v.cleared) (plant_of v)) [ true ↦ (refused full, plant_of v) | false ↦ creating (plant_of v) r size (r.formula size) ]
-      ] in a) found
-
-  pub create-full : is_full (setup v.cleared) (plant_of v) ≡ true → Reacts (setup v.cleared) (plant_of v) (create name size) (refused full) (plant_of v)
-  create-full e =
-      inl (judge ∙ ap (λ (t : Bool). let a : Answer = elim t [ true ↦ (refused full, plant_of v) | false ↦ creating (plant_of v) r size (r.formula size) ] in a) e)
-
-  pub judge-values : (f : Formula) → is_full (setup v.cleared) (plant_of v) ≡ false → r.formula size ≡ f → react (setup v.cleared) (plant_of v) (create name size) ≡ creating (plant_of v) r size f
-  judge-values f e g =
-      judge ∙ ap (λ (t : Bool). let a : Answer = elim t [ true ↦ (refused full, plant_of v) | false ↦ creating (plant_of v) r size (r.formula size) ] in a) e
-      ∙ ap (creating (plant_of v) r size) g

@@ -8,25 +8,27 @@ use Rattle.std.proofs.lemmas.Bool.Decides.{nat_tests}
 use Rattle.batch_recipe.specs.Conditions.{Name}
 use Rattle.batch_recipe.specs.Diagram as chart
 use Rattle.batch_recipe.specs.Diagram.{Diagram, Diagrams, Cases, diagram_of}
-use Rattle.batch_recipe.specs.Expanding.{act_named, act_tree, asked_by, expanded, expanded_cases, expanded_each, named_tree, task_of, unit_below}
+use Rattle.batch_recipe.specs.Expanding.{Binding, act_named, act_tree_with, asked_by, expanded, expanded_cases, expanded_each, named_tree_with, task_of, unit_below, unit_with}
 use Rattle.batch_recipe.specs.Nodes.{child, count_of_choices, count_of_each, count_within, node_count}
-use Rattle.batch_recipe.specs.Procedure.{procedure_tree, tables_from}
+use Rattle.batch_recipe.specs.Procedure.{bound_tree, tables_from}
 use Rattle.batch_recipe.specs.Tree.{Place, Tree, skip}
+use Rattle.batch_cell.specs.declared.cell.Cell.{Cell}
 use Rattle.batch_recipe.specs.declared.act.Act.{Act}
 use Rattle.batch_recipe.specs.declared.act.Work.{Work}
 use Rattle.batch_recipe.specs.declared.act.Work.TheVariants.{Follows, Runs}
 use Rattle.batch_recipe.specs.declared.acts.Level.TheVariants.{UnitProcedures}
 use Rattle.batch_recipe.specs.declared.need.Need.{Need}
 use Rattle.batch_recipe.specs.declared.recipe.Recipe as document
-use Rattle.batch_recipe.proofs.Order.{counted_nodes}
 use Rattle.batch_model.specs.Events.{is_full}
-use Rattle.batch_model.specs.Recipes.{recipe_of}
+use Rattle.batch_model.specs.Plant.{plain}
+use Rattle.batch_model.specs.Setups.{master_of}
 use Rattle.batch_model.specs.declared.limits.TheConstants.{LAST_NUMBER, MAX_LIVE_BATCHES}
 use Rattle.batch_verify.specs.ClearedSet.{ClearedSet}
 use Rattle.batch_chart.specs.NodesOf.{needs_below, needs_in, needs_of_choices, needs_of_each}
 use Rattle.batch_engine.specs.declared.batch.Batch.{Batch}
 use Rattle.batch_engine.specs.Kept.{needs_of_all}
-use Rattle.batch_engine.specs.View.{EngineView, batch_of, setup, no_recipe, plant_of, tree_at, tree_of}
+use Rattle.batch_engine.proofs.AlikeNodes.{count-alike}
+use Rattle.batch_engine.specs.View.{EngineView, batch_of, bound_to, setup, no_recipe, plant_of, tree_at, tree_of}
 
 -- an act needs at most 16 resources beside its unit, so the acts of a tree need at most 17 a node
 abbrev pub HasFewNeeds : Tree → Type 0
@@ -59,40 +61,47 @@ few-below : (acts : Name → Place → Tree) → ((name : Name) (p : Place) → 
 few-below acts few unit name p (Follows c) = few-expanded acts few (child p 0) (diagram_of c)
 few-below acts few unit name p (Runs phase values) = omega arith
 
-few-act : (acts : Name → Name → Place → Tree) → ((unit name : Name) (p : Place) → HasFewNeeds (acts unit name p)) → (unit : Name) (a : Act) (p : Place) → HasFewNeeds (act_tree acts unit a p)
-few-act acts few unit a p =
-    omega (arith, few-asked a.unit a.needs.items a.few_needs, few-below (acts (unit_below unit a.unit)) (few (unit_below unit a.unit)) (unit_below unit a.unit) a.name p a.work)
+module _ (bound : Binding) where
+  few-act : (acts : Name → Name → Place → Tree) → ((unit name : Name) (p : Place) → HasFewNeeds (acts unit name p)) → (unit : Name) (a : Act) (p : Place)
+      → HasFewNeeds (act_tree_with bound acts unit a p)
+  few-act acts few unit a p =
+      omega (
+        arith,
+        few-asked (unit_with bound a.unit) a.needs.items a.few_needs,
+        few-below (acts (unit_below unit (unit_with bound a.unit))) (few (unit_below unit (unit_with bound a.unit))) (unit_below unit (unit_with bound a.unit)) a.name p a.work,
+      )
 
-few-named : (tables : List (List Act)) (unit name : Name) (p : Place) → HasFewNeeds (named_tree tables unit name p)
-few-named [] unit name p = omega arith
-few-named (table ∷ tables) unit name p = go (few-named tables) (act_named table name)
-  where
-    go : ((unit name : Name) (p : Place) → HasFewNeeds (named_tree tables unit name p)) → (found : Option Act)
-        → HasFewNeeds (elim found [ None ↦ skip | Some a ↦ act_tree (named_tree tables) unit a p ])
-    go few None = omega arith
-    go few (Some a) = few-act (named_tree tables) few unit a p
+  few-named : (tables : List (List Act)) (unit name : Name) (p : Place) → HasFewNeeds (named_tree_with bound tables unit name p)
+  few-named [] unit name p = omega arith
+  few-named (table ∷ tables) unit name p = go (few-named tables) (act_named table name)
+    where
+      go : ((unit name : Name) (p : Place) → HasFewNeeds (named_tree_with bound tables unit name p)) → (found : Option Act)
+          → HasFewNeeds (elim found [ None ↦ skip | Some a ↦ act_tree_with bound (named_tree_with bound tables) unit a p ])
+      go few None = omega arith
+      go few (Some a) = few-act (named_tree_with bound tables) few unit a p
 
-few-recipe : (r : document.Recipe) → needs_in (procedure_tree r.acts) ≤ 69632
-few-recipe r =
-    omega (
-      arith,
-      few-act (named_tree (tables_from r.acts (Some UnitProcedures))) (few-named (tables_from r.acts (Some UnitProcedures))) [] r.acts.procedure (0 ∷ []),
-      counted_nodes (0 ∷ []) [] (procedure_tree r.acts),
-      r.small,
-    )
+  few-recipe : (r : document.Recipe) → needs_in (bound_tree bound r.acts) ≤ 69632
+  few-recipe r =
+      let tables : List (List Act) = tables_from r.acts (Some UnitProcedures) in
+      omega (
+        arith,
+        few-act (named_tree_with bound tables) (few-named tables) [] r.acts.procedure (0 ∷ []),
+        count-alike bound r.acts,
+        r.small,
+      )
 
-few-among : (rs : List document.Recipe) (k : ℕ) → needs_in (slice_index_or (map recipe_of rs) k no_recipe).procedure ≤ 69632
-few-among [] k = omega arith
-few-among (r ∷ rs) zero = few-recipe r
-few-among (r ∷ rs) (suc k) = few-among rs k
+  few-among : (cell : Cell) (rs : List document.Recipe) (k : ℕ) → needs_in ((slice_index_or (map (master_of cell) rs) k (plain no_recipe)).control bound).procedure ≤ 69632
+  few-among cell [] k = omega arith
+  few-among cell (r ∷ rs) zero = few-recipe r
+  few-among cell (r ∷ rs) (suc k) = few-among cell rs k
 
 -- 17 needs at each of 4,096 nodes
-pub few-needs : (c : ClearedSet) (recipe : ℕ) → needs_in (tree_at c recipe) ≤ 69632
-few-needs c recipe = few-among c.recipes recipe
+pub few-needs : (c : ClearedSet) (recipe : ℕ) (units : List ℕ) → needs_in (tree_at c recipe units) ≤ 69632
+few-needs c recipe units = few-among (bound_to c recipe units) c.cell c.recipes recipe
 
 pub few-of_all : (c : ClearedSet) (bs : List Batch) → needs_of_all c bs ≤ 69632 * length bs
 few-of_all c [] = omega arith
-few-of_all c (b ∷ bs) = omega (arith, sum_by-cons (λ (z : Batch). needs_in (tree_of c z)) b bs, few-needs c b.recipe, few-of_all c bs)
+few-of_all c (b ∷ bs) = omega (arith, sum_by-cons (λ (z : Batch). needs_in (tree_of c z)) b bs, few-needs c b.recipe b.units, few-of_all c bs)
 
 -- the batches before an index
 pub few-before : (c : ClearedSet) (bs : List Batch) (i : ℕ) → needs_of_all c (take i bs) ≤ 69632 * i

@@ -1,7 +1,6 @@
 -- What is found at a batch of the engine.
 use Rattle.std.proofs.Common.{◌≡◌, ◌<◌, ◌≤◌, refl, sym, ◌∙◌, ap, ap₂, subst, subst₂, ◌+◌, ℕ, zero, suc, List, [], ◌∷◌, true, Option, Some, inl, inr, arith, length, get_or, map}
 use Rattle.std.specs.Prelude.{option_map, slice_get}
-use Rattle.std.proofs.lemmas.List.{length-map}
 use Rattle.std.proofs.lemmas.List.Quantifiers.{position-Some}
 use Rattle.std.proofs.lemmas.Option.{slice_get_read, slice_get-get_or, get_or_from_slice_get, slice_get-map}
 use Rattle.batch_recipe.specs.declared.recipe.Recipe as document
@@ -12,7 +11,9 @@ use Rattle.batch_recipe.specs.declared.need.Need.{Need}
 use Rattle.batch_machine.proofs.Batches.{one_batch}
 use Rattle.batch_model.specs.Lists.{Has, Each}
 use Rattle.batch_model.specs.Plant as Model
-use Rattle.batch_model.specs.Plant.{BatchAct, Share}
+use Rattle.batch_model.specs.Plant.{BatchAct, Master, Share, plain}
+use Rattle.batch_model.specs.Setups.{master_of}
+use Rattle.batch_model.specs.Standing.{IsControl, IsStandingBatch}
 use Rattle.batch_model.specs.Moves.{Move, grant, least, is_served}
 use Rattle.batch_model.specs.Placed.{IsPlaced}
 use Rattle.batch_model.specs.Rest.{asking, acts}
@@ -25,10 +26,10 @@ use Rattle.batch_arbiter.specs.Allocation.{Claim, shares_of, line_of, next_grant
 use Rattle.batch_chart.specs.NodesOf.{no_need, place_at, need_at, step_at, task_at}
 use Rattle.batch_recipe.specs.Nodes.{node_count}
 use Rattle.batch_chart.specs.OwnMoves.{grants}
-use Rattle.batch_chart.specs.Charts.{AsksAt, IsChartOf, IsRunningOf, IsRunning, remains}
+use Rattle.batch_chart.specs.Charts.{AsksAt, IsChartFor, IsChartOf, IsRunningOf, IsRunning, remains}
 use Rattle.batch_chart.specs.declared.compiled.Compiled.{Compiled}
 use Rattle.batch_engine.specs.declared.batch.Batch.{Batch}
-use Rattle.batch_engine.specs.View.{EngineView, setup, recipe_at, batch_of, act_of, share_of, acts_of, place_in, names_of, number_of, line_at, plant_of, tree_of}
+use Rattle.batch_engine.specs.View.{EngineView, setup, no_recipe, master_at, bound_to, recipe_at, recipe_made, batch_of, act_of, share_of, place_in, names_of, number_of, line_at, plant_of, tree_of}
 use Rattle.batch_engine.specs.Kept.{IsKept, IsRunningBatch}
 use Rattle.batch_engine.proofs.Nodes.{same-node, within-or_past}
 use Rattle.batch_engine.proofs.Told.{placed, told, standing}
@@ -72,19 +73,26 @@ module _ (v : EngineView) (k : IsKept v) (i : ℕ) (b : Batch) (at : slice_get v
   pub batch-runs : IsRunningBatch v.cleared b
   batch-runs = Each-Has (IsRunningBatch v.cleared) v.batches b k.batches has
 
-  pub tree-placed : IsPlaced (0 ∷ []) (tree_of v.cleared b)
-  tree-placed =
-      let known : b.recipe < length (setup v.cleared).recipes = omega (arith, batch-runs.known, length-map v.cleared.recipes Rattle.batch_model.specs.Recipes.recipe_of) in
-      Each-at (λ (r : Model.Recipe). IsPlaced (0 ∷ []) r.procedure) (setup v.cleared).recipes b.recipe Rattle.batch_engine.specs.View.no_recipe (placed v.cleared k.cleared) known
+  -- its recipe is made from one of the setup's, for units that may take the roles
+  pub is-control : IsControl (setup v.cleared) (recipe_made v.cleared b)
+  is-control =
+      (Each-Has (IsStandingBatch (setup v.cleared)) (plant_of v).batches (batch_of v.cleared b) (standing v k).batches (Has-batch_of v.cleared v.batches b has)).known
 
-  pub in-recipes : b.recipe < length (setup v.cleared).recipes
-  in-recipes = omega (arith, batch-runs.known, length-map v.cleared.recipes Rattle.batch_model.specs.Recipes.recipe_of)
+  pub tree-placed : IsPlaced (0 ∷ []) (tree_of v.cleared b)
+  tree-placed = placed v.cleared k.cleared (recipe_made v.cleared b) is-control
 
   pub in-charts : b.recipe < length v.charts
   in-charts = omega (arith, batch-runs.known, k.charts.count)
 
+  -- the chart serves the units that take its roles
+  pub chart-for : (x : Compiled) → slice_get v.charts b.recipe ≡ Some x → IsChartFor (bound_to v.cleared b.recipe b.units) (tree_of v.cleared b) x
+  chart-for x e = k.charts.each b.recipe x e (bound_to v.cleared b.recipe b.units)
+
+  pub chart-here : (x : Compiled) → slice_get v.charts b.recipe ≡ Some x → IsChartOf (tree_of v.cleared b) x
+  chart-here x e = (chart-for x e).0
+
   pub runs-here : (x : Compiled) → slice_get v.charts b.recipe ≡ Some x → IsRunning x b.running
-  runs-here x e = (tree_of v.cleared b, k.charts.each b.recipe x e, batch-runs.runs)
+  runs-here x e = (tree_of v.cleared b, chart-here x e, batch-runs.runs)
 
   abbrev pub rest_here : Rattle.batch_model.specs.Rest.Rest
   rest_here = remains (tree_of v.cleared b) b.running
@@ -163,7 +171,7 @@ module _ (v : EngineView) (k : IsKept v) (i : ℕ) (b : Batch) (at : slice_get v
       → (j l : ℕ) → j < node → asks_here j l → served_here j l → ⊥
   goes-on x e from node before between j l lt asks served = elim (within-or_past j from) [
     | inl q ↦ before j l q asks served
-    | inr q ↦ between (tree_of v.cleared b) (k.charts.each b.recipe x e) batch-runs.runs j l q lt asks
+    | inr q ↦ between (tree_of v.cleared b) (chart-here x e) batch-runs.runs j l q lt asks
   ]
 
   pub one-batch : (P : Batch → Option Move) (y : Option Move) (d : Batch) → slice_get v.batches i ≡ Some d → P b ≡ y → P d ≡ y
@@ -194,8 +202,14 @@ module _ (v : EngineView) (k : IsKept v) (i : ℕ) (b : Batch) (at : slice_get v
         not_first (serves-first node need q here number (subst₂ (λ y z. served_here y z) same l_is served))
   ]
 
+-- the master recipe with a number
+pub master-found : (c : ClearedSet) (q : ℕ) (r : document.Recipe) → slice_get c.recipes q ≡ Some r → master_at c q ≡ master_of c.cell r
+master-found c q r at =
+    get_or_from_slice_get (map (master_of c.cell) c.recipes) q (master_of c.cell r) (plain no_recipe) (slice_get-map (master_of c.cell) c.recipes q ∙ ap (option_map (master_of c.cell)) at)
+
 -- the recipe with a number, as it is read
-pub recipe-read : (c : ClearedSet) (rs : List document.Recipe) (j q : ℕ) (r : document.Recipe) → rs ≡ c.recipes → j ≡ q → q < length c.recipes → r ≡ get_or rs j r → recipe_at c q ≡ recipe_of r
-recipe-read c rs j q r e f l h =
+pub recipe-read : (c : ClearedSet) (rs : List document.Recipe) (j q : ℕ) (r : document.Recipe) → rs ≡ c.recipes → j ≡ q → q < length c.recipes → r ≡ get_or rs j r
+    → (units : List ℕ) → recipe_at c q units ≡ recipe_of r (bound_to c q units)
+recipe-read c rs j q r e f l h units =
     let at : slice_get c.recipes q ≡ Some r = slice_get_read c.recipes (length c.recipes) q r refl l (h ∙ ap₂ (λ xs i. get_or xs i r) e f) in
-    get_or_from_slice_get (map recipe_of c.recipes) q (recipe_of r) Rattle.batch_engine.specs.View.no_recipe (slice_get-map recipe_of c.recipes q ∙ ap (option_map recipe_of) at)
+    ap (λ (m : Master). m.control (bound_to c q units)) (master-found c q r at)

@@ -8,7 +8,7 @@ use Rattle.std.specs.List.{list_all, zip}
 use Rattle.batch_recipe.specs.ActsAtNodes.{ActList, AreActsAt, IsActAt, IsNoAct, StandsIn, procedure_acts}
 use Rattle.batch_recipe.specs.Conditions.{Name, ValueList, same_name, value_or_0}
 use Rattle.batch_recipe.specs.Diagram.{diagram_of}
-use Rattle.batch_recipe.specs.Expanding.{act_named, act_tree, named_tree}
+use Rattle.batch_recipe.specs.Expanding.{act_named, act_tree, named_tree, unbound}
 use Rattle.batch_recipe.specs.Nodes.{Node}
 use Rattle.batch_recipe.specs.Procedure.{procedure_nodes, table_at, tables_from}
 use Rattle.batch_recipe.specs.Tree.{Place, Tree, act, skip, seq, par, sel, loop}
@@ -69,11 +69,11 @@ no_handed (par ts) h = refl
 no_handed (sel cs) h = refl
 no_handed (loop n c t) h = refl
 
-handed_at_node : (acts : Acts) (a : Option Act) (at : Node) → IsActAt acts a at → handed_in at.here ≡ act_handed a
+handed_at_node : (acts : Acts) (a : Option Act) (at : Node) → IsActAt unbound acts a at → handed_in at.here ≡ act_handed a
 handed_at_node acts None at h = no_handed at.here h
 handed_at_node acts (Some a) at h = ap handed_in h.here_is ∙ handed_of_tree (named_tree (tables_from acts h.below)) h.unit at.place a a.work refl
 
-handed_agree : (acts : Acts) (list : ActList) (ns : List Node) (k : ℕ) (a : Option Act) → AreActsAt acts list ns → slice_get list k ≡ Some a → handed_of (slice_get ns k) ≡ act_handed a
+handed_agree : (acts : Acts) (list : ActList) (ns : List Node) (k : ℕ) (a : Option Act) → AreActsAt unbound acts list ns → slice_get list k ≡ Some a → handed_of (slice_get ns k) ≡ act_handed a
 handed_agree acts [] [] k a h e = let bad : None ≡ Some a = e in absurd cc
 handed_agree acts [] (at ∷ ns) k a h e = absurd h
 handed_agree acts (b ∷ list) [] k a h e = absurd h
@@ -81,7 +81,7 @@ handed_agree acts (b ∷ list) (at ∷ ns) zero a h e = let same : Some b ≡ So
 handed_agree acts (b ∷ list) (at ∷ ns) (suc k) a h e = handed_agree acts list ns k a h.1 e
 
 pub act-handed : (r : Recipe) (k : ℕ) (a : Option Act) → slice_get (procedure_acts r.acts) k ≡ Some a → handed_of (node_of k r) ≡ act_handed a
-act-handed r k a e = handed_agree r.acts (procedure_acts r.acts) (procedure_nodes r.acts) k a (procedure_acts_are r.acts) e
+act-handed r k a e = handed_agree r.acts (procedure_acts r.acts) (procedure_nodes r.acts) k a (procedure_acts_are unbound r.acts) e
 
 past : (ns : List Node) (k : ℕ) → length ns ≤ k → slice_get ns k ≡ None
 past [] k h = refl
@@ -159,19 +159,19 @@ stood-work : (vs : List Name) (acts : Acts) (a : Act) (below : Option Level) →
 stood-work vs acts a below w (inl h) = (act_names acts.unit_procedures.items, ap (is_work (act_names acts.unit_procedures.items) vs) h.0 ∙ w.procedure)
 stood-work vs acts a below w (inr h) = named-work vs acts h.0 h.1.0 a w h.1.1.0
 
-acts-stand : (acts : Acts) (list : ActList) (ns : List Node) (k : ℕ) (a : Act) → AreActsAt acts list ns → slice_get list k ≡ Some (Some a) → (below : Option Level) × StandsIn acts a below
+acts-stand : (acts : Acts) (list : ActList) (ns : List Node) (k : ℕ) (a : Act) → AreActsAt unbound acts list ns → slice_get list k ≡ Some (Some a) → (below : Option Level) × StandsIn acts a below
 acts-stand acts [] [] k a h e = absurd cc
 acts-stand acts [] (at ∷ ns) k a h e = absurd h
 acts-stand acts (b ∷ list) [] k a h e = absurd h
 acts-stand acts (b ∷ list) (at ∷ ns) zero a h e =
     let is : b ≡ Some a = cc in
-    let node = subst (λ (z : Option Act). IsActAt acts z at) is h.0 in
+    let node = subst (λ (z : Option Act). IsActAt unbound acts z at) is h.0 in
     (node.below, node.stands)
 acts-stand acts (b ∷ list) (at ∷ ns) (suc k) a h e = acts-stand acts list ns k a h.1 e
 
 pub few-handed : (r : Recipe) (k : ℕ) (a : Act) (phase : Name) (values : Vec Name) → slice_get (procedure_acts r.acts) k ≡ Some (Some a) → a.work ≡ Runs phase values → length values.items ≤ MAX_VALUES
 few-handed r k a phase values e f =
-    let s = acts-stand r.acts (procedure_acts r.acts) (procedure_nodes r.acts) k a (procedure_acts_are r.acts) e in
+    let s = acts-stand r.acts (procedure_acts r.acts) (procedure_nodes r.acts) k a (procedure_acts_are unbound r.acts) e in
     let names : List Name = value_names r.inputs.items r.parameters.items r.outputs.items in
     let w = stood-work names r.acts a s.0 (works names r.acts r.well_formed) s.1 in
     work-few w.0 names a.work phase values f w.1

@@ -152,7 +152,7 @@ module _ (v : EngineView) (k : IsKept v) (i : ℕ) (b : Batch) (at : slice_get v
       record {
         at = at;
         number = refl;
-        recipe = refl;
+        made = refl;
         runs = made.0;
         is = is;
         of_batch = of-batch (tree_of v.cleared b) (View.batch_of v.cleared b) m;
@@ -165,7 +165,7 @@ module _ (v : EngineView) (k : IsKept v) (i : ℕ) (b : Batch) (at : slice_get v
       let t : IsMove v i b (record b { state = x }) (Moves.state b.number x) = record {
         at = at;
         number = refl;
-        recipe = refl;
+        made = refl;
         runs = (batch-runs v k i b at).runs;
         is = is;
         of_batch = refl;
@@ -338,7 +338,7 @@ module _ (v : EngineView) (k : IsKept v) (i : ℕ) (b : Batch) (at : slice_get v
       let t : IsMove v i b (record b { running = r }) l = record {
         at = at;
         number = refl;
-        recipe = refl;
+        made = refl;
         runs = runs;
         is = is;
         of_batch = refl;

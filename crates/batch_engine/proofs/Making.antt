@@ -15,7 +15,7 @@ use Rattle.batch_arbiter.specs.Allocation.{Claim, without_first}
 use Rattle.batch_chart.specs.NodesOf.{place_at}
 use Rattle.batch_engine.specs.declared.batch.Batch.{Batch}
 use Rattle.batch_engine.specs.View.{tree_at, batch_of, share_of, acts_of, place_in, names_of, number_of, tree_of}
-use Rattle.batch_engine.proofs.BatchPlaces.{chosen-true, chosen-false, later-number}
+use Rattle.batch_engine.proofs.BatchPlaces.{made_by, chosen-true, chosen-false, later-number}
 use Rattle.batch_engine.proofs.Finding.{Has-get, named}
 
 pub fun_ext : {A B : Type 0} {f g : A → B} → ((x : A) → f x ≡ g x) → f ≡ g
@@ -35,18 +35,18 @@ test-other' : (m n : ℕ) → n < m → nat_eq m n ≡ false
 test-other' m n l = grind arith
 
 module _ (c : ClearedSet) (next : ℕ) (b' : Batch) where
-  -- places stay where one batch is changed and keeps its number and its recipe
-  pub place-same : (bs : List Batch) (i : ℕ) (b : Batch) → slice_get bs i ≡ Some b → b'.number ≡ b.number → b'.recipe ≡ b.recipe → (n j : ℕ)
+  -- places stay where one batch is changed and keeps its number, its recipe and its units
+  pub place-same : (bs : List Batch) (i : ℕ) (b : Batch) → slice_get bs i ≡ Some b → b'.number ≡ b.number → made_by b' ≡ made_by b → (n j : ℕ)
       → place_in c (set bs i b') n j ≡ place_in c bs n j
   place-same [] i b e p q n j = absurd cc
   place-same (x ∷ bs) zero b e p q n j =
       let f : x ≡ b = cc in
-      ap₂ (λ m r. let z : Place = elim (nat_eq m n) [ true ↦ place_at (tree_at c r) j | false ↦ place_in c bs n j ] in z)
-      (p ∙ sym (ap (λ (z : Batch). z.number) f)) (q ∙ sym (ap (λ (z : Batch). z.recipe) f))
+      ap₂ (λ m (r : ℕ × List ℕ). let z : Place = elim (nat_eq m n) [ true ↦ place_at (tree_at c r.0 r.1) j | false ↦ place_in c bs n j ] in z)
+      (p ∙ sym (ap (λ (z : Batch). z.number) f)) (q ∙ sym (ap made_by f))
   place-same (x ∷ bs) (suc i) b e p q n j =
       ap (λ r. let z : Place = elim (nat_eq x.number n) [ true ↦ place_at (tree_of c x) j | false ↦ r ] in z) (place-same bs i b e p q n j)
 
-  pub acts-same : (bs : List Batch) (i : ℕ) (b : Batch) → slice_get bs i ≡ Some b → b'.number ≡ b.number → b'.recipe ≡ b.recipe → (xs : List Claim)
+  pub acts-same : (bs : List Batch) (i : ℕ) (b : Batch) → slice_get bs i ≡ Some b → b'.number ≡ b.number → made_by b' ≡ made_by b → (xs : List Claim)
       → acts_of c (set bs i b') xs ≡ acts_of c bs xs
   acts-same bs i b e p q xs = map-same (share_of c (set bs i b')) (share_of c bs) xs (λ x. ap (λ (z : Place). let y : Share = record { act = (x.batch, z); units = x.units } in y) (place-same bs i b e p q x.batch x.node))
 

@@ -1,5 +1,5 @@
 -- What a cleared recipe's acts need and run has numbers.
-use Rattle.std.proofs.Common.{◌≡◌, ◌<◌, ◌≤◌, refl, sym, ◌∙◌, ap, subst, ℕ, zero, suc, List, [], ◌∷◌, ◌++◌, Bool, true, false, ◌&&◌, ◌||◌, if◌then◌else◌, Option, Some, None, arith, length, map, filter, cond, get_or, nat_lt}
+use Rattle.std.proofs.Common.{◌≡◌, ◌<◌, ◌≤◌, refl, sym, ◌∙◌, ap, subst, ℕ, zero, suc, List, [], ◌∷◌, ◌++◌, Bool, true, false, ◌||◌, if◌then◌else◌, Option, Some, None, arith, length, map, filter, cond, get_or, nat_lt}
 use Rattle.std.specs.Prelude.{slice_get, position, unwrap_or, IsTrue}
 use Rattle.std.specs.List.{list_any, list_all}
 use Rattle.std.proofs.lemmas.List.{length-map, length-append}
@@ -24,14 +24,16 @@ use Rattle.batch_model.specs.Lists.{Each}
 use Rattle.batch_model.specs.Plant as Model
 use Rattle.batch_model.proofs.Members.{Each-map}
 use Rattle.batch_model.proofs.Parts.{parts-nodes}
+use Rattle.batch_model.specs.Standing.{IsControl}
+use Rattle.batch_laws.proofs.Clearing.{control-clear}
 use Rattle.batch_laws.proofs.Entries.{name_same}
 use Rattle.batch_verify.specs.ClearedSet.{ClearedSet}
 use Rattle.batch_arbiter.proofs.Positions.{NonePasses, NonePasses-position}
-use Rattle.batch_chart.specs.NodesOf.{nodes_of, node_at, step_of, step_at, task_of, need_at, no_need, phase_at, phase_in}
+use Rattle.batch_chart.specs.NodesOf.{nodes_of, node_at, step_of, step_at, task_of, need_at, no_need, phase_at, phase_in, phase_named}
 use Rattle.batch_engine.specs.Names as Names
 use Rattle.batch_engine.specs.Numbered as Numbers
-use Rattle.batch_engine.specs.Numbered.{need_number, phase_number, phase_among}
-use Rattle.batch_engine.specs.View.{setup, recipe_at, tree_at, no_recipe, number_of}
+use Rattle.batch_engine.specs.Numbered.{resource_number, phase_number, phase_among}
+use Rattle.batch_engine.specs.View.{setup, number_of}
 use Rattle.batch_engine.specs.declared.numbers.PhaseNumber.{PhaseNumber}
 use Rattle.batch_engine.proofs.Finding.{Each-at}
 
@@ -91,13 +93,13 @@ module _ (cell : Cell) (unit phase : Name) (offers : list_any (same_name phase) 
   pub unit-number : (q : ℕ) × (position (same_name unit) (units_of cell) ≡ Some q)
   unit-number = any-position (same_name unit) (units_of cell) (offering-unit (units_of cell) cell.modules.items unit phase cell.declared_units offers)
 
-  unit-named : slice_get (units_of cell) unit-number.0 ≡ Some unit
-  unit-named = name-at (units_of cell) unit unit-number.0 unit-number.1
+  unit-there : slice_get (units_of cell) unit-number.0 ≡ Some unit
+  unit-there = name-at (units_of cell) unit unit-number.0 unit-number.1
 
   offered-here : list_any (same_name phase) (phases_of cell unit-number.0) ≡ true
   offered-here =
       subst (λ (z : Name). list_any (same_name phase) (unit_phases cell.modules.items z) ≡ true)
-      (sym (get_or_from_slice_get (units_of cell) unit-number.0 unit [] unit-named)) offers
+      (sym (get_or_from_slice_get (units_of cell) unit-number.0 unit [] unit-there)) offers
 
   pub phase-among : (q : ℕ) × (position (same_name phase) (phases_of cell unit-number.0) ≡ Some q)
   phase-among = any-position (same_name phase) (phases_of cell unit-number.0) offered-here
@@ -123,6 +125,12 @@ within-yes m n l = grind arith
 
 within-no : (m n : ℕ) → n < m → nat_lt m n ≡ false
 within-no m n l = grind arith
+
+-- the unit with a number has the name of the resource with this number
+pub unit-named : (c : ClearedSet) (u : ℕ) (name : Name) → slice_get (units_of c.cell) u ≡ Some name → Names.resource_name c u ≡ name
+unit-named c u name at =
+    ap (λ (o : Option Name). unwrap_or o [])
+    (slice_get-front (units_of c.cell ++ free_names c.cell) (shared_names c.cell) u name (slice_get-front (units_of c.cell) (free_names c.cell) u name at))
 
 -- a phase that is offered has the unit and the name that its numbers name
 pub phase-named : (c : ClearedSet) (p : Phase) → list_any (same_name p.name) (unit_phases c.cell.modules.items p.unit) ≡ true
@@ -158,37 +166,35 @@ needs-same (par ts) = refl
 needs-same (sel cs) = refl
 needs-same (loop n c t) = refl
 
-module _ (c : ClearedSet) (cleared : CanBeCleared (setup c)) (recipe : ℕ) (known : recipe < length (setup c).recipes) where
-  pub node-named : (k : ℕ) → k < node_count (tree_at c recipe) → IsNamed c (node_at (tree_at c recipe) k).here
+module _ (c : ClearedSet) (cleared : CanBeCleared (setup c)) (r : Model.Recipe) (control : IsControl (setup c) r) where
+  pub node-named : (k : ℕ) → k < node_count r.procedure → IsNamed c (node_at r.procedure k).here
   node-named k l =
-      let r : Model.Recipe = recipe_at c recipe in
-      let clear : Each (IsClear (setup c) cleared.0) (procedure_parts r) =
-      Each-at (λ (r : Model.Recipe). Each (IsClear (setup c) cleared.0) (procedure_parts r)) (setup c).recipes recipe no_recipe cleared.1.recipes known in
+      let clear : Each (IsClear (setup c) cleared.0) (procedure_parts r) = control-clear (setup c) cleared.0 cleared.1 r control in
       let parts-named : Each (λ (x : Part). IsNamed c x.node.here) (procedure_parts r) =
       Each-map (IsClear (setup c) cleared.0) (λ (x : Part). IsNamed c x.node.here) (λ x h. (h.known, h.offered)) (procedure_parts r) clear in
-      let all : Each (λ (n : Node). IsNamed c n.here) (nodes_of (tree_at c recipe)) =
-      subst (Each (λ (n : Node). IsNamed c n.here)) (parts-nodes is_procedure (0 ∷ []) [] (tree_at c recipe))
+      let all : Each (λ (n : Node). IsNamed c n.here) (nodes_of r.procedure) =
+      subst (Each (λ (n : Node). IsNamed c n.here)) (parts-nodes is_procedure (0 ∷ []) [] r.procedure)
       (Each-mapped (λ (n : Node). IsNamed c n.here) (λ (x : Part). x.node) (procedure_parts r) parts-named) in
-      Each-at (λ (n : Node). IsNamed c n.here) (nodes_of (tree_at c recipe)) k (record { place = []; asked = []; here = skip }) all
-      (omega (arith, l, counted_nodes (0 ∷ []) [] (tree_at c recipe)))
+      Each-at (λ (n : Node). IsNamed c n.here) (nodes_of r.procedure) k (record { place = []; asked = []; here = skip }) all
+      (omega (arith, l, counted_nodes (0 ∷ []) [] r.procedure))
 
   -- the number that stands for a need is that of its resource
-  pub need-numbered : (k i : ℕ) → k < node_count (tree_at c recipe) → i < length (step_at (tree_at c recipe) k).needs
-      → number_of c (need_at (tree_at c recipe) k i).resource ≡ Some (need_number c.cell (need_at (tree_at c recipe) k i)).resource
+  pub need-numbered : (k i : ℕ) → k < node_count r.procedure → i < length (step_at r.procedure k).needs
+      → number_of c (need_at r.procedure k i).resource ≡ Some (resource_number c.cell (need_at r.procedure k i).resource)
   need-numbered k i l m =
-      let n : Need = need_at (tree_at c recipe) k i in
-      let here : Each (λ (need : Need). IsTrue (is_among (resources_of c.cell) need.resource)) (step_at (tree_at c recipe) k).needs =
-      subst (Each (λ (need : Need). IsTrue (is_among (resources_of c.cell) need.resource))) (needs-same (node_at (tree_at c recipe) k).here) (node-named k l).0 in
+      let n : Need = need_at r.procedure k i in
+      let here : Each (λ (need : Need). IsTrue (is_among (resources_of c.cell) need.resource)) (step_at r.procedure k).needs =
+      subst (Each (λ (need : Need). IsTrue (is_among (resources_of c.cell) need.resource))) (needs-same (node_at r.procedure k).here) (node-named k l).0 in
       let among : IsTrue (is_among (resources_of c.cell) n.resource) =
-      Each-at (λ (need : Need). IsTrue (is_among (resources_of c.cell) need.resource)) (step_at (tree_at c recipe) k).needs i no_need here m in
+      Each-at (λ (need : Need). IsTrue (is_among (resources_of c.cell) need.resource)) (step_at r.procedure k).needs i no_need here m in
       let q = any-position (same_name n.resource) (resources_of c.cell) among in
       q.1 ∙ ap Some (sym (ap (λ (o : Option ℕ). unwrap_or o 0) q.1))
 
   -- so are those that stand for a phase; at any other node they name nothing
-  pub phase-numbered : (few : length (resources_of c.cell) < 65535) (fewer : length (units_of c.cell) < 65535) (k : ℕ) → k < node_count (tree_at c recipe)
-      → (let x = Numbers.phase_in c.cell (node_at (tree_at c recipe) k).here in let p = phase_at (tree_at c recipe) k in
+  pub phase-numbered : (few : length (resources_of c.cell) < 65535) (fewer : length (units_of c.cell) < 65535) (k : ℕ) → k < node_count r.procedure
+      → (let x = Numbers.phase_in c.cell (node_at r.procedure k).here in let p = phase_at r.procedure k in
       (Names.resource_name c x.unit ≡ p.unit) × (Names.phase_name c x.unit x.phase ≡ p.name))
-  phase-numbered few fewer k l = go (node_at (tree_at c recipe) k).here (node-named k l).1
+  phase-numbered few fewer k l = go (node_at r.procedure k).here (node-named k l).1
     where
       past : (names : List Name) (q : ℕ) → length names < q → slice_get names q ≡ None
       past [] q h = refl
@@ -210,6 +216,24 @@ module _ (c : ClearedSet) (cleared : CanBeCleared (setup c)) (recipe : ℕ) (kno
       go (par ts) h = nothing
       go (sel cs) h = nothing
       go (loop n q t) h = nothing
+
+  -- where a phase is run, the number is that of its unit
+  pub unit-numbered : (k : ℕ) → k < node_count r.procedure → (names : Name × Name) → phase_named (node_at r.procedure k).here ≡ Some names
+      → position (same_name names.0) (units_of c.cell) ≡ Some (Numbers.phase_in c.cell (node_at r.procedure k).here).unit
+  unit-numbered k l names e = go (node_at r.procedure k).here (node-named k l).1 e
+    where
+      go : (t : Tree) → IsOffered (setup c) t → phase_named t ≡ Some names → position (same_name names.0) (units_of c.cell) ≡ Some (Numbers.phase_in c.cell t).unit
+      go (act s (runs p)) h f =
+          let u = unit-number c.cell p.unit p.name h in
+          let same : (let x : Name × Name = (p.unit, p.name) in x) ≡ names = cc in
+          ap (λ (x : Name × Name). position (same_name x.0) (units_of c.cell)) (sym same) ∙ u.1
+          ∙ sym (ap (λ (x : PhaseNumber). let o : Option ℕ = Some x.unit in o) (numbered-phase c.cell p.unit p.name h))
+      go (act s (follows name t)) h f = absurd cc
+      go skip h f = absurd cc
+      go (seq ts) h f = absurd cc
+      go (par ts) h f = absurd cc
+      go (sel cs) h f = absurd cc
+      go (loop n q t) h f = absurd cc
 
 -- A cell has few resources
 

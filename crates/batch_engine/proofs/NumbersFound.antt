@@ -1,36 +1,47 @@
 -- What is looked up among the numbers of acts.
-use Rattle.std.proofs.Common.{◌≡◌, ◌<◌, refl, sym, ◌∙◌, ap, ap₂, subst, ℕ, zero, suc, List, [], ◌∷◌, ◌++◌, Option, Some, None, arith, length, map, get_or, slice_get}
-use Rattle.std.specs.Prelude.{option_map}
-use Rattle.std.proofs.lemmas.Option.{slice_get_read, slice_get_within, slice_get-get_or, slice_get-map}
+use Rattle.std.proofs.Common.{◌≡◌, ◌<◌, refl, sym, ◌∙◌, ap, ap₂, subst, ℕ, zero, suc, List, [], ◌∷◌, ◌++◌, true, Option, Some, None, arith, length, map, get_or, slice_get}
+use Rattle.std.specs.Prelude.{option_map, position}
+use Rattle.std.proofs.lemmas.Option.{slice_get_read, slice_get_within, slice_get-get_or, slice_get-map, get_or_from_slice_get}
+use Rattle.std.proofs.lemmas.List.{length-map}
+use Rattle.batch_cell.specs.LookUps.{units_of}
 use Rattle.batch_cell.specs.declared.cell.Cell.{Cell}
 use Rattle.batch_recipe.specs.ActsAtNodes.{ActList, AreActsAt, IsActAt, IsNoAct, procedure_acts}
-use Rattle.batch_recipe.specs.Conditions.{Name}
-use Rattle.batch_recipe.specs.Expanding.{asked_by, named_tree}
+use Rattle.batch_recipe.specs.Conditions.{Name, same_name}
+use Rattle.batch_recipe.specs.Expanding.{Binding, act_tree_with, asked_by, named_tree_with, unit_chosen, unit_with}
 use Rattle.batch_recipe.specs.Nodes.{Node}
-use Rattle.batch_recipe.specs.Procedure.{procedure_nodes, procedure_tree, tables_from}
-use Rattle.batch_recipe.specs.Tree.{Tree, act, skip, seq, par, sel, loop, runs, follows}
+use Rattle.batch_recipe.specs.Procedure.{bound_nodes, bound_tree, tables_from}
+use Rattle.batch_recipe.specs.Tree.{Place, Tree, act, skip, seq, par, sel, loop, runs, follows}
+use Rattle.batch_recipe.specs.WellFormed.{is_among}
 use Rattle.batch_recipe.specs.declared.act.Act.{Act}
+use Rattle.batch_recipe.specs.declared.act.UnitChoice.{UnitChoice}
+use Rattle.batch_recipe.specs.declared.act.UnitChoice.TheVariants.{Unit, Role}
 use Rattle.batch_recipe.specs.declared.acts.Acts.{Acts}
 use Rattle.batch_recipe.specs.declared.need.Need.{Need}
+use Rattle.batch_recipe.specs.declared.recipe.Recipe.{Recipe}
 use Rattle.batch_recipe.proofs.NodeActs.{procedure_acts_are}
-use Rattle.batch_chart.specs.NodesOf.{node_at, phase_named, step_of}
-use Rattle.batch_engine.specs.Numbered.{AreActsNumbered, IsActNumbered, IsOfAct, need_number, phase_in, phase_number}
-use Rattle.batch_engine.specs.View.{EngineView, tree_at}
+use Rattle.batch_model.specs.Lists.{Each}
+use Rattle.batch_model.proofs.Members.{Each-Has}
+use Rattle.batch_chart.specs.NodesOf.{needs_in, node_at, phase_named, step_of}
+use Rattle.batch_engine.specs.Names.{roles_at, roles_of}
+use Rattle.batch_engine.specs.Numbered.{AreActsNumbered, AreNeeds, IsActNumbered, IsChoiceNumber, IsOfRoles, IsTaskNumbered, named_need, need_number, need_with, number_with, phase_among, phase_in, phase_number, phase_on, resource_number}
+use Rattle.batch_engine.specs.View.{EngineView, bound_to, master_at, tree_at}
 use Rattle.batch_engine.specs.Kept.{IsKept}
 use Rattle.batch_engine.specs.declared.numbers.ActNumbers.{ActNumbers}
 use Rattle.batch_engine.specs.declared.numbers.NeedNumber.{NeedNumber}
 use Rattle.batch_engine.specs.declared.numbers.RecipeNumbers.{RecipeNumbers}
+use Rattle.batch_engine.specs.declared.numbers.ResourceNumber.{ResourceNumber}
+use Rattle.batch_engine.specs.declared.numbers.TaskNumber.TheVariants.{Phase}
 use Rattle.batch_engine.specs.declared.numbers.TheConstants.{NO_PHASE}
 use Rattle.batch_engine.specs.declared.batch.Batch.{Batch}
-use Rattle.batch_engine.proofs.Finding.{batch-runs}
-use Rattle.batch_engine.proofs.Telling.{some-at, tree-is}
+use Rattle.batch_engine.proofs.Finding.{Has-get, batch-runs}
+use Rattle.batch_engine.proofs.Roles.{role-declared}
+use Rattle.batch_engine.proofs.Telling.{roles-read, some-at, tree-bound}
 
--- the unit's need, and those after it
-pub asked-all : (f : Need → NeedNumber) (u : Option Name) (xs : List Need) → map f (asked_by u []) ++ map f xs ≡ map f (asked_by u xs)
-asked-all f None xs = refl
-asked-all f (Some unit) xs = refl
+-- the node is that of this act, on some unit, where the roles are bound
+abbrev pub IsOfAct : Binding → Act → Tree → Type 0
+IsOfAct bound a here = (trees : Name → Name → Place → Tree) × (unit : Name) × (p : Place) × (here ≡ act_tree_with bound trees unit a p)
 
-abbrev name_first : Option (Name × Name) → Name
+abbrev pub name_first : Option (Name × Name) → Name
 name_first None = []
 name_first (Some x) = x.0
 
@@ -60,64 +71,154 @@ unnamed-task cell (par ts) e = refl
 unnamed-task cell (sel cs) e = refl
 unnamed-task cell (loop n c t) e = refl
 
+-- the phase of this name on the unit with this number is that of the node, where it is so named
+pub phase-taken : (cell : Cell) (t : Tree) (unit phase : Name) (number : ℕ) → phase_named t ≡ Some (unit, phase) → position (same_name unit) (units_of cell) ≡ Some number
+    → phase_on cell number (phase_named t) ≡ phase_in cell t
+phase-taken cell t unit phase number e f = ap (phase_on cell number) e ∙ ap (phase_among cell phase) (sym f) ∙ named-task cell t unit phase e
+
 -- The act at a node
 
-acts-agree : (acts : Acts) (list : ActList) (ns : List Node) (k : ℕ) (a : Act) (d : Node) → AreActsAt acts list ns → slice_get list k ≡ Some (Some a) → IsActAt acts (Some a) (get_or ns k d)
-acts-agree acts [] [] k a d h e = absurd cc
-acts-agree acts [] (at ∷ ns) k a d h e = absurd h
-acts-agree acts (b ∷ list) [] k a d h e = absurd h
-acts-agree acts (b ∷ list) (at ∷ ns) zero a d h e = let is : b ≡ Some a = cc in subst (λ (z : Option Act). IsActAt acts z at) is h.0
-acts-agree acts (b ∷ list) (at ∷ ns) (suc k) a d h e = acts-agree acts list ns k a d h.1 e
+module _ (bound : Binding) (acts : Acts) where
+  acts-agree : (list : ActList) (ns : List Node) (k : ℕ) (a : Act) (d : Node) → AreActsAt bound acts list ns → slice_get list k ≡ Some (Some a) → IsActAt bound acts (Some a) (get_or ns k d)
+  acts-agree [] [] k a d h e = absurd cc
+  acts-agree [] (at ∷ ns) k a d h e = absurd h
+  acts-agree (b ∷ list) [] k a d h e = absurd h
+  acts-agree (b ∷ list) (at ∷ ns) zero a d h e = let is : b ≡ Some a = cc in subst (λ (z : Option Act). IsActAt bound acts z at) is h.0
+  acts-agree (b ∷ list) (at ∷ ns) (suc k) a d h e = acts-agree list ns k a d h.1 e
 
-none-agree : (acts : Acts) (list : ActList) (ns : List Node) (k : ℕ) (d : Node) → AreActsAt acts list ns → slice_get list k ≡ Some None → IsNoAct (get_or ns k d).here
-none-agree acts [] [] k d h e = absurd cc
-none-agree acts [] (at ∷ ns) k d h e = absurd h
-none-agree acts (b ∷ list) [] k d h e = absurd h
-none-agree acts (b ∷ list) (at ∷ ns) zero d h e = let is : b ≡ None = cc in subst (λ (z : Option Act). IsActAt acts z at) is h.0
-none-agree acts (b ∷ list) (at ∷ ns) (suc k) d h e = none-agree acts list ns k d h.1 e
+  none-agree : (list : ActList) (ns : List Node) (k : ℕ) (d : Node) → AreActsAt bound acts list ns → slice_get list k ≡ Some None → IsNoAct (get_or ns k d).here
+  none-agree [] [] k d h e = absurd cc
+  none-agree [] (at ∷ ns) k d h e = absurd h
+  none-agree (b ∷ list) [] k d h e = absurd h
+  none-agree (b ∷ list) (at ∷ ns) zero d h e = let is : b ≡ None = cc in subst (λ (z : Option Act). IsActAt bound acts z at) is h.0
+  none-agree (b ∷ list) (at ∷ ns) (suc k) d h e = none-agree list ns k d h.1 e
 
-pub act-here : (acts : Acts) (k : ℕ) (a : Act) → slice_get (procedure_acts acts) k ≡ Some (Some a) → IsOfAct a (node_at (procedure_tree acts) k).here
-act-here acts k a e =
-    let h = acts-agree acts (procedure_acts acts) (procedure_nodes acts) k a (record { place = []; asked = []; here = skip }) (procedure_acts_are acts) e in
-    (named_tree (tables_from acts h.below), h.unit, (node_at (procedure_tree acts) k).place, h.here_is)
+  pub act-here : (k : ℕ) (a : Act) → slice_get (procedure_acts acts) k ≡ Some (Some a) → IsOfAct bound a (node_at (bound_tree bound acts) k).here
+  act-here k a e =
+      let h = acts-agree (procedure_acts acts) (bound_nodes bound acts) k a (record { place = []; asked = []; here = skip }) (procedure_acts_are bound acts) e in
+      (named_tree_with bound (tables_from acts h.below), h.unit, (node_at (bound_tree bound acts) k).place, h.here_is)
 
-pub none-here : (acts : Acts) (k : ℕ) → slice_get (procedure_acts acts) k ≡ Some None → IsNoAct (node_at (procedure_tree acts) k).here
-none-here acts k e = none-agree acts (procedure_acts acts) (procedure_nodes acts) k (record { place = []; asked = []; here = skip }) (procedure_acts_are acts) e
+  pub none-here : (k : ℕ) → slice_get (procedure_acts acts) k ≡ Some None → IsNoAct (node_at (bound_tree bound acts) k).here
+  none-here k e = none-agree (procedure_acts acts) (bound_nodes bound acts) k (record { place = []; asked = []; here = skip }) (procedure_acts_are bound acts) e
 
 -- The numbers of a recipe's acts
 
 pub got-numbers : (v w : EngineView) (k i : ℕ) (x : RecipeNumbers) → w ≡ v → k ≡ i → i < length v.numbers → x ≡ get_or w.numbers k x → slice_get v.numbers i ≡ Some x
 got-numbers v w k i x e q l h = slice_get_read v.numbers (length v.numbers) i x refl l (h ∙ ap₂ (λ (z : EngineView) j. get_or z.numbers j x) e q)
 
-pub numbers-here : (v : EngineView) → IsKept v → (recipe : ℕ) (x : RecipeNumbers) → slice_get v.numbers recipe ≡ Some x → AreActsNumbered v.cleared.cell (tree_at v.cleared recipe) x
-numbers-here v k recipe x e =
+pub numbers-here : (v : EngineView) → IsKept v → (recipe : ℕ) (x : RecipeNumbers) → slice_get v.numbers recipe ≡ Some x
+    → (bound : Binding) → AreActsNumbered v.cleared.cell (roles_at v.cleared recipe) bound ((master_at v.cleared recipe).control bound).procedure x
+numbers-here v k recipe x e bound =
     let r = some-at v.cleared.recipes recipe (let l : recipe < length v.numbers = slice_get_within v.numbers recipe x e in omega (arith, k.numbers.count)) in
-    subst (λ t. AreActsNumbered v.cleared.cell t x) (sym (tree-is v.cleared recipe r.0 r.1)) (k.numbers.each recipe r.0 x r.1 e)
+    subst (λ t. AreActsNumbered v.cleared.cell (roles_at v.cleared recipe) bound t x) (sym (tree-bound v.cleared recipe r.0 r.1 bound))
+    (subst (λ ns. AreActsNumbered v.cleared.cell ns bound (bound_tree bound r.0.acts) x) (sym (roles-read v.cleared recipe r.0 r.1)) (k.numbers.each recipe r.0 x r.1 e bound))
+
+-- how many needs the acts have, whatever units take the roles
+pub needs-here : (v : EngineView) → IsKept v → (recipe : ℕ) (x : RecipeNumbers) → slice_get v.numbers recipe ≡ Some x → (units : List ℕ) → x.needs ≡ needs_in (tree_at v.cleared recipe units)
+needs-here v k recipe x e units = (numbers-here v k recipe x e (bound_to v.cleared recipe units)).needs
 
 pub in-numbers : (v : EngineView) (k : IsKept v) (i : ℕ) (b : Batch) → slice_get v.batches i ≡ Some b → b.recipe < length v.numbers
 in-numbers v k i b at = omega (arith, (batch-runs v k i b at).known, k.numbers.count)
 
 -- the number of a need among those of an act
-pub need-among : (cell : Cell) (here : Tree) (x : ActNumbers) (i : ℕ) (d : Need) (n : NeedNumber) → IsActNumbered cell here x → slice_get x.needs.items i ≡ Some n → i < length (step_of here).needs
-    → n ≡ need_number cell (get_or (step_of here).needs i d)
-need-among cell here x i d n h e l =
-    let got : ◌≡◌ {A = Option NeedNumber} (Some n) (Some (need_number cell (get_or (step_of here).needs i d))) =
-    sym e ∙ ap (λ xs. slice_get xs i) h.needs ∙ slice_get-map (need_number cell) (step_of here).needs i
+pub need-among : (cell : Cell) (roles : List Name) (bound : Binding) (here : Tree) (x : ActNumbers) (i : ℕ) (d : Need) (n : NeedNumber) → IsActNumbered cell roles bound here x
+    → slice_get x.needs.items i ≡ Some n → i < length (step_of here).needs → need_with cell roles bound n ≡ need_number cell (get_or (step_of here).needs i d)
+need-among cell roles bound here x i d n h e l =
+    let got : ◌≡◌ {A = Option (ℕ × ℕ)} (Some (need_with cell roles bound n)) (Some (need_number cell (get_or (step_of here).needs i d))) =
+    sym (ap (option_map (need_with cell roles bound)) e) ∙ sym (slice_get-map (need_with cell roles bound) x.needs.items i)
+    ∙ ap (λ (xs : List (ℕ × ℕ)). slice_get xs i) h.needs ∙ slice_get-map (need_number cell) (step_of here).needs i
     ∙ ap (option_map (need_number cell)) (slice_get-get_or (step_of here).needs i d l) in
     cc
 
+pub needs-length : (cell : Cell) (roles : List Name) (bound : Binding) (here : Tree) (x : ActNumbers) → IsActNumbered cell roles bound here x → length x.needs.items ≡ length (step_of here).needs
+needs-length cell roles bound here x h =
+    sym (length-map x.needs.items (need_with cell roles bound)) ∙ ap (λ (xs : List (ℕ × ℕ)). length xs) h.needs ∙ length-map (step_of here).needs (need_number cell)
+
+pub need-of_roles : (cell : Cell) (roles : List Name) (bound : Binding) (here : Tree) (x : ActNumbers) (i : ℕ) (n : NeedNumber) → IsActNumbered cell roles bound here x
+    → slice_get x.needs.items i ≡ Some n → IsOfRoles roles n.resource
+need-of_roles cell roles bound here x i n h e = Each-Has (λ (z : NeedNumber). IsOfRoles roles z.resource) x.needs.items n h.of_roles (Has-get x.needs.items i n e)
+
+-- What an act needs, by the numbers of what it names
+
+named-needs : (cell : Cell) (roles : List Name) (bound : Binding) (ns : List Need) → map (need_with cell roles bound) (map (named_need cell) ns) ≡ map (need_number cell) ns
+named-needs cell roles bound [] = refl
+named-needs cell roles bound (n ∷ ns) = ap (λ (ys : List (ℕ × ℕ)). need_number cell n ∷ ys) (named-needs cell roles bound ns)
+
+named-of_roles : (cell : Cell) (roles : List Name) (ns : List Need) → Each (λ (z : NeedNumber). IsOfRoles roles z.resource) (map (named_need cell) ns)
+named-of_roles cell roles [] = tt
+named-of_roles cell roles (n ∷ ns) = (tt, named-of_roles cell roles ns)
+
+choice-number : (cell : Cell) (roles : List Name) (bound : Binding) (choice : UnitChoice) (x : ResourceNumber) → IsChoiceNumber cell roles choice x
+    → ((role : Name) → choice ≡ Role role → is_among roles role ≡ true) → (number_with cell roles bound x ≡ resource_number cell (unit_chosen bound choice)) × IsOfRoles roles x
+choice-number cell roles bound (Unit unit) x h declared = (ap (number_with cell roles bound) h, subst (IsOfRoles roles) (sym h) tt)
+choice-number cell roles bound (Role role) x h declared =
+    let at : slice_get roles h.0 ≡ Some role = h.2 (declared role refl) in (
+      ap (number_with cell roles bound) h.1 ∙ ap (λ (name : Name). resource_number cell (bound name)) (get_or_from_slice_get roles h.0 role [] at),
+      subst (IsOfRoles roles) (sym h.1) (slice_get_within roles h.0 role at),
+    )
+
+pub act-needs : (cell : Cell) (roles : List Name) (bound : Binding) (unit : Option UnitChoice) (needs : List Need) (xs : List NeedNumber) → AreNeeds cell roles unit needs xs
+    → ((role : Name) → unit ≡ Some (Role role) → is_among roles role ≡ true)
+    → (map (need_with cell roles bound) xs ≡ map (need_number cell) (asked_by (unit_with bound unit) needs)) × Each (λ (z : NeedNumber). IsOfRoles roles z.resource) xs
+act-needs cell roles bound None needs xs h declared =
+    let is : xs ≡ map (named_need cell) needs = h.2 ∙ ap (λ (first : List NeedNumber). first ++ map (named_need cell) needs) h.1 in
+    (ap (map (need_with cell roles bound)) is ∙ named-needs cell roles bound needs, subst (Each (λ (z : NeedNumber). IsOfRoles roles z.resource)) (sym is) (named-of_roles cell roles needs))
+act-needs cell roles bound (Some choice) needs xs h declared =
+    let x : ResourceNumber = h.1.0 in
+    let own : NeedNumber = record { resource = x; units = 1 } in
+    let is : xs ≡ own ∷ map (named_need cell) needs = h.2 ∙ ap (λ (first : List NeedNumber). first ++ map (named_need cell) needs) h.1.1 in
+    let chosen = choice-number cell roles bound choice x h.1.2 (λ role e. declared role (ap Some e)) in (
+      ap (map (need_with cell roles bound)) is
+          ∙ ap₂ (λ (n : ℕ) (ys : List (ℕ × ℕ)). (let y : ℕ × ℕ = (n, 1) in y) ∷ ys) chosen.0 (named-needs cell roles bound needs),
+      subst (Each (λ (z : NeedNumber). IsOfRoles roles z.resource)) (sym is) (chosen.1, named-of_roles cell roles needs),
+    )
+
+-- the unit that an act's first need names, whatever units take the roles
+abbrev first_resource : List Need → Name
+first_resource [] = []
+first_resource (n ∷ ns) = n.resource
+
+unit-first : (bound : Binding) (unit : Option UnitChoice) (role : Name) (needs : List Need) → unit ≡ Some (Role role) → first_resource (asked_by (unit_with bound unit) needs) ≡ bound role
+unit-first bound unit role needs e = ap (λ (u : Option UnitChoice). first_resource (asked_by (unit_with bound u) needs)) e
+
+pub act-declared : (r : Recipe) (k : ℕ) (a : Act) (role : Name) → slice_get (procedure_acts r.acts) k ≡ Some (Some a) → a.unit ≡ Some (Role role) → is_among (roles_of r) role ≡ true
+act-declared r k a role e f =
+    role-declared r role (λ t. first_resource (step_of (node_at t k).here).needs)
+    (λ bound. (let h = act-here bound r.acts k a e in ap (λ (t : Tree). first_resource (step_of t).needs) h.3 ∙ unit-first bound a.unit role a.needs.items f))
+
 -- Tables that grow
 
-pub no-act-numbered : (cell : Cell) (t : Tree) (x : ActNumbers) → IsNoAct t → x.needs.items ≡ [] → x.phase ≡ NO_PHASE → IsActNumbered cell t x
-no-act-numbered cell (act s w) x h e f = absurd h
-no-act-numbered cell skip x h e f = record { needs = e; phase = f }
-no-act-numbered cell (seq ts) x h e f = record { needs = e; phase = f }
-no-act-numbered cell (par ts) x h e f = record { needs = e; phase = f }
-no-act-numbered cell (sel cs) x h e f = record { needs = e; phase = f }
-no-act-numbered cell (loop n c t) x h e f = record { needs = e; phase = f }
+pub no-act-numbered : (cell : Cell) (roles : List Name) (bound : Binding) (t : Tree) (x : ActNumbers) → IsNoAct t → x.needs.items ≡ [] → x.task ≡ Phase NO_PHASE → IsActNumbered cell roles bound t x
+no-act-numbered cell roles bound t x h e f =
+    record {
+      needs = ap (map (need_with cell roles bound)) e ∙ sym (ap (map (need_number cell)) (none t h));
+      of_roles = subst (Each (λ (z : NeedNumber). IsOfRoles roles z.resource)) (sym e) tt;
+      task = subst (IsTaskNumbered cell roles bound t) (sym f) (nothing t h);
+    }
+  where
+    none : (t : Tree) → IsNoAct t → (step_of t).needs ≡ []
+    none (act s w) h = absurd h
+    none skip h = refl
+    none (seq ts) h = refl
+    none (par ts) h = refl
+    none (sel cs) h = refl
+    none (loop n c t) h = refl
 
-pub act-numbered : (cell : Cell) (a : Act) (t : Tree) (x : ActNumbers) → IsOfAct a t → x.needs.items ≡ map (need_number cell) (asked_by a.unit a.needs.items) → x.phase ≡ phase_in cell t → IsActNumbered cell t x
-act-numbered cell a t x h e f = record { needs = e ∙ ap (λ (z : Tree). map (need_number cell) (step_of z).needs) (sym h.3); phase = f }
+    nothing : (t : Tree) → IsNoAct t → NO_PHASE ≡ phase_in cell t
+    nothing (act s w) h = absurd h
+    nothing skip h = refl
+    nothing (seq ts) h = refl
+    nothing (par ts) h = refl
+    nothing (sel cs) h = refl
+    nothing (loop n c t) h = refl
+
+pub act-numbered : (cell : Cell) (r : Recipe) (k : ℕ) (a : Act) (x : ActNumbers) → slice_get (procedure_acts r.acts) k ≡ Some (Some a) → AreNeeds cell (roles_of r) a.unit a.needs.items x.needs.items
+    → ((bound : Binding) → IsTaskNumbered cell (roles_of r) bound (node_at (bound_tree bound r.acts) k).here x.task)
+    → (bound : Binding) → IsActNumbered cell (roles_of r) bound (node_at (bound_tree bound r.acts) k).here x
+act-numbered cell r k a x e needs task bound =
+    let h = act-here bound r.acts k a e in
+    let numbered = act-needs cell (roles_of r) bound a.unit a.needs.items x.needs.items needs (λ role f. act-declared r k a role e f) in
+    record { needs = numbered.0 ∙ ap (λ (z : Tree). map (need_number cell) (step_of z).needs) (sym h.3); of_roles = numbered.1; task = task bound }
 
 pub pushed : {X : Type 0} (P : ℕ → X → Type 0) (xs : List X) (y : X) → ((k : ℕ) (x : X) → slice_get xs k ≡ Some x → P k x) → P (length xs) y
     → (k : ℕ) (x : X) → slice_get (xs ++ y ∷ []) k ≡ Some x → P k x

@@ -24,8 +24,9 @@ use Rattle.batch_chart.specs.Charts.{IsRunningOf, remains}
 use Rattle.batch_chart.specs.declared.running.Running.{Running}
 use Rattle.batch_engine.specs.declared.batch.Batch.{Batch}
 use Rattle.batch_engine.specs.View.{EngineView, setup, tree_at, batch_of, share_of, acts_of, number_of, line_in, line_at, plant_of}
-use Rattle.batch_engine.specs.Kept.{IsOfCell, IsRunningBatch, HasRoom, IsKept}
+use Rattle.batch_engine.specs.Kept.{AreUnits, IsOfCell, IsRunningBatch, HasRoom, IsKept}
 use Rattle.batch_engine.specs.Orders.{IsOrder, IsPlain, EndsAsks}
+use Rattle.batch_engine.proofs.BatchPlaces.{made_by}
 use Rattle.batch_engine.proofs.Told.{standing}
 use Rattle.batch_engine.proofs.Finding.{batch-runs}
 use Rattle.batch_engine.proofs.Making.{fun_ext, acts-same, batches-same}
@@ -51,7 +52,7 @@ pub record Ordered (v : EngineView) (w : EngineView) (command : Command) (n : �
   pub reacts : Reacts (setup v.cleared) (plant_of v) (order command n) (ordered command n (target command)) (plant_of w)
 
 module _ (v : EngineView) (k : IsKept v) (i : ℕ) (command : Command) (n : ℕ) (o : IsOrder v i command n) (b' : Batch)
-    (number : b'.number ≡ o.batch.number) (recipe : b'.recipe ≡ o.batch.recipe) (runs : IsRunningOf (tree_of v.cleared o.batch) b'.running)
+    (number : b'.number ≡ o.batch.number) (made : made_by b' ≡ made_by o.batch) (runs : IsRunningOf (tree_of v.cleared o.batch) b'.running)
     (becomes : batch_of v.cleared b' ≡ commanded command (batch_of v.cleared o.batch)) (a' : Allocation)
     (lines : (name : Name) → line_in (record v { allocation = a' }) name ≡ lines_under command o.batch.number (line_in v) name) where
   line-same : (name : Name) → line_in (changed v i b' a') name ≡ line_in (record v { allocation = a' }) name
@@ -59,7 +60,7 @@ module _ (v : EngineView) (k : IsKept v) (i : ℕ) (command : Command) (n : ℕ)
     where
       go : (m : Option ℕ) → line_at (changed v i b' a') m ≡ line_at (record v { allocation = a' }) m
       go None = refl
-      go (Some q) = acts-same v.cleared v.next_number b' v.batches i o.batch o.at number recipe (line_of a' q)
+      go (Some q) = acts-same v.cleared v.next_number b' v.batches i o.batch o.at number made (line_of a' q)
 
   order-reacts : Reacts (setup v.cleared) (plant_of v) (order command n) (ordered command n (target command)) (plant_of (changed v i b' a'))
   order-reacts =
@@ -74,14 +75,15 @@ module _ (v : EngineView) (k : IsKept v) (i : ℕ) (command : Command) (n : ℕ)
   order-made shares cell once room =
       record {
         kept = event-kept v k (set v.batches i b') v.next_number a' (order command n) (ordered command n (target command)) order-reacts
-            (λ name q e. acts-same v.cleared v.next_number b' v.batches i o.batch o.at number recipe (shares_of a' q) ∙ ap (acts_of v.cleared v.batches) (shares q))
+            (λ name q e. acts-same v.cleared v.next_number b' v.batches i o.batch o.at number made (shares_of a' q) ∙ ap (acts_of v.cleared v.batches) (shares q))
             (Each-set (IsRunningBatch v.cleared) v.batches i b' k.batches
             (record {
-              known = subst (λ r. r < length v.cleared.recipes) (sym recipe) (batch-runs v k i o.batch o.at).known;
-              runs = subst (λ r. IsRunningOf (tree_at v.cleared r) b'.running) (sym recipe) runs;
+              known = subst (λ (r : ℕ × List ℕ). r.0 < length v.cleared.recipes) (sym made) (batch-runs v k i o.batch o.at).known;
+              units = subst (λ (r : ℕ × List ℕ). AreUnits v.cleared r.1) (sym made) (batch-runs v k i o.batch o.at).units;
+              runs = subst (λ (r : ℕ × List ℕ). IsRunningOf (tree_at v.cleared r.0 r.1) b'.running) (sym made) runs;
             }))
             cell
-            (λ name q e. subst IsOnce (sym (acts-same v.cleared v.next_number b' v.batches i o.batch o.at number recipe (line_of a' q))) (once name q e))
+            (λ name q e. subst IsOnce (sym (acts-same v.cleared v.next_number b' v.batches i o.batch o.at number made (line_of a' q))) (once name q e))
             room;
         reacts = order-reacts;
       }

@@ -9,14 +9,15 @@ use Rattle.batch_chart.specs.NodesOf.{needs_in}
 use Rattle.batch_engine.specs.declared.batch.Batch.{Batch}
 use Rattle.batch_engine.specs.View.{EngineView, tree_at, tree_of}
 use Rattle.batch_engine.specs.Kept.{needs_of_all, HasRoom}
+use Rattle.batch_engine.proofs.BatchPlaces.{made_by}
 use Rattle.batch_engine.proofs.Stepping.{changed}
 
--- a changed batch of the same recipe has the same needs
-pub needs-same : (c : ClearedSet) (bs : List Batch) (i : ℕ) (b b' : Batch) → slice_get bs i ≡ Some b → b'.recipe ≡ b.recipe → needs_of_all c (set bs i b') ≡ needs_of_all c bs
+-- a changed batch of the same recipe and units has the same needs
+pub needs-same : (c : ClearedSet) (bs : List Batch) (i : ℕ) (b b' : Batch) → slice_get bs i ≡ Some b → made_by b' ≡ made_by b → needs_of_all c (set bs i b') ≡ needs_of_all c bs
 needs-same c [] i b b' e r = absurd cc
 needs-same c (x ∷ bs) zero b b' e r =
     let f : x ≡ b = cc in
-    let n : needs_in (tree_of c b') ≡ needs_in (tree_of c x) = ap (λ (z : ℕ). needs_in (tree_at c z)) (r ∙ ap (λ (z : Batch). z.recipe) (sym f)) in
+    let n : needs_in (tree_of c b') ≡ needs_in (tree_of c x) = ap (λ (z : ℕ × List ℕ). needs_in (tree_at c z.0 z.1)) (r ∙ ap made_by (sym f)) in
     omega (arith, sum_by-cons (λ (z : Batch). needs_in (tree_of c z)) b' bs, sum_by-cons (λ (z : Batch). needs_in (tree_of c z)) x bs, n)
 needs-same c (x ∷ bs) (suc i) b b' e r =
     omega (arith, sum_by-cons (λ (z : Batch). needs_in (tree_of c z)) x (set bs i b'), sum_by-cons (λ (z : Batch). needs_in (tree_of c z)) x bs, needs-same c bs i b b' e r)
@@ -29,16 +30,16 @@ without-length p (x ∷ xs) = go (p x) (without-length p xs)
     go true h = omega arith
     go false h = omega arith
 
-module _ (v : EngineView) (i : ℕ) (b b' : Batch) (at : slice_get v.batches i ≡ Some b) (recipe : b'.recipe ≡ b.recipe) (room : HasRoom v) where
+module _ (v : EngineView) (i : ℕ) (b b' : Batch) (at : slice_get v.batches i ≡ Some b) (made : made_by b' ≡ made_by b) (room : HasRoom v) where
   pub room-quiet : HasRoom (changed v i b' v.allocation)
-  room-quiet = omega (arith, room, needs-same v.cleared v.batches i b b' at recipe)
+  room-quiet = omega (arith, room, needs-same v.cleared v.batches i b b' at made)
 
   pub room-asked : (q : ℕ) (x : Claim) → q < length v.allocation.lines → 0 < v.allocation.room → HasRoom (changed v i b' (asked q x v.allocation))
   room-asked q x few some =
       omega (
         arith,
         room,
-        needs-same v.cleared v.batches i b b' at recipe,
+        needs-same v.cleared v.batches i b b' at made,
         some,
         sum_by-set (λ (xs : List Claim). length xs) v.allocation.lines q (line_of v.allocation q ++ x ∷ []) [] few,
         length-append (line_of v.allocation q) (x ∷ []),
@@ -50,7 +51,7 @@ module _ (v : EngineView) (i : ℕ) (b b' : Batch) (at : slice_get v.batches i �
       omega (
         arith,
         room,
-        needs-same v.cleared v.batches i b b' at recipe,
+        needs-same v.cleared v.batches i b b' at made,
         sum_by-set (λ (xs : List Claim). length xs) v.allocation.lines q (drop 1 (line_of v.allocation q)) [] few,
         sum_by-set (λ (xs : List Claim). length xs) v.allocation.shares q (shares_of v.allocation q ++ x ∷ []) [] few',
         length-append (shares_of v.allocation q) (x ∷ []),
@@ -63,7 +64,7 @@ module _ (v : EngineView) (i : ℕ) (b b' : Batch) (at : slice_get v.batches i �
       omega (
         arith,
         room,
-        needs-same v.cleared v.batches i b b' at recipe,
+        needs-same v.cleared v.batches i b b' at made,
         sum_by-set (λ (xs : List Claim). length xs) v.allocation.shares q (without_first (is_claim n node) (shares_of v.allocation q)) [] few,
         without-length (is_claim n node) (shares_of v.allocation q),
       )

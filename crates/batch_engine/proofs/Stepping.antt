@@ -17,8 +17,9 @@ use Rattle.batch_chart.specs.Charts.{IsRunningOf}
 use Rattle.batch_engine.specs.declared.batch.Batch.{Batch}
 use Rattle.batch_engine.specs.View as View
 use Rattle.batch_engine.specs.View.{EngineView, setup, tree_at, act_of, acts_of, names_of, number_of, line_in, line_at, plant_of, tree_of}
-use Rattle.batch_engine.specs.Kept.{IsTracked, IsOfCell, IsRunningBatch, HasRoom, IsKept}
+use Rattle.batch_engine.specs.Kept.{AreUnits, IsTracked, IsOfCell, IsRunningBatch, HasRoom, IsKept}
 use Rattle.batch_engine.specs.Steps.{IsNext}
+use Rattle.batch_engine.proofs.BatchPlaces.{made_by}
 use Rattle.batch_engine.proofs.Told.{standing}
 use Rattle.batch_engine.proofs.Making.{fun_ext, acts-same, batches-same}
 
@@ -35,7 +36,7 @@ Each-set P (x ∷ xs) (suc i) y h k = (h.0, Each-set P xs i y h.1 k)
 pub record IsMove (v : EngineView) (i : ℕ) (b b' : Batch) (m : Move) : Type 0 where
   pub at : slice_get v.batches i ≡ Some b
   pub number : b'.number ≡ b.number
-  pub recipe : b'.recipe ≡ b.recipe
+  pub made : made_by b' ≡ made_by b
   pub runs : IsRunningOf (tree_of v.cleared b) b'.running
   pub is : IsNext v m
   pub of_batch : batch_of m ≡ b.number
@@ -48,7 +49,7 @@ module _ (v : EngineView) (k : IsKept v) (i : ℕ) (b b' : Batch) (m : Move) (t 
     where
       go : (o : Option ℕ) → line_at (changed v i b' a') o ≡ line_at (record v { allocation = a' }) o
       go None = refl
-      go (Some q) = acts-same v.cleared v.next_number b' v.batches i b t.at t.number t.recipe (line_of a' q)
+      go (Some q) = acts-same v.cleared v.next_number b' v.batches i b t.at t.number t.made (line_of a' q)
 
   pub plant-after : plant_of (changed v i b' a') ≡ after (plant_of v) m
   plant-after =
@@ -67,7 +68,7 @@ module _ (v : EngineView) (k : IsKept v) (i : ℕ) (b b' : Batch) (m : Move) (t 
         leads = subst (Leads (setup v.cleared) opening k.tracked.events (k.tracked.outs ++ move m ∷ [])) (sym plant-after)
             (Leads-move (setup v.cleared) opening (plant_of v) m k.tracked.events k.tracked.outs k.tracked.leads t.is);
         shares = λ q name e.
-            acts-same v.cleared v.next_number b' v.batches i b t.at t.number t.recipe (shares_of a' q) ∙ shares name q e
+            acts-same v.cleared v.next_number b' v.batches i b t.at t.number t.made (shares_of a' q) ∙ shares name q e
             ∙ ap (λ hs. holders_after name hs (move m)) (k.tracked.shares q name e) ∙ sym (holders_told-last k.tracked.outs (move m) name);
       }
 
@@ -81,11 +82,12 @@ module _ (v : EngineView) (k : IsKept v) (i : ℕ) (b b' : Batch) (m : Move) (t 
         numbers = k.numbers;
         batches = Each-set (IsRunningBatch v.cleared) v.batches i b' k.batches
             (record {
-              known = subst (λ r. r < length v.cleared.recipes) (sym t.recipe) (Rattle.batch_engine.proofs.Finding.batch-runs v k i b t.at).known;
-              runs = subst (λ r. IsRunningOf (tree_at v.cleared r) b'.running) (sym t.recipe) t.runs;
+              known = subst (λ (r : ℕ × List ℕ). r.0 < length v.cleared.recipes) (sym t.made) (Rattle.batch_engine.proofs.Finding.batch-runs v k i b t.at).known;
+              units = subst (λ (r : ℕ × List ℕ). AreUnits v.cleared r.1) (sym t.made) (Rattle.batch_engine.proofs.Finding.batch-runs v k i b t.at).units;
+              runs = subst (λ (r : ℕ × List ℕ). IsRunningOf (tree_at v.cleared r.0 r.1) b'.running) (sym t.made) t.runs;
             });
         cell = cell;
         tracked = tracked-after shares;
-        once = λ name q e. subst IsOnce (sym (acts-same v.cleared v.next_number b' v.batches i b t.at t.number t.recipe (line_of a' q))) (once name q e);
+        once = λ name q e. subst IsOnce (sym (acts-same v.cleared v.next_number b' v.batches i b t.at t.number t.made (line_of a' q))) (once name q e);
         room = room;
       }

@@ -1,19 +1,19 @@
 -- What a line tells of a move.
 use Rattle.std.proofs.Common.{◌≡◌, ◌<◌, refl, sym, ◌∙◌, ap, ap₂, ℕ, zero, suc, List, [], ◌∷◌, Option, Some, None, arith, length, get_or}
-use Rattle.std.specs.Prelude.{slice_get, option_map, unwrap_or, map}
+use Rattle.std.specs.Prelude.{slice_get, option_map, unwrap_or}
 use Rattle.std.specs.List.{zip}
-use Rattle.std.proofs.lemmas.Option.{get_or_from_slice_get, slice_get-map, slice_get_read}
+use Rattle.std.proofs.lemmas.Option.{slice_get_read}
 use Rattle.batch_matrix.specs.declared.command.Command.{Command}
 use Rattle.batch_recipe.specs.Conditions.{Name}
 use Rattle.batch_recipe.specs.Nodes.{Node}
-use Rattle.batch_recipe.specs.Procedure.{procedure_tree}
+use Rattle.batch_recipe.specs.Expanding.{Binding}
+use Rattle.batch_recipe.specs.Procedure.{bound_nodes, bound_tree}
 use Rattle.batch_recipe.specs.Tree.{Phase, Tree, act, skip, seq, par, sel, loop, runs, follows}
 use Rattle.batch_recipe.specs.declared.need.Need.{Need}
 use Rattle.batch_recipe.specs.declared.recipe.Recipe.{Recipe}
 use Rattle.batch_model.specs.Moves as Moves
 use Rattle.batch_model.specs.Moves.{handed_values}
-use Rattle.batch_model.specs.Plant as Model
-use Rattle.batch_model.specs.Recipes.{recipe_of}
+use Rattle.batch_model.specs.Plant.{Master}
 use Rattle.batch_verify.specs.ClearedSet.{ClearedSet}
 use Rattle.batch_chart.specs.NodesOf as Tree
 use Rattle.batch_chart.specs.NodesOf.{nodes_of, need_at, task_of}
@@ -23,9 +23,10 @@ use Rattle.batch_engine.specs.declared.batch.Batch.{Batch}
 use Rattle.batch_engine.specs.declared.line.Line.TheVariants as Lines
 use Rattle.batch_engine.specs.Names as Names
 use Rattle.batch_engine.specs.Surface as Surface
-use Rattle.batch_engine.specs.View.{EngineView, batch_of, number_of, recipe_at, tree_at, no_recipe, tree_of}
+use Rattle.batch_engine.specs.View.{EngineView, batch_of, bound_to, number_of, master_at, tree_at, tree_of}
 use Rattle.batch_engine.specs.Kept.{IsKept}
-use Rattle.batch_engine.proofs.Finding.{named, batch-runs}
+use Rattle.batch_engine.proofs.Finding.{named, batch-runs, master-found}
+use Rattle.batch_engine.proofs.AlikeNodes.{place-alike, name-alike, handed-alike}
 
 -- What is told of a node, and what its tree has there
 
@@ -63,31 +64,37 @@ handed-seen (n ∷ ns) zero = handed-here n.here
 handed-seen (n ∷ ns) (suc k) = handed-seen ns k
 
 module _ (c : ClearedSet) (recipe : ℕ) (r : Recipe) (at : slice_get c.recipes recipe ≡ Some r) where
-  pub tree-is : tree_at c recipe ≡ procedure_tree r.acts
-  tree-is =
-      ap (λ (z : Model.Recipe). z.procedure)
-      (get_or_from_slice_get (map recipe_of c.recipes) recipe (recipe_of r) no_recipe (slice_get-map recipe_of c.recipes recipe ∙ ap (option_map recipe_of) at))
+  pub tree-bound : (bound : Binding) → ((master_at c recipe).control bound).procedure ≡ bound_tree bound r.acts
+  tree-bound bound = ap (λ (m : Master). (m.control bound).procedure) (master-found c recipe r at)
 
-  pub recipe-named : Names.recipe_name c recipe ≡ (recipe_at c recipe).name
-  recipe-named =
-      ap (λ (o : Option Recipe). unwrap_or (option_map Names.name_of_recipe o) []) at
-      ∙ sym (ap (λ (z : Model.Recipe). z.name)
-      (get_or_from_slice_get (map recipe_of c.recipes) recipe (recipe_of r) no_recipe (slice_get-map recipe_of c.recipes recipe ∙ ap (option_map recipe_of) at)))
+  pub recipe-named : (bound : Binding) → Names.recipe_name c recipe ≡ ((master_at c recipe).control bound).name
+  recipe-named bound =
+      ap (λ (o : Option Recipe). unwrap_or (option_map Names.name_of_recipe o) []) at ∙ sym (ap (λ (m : Master). (m.control bound).name) (master-found c recipe r at))
+
+  pub roles-read : Names.roles_at c recipe ≡ Names.roles_of r
+  roles-read = ap (λ (o : Option Recipe). let ns : List Name = elim o [ None ↦ [] | Some z ↦ Names.roles_of z ] in ns) at
 
   pub node-is : (k : ℕ) → Names.node_at c recipe k ≡ Names.node_of k r
   node-is k = ap (λ (o : Option Recipe). let n : Option Node = elim o [ None ↦ None | Some z ↦ Names.node_of k z ] in n) at
 
-  node-seen : (k : ℕ) → Names.node_at c recipe k ≡ slice_get (nodes_of (tree_at c recipe)) k
-  node-seen k = node-is k ∙ sym (ap (λ t. slice_get (nodes_of t) k) tree-is)
+  -- whatever units take the roles
+  module _ (units : List ℕ) where
+    pub tree-is : tree_at c recipe units ≡ bound_tree (bound_to c recipe units) r.acts
+    tree-is = tree-bound (bound_to c recipe units)
 
-  pub place-told : (k : ℕ) → Names.place_at c recipe k ≡ Tree.place_at (tree_at c recipe) k
-  place-told k = ap Names.place_of (node-seen k) ∙ place-seen (nodes_of (tree_at c recipe)) k
+    node-bound : (k : ℕ) → slice_get (bound_nodes (bound_to c recipe units) r.acts) k ≡ slice_get (nodes_of (tree_at c recipe units)) k
+    node-bound k = sym (ap (λ t. slice_get (nodes_of t) k) tree-is)
 
-  pub name-told : (k : ℕ) → Names.name_at c recipe k ≡ Tree.name_at (tree_at c recipe) k
-  name-told k = ap Names.name_of (node-seen k) ∙ name-seen (nodes_of (tree_at c recipe)) k
+    pub place-told : (k : ℕ) → Names.place_at c recipe k ≡ Tree.place_at (tree_at c recipe units) k
+    place-told k =
+        ap Names.place_of (node-is k) ∙ place-alike (bound_to c recipe units) r.acts k ∙ ap Names.place_of (node-bound k) ∙ place-seen (nodes_of (tree_at c recipe units)) k
 
-  pub handed-told : (k : ℕ) → Names.handed_at c recipe k ≡ (Tree.phase_at (tree_at c recipe) k).handed
-  handed-told k = ap Names.handed_of (node-seen k) ∙ handed-seen (nodes_of (tree_at c recipe)) k
+    pub name-told : (k : ℕ) → Names.name_at c recipe k ≡ Tree.name_at (tree_at c recipe units) k
+    name-told k = ap Names.name_of (node-is k) ∙ name-alike (bound_to c recipe units) r.acts k ∙ ap Names.name_of (node-bound k) ∙ name-seen (nodes_of (tree_at c recipe units)) k
+
+    pub handed-told : (k : ℕ) → Names.handed_at c recipe k ≡ (Tree.phase_at (tree_at c recipe units) k).handed
+    handed-told k =
+        ap Names.handed_of (node-is k) ∙ handed-alike (bound_to c recipe units) r.acts k ∙ ap Names.handed_of (node-bound k) ∙ handed-seen (nodes_of (tree_at c recipe units)) k
 
 pub some-at : (rs : List Recipe) (k : ℕ) → k < length rs → (r : Recipe) × (slice_get rs k ≡ Some r)
 some-at [] k l = absurd (omega arith)
@@ -107,14 +114,14 @@ module _ (v : EngineView) (k : IsKept v) (i : ℕ) (b : Batch) (at : slice_get v
   recipe-here = some-at v.cleared.recipes b.recipe (batch-runs v k i b at).known
 
   pub place-here : (n : ℕ) → Names.place_at v.cleared b.recipe n ≡ Tree.place_at (tree_of v.cleared b) n
-  place-here n = place-told v.cleared b.recipe recipe-here.0 recipe-here.1 n
+  place-here n = place-told v.cleared b.recipe recipe-here.0 recipe-here.1 b.units n
 
   phase-here : (n u f : ℕ) → Names.resource_name v.cleared u ≡ (Tree.phase_at (tree_of v.cleared b) n).unit → Names.phase_name v.cleared u f ≡ (Tree.phase_at (tree_of v.cleared b) n).name
       → Names.phase_at v.cleared b.recipe n u f ≡ Tree.phase_at (tree_of v.cleared b) n
   phase-here n u f unit name =
       ap₂ (λ x y. let p : Phase = record { unit = x; name = y; handed = Names.handed_at v.cleared b.recipe n } in p) unit name
       ∙ ap (λ (z : List Name). let p : Phase = record { unit = (Tree.phase_at (tree_of v.cleared b) n).unit; name = (Tree.phase_at (tree_of v.cleared b) n).name; handed = z } in p)
-      (handed-told v.cleared b.recipe recipe-here.0 recipe-here.1 n)
+      (handed-told v.cleared b.recipe recipe-here.0 recipe-here.1 b.units n)
 
   need-here : (n need q u : ℕ) → number_of v.cleared (need_at (tree_of v.cleared b) n need).resource ≡ Some q → (need_at (tree_of v.cleared b) n need).units ≡ u
       → Names.need_of v.cleared q u ≡ need_at (tree_of v.cleared b) n need
@@ -136,10 +143,10 @@ module _ (v : EngineView) (k : IsKept v) (i : ℕ) (b : Batch) (at : slice_get v
       (ap (λ (o : Option Node). zip (Names.handed_of o) values) (node-is v.cleared b.recipe r read n)
       ∙ handed
       ∙ ap (λ (o : Option Node). handed_values b.values (Names.handed_of o)) (sym (node-is v.cleared b.recipe r read n))
-      ∙ ap (handed_values b.values) (handed-told v.cleared b.recipe r read n))
+      ∙ ap (handed_values b.values) (handed-told v.cleared b.recipe r read b.units n))
 
   pub begin-told : (n : ℕ) → Surface.move_of v.cleared (Lines.Begin b.number b.recipe n) ≡ move_of (tree_of v.cleared b) (batch_of v.cleared b) (Chart.Begin n)
-  begin-told n = ap₂ (Moves.begin b.number) (place-here n) (name-told v.cleared b.recipe recipe-here.0 recipe-here.1 n)
+  begin-told n = ap₂ (Moves.begin b.number) (place-here n) (name-told v.cleared b.recipe recipe-here.0 recipe-here.1 b.units n)
 
   pub end-told : (n : ℕ) → Surface.move_of v.cleared (Lines.End b.number b.recipe n) ≡ move_of (tree_of v.cleared b) (batch_of v.cleared b) (Chart.End n)
   end-told n = ap (Moves.end b.number) (place-here n)

@@ -1,9 +1,11 @@
 -- surface: what the engine keeps.
 use Rattle.std.specs.Prelude.{◌≡◌, ℕ, ◌+◌, ◌<◌, ◌≤◌, List, length, sum_by, Some, slice_get}
-use Rattle.batch_cell.specs.LookUps.{capacities_of}
+use Rattle.batch_cell.specs.LookUps.{capacities_of, units_of}
 use Rattle.batch_recipe.specs.Conditions.{Name}
-use Rattle.batch_recipe.specs.Procedure.{procedure_tree}
+use Rattle.batch_recipe.specs.Expanding.{Binding}
+use Rattle.batch_recipe.specs.Procedure.{bound_tree}
 use Rattle.batch_recipe.specs.declared.recipe.Recipe as document
+use Rattle.batch_recipe.specs.declared.role.TheConstants.{MAX_ROLES}
 use Rattle.batch_model.specs.Lists.{Each}
 use Rattle.batch_model.specs.Cleared.{CanBeCleared}
 use Rattle.batch_model.specs.Plant.{opening}
@@ -14,12 +16,12 @@ use Rattle.batch_laws.proofs.Entries.{IsOnce}
 use Rattle.batch_verify.specs.ClearedSet.{ClearedSet}
 use Rattle.batch_arbiter.specs.Allocation.{Allocation, line_of, shares_of}
 use Rattle.batch_chart.specs.NodesOf.{needs_in}
-use Rattle.batch_chart.specs.Charts.{IsChartOf, IsRunningOf}
+use Rattle.batch_chart.specs.Charts.{IsChartFor, IsRunningOf}
 use Rattle.batch_chart.specs.declared.compiled.Compiled.{Compiled}
 use Rattle.batch_engine.specs.declared.batch.Batch.{Batch}
 use Rattle.batch_engine.specs.Batches.{BatchList, HaveOwnNumbers}
 use Rattle.batch_engine.specs.Numbered.{AreRecipesNumbered}
-use Rattle.batch_engine.specs.View.{EngineView, setup, tree_at, acts_of, names_of, number_of, plant_of, tree_of}
+use Rattle.batch_engine.specs.View.{EngineView, setup, master_at, acts_of, names_of, number_of, plant_of, tree_of}
 
 -- there is a record that leads to the plant, and the shares are what it tells, each in the order in which it was granted
 pub record IsTracked (v : EngineView) : Type 0 where
@@ -34,19 +36,25 @@ pub record IsOfCell (c : ClearedSet) (a : Allocation) : Type 0 where
   pub shares : length a.shares ≡ length (names_of c)
   pub lines : length a.lines ≡ length (names_of c)
 
--- each chart is that of the recipe with its number
+-- each chart is that of the recipe with its number, whatever units take the roles
 abbrev pub AreChartsOf : List document.Recipe → List Compiled → Type 0
 AreChartsOf recipes charts =
-    (k : ℕ) (r : document.Recipe) (chart : Compiled) → slice_get recipes k ≡ Some r → slice_get charts k ≡ Some chart → IsChartOf (procedure_tree r.acts) chart
+    (k : ℕ) (r : document.Recipe) (chart : Compiled) → slice_get recipes k ≡ Some r → slice_get charts k ≡ Some chart → (bound : Binding) → IsChartFor bound (bound_tree bound r.acts) chart
 
--- each recipe is compiled
+-- each recipe is compiled, for all bindings of its roles
 pub record AreCompiled (c : ClearedSet) (charts : List Compiled) : Type 0 where
   pub count : length charts ≡ length c.recipes
-  pub each : (k : ℕ) (chart : Compiled) → slice_get charts k ≡ Some chart → IsChartOf (tree_at c k) chart
+  pub each : (k : ℕ) (chart : Compiled) → slice_get charts k ≡ Some chart → (bound : Binding) → IsChartFor bound ((master_at c k).control bound).procedure chart
 
--- the batch makes one of the recipes, and its chart runs
+-- numbers of units, one for each role that a recipe may have
+pub record AreUnits (c : ClearedSet) (units : List ℕ) : Type 0 where
+  pub count : length units ≡ MAX_ROLES
+  pub within : Each (λ unit. unit < length (units_of c.cell)) units
+
+-- the batch makes one of the recipes, units take its roles, and its chart runs
 pub record IsRunningBatch (c : ClearedSet) (b : Batch) : Type 0 where
   pub known : b.recipe < length c.recipes
+  pub units : AreUnits c b.units
   pub runs : IsRunningOf (tree_of c b) b.running
 
 -- how many shares are held, and how many asks stand in line

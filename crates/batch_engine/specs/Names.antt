@@ -1,5 +1,6 @@
 -- trusted: what the numbers in replies and moves name. A number that names nothing has the empty name, and no place.
-use Rattle.std.specs.Prelude.{ℕ, List, [], Option, Some, None, slice_get, unwrap_or, option_map, length, nat_lt, if◌then◌else◌}
+use Rattle.std.specs.Prelude.{ℕ, List, [], map, Option, Some, None, slice_get, unwrap_or, option_map, length, nat_lt, if◌then◌else◌}
+use Rattle.std.specs.List.{zip}
 use Rattle.batch_cell.specs.LookUps.{units_of, resources_of, phases_of}
 use Rattle.batch_recipe.specs.Conditions.{Name}
 use Rattle.batch_recipe.specs.Formula.{quantities_of}
@@ -39,6 +40,17 @@ name_of_value value r = unwrap_or (option_map quantity_name (slice_get (quantiti
 
 abbrev pub value_name : ClearedSet → ℕ → ℕ → Name
 value_name c recipe value = unwrap_or (option_map (name_of_value value) (slice_get c.recipes recipe)) []
+
+-- the names of a recipe's roles
+abbrev pub roles_of : Recipe → List Name
+roles_of r = map (λ role. role.name) r.roles.items
+
+abbrev pub roles_at : ClearedSet → ℕ → List Name
+roles_at c recipe = elim (slice_get c.recipes recipe) [ None ↦ [] | Some r ↦ roles_of r ]
+
+-- each role of a recipe with the unit that takes it, the units by their numbers; what stands after them is left out
+abbrev pub roles_told : ClearedSet → ℕ → List ℕ → List (Name × Name)
+roles_told c recipe units = zip (roles_at c recipe) (map (resource_name c) units)
 
 -- Nodes
 

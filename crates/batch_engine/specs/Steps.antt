@@ -1,9 +1,11 @@
 -- private: the step that the engine makes next.
-use Rattle.std.specs.Prelude.{◌≡◌, ◌<◌, ℕ, [], Option, Some, None, option_map, slice_get, length, ⊤}
+use Rattle.std.specs.Prelude.{◌≡◌, ◌<◌, ℕ, [], Option, Some, None, option_map, slice_get, length, position, ⊤}
 use Rattle.batch_model.specs.Moves as Model
 use Rattle.batch_model.specs.Moves.{next, after, least, batch_moves, grant}
 use Rattle.batch_arbiter.specs.Allocation.{next_grant, batch_node}
-use Rattle.batch_chart.specs.NodesOf.{place_at, step_at, need_at, phase_at}
+use Rattle.batch_chart.specs.NodesOf.{node_at, place_at, step_at, need_at, phase_at, phase_named}
+use Rattle.batch_cell.specs.LookUps.{units_of}
+use Rattle.batch_recipe.specs.Conditions.{Name, same_name}
 use Rattle.batch_recipe.specs.Nodes.{node_count}
 use Rattle.batch_chart.specs.Charts.{CanMake, IsWaiting, AsksAt, remains, StandsFor}
 use Rattle.batch_chart.specs.Seen.{move_of}
@@ -117,6 +119,12 @@ abbrev pub IsPhaseAt : EngineView → ℕ → ℕ → ℕ → ℕ → Type 0
 IsPhaseAt v i node unit phase =
     (b : Batch) → slice_get v.batches i ≡ Some b
     → (resource_name v.cleared unit ≡ (phase_at (tree_of v.cleared b) node).unit) × (phase_name v.cleared unit phase ≡ (phase_at (tree_of v.cleared b) node).name)
+
+-- the act at the node of the batch runs no phase, or it is one of the unit with this number
+abbrev pub IsUnitAt : EngineView → ℕ → ℕ → ℕ → Type 0
+IsUnitAt v i node unit =
+    (b : Batch) → slice_get v.batches i ≡ Some b → (names : Name × Name) → phase_named (node_at (tree_of v.cleared b) node).here ≡ Some names
+    → position (same_name names.0) (units_of v.cleared.cell) ≡ Some unit
 
 -- the line tells of this move of the batch at an index
 abbrev pub Tells : EngineView → ℕ → Move → Line → Type 0

@@ -6,7 +6,7 @@ use Rattle.batch_model.specs.Moves as Moves
 use Rattle.batch_model.specs.Plant.{Plant}
 use Rattle.batch_model.specs.Runs as Runs
 use Rattle.batch_verify.specs.ClearedSet.{ClearedSet}
-use Rattle.batch_engine.specs.Names.{resource_name, need_of, phase_name, recipe_name, value_name, place_at, name_at, handed_at, phase_at}
+use Rattle.batch_engine.specs.Names.{resource_name, need_of, phase_name, recipe_name, roles_told, value_name, place_at, name_at, handed_at, phase_at}
 use Rattle.batch_engine.specs.declared.event.Event.{Event}
 use Rattle.batch_engine.specs.declared.line.Line.{Line}
 use Rattle.batch_engine.specs.declared.out.Out.{Out}
@@ -14,7 +14,7 @@ use Rattle.batch_engine.specs.declared.refusal.Refusal.{Refusal}
 use Rattle.batch_engine.specs.declared.reply.Reply.{Reply}
 
 abbrev pub event_of : Event → Events.Event
-event_of (Event.Create recipe size) = Events.create recipe size
+event_of (Event.Create recipe size roles) = Events.create recipe size roles.items
 event_of (Event.Order command batch) = Events.order command batch
 event_of (Event.Remove batch) = Events.remove batch
 event_of (Event.Report told) = Events.report told.unit told.phase told.word told.outputs.items
@@ -26,6 +26,7 @@ refusal_of c (Refusal.CommandNotAccepted state) = Events.command_not_accepted st
 refusal_of c Refusal.NoLivePhase = Events.no_live_phase
 refusal_of c (Refusal.ReportNotExpected state) = Events.report_not_expected state
 refusal_of c Refusal.BadOutput = Events.bad_output
+refusal_of c Refusal.BadBinding = Events.bad_binding
 refusal_of c Refusal.BadSize = Events.bad_size
 refusal_of c (Refusal.BadValue recipe value) = Events.bad_value (value_name c recipe value)
 refusal_of c Refusal.Full = Events.full
@@ -34,7 +35,7 @@ refusal_of c Refusal.MovesPending = Events.moves_pending
 refusal_of c Refusal.Memory = Events.no_memory
 
 abbrev pub reply_of : ClearedSet → Reply → Events.Reply
-reply_of c (Reply.Created batch recipe size) = Events.created batch (recipe_name c recipe) size
+reply_of c (Reply.Created batch recipe size units) = Events.created batch (recipe_name c recipe) size (roles_told c recipe units)
 reply_of c (Reply.Ordered command batch state) = Events.ordered command batch state
 reply_of c (Reply.Removed batch) = Events.removed batch
 reply_of c (Reply.Reported unit phase word batch recipe node state) =

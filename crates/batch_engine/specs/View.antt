@@ -3,15 +3,18 @@ use Rattle.std.specs.Prelude.{ℕ, List, [], ◌∷◌, map, true, false, Option
 use Rattle.std.specs.List.{slice_index_or}
 use Rattle.batch_cell.specs.LookUps.{resources_of}
 use Rattle.batch_recipe.specs.Conditions.{Name, same_name}
+use Rattle.batch_recipe.specs.Expanding.{Binding}
 use Rattle.batch_recipe.specs.Tree.{Place, Tree, skip}
 use Rattle.batch_model.specs.Plant as Model
-use Rattle.batch_model.specs.Plant.{Setup, BatchAct, Share, Plant, size_out_of_range}
+use Rattle.batch_model.specs.Events.{bound_by}
+use Rattle.batch_model.specs.Plant.{Master, plain, Setup, BatchAct, Share, Plant, size_out_of_range}
 use Rattle.batch_model.specs.Setups.{setup_of}
 use Rattle.batch_verify.specs.ClearedSet.{ClearedSet}
 use Rattle.batch_arbiter.specs.Allocation.{Claim, Allocation, line_of}
 use Rattle.batch_chart.specs.NodesOf.{place_at}
 use Rattle.batch_chart.specs.Charts.{remains}
 use Rattle.batch_chart.specs.declared.compiled.Compiled.{Compiled}
+use Rattle.batch_engine.specs.Names.{roles_told}
 use Rattle.batch_engine.specs.declared.batch.Batch.{Batch}
 use Rattle.batch_engine.specs.declared.numbers.RecipeNumbers.{RecipeNumbers}
 
@@ -36,18 +39,27 @@ setup c = setup_of c.cell c.recipes
 abbrev pub no_recipe : Model.Recipe
 no_recipe = record { name = []; formula = λ size. size_out_of_range; outputs = []; procedure = skip }
 
-abbrev pub recipe_at : ClearedSet → ℕ → Model.Recipe
-recipe_at c k = slice_index_or (setup c).recipes k no_recipe
+-- a master recipe, by its number
+abbrev pub master_at : ClearedSet → ℕ → Master
+master_at c k = slice_index_or (setup c).recipes k (plain no_recipe)
 
--- the expanded tree of a recipe, by its number
-abbrev pub tree_at : ClearedSet → ℕ → Tree
-tree_at c k = (recipe_at c k).procedure
+-- which unit takes which role of a recipe, by the numbers of the units
+abbrev pub bound_to : ClearedSet → ℕ → List ℕ → Binding
+bound_to c k units = bound_by (roles_told c k units)
 
--- the recipe that a batch makes
+-- the control recipe that is made from a master recipe for these units
+abbrev pub recipe_at : ClearedSet → ℕ → List ℕ → Model.Recipe
+recipe_at c k units = (master_at c k).control (bound_to c k units)
+
+-- its expanded tree
+abbrev pub tree_at : ClearedSet → ℕ → List ℕ → Tree
+tree_at c k units = (recipe_at c k units).procedure
+
+-- the control recipe of a batch
 abbrev pub recipe_made : ClearedSet → Batch → Model.Recipe
-recipe_made c b = recipe_at c b.recipe
+recipe_made c b = recipe_at c b.recipe b.units
 
--- the expanded tree of the recipe that a batch makes
+-- its expanded tree
 abbrev pub tree_of : ClearedSet → Batch → Tree
 tree_of c b = (recipe_made c b).procedure
 

@@ -79,7 +79,11 @@ impl Engine {
             return Reply::Refused(Refusal::MovesPending);
         }
         match event {
-            Event::Create { recipe, size } => self.create(recipe, *size),
+            Event::Create {
+                recipe,
+                size,
+                roles,
+            } => self.create(recipe, *size, roles),
             Event::Order { command, batch } => self.order(*command, *batch),
             Event::Remove { batch } => self.remove(*batch),
             Event::Report(report) => self.report(report),

@@ -1,5 +1,5 @@
 //! Creating batches.
-ghost use Rattle.std.specs.Prelude.{◌≡◌, ◌<◌, ◌+◌, None, length, position};
+ghost use Rattle.std.specs.Prelude.{◌≡◌, ◌<◌, ◌+◌, List, ℕ, None, length, position};
 ghost use Rattle.batch_chart.specs.NodesOf.{needs_in};
 ghost use Rattle.batch_model.specs.Events as Events;
 ghost use Rattle.batch_model.specs.Events.{is_full};
@@ -9,17 +9,18 @@ ghost use Rattle.batch_recipe.specs.Conditions.{same_name};
 ghost use Rattle.batch_engine.specs.Answered.{IsAnswered};
 ghost use Rattle.batch_engine.specs.Creates.{IsCreate};
 ghost use Rattle.batch_engine.specs.Kept.{needs_of_all};
-ghost use Rattle.batch_engine.specs.Values.{IsValuesFor};
+ghost use Rattle.batch_engine.specs.Values.{IsValuesFor, refusal_for};
 ghost use Rattle.batch_engine.specs.View.{setup, plant_of, tree_at};
 
 use crate::batch::Batch;
+use crate::bindings::units_for;
 use crate::engine::Engine;
 use crate::refusal::Refusal;
 use crate::reply::Reply;
 use batch_chart::Running;
 use batch_matrix::State;
 use batch_model::{LAST_NUMBER, MAX_LIVE_BATCHES};
-use batch_recipe::{FormulaFault, Recipe, Values, formula};
+use batch_recipe::{FormulaFault, MAX_ROLES, Recipe, Values, formula};
 use batch_text::Name;
 use std::alloc::Global;
 
@@ -48,6 +49,17 @@ fn values_for(alloc: Global, recipe: &Recipe, size: u64) -> Result<Values, BadVa
     }
 }
 
+/// Why a create is refused whose batch has no values.
+fn refusal_for(recipe: u16, bad: BadValues) -> Refusal
+    ensures { result ≡ refusal_for recipe bad }
+{
+    match bad {
+        BadValues::Size => Refusal::BadSize,
+        BadValues::OutOfRange(value) => Refusal::BadValue { recipe, value },
+        BadValues::Memory => Refusal::Memory,
+    }
+}
+
 /// Where the recipe with this name stands.
 fn recipe_named(recipes: &[Recipe], name: &Name) -> Option<usize>
     ensures { result ≡ position (λ r. same_name r.acts.procedure.name name.now) recipes.now }
@@ -62,7 +74,7 @@ impl Engine {
     fn needs_with(&self, recipe: u16) -> usize
         requires known { recipe < length self.now.cleared.recipes }
         requires free { length self.now.batches < MAX_LIVE_BATCHES }
-        ensures { result ≡ needs_of_all self.now.cleared self.now.batches + needs_in (tree_at self.now.cleared recipe) }
+        ensures { (units : List ℕ) → result ≡ needs_of_all self.now.cleared self.now.batches + needs_in (tree_at self.now.cleared recipe units) }
     {
         let mut needs = self.numbers[usize::from(recipe)].needs;
         for index in 0..self.batches.len() {
@@ -73,9 +85,10 @@ impl Engine {
     }
 
     /// Makes a batch, once all its room is made.
-    fn add(&mut self, name: &Name, recipe: u16, size: u64, values: Values) -> Reply
-        requires { IsCreate self.old recipe name.now size values }
-        ensures { IsAnswered self.old (Events.create name.now size) result self.new }
+    fn add(&mut self, recipe: u16, size: u64, units: [u16; MAX_ROLES], values: Values) -> Reply
+        requires { (name : List ℕ) × (pairs : List (List ℕ × List ℕ)) × IsCreate self.old recipe name size pairs units values }
+        ensures { (name : List ℕ) (pairs : List (List ℕ × List ℕ)) → IsCreate self.old recipe name size pairs units values
+            → IsAnswered self.old (Events.create name size pairs) result self.new }
     {
         let needs = self.needs_with(recipe);
         let Ok(running) = Running::new(self.alloc, &self.charts[usize::from(recipe)]) else {
@@ -88,6 +101,7 @@ impl Engine {
         let batch = Batch {
             number,
             recipe,
+            units,
             size,
             values,
             state: State::Idle,
@@ -101,6 +115,7 @@ impl Engine {
             batch: number,
             recipe,
             size,
+            units,
         }
     }
 
@@ -112,9 +127,9 @@ impl Engine {
     }
 
     /// A batch of a recipe is to be made.
-    pub(crate) fn create(&mut self, name: &Name, size: u64) -> Reply
+    pub(crate) fn create(&mut self, name: &Name, size: u64, pairs: &[(Name, Name)]) -> Reply
         requires { next (setup self.old.cleared) (plant_of self.old) ≡ None }
-        ensures { IsAnswered self.old (Events.create name.now size) result self.new }
+        ensures { IsAnswered self.old (Events.create name.now size pairs.now) result self.new }
     {
         let Some(recipe) = recipe_named(self.cleared.recipes(), name) else {
             return Reply::Refused(Refusal::UnknownRecipe);
@@ -122,16 +137,13 @@ impl Engine {
         if self.is_full() {
             return Reply::Refused(Refusal::Full);
         }
-        match values_for(self.alloc, &self.cleared.recipes()[recipe], size) {
-            Ok(values) => self.add(name, recipe as u16, size, values),
-            Err(BadValues::Size) => Reply::Refused(Refusal::BadSize),
-            Err(BadValues::OutOfRange(value)) => {
-                Reply::Refused(Refusal::BadValue {
-                    recipe: recipe as u16,
-                    value,
-                })
-            }
-            Err(BadValues::Memory) => Reply::Refused(Refusal::Memory),
+        let document = &self.cleared.recipes()[recipe];
+        let Some(units) = units_for(self.cleared.cell(), &document.roles, pairs) else {
+            return Reply::Refused(Refusal::BadBinding);
+        };
+        match values_for(self.alloc, document, size) {
+            Ok(values) => self.add(recipe as u16, size, units, values),
+            Err(bad) => Reply::Refused(refusal_for(recipe as u16, bad)),
         }
     }
 }

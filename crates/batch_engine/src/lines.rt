@@ -5,12 +5,13 @@ ghost use Rattle.batch_chart.specs.declared.chart_move.Move.TheVariants as Moves
 ghost use Rattle.batch_model.specs.Moves.{handed_values};
 ghost use Rattle.batch_recipe.specs.declared.act.TheConstants.{MAX_VALUES};
 ghost use Rattle.batch_engine.specs.Names.{handed_of, node_of};
-ghost use Rattle.batch_engine.specs.Steps.{IsNeedAt, IsNext, IsNextStep, IsNodeAt, IsOwnStep, IsPhaseAt, Tells};
+ghost use Rattle.batch_engine.specs.Steps.{IsNeedAt, IsNext, IsNextStep, IsNodeAt, IsOwnStep, IsPhaseAt, IsUnitAt, Tells};
 ghost use Rattle.batch_engine.specs.Surface.{move_of};
 
 use crate::engine::Engine;
 use crate::line::Line;
-use crate::numbers::PhaseNumber;
+use crate::numbering::number_on;
+use crate::numbers::{PhaseNumber, ResourceNumber, TaskNumber};
 use crate::step::Step;
 use batch_chart::Move;
 use batch_matrix::Command;
@@ -46,12 +47,20 @@ impl Engine {
     /// The numbers of the phase that an act of the batch at an index runs. Those of an act that runs none name nothing.
     pub(crate) fn phase_at(&self, index: usize, node: u16) -> PhaseNumber
         requires { IsNodeAt self.now index node }
-        ensures { IsPhaseAt self.now index node result.unit result.phase }
+        ensures named { IsPhaseAt self.now index node result.unit result.phase }
+        ensures unit { IsUnitAt self.now index node result.unit }
     {
         let batch = &self.batches[index];
         let numbers = &self.numbers[usize::from(batch.recipe)];
         let act = &numbers.acts[usize::from(node)];
-        act.phase
+        match act.task {
+            TaskNumber::Phase(phase) => phase,
+            TaskNumber::Role(role) => {
+                let unit = ResourceNumber::Role(role).for_units(&batch.units);
+                let chart = &self.charts[usize::from(batch.recipe)];
+                number_on(self.cleared.cell(), unit, chart, node)
+            }
+        }
     }
 
     /// The line of a phase of the batch at an index that is told to do something.

@@ -1,46 +1,91 @@
 //! Looking up the numbers of what recipes name.
-ghost use Rattle.std.specs.Prelude.{◌≡◌, ◌<◌, ◌++◌, [], IfOk, length, map};
-ghost use Rattle.batch_chart.specs.Charts.{IsChartOf};
-ghost use Rattle.batch_chart.specs.NodesOf.{node_at};
-ghost use Rattle.batch_recipe.specs.Expanding.{asked_by};
+ghost use Rattle.std.specs.Prelude.{◌≡◌, ◌≤◌, ◌<◌, ◌++◌, [], IfOk, length, map, position};
+ghost use Rattle.batch_cell.specs.LookUps.{units_of};
+ghost use Rattle.batch_chart.specs.Charts.{IsChartFor};
+ghost use Rattle.batch_chart.specs.NodesOf.{node_at, phase_named};
+ghost use Rattle.batch_recipe.specs.Conditions.{same_name};
+ghost use Rattle.batch_recipe.specs.Expanding.{Binding};
 ghost use Rattle.batch_recipe.specs.Nodes.{node_count};
-ghost use Rattle.batch_recipe.specs.Procedure.{procedure_tree};
+ghost use Rattle.batch_recipe.specs.Procedure.{bound_tree, procedure_tree};
 ghost use Rattle.batch_recipe.specs.Tree.{Tree};
+ghost use Rattle.batch_recipe.specs.declared.role.TheConstants.{MAX_ROLES};
 ghost use Rattle.batch_engine.specs.Kept.{AreChartsOf};
-ghost use Rattle.batch_engine.specs.Numbered.{AreActsNumbered, AreRecipesNumbered, IsActNumbered, need_number, phase_in, phase_number};
+ghost use Rattle.batch_engine.specs.Names.{roles_of};
+ghost use Rattle.batch_engine.specs.Numbered.{AreNeeds, AreRecipesNumbered, IsActNumbered, IsChoiceNumber, IsRecipeNumbered, IsRoleNumber, IsTaskNumbered, IsUnitNeed, named_need, phase_number, phase_on, resource_number};
 
-use crate::numbers::{ActNumbers, NO_PHASE, NeedNumber, PhaseNumber, RecipeNumbers};
+use crate::numbers::{
+    ActNumbers, NO_PHASE, NeedNumber, PhaseNumber, RecipeNumbers, ResourceNumber, TaskNumber,
+};
 use batch_cell::Cell;
 use batch_chart::Compiled;
-use batch_recipe::{Act, Need, Recipe, act_at, node_count};
+use batch_recipe::{Act, Need, Recipe, Role, UnitChoice, act_at, node_count};
 use batch_text::Name;
 use std::alloc::{AllocError, Global};
 
-/// So many units of a resource.
-fn number_need(cell: &Cell, resource: &Name, units: u32) -> NeedNumber
-    ensures { result ≡ need_number cell.now (record { resource = resource.now; units = units }) }
+/// Where the role with this name stands.
+fn role_named(roles: &[Role], name: &Name) -> Option<usize>
+    ensures { result ≡ position (λ role. same_name name.now role.name) roles.now }
 {
-    NeedNumber {
-        resource: cell.resource_of(resource).unwrap_or(0),
-        units,
+    roles.iter().position(|role| *name == role.name)
+}
+
+/// The number of the role with this name.
+fn number_role(roles: &[Role], name: &Name) -> u16
+    requires { length roles.now ≤ MAX_ROLES }
+    ensures { IsRoleNumber (map (λ role. role.name) roles.now) name.now result }
+{
+    match role_named(roles, name) {
+        Some(number) => number as u16,
+        None => 0,
     }
 }
 
-/// The unit, if there is one.
+/// A resource.
+fn number_resource(cell: &Cell, resource: &Name) -> u16
+    ensures { result ≡ resource_number cell.now resource.now }
+{
+    cell.resource_of(resource).unwrap_or(0)
+}
+
+/// The unit that is chosen.
+fn number_choice(cell: &Cell, roles: &[Role], choice: &UnitChoice) -> ResourceNumber
+    requires { length roles.now ≤ MAX_ROLES }
+    ensures { IsChoiceNumber cell.now (map (λ role. role.name) roles.now) choice.now result }
+{
+    match choice {
+        UnitChoice::Unit(unit) => ResourceNumber::Resource(number_resource(cell, unit)),
+        UnitChoice::Role(role) => ResourceNumber::Role(number_role(roles, role)),
+    }
+}
+
+/// The need of the unit, if there is one.
 fn number_unit(
     alloc: Global,
     cell: &Cell,
-    unit: &Option<Name>,
+    roles: &[Role],
+    unit: &Option<UnitChoice>,
 ) -> Result<Vec<NeedNumber>, AllocError>
-    ensures { IfOk result (λ numbers. numbers.items ≡ map (need_number cell.now) (asked_by unit.now [])) }
+    requires { length roles.now ≤ MAX_ROLES }
+    ensures { IfOk result (λ numbers. IsUnitNeed cell.now (map (λ role. role.name) roles.now) unit.now numbers.items) }
 {
     let mut numbers = Vec::new(alloc);
     match unit {
-        Some(unit) => {
-            numbers.push(number_need(cell, unit, 1))?;
+        Some(choice) => {
+            let resource = number_choice(cell, roles, choice);
+            numbers.push(NeedNumber { resource, units: 1 })?;
             Ok(numbers)
         }
         None => Ok(numbers),
+    }
+}
+
+/// So many units of a resource.
+fn number_need(cell: &Cell, need: &Need) -> NeedNumber
+    ensures { result ≡ named_need cell.now need.now }
+{
+    NeedNumber {
+        resource: ResourceNumber::Resource(number_resource(cell, &need.resource)),
+        units: need.units,
     }
 }
 
@@ -50,20 +95,26 @@ fn number_each(
     numbers: Vec<NeedNumber>,
     needs: &[Need],
 ) -> Result<Vec<NeedNumber>, AllocError>
-    ensures { IfOk result (λ all. all.items ≡ numbers.items ++ map (need_number cell.now) needs.now) }
+    ensures { IfOk result (λ all. all.items ≡ numbers.items ++ map (named_need cell.now) needs.now) }
 {
     let mut numbers = numbers;
     for need in needs {
-        numbers.push(number_need(cell, &need.resource, need.units))?;
+        numbers.push(number_need(cell, need))?;
     }
     Ok(numbers)
 }
 
 /// All that an act asks for.
-fn number_needs(alloc: Global, cell: &Cell, act: &Act) -> Result<Vec<NeedNumber>, AllocError>
-    ensures { IfOk result (λ numbers. numbers.items ≡ map (need_number cell.now) (asked_by act.now.unit act.now.needs.items)) }
+fn number_needs(
+    alloc: Global,
+    cell: &Cell,
+    roles: &[Role],
+    act: &Act,
+) -> Result<Vec<NeedNumber>, AllocError>
+    requires { length roles.now ≤ MAX_ROLES }
+    ensures { IfOk result (λ numbers. AreNeeds cell.now (map (λ role. role.name) roles.now) act.now.unit act.now.needs.items numbers.items) }
 {
-    let unit = number_unit(alloc, cell, &act.unit)?;
+    let unit = number_unit(alloc, cell, roles, &act.unit)?;
     let needs = number_each(cell, unit, &act.needs)?;
     Ok(needs)
 }
@@ -81,13 +132,33 @@ fn number_phase(cell: &Cell, unit: &Name, phase: &Name) -> PhaseNumber
     }
 }
 
-/// The phase that the act at a node of the chart runs.
-fn number_task(cell: &Cell, chart: &Compiled, node: u16) -> PhaseNumber
-    ensures { (t : Tree) → IsChartOf t chart.now → result ≡ phase_in cell.now (node_at t node).here }
+/// The phase that the act at a node of the chart runs, on the unit with this number.
+pub fn number_on(cell: &Cell, unit: u16, chart: &Compiled, node: u16) -> PhaseNumber
+    requires { unit < length (units_of cell.now) }
+    ensures { (bound : Binding) (t : Tree) → IsChartFor bound t chart.now → result ≡ phase_on cell.now unit (phase_named (node_at t node).here) }
 {
     match chart.phase_of(node) {
-        Some((unit, phase)) => number_phase(cell, unit, phase),
+        Some((_unit, phase)) => PhaseNumber {
+            unit,
+            phase: cell.phase_number(unit, phase).unwrap_or(0),
+        },
         None => NO_PHASE,
+    }
+}
+
+/// What the act at a node of the chart runs.
+fn number_task(cell: &Cell, recipe: &Recipe, chart: &Compiled, node: u16) -> TaskNumber
+    requires { (bound : Binding) → IsChartFor bound (bound_tree bound recipe.now.acts) chart.now }
+    ensures { (bound : Binding) → IsTaskNumbered cell.now (roles_of recipe.now) bound (node_at (bound_tree bound recipe.now.acts) node).here result }
+{
+    match chart.phase_of(node) {
+        Some((UnitChoice::Unit(unit), phase)) => {
+            TaskNumber::Phase(number_phase(cell, unit, phase))
+        }
+        Some((UnitChoice::Role(role), _phase)) => {
+            TaskNumber::Role(number_role(&recipe.roles, role))
+        }
+        None => TaskNumber::Phase(NO_PHASE),
     }
 }
 
@@ -99,19 +170,19 @@ fn number_act(
     chart: &Compiled,
     node: u16,
 ) -> Result<ActNumbers, AllocError>
-    requires chart { IsChartOf (procedure_tree recipe.now.acts) chart.now }
+    requires chart { (bound : Binding) → IsChartFor bound (bound_tree bound recipe.now.acts) chart.now }
     requires node { node < node_count (procedure_tree recipe.now.acts) }
-    ensures { IfOk result (λ numbers. IsActNumbered cell.now (node_at (procedure_tree recipe.now.acts) node).here numbers) }
+    ensures { IfOk result (λ numbers. (bound : Binding) → IsActNumbered cell.now (roles_of recipe.now) bound (node_at (bound_tree bound recipe.now.acts) node).here numbers) }
 {
     let Some(act) = act_at(recipe, node) else {
         return Ok(ActNumbers {
             needs: Vec::new(alloc),
-            phase: NO_PHASE,
+            task: TaskNumber::Phase(NO_PHASE),
         });
     };
-    let needs = number_needs(alloc, cell, act)?;
-    let phase = number_task(cell, chart, node);
-    Ok(ActNumbers { needs, phase })
+    let needs = number_needs(alloc, cell, &recipe.roles, act)?;
+    let task = number_task(cell, recipe, chart, node);
+    Ok(ActNumbers { needs, task })
 }
 
 /// What all acts of a recipe need and run.
@@ -121,8 +192,8 @@ fn number_recipe(
     recipe: &Recipe,
     chart: &Compiled,
 ) -> Result<RecipeNumbers, AllocError>
-    requires { IsChartOf (procedure_tree recipe.now.acts) chart.now }
-    ensures { IfOk result (λ numbers. AreActsNumbered cell.now (procedure_tree recipe.now.acts) numbers) }
+    requires { (bound : Binding) → IsChartFor bound (bound_tree bound recipe.now.acts) chart.now }
+    ensures { IfOk result (λ numbers. IsRecipeNumbered cell.now recipe.now numbers) }
 {
     let mut acts = Vec::new(alloc);
     for node in 0..node_count(recipe) {

@@ -1,9 +1,35 @@
 //! Numbers of what acts need and run.
+ghost use Rattle.std.specs.Prelude.{◌≡◌};
+ghost use Rattle.batch_engine.specs.Numbered.{number_for};
 
-/// So many units of the resource with this number.
+/// A resource that an act needs.
+#[derive(Clone, Copy, Debug)]
+pub enum ResourceNumber {
+    /// That with this number.
+    Resource(u16),
+    /// The unit that takes the role with this number.
+    Role(u16),
+}
+
+impl ResourceNumber {
+    /// The number of the resource, where these units take the roles.
+    pub fn for_units(self, units: &[u16]) -> u16
+        ensures { result ≡ number_for units.now self }
+    {
+        match self {
+            ResourceNumber::Resource(number) => number,
+            ResourceNumber::Role(role) => match units.get(usize::from(role)) {
+                Some(unit) => *unit,
+                None => 0,
+            },
+        }
+    }
+}
+
+/// So many units of a resource.
 #[derive(Clone, Copy, Debug)]
 pub struct NeedNumber {
-    pub resource: u16,
+    pub resource: ResourceNumber,
     pub units: u32,
 }
 
@@ -20,11 +46,20 @@ pub const NO_PHASE: PhaseNumber = PhaseNumber {
     phase: u16::MAX,
 };
 
-/// What an act needs, in the order in which it asks, and the phase that it runs.
+/// What an act runs.
+#[derive(Clone, Copy, Debug)]
+pub enum TaskNumber {
+    /// This phase, or none.
+    Phase(PhaseNumber),
+    /// A phase of the unit that takes the role with this number. Its number among those of this unit isn't known before.
+    Role(u16),
+}
+
+/// What an act needs, in the order in which it asks, and what it runs.
 #[derive(Debug, Drop)]
 pub struct ActNumbers {
     pub needs: Vec<NeedNumber>,
-    pub phase: PhaseNumber,
+    pub task: TaskNumber,
 }
 
 /// What the acts of a recipe need and run, by the numbers of their nodes.

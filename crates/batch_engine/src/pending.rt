@@ -38,7 +38,7 @@ impl Engine {
         let numbers = &self.numbers[usize::from(batch.recipe)];
         let act = &numbers.acts[usize::from(node)];
         let wanted = &act.needs[usize::from(need)];
-        (wanted.resource, wanted.units)
+        (wanted.resource.for_units(&batch.units), wanted.units)
     }
 
     /// The first act in line of the batch at an index that the arbiter would serve: its node, its resource and how many

@@ -1,10 +1,10 @@
 //! Reports of phases.
-ghost use Rattle.std.specs.Prelude.{◌≡◌, None};
+ghost use Rattle.std.specs.Prelude.{◌≡◌, ◌<◌, ◌↔◌, IsTrue, Some, None, length};
 ghost use Rattle.batch_model.specs.Events as Events;
 ghost use Rattle.batch_model.specs.Events.{batch_state_after};
 ghost use Rattle.batch_model.specs.Moves.{next};
 ghost use Rattle.batch_engine.specs.Answered.{IsAnswered};
-ghost use Rattle.batch_engine.specs.Reports.{IsLivePhase};
+ghost use Rattle.batch_engine.specs.Reports.{IsLiveIn, IsLivePhase};
 ghost use Rattle.batch_engine.specs.View.{setup, plant_of};
 
 use crate::engine::Engine;
@@ -29,15 +29,41 @@ fn state_after(word: Report, state: State) -> State
     }
 }
 
+/// Whether the number is this one.
+fn is_number(number: Option<u16>, unit: u16) -> bool
+    ensures { IsTrue result ↔ (number ≡ Some unit) }
+{
+    match number {
+        Some(number) => number == unit,
+        None => false,
+    }
+}
+
 impl Engine {
+    /// The live phase with this name that the batch at an index runs on the unit with this name: its node and its state.
+    fn live_in(&self, index: usize, unit: &Name, phase: &Name) -> Option<(u16, State)>
+        requires { index < length self.now.batches }
+        ensures { IsLiveIn self.now index unit.now phase.now result }
+    {
+        let batch = &self.batches[index];
+        let chart = &self.charts[usize::from(batch.recipe)];
+        let number = self.cleared.cell().unit_of(unit);
+        let mut from = 0;
+        while let Some((node, state)) = batch.running.live(chart, phase, from) {
+            if is_number(number, self.phase_at(index, node).unit) {
+                return Some((node, state));
+            }
+            from = node + 1;
+        }
+        None
+    }
+
     /// The live phase of the unit with this name: where its batch stands, its node and its state.
     fn live(&self, unit: &Name, phase: &Name) -> Option<(usize, u16, State)>
         ensures { IsLivePhase self.now unit.now phase.now result }
     {
         for index in 0..self.batches.len() {
-            let batch = &self.batches[index];
-            let chart = &self.charts[usize::from(batch.recipe)];
-            if let Some((node, state)) = batch.running.live(chart, unit, phase) {
+            if let Some((node, state)) = self.live_in(index, unit, phase) {
                 return Some((index, node, state));
             }
         }

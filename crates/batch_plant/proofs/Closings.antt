@@ -75,7 +75,7 @@ reports_alone cell (ticked unit answer ∷ deeds) =
     All-append IsReportEvent (listed (report_in cell unit answer)) (reports_made cell deeds) (answer_alone cell unit answer) (reports_alone cell deeds)
 
 of_event : (e : Event) → IsReportEvent (event_of e) → IsReport e
-of_event (Create recipe size) is = is
+of_event (Create recipe size roles) is = is
 of_event (Order command batch) is = is
 of_event (Remove batch) is = is
 of_event (Report told) is = tt

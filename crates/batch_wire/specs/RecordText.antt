@@ -7,7 +7,7 @@ use Rattle.batch_recipe.specs.Conditions.{Name, ValueList}
 use Rattle.batch_recipe.specs.Texts.{line_text, place_text}
 use Rattle.batch_recipe.specs.declared.need.Need.{Need}
 use Rattle.batch_model.specs.Moves.{Move, send, state, release, begin, start, end, ask, grant}
-use Rattle.batch_model.specs.Events.{Refusal, unknown_recipe, unknown_batch, command_not_accepted, no_live_phase, report_not_expected, bad_output, bad_size, bad_value, full, not_idle, moves_pending, no_memory, Reply, created, ordered, removed, reported, refused}
+use Rattle.batch_model.specs.Events.{Refusal, unknown_recipe, unknown_batch, command_not_accepted, no_live_phase, report_not_expected, bad_output, bad_binding, bad_size, bad_value, full, not_idle, moves_pending, no_memory, Reply, created, ordered, removed, reported, refused}
 use Rattle.batch_model.specs.Runs.{Out, reply, move}
 
 -- Words
@@ -52,6 +52,13 @@ value_text value = value.0 ++ (codes "=" ++ decimal value.1)
 abbrev pub value_texts : ValueList → List (List ℕ)
 value_texts values = map value_text values
 
+-- the units that take roles, as `ROLE=UNIT`
+abbrev pub role_text : Name × Name → List ℕ
+role_text role = role.0 ++ (codes "=" ++ role.1)
+
+abbrev pub role_texts : List (Name × Name) → List (List ℕ)
+role_texts roles = map role_text roles
+
 -- a resource, and after a star how many units of it, where it is more than one
 abbrev pub need_text : Need → List ℕ
 need_text need = elim (nat_lt 1 need.units) [ false ↦ need.resource | true ↦ need.resource ++ (codes "*" ++ decimal need.units) ]
@@ -71,9 +78,10 @@ refusal_words full = codes "E8" ∷ []
 refusal_words (not_idle x) = codes "E9" ∷ state_text x ∷ []
 refusal_words moves_pending = codes "E10" ∷ []
 refusal_words no_memory = codes "E11" ∷ []
+refusal_words bad_binding = codes "E12" ∷ []
 
 abbrev pub reply_words : Reply → List (List ℕ)
-reply_words (created n recipe size) = codes "created" ∷ decimal n ∷ recipe ∷ decimal size ∷ []
+reply_words (created n recipe size roles) = codes "created" ∷ decimal n ∷ recipe ∷ decimal size ∷ role_texts roles
 reply_words (ordered command n x) = codes "ok" ∷ command_text command ∷ decimal n ∷ state_text x ∷ []
 reply_words (removed n) = codes "ok" ∷ codes "remove" ∷ decimal n ∷ []
 reply_words (reported unit phase word n place x) =

@@ -6,7 +6,7 @@ use Rattle.batch_matrix.specs.declared.report.Report.TheVariants as Report
 use Rattle.batch_recipe.specs.Needs.{one_unit}
 use Rattle.batch_recipe.specs.Tree.{Phase}
 use Rattle.batch_recipe.specs.declared.need.Need.{Need}
-use Rattle.batch_model.specs.Events.{ordered, removed, reported, refused, report_not_expected, bad_output, bad_value, not_idle}
+use Rattle.batch_model.specs.Events.{created, ordered, removed, reported, refused, report_not_expected, bad_output, bad_binding, bad_value, not_idle}
 use Rattle.batch_model.specs.Moves.{send, start, release, ask}
 use Rattle.batch_model.specs.Runs.{reply, move}
 use Rattle.batch_wire.specs.RecordText.{out_text}
@@ -29,6 +29,12 @@ AskedUnits = out_text (move (ask 1 (0 ∷ 1 ∷ []) two_units)) ≡ codes "ask 1
 abbrev pub ReleasedUnit : Type 0
 ReleasedUnit = out_text (move (release 1 (0 ∷ 1 ∷ []) (one_unit (codes "STEAM")))) ≡ codes "release 1 0.1 STEAM\n"
 
+abbrev pub CreatedReply : Type 0
+CreatedReply = out_text (reply (created 1 (codes "B") 7 ((codes "rx", codes "R2") ∷ (codes "ry", codes "R1") ∷ []))) ≡ codes "created 1 B 7 rx=R2 ry=R1\n"
+
+abbrev pub PlainReply : Type 0
+PlainReply = out_text (reply (created 1 (codes "A") 7 [])) ≡ codes "created 1 A 7\n"
+
 abbrev pub CommandReply : Type 0
 CommandReply = out_text (reply (ordered Command.Restart 2 State.Restarting)) ≡ codes "ok restart 2 restarting\n"
 
@@ -43,6 +49,9 @@ RefusedReport = out_text (reply (refused (report_not_expected State.Aborting))) 
 
 abbrev pub RefusedOutput : Type 0
 RefusedOutput = out_text (reply (refused bad_output)) ≡ codes "refused E6\n"
+
+abbrev pub RefusedBinding : Type 0
+RefusedBinding = out_text (reply (refused bad_binding)) ≡ codes "refused E12\n"
 
 abbrev pub RefusedValue : Type 0
 RefusedValue = out_text (reply (refused (bad_value (codes "QTY")))) ≡ codes "refused E7 F2 QTY\n"

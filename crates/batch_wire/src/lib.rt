@@ -1,9 +1,11 @@
 //! Event lines and record lines.
 #![tactic(auto)]
 
+mod create_line;
 mod event_line;
 mod fault;
 mod names;
+mod pairs;
 mod places;
 mod record_line;
 mod report_line;
@@ -15,5 +17,5 @@ pub use event_line::{MAX_LINE_LEN, read_event};
 pub use fault::{WireFault, WriteFault};
 pub use record_line::write_out;
 pub use report_line::MAX_PAIRS;
-pub use rows::{limits, record_lines};
+pub use rows::{create_lines, limits, record_lines};
 pub use writing::write_all;

@@ -1,13 +1,13 @@
 //! Writing a line of the record.
-ghost use Rattle.std.specs.Prelude.{◌≡◌, ◌∷◌, [], ◌++◌, codes, decimal};
+ghost use Rattle.std.specs.Prelude.{◌≡◌, ◌∷◌, [], ◌++◌, map, codes, decimal};
 ghost use Rattle.std.specs.List.{zip};
 ghost use Rattle.batch_recipe.specs.Texts.{line_text, place_text};
-ghost use Rattle.batch_engine.specs.Names.{handed_at, name_at, phase_name, place_at, resource_name};
+ghost use Rattle.batch_engine.specs.Names.{handed_at, name_at, phase_name, place_at, recipe_name, resource_name, roles_of, roles_told};
 ghost use Rattle.batch_engine.specs.Surface.{out_of, reply_of, move_of, refusal_of};
 ghost use Rattle.batch_engine.specs.declared.line.Line.TheVariants as lines;
 ghost use Rattle.batch_engine.specs.declared.reply.Reply.TheVariants as replies;
-ghost use Rattle.batch_wire.specs.Pieces.{TellsOfClaim, before, phase_front, values_text};
-ghost use Rattle.batch_wire.specs.RecordText.{out_text, reply_words, refusal_words, move_words, state_text, command_text, report_text, value_text, need_text};
+ghost use Rattle.batch_wire.specs.Pieces.{TellsOfClaim, before, created_front, phase_front, roles_text, values_text};
+ghost use Rattle.batch_wire.specs.RecordText.{out_text, reply_words, refusal_words, move_words, state_text, command_text, report_text, role_text, value_text, need_text};
 ghost use Rattle.batch_wire.specs.Written.{Writes};
 
 use crate::fault::WriteFault;
@@ -16,7 +16,7 @@ use crate::places::write_place;
 use crate::writing::{write_all, write_pieces};
 use batch_engine::{Line, Out, Refusal, Reply};
 use batch_matrix::{Command, Report, State};
-use batch_recipe::MAX_VALUES;
+use batch_recipe::{MAX_ROLES, MAX_VALUES, Role};
 use batch_text::Name;
 use batch_verify::Cleared;
 use itoa::Buffer;
@@ -40,7 +40,8 @@ fn write_reply<W: Write>(reply: Reply, cleared: &Cleared, writer: &mut W) -> Res
             batch,
             recipe,
             size,
-        } => write_created(batch, recipe_name(cleared, recipe), size, writer),
+            units,
+        } => write_created(batch, cleared, recipe, size, units, writer),
         Reply::Ordered {
             command,
             batch,
@@ -64,12 +65,28 @@ fn write_reply<W: Write>(reply: Reply, cleared: &Cleared, writer: &mut W) -> Res
 
 fn write_created<W: Write>(
     batch: u64,
+    cleared: &Cleared,
+    recipe: u16,
+    size: u64,
+    units: [u16; MAX_ROLES],
+    writer: &mut W,
+) -> Result<(), WriteFault>
+    ensures { Writes (W.contents writer.old) (W.contents writer.new) result
+        (line_text (reply_words (reply_of cleared.now (replies.Created batch recipe size units)))) }
+{
+    write_created_front(batch, recipe_name(cleared, recipe), size, writer)?;
+    write_roles(cleared, recipe, units, writer)?;
+    write_all(writer, b"\n")
+}
+
+/// Writes what a line of a new batch begins with: the word, the batch, the recipe and the size.
+fn write_created_front<W: Write>(
+    batch: u64,
     recipe: &[u8],
     size: u64,
     writer: &mut W,
 ) -> Result<(), WriteFault>
-    ensures { Writes (W.contents writer.old) (W.contents writer.new) result
-        (line_text (codes "created" ∷ decimal batch ∷ recipe.now ∷ decimal size ∷ [])) }
+    ensures { Writes (W.contents writer.old) (W.contents writer.new) result (created_front batch recipe.now size) }
 {
     let mut batch_digits = Buffer::new();
     let mut size_digits = Buffer::new();
@@ -82,9 +99,51 @@ fn write_created<W: Write>(
             recipe,
             b" ",
             size_digits.format(size).as_bytes(),
-            b"\n",
         ],
     )
+}
+
+/// Writes the roles of a recipe with the units that take them, each behind a space.
+fn write_roles<W: Write>(
+    cleared: &Cleared,
+    recipe: u16,
+    units: [u16; MAX_ROLES],
+    writer: &mut W,
+) -> Result<(), WriteFault>
+    ensures { Writes (W.contents writer.old) (W.contents writer.new) result (roles_text (roles_told cleared.now recipe units)) }
+{
+    match cleared.recipes().get(usize::from(recipe)) {
+        Some(recipe) => write_bound(cleared, &recipe.roles, units, writer),
+        None => write_all(writer, b""),
+    }
+}
+
+/// Writes the roles beside the units, as far as there are both.
+fn write_bound<W: Write>(
+    cleared: &Cleared,
+    roles: &[Role],
+    units: [u16; MAX_ROLES],
+    writer: &mut W,
+) -> Result<(), WriteFault>
+    ensures { Writes (W.contents writer.old) (W.contents writer.new) result
+        (roles_text (zip (map (λ role. role.name) roles.now) (map (resource_name cleared.now) units))) }
+{
+    for i in 0..MAX_ROLES {
+        match roles.get(i) {
+            Some(role) => {
+                let unit = resource_name(cleared, units[i]);
+                write_role(role.name.text().as_bytes(), unit, writer)?
+            }
+            None => break,
+        }
+    }
+    Ok(())
+}
+
+fn write_role<W: Write>(role: &[u8], unit: &[u8], writer: &mut W) -> Result<(), WriteFault>
+    ensures { Writes (W.contents writer.old) (W.contents writer.new) result (codes " " ++ role_text (role.now, unit.now)) }
+{
+    write_pieces(writer, &[b" ", role, b"=", unit])
 }
 
 fn write_ordered<W: Write>(
@@ -192,6 +251,7 @@ fn write_refusal<W: Write>(
         }
         Refusal::MovesPending => write_all(writer, b"refused E10\n"),
         Refusal::Memory => write_all(writer, b"refused E11\n"),
+        Refusal::BadBinding => write_all(writer, b"refused E12\n"),
     }
 }
 

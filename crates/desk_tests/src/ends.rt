@@ -47,7 +47,7 @@ begin 1 0.0.0 CHARGE
 start 1 0.0.0.0 R1 ADD
 nothing
 seal: Err(NotSealable)
-0: Create { recipe: \"A\", size: 1000 }
+0: Create { recipe: \"A\", size: 1000, roles: [] }
 0: Order { command: Start, batch: 1 }
 batch 1: Some(Running)
 ",
@@ -108,7 +108,7 @@ seal: Ok(Some(8))
 cut: Err(Closed)
 turn: Ok(Idle)
 cut: Err(UnknownPort)
-0: Create { recipe: \"A\", size: 1000 }
+0: Create { recipe: \"A\", size: 1000, roles: [] }
 0: Order { command: Start, batch: 1 }
 1: Report(PhaseReport { unit: \"R1\", phase: \"ADD\", word: Done, outputs: [] })
 batch 1: Some(Complete)
@@ -153,7 +153,7 @@ refused E4
 seal: Ok(Some(1))
 created 1 A 1000
 nothing
-0: Create { recipe: \"A\", size: 1000 }
+0: Create { recipe: \"A\", size: 1000, roles: [] }
 1: Report(PhaseReport { unit: \"R1\", phase: \"ADD\", word: Done, outputs: [] })
 batch 1: Some(Idle)
 ",

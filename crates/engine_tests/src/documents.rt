@@ -44,6 +44,77 @@ name = \"STEAM\"
 capacity = 1
 ";
 
+/// The demo cell, whose units are of one class.
+pub(crate) const CELL3: &str = "cell = \"DEMO\"
+[[unit]]
+name = \"R1\"
+class = \"RX\"
+[[unit]]
+name = \"R2\"
+class = \"RX\"
+[[module]]
+name = \"M1\"
+unit = \"R1\"
+phases = [\"ADD\", \"HEAT\", \"DRAIN\"]
+[[module]]
+name = \"M2\"
+unit = \"R2\"
+phases = [\"ADD\", \"HEAT\", \"DRAIN\"]
+[[shared]]
+name = \"HDR\"
+capacity = 1
+[[shared]]
+name = \"STEAM\"
+capacity = 2
+";
+
+/// One phase on a unit of the class.
+pub(crate) const B: &str = "recipe = \"B\"
+version = \"1\"
+basis = 1000
+[[role]]
+name = \"rx\"
+class = \"RX\"
+[procedure]
+chart = \"MAKE\"
+[[unit_procedure]]
+name = \"MAKE\"
+role = \"rx\"
+chart = \"CHARGE\"
+[[operation]]
+name = \"CHARGE\"
+chart = \"ADD\"
+[[phase]]
+name = \"ADD\"
+";
+
+/// Two units of the class, of which the one that is declared last is filled first.
+pub(crate) const E: &str = "recipe = \"E\"
+version = \"1\"
+basis = 1000
+[[role]]
+name = \"rx\"
+class = \"RX\"
+[[role]]
+name = \"ra\"
+class = \"RX\"
+[procedure]
+chart = \"seq(FIRST, SECOND)\"
+[[unit_procedure]]
+name = \"FIRST\"
+role = \"ra\"
+chart = \"CHARGE\"
+[[unit_procedure]]
+name = \"SECOND\"
+role = \"rx\"
+chart = \"CHARGE\"
+[[operation]]
+name = \"CHARGE\"
+chart = \"ADD\"
+[[phase]]
+name = \"ADD\"
+";
+
 /// One phase on R1.
 pub(crate) const A: &str = "recipe = \"A\"
 version = \"1\"

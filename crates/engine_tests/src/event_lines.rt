@@ -1,9 +1,24 @@
 //! What event lines give.
 use batch_engine::{Event, PhaseReport};
-use batch_wire::{limits, read_event};
+use batch_text::Name;
+use batch_wire::{create_lines, limits, read_event};
 use std::alloc::Global;
 use std::process::Abort;
 use std::test::Fail;
+
+/// A create, as text.
+fn create_text(
+    alloc: Global,
+    recipe: &Name,
+    size: u64,
+    roles: &[(Name, Name)],
+) -> Result<String, Fail> {
+    let mut text = format!(in alloc; "create {recipe} {size}")?;
+    for (role, unit) in roles {
+        write!(text, " {role} {unit}")?;
+    }
+    Ok(text)
+}
 
 /// A report, as text.
 fn report_text(alloc: Global, report: &PhaseReport) -> Result<String, Fail> {
@@ -17,7 +32,11 @@ fn report_text(alloc: Global, report: &PhaseReport) -> Result<String, Fail> {
 /// An event, as text.
 fn event_text(alloc: Global, event: &Event) -> Result<String, Fail> {
     Ok(match event {
-        Event::Create { recipe, size } => format!(in alloc; "create {recipe} {size}")?,
+        Event::Create {
+            recipe,
+            size,
+            roles,
+        } => create_text(alloc, recipe, *size, roles)?,
         Event::Order { command, batch } => format!(in alloc; "{command:?} {batch}")?,
         Event::Remove { batch } => format!(in alloc; "remove {batch}")?,
         Event::Report(report) => report_text(alloc, report)?,
@@ -79,6 +98,9 @@ fn lines_of_each_kind(rt: HostRuntime) -> Result<(), Fail> {
         rt.alloc(),
         b"create A 1000
 create A 0
+create B 1000 rx=R2
+  create  B  7  rx=R2   ry=R1 \r
+create B 7 rx=R1 rx=R2
 start 1
 hold 2
 restart 3
@@ -101,6 +123,9 @@ report R1 ADD done X=1 X=1
   \r",
         "create A 1000
 create A 0
+create B 1000 rx R2
+create B 7 rx R2 ry R1
+create B 7 rx R1 rx R2
 Start 1
 Hold 2
 Restart 3
@@ -140,7 +165,8 @@ report R1 ADD
 report
 start 1 2
 remove x y
-create A 1 1
+create A 1 a=R1 b=R1 c=R1 d=R1 e=R1
+create 1A x a b c d e
 report R1 ADD paused X=1
 report R1 ADD fault x
 report R1 ADD begin X=1
@@ -150,6 +176,15 @@ remove -1
 reset 00000000000000000001
 create 1A 1
 create A +1
+create A 1 1
+create B 1000 rx
+create B 1000 rx=
+create B 1000 =R1
+create B 1000 rx=1
+create B 1000 1x=R1
+create B 1000 rx=R1=R2
+create B 1000 rx==R1
+create B 1000 rx=R1 ry
 report R1 ADD begin
 report R1 ADD Done
 report R1 ADD done=1
@@ -178,6 +213,16 @@ ExtraArgument
 ExtraArgument
 ExtraArgument
 ExtraArgument
+ExtraArgument
+BadArgument
+BadArgument
+BadArgument
+BadArgument
+BadArgument
+BadArgument
+BadArgument
+BadArgument
+BadArgument
 BadArgument
 BadArgument
 BadArgument
@@ -231,6 +276,21 @@ fn most_pairs(rt: HostRuntime) -> Result<(), Fail> {
     let word_behind = told_of_long(alloc, report, " X=1", 17, " x")?;
     assert_eq!(rt; word_behind.as_str(), "ExtraArgument");
     Ok(())
+}
+
+#[test]
+fn most_roles(rt: HostRuntime) -> Result<(), Fail> {
+    create_lines();
+    // Four roles and five.
+    assert_told(
+        &rt,
+        rt.alloc(),
+        b"create B 7 a=R1 b=R2 c=R3 d=R4
+create B 7 a=R1 b=R2 c=R3 d=R4 e=R5",
+        "create B 7 a R1 b R2 c R3 d R4
+ExtraArgument
+",
+    )
 }
 
 /// What lines of 1,024 and of 1,025 bytes give, with and without a carriage return behind them, and a long comment.

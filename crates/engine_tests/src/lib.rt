@@ -36,6 +36,8 @@ mod refusals;
 #[cfg(test)]
 mod reports;
 #[cfg(test)]
+mod roles;
+#[cfg(test)]
 mod runs;
 #[cfg(test)]
 mod script;

@@ -116,10 +116,12 @@ report R1 ADD done
 create ZZ 1000
 create A 1000
 create A 0
+create A 1000 rx=R1
 remove 1
 reset 1
 remove 1
 create A 0
+create A 0 rx=R1
 create A 1000
 create A 1000
 ",
@@ -143,10 +145,12 @@ state 1 complete
 refused E1
 refused E8
 refused E8
+refused E8
 refused E9 complete
 ok reset 1 idle
 ok remove 1
 refused E7 F1
+refused E12
 created 4097 A 1000
 refused E8
 ",

@@ -15,6 +15,7 @@ use std::test::Fail;
 const CELL: &str = "cell = \"DEMO\"
 [[unit]]
 name = \"R1\"
+class = \"RX\"
 [[unit]]
 name = \"R2\"
 [[module]]
@@ -70,6 +71,29 @@ runs = \"HEAT\"
 needs = [\"STEAM\"]
 ";
 
+/// Two roles, of which a unit procedure has the one that is declared last.
+const ROLES: &str = "recipe = \"B\"
+version = \"1\"
+basis = 1000
+[[role]]
+name = \"rz\"
+class = \"RX\"
+[[role]]
+name = \"ra\"
+class = \"RX\"
+[procedure]
+chart = \"U\"
+[[unit_procedure]]
+name = \"U\"
+role = \"ra\"
+chart = \"O\"
+[[operation]]
+name = \"O\"
+chart = \"ADD\"
+[[phase]]
+name = \"ADD\"
+";
+
 const CERTIFICATE: &str = "rank HDR 2
 rank R1 1
 rank R2 1
@@ -90,7 +114,7 @@ fn certificate_of(alloc: Global, text: &str) -> Result<Certificate, Fail> {
 
 fn cleared(alloc: Global) -> Result<Cleared, Fail> {
     let cell = cell_of(alloc, CELL)?;
-    let recipes = vec![in alloc; recipe_of(alloc, RECIPE)?]?;
+    let recipes = vec![in alloc; recipe_of(alloc, RECIPE)?, recipe_of(alloc, ROLES)?]?;
     let certificate = certificate_of(alloc, CERTIFICATE)?;
     Ok(
         verify(alloc, cell, recipes, &certificate)
@@ -177,10 +201,25 @@ fn replies(rt: HostRuntime) -> Result<(), Fail> {
         &rt,
         rt.alloc(),
         &[
+            // What stands behind the units of the roles isn't told.
             Out::Reply(Reply::Created {
                 batch: 1,
                 recipe: 0,
                 size: 1000,
+                units: [1, 0, 0, 0],
+            }),
+            Out::Reply(Reply::Created {
+                batch: 4,
+                recipe: 1,
+                size: 7,
+                units: [1, 0, 3, 2],
+            }),
+            // A number that names no recipe.
+            Out::Reply(Reply::Created {
+                batch: 5,
+                recipe: 2,
+                size: 7,
+                units: [0; 4],
             }),
             Out::Reply(Reply::Ordered {
                 command: Command::Restart,
@@ -216,8 +255,11 @@ fn replies(rt: HostRuntime) -> Result<(), Fail> {
             Out::Reply(Reply::Refused(Refusal::NotIdle(State::Complete))),
             Out::Reply(Reply::Refused(Refusal::MovesPending)),
             Out::Reply(Reply::Refused(Refusal::Memory)),
+            Out::Reply(Reply::Refused(Refusal::BadBinding)),
         ],
         "created 1 P 1000
+created 4 B 7 rz=R2 ra=R1
+created 5  7
 ok restart 2 restarting
 ok remove 12
 ok report R1 HEAT fault 3 0.0.0.0.1.1 holding
@@ -234,6 +276,7 @@ refused E8
 refused E9 complete
 refused E10
 refused E11
+refused E12
 ",
     )
 }
@@ -318,7 +361,7 @@ fn moves(rt: HostRuntime) -> Result<(), Fail> {
             // Numbers that name nothing.
             Out::Move(Line::Send {
                 batch: 1,
-                recipe: 1,
+                recipe: 2,
                 node: 0,
                 unit: 4,
                 phase: 0,

@@ -1,10 +1,9 @@
 use Rattle.std.proofs.Common.{◌≡◌, ◌<◌, refl, sym, ap, subst, arith, ℕ, length, List, [], ◌∷◌, ◌++◌, Some, slice_get}
 use Rattle.std.proofs.lemmas.List.{length-append}
 use Rattle.std.proofs.lemmas.Option.{slice_get_read}
-use Rattle.batch_recipe.specs.Procedure.{procedure_tree}
 use Rattle.batch_recipe.specs.declared.recipe.Recipe.{Recipe}
 use Rattle.batch_chart.specs.declared.compiled.Compiled.{Compiled}
-use Rattle.batch_engine.specs.Numbered.{AreActsNumbered}
+use Rattle.batch_engine.specs.Numbered.{IsRecipeNumbered}
 use Rattle.batch_engine.specs.declared.numbers.RecipeNumbers.{RecipeNumbers}
 use Rattle.batch_engine.proofs.Answering.{same-at}
 use Rattle.batch_engine.proofs.NumbersFound.{pushed}
@@ -31,13 +30,13 @@ loop-index-preserved c =
     let x : RecipeNumbers = c.in_ok-recipe.recipe in
     let few : i < length recipes = omega (arith, c.loop-index-test.true) in
     let at : slice_get recipes i ≡ Some r = slice_get_read recipes (length recipes) i r refl few c.index-recipes-index.is in
-    let own : (s : Recipe) → slice_get recipes i ≡ Some s → AreActsNumbered cell (procedure_tree s.acts) x =
-    λ s e. subst (λ (z : Recipe). AreActsNumbered cell (procedure_tree z.acts) x) (same-at recipes i r s at e) c.in_ok-recipe.ensures in
-    let each : (k : ℕ) (y : RecipeNumbers) → slice_get (c.loop-index.numbers.items ++ x ∷ []) k ≡ Some y → (s : Recipe) → slice_get recipes k ≡ Some s → AreActsNumbered cell (procedure_tree s.acts) y =
-    pushed (λ k y. (s : Recipe) → slice_get recipes k ≡ Some s → AreActsNumbered cell (procedure_tree s.acts) y) c.loop-index.numbers.items x c.loop-index.invariant.1
-    (subst (λ k. (s : Recipe) → slice_get recipes k ≡ Some s → AreActsNumbered cell (procedure_tree s.acts) x) (sym c.loop-index.invariant.0) own) in (
+    let own : (s : Recipe) → slice_get recipes i ≡ Some s → IsRecipeNumbered cell s x =
+    λ s e. subst (λ (z : Recipe). IsRecipeNumbered cell z x) (same-at recipes i r s at e) c.in_ok-recipe.ensures in
+    let each : (k : ℕ) (y : RecipeNumbers) → slice_get (c.loop-index.numbers.items ++ x ∷ []) k ≡ Some y → (s : Recipe) → slice_get recipes k ≡ Some s → IsRecipeNumbered cell s y =
+    pushed (λ k y. (s : Recipe) → slice_get recipes k ≡ Some s → IsRecipeNumbered cell s y) c.loop-index.numbers.items x c.loop-index.invariant.1
+    (subst (λ k. (s : Recipe) → slice_get recipes k ≡ Some s → IsRecipeNumbered cell s x) (sym c.loop-index.invariant.0) own) in (
       omega (arith, ap (λ (xs : List RecipeNumbers). length xs) c.in_ok-push.ensures.items, length-append c.loop-index.numbers.items (x ∷ []), c.loop-index.invariant.0),
-      subst (λ (xs : List RecipeNumbers). (k : ℕ) (y : RecipeNumbers) → slice_get xs k ≡ Some y → (s : Recipe) → slice_get recipes k ≡ Some s → AreActsNumbered cell (procedure_tree s.acts) y)
+      subst (λ (xs : List RecipeNumbers). (k : ℕ) (y : RecipeNumbers) → slice_get xs k ≡ Some y → (s : Recipe) → slice_get recipes k ≡ Some s → IsRecipeNumbered cell s y)
           (sym c.in_ok-push.ensures.items) each,
       omega (arith, few),
     )

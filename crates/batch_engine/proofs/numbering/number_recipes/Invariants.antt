@@ -1,7 +1,6 @@
 use Rattle.std.proofs.Common.{◌≡◌, ◌≤◌, ℕ, Some, length, slice_get}
-use Rattle.batch_recipe.specs.Procedure.{procedure_tree}
 use Rattle.batch_recipe.specs.declared.recipe.Recipe.{Recipe}
-use Rattle.batch_engine.specs.Numbered.{AreActsNumbered}
+use Rattle.batch_engine.specs.Numbered.{IsRecipeNumbered}
 use Rattle.batch_engine.specs.declared.numbers.RecipeNumbers.{RecipeNumbers}
 use Rattle.batch_engine.proofs.numbering.number_recipes.Given as goal
 
@@ -9,5 +8,5 @@ use Rattle.batch_engine.proofs.numbering.number_recipes.Given as goal
 abbrev pub invariant-loop-index : goal.invariant-loop-index
 invariant-loop-index l =
     (length l.numbers.items ≡ l.index)
-    × ((k : ℕ) (x : RecipeNumbers) → slice_get l.numbers.items k ≡ Some x → (r : Recipe) → slice_get l.recipes k ≡ Some r → AreActsNumbered l.cell (procedure_tree r.acts) x)
+    × ((k : ℕ) (x : RecipeNumbers) → slice_get l.numbers.items k ≡ Some x → (r : Recipe) → slice_get l.recipes k ≡ Some r → IsRecipeNumbered l.cell r x)
     × (l.index ≤ length l.recipes)

@@ -3,7 +3,8 @@ use Rattle.batch_chart.proofs.NodesStand.{runs-phase, runs-none}
 use Rattle.batch_chart.proofs.compiled.Compiled.phase_of.Goals as goal
 
 pub returns-in-Phase : goal.returns-in-Phase
-returns-in-Phase c t laid = runs-phase _ _ t laid _ _ _ _ (let h = rw (c.deref.ensures.value) at c.in-Phase.ensures in sym h) (let h = rw (c.deref-in-Phase.ensures.value) at c.phase_names.ensures in h)
+returns-in-Phase c bound t h =
+    runs-phase bound _ _ t h.0 h.1 _ _ _ _ (let h = rw (c.deref.ensures.value) at c.in-Phase.ensures in sym h) (let h = rw (c.deref-in-Phase.ensures.value) at c.phase_names.ensures bound in h)
 
 pub returns-in_default : goal.returns-in_default
-returns-in_default c t laid = runs-none _ _ t laid _ _ (let h = rw (c.deref.ensures.value) at c.kind_of.ensures in h) c.in_default.not-Phase
+returns-in_default c bound t h = runs-none bound _ _ t h.0 h.1 _ _ (let h = rw (c.deref.ensures.value) at c.kind_of.ensures in h) c.in_default.not-Phase

@@ -5,6 +5,6 @@ use Rattle.batch_desk.proofs.console.Console.create.Goals.{in-Ok, in-Err}
 
 pub returns : goal.returns
 returns c = elim c.match-send.branch [
-  | in-Ok w ↦ rw w.self-is (create_goes c.args.recipe c.args.size c.args.self.now _ c.args.desk.now c.send.new.self c.requires refl refl refl refl w.in-Ok.ensures.sent)
+  | in-Ok w ↦ rw w.self-is (create_goes c.args.recipe c.args.size c.new-roles.result c.args.self.now _ c.args.desk.now c.send.new.self c.new-roles.ensures.items c.requires refl refl refl refl w.in-Ok.ensures.sent)
   | in-Err w ↦ rw w.self-is (full_goes c.args.recipe c.args.size c.args.self.now c.args.desk.now c.send.new.self w.in-Err.ensures.full.1)
 ]

@@ -8,7 +8,7 @@ use Rattle.batch_desk.proofs.hub.Hub.make_moves.Goals as goal
 
 pub returns-then-is_settled-clause-some : goal.returns-then-is_settled-clause-some
 returns-then-is_settled-clause-some c unsettled =
-    let settled : IsEngineSettled c.loop.self.engine = search rules in
+    let settled : IsEngineSettled c.loop.self.engine = c.is_settled.ensures.0 (search rules) in
     elim (eqb_tells c.loop.counter 0) [
       | inl e ↦ absurd (unsettled (rw (ap (λ (h : HubState). h.engine) (c.loop.invariant.begin e.1)) at settled))
       | inr ne ↦ omega (arith, c.loop.invariant.count)

@@ -11,6 +11,6 @@ returns-clause-answer c =
 
 pub returns-clause-history : goal.returns-clause-history
 returns-clause-history c =
-    let settled : IsEngineSettled c.args.self.now.engine = search rules in
+    let settled : IsEngineSettled c.args.self.now.engine = c.is_settled.ensures.0 (search rules) in
     let taken = rw c.if-not-branch.false at c.in_ok-take_event.ensures.taken in
     grows_taken c.args.port _ _ _ _ (refl, refl, refl) settled refl taken c.end_turn-2.ensures.history

@@ -11,7 +11,7 @@ use Rattle.batch_engine.specs.Steps.{IsFirstGrant, IsBatchStep}
 use Rattle.batch_engine.proofs.AtRest.{stopped-moves}
 use Rattle.batch_engine.proofs.BatchPlaces.{Has-batch_of}
 use Rattle.batch_engine.proofs.Told.{safe}
-use Rattle.batch_engine.proofs.Finding.{got-batch, got-chart, has, in-charts, batch-runs, one-batch, runs-here}
+use Rattle.batch_engine.proofs.Finding.{chart-here, got-batch, got-chart, has, in-charts, batch-runs, one-batch, runs-here}
 use Rattle.batch_engine.proofs.Upcoming.{own-least, grant-least, no-move}
 use Rattle.batch_engine.proofs.engine.Engine.batch_step.Goals as goal
 
@@ -24,14 +24,14 @@ returns-in-Some c =
     let at : slice_get v.batches c.args.index ≡ Some b = got-batch v _ c.args.index b c.self.view_is c.requires c.index-batch.ensures in
     let compiled : slice_get v.charts b.recipe ≡ Some x = got-chart v _ c.from.result b.recipe x c.self.view_is c.from.ensures (in-charts v kept c.args.index b at) c.index-chart.ensures in
     let next : Some (move_of (tree_of v.cleared b) (batch_of v.cleared b) c.in-Some.made) ≡ own_next (batch_of v.cleared b) =
-    c.in-Some.ensures.next (tree_of v.cleared b) (batch_of v.cleared b) (kept.charts.each b.recipe x compiled) (batch-runs v kept c.args.index b at).runs refl refl in (
+    c.in-Some.ensures.next (tree_of v.cleared b) (batch_of v.cleared b) (chart-here v kept c.args.index b at x compiled) (batch-runs v kept c.args.index b at).runs refl refl in (
       refl,
       record {
         batch = b;
         chart = x;
         here = record { at = at; compiled = compiled };
         can = c.in-Some.ensures.possible;
-        about = c.in-Some.ensures.about (tree_of v.cleared b) (kept.charts.each b.recipe x compiled) (batch-runs v kept c.args.index b at).runs;
+        about = c.in-Some.ensures.about (tree_of v.cleared b) (chart-here v kept c.args.index b at x compiled) (batch-runs v kept c.args.index b at).runs;
         is = own-least v c.args.index b (move_of (tree_of v.cleared b) (batch_of v.cleared b) c.in-Some.made) at (sym next);
       },
     )
@@ -45,7 +45,7 @@ returns-in_err-node c =
     let at : slice_get v.batches c.args.index ≡ Some b = got-batch v _ c.args.index b c.self.view_is c.requires c.index-batch.ensures in
     let compiled : slice_get v.charts b.recipe ≡ Some x = got-chart v _ c.from.result b.recipe x c.self.view_is c.from.ensures (in-charts v kept c.args.index b at) c.index-chart.ensures in
     let own : ◌≡◌ {A = Option Moves.Move} None (own_next (batch_of v.cleared b)) =
-    c.in_default.ensures.next (tree_of v.cleared b) (batch_of v.cleared b) (kept.charts.each b.recipe x compiled) (batch-runs v kept c.args.index b at).runs refl refl in
+    c.in_default.ensures.next (tree_of v.cleared b) (batch_of v.cleared b) (chart-here v kept c.args.index b at x compiled) (batch-runs v kept c.args.index b at).runs refl refl in
     let grants : IsFirstGrant v c.args.index None = subst (IsFirstGrant v c.args.index) c.in_err-node.was c.first_grant.ensures in
     subst (IsBatchStep v c.args.index) (sym c.from_residual.ensures) (no-move v c.args.index b at (sym own) (grants b at))
 
@@ -58,7 +58,7 @@ returns c =
     let at : slice_get v.batches c.args.index ≡ Some b = got-batch v _ c.args.index b c.self.view_is c.requires c.index-batch.ensures in
     let compiled : slice_get v.charts b.recipe ≡ Some x = got-chart v _ c.from.result b.recipe x c.self.view_is c.from.ensures (in-charts v kept c.args.index b at) c.index-chart.ensures in
     let own : ◌≡◌ {A = Option Moves.Move} None (own_next (batch_of v.cleared b)) =
-    c.in_default.ensures.next (tree_of v.cleared b) (batch_of v.cleared b) (kept.charts.each b.recipe x compiled) (batch-runs v kept c.args.index b at).runs refl refl in
+    c.in_default.ensures.next (tree_of v.cleared b) (batch_of v.cleared b) (chart-here v kept c.args.index b at x compiled) (batch-runs v kept c.args.index b at).runs refl refl in
     let g : IsFirstGrant v c.args.index (Some (c.in_ok-node.node, c.in_ok-node.resource, c.in_ok-node.units)) = subst (IsFirstGrant v c.args.index) c.in_ok-node.was c.first_grant.ensures in
     let own_there : own_next (batch_of v.cleared g.batch) ≡ None = one-batch v kept c.args.index b at (λ z. own_next (batch_of v.cleared z)) None g.batch g.here.at (sym own) in (
       refl,

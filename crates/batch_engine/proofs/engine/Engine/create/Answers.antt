@@ -1,133 +1,154 @@
-use Rattle.std.proofs.Common.{◌≡◌, ◌<◌, refl, sym, ◌∙◌, ap, subst, ℕ, Option, Some, None, [], length, get_or, false, find, inl, inr}
-use Rattle.std.specs.Prelude.{slice_get, option_map, unwrap_or, position, Err, Ok}
+use Rattle.std.proofs.Common.{◌≡◌, ◌<◌, refl, sym, ◌∙◌, ap, subst, ℕ, List, Some, None, length, get_or, false}
+use Rattle.std.specs.Prelude.{slice_get, position, Err, Ok}
 use Rattle.std.proofs.lemmas.Option.{slice_get_within, slice_get_read}
+use Rattle.batch_cell.specs.declared.cell.Cell.{Cell}
 use Rattle.batch_recipe.specs.Conditions.{Name, same_name}
-use Rattle.batch_recipe.specs.declared.quantity.Quantity.{Quantity}
-use Rattle.batch_engine.specs.Names.{name_of_value, quantity_name, value_name}
+use Rattle.batch_recipe.specs.declared.role.Role.{Role}
 use Rattle.batch_recipe.specs.declared.recipe.Recipe as document
-use Rattle.batch_model.specs.Plant as Model
-use Rattle.batch_model.specs.Recipes.{recipe_of}
-use Rattle.batch_model.specs.Events as Events
-use Rattle.batch_model.specs.Events.{is_full, Answer}
-use Rattle.batch_model.specs.Runs.{Reacts, IsCreated}
-use Rattle.batch_engine.specs.View.{EngineView, setup, recipe_at, plant_of}
-use Rattle.batch_engine.specs.Creates.{IsCreate}
+use Rattle.batch_model.specs.Plant.{Master}
+use Rattle.batch_model.specs.Setups.{master_of}
+use Rattle.batch_model.specs.Events.{is_full}
+use Rattle.batch_engine.specs.Bindings.{AreTaken, IsBoundAs}
 use Rattle.batch_engine.specs.Values.{IsValuesFor}
-use Rattle.batch_engine.specs.declared.creates.BadValues.TheVariants.{Size, OutOfRange, Memory}
-use Rattle.batch_engine.proofs.Answering.{same-at}
-use Rattle.batch_engine.proofs.Finding.{recipe-read}
+use Rattle.batch_engine.specs.View.{EngineView, setup, plant_of}
+use Rattle.batch_engine.specs.declared.refusal.Refusal.{Refusal}
+use Rattle.batch_engine.specs.Surface.{refusal_of}
+use Rattle.batch_model.specs.Events as Events
+use Rattle.batch_model.specs.Runs.{Reacts}
+use Rattle.batch_engine.proofs.Created.{refused-full, refused-binding, refused-for, can-create}
+use Rattle.batch_engine.proofs.Creating.{create-unknown}
 use Rattle.batch_engine.proofs.Named.{find-at, find-nowhere}
-use Rattle.batch_engine.proofs.Creating.{create-unknown, create-full, judge-values, react-create}
 use Rattle.batch_engine.proofs.engine.Engine.create.Goals as goal
 
 pub returns-in_default : goal.returns-in_default
 returns-in_default c =
     let v : EngineView = c.args.self.now in
     let name : Name = c.args.name.now in
+    let size : ℕ = c.args.size in
+    let pairs : List (Name × Name) = c.args.pairs.now in
     let recipes : c.recipes.result.now ≡ v.cleared.recipes = c.recipes.ensures.value ∙ ap (λ (z : EngineView). z.cleared.recipes) c.self.view_is in
     let none : position (λ (r : document.Recipe). same_name r.acts.procedure.name name) v.cleared.recipes ≡ None =
     ap (position (λ (r : document.Recipe). same_name r.acts.procedure.name name)) (sym recipes) ∙ sym c.recipe_named.ensures ∙ c.in_default.is in
-    record { cleared = refl; reacts = create-unknown v name c.args.size c.requires (find-nowhere recipe_of (λ (r : Model.Recipe). same_name r.name name) v.cleared.recipes none) }
+    record {
+      cleared = refl;
+      reacts = create-unknown v name size pairs c.requires (find-nowhere (master_of v.cleared.cell) (λ (m : Master). same_name m.name name) v.cleared.recipes none);
+    }
 
 pub returns-then-is_full : goal.returns-then-is_full
 returns-then-is_full c =
     let v : EngineView = c.args.self.now in
     let name : Name = c.args.name.now in
+    let size : ℕ = c.args.size in
+    let pairs : List (Name × Name) = c.args.pairs.now in
     let recipes : c.recipes.result.now ≡ v.cleared.recipes = c.recipes.ensures.value ∙ ap (λ (z : EngineView). z.cleared.recipes) c.self.view_is in
-    let at : position (λ (r : document.Recipe). same_name r.acts.procedure.name name) v.cleared.recipes ≡ Some c.in-Some.recipe =
+    let k : ℕ = c.in-Some.recipe in
+    let at : position (λ (r : document.Recipe). same_name r.acts.procedure.name name) v.cleared.recipes ≡ Some k =
     ap (position (λ (r : document.Recipe). same_name r.acts.procedure.name name)) (sym recipes) ∙ sym c.recipe_named.ensures ∙ c.in-Some.is in
-    let f = find-at recipe_of (λ (r : Model.Recipe). same_name r.name name) v.cleared.recipes c.in-Some.recipe at in
-    let known : c.in-Some.recipe < length v.cleared.recipes = slice_get_within v.cleared.recipes c.in-Some.recipe f.0 f.1 in
-    record { cleared = refl; reacts = create-full v name c.args.size (recipe_of f.0) c.requires f.2 (sym c.is_full.ensures ∙ c.if-is_full.true) }
+    let f = find-at (master_of v.cleared.cell) (λ (m : Master). same_name m.name name) v.cleared.recipes k at in
+    let known : k < length v.cleared.recipes = slice_get_within v.cleared.recipes k f.0 f.1 in
+    record { cleared = refl; reacts = refused-full v name size pairs k f.0 c.requires at f.1 (sym c.is_full.ensures ∙ c.if-is_full.true) }
+
+pub returns-in_default-units_for : goal.returns-in_default-units_for
+returns-in_default-units_for c =
+    let v : EngineView = c.args.self.now in
+    let name : Name = c.args.name.now in
+    let size : ℕ = c.args.size in
+    let pairs : List (Name × Name) = c.args.pairs.now in
+    let recipes : c.recipes.result.now ≡ v.cleared.recipes = c.recipes.ensures.value ∙ ap (λ (z : EngineView). z.cleared.recipes) c.self.view_is in
+    let k : ℕ = c.in-Some.recipe in
+    let at : position (λ (r : document.Recipe). same_name r.acts.procedure.name name) v.cleared.recipes ≡ Some k =
+    ap (position (λ (r : document.Recipe). same_name r.acts.procedure.name name)) (sym recipes) ∙ sym c.recipe_named.ensures ∙ c.in-Some.is in
+    let f = find-at (master_of v.cleared.cell) (λ (m : Master). same_name m.name name) v.cleared.recipes k at in
+    let known : k < length v.cleared.recipes = slice_get_within v.cleared.recipes k f.0 f.1 in
+    let r : document.Recipe = c.index-recipes-recipe.result in
+    let recipes' : c.recipes-2.result.now ≡ v.cleared.recipes = c.recipes-2.ensures.value ∙ ap (λ (z : EngineView). z.cleared.recipes) c.self.view_is in
+    let there : slice_get v.cleared.recipes k ≡ Some r =
+    slice_get_read v.cleared.recipes (length v.cleared.recipes) k r refl known (c.index-recipes-recipe.is ∙ ap (λ xs. get_or xs k r) recipes') in
+    let free : is_full (setup v.cleared) (plant_of v) ≡ false = sym c.is_full.ensures ∙ c.if-is_full.false in
+    let cell : c.cell.result.now ≡ v.cleared.cell = c.cell.ensures.value ∙ ap (λ (z : EngineView). z.cleared.cell) c.self.view_is in
+    let bound : IsBoundAs v.cleared.cell r.roles.items pairs c.units_for.result =
+    subst (λ (z : Cell). IsBoundAs z r.roles.items pairs c.units_for.result) cell
+    (subst (λ (rs : List Role). IsBoundAs c.cell.result.now rs pairs c.units_for.result) c.deref.ensures.value c.units_for.ensures) in
+    record { cleared = refl; reacts = refused-binding v name size pairs k r c.requires at there free (subst (IsBoundAs v.cleared.cell r.roles.items pairs) c.in_default-units_for.is bound) }
 
 pub add-requires : goal.add-requires
 add-requires c =
     let v : EngineView = c.args.self.now in
     let name : Name = c.args.name.now in
+    let size : ℕ = c.args.size in
+    let pairs : List (Name × Name) = c.args.pairs.now in
     let recipes : c.recipes.result.now ≡ v.cleared.recipes = c.recipes.ensures.value ∙ ap (λ (z : EngineView). z.cleared.recipes) c.self.view_is in
-    let at : position (λ (r : document.Recipe). same_name r.acts.procedure.name name) v.cleared.recipes ≡ Some c.in-Some.recipe =
+    let k : ℕ = c.in-Some.recipe in
+    let at : position (λ (r : document.Recipe). same_name r.acts.procedure.name name) v.cleared.recipes ≡ Some k =
     ap (position (λ (r : document.Recipe). same_name r.acts.procedure.name name)) (sym recipes) ∙ sym c.recipe_named.ensures ∙ c.in-Some.is in
-    let f = find-at recipe_of (λ (r : Model.Recipe). same_name r.name name) v.cleared.recipes c.in-Some.recipe at in
-    let known : c.in-Some.recipe < length v.cleared.recipes = slice_get_within v.cleared.recipes c.in-Some.recipe f.0 f.1 in
+    let f = find-at (master_of v.cleared.cell) (λ (m : Master). same_name m.name name) v.cleared.recipes k at in
+    let known : k < length v.cleared.recipes = slice_get_within v.cleared.recipes k f.0 f.1 in
     let r : document.Recipe = c.index-recipes-recipe.result in
     let recipes' : c.recipes-2.result.now ≡ v.cleared.recipes = c.recipes-2.ensures.value ∙ ap (λ (z : EngineView). z.cleared.recipes) c.self.view_is in
-    let read : slice_get v.cleared.recipes c.in-Some.recipe ≡ Some r =
-    slice_get_read v.cleared.recipes (length v.cleared.recipes) c.in-Some.recipe r refl known (c.index-recipes-recipe.is ∙ ap (λ xs. get_or xs c.in-Some.recipe r) recipes') in
-    let same : f.0 ≡ r = same-at v.cleared.recipes c.in-Some.recipe f.0 r f.1 read in
-    let here : recipe_at v.cleared c.in-Some.recipe ≡ recipe_of r = recipe-read v.cleared c.recipes-2.result.now c.in-Some.recipe c.in-Some.recipe r recipes' refl known c.index-recipes-recipe.is in
-    let found : find (λ (r : Model.Recipe). same_name r.name name) (setup v.cleared).recipes ≡ Some (recipe_at v.cleared c.in-Some.recipe) =
-    f.2 ∙ ap (λ z. Some (recipe_of z)) same ∙ ap Some (sym here) in
+    let there : slice_get v.cleared.recipes k ≡ Some r =
+    slice_get_read v.cleared.recipes (length v.cleared.recipes) k r refl known (c.index-recipes-recipe.is ∙ ap (λ xs. get_or xs k r) recipes') in
     let free : is_full (setup v.cleared) (plant_of v) ≡ false = sym c.is_full.ensures ∙ c.if-is_full.false in
-    let values : IsValuesFor r c.args.size (Ok c.in-Ok.values) = subst (IsValuesFor r c.args.size) c.in-Ok.is c.values_for.ensures in
-    record { settled = c.requires; known = known; found = found; free = free; formula = ap (λ (z : Model.Recipe). z.formula c.args.size) here ∙ values }
+    let cell : c.cell.result.now ≡ v.cleared.cell = c.cell.ensures.value ∙ ap (λ (z : EngineView). z.cleared.cell) c.self.view_is in
+    let bound : IsBoundAs v.cleared.cell r.roles.items pairs c.units_for.result =
+    subst (λ (z : Cell). IsBoundAs z r.roles.items pairs c.units_for.result) cell
+    (subst (λ (rs : List Role). IsBoundAs c.cell.result.now rs pairs c.units_for.result) c.deref.ensures.value c.units_for.ensures) in
+    let units : List ℕ = c.in-Some-units_for.units in
+    let taken : AreTaken v.cleared.cell r.roles.items pairs units = subst (IsBoundAs v.cleared.cell r.roles.items pairs) c.in-Some-units_for.is bound in
+    let values : IsValuesFor r size (Ok c.in-Ok.values) = subst (IsValuesFor r size) c.in-Ok.is c.values_for.ensures in
+    (name, pairs, can-create v name size pairs k r c.requires at there free units taken c.in-Ok.values values)
 
-pub returns-in-Err-Size : goal.returns-in-Err-Size
-returns-in-Err-Size c =
+pub returns-in-Ok : goal.returns-in-Ok
+returns-in-Ok c =
     let v : EngineView = c.args.self.now in
     let name : Name = c.args.name.now in
+    let size : ℕ = c.args.size in
+    let pairs : List (Name × Name) = c.args.pairs.now in
     let recipes : c.recipes.result.now ≡ v.cleared.recipes = c.recipes.ensures.value ∙ ap (λ (z : EngineView). z.cleared.recipes) c.self.view_is in
-    let at : position (λ (r : document.Recipe). same_name r.acts.procedure.name name) v.cleared.recipes ≡ Some c.in-Some.recipe =
+    let k : ℕ = c.in-Some.recipe in
+    let at : position (λ (r : document.Recipe). same_name r.acts.procedure.name name) v.cleared.recipes ≡ Some k =
     ap (position (λ (r : document.Recipe). same_name r.acts.procedure.name name)) (sym recipes) ∙ sym c.recipe_named.ensures ∙ c.in-Some.is in
-    let f = find-at recipe_of (λ (r : Model.Recipe). same_name r.name name) v.cleared.recipes c.in-Some.recipe at in
-    let known : c.in-Some.recipe < length v.cleared.recipes = slice_get_within v.cleared.recipes c.in-Some.recipe f.0 f.1 in
+    let f = find-at (master_of v.cleared.cell) (λ (m : Master). same_name m.name name) v.cleared.recipes k at in
+    let known : k < length v.cleared.recipes = slice_get_within v.cleared.recipes k f.0 f.1 in
     let r : document.Recipe = c.index-recipes-recipe.result in
     let recipes' : c.recipes-2.result.now ≡ v.cleared.recipes = c.recipes-2.ensures.value ∙ ap (λ (z : EngineView). z.cleared.recipes) c.self.view_is in
-    let read : slice_get v.cleared.recipes c.in-Some.recipe ≡ Some r =
-    slice_get_read v.cleared.recipes (length v.cleared.recipes) c.in-Some.recipe r refl known (c.index-recipes-recipe.is ∙ ap (λ xs. get_or xs c.in-Some.recipe r) recipes') in
-    let same : f.0 ≡ r = same-at v.cleared.recipes c.in-Some.recipe f.0 r f.1 read in
-    let here : recipe_at v.cleared c.in-Some.recipe ≡ recipe_of r = recipe-read v.cleared c.recipes-2.result.now c.in-Some.recipe c.in-Some.recipe r recipes' refl known c.index-recipes-recipe.is in
-    let found : find (λ (r : Model.Recipe). same_name r.name name) (setup v.cleared).recipes ≡ Some (recipe_at v.cleared c.in-Some.recipe) =
-    f.2 ∙ ap (λ z. Some (recipe_of z)) same ∙ ap Some (sym here) in
+    let there : slice_get v.cleared.recipes k ≡ Some r =
+    slice_get_read v.cleared.recipes (length v.cleared.recipes) k r refl known (c.index-recipes-recipe.is ∙ ap (λ xs. get_or xs k r) recipes') in
     let free : is_full (setup v.cleared) (plant_of v) ≡ false = sym c.is_full.ensures ∙ c.if-is_full.false in
-    let values : IsValuesFor r c.args.size (Err Size) = subst (λ e. IsValuesFor r c.args.size (Err e)) c.in-Err-Size.field-0-is (subst (IsValuesFor r c.args.size) c.in-Err-Size.is c.values_for.ensures) in
-    record { cleared = refl; reacts = inl (judge-values v name c.args.size (recipe_at v.cleared c.in-Some.recipe) c.requires found Model.size_out_of_range free (ap (λ (z : Model.Recipe). z.formula c.args.size) here ∙ values)) }
+    let cell : c.cell.result.now ≡ v.cleared.cell = c.cell.ensures.value ∙ ap (λ (z : EngineView). z.cleared.cell) c.self.view_is in
+    let bound : IsBoundAs v.cleared.cell r.roles.items pairs c.units_for.result =
+    subst (λ (z : Cell). IsBoundAs z r.roles.items pairs c.units_for.result) cell
+    (subst (λ (rs : List Role). IsBoundAs c.cell.result.now rs pairs c.units_for.result) c.deref.ensures.value c.units_for.ensures) in
+    let units : List ℕ = c.in-Some-units_for.units in
+    let taken : AreTaken v.cleared.cell r.roles.items pairs units = subst (IsBoundAs v.cleared.cell r.roles.items pairs) c.in-Some-units_for.is bound in
+    let values : IsValuesFor r size (Ok c.in-Ok.values) = subst (IsValuesFor r size) c.in-Ok.is c.values_for.ensures in
+    c.add.ensures name pairs (can-create v name size pairs k r c.requires at there free units taken c.in-Ok.values values)
 
-pub returns-in-Err-OutOfRange : goal.returns-in-Err-OutOfRange
-returns-in-Err-OutOfRange c =
+pub returns-in-Err : goal.returns-in-Err
+returns-in-Err c =
     let v : EngineView = c.args.self.now in
     let name : Name = c.args.name.now in
+    let size : ℕ = c.args.size in
+    let pairs : List (Name × Name) = c.args.pairs.now in
     let recipes : c.recipes.result.now ≡ v.cleared.recipes = c.recipes.ensures.value ∙ ap (λ (z : EngineView). z.cleared.recipes) c.self.view_is in
-    let at : position (λ (r : document.Recipe). same_name r.acts.procedure.name name) v.cleared.recipes ≡ Some c.in-Some.recipe =
+    let k : ℕ = c.in-Some.recipe in
+    let at : position (λ (r : document.Recipe). same_name r.acts.procedure.name name) v.cleared.recipes ≡ Some k =
     ap (position (λ (r : document.Recipe). same_name r.acts.procedure.name name)) (sym recipes) ∙ sym c.recipe_named.ensures ∙ c.in-Some.is in
-    let f = find-at recipe_of (λ (r : Model.Recipe). same_name r.name name) v.cleared.recipes c.in-Some.recipe at in
-    let known : c.in-Some.recipe < length v.cleared.recipes = slice_get_within v.cleared.recipes c.in-Some.recipe f.0 f.1 in
+    let f = find-at (master_of v.cleared.cell) (λ (m : Master). same_name m.name name) v.cleared.recipes k at in
+    let known : k < length v.cleared.recipes = slice_get_within v.cleared.recipes k f.0 f.1 in
     let r : document.Recipe = c.index-recipes-recipe.result in
     let recipes' : c.recipes-2.result.now ≡ v.cleared.recipes = c.recipes-2.ensures.value ∙ ap (λ (z : EngineView). z.cleared.recipes) c.self.view_is in
-    let read : slice_get v.cleared.recipes c.in-Some.recipe ≡ Some r =
-    slice_get_read v.cleared.recipes (length v.cleared.recipes) c.in-Some.recipe r refl known (c.index-recipes-recipe.is ∙ ap (λ xs. get_or xs c.in-Some.recipe r) recipes') in
-    let same : f.0 ≡ r = same-at v.cleared.recipes c.in-Some.recipe f.0 r f.1 read in
-    let here : recipe_at v.cleared c.in-Some.recipe ≡ recipe_of r = recipe-read v.cleared c.recipes-2.result.now c.in-Some.recipe c.in-Some.recipe r recipes' refl known c.index-recipes-recipe.is in
-    let found : find (λ (r : Model.Recipe). same_name r.name name) (setup v.cleared).recipes ≡ Some (recipe_at v.cleared c.in-Some.recipe) =
-    f.2 ∙ ap (λ z. Some (recipe_of z)) same ∙ ap Some (sym here) in
+    let there : slice_get v.cleared.recipes k ≡ Some r =
+    slice_get_read v.cleared.recipes (length v.cleared.recipes) k r refl known (c.index-recipes-recipe.is ∙ ap (λ xs. get_or xs k r) recipes') in
     let free : is_full (setup v.cleared) (plant_of v) ≡ false = sym c.is_full.ensures ∙ c.if-is_full.false in
-    let values : IsValuesFor r c.args.size (Err (OutOfRange c.in-Err-OutOfRange.value)) = subst (λ e. IsValuesFor r c.args.size (Err e)) c.in-Err-OutOfRange.field-0-is (subst (IsValuesFor r c.args.size) c.in-Err-OutOfRange.is c.values_for.ensures) in
-    let k : ℕ = c.in-Err-OutOfRange.value in
-    let called : value_name v.cleared c.in-Some.recipe k ≡ values.0.name =
-    ap (λ (m : Option document.Recipe). unwrap_or (option_map (name_of_value k) m) []) read
-    ∙ ap (λ (m : Option Quantity). unwrap_or (option_map quantity_name m) []) values.1 in
-    let reacts : Reacts (setup v.cleared) (plant_of v) (Events.create name c.args.size) (Events.refused (Events.bad_value values.0.name)) (plant_of v) =
-    inl (judge-values v name c.args.size (recipe_at v.cleared c.in-Some.recipe) c.requires found (Model.value_out_of_range values.0.name) free (ap (λ (z : Model.Recipe). z.formula c.args.size) here ∙ values.2)) in
-    record { cleared = refl; reacts = subst (λ (n : Name). Reacts (setup v.cleared) (plant_of v) (Events.create name c.args.size) (Events.refused (Events.bad_value n)) (plant_of v)) (sym called) reacts }
-
-pub returns-in-Err-Memory : goal.returns-in-Err-Memory
-returns-in-Err-Memory c =
-    let v : EngineView = c.args.self.now in
-    let name : Name = c.args.name.now in
-    let recipes : c.recipes.result.now ≡ v.cleared.recipes = c.recipes.ensures.value ∙ ap (λ (z : EngineView). z.cleared.recipes) c.self.view_is in
-    let at : position (λ (r : document.Recipe). same_name r.acts.procedure.name name) v.cleared.recipes ≡ Some c.in-Some.recipe =
-    ap (position (λ (r : document.Recipe). same_name r.acts.procedure.name name)) (sym recipes) ∙ sym c.recipe_named.ensures ∙ c.in-Some.is in
-    let f = find-at recipe_of (λ (r : Model.Recipe). same_name r.name name) v.cleared.recipes c.in-Some.recipe at in
-    let known : c.in-Some.recipe < length v.cleared.recipes = slice_get_within v.cleared.recipes c.in-Some.recipe f.0 f.1 in
-    let r : document.Recipe = c.index-recipes-recipe.result in
-    let recipes' : c.recipes-2.result.now ≡ v.cleared.recipes = c.recipes-2.ensures.value ∙ ap (λ (z : EngineView). z.cleared.recipes) c.self.view_is in
-    let read : slice_get v.cleared.recipes c.in-Some.recipe ≡ Some r =
-    slice_get_read v.cleared.recipes (length v.cleared.recipes) c.in-Some.recipe r refl known (c.index-recipes-recipe.is ∙ ap (λ xs. get_or xs c.in-Some.recipe r) recipes') in
-    let same : f.0 ≡ r = same-at v.cleared.recipes c.in-Some.recipe f.0 r f.1 read in
-    let here : recipe_at v.cleared c.in-Some.recipe ≡ recipe_of r = recipe-read v.cleared c.recipes-2.result.now c.in-Some.recipe c.in-Some.recipe r recipes' refl known c.index-recipes-recipe.is in
-    let found : find (λ (r : Model.Recipe). same_name r.name name) (setup v.cleared).recipes ≡ Some (recipe_at v.cleared c.in-Some.recipe) =
-    f.2 ∙ ap (λ z. Some (recipe_of z)) same ∙ ap Some (sym here) in
-    let free : is_full (setup v.cleared) (plant_of v) ≡ false = sym c.is_full.ensures ∙ c.if-is_full.false in
-    let values : IsValuesFor r c.args.size (Err Memory) = subst (λ e. IsValuesFor r c.args.size (Err e)) c.in-Err-Memory.field-0-is (subst (IsValuesFor r c.args.size) c.in-Err-Memory.is c.values_for.ensures) in
-    let o : IsCreate v c.in-Some.recipe name c.args.size values.0 =
-    record { settled = c.requires; known = known; found = found; free = free; formula = ap (λ (z : Model.Recipe). z.formula c.args.size) here ∙ values.1 } in
-    record { cleared = refl; reacts = inr (subst (λ (a : Answer). IsCreated a.0) (sym (react-create v c.in-Some.recipe name c.args.size values.0 o)) tt, refl, refl) }
+    let cell : c.cell.result.now ≡ v.cleared.cell = c.cell.ensures.value ∙ ap (λ (z : EngineView). z.cleared.cell) c.self.view_is in
+    let bound : IsBoundAs v.cleared.cell r.roles.items pairs c.units_for.result =
+    subst (λ (z : Cell). IsBoundAs z r.roles.items pairs c.units_for.result) cell
+    (subst (λ (rs : List Role). IsBoundAs c.cell.result.now rs pairs c.units_for.result) c.deref.ensures.value c.units_for.ensures) in
+    let units : List ℕ = c.in-Some-units_for.units in
+    let taken : AreTaken v.cleared.cell r.roles.items pairs units = subst (IsBoundAs v.cleared.cell r.roles.items pairs) c.in-Some-units_for.is bound in
+    let values : IsValuesFor r size (Err c.in-Err.bad) = subst (IsValuesFor r size) c.in-Err.is c.values_for.ensures in
+    record {
+      cleared = refl;
+      reacts = subst (λ (x : Refusal). Reacts (setup v.cleared) (plant_of v) (Events.create name size pairs) (Events.refused (refusal_of v.cleared x)) (plant_of v)) (sym c.refusal_for.ensures)
+          (refused-for v name size pairs k r c.requires at there free units taken c.in-Err.bad values);
+    }

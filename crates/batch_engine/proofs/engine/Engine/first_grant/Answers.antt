@@ -10,7 +10,7 @@ use Rattle.batch_engine.specs.View.{EngineView, setup, plant_of, batch_of, tree_
 use Rattle.batch_model.specs.Moves.{least}
 use Rattle.batch_chart.specs.OwnMoves.{grants}
 use Rattle.batch_engine.specs.Kept.{IsKept}
-use Rattle.batch_engine.proofs.Finding.{got-batch, got-chart, in-charts, batch-runs, first-serves, no-grants, first-grant, asks_here, served_here, first_here, goes-on, one-batch, one-none, passed, runs-here}
+use Rattle.batch_engine.proofs.Finding.{chart-here, got-batch, got-chart, in-charts, batch-runs, first-serves, no-grants, first-grant, asks_here, served_here, first_here, goes-on, one-batch, one-none, passed, runs-here}
 use Rattle.batch_engine.proofs.Nodes.{within-or_past}
 use Rattle.batch_engine.proofs.engine.Engine.first_grant.Goals as goal
 
@@ -23,7 +23,7 @@ resource_at-resource-requires c =
     let at : slice_get v.batches c.args.index ≡ Some b = got-batch v _ c.args.index b c.self.view_is c.requires c.index-batch.ensures in
     let compiled : slice_get v.charts b.recipe ≡ Some x = got-chart v _ c.from.result b.recipe x c.self.view_is c.from.ensures (in-charts v kept c.args.index b at) c.index-chart.ensures in
     let asks : AsksAt (tree_of v.cleared b) (remains (tree_of v.cleared b) b.running) c.in-Some.node c.in-Some.need =
-    c.in-Some.ensures.some.1 (tree_of v.cleared b) (kept.charts.each b.recipe x compiled) (batch-runs v kept c.args.index b at).runs in
+    c.in-Some.ensures.some.1 (tree_of v.cleared b) (chart-here v kept c.args.index b at x compiled) (batch-runs v kept c.args.index b at).runs in
     (b, at, asks.0, asks.1)
 
 pub returns-then-serves : goal.returns-then-serves
@@ -35,7 +35,7 @@ returns-then-serves c =
     let at : slice_get v.batches c.args.index ≡ Some b = got-batch v _ c.args.index b c.self.view_is c.requires c.index-batch.ensures in
     let compiled : slice_get v.charts b.recipe ≡ Some x = got-chart v _ c.from.result b.recipe x c.self.view_is c.from.ensures (in-charts v kept c.args.index b at) c.index-chart.ensures in
     let asks : asks_here v kept c.args.index b at c.in-Some.node c.in-Some.need =
-    c.in-Some.ensures.some.1 (tree_of v.cleared b) (kept.charts.each b.recipe x compiled) (batch-runs v kept c.args.index b at).runs in
+    c.in-Some.ensures.some.1 (tree_of v.cleared b) (chart-here v kept c.args.index b at x compiled) (batch-runs v kept c.args.index b at).runs in
     let first : first_here v kept c.args.index b at c.resource_at-resource.result.0 c.in-Some.node =
     ap (λ (w : EngineView). option_map batch_node (next_grant w.allocation c.resource_at-resource.result.0)) (sym c.self.view_is) ∙ c.serves.ensures.0 c.if-serves.true in
     let served : served_here v kept c.args.index b at c.in-Some.node c.in-Some.need =
@@ -63,7 +63,7 @@ loop-node-preserved c =
     let at : slice_get v.batches c.args.index ≡ Some b = got-batch v _ c.args.index b c.self.view_is c.requires c.index-batch.ensures in
     let compiled : slice_get v.charts b.recipe ≡ Some x = got-chart v _ c.from.result b.recipe x c.self.view_is c.from.ensures (in-charts v kept c.args.index b at) c.index-chart.ensures in
     let asks : asks_here v kept c.args.index b at c.in-Some.node c.in-Some.need =
-    c.in-Some.ensures.some.1 (tree_of v.cleared b) (kept.charts.each b.recipe x compiled) (batch-runs v kept c.args.index b at).runs in
+    c.in-Some.ensures.some.1 (tree_of v.cleared b) (chart-here v kept c.args.index b at x compiled) (batch-runs v kept c.args.index b at).runs in
     let not_first : first_here v kept c.args.index b at c.resource_at-resource.result.0 c.in-Some.node → ⊥ =
     λ f. (let g = c.serves.ensures.1 (ap (λ (w : EngineView). option_map batch_node (next_grant w.allocation c.resource_at-resource.result.0)) c.self.view_is ∙ f) in absurd (let h : ◌≡◌ true false = sym g ∙ c.if-serves.false in cc)) in (
       omega (arith, c.in-Some.ensures.small),
@@ -81,7 +81,7 @@ returns c =
     let none : grants (setup v.cleared) (plant_of v) (batch_of v.cleared b) ≡ [] =
     no-grants v kept c.args.index b at (λ j l asks served. elim (within-or_past j c.loop-node.from) [
       | inl q ↦ c.loop-node.invariant.1 j l q asks served
-      | inr q ↦ c.in_default.ensures.none refl (tree_of v.cleared b) (kept.charts.each b.recipe x compiled) (batch-runs v kept c.args.index b at).runs j l q asks
+      | inr q ↦ c.in_default.ensures.none refl (tree_of v.cleared b) (chart-here v kept c.args.index b at x compiled) (batch-runs v kept c.args.index b at).runs j l q asks
     ]) in
     λ d e. one-none v kept c.args.index b at (λ z. grants (setup v.cleared) (plant_of v) (batch_of v.cleared z)) d e none
 

@@ -10,7 +10,7 @@ use Rattle.batch_engine.specs.declared.batch.Batch.{Batch}
 use Rattle.batch_engine.specs.View.{EngineView, number_of, tree_of}
 use Rattle.batch_engine.specs.Kept.{IsKept}
 use Rattle.batch_engine.specs.Steps.{IsGrantStep, IsNext}
-use Rattle.batch_engine.proofs.Finding.{got-batch, got-chart, in-charts, batch-runs, runs-here}
+use Rattle.batch_engine.proofs.Finding.{chart-here, got-batch, got-chart, in-charts, batch-runs, runs-here}
 use Rattle.batch_engine.proofs.Stepping.{changed}
 use Rattle.batch_engine.proofs.Made.{Becomes, grant-made}
 use Rattle.batch_engine.proofs.Answering.{same-at, closed-kept, closed-makes}
@@ -74,7 +74,7 @@ invariant_of-self c =
     let asks : AsksAt t (remains t b.running) c.args.node g.need = subst (λ (z : Batch). AsksAt (tree_of v.cleared z) (remains (tree_of v.cleared z) z.running) c.args.node g.need) same g.asks in
     let number : number_of v.cleared (need_at t c.args.node g.need).resource ≡ Some c.args.resource = subst (λ (z : Batch). number_of v.cleared (need_at (tree_of v.cleared z) c.args.node g.need).resource ≡ Some c.args.resource) same g.number in
     let first : option_map batch_node (next_grant v.allocation c.args.resource) ≡ Some (b.number, c.args.node) = subst (λ (z : Batch). option_map batch_node (next_grant v.allocation c.args.resource) ≡ Some (z.number, c.args.node)) same g.first in
-    let made = c.grant.ensures t (kept.charts.each b.recipe x compiled) (batch-runs v kept c.args.index b at).runs in
+    let made = c.grant.ensures t (chart-here v kept c.args.index b at x compiled) (batch-runs v kept c.args.index b at).runs in
     let r : Becomes v (changed v c.args.index (record b { running = c.grant.new.self }) (granted c.args.resource (next_grant v.allocation c.args.resource) v.allocation)) m =
     grant-made v kept c.args.index b at c.args.node g.need c.args.resource c.grant.new.self asks number first made.0 made.2 is in
     let after : granted c.args.resource (next_grant v.allocation c.args.resource) v.allocation ≡ c.grant_next.new.self =
@@ -102,7 +102,7 @@ returns c =
     let asks : AsksAt t (remains t b.running) c.args.node g.need = subst (λ (z : Batch). AsksAt (tree_of v.cleared z) (remains (tree_of v.cleared z) z.running) c.args.node g.need) same g.asks in
     let number : number_of v.cleared (need_at t c.args.node g.need).resource ≡ Some c.args.resource = subst (λ (z : Batch). number_of v.cleared (need_at (tree_of v.cleared z) c.args.node g.need).resource ≡ Some c.args.resource) same g.number in
     let first : option_map batch_node (next_grant v.allocation c.args.resource) ≡ Some (b.number, c.args.node) = subst (λ (z : Batch). option_map batch_node (next_grant v.allocation c.args.resource) ≡ Some (z.number, c.args.node)) same g.first in
-    let made = c.grant.ensures t (kept.charts.each b.recipe x compiled) (batch-runs v kept c.args.index b at).runs in
+    let made = c.grant.ensures t (chart-here v kept c.args.index b at x compiled) (batch-runs v kept c.args.index b at).runs in
     let r : Becomes v (changed v c.args.index (record b { running = c.grant.new.self }) (granted c.args.resource (next_grant v.allocation c.args.resource) v.allocation)) m =
     grant-made v kept c.args.index b at c.args.node g.need c.args.resource c.grant.new.self asks number first made.0 made.2 is in
     let after : granted c.args.resource (next_grant v.allocation c.args.resource) v.allocation ≡ c.grant_next.new.self =

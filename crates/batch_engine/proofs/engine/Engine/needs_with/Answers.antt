@@ -1,4 +1,4 @@
-use Rattle.std.proofs.Common.{◌≡◌, ◌<◌, ap, subst, ℕ, Some, arith, length, get_or}
+use Rattle.std.proofs.Common.{◌≡◌, ◌<◌, ap, subst, ℕ, [], Some, arith, length, get_or}
 use Rattle.std.specs.Prelude.{slice_get}
 use Rattle.std.proofs.lemmas.List.Sums.{sum_by_more}
 use Rattle.std.proofs.lemmas.Option.{get_or_from_slice_get}
@@ -9,7 +9,7 @@ use Rattle.batch_engine.specs.View.{EngineView, tree_at, tree_of}
 use Rattle.batch_engine.specs.Kept.{IsKept}
 use Rattle.batch_engine.proofs.FewNeeds.{few-before, few-needs}
 use Rattle.batch_engine.proofs.Finding.{got-batch}
-use Rattle.batch_engine.proofs.NumbersFound.{got-numbers, numbers-here, in-numbers}
+use Rattle.batch_engine.proofs.NumbersFound.{got-numbers, needs-here, in-numbers}
 use Rattle.batch_engine.proofs.engine.Engine.needs_with.Goals as goal
 
 pub loop-index-init : goal.loop-index-init
@@ -19,8 +19,7 @@ loop-index-init c =
     let few : c.args.recipe < length v.numbers = omega (arith, c.requires.known, kept.numbers.count) in
     let x : RecipeNumbers = c.index.result.now in
     let found : slice_get v.numbers c.args.recipe ≡ Some x = got-numbers v _ c.from.result c.args.recipe x c.self.view_is c.from.ensures few c.index.ensures in
-    let needs : x.needs ≡ needs_in (tree_at v.cleared c.args.recipe) = (numbers-here v kept c.args.recipe x found).needs in
-    omega (arith, needs)
+    λ units. (let needs : x.needs ≡ needs_in (tree_at v.cleared c.args.recipe units) = needs-here v kept c.args.recipe x found units in omega (arith, needs))
 
 -- at most 17 needs a node, 4,096 nodes a batch, 4,096 batches
 pub overflow_add-needs : goal.overflow_add-needs
@@ -33,15 +32,15 @@ overflow_add-needs c =
     let at : slice_get v.batches i ≡ Some b = got-batch v _ i b c.self.view_is few c.index-batch.ensures in
     let x : RecipeNumbers = c.index-in-loop-index.result.now in
     let found : slice_get v.numbers b.recipe ≡ Some x = got-numbers v _ c.from-in-loop-index.result b.recipe x c.self.view_is c.from-in-loop-index.ensures (in-numbers v kept i b at) c.index-in-loop-index.ensures in
-    let needs : x.needs ≡ needs_in (tree_of v.cleared b) = (numbers-here v kept b.recipe x found).needs in
+    let needs : x.needs ≡ needs_in (tree_of v.cleared b) = needs-here v kept b.recipe x found b.units in
     omega (
       arith,
-      c.loop-index.invariant,
+      c.loop-index.invariant [],
       c.requires.free,
       few,
       needs,
-      few-needs v.cleared b.recipe,
-      few-needs v.cleared c.args.recipe,
+      few-needs v.cleared b.recipe b.units,
+      few-needs v.cleared c.args.recipe [],
       few-before v.cleared v.batches i,
     )
 
@@ -56,10 +55,10 @@ loop-index-preserved c =
     let x : RecipeNumbers = c.index-in-loop-index.result.now in
     let found : slice_get v.numbers b.recipe ≡ Some x = got-numbers v _ c.from-in-loop-index.result b.recipe x c.self.view_is c.from-in-loop-index.ensures (in-numbers v kept i b at) c.index-in-loop-index.ensures in
     let here : get_or v.batches i b ≡ b = get_or_from_slice_get v.batches i b b at in
-    let needs : x.needs ≡ needs_in (tree_of v.cleared b) = (numbers-here v kept b.recipe x found).needs in
-    omega (
+    let needs : x.needs ≡ needs_in (tree_of v.cleared b) = needs-here v kept b.recipe x found b.units in
+    λ units. omega (
       arith,
-      c.loop-index.invariant,
+      c.loop-index.invariant units,
       needs,
       sum_by_more (λ (z : Batch). needs_in (tree_of v.cleared z)) v.batches i b few,
       ap (λ (z : Batch). needs_in (tree_of v.cleared z)) here,

@@ -11,7 +11,7 @@ use Rattle.batch_engine.specs.declared.batch.Batch.{Batch}
 use Rattle.batch_engine.specs.View.{EngineView, batch_of, number_of, tree_of}
 use Rattle.batch_engine.specs.Kept.{IsKept}
 use Rattle.batch_engine.specs.Steps.{IsOwnStep, IsNext}
-use Rattle.batch_engine.proofs.Finding.{got-batch, got-chart, in-charts, batch-runs, runs-here}
+use Rattle.batch_engine.proofs.Finding.{chart-here, got-batch, got-chart, in-charts, batch-runs, runs-here}
 use Rattle.batch_engine.proofs.Stepping.{changed}
 use Rattle.batch_engine.proofs.Made.{Becomes, release-made, known, held-share}
 use Rattle.batch_engine.proofs.Answering.{same-at, step-is, step-about, step-can, closed-kept, closed-makes}
@@ -89,7 +89,7 @@ invariant_of-self c =
     let number : number_of v.cleared (need_at (tree_of v.cleared b) c.args.node c.args.need).resource ≡ Some c.args.resource = (c.requires.number b at).0 in
     let m : Moves.Move = move_of (tree_of v.cleared b) (batch_of v.cleared b) (Chart.Release c.args.node c.args.need) in
     let is : IsNext v m = step-is v c.args.index b at (Chart.Release c.args.node c.args.need) g in
-    let made = c.make.ensures (tree_of v.cleared b) (kept.charts.each b.recipe x compiled) (batch-runs v kept c.args.index b at).runs in
+    let made = c.make.ensures (tree_of v.cleared b) (chart-here v kept c.args.index b at x compiled) (batch-runs v kept c.args.index b at).runs in
     let r : Becomes v (changed v c.args.index (record b { running = c.make.new.self }) (released c.args.resource b.number c.args.node v.allocation)) m =
     release-made v kept c.args.index b at c.args.node c.args.need c.args.resource c.make.new.self (step-about v c.args.index b at (Chart.Release c.args.node c.args.need) g) number made is in
     let first : Batch = c.index.result.now in
@@ -116,7 +116,7 @@ returns c =
     let number : number_of v.cleared (need_at (tree_of v.cleared b) c.args.node c.args.need).resource ≡ Some c.args.resource = (c.requires.number b at).0 in
     let m : Moves.Move = move_of (tree_of v.cleared b) (batch_of v.cleared b) (Chart.Release c.args.node c.args.need) in
     let is : IsNext v m = step-is v c.args.index b at (Chart.Release c.args.node c.args.need) g in
-    let made = c.make.ensures (tree_of v.cleared b) (kept.charts.each b.recipe x compiled) (batch-runs v kept c.args.index b at).runs in
+    let made = c.make.ensures (tree_of v.cleared b) (chart-here v kept c.args.index b at x compiled) (batch-runs v kept c.args.index b at).runs in
     let r : Becomes v (changed v c.args.index (record b { running = c.make.new.self }) (released c.args.resource b.number c.args.node v.allocation)) m =
     release-made v kept c.args.index b at c.args.node c.args.need c.args.resource c.make.new.self (step-about v c.args.index b at (Chart.Release c.args.node c.args.need) g) number made is in
     let first : Batch = c.index.result.now in

@@ -10,7 +10,7 @@ use Rattle.batch_engine.specs.declared.batch.Batch.{Batch}
 use Rattle.batch_engine.specs.View.{EngineView, tree_of, recipe_made}
 use Rattle.batch_engine.specs.Kept.{IsKept}
 use Rattle.batch_engine.specs.Orders.{IsOrder}
-use Rattle.batch_engine.proofs.Finding.{got-batch, got-chart, in-charts, batch-runs, runs-here}
+use Rattle.batch_engine.proofs.Finding.{chart-here, got-batch, got-chart, in-charts, batch-runs, runs-here}
 use Rattle.batch_engine.proofs.Stepping.{changed}
 use Rattle.batch_engine.proofs.Ordering.{Ordered, reset-made}
 use Rattle.batch_engine.proofs.OrderAnswers.{order-at, order-batch, closed-kept', closed-ordered}
@@ -48,11 +48,11 @@ invariant_of-self c =
     let compiled : slice_get v.charts b.recipe ≡ Some x = got-chart v _ c.from.result b.recipe x c.self.view_is c.from.ensures (in-charts v kept i b at) c.index-chart.ensures in
     let known : b.recipe < length v.cleared.recipes = (batch-runs v kept i b at).known in
     let outputs : (recipe_made v.cleared b).outputs ≡ c.deref.result.now =
-    ap (λ (z : Rattle.batch_model.specs.Plant.Recipe). z.outputs) (recipe-read v.cleared c.recipes.result.now c.from-2.result b.recipe c.index-recipes-from.result (c.recipes.ensures.value ∙ ap (λ (z : EngineView). z.cleared.recipes) c.self.view_is) c.from-2.ensures known c.index-recipes-from.is)
+    ap (λ (z : Rattle.batch_model.specs.Plant.Recipe). z.outputs) (recipe-read v.cleared c.recipes.result.now c.from-2.result b.recipe c.index-recipes-from.result (c.recipes.ensures.value ∙ ap (λ (z : EngineView). z.cleared.recipes) c.self.view_is) c.from-2.ensures known c.index-recipes-from.is b.units)
     ∙ sym c.deref.ensures.value in
     let values : c.clear_outputs.new.self ≡ with_outputs_zero (recipe_made v.cleared b).outputs b.values = c.clear_outputs.ensures ∙ ap (λ z. with_outputs_zero z b.values) (sym outputs) in
     let b' : Batch = record b { values = c.clear_outputs.new.self; state = Idle; running = c.reset.new.self } in
-    let made = λ (ws : ValueList). c.reset.ensures (tree_of v.cleared b) ws (kept.charts.each b.recipe x compiled) (batch-runs v kept i b at).runs in
+    let made = λ (ws : ValueList). c.reset.ensures (tree_of v.cleared b) ws (chart-here v kept i b at x compiled) (batch-runs v kept i b at).runs in
     let r : Ordered v (changed v i (record (o.batch) { values = c.clear_outputs.new.self; state = Idle; running = c.reset.new.self }) v.allocation) Reset n =
     reset-made v kept i n o c.reset.new.self c.clear_outputs.new.self
     (subst (λ (z : Batch). c.clear_outputs.new.self ≡ with_outputs_zero (recipe_made v.cleared z).outputs z.values) (sym is) values)
@@ -81,11 +81,11 @@ returns c =
     let compiled : slice_get v.charts b.recipe ≡ Some x = got-chart v _ c.from.result b.recipe x c.self.view_is c.from.ensures (in-charts v kept i b at) c.index-chart.ensures in
     let known : b.recipe < length v.cleared.recipes = (batch-runs v kept i b at).known in
     let outputs : (recipe_made v.cleared b).outputs ≡ c.deref.result.now =
-    ap (λ (z : Rattle.batch_model.specs.Plant.Recipe). z.outputs) (recipe-read v.cleared c.recipes.result.now c.from-2.result b.recipe c.index-recipes-from.result (c.recipes.ensures.value ∙ ap (λ (z : EngineView). z.cleared.recipes) c.self.view_is) c.from-2.ensures known c.index-recipes-from.is)
+    ap (λ (z : Rattle.batch_model.specs.Plant.Recipe). z.outputs) (recipe-read v.cleared c.recipes.result.now c.from-2.result b.recipe c.index-recipes-from.result (c.recipes.ensures.value ∙ ap (λ (z : EngineView). z.cleared.recipes) c.self.view_is) c.from-2.ensures known c.index-recipes-from.is b.units)
     ∙ sym c.deref.ensures.value in
     let values : c.clear_outputs.new.self ≡ with_outputs_zero (recipe_made v.cleared b).outputs b.values = c.clear_outputs.ensures ∙ ap (λ z. with_outputs_zero z b.values) (sym outputs) in
     let b' : Batch = record b { values = c.clear_outputs.new.self; state = Idle; running = c.reset.new.self } in
-    let made = λ (ws : ValueList). c.reset.ensures (tree_of v.cleared b) ws (kept.charts.each b.recipe x compiled) (batch-runs v kept i b at).runs in
+    let made = λ (ws : ValueList). c.reset.ensures (tree_of v.cleared b) ws (chart-here v kept i b at x compiled) (batch-runs v kept i b at).runs in
     let r : Ordered v (changed v i (record (o.batch) { values = c.clear_outputs.new.self; state = Idle; running = c.reset.new.self }) v.allocation) Reset n =
     reset-made v kept i n o c.reset.new.self c.clear_outputs.new.self
     (subst (λ (z : Batch). c.clear_outputs.new.self ≡ with_outputs_zero (recipe_made v.cleared z).outputs z.values) (sym is) values)

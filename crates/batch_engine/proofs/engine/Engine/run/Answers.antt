@@ -9,7 +9,7 @@ use Rattle.batch_engine.specs.declared.batch.Batch.{Batch}
 use Rattle.batch_engine.specs.View.{EngineView, batch_of, tree_of}
 use Rattle.batch_engine.specs.Kept.{IsKept}
 use Rattle.batch_engine.specs.Steps.{IsOwnStep, IsNext}
-use Rattle.batch_engine.proofs.Finding.{got-batch, got-chart, in-charts, batch-runs, runs-here}
+use Rattle.batch_engine.proofs.Finding.{chart-here, got-batch, got-chart, in-charts, batch-runs, runs-here}
 use Rattle.batch_engine.proofs.Stepping.{changed}
 use Rattle.batch_engine.proofs.Made.{Becomes, run-quiet}
 use Rattle.batch_engine.proofs.Answering.{step-is, step-can, closed-kept, closed-makes}
@@ -49,7 +49,7 @@ invariant_of-self c =
     let compiled : slice_get v.charts b.recipe ≡ Some x = got-chart v _ c.from.result b.recipe x c.self.view_is c.from.ensures (in-charts v kept c.args.index b at) c.index-chart.ensures in
     let m : Moves.Move = move_of (tree_of v.cleared b) (batch_of v.cleared b) c.args.made in
     let is : IsNext v m = step-is v c.args.index b at c.args.made g in
-    let made = c.make.ensures (tree_of v.cleared b) (kept.charts.each b.recipe x compiled) (batch-runs v kept c.args.index b at).runs in
+    let made = c.make.ensures (tree_of v.cleared b) (chart-here v kept c.args.index b at x compiled) (batch-runs v kept c.args.index b at).runs in
     let r : Becomes v (changed v c.args.index (record b { running = c.make.new.self }) v.allocation) m = run-quiet v kept c.args.index b at c.args.made c.make.new.self c.requires.quiet made is in
     let a : Becomes v (changed v c.args.index (record b { running = c.make.new.self }) c.self.inside.arbiter) m =
     subst (λ (z : Allocation). Becomes v (changed v c.args.index (record b { running = c.make.new.self }) z) m) (sym (ap (λ (z : EngineView). z.allocation) c.self.view_is)) r in
@@ -69,7 +69,7 @@ returns c =
     let compiled : slice_get v.charts b.recipe ≡ Some x = got-chart v _ c.from.result b.recipe x c.self.view_is c.from.ensures (in-charts v kept c.args.index b at) c.index-chart.ensures in
     let m : Moves.Move = move_of (tree_of v.cleared b) (batch_of v.cleared b) c.args.made in
     let is : IsNext v m = step-is v c.args.index b at c.args.made g in
-    let made = c.make.ensures (tree_of v.cleared b) (kept.charts.each b.recipe x compiled) (batch-runs v kept c.args.index b at).runs in
+    let made = c.make.ensures (tree_of v.cleared b) (chart-here v kept c.args.index b at x compiled) (batch-runs v kept c.args.index b at).runs in
     let r : Becomes v (changed v c.args.index (record b { running = c.make.new.self }) v.allocation) m = run-quiet v kept c.args.index b at c.args.made c.make.new.self c.requires.quiet made is in
     let a : Becomes v (changed v c.args.index (record b { running = c.make.new.self }) c.self.inside.arbiter) m =
     subst (λ (z : Allocation). Becomes v (changed v c.args.index (record b { running = c.make.new.self }) z) m) (sym (ap (λ (z : EngineView). z.allocation) c.self.view_is)) r in

@@ -20,5 +20,5 @@ returns c =
     let b : Batch = c.index-batch.result.now in
     let at : slice_get v.batches c.args.index ≡ Some b = got-batch v _ c.args.index b c.self.view_is (slice_get_within v.batches c.args.index c.requires.0 c.requires.1) c.index-batch.ensures in
     let told : Surface.move_of v.cleared (Lines.Send b.number b.recipe c.args.node c.phase_at-unit.result.unit c.phase_at-unit.result.phase c.args.command) ≡ move_of (tree_of v.cleared b) (batch_of v.cleared b) (Chart.Send c.args.node c.args.command) =
-    send-told v kept c.args.index b at c.args.node c.phase_at-unit.result.unit c.phase_at-unit.result.phase c.args.command (c.phase_at-unit.ensures b at).0 (c.phase_at-unit.ensures b at).1 in
+    send-told v kept c.args.index b at c.args.node c.phase_at-unit.result.unit c.phase_at-unit.result.phase c.args.command (c.phase_at-unit.ensures.named b at).0 (c.phase_at-unit.ensures.named b at).1 in
     λ d e. at-same v.batches c.args.index b d (λ (z : Batch). Surface.move_of v.cleared (Lines.Send b.number b.recipe c.args.node c.phase_at-unit.result.unit c.phase_at-unit.result.phase c.args.command) ≡ move_of (tree_of v.cleared z) (batch_of v.cleared z) (Chart.Send c.args.node c.args.command)) at e told

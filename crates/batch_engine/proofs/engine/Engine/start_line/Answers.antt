@@ -25,5 +25,5 @@ returns c =
     got-recipe c.recipes.result.now v.cleared.recipes c.from.result b.recipe r (c.recipes.ensures.value ∙ ap (λ (z : EngineView). z.cleared.recipes) c.self.view_is) c.from.ensures
     (batch-runs v kept c.args.index b at).known c.index-recipes-from.is in
     let told : Surface.move_of v.cleared (Lines.Start b.number b.recipe c.args.node c.phase_at-unit.result.unit c.phase_at-unit.result.phase c.handed.result) ≡ move_of (tree_of v.cleared b) (batch_of v.cleared b) (Chart.Start c.args.node) =
-    start-told v kept c.args.index b at r read c.args.node c.phase_at-unit.result.unit c.phase_at-unit.result.phase c.handed.result (c.phase_at-unit.ensures b at).0 (c.phase_at-unit.ensures b at).1 c.handed.ensures in
+    start-told v kept c.args.index b at r read c.args.node c.phase_at-unit.result.unit c.phase_at-unit.result.phase c.handed.result (c.phase_at-unit.ensures.named b at).0 (c.phase_at-unit.ensures.named b at).1 c.handed.ensures in
     λ d e. at-same v.batches c.args.index b d (λ (z : Batch). Surface.move_of v.cleared (Lines.Start b.number b.recipe c.args.node c.phase_at-unit.result.unit c.phase_at-unit.result.phase c.handed.result) ≡ move_of (tree_of v.cleared z) (batch_of v.cleared z) (Chart.Start c.args.node)) at e told

@@ -1,0 +1,30 @@
+-- What stands for one binding stands whatever units the phases run on.
+use Rattle.std.proofs.Common.{ℕ, ◌+◌, List, Some}
+use Rattle.batch_recipe.specs.Expanding.{Binding}
+use Rattle.batch_recipe.specs.Nodes.{node_count}
+use Rattle.batch_recipe.specs.Tree.{Step, Task, runs, follows, Tree, act, skip, seq, par, sel, loop, Trees, no_trees, tree, Choices, otherwise, choice}
+use Rattle.batch_chart.specs.declared.node.Node.{Node}
+use Rattle.batch_chart.specs.declared.node.Detail.{Detail}
+use Rattle.batch_chart.specs.Compiled.{StandsOn, StandsActOn, AreStandingOn, AreChoicesOn, Stands, StandsAct, AreStanding, AreChoices}
+
+module _ (bound : Binding) (ns : List Node) (ds : List Detail) where
+  mutual
+    pub untied : (c : Tree) (n : ℕ) → StandsOn (Some bound) ns ds n c → Stands ns ds n c
+    untied (act s w) n h = untied-act s w n h
+    untied skip n h = h
+    untied (seq ts) n h = (h.0, untied-each ts (n + 1) (n + node_count (seq ts)) h.1)
+    untied (par ts) n h = (h.0, untied-each ts (n + 1) (n + node_count (par ts)) h.1)
+    untied (sel ch) n h = (h.0, h.1, untied-choices ch h.0 (n + 1) (n + node_count (sel ch)) h.2)
+    untied (loop k p body) n h = (h.0, h.1, h.2, untied body (n + 1) h.3)
+
+    untied-act : (s : Step) (w : Task) (n : ℕ) → StandsActOn (Some bound) ns ds n s w → StandsAct ns ds n s w
+    untied-act s (runs p) n h = (h.0, h.1, (h.2.0, h.2.1, tt))
+    untied-act s (follows name c) n h = (h.0, untied c (n + 1) h.1)
+
+    pub untied-each : (ts : Trees) (n m : ℕ) → AreStandingOn (Some bound) ns ds n m ts → AreStanding ns ds n m ts
+    untied-each no_trees n m h = h
+    untied-each (tree c ts) n m h = (untied c n h.0, untied-each ts (n + node_count c) m h.1)
+
+    pub untied-choices : (ch : Choices) (i n m : ℕ) → AreChoicesOn (Some bound) ns ds i n m ch → AreChoices ns ds i n m ch
+    untied-choices (otherwise c) i n m h = (untied c n h.0, h.1)
+    untied-choices (choice p c ch) i n m h = (h.0, untied c n h.1, untied-choices ch (i + 1) (n + node_count c) m h.2)

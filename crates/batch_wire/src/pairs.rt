@@ -1,0 +1,33 @@
+//! Pairs, `NAME=..`, behind the words of a line.
+ghost use Rattle.std.specs.Prelude.{◌≡◌, length, nat_le, IsOkUnless, MatchOption};
+ghost use Rattle.std.specs.List.{before_first, after_first};
+ghost use Rattle.batch_wire.specs.EventLine.{words, is_equals};
+
+use crate::words::Words;
+
+/// Whether there are no more than so many words.
+pub fn are_at_most(mut line: Words<'_>, most: usize) -> bool
+    ensures { result ≡ nat_le (length (words line.entry.rest.now)) most }
+{
+    let mut left = most;
+    while left > 0 {
+        if line.next().is_none() {
+            return true;
+        }
+        left -= 1;
+    }
+    line.next().is_none()
+}
+
+/// What stands before the first `=` of the word, and what stands behind it.
+pub fn parted(word: &[u8]) -> (&[u8], &[u8])
+    ensures front { result.0.now ≡ before_first is_equals word.now }
+    ensures behind { result.1.now ≡ after_first is_equals word.now }
+{
+    for (i, byte) in word.iter().enumerate() {
+        if *byte == b'=' {
+            return (&word[..i], &word[i + 1..]);
+        }
+    }
+    (word, b"")
+}
