@@ -9,8 +9,8 @@ use std::alloc::{AllocError, Global};
 /// certificate.txt, and it is accepted.
 const LINES: [&str; 4] = [
     "check cell.toml primer.toml varnish.toml topcoat.toml rinse.toml",
-    "check cell.toml primer.toml varnish.toml topcoat.toml rinse-mended.toml",
-    "verify cell.toml certificate.txt primer.toml varnish.toml topcoat.toml rinse-mended.toml",
+    "check cell.toml primer.toml varnish.toml topcoat.toml rinse-mended.toml thinner.toml",
+    "verify cell.toml certificate.txt primer.toml varnish.toml topcoat.toml rinse-mended.toml thinner.toml",
     "plant",
 ];
 
