@@ -3,6 +3,7 @@
 
 mod cell;
 mod classes;
+mod index;
 mod limits;
 mod look_ups;
 mod module;

@@ -19,3 +19,17 @@ pub struct Module {
     ghost no_phase: { IsNone unit → length phases.items ≡ 0 },
     ghost few_phases: { length phases.items ≤ MAX_PHASES },
 }
+
+impl Module {
+    ghost use Rattle.batch_cell.specs.Equipment.{belongs_to};
+
+    /// Whether it belongs to the unit.
+    pub fn belongs_to(&self, unit: &Name) -> bool
+        ensures { result ≡ belongs_to unit.now self.now }
+    {
+        match &self.unit {
+            None => false,
+            Some(own) => *own == *unit,
+        }
+    }
+}

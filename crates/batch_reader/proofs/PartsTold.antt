@@ -1,11 +1,11 @@
 -- What is told of a table among others stands there.
-use Rattle.std.proofs.Common.{◌≡◌, ◌≢◌, ℕ, ◌+◌, ◌<◌, ◌≤◌, List, [], ◌∷◌, ◌++◌, length, map, take, get_or, nat_eq, refl, sym, ap, ap₂, subst, ◌∙◌, append-nil, inl, inr, arith, true}
+use Rattle.std.proofs.Common.{◌≡◌, ℕ, ◌+◌, ◌<◌, ◌≤◌, List, [], ◌∷◌, ◌++◌, length, map, take, get_or, nat_eq, refl, sym, ap, subst, ◌∙◌, append-nil, inl, inr, arith, true}
 use Rattle.std.proofs.lemmas.List.{take_more}
 use Rattle.std.proofs.lemmas.List.Elements.{All-append, All-cons, All-nil}
 use Rattle.std.proofs.lemmas.Option.{slice_get-get_or}
 use Rattle.std.specs.Cmp.Lexicographic.{pointwise}
 use Rattle.std.specs.List.{IsDistinct, list_all}
-use Rattle.batch_cell.specs.Equipment.{OffersPhasesOnce, offered_phases, unit_phases}
+use Rattle.batch_cell.specs.Equipment.{OffersPhasesOnce, unit_phases}
 use Rattle.batch_cell.specs.declared.module.Module.{Module}
 use Rattle.batch_cell.specs.declared.unit.Unit.{Unit}
 use Rattle.batch_recipe.specs.Conditions.{Name}
@@ -24,11 +24,6 @@ use Rattle.batch_reader.specs.declared.fault.TableFault.{TableFault}
 use Rattle.batch_reader.specs.declared.fault.TableFault.TheVariants.{Entry, Memory}
 use Rattle.batch_reader.specs.declared.fault.TableKind.{TableKind}
 use Rattle.batch_reader.specs.declared.fault.TableKind.TheVariants.{Procedure, UnitProcedure}
-
--- what can't be refused tells whatever one likes
-pub never_told : (Q : Spot → EntryFault → Type 0) (fault : TableFault) → (fault ≢ Memory → ⊥) → Tells Q fault
-never_told Q Memory never = tt
-never_told Q (Entry here wrong) never = absurd (never (λ e. cc e))
 
 -- where it is known what is wrong, or also in which tables, that is told of the spot
 pub wrong_told : (what : EntryFault) (P : Spot → Type 0) (Q : Spot → EntryFault → Type 0) → ((spot : Spot) → P spot → Q spot what) → (fault : TableFault)
@@ -69,22 +64,14 @@ after_names name keys others same front = rw same (sym (append-nil (others ++ ma
 pub alone : {X : Type 0} (name : X → Name) (keys : List Name) → keys ≡ [] → (front : List X) → keys ++ map name front ≡ map name front
 alone name keys none front = rw none refl
 
--- the phases of the units so far, and of the next one
-map_push : {X Y : Type 0} (f : X → Y) (xs : List X) (x : X) → map f (xs ++ x ∷ []) ≡ map f xs ++ f x ∷ []
-map_push f [] x = refl
-map_push f (y ∷ ys) x = ap (λ zs. f y ∷ zs) (map_push f ys x)
-
-pub offered_turn : {S : Type 0} (keys : S → List Name) (units : List Unit) (modules : List Module) (offered : List S) (phases : S) (i : ℕ) (d unit : Unit)
-    → unit ≡ get_or units i d → i < length units → (map keys offered ≡ offered_phases (take i units) modules) × OffersPhasesOnce (take i units) modules
-    → keys phases ≡ unit_phases modules unit.name → IsDistinct (pointwise nat_eq) (unit_phases modules unit.name)
-    → (map keys (offered ++ phases ∷ []) ≡ offered_phases (take (i + 1) units) modules) × OffersPhasesOnce (take (i + 1) units) modules
-offered_turn keys units modules offered phases i d unit same below so_far here once =
-    let f : Unit → List Name = λ u. unit_phases modules u.name in
+-- the units so far offer each phase once, and so does the next one
+pub offered_turn : (units : List Unit) (modules : List Module) (i : ℕ) (d unit : Unit)
+    → unit ≡ get_or units i d → i < length units → OffersPhasesOnce (take i units) modules
+    → IsDistinct (pointwise nat_eq) (unit_phases modules unit.name) → OffersPhasesOnce (take (i + 1) units) modules
+offered_turn units modules i d unit same below so_far once =
     let more : take (i + 1) units ≡ take i units ++ unit ∷ [] = take_more units i d below ∙ ap (λ u. take i units ++ u ∷ []) (sym same) in
-    let listed : map keys (offered ++ phases ∷ []) ≡ map f (take i units ++ unit ∷ []) =
-    map_push keys offered phases ∙ ap₂ (λ all last. all ++ last ∷ []) so_far.0 here ∙ sym (map_push f (take i units) unit) in
     let P : Unit → Type 0 = λ u. IsDistinct (pointwise nat_eq) (unit_phases modules u.name) in
-    (listed ∙ ap (map f) (sym more), subst (λ us. OffersPhasesOnce us modules) (sym more) (All-append P (take i units) (unit ∷ []) so_far.1 (All-cons P unit [] once (All-nil P))))
+    subst (λ us. OffersPhasesOnce us modules) (sym more) (All-append P (take i units) (unit ∷ []) so_far (All-cons P unit [] once (All-nil P)))
 
 -- the unit that a loop has come to offers a phase twice
 pub offers_told : (units : List Unit) (modules : List Module) (i : ℕ) (d unit : Unit) → unit ≡ get_or units i d → i < length units → (fault : TableFault)

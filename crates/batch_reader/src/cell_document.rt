@@ -12,7 +12,7 @@ ghost use Rattle.batch_reader.specs.declared.fault.Spot.{Spot};
 
 use crate::document::{document_fault, table_of};
 use crate::entries::{has_only_keys, name_at};
-use crate::equipment::{Indexes, index_equipment};
+use crate::equipment::check_equipment;
 use crate::fault::{DocFault, EntryFault, Spot, TableFault, TableKind};
 use crate::tables::tables_at;
 use batch_cell::{Cell, Module, Shared, Unit};
@@ -61,13 +61,7 @@ fn cell_from_table(alloc: Global, table: &Table) -> Result<Cell, TableFault>
     let units = tables_at::<Unit>(alloc, table, "unit", TableKind::Unit)?;
     let modules = tables_at::<Module>(alloc, table, "module", TableKind::Module)?;
     let shared = tables_at::<Shared>(alloc, table, "shared", TableKind::Shared)?;
-    let Indexes { names, offered } = index_equipment(alloc, &units, &modules, &shared)?;
-    Ok(Cell {
-        name,
-        units,
-        modules,
-        shared,
-        names,
-        offered,
-    })
+    check_equipment(alloc, &units, &modules, &shared)?;
+    let cell = Cell::new(alloc, name, units, modules, shared)?;
+    Ok(cell)
 }

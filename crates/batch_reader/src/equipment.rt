@@ -1,39 +1,24 @@
-//! The conditions on a cell's equipment, and the indexes over it.
-ghost use Rattle.std.specs.Prelude.{◌≡◌, ◌≢◌, ◌≤◌, map, IfOk, IfErr, OnOk};
-ghost use Rattle.indexmap.specs.IndexSet.{keys};
-ghost use Rattle.batch_cell.specs.Equipment.{offered_phases, resource_names};
+//! The conditions on a cell's equipment.
+ghost use Rattle.std.specs.Prelude.{◌≢◌, ◌≤◌, IfErr, OnOk};
 ghost use Rattle.batch_reader.specs.CellDocument.{IsSoundEquipment};
 ghost use Rattle.batch_reader.specs.Faults.{IsAmong, IsToldIn, Tells, is_of_cell};
 ghost use Rattle.batch_reader.specs.PartFaults.{IsCountFault, IsEquipmentFault};
 ghost use Rattle.batch_reader.specs.declared.fault.EntryFault.{EntryFault};
 
 use crate::fault::{EntryFault, Spot, TableFault, TableKind};
-use crate::offered::offered_phases;
-use crate::resources::{check_names, check_units, resource_names};
+use crate::offered::check_offered_phases;
+use crate::resources::{check_names, check_units};
 use batch_cell::{MAX_MODULES, MAX_SHARED, MAX_UNITS, Module, Shared, Unit};
-use batch_text::Name;
-use indexmap::IndexSet;
 use std::alloc::Global;
 
-/// The indexes of a cell.
-#[derive(Drop)]
-pub(crate) struct Indexes {
-    /// The names of the resources, in order of their numbers.
-    pub(crate) names: IndexSet<Name>,
-    /// For each unit the phases that it offers.
-    pub(crate) offered: Vec<IndexSet<Name>>,
-}
-
-/// The indexes over equipment whose counts and names are as they must be.
-pub(crate) fn index_equipment(
+/// Tests that the counts and the names of equipment are as they must be.
+pub(crate) fn check_equipment(
     alloc: Global,
     units: &[Unit],
     modules: &[Module],
     shared: &[Shared],
-) -> Result<Indexes, TableFault>
+) -> Result<(), TableFault>
     ensures sound { OnOk result (IsSoundEquipment units.now modules.now shared.now) }
-    ensures names { IfOk result (λ indexes. indexes.names.keys ≡ resource_names units.now modules.now shared.now) }
-    ensures offered { IfOk result (λ indexes. map keys indexes.offered.items ≡ offered_phases units.now modules.now) }
     ensures refused { IfErr result (λ fault. fault ≢ TableFault.Memory
         → ¬ (IsSoundEquipment units.now modules.now shared.now)) }
     ensures told { IfErr result (IsAmong is_of_cell) }
@@ -44,9 +29,8 @@ pub(crate) fn index_equipment(
     check_count(shared.len(), 0, MAX_SHARED, TableKind::Shared)?;
     check_names(alloc, units, modules, shared)?;
     check_units(units, modules)?;
-    let names = resource_names(alloc, units, modules, shared)?;
-    let offered = offered_phases(alloc, units, modules)?;
-    Ok(Indexes { names, offered })
+    check_offered_phases(alloc, units, modules)?;
+    Ok(())
 }
 
 /// Tests how many tables of a kind there are.

@@ -76,51 +76,6 @@ fn add_declared(
     Ok(())
 }
 
-/// The names of the resources, in order of their numbers.
-pub(crate) fn resource_names(
-    alloc: Global,
-    units: &[Unit],
-    modules: &[Module],
-    shared: &[Shared],
-) -> Result<IndexSet<Name>, TableFault>
-    ensures ok { IfOk result (λ names. names.keys ≡ resource_names units.now modules.now shared.now) }
-    ensures refused { IfErr result (λ fault. fault ≢ TableFault.Memory
-        → ¬ (IsDistinct (pointwise nat_eq) (resource_names units.now modules.now shared.now))) }
-    ensures told { IfErr result (λ fault. IsAmong is_of_cell fault × IsWrong EntryFault.Duplicate fault) }
-{
-    let mut names = IndexSet::new(alloc);
-    add_names(alloc, &mut names, units, TableKind::Unit)?;
-    add_free_modules(alloc, &mut names, modules)?;
-    add_names(alloc, &mut names, shared, TableKind::Shared)?;
-    Ok(names)
-}
-
-fn add_free_modules(
-    alloc: Global,
-    names: &mut IndexSet<Name>,
-    modules: &[Module],
-) -> Result<(), TableFault>
-    requires { IsDistinct (pointwise nat_eq) names.old.keys }
-    ensures ok { OnOk result (names.new.keys ≡ names.old.keys ++ map (λ m. m.name) (filter is_free modules.now)) }
-    ensures distinct { OnOk result (IsDistinct (pointwise nat_eq) names.new.keys) }
-    ensures refused { IfErr result (λ fault. fault ≢ TableFault.Memory
-        → ¬ (IsDistinct (pointwise nat_eq) (names.old.keys ++ map (λ m. m.name) (filter is_free modules.now)))) }
-    ensures told { IfErr result (IsToldIn TableKind.Module EntryFault.Duplicate) }
-    ensures first { (spot : Spot) (wrong : EntryFault) → IsErrOf result (TableFault.Entry spot wrong)
-        → FailsFirst (λ front. IsDistinct (pointwise nat_eq) (names.old.keys ++ map (λ m. m.name) (filter is_free front))) modules.now spot.entry }
-{
-    for (entry, module) in modules.iter().enumerate() {
-        if module.unit.is_none() {
-            let spot = Spot {
-                kind: TableKind::Module,
-                entry,
-            };
-            add_name(alloc, names, &module.name, spot)?;
-        }
-    }
-    Ok(())
-}
-
 /// Tests that each module is free or belongs to one of the units.
 pub(crate) fn check_units(units: &[Unit], modules: &[Module]) -> Result<(), TableFault>
     ensures ok { OnOk result (HasDeclaredUnits units.now modules.now) }

@@ -3,7 +3,7 @@ use super::demo;
 use crate::reading::cell_of;
 use batch_cell::Cell;
 use batch_text::Name;
-use std::alloc::Global;
+use std::alloc::{AllocError, Global};
 use std::test::Fail;
 
 // The look-ups of a number ask for one of the cell's. It is asked here once, and not in each test.
@@ -102,6 +102,10 @@ name = \"S\"
 capacity = 1000
 ";
 
+/// That cell as text.
+const MADE: &str =
+    r#"Cell { name: "C", units: [Unit { name: "U", class: None }], modules: [Module { name: "A", unit: Some("U"), phases: ["MIX"] }, Module { name: "FREE", unit: None, phases: [] }, Module { name: "B", unit: Some("U"), phases: ["COOL", "HEAT"] }], shared: [Shared { name: "S", capacity: 1000 }], names: {"U", "FREE", "S"}, offered: [{"MIX", "COOL", "HEAT"}] }"#;
+
 /// The worked cell as text, up to the capacity of its steam, and what stands after that.
 const TOLD: [&str; 2] = [
     r#"Cell { name: "DEMO", units: [Unit { name: "R1", class: None }, Unit { name: "R2", class: None }], modules: [Module { name: "M1", unit: Some("R1"), phases: ["ADD", "HEAT", "DRAIN"] }, Module { name: "M2", unit: Some("R2"), phases: ["ADD", "HEAT", "DRAIN"] }], shared: [Shared { name: "HDR", capacity: 1 }, Shared { name: "STEAM", capacity: "#,
@@ -150,6 +154,20 @@ fn numbers_the_phases(rt: HostRuntime) -> Result<(), Fail> {
         "MIX true Some(0)\nCOOL true Some(1)\nHEAT true Some(2)\nDRAIN false None\n"
     );
     assert!(rt; phase_names(&cell, 0) == [Some("MIX"), Some("COOL"), Some("HEAT"), None]);
+    Ok(())
+}
+
+/// The cell that is made anew of a cell's entries.
+fn made_anew(alloc: Global, cell: Cell) -> Result<Cell, AllocError> {
+    Cell::new(alloc, cell.name, cell.units, cell.modules, cell.shared)
+}
+
+#[test]
+fn makes_a_cell(rt: HostRuntime) -> Result<(), Fail> {
+    let alloc = rt.alloc();
+    let cell = made_anew(alloc, cell_of(alloc, FREE)?)?;
+    let told = format!(in alloc; "{cell:?}")?;
+    assert!(rt; told.as_str() == MADE, "{told}");
     Ok(())
 }
 

@@ -24,12 +24,12 @@ returns-in_err-shared-clause-refused c =
     let p = err_from_is_err_and c.from_residual-in_err-shared.result c.from_residual-in_err-shared.ensures.1 in
     rw (p.1, p.2) (λ known cell h. c.in_err-shared.ensures.refused known cell.shared.items h.shared)
 
-pub returns-in_err-names-clause-refused : goal.returns-in_err-names-clause-refused
-returns-in_err-names-clause-refused c =
-    let p = err_from_is_err_and c.from_residual-in_err-names.result c.from_residual-in_err-names.ensures.1 in
+pub returns-in_err-check_equipment-clause-refused : goal.returns-in_err-check_equipment-clause-refused
+returns-in_err-check_equipment-clause-refused c =
+    let p = err_from_is_err_and c.from_residual-in_err-check_equipment.result c.from_residual-in_err-check_equipment.ensures.1 in
     rw (p.1, p.2) (λ known. unsound_refused _ c.in_ok-units.units.items c.in_ok-modules.modules.items c.in_ok-shared.shared.items
     c.in_ok-units.ensures.ok c.in_ok-modules.ensures.ok c.in_ok-shared.ensures.ok
-    (rw (c.deref.ensures.value, c.deref-2.ensures.value, c.deref-3.ensures.value) at (c.in_err-names.ensures.refused known)))
+    (rw (c.deref.ensures.value, c.deref-2.ensures.value, c.deref-3.ensures.value) at (c.in_err-check_equipment.ensures.refused known)))
 
 pub returns-in_err-name-clause-stands : goal.returns-in_err-name-clause-stands
 returns-in_err-name-clause-stands c =
@@ -66,18 +66,18 @@ returns-in_err-shared-clause-stands c =
     let p = err_from_is_err_and c.from_residual-in_err-shared.result c.from_residual-in_err-shared.ensures.1 in
     rw (p.1, p.2) (in_told Shared _ (IsWrongAt (table_view c.args.table.now)) (λ entry wrong h. inl h) _ c.in_err-shared.ensures.told)
 
-pub returns-in_err-names-clause-told : goal.returns-in_err-names-clause-told
-returns-in_err-names-clause-told c =
-    let p = err_from_is_err_and c.from_residual-in_err-names.result c.from_residual-in_err-names.ensures.1 in
-    rw (p.1, p.2) c.in_err-names.ensures.told
+pub returns-in_err-check_equipment-clause-told : goal.returns-in_err-check_equipment-clause-told
+returns-in_err-check_equipment-clause-told c =
+    let p = err_from_is_err_and c.from_residual-in_err-check_equipment.result c.from_residual-in_err-check_equipment.ensures.1 in
+    rw (p.1, p.2) c.in_err-check_equipment.ensures.told
 
-pub returns-in_err-names-clause-stands : goal.returns-in_err-names-clause-stands
-returns-in_err-names-clause-stands c =
-    let p = err_from_is_err_and c.from_residual-in_err-names.result c.from_residual-in_err-names.ensures.1 in
+pub returns-in_err-check_equipment-clause-stands : goal.returns-in_err-check_equipment-clause-stands
+returns-in_err-check_equipment-clause-stands c =
+    let p = err_from_is_err_and c.from_residual-in_err-check_equipment.result c.from_residual-in_err-check_equipment.ensures.1 in
     rw (p.1, p.2) (tells_weaker _ (IsWrongAt (table_view c.args.table.now)) (λ spot wrong h. inr (inl (record {
       equipment = record { units = c.in_ok-units.units.items; modules = c.in_ok-modules.modules.items; shared = c.in_ok-shared.shared.items };
       units = c.in_ok-units.ensures.ok;
       modules = c.in_ok-modules.ensures.ok;
       shared = c.in_ok-shared.ensures.ok;
       fault = h;
-    }))) _ (rw (c.deref.ensures.value, c.deref-2.ensures.value, c.deref-3.ensures.value) at c.in_err-names.ensures.stands))
+    }))) _ (rw (c.deref.ensures.value, c.deref-2.ensures.value, c.deref-3.ensures.value) at c.in_err-check_equipment.ensures.stands))

@@ -1,21 +1,10 @@
 use Rattle.std.proofs.lemmas.Result.{err_from_is_err_and}
-use Rattle.batch_reader.proofs.CellNames.{resources_once}
-use Rattle.batch_reader.proofs.PartsTold.{kind_told, never_told, wrong_told}
+use Rattle.batch_reader.proofs.PartsTold.{kind_told, wrong_told}
 use Rattle.std.proofs.Common.{inl, inr}
 use Rattle.batch_reader.specs.PartFaults.{Equipment, HasNameTwice, IsEquipmentFault, OffersTwice}
 use Rattle.batch_reader.specs.declared.fault.EntryFault.TheVariants.{Duplicate}
 use Rattle.batch_reader.specs.declared.fault.TableKind.TheVariants.{Module}
-use Rattle.batch_reader.proofs.equipment.index_equipment.Goals as goal
-
-pub returns-in_err-names-clause-refused : goal.returns-in_err-names-clause-refused
-returns-in_err-names-clause-refused c =
-    let p = err_from_is_err_and c.from_residual-in_err-names.result c.from_residual-in_err-names.ensures.1 in
-    rw (p.1, p.2) (λ known sound. c.in_err-names.ensures.refused known (resources_once c.args.units.now c.args.modules.now c.args.shared.now sound.declared_once))
-
-pub returns-in_err-names-clause-stands : goal.returns-in_err-names-clause-stands
-returns-in_err-names-clause-stands c =
-    let p = err_from_is_err_and c.from_residual-in_err-names.result c.from_residual-in_err-names.ensures.1 in
-    rw (p.1, p.2) (never_told _ _ (λ known. c.in_err-names.ensures.refused known (resources_once c.args.units.now c.args.modules.now c.args.shared.now c.in_ok-check_names.ensures.ok)))
+use Rattle.batch_reader.proofs.equipment.check_equipment.Goals as goal
 
 pub returns-in_err-check_names-clause-refused : goal.returns-in_err-check_names-clause-refused
 returns-in_err-check_names-clause-refused c =
@@ -38,18 +27,13 @@ returns-in_err-check_units-clause-refused c =
     let p = err_from_is_err_and c.from_residual-in_err-check_units.result c.from_residual-in_err-check_units.ensures.1 in
     rw (p.1, p.2) (λ known sound. c.in_err-check_units.ensures.refused sound.declared_units)
 
-pub returns-in_err-names-clause-told : goal.returns-in_err-names-clause-told
-returns-in_err-names-clause-told c =
-    let p = err_from_is_err_and c.from_residual-in_err-names.result c.from_residual-in_err-names.ensures.1 in
-    rw (p.1, p.2) (c.in_err-names.ensures.told.0)
+pub returns-in_err-check_offered_phases-clause-refused : goal.returns-in_err-check_offered_phases-clause-refused
+returns-in_err-check_offered_phases-clause-refused c =
+    let p = err_from_is_err_and c.from_residual-in_err-check_offered_phases.result c.from_residual-in_err-check_offered_phases.ensures.1 in
+    rw (p.1, p.2) (λ known sound. c.in_err-check_offered_phases.ensures.refused known sound.phases_once)
 
-pub returns-in_err-offered-clause-refused : goal.returns-in_err-offered-clause-refused
-returns-in_err-offered-clause-refused c =
-    let p = err_from_is_err_and c.from_residual-in_err-offered.result c.from_residual-in_err-offered.ensures.1 in
-    rw (p.1, p.2) (λ known sound. c.in_err-offered.ensures.refused known sound.phases_once)
-
-pub returns-in_err-offered-clause-stands : goal.returns-in_err-offered-clause-stands
-returns-in_err-offered-clause-stands c =
-    let p = err_from_is_err_and c.from_residual-in_err-offered.result c.from_residual-in_err-offered.ensures.1 in
+pub returns-in_err-check_offered_phases-clause-stands : goal.returns-in_err-check_offered_phases-clause-stands
+returns-in_err-check_offered_phases-clause-stands c =
+    let p = err_from_is_err_and c.from_residual-in_err-check_offered_phases.result c.from_residual-in_err-check_offered_phases.ensures.1 in
     let e : Equipment = record { units = c.args.units.now; modules = c.args.modules.now; shared = c.args.shared.now } in
-    rw (p.1, p.2) (kind_told Module Duplicate (OffersTwice c.args.units.now c.args.modules.now) (λ spot. IsEquipmentFault e spot.kind spot.entry) (λ entry h. inr h) _ c.in_err-offered.ensures.told c.in_err-offered.ensures.stands)
+    rw (p.1, p.2) (kind_told Module Duplicate (OffersTwice c.args.units.now c.args.modules.now) (λ spot. IsEquipmentFault e spot.kind spot.entry) (λ entry h. inr h) _ c.in_err-check_offered_phases.ensures.told c.in_err-check_offered_phases.ensures.stands)

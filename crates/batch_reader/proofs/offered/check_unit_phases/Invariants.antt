@@ -2,7 +2,7 @@ use Rattle.std.proofs.Common.{◌≡◌, take, nat_eq}
 use Rattle.std.specs.Cmp.Lexicographic.{pointwise}
 use Rattle.std.specs.List.{IsDistinct}
 use Rattle.batch_cell.specs.Equipment.{unit_phases}
-use Rattle.batch_reader.proofs.offered.unit_phases.Given as goal
+use Rattle.batch_reader.proofs.offered.check_unit_phases.Given as goal
 
 -- the phases of the modules so far are added
 abbrev pub invariant-loop-entry : goal.invariant-loop-entry
