@@ -1,4 +1,4 @@
--- surface: what stands below the nodes of an expanded tree, by number.
+-- private: what stands below the nodes of an expanded tree, by number.
 use Rattle.std.specs.Prelude.{◌≡◌, ℕ, ◌+◌, List, slice_get, Some, ⊤}
 use Rattle.batch_recipe.specs.Nodes.{Node, node_count}
 use Rattle.batch_recipe.specs.Tree.{Tree, act, skip, seq, par, sel, loop, Task, runs, follows, Trees, no_trees, tree, Choices, otherwise, choice}

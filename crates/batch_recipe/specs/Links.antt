@@ -1,4 +1,4 @@
--- surface: how the nodes of an expanded tree hang together, by number.
+-- private: how the nodes of an expanded tree hang together, by number.
 use Rattle.std.specs.Prelude.{◌≡◌, ◌<◌, ◌≤◌, ◌⊎◌, ℕ, ◌+◌, List, [], ◌∷◌, ◌++◌, slice_get, Option, Some, None}
 use Rattle.batch_recipe.specs.Expanding.{Binding, asked_by, unit_with}
 use Rattle.batch_recipe.specs.Needs.{resources_of}
