@@ -1,5 +1,5 @@
 -- What is told of a table among others stands there.
-use Rattle.std.proofs.Common.{◌≡◌, ℕ, ◌+◌, ◌<◌, ◌≤◌, List, [], ◌∷◌, ◌++◌, length, map, take, get_or, nat_eq, refl, sym, ap, subst, ◌∙◌, append-nil, inl, inr, arith, true}
+use Rattle.std.proofs.Common.{◌≡◌, ◌≢◌, ℕ, ◌+◌, ◌<◌, ◌≤◌, List, [], ◌∷◌, ◌++◌, length, map, take, get_or, nat_eq, refl, sym, ap, ap₂, subst, ◌∙◌, append-nil, inl, inr, arith, true, Err, IsErrOf}
 use Rattle.std.proofs.lemmas.List.{take_more}
 use Rattle.std.proofs.lemmas.List.Elements.{All-append, All-cons, All-nil}
 use Rattle.std.proofs.lemmas.Option.{slice_get-get_or}
@@ -12,18 +12,22 @@ use Rattle.batch_recipe.specs.Conditions.{Name}
 use Rattle.batch_recipe.specs.Procedure.{procedure_nodes}
 use Rattle.batch_recipe.specs.WellFormed.{is_role_among, value_names}
 use Rattle.batch_recipe.specs.declared.acts.Acts.{Acts}
+use Rattle.batch_recipe.specs.declared.outline_fault.OutlineFault.{OutlineFault}
+use Rattle.batch_recipe.specs.declared.outline_fault.OutlineFault.TheVariants as outline
 use Rattle.batch_recipe.specs.declared.quantity.Quantity.{Quantity}
+use Rattle.batch_recipe.specs.declared.recipe.Recipe.{Recipe}
 use Rattle.batch_recipe.specs.declared.recipe.TheConstants.{MAX_NODES}
 use Rattle.batch_recipe.specs.declared.role.Role.{Role}
 use Rattle.batch_reader.specs.Faults.{IsNamingFault, IsRoleFault, IsToldIn, IsWrong, Tells}
 use Rattle.batch_reader.specs.PartFaults.{AreDistinct, FailsFirst, HasUndeclaredName, HasUndeclaredRole, IsPartFault, OffersTwice, Parts, role_names}
+use Rattle.batch_reader.specs.SoundTables.{outline_fault}
 use Rattle.batch_reader.specs.declared.fault.EntryFault.{EntryFault}
 use Rattle.batch_reader.specs.declared.fault.EntryFault.TheVariants.{MissingKey, WrongKind, UnknownKey, Undeclared, Duplicate, OutOfLimit, Chart}
 use Rattle.batch_reader.specs.declared.fault.Spot.{Spot}
 use Rattle.batch_reader.specs.declared.fault.TableFault.{TableFault}
 use Rattle.batch_reader.specs.declared.fault.TableFault.TheVariants.{Entry, Memory}
 use Rattle.batch_reader.specs.declared.fault.TableKind.{TableKind}
-use Rattle.batch_reader.specs.declared.fault.TableKind.TheVariants.{Procedure, UnitProcedure}
+use Rattle.batch_reader.specs.declared.fault.TableKind.TheVariants.{UnitProcedure}
 
 -- where it is known what is wrong, or also in which tables, that is told of the spot
 pub wrong_told : (what : EntryFault) (P : Spot → Type 0) (Q : Spot → EntryFault → Type 0) → ((spot : Spot) → P spot → Q spot what) → (fault : TableFault)
@@ -120,6 +124,12 @@ role_fault p kind entry OutOfLimit h = absurd h
 role_fault p kind entry (Chart offset) h = h
 
 -- the expanded tree is too large
-pub large_told : (p : Parts) (fault : TableFault) → (length (procedure_nodes p.acts) ≤ MAX_NODES → ⊥)
-    → fault ≡ Entry (record { kind = Procedure; entry = 0 }) OutOfLimit → Tells (λ spot. IsPartFault p spot.kind spot.entry) fault
-large_told p fault large told = rw told (inr (refl, omega (arith, large)))
+pub large_told : (p : Parts) (fault : OutlineFault) → (IsErrOf {T = Recipe} (Err fault) outline.TooMany → MAX_NODES < length (procedure_nodes p.acts))
+    → Tells (λ spot. IsPartFault p spot.kind spot.entry) (outline_fault fault)
+large_told p outline.TooMany many = inr (refl, many refl)
+large_told p outline.Memory many = tt
+
+pub large_refused : (acts : Acts) (fault : OutlineFault) → (IsErrOf {T = Recipe} (Err fault) outline.TooMany → MAX_NODES < length (procedure_nodes acts)) → (outline_fault fault ≡ Memory → ⊥)
+    → length (procedure_nodes acts) ≤ MAX_NODES → ⊥
+large_refused acts outline.TooMany many known small = let large = many refl in omega (arith, large, small)
+large_refused acts outline.Memory many known small = known refl

@@ -6,6 +6,7 @@ pub mod CellDocument
 pub mod FormedActs
 pub mod Naming
 pub mod SoundRecipe
+pub mod SoundTables
 pub mod RecipeTables
 pub mod RecipeDocument
 pub mod RightTables

@@ -1,15 +1,15 @@
 //! The conditions on the parts of a recipe.
 ghost use Rattle.std.specs.Prelude.{◌≡◌, ◌≢◌, ◌<◌, ◌≤◌, true, [], length, IfErr, IsErrOf, OnOk};
 ghost use Rattle.std.specs.List.{list_all};
-ghost use Rattle.batch_recipe.specs.Procedure.{procedure_nodes};
 ghost use Rattle.batch_recipe.specs.WellFormed.{act_names, is_among, is_well_formed, is_work, value_names};
-ghost use Rattle.batch_recipe.specs.declared.recipe.TheConstants.{MAX_ENTRIES, MAX_ACTS, MAX_NODES};
+ghost use Rattle.batch_recipe.specs.declared.recipe.TheConstants.{MAX_ENTRIES, MAX_ACTS};
 ghost use Rattle.batch_recipe.specs.declared.role.TheConstants.{MAX_ROLES};
 ghost use Rattle.batch_reader.specs.Faults.{IsAmong, IsNamingFault, IsToldIn, IsWrong, Tells, is_of_recipe};
 ghost use Rattle.batch_reader.specs.PartFaults.{FailsFirst, HasUndeclaredName, IsPartFault};
 ghost use Rattle.batch_reader.specs.Naming.{acts_are_declared};
 ghost use Rattle.batch_reader.specs.FormedActs.{AreFormed, AreFormedActs, IsFormedWork};
 ghost use Rattle.batch_reader.specs.SoundRecipe.{IsSoundRecipe};
+ghost use Rattle.batch_reader.specs.SoundTables.{HasSoundTables};
 ghost use Rattle.batch_reader.specs.declared.fault.EntryFault.{EntryFault};
 ghost use Rattle.batch_reader.specs.declared.fault.Spot.{Spot};
 ghost use Rattle.batch_reader.specs.declared.fault.TableKind.{TableKind};
@@ -19,14 +19,12 @@ use crate::equipment::check_count;
 use crate::fault::{EntryFault, Spot, TableFault, TableKind};
 use crate::recipe_names::{RecipeNames, recipe_names};
 use crate::roles::check_roles;
-use batch_recipe::{
-    Act, Acts, MAX_ACTS, MAX_ENTRIES, MAX_ROLES, Quantity, Role, Work, count_nodes,
-};
+use batch_recipe::{Act, Acts, MAX_ACTS, MAX_ENTRIES, MAX_ROLES, Quantity, Role, Work};
 use batch_text::Name;
 use indexmap::IndexSet;
 use std::alloc::Global;
 
-/// Tests the counts and the names of a recipe's parts.
+/// Tests the counts and the names of a recipe's parts, but not how large the expanded tree is.
 pub(crate) fn check_recipe(
     alloc: Global,
     inputs: &[Quantity],
@@ -36,7 +34,7 @@ pub(crate) fn check_recipe(
     acts: &Acts,
 ) -> Result<(), TableFault>
     requires { AreFormed acts.now }
-    ensures ok { OnOk result (IsSoundRecipe inputs.now parameters.now outputs.now roles.now acts.now) }
+    ensures ok { OnOk result (HasSoundTables inputs.now parameters.now outputs.now roles.now acts.now) }
     ensures refused { IfErr result (λ fault. fault ≢ TableFault.Memory
         → ¬ (IsSoundRecipe inputs.now parameters.now outputs.now roles.now acts.now)) }
     ensures told { IfErr result (IsAmong is_of_recipe) }
@@ -44,8 +42,7 @@ pub(crate) fn check_recipe(
 {
     check_counts(inputs, parameters, outputs, roles, acts)?;
     check_names(alloc, inputs, parameters, outputs, acts)?;
-    check_roles(alloc, roles, acts)?;
-    check_nodes(acts)
+    check_roles(alloc, roles, acts)
 }
 
 /// Tests how many tables of each kind there are.
@@ -198,22 +195,4 @@ fn are_among(names: &[Name], declared: &IndexSet<Name>) -> bool
     ensures { result ≡ list_all (is_among declared.now.keys) names.now }
 {
     names.iter().all(|name| declared.contains(name))
-}
-
-/// Tests that the acts expand to no more nodes than a recipe may have.
-fn check_nodes(acts: &Acts) -> Result<(), TableFault>
-    ensures ok { OnOk result (length (procedure_nodes acts.now) ≤ MAX_NODES) }
-    ensures refused { IfErr result (λ fault. ¬ (length (procedure_nodes acts.now) ≤ MAX_NODES)) }
-    ensures told { IfErr result (λ fault. fault ≡ TableFault.Entry (record { kind = TableKind.Procedure; entry = 0 }) EntryFault.OutOfLimit) }
-{
-    match count_nodes(acts) {
-        Some(_) => Ok(()),
-        None => {
-            let spot = Spot {
-                kind: TableKind::Procedure,
-                entry: 0,
-            };
-            Err(TableFault::Entry(spot, EntryFault::OutOfLimit))
-        }
-    }
 }

@@ -12,7 +12,7 @@ ghost use Rattle.batch_reader.specs.FaultStands.{FaultStands, IsWrongAt};
 ghost use Rattle.batch_reader.specs.TableFaults.{IsFaultOfTable, IsTableFault};
 ghost use Rattle.batch_reader.specs.RecipeTables.{HasHeader, IsQuantityTable, IsOutputTable, IsRoleTable, IsUnitProcedureTable, IsOperationTable, IsPhaseTable};
 ghost use Rattle.batch_reader.specs.RecipeDocument.{HasActs, IsRecipeTable, IsRecipeDocument, recipe_keys};
-ghost use Rattle.batch_reader.specs.SoundRecipe.{IsSoundRecipe};
+ghost use Rattle.batch_reader.specs.SoundTables.{HasSoundTables, outline_fault};
 ghost use Rattle.batch_reader.specs.declared.document.TheConstants.{MAX_DOCUMENT_LEN};
 ghost use Rattle.batch_reader.specs.declared.fault.EntryFault.{EntryFault};
 ghost use Rattle.batch_reader.specs.declared.fault.Spot.{Spot};
@@ -26,7 +26,8 @@ use crate::recipe_checks::check_recipe;
 use crate::recipe_entries::{optional_text_at, text_at};
 use crate::tables::tables_at;
 use batch_recipe::{
-    Act, Acts, Header, MAX_SIZE, MAX_TEXT_LEN, MAX_VERSION_LEN, Quantity, Recipe, Role,
+    Act, Acts, Header, MAX_SIZE, MAX_TEXT_LEN, MAX_VERSION_LEN, OutlineFault, Quantity, Recipe,
+    RecipeParts, Role,
 };
 use batch_text::Name;
 use std::alloc::Global;
@@ -73,7 +74,7 @@ fn recipe_from_table(alloc: Global, table: &Table) -> Result<Recipe, TableFault>
     }
     let top = top_at(alloc, table)?;
     let parts = parts_at(alloc, table, top.name)?;
-    Ok(Recipe {
+    let parts = RecipeParts {
         header: top.header,
         basis: top.basis,
         inputs: parts.values.inputs,
@@ -81,7 +82,27 @@ fn recipe_from_table(alloc: Global, table: &Table) -> Result<Recipe, TableFault>
         outputs: parts.values.outputs,
         roles: parts.roles,
         acts: parts.acts,
-    })
+    };
+    match Recipe::new(alloc, parts) {
+        Ok(made) => Ok(made),
+        Err(fault) => Err(outline_fault(fault)),
+    }
+}
+
+/// The fault of a document whose recipe has no outline. That the expanded tree is too large is told at the procedure.
+fn outline_fault(fault: OutlineFault) -> TableFault
+    ensures { result ≡ outline_fault fault }
+{
+    match fault {
+        OutlineFault::TooMany => {
+            let spot = Spot {
+                kind: TableKind::Procedure,
+                entry: 0,
+            };
+            TableFault::Entry(spot, EntryFault::OutOfLimit)
+        }
+        OutlineFault::Memory => TableFault::Memory,
+    }
 }
 
 /// What the entries of a recipe's top say.
@@ -127,7 +148,7 @@ fn parts_at(alloc: Global, table: &Table, name: Name) -> Result<Parts, TableFaul
     ensures outputs { IfOk result (λ parts. HasTables IsOutputTable (codes "output") (table_view table.now) parts.values.outputs.items) }
     ensures roles { IfOk result (λ parts. HasTables IsRoleTable (codes "role") (table_view table.now) parts.roles.items) }
     ensures acts { IfOk result (λ parts. HasActs (table_view table.now) parts.acts) }
-    ensures sound { IfOk result (λ parts. IsSoundRecipe parts.values.inputs.items parts.values.parameters.items parts.values.outputs.items parts.roles.items parts.acts) }
+    ensures sound { IfOk result (λ parts. HasSoundTables parts.values.inputs.items parts.values.parameters.items parts.values.outputs.items parts.roles.items parts.acts) }
     ensures refused { IfErr result (λ fault. fault ≢ TableFault.Memory
         → (recipe : Recipe) → ¬ (IsRecipeTable (table_view table.now) recipe)) }
     ensures told { IfErr result (IsAmong is_of_recipe) }

@@ -1,6 +1,6 @@
 //! Example acts, and the nodes that they expand to.
 use super::parts::{above_zero, act, label, labels, step, table};
-use batch_recipe::{Act, Acts, Chart, Level, UnitChoice, act_named, count_nodes};
+use batch_recipe::{Act, Acts, Chart, Level, Outline, OutlineFault, UnitChoice, act_named};
 use batch_text::Name;
 use std::alloc::Global;
 use std::test::Fail;
@@ -76,7 +76,11 @@ fn count_of(alloc: Global, charge: Chart) -> Result<Option<u16>, Fail> {
 
 fn count(alloc: Global, procedure: Chart, charge: Chart) -> Result<Option<u16>, Fail> {
     let acts = acts(alloc, procedure, charge)?;
-    Ok(count_nodes(&acts))
+    match Outline::new(alloc, &acts) {
+        Ok(outline) => Ok(Some(outline.entries.len() as u16)),
+        Err(OutlineFault::TooMany) => Ok(None),
+        Err(fault) => Err(fault)?,
+    }
 }
 
 /// ADD, up to 1,000 times.

@@ -1,8 +1,6 @@
-use Rattle.std.proofs.Common.{refl}
 use Rattle.std.proofs.lemmas.Result.{err_from_is_err_and, on_ok_weaker, IfErr-weaker}
-use Rattle.batch_reader.proofs.EntryFaults.{err_both}
 use Rattle.batch_reader.proofs.ArrayFaults.{tells_weaker}
-use Rattle.batch_reader.proofs.PartsTold.{large_told, naming_fault, role_fault}
+use Rattle.batch_reader.proofs.PartsTold.{naming_fault, role_fault}
 use Rattle.batch_reader.specs.PartFaults.{Parts}
 use Rattle.batch_reader.proofs.recipe_checks.check_recipe.Goals as goal
 
@@ -12,21 +10,10 @@ returns-in_err-check_names-clause-stands c =
     let parts : Parts = record { inputs = c.args.inputs.now; parameters = c.args.parameters.now; outputs = c.args.outputs.now; roles = c.args.roles.now; acts = c.args.acts.now } in
     rw (p.1, p.2) (tells_weaker _ _ (λ spot. naming_fault parts spot.kind spot.entry) _ c.in_err-check_names.ensures.stands)
 
-pub returns-in_err-check_roles-clause-refused : goal.returns-in_err-check_roles-clause-refused
-returns-in_err-check_roles-clause-refused c =
-    let p = err_from_is_err_and c.from_residual-in_err-check_roles.result c.from_residual-in_err-check_roles.ensures.1 in
-    rw (p.1, p.2) (λ known sound. c.in_err-check_roles.ensures.refused known sound.own_roles)
-
-pub returns-in_err-check_roles-clause-stands : goal.returns-in_err-check_roles-clause-stands
-returns-in_err-check_roles-clause-stands c =
-    let p = err_from_is_err_and c.from_residual-in_err-check_roles.result c.from_residual-in_err-check_roles.ensures.1 in
-    let parts : Parts = record { inputs = c.args.inputs.now; parameters = c.args.parameters.now; outputs = c.args.outputs.now; roles = c.args.roles.now; acts = c.args.acts.now } in
-    rw (p.1, p.2) (tells_weaker _ _ (λ spot. role_fault parts spot.kind spot.entry) _ c.in_err-check_roles.ensures.stands)
-
 pub returns-clause-ok : goal.returns-clause-ok
 returns-clause-ok c =
     let counts = c.in_ok-check_counts.ensures in
-    on_ok_weaker c.check_nodes.result (λ small. record {
+    on_ok_weaker c.check_roles.result (λ roles. record {
       few_inputs = counts.values.0;
       few_parameters = counts.values.1;
       few_outputs = counts.values.2;
@@ -38,17 +25,13 @@ returns-clause-ok c =
       some_phases = counts.some_acts.2;
       few_phases = counts.few_acts.2;
       well_formed = c.in_ok-check_names.ensures.ok;
-      own_roles = c.in_ok-check_roles.ensures.ok;
-      small = small;
-    }) c.check_nodes.ensures.ok
+      own_roles = roles;
+    }) c.check_roles.ensures.ok
 
 pub returns-clause-refused : goal.returns-clause-refused
-returns-clause-refused c = IfErr-weaker c.check_nodes.result _ _ (λ fault large _ sound. large sound.small) c.check_nodes.ensures.refused
-
-pub returns-clause-told : goal.returns-clause-told
-returns-clause-told c = IfErr-weaker c.check_nodes.result _ _ (λ fault told. rw told refl) c.check_nodes.ensures.told
+returns-clause-refused c = IfErr-weaker c.check_roles.result _ _ (λ fault wrong known sound. wrong known sound.own_roles) c.check_roles.ensures.refused
 
 pub returns-clause-stands : goal.returns-clause-stands
 returns-clause-stands c =
     let parts : Parts = record { inputs = c.args.inputs.now; parameters = c.args.parameters.now; outputs = c.args.outputs.now; roles = c.args.roles.now; acts = c.args.acts.now } in
-    err_both c.check_nodes.result _ _ _ (λ fault. large_told parts fault) c.check_nodes.ensures.refused c.check_nodes.ensures.told
+    IfErr-weaker c.check_roles.result _ _ (λ fault. tells_weaker _ _ (λ spot. role_fault parts spot.kind spot.entry) fault) c.check_roles.ensures.stands

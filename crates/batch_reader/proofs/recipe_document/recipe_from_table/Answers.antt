@@ -1,10 +1,13 @@
 use Rattle.std.proofs.lemmas.Result.{err_from_is_err_and}
-use Rattle.std.proofs.Common.{inl, refl}
+use Rattle.std.proofs.Common.{inl, inr, refl}
 use Rattle.toml.specs.View.{table_view}
-use Rattle.batch_reader.proofs.ArrayFaults.{at_among, at_told}
+use Rattle.batch_reader.proofs.ArrayFaults.{at_among, at_told, tells_weaker}
+use Rattle.batch_reader.proofs.OneRecipe.{unsound_recipe_refused}
+use Rattle.batch_reader.proofs.PartsTold.{large_refused, large_told}
 use Rattle.batch_reader.proofs.RecipeParts.{kinds_of_tables, free_names_of_tables}
 use Rattle.batch_reader.specs.FaultStands.{IsWrongAt}
 use Rattle.batch_reader.specs.Faults.{is_of_recipe}
+use Rattle.batch_reader.specs.PartFaults.{Parts}
 use Rattle.batch_reader.proofs.recipe_document.recipe_from_table.Goals as goal
 
 pub returns-in_err-top-clause-refused : goal.returns-in_err-top-clause-refused
@@ -37,8 +40,8 @@ returns-in_err-parts-clause-stands c =
     let p = err_from_is_err_and c.from_residual-in_err-parts.result c.from_residual-in_err-parts.ensures.1 in
     rw (p.1, p.2) c.in_err-parts.ensures.stands
 
-pub invariant_of-result : goal.invariant_of-result
-invariant_of-result c =
+pub new-requires : goal.new-requires
+new-requires c =
     let values = c.in_ok-parts.parts.values in
     let tables = c.in_ok-parts.ensures in
     let sound = tables.sound in
@@ -59,5 +62,32 @@ invariant_of-result c =
       kinds = kinds_of_tables _ c.in_ok-parts.parts.acts tables.acts;
       well_formed = sound.well_formed;
       free_names = free_names_of_tables _ values.inputs.items values.parameters.items values.outputs.items c.in_ok-parts.parts.acts tables.inputs tables.parameters tables.outputs tables.acts;
-      small = sound.small;
     }
+
+pub returns-in-Err-clause-refused : goal.returns-in-Err-clause-refused
+returns-in-Err-clause-refused c =
+    let parts = c.in_ok-parts.parts in
+    let tables = c.in_ok-parts.ensures in
+    rw c.outline_fault.ensures (λ known. unsound_recipe_refused (table_view c.args.table.now) parts.values.inputs.items parts.values.parameters.items parts.values.outputs.items parts.roles.items parts.acts
+    tables.inputs tables.parameters tables.outputs tables.roles tables.acts
+    (λ sound. large_refused parts.acts c.in-Err.fault c.in-Err.ensures.many known sound.small))
+
+pub returns-in-Err-clause-stands : goal.returns-in-Err-clause-stands
+returns-in-Err-clause-stands c =
+    let of : Parts = record {
+      inputs = c.in_ok-parts.parts.values.inputs.items;
+      parameters = c.in_ok-parts.parts.values.parameters.items;
+      outputs = c.in_ok-parts.parts.values.outputs.items;
+      roles = c.in_ok-parts.parts.roles.items;
+      acts = c.in_ok-parts.parts.acts;
+    } in
+    let tables = c.in_ok-parts.ensures in
+    rw c.outline_fault.ensures (tells_weaker _ (IsWrongAt (table_view c.args.table.now)) (λ spot wrong h. inr (inr (record {
+      parts = of;
+      inputs = tables.inputs;
+      parameters = tables.parameters;
+      outputs = tables.outputs;
+      roles = tables.roles;
+      acts = tables.acts;
+      fault = h;
+    }))) _ (large_told of c.in-Err.fault c.in-Err.ensures.many))

@@ -1,0 +1,48 @@
+-- What the node of an entry asks for.
+use Rattle.std.proofs.Common.{◌≡◌, ℕ, zero, suc, List, [], ◌∷◌, Option, Some, None, slice_get, ap, refl, subst}
+use Rattle.batch_recipe.specs.ActsAtNodes.{ActList, procedure_acts, AreActsAt, IsActAt, IsNoAct}
+use Rattle.batch_recipe.specs.Expanding.{Binding}
+use Rattle.batch_recipe.specs.Links.{asked_at}
+use Rattle.batch_recipe.specs.Nodes.{Node, needs_of}
+use Rattle.batch_recipe.specs.Outlines.{act_of}
+use Rattle.batch_recipe.specs.Procedure.{bound_nodes}
+use Rattle.batch_recipe.specs.Tree.{Tree, act, skip, seq, par, sel, loop}
+use Rattle.batch_recipe.specs.declared.act.Act.{Act}
+use Rattle.batch_recipe.specs.declared.acts.Acts.{Acts}
+use Rattle.batch_recipe.specs.declared.entry.Entry.{Entry}
+use Rattle.batch_recipe.specs.declared.recipe.Recipe.{Recipe}
+use Rattle.batch_recipe.proofs.NodeActs.{procedure_acts_are}
+use Rattle.batch_recipe.proofs.Climbing.{act_at}
+
+module _ (bound : Binding) (acts : Acts) where
+  some_is : (a b : Option Act) → Some a ≡ Some b → a ≡ b
+  some_is a b e = cc
+
+  node_is : (a b : Node) → Some a ≡ Some b → a ≡ b
+  node_is a b e = cc
+
+  acts_at : (list : ActList) (xs : List Node) → AreActsAt bound acts list xs → (k : ℕ) (o : Option Act) (x : Node) → slice_get list k ≡ Some o → slice_get xs k ≡ Some x → IsActAt bound acts o x
+  acts_at [] xs h k o x is at = let bad : None ≡ Some o = is in cc
+  acts_at (a ∷ list) [] h k o x is at = absurd h
+  acts_at (a ∷ list) (y ∷ xs) h zero o x is at =
+      subst (λ (z : Node). IsActAt bound acts o z) (node_is y x at) (subst (λ (p : Option Act). IsActAt bound acts p y) (some_is a o is) h.0)
+  acts_at (a ∷ list) (y ∷ xs) h (suc k) o x is at = acts_at list xs h.1 k o x is at
+
+  no_needs : (t : Tree) → IsNoAct t → needs_of t ≡ []
+  no_needs (act s w) h = absurd h
+  no_needs skip h = refl
+  no_needs (seq ts) h = refl
+  no_needs (par ts) h = refl
+  no_needs (sel cs) h = refl
+  no_needs (loop n c t) h = refl
+
+  needs_are : (o : Option Act) (x : Node) → IsActAt bound acts o x → needs_of x.here ≡ asked_at bound o
+  needs_are None x h = no_needs x.here h
+  needs_are (Some a) x h = ap needs_of h.here_is
+
+-- the node's own needs are those of its act, whatever units take the roles
+pub own_needs : (r : Recipe) (bound : Binding) (k : ℕ) (e : Entry) (x : Node) → slice_get r.outline.entries.items k ≡ Some e → slice_get (bound_nodes bound r.acts) k ≡ Some x
+    → needs_of x.here ≡ asked_at bound (act_of r.acts e.kind)
+own_needs r bound k e x is at =
+    needs_are bound r.acts (act_of r.acts e.kind) x
+    (acts_at bound r.acts (procedure_acts r.acts) (bound_nodes bound r.acts) (procedure_acts_are bound r.acts) k (act_of r.acts e.kind) x (act_at r k e is) at)

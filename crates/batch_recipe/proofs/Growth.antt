@@ -1,0 +1,224 @@
+-- What comes to an outline: a node with those below it, and branches one after another.
+use Rattle.std.proofs.Common.{◌≡◌, ℕ, suc, ◌+◌, ◌<◌, ◌≤◌, List, [], ◌∷◌, ◌++◌, map, get_or, drop, length, Option, Some, None, Result, Ok, Err, Bool, position, slice_get, sym, ap, ◌∙◌, refl, subst, arith, add-one, drop-cons, drop_of_length-le, length-append, append_assoc, append-nil}
+use Rattle.std.specs.List.{find, position_or_len}
+use Rattle.std.proofs.lemmas.Grind.{common_steps}
+use Rattle.std.proofs.lemmas.List.Folds.{find_at}
+use Rattle.std.proofs.lemmas.Option.{slice_get_past}
+use Rattle.batch_recipe.specs.Conditions.{Name}
+use Rattle.batch_recipe.specs.Diagram as chart
+use Rattle.batch_recipe.specs.Diagram.{Diagram, diagram_of, diagrams_of, cases_of}
+use Rattle.batch_recipe.specs.Procedure.{table_at, level_below}
+use Rattle.batch_recipe.specs.Growing.{entry, topped, bare, grown, grown_cases, grown_act, grown_named, levels_from, number_in, branch_entries, chart_entries, act_entries, HasBegun, HasEnded, HasGrown}
+use Rattle.batch_recipe.specs.declared.act.Act.{Act}
+use Rattle.batch_recipe.specs.declared.acts.Acts.{Acts}
+use Rattle.batch_recipe.specs.declared.acts.Level.{Level}
+use Rattle.batch_recipe.specs.declared.acts.Level.TheVariants.{UnitProcedures, Operations, Phases}
+use Rattle.batch_recipe.specs.declared.chart.Chart.{Chart}
+use Rattle.batch_recipe.specs.declared.chart.Chart.TheVariants.{Label}
+use Rattle.batch_recipe.specs.declared.condition.Cond.{Cond}
+use Rattle.batch_recipe.specs.declared.entry.Entry.{Entry}
+use Rattle.batch_recipe.specs.declared.entry.Kind.{Kind}
+use Rattle.batch_recipe.specs.declared.entry.Kind.TheVariants as kind
+use Rattle.batch_recipe.specs.declared.outline_fault.OutlineFault.{OutlineFault}
+use Rattle.batch_recipe.specs.declared.outline_fault.OutlineFault.TheVariants.{TooMany, Memory}
+use Rattle.batch_recipe.specs.declared.recipe.TheConstants.{MAX_NODES}
+use Rattle.batch_recipe.proofs.Diagrams.{diagram_of-label}
+
+-- the first that passes, by its number
+module _ {X : Type 0} (p : X → Bool) (xs : List X) where
+  pub found_at : (i : ℕ) → position p xs ≡ Some i → find p xs ≡ slice_get xs i
+  found_at i e =
+      let at : position_or_len p xs ≡ i = grind (arith, common_steps) in
+      find_at p xs ∙ ap (slice_get xs) at
+
+  pub not_found : position p xs ≡ None → find p xs ≡ None
+  not_found e =
+      let past : length xs ≤ position_or_len p xs = grind (arith, common_steps) in
+      find_at p xs ∙ slice_get_past xs (position_or_len p xs) past
+
+-- A node was begun, those below it came, and it has its end.
+module _ (before begun grown_to ended : List Entry) (k : Kind) (n u i : ℕ) (below : ℕ → ℕ → List Entry) (b : HasBegun before k u i begun (Ok n)) where
+  shifted : below (length begun) n ≡ below (length before + 1) (length before)
+  shifted =
+      let size : length begun ≡ length before + 1 = ap length b.1 ∙ length-append before (entry k (n + 1) u i ∷ []) in
+      ap (λ m. below m n) size ∙ ap (below (length before + 1)) b.0
+
+  pub node_grown : (grown_to ≡ begun ++ below (length begun) n) × (length grown_to ≤ MAX_NODES) → HasEnded grown_to n ended
+      → (ended ≡ before ++ topped k (length before) u i (below (length before + 1) (length before))) × (length ended ≤ MAX_NODES)
+  node_grown g f =
+      let es = below (length before + 1) (length before) in
+      let is : grown_to ≡ before ++ entry k (n + 1) u i ∷ es =
+      g.0 ∙ (ap (λ xs. xs ++ below (length begun) n) b.1 ∙ (ap (λ xs. before ++ entry k (n + 1) u i ∷ [] ++ xs) shifted ∙ append_assoc before (entry k (n + 1) u i ∷ []) es)) in
+      let size : length grown_to ≡ length before + 1 + length es = omega (arith, ap length is, length-append before (entry k (n + 1) u i ∷ es)) in
+      let done : ended ≡ before ++ topped k (length before) u i es = f before es k (n + 1) u i is (sym b.0) ∙ ap (λ m. before ++ entry k m u i ∷ es) size in
+      let last : length ended ≡ length before + 1 + length es = omega (arith, ap length done, length-append before (topped k (length before) u i es)) in
+      (done, omega (arith, g.1, size, last))
+
+  pub node_failed : (fault : OutlineFault) → HasGrown begun (below (length begun) n) grown_to (Err fault)
+      → HasGrown before (topped k (length before) u i (below (length before + 1) (length before))) grown_to (Err fault)
+  node_failed TooMany h = omega (arith, h, ap length shifted, ap length b.1, length-append before (entry k (n + 1) u i ∷ []))
+  node_failed Memory h = tt
+
+levels_cons : (level : Level) → levels_from (Some level) ≡ level ∷ levels_from (level_below level)
+levels_cons UnitProcedures = refl
+levels_cons Operations = refl
+levels_cons Phases = refl
+
+-- a label
+module _ (acts : Acts) (chart : Chart) (level : Option Level) (name : Name) (is : chart ≡ Label name) (n u i : ℕ) where
+  pub no_level : level ≡ None → chart_entries acts level n u i (diagram_of chart) ≡ bare n u i
+  no_level at = rw (is, diagram_of-label name, at) refl
+
+  module _ (table : Level) (at : level ≡ Some table) where
+    pub no_number : number_in (table_at acts table) name ≡ None → chart_entries acts level n u i (diagram_of chart) ≡ bare n u i
+    no_number e = rw (is, diagram_of-label name, at, levels_cons table, grown_named, e) refl
+
+    module _ (k : ℕ) (e : number_in (table_at acts table) name ≡ Some k) where
+      pub no_act : slice_get (table_at acts table) k ≡ None → chart_entries acts level n u i (diagram_of chart) ≡ bare n u i
+      no_act f = rw (is, diagram_of-label name, at, levels_cons table, grown_named, e, f) refl
+
+      pub some_act : (a : Act) (below : Option Level) → below ≡ level_below table → slice_get (table_at acts table) k ≡ Some a
+          → chart_entries acts level n u i (diagram_of chart) ≡ act_entries acts below (kind.Act table k) n u i a
+      some_act a below b f = rw (is, diagram_of-label name, at, levels_cons table, grown_named, e, f, b) refl
+
+cut : {X : Type 0} (xs : List X) (i : ℕ) (x : X) → i < length xs → x ≡ get_or xs i x → drop i xs ≡ x ∷ drop (i + 1) xs
+cut {X} xs i x in' is = rw add-one (drop-cons xs i x in' ∙ ap (λ (y : X). y ∷ drop (suc i) xs) (sym is))
+
+-- a tree has a node
+pub some_grown : (named : Name → ℕ → ℕ → ℕ → List Entry) → ((name : Name) (n u i : ℕ) → 0 < length (named name n u i)) → (n u i : ℕ) (d : Diagram) → 0 < length (grown named n u i d)
+some_grown named some n u i (chart.label name) = some name n u i
+some_grown named some n u i chart.skip = omega arith
+some_grown named some n u i (chart.seq ds) = omega arith
+some_grown named some n u i (chart.par ds) = omega arith
+some_grown named some n u i (chart.sel cs) = omega arith
+some_grown named some n u i (chart.loop turns c d) = omega arith
+
+named_found : (acts : Acts) (levels : List Level) (level : Level) (k : ℕ) (found : Option Act) (n u i : ℕ)
+    → 0 < length {A = Entry} (elim found [ None ↦ bare n u i | Some a ↦ grown_act (grown_named acts levels) (kind.Act level k) n u i a ])
+named_found acts levels level k None n u i = omega arith
+named_found acts levels level k (Some a) n u i = omega arith
+
+named_number : (acts : Acts) (levels : List Level) (level : Level) (number : Option ℕ) (n u i : ℕ)
+    → 0 < length {A = Entry} (elim number [
+      | None ↦ bare n u i
+      | Some k ↦ elim (slice_get (table_at acts level) k) [ None ↦ bare n u i | Some a ↦ grown_act (grown_named acts levels) (kind.Act level k) n u i a ]
+    ])
+named_number acts levels level None n u i = omega arith
+named_number acts levels level (Some k) n u i = named_found acts levels level k (slice_get (table_at acts level) k) n u i
+
+pub some_named : (acts : Acts) (levels : List Level) (name : Name) (n u i : ℕ) → 0 < length (grown_named acts levels name n u i)
+some_named acts [] name n u i = omega arith
+some_named acts (level ∷ levels) name n u i = named_number acts levels level (number_in (table_at acts level) name) n u i
+
+module _ (acts : Acts) (level : Option Level) (u : ℕ) where
+  abbrev each : ℕ → ℕ → List Chart → List Entry
+  each n i parts = branch_entries acts level n u i (map diagram_of parts)
+
+  abbrev case_of : (Cond × Chart) → Cond × Diagram
+  case_of choice = (choice.0, diagram_of choice.1)
+
+  abbrev cases : ℕ → ℕ → List (Cond × Chart) → Chart → List Entry
+  cases n i choices last = grown_cases (grown_named acts (levels_from level)) n u i (cases_of (map case_of choices) (diagram_of last))
+
+  abbrev one : ℕ → ℕ → Chart → List Entry
+  one n i c = chart_entries acts level n u i (diagram_of c)
+
+  some_one : (n i : ℕ) (c : Chart) → 0 < length (one n i c)
+  some_one n i c = some_grown (grown_named acts (levels_from level)) (some_named acts (levels_from level)) n u i (diagram_of c)
+
+  -- those that came and those that are left are all
+  pub record KeepsGrowing (parts : List Chart) (before : List Entry) (index child : ℕ) (now : List Entry) : Type 0 where
+    pub counted : child ≡ index
+    pub done : List Entry
+    pub some : index ≤ length done
+    pub now_is : now ≡ before ++ done
+    pub small : length now ≤ MAX_NODES
+    pub all : each (length before) 0 parts ≡ done ++ each (length now) index (drop index parts)
+
+  pub record KeepsChoosing (choices : List (Cond × Chart)) (last : Chart) (before : List Entry) (index child : ℕ) (now : List Entry) : Type 0 where
+    pub counted : child ≡ index
+    pub done : List Entry
+    pub some : index ≤ length done
+    pub now_is : now ≡ before ++ done
+    pub small : length now ≤ MAX_NODES
+    pub all : cases (length before) 0 choices last ≡ done ++ cases (length now) index (drop index choices) last
+
+  module _ (parts : List Chart) (before now : List Entry) (index child : ℕ) (h : KeepsGrowing parts before index child now) where
+    module _ (part : Chart) (in' : index < length parts) (is : part ≡ get_or parts index part) (after : List Entry) where
+      split : each (length before) 0 parts ≡ h.done ++ (one (length now) index part ++ each (length now + length (one (length now) index part)) (index + 1) (drop (index + 1) parts))
+      split = h.all ∙ ap (λ ps. h.done ++ each (length now) index ps) (cut parts index part in' is)
+
+      pub KeepsGrowing-more : (after ≡ now ++ one (length now) child part) × (length after ≤ MAX_NODES) → KeepsGrowing parts before (index + 1) (child + 1) after
+      KeepsGrowing-more g =
+          let es = one (length now) index part in
+          let is' : after ≡ now ++ es = g.0 ∙ ap (λ i. now ++ one (length now) i part) h.counted in
+          let size : length after ≡ length now + length es = ap length is' ∙ length-append now es in
+          record {
+            counted = omega (arith, h.counted);
+            done = h.done ++ es;
+            some = omega (arith, h.some, length-append h.done es, some_one (length now) index part);
+            now_is = is' ∙ (ap (λ xs. xs ++ es) h.now_is ∙ append_assoc before h.done es);
+            small = g.1;
+            all = split ∙ (sym (append_assoc h.done es (each (length now + length es) (index + 1) (drop (index + 1) parts)))
+                ∙ ap (λ m. h.done ++ es ++ each m (index + 1) (drop (index + 1) parts)) (sym size));
+          }
+
+      pub KeepsGrowing-stop : (fault : OutlineFault) → HasGrown now (one (length now) child part) after (Err fault) → HasGrown before (each (length before) 0 parts) after (Err fault)
+      KeepsGrowing-stop TooMany f =
+          let es = one (length now) index part in
+          let rest = each (length now + length es) (index + 1) (drop (index + 1) parts) in
+          let same : length (one (length now) child part) ≡ length es = ap (λ i. length (one (length now) i part)) h.counted in
+          omega (arith, f, same, ap length split, length-append h.done (es ++ rest), length-append es rest, ap length h.now_is, length-append before h.done)
+      KeepsGrowing-stop Memory f = tt
+
+    pub KeepsGrowing-room : child ≤ MAX_NODES
+    KeepsGrowing-room = omega (arith, h.counted, h.some, h.small, ap length h.now_is, length-append before h.done)
+
+    pub KeepsGrowing-all : length parts ≤ index → (now ≡ before ++ each (length before) 0 parts) × (length now ≤ MAX_NODES)
+    KeepsGrowing-all past =
+        let last : each (length before) 0 parts ≡ h.done = h.all ∙ (ap (λ ps. h.done ++ each (length now) index ps) (drop_of_length-le parts past) ∙ append-nil h.done) in
+        (h.now_is ∙ ap (λ xs. before ++ xs) (sym last), h.small)
+
+  module _ (choices : List (Cond × Chart)) (last : Chart) (before now : List Entry) (index child : ℕ) (h : KeepsChoosing choices last before index child now) (after : List Entry) where
+    module _ (choice : Cond × Chart) (in' : index < length choices) (is : choice ≡ get_or choices index choice) where
+      splitc : cases (length before) 0 choices last ≡ h.done ++ (one (length now) index choice.1 ++ cases (length now + length (one (length now) index choice.1)) (index + 1) (drop (index + 1) choices) last)
+      splitc = h.all ∙ ap (λ ps. h.done ++ cases (length now) index ps last) (cut choices index choice in' is)
+
+      pub KeepsChoosing-more : (after ≡ now ++ one (length now) child choice.1) × (length after ≤ MAX_NODES) → KeepsChoosing choices last before (index + 1) (child + 1) after
+      KeepsChoosing-more g =
+          let es = one (length now) index choice.1 in
+          let is' : after ≡ now ++ es = g.0 ∙ ap (λ i. now ++ one (length now) i choice.1) h.counted in
+          let size : length after ≡ length now + length es = ap length is' ∙ length-append now es in
+          record {
+            counted = omega (arith, h.counted);
+            done = h.done ++ es;
+            some = omega (arith, h.some, length-append h.done es, some_one (length now) index choice.1);
+            now_is = is' ∙ (ap (λ xs. xs ++ es) h.now_is ∙ append_assoc before h.done es);
+            small = g.1;
+            all = splitc ∙ (sym (append_assoc h.done es (cases (length now + length es) (index + 1) (drop (index + 1) choices) last))
+                ∙ ap (λ m. h.done ++ es ++ cases m (index + 1) (drop (index + 1) choices) last) (sym size));
+          }
+
+      pub KeepsChoosing-stop : (fault : OutlineFault) → HasGrown now (one (length now) child choice.1) after (Err fault) → HasGrown before (cases (length before) 0 choices last) after (Err fault)
+      KeepsChoosing-stop TooMany f =
+          let es = one (length now) index choice.1 in
+          let rest = cases (length now + length es) (index + 1) (drop (index + 1) choices) last in
+          let same : length (one (length now) child choice.1) ≡ length es = ap (λ i. length (one (length now) i choice.1)) h.counted in
+          omega (arith, f, same, ap length splitc, length-append h.done (es ++ rest), length-append es rest, ap length h.now_is, length-append before h.done)
+      KeepsChoosing-stop Memory f = tt
+
+    pub KeepsChoosing-room : child ≤ MAX_NODES
+    KeepsChoosing-room = omega (arith, h.counted, h.some, h.small, ap length h.now_is, length-append before h.done)
+
+    -- the last branch
+    pub KeepsChoosing-last : length choices ≤ index → (r : Result (Unit {0}) OutlineFault) → HasGrown now (one (length now) child last) after r → HasGrown before (cases (length before) 0 choices last) after r
+    KeepsChoosing-last past r g =
+        let es = one (length now) index last in
+        let is : cases (length before) 0 choices last ≡ h.done ++ es = h.all ∙ ap (λ cs. h.done ++ cases (length now) index cs last) (drop_of_length-le choices past) in
+        let same : one (length now) child last ≡ es = ap (λ i. one (length now) i last) h.counted in
+        joined r es (cases (length before) 0 choices last) is (subst (λ (xs : List Entry). HasGrown now xs after r) same g)
+      where
+        joined : (r : Result (Unit {0}) OutlineFault) (es all : List Entry) → all ≡ h.done ++ es → HasGrown now es after r → HasGrown before all after r
+        joined (Ok _) es all is g = (g.0 ∙ (ap (λ xs. xs ++ es) h.now_is ∙ (append_assoc before h.done es ∙ ap (λ xs. before ++ xs) (sym is))), g.1)
+        joined (Err TooMany) es all is g = omega (arith, g, ap length is, length-append h.done es, ap length h.now_is, length-append before h.done)
+        joined (Err Memory) es all is g = tt

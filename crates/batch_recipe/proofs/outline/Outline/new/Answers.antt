@@ -1,0 +1,34 @@
+use Rattle.std.proofs.Common.{◌≡◌, ℕ, ◌+◌, ◌<◌, ◌++◌, List, length, Some, Err, Result, IsErrOf, ap, ◌∙◌, subst, arith}
+use Rattle.std.proofs.lemmas.Result.{err_from_is_err_and}
+use Rattle.batch_recipe.specs.Expanding.{unbound}
+use Rattle.batch_recipe.specs.Growing.{HasGrown, act_entries}
+use Rattle.batch_recipe.specs.declared.acts.Level.TheVariants.{UnitProcedures}
+use Rattle.batch_recipe.specs.declared.entry.Entry.{Entry}
+use Rattle.batch_recipe.specs.declared.entry.Kind.TheVariants as kind
+use Rattle.batch_recipe.specs.declared.outline.Outline.{Outline}
+use Rattle.batch_recipe.specs.declared.outline_fault.OutlineFault.{OutlineFault}
+use Rattle.batch_recipe.specs.declared.outline_fault.OutlineFault.TheVariants.{TooMany}
+use Rattle.batch_recipe.proofs.Linking.{as_many_entries}
+use Rattle.batch_recipe.proofs.Shaping.{is_outline}
+use Rattle.batch_recipe.proofs.outline.Outline.new.Goals as goal
+
+the_fault : (f : OutlineFault) → IsErrOf {T = Outline} (Err f) TooMany → f ≡ TooMany
+the_fault f h = cc
+
+pub returns-in_err-grow_act-clause-many : goal.returns-in_err-grow_act-clause-many
+returns-in_err-grow_act-clause-many c = λ h.
+    let acts = c.args.acts.now in
+    let p = err_from_is_err_and c.from_residual.result c.from_residual.ensures.1 in
+    let is : c.in_err-grow_act.field-0.0 ≡ TooMany = the_fault c.in_err-grow_act.field-0.0 (subst (λ (r : Result Outline OutlineFault). IsErrOf r TooMany) (p.1 ∙ ap Err p.2) h) in
+    let entries : ℕ → List Entry = λ n. act_entries acts (Some UnitProcedures) kind.Procedure n 0 0 acts.procedure in
+    let many : 4096 < length c.new-entries.result.items + length (entries (length c.new-entries.result.items)) =
+    subst (λ (f : OutlineFault). HasGrown c.new-entries.result.items (entries (length c.new-entries.result.items)) c.grow_act.new.nodes.items (Err f)) is c.in_err-grow_act.ensures in
+    let none = ap (λ xs. length {A = Entry} xs + length (entries (length xs))) c.new-entries.ensures.items in
+    omega (arith, many, none, as_many_entries acts (entries 0) (is_outline acts) unbound)
+
+pub returns-clause-ok : goal.returns-clause-ok
+returns-clause-ok c =
+    let acts = c.args.acts.now in
+    let entries : ℕ → List Entry = λ n. act_entries acts (Some UnitProcedures) kind.Procedure n 0 0 acts.procedure in
+    let is : c.grow_act.new.nodes.items ≡ entries 0 = c.in_ok-grow_act.ensures.0 ∙ ap (λ xs. xs ++ entries (length xs)) c.new-entries.ensures.items in
+    is

@@ -1,0 +1,51 @@
+-- private: how the nodes of an expanded tree hang together, by number.
+use Rattle.std.specs.Prelude.{◌≡◌, ◌<◌, ◌≤◌, ◌⊎◌, ℕ, ◌+◌, List, [], ◌∷◌, ◌++◌, slice_get, Option, Some, None}
+use Rattle.batch_recipe.specs.Expanding.{Binding, asked_by, unit_with}
+use Rattle.batch_recipe.specs.Needs.{resources_of}
+use Rattle.batch_recipe.specs.declared.need.Need.{Need}
+use Rattle.batch_recipe.specs.declared.act.Act.{Act}
+use Rattle.batch_recipe.specs.Nodes.{Node, needs_of, child, node_count}
+use Rattle.batch_recipe.specs.Outlines.{Form, an_act, a_skip, a_seq, a_par, a_sel, a_loop, Shape, shape_of}
+use Rattle.batch_recipe.specs.Tree.{Tree, act, skip, seq, par, sel, loop}
+use Rattle.batch_recipe.specs.declared.entry.Entry.{Entry}
+
+-- all that an act asks for, where the roles are bound
+abbrev pub asked_at : Binding → Option Act → List Need
+asked_at bound None = []
+asked_at bound (Some a) = asked_by (unit_with bound a.unit) a.needs.items
+
+abbrev pub form_at : Tree → Form
+form_at (act s w) = an_act
+form_at skip = a_skip
+form_at (seq ts) = a_seq
+form_at (par ts) = a_par
+form_at (sel cs) = a_sel
+form_at (loop n c t) = a_loop
+
+-- the shape is that of the node with the number k
+pub record IsShaped (k : ℕ) (at : Node) (s : Shape) : Type 0 where
+  pub formed : s.form ≡ form_at at.here
+  pub ended : s.end ≡ k + node_count at.here
+
+-- the node is the child of an earlier one, before whose end it ends
+pub record Hangs (ns : List Node) (k : ℕ) (at : Node) (s : Shape) : Type 0 where
+  pub above : Node
+  pub known : slice_get ns s.parent ≡ Some above
+  pub earlier : s.parent < k
+  pub within : s.end ≤ s.parent + node_count above.here
+  pub placed : at.place ≡ child above.place s.child
+  pub asks : at.asked ≡ above.asked ++ resources_of (needs_of at.here)
+
+-- the node is the first
+pub record IsFirst (k : ℕ) (at : Node) (s : Shape) : Type 0 where
+  pub number : k ≡ 0
+  pub alone : s.child ≡ 0
+  pub placed : at.place ≡ 0 ∷ []
+  pub asks : at.asked ≡ resources_of (needs_of at.here)
+
+-- the entry stands for node number k
+pub record IsEntryOf (ns : List Node) (k : ℕ) (e : Entry) : Type 0 where
+  pub at : Node
+  pub numbered : slice_get ns k ≡ Some at
+  pub shaped : IsShaped k at (shape_of e)
+  pub hangs : IsFirst k at (shape_of e) ⊎ Hangs ns k at (shape_of e)

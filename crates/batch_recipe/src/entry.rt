@@ -1,0 +1,43 @@
+//! A node of a recipe's expanded tree.
+ghost use Rattle.std.specs.Prelude.{◌≡◌, option_copied};
+ghost use Rattle.batch_recipe.specs.Outlines.{act_of};
+
+use crate::act::Act;
+use crate::acts::{Acts, Level};
+
+/// What stands at a node.
+#[derive(Clone, Copy, Debug, PartialEq, Eq)]
+pub enum Kind {
+    Skip,
+    /// The recipe's procedure.
+    Procedure,
+    /// The act with this number in the table.
+    Act(Level, usize),
+    Seq,
+    Par,
+    Sel,
+    Loop,
+}
+
+/// A node. It is the child with the number `child` of the node `parent`, and the root is child 0 of itself.
+#[derive(Clone, Copy, Debug, PartialEq, Eq)]
+pub struct Entry {
+    pub kind: Kind,
+    /// The number past all nodes below it, which come right after it.
+    pub end: u16,
+    pub parent: u16,
+    pub child: u16,
+}
+
+impl Kind {
+    /// The act at the node, where it is one.
+    pub fn act(self, acts: &Acts) -> Option<&Act>
+        ensures { option_copied result ≡ act_of acts.now self }
+    {
+        match self {
+            Kind::Procedure => Some(&acts.procedure),
+            Kind::Act(level, number) => acts.table(level).get(number),
+            Kind::Skip | Kind::Seq | Kind::Par | Kind::Sel | Kind::Loop => None,
+        }
+    }
+}

@@ -1,0 +1,42 @@
+//! The outline of a recipe's acts.
+ghost use Rattle.std.specs.Prelude.{◌≡◌, ◌<◌, ◌≤◌, ◌↔◌, length, IfOk, IsErrOf};
+ghost use Rattle.batch_recipe.specs.Growing.{entries_of};
+ghost use Rattle.batch_recipe.specs.Procedure.{procedure_nodes};
+ghost use Rattle.batch_recipe.specs.declared.outline_fault.OutlineFault.TheVariants.{TooMany};
+ghost use Rattle.batch_recipe.specs.declared.recipe.TheConstants.{MAX_NODES};
+
+use crate::acts::{Acts, Level};
+use crate::entry::{Entry, Kind};
+use crate::growing::grow_act;
+use crate::outline_fault::OutlineFault;
+use std::alloc::Global;
+
+/// The nodes of a recipe's expanded tree, by number.
+#[derive(Debug, Drop)]
+pub struct Outline {
+    /// Node `k` is entry `k`.
+    pub entries: Vec<Entry>,
+    ghost few: { length entries.items ≤ MAX_NODES },
+}
+
+impl Outline {
+    /// The outline of the acts, where each label of a chart is looked up once. `TooMany` where they expand to more than
+    /// `MAX_NODES` nodes, and `Memory` where memory is refused on the way.
+    pub fn new(alloc: Global, acts: &Acts) -> Result<Outline, OutlineFault>
+        ensures ok { IfOk result (λ outline. outline.entries.items ≡ entries_of acts.now) }
+        ensures many { IsErrOf result OutlineFault.TooMany → MAX_NODES < length (procedure_nodes acts.now) }
+    {
+        let mut entries = Vec::new(alloc);
+        let level = Some(Level::UnitProcedures);
+        grow_act(
+            &mut entries,
+            acts,
+            &acts.procedure,
+            Kind::Procedure,
+            level,
+            0,
+            0,
+        )?;
+        Ok(Outline { entries })
+    }
+}
