@@ -1,5 +1,7 @@
 -- The tree at a node stands from the node's number on, and what it has below it right after it.
-use Rattle.std.proofs.Common.{◌≡◌, ℕ, zero, suc, ◌+◌, List, [], ◌∷◌, ◌++◌, length, Some, None, slice_get, ap, ◌∙◌, refl, subst, arith}
+use Rattle.std.proofs.Common.{◌≡◌, ℕ, zero, suc, ◌+◌, ◌-◌, ◌<◌, ◌≤◌, List, [], ◌∷◌, ◌++◌, length, Some, None, get_or, slice_get, sym, ap, ◌∙◌, refl, subst, arith}
+use Rattle.std.specs.List.{AllByRecursion}
+use Rattle.std.proofs.lemmas.Option.{slice_get_within, slice_get-get_or}
 use Rattle.batch_recipe.specs.Children.{IsHere, AreHere, AreCasesHere, IsBelow, HasBelow}
 use Rattle.batch_recipe.specs.Conditions.{Name}
 use Rattle.batch_recipe.specs.Expanding.{Binding}
@@ -9,7 +11,21 @@ use Rattle.batch_recipe.specs.Tree.{Place, Tree, act, skip, seq, par, sel, loop,
 use Rattle.batch_recipe.specs.Procedure.{bound_tree, bound_nodes}
 use Rattle.batch_recipe.specs.declared.acts.Acts.{Acts}
 use Rattle.batch_recipe.proofs.Linking.{AreFrom, from_left, from_right, from_tail, from_head}
-use Rattle.batch_recipe.proofs.Order.{counted_nodes}
+use Rattle.batch_recipe.proofs.Order.{counted_nodes, in_order}
+
+pub all_at : (P : Node → Type 0) (xs : List Node) → AllByRecursion P xs → (j : ℕ) (x : Node) → slice_get xs j ≡ Some x → P x
+all_at P [] h j x is = let bad : None ≡ Some x = is in absurd cc
+all_at P (y ∷ xs) h zero x is = let e : Some y ≡ Some x = is in let same : y ≡ x = cc in subst P same h.0
+all_at P (y ∷ xs) h (suc j) x is = all_at P xs h.1 j x is
+
+-- a tree has a node
+pub some_count : (t : Tree) → 0 < node_count t
+some_count (act s w) = omega arith
+some_count skip = omega arith
+some_count (seq ts) = omega arith
+some_count (par ts) = omega arith
+some_count (sel cs) = omega arith
+some_count (loop n c t) = omega arith
 
 module _ (ns : List Node) where
   is_here : (n : ℕ) (p : Place) (above : List Name) (t : Tree) → AreFrom ns n (nodes p above t) → IsHere ns n t
@@ -120,3 +136,27 @@ module _ (bound : Binding) (acts : Acts) (k : ℕ) (x : Node) (is : slice_get (b
   -- and what it has below it
   pub has_below : HasBelow (bound_nodes bound acts) k x.here
   has_below = tree_has_below (bound_nodes bound acts) k x.place stands.0 x.here stands.1
+
+  -- which ends within the nodes
+  pub ends_within : k + node_count x.here ≤ length (bound_nodes bound acts)
+  ends_within =
+      let xs = nodes x.place stands.0 x.here in
+      let size = counted_nodes x.place stands.0 x.here in
+      let some = some_count x.here in
+      let y = get_or xs (node_count x.here - 1) x in
+      let here : slice_get xs (node_count x.here - 1) ≡ Some y = slice_get-get_or xs (node_count x.here - 1) x (omega (arith, size, some)) in
+      let last = slice_get_within (bound_nodes bound acts) (k + (node_count x.here - 1)) y (stands.1 (node_count x.here - 1) y here) in
+      omega (arith, last, some)
+
+  -- a node with one of its numbers stands at its place or below it
+  pub place_within : (m : ℕ) (z : Node) → slice_get (bound_nodes bound acts) m ≡ Some z → k ≤ m → m < k + node_count x.here → (rest : Place) × (z.place ≡ x.place ++ rest)
+  place_within m z at low high =
+      let xs = nodes x.place stands.0 x.here in
+      let size = counted_nodes x.place stands.0 x.here in
+      let y = get_or xs (m - k) x in
+      let here : slice_get xs (m - k) ≡ Some y = slice_get-get_or xs (m - k) x (omega (arith, size, low, high)) in
+      let number : k + (m - k) ≡ m = omega (arith, low) in
+      let both : Some y ≡ Some z = sym (ap (slice_get (bound_nodes bound acts)) (sym number) ∙ stands.1 (m - k) y here) ∙ at in
+      let same : y ≡ z = cc in
+      subst (λ (w : Node). (rest : Place) × (w.place ≡ x.place ++ rest)) same
+      (all_at (λ (w : Node). (rest : Place) × (w.place ≡ x.place ++ rest)) xs (in_order x.place stands.0 x.here).0 (m - k) y here)

@@ -1,26 +1,21 @@
 -- Which nodes stand below a node, by their places.
-use Rattle.std.proofs.Common.{◌≡◌, ◌≢◌, ◌⊎◌, inl, inr, ℕ, zero, suc, ◌+◌, ◌-◌, ◌<◌, ◌≤◌, ◌++◌, List, [], ◌∷◌, length, Some, None, true, false, get_or, slice_get, take, drop, sym, ap, ◌∙◌, refl, subst, arith, add-one, append-nil, append_assoc, drop-cons, length-append}
+use Rattle.std.proofs.Common.{◌≡◌, ◌≢◌, ◌⊎◌, inl, inr, ℕ, zero, suc, ◌+◌, ◌<◌, ◌≤◌, ◌++◌, List, [], ◌∷◌, length, Some, None, true, false, get_or, slice_get, take, drop, sym, ap, ◌∙◌, refl, subst, arith, add-one, append-nil, append_assoc, drop-cons, length-append}
 use Rattle.std.specs.List.{AllByRecursion}
 use Rattle.std.proofs.lemmas.List.{take-append-drop}
 use Rattle.std.proofs.lemmas.Option.{slice_get_within, slice_get-get_or}
 use Rattle.batch_recipe.specs.Expanding.{unbound}
 use Rattle.batch_recipe.specs.Links.{IsEntryOf, IsFirst, Hangs}
-use Rattle.batch_recipe.specs.Nodes.{Node, node, nodes, child, node_count}
+use Rattle.batch_recipe.specs.Nodes.{Node, node, child, node_count}
 use Rattle.batch_recipe.specs.Outlines.{shape_of}
 use Rattle.batch_recipe.specs.Places.{AreInOrder, IsNodeAt, NoNodeAt}
 use Rattle.batch_recipe.specs.Procedure.{procedure_tree}
 use Rattle.batch_recipe.specs.Reaching.{IsChildOf, HasNoChild}
-use Rattle.batch_recipe.specs.Tree.{Place, Tree, is_before, act, skip, seq, par, sel, loop}
+use Rattle.batch_recipe.specs.Tree.{Place, is_before}
 use Rattle.batch_recipe.specs.declared.entry.Entry.{Entry}
 use Rattle.batch_recipe.specs.declared.recipe.Recipe.{Recipe}
-use Rattle.batch_recipe.proofs.Below.{stands}
+use Rattle.batch_recipe.proofs.Below.{all_at, ends_within, place_within, some_count}
 use Rattle.batch_recipe.proofs.Climbing.{ns, entry_at, as_many, read}
-use Rattle.batch_recipe.proofs.Order.{counted_nodes, in_order, same_number}
-
-all_at : (P : Node → Type 0) (xs : List Node) → AllByRecursion P xs → (j : ℕ) (x : Node) → slice_get xs j ≡ Some x → P x
-all_at P [] h j x is = let bad : None ≡ Some x = is in absurd cc
-all_at P (y ∷ xs) h zero x is = let e : Some y ≡ Some x = is in let same : y ≡ x = cc in subst P same h.0
-all_at P (y ∷ xs) h (suc j) x is = all_at P xs h.1 j x is
+use Rattle.batch_recipe.proofs.Order.{in_order, same_number}
 
 all_from : (P : Node → Type 0) (xs : List Node) → ((j : ℕ) (x : Node) → slice_get xs j ≡ Some x → P x) → AllByRecursion P xs
 all_from P [] h = tt
@@ -160,40 +155,6 @@ module _ (r : Recipe) where
       let f = below_place b h.entry.parent h.above (omega (arith, less, h.earlier)) h.above_is k x is g.0 g.1 in
       (omega (arith, f.0, h.earlier), omega (arith, f.1, h.within))
 
-  -- a node within the numbers of a tree stands at its place or below it
-  pub place_within : (k : ℕ) (x : Node) → slice_get (ns r) k ≡ Some x → (m : ℕ) (z : Node) → slice_get (ns r) m ≡ Some z → k ≤ m → m < k + node_count x.here → (rest : Place) × (z.place ≡ x.place ++ rest)
-  place_within k x is m z at low high =
-      let s = stands unbound r.acts k x is in
-      let xs = nodes x.place s.0 x.here in
-      let size = counted_nodes x.place s.0 x.here in
-      let y = get_or xs (m - k) x in
-      let here : slice_get xs (m - k) ≡ Some y = slice_get-get_or xs (m - k) x (omega (arith, size, low, high)) in
-      let number : k + (m - k) ≡ m = omega (arith, low) in
-      let same : y ≡ z = node_is m y z (ap (slice_get (ns r)) (sym number) ∙ s.1 (m - k) y here) at in
-      subst (λ (w : Node). (rest : Place) × (w.place ≡ x.place ++ rest)) same
-      (all_at (λ (w : Node). (rest : Place) × (w.place ≡ x.place ++ rest)) xs (in_order x.place s.0 x.here).0 (m - k) y here)
-
-  -- a tree has a node
-  pub some_count : (t : Tree) → 0 < node_count t
-  some_count (act s w) = omega arith
-  some_count skip = omega arith
-  some_count (seq ts) = omega arith
-  some_count (par ts) = omega arith
-  some_count (sel cs) = omega arith
-  some_count (loop n c t) = omega arith
-
-  -- a tree ends within the nodes
-  pub ends_within : (k : ℕ) (x : Node) → slice_get (ns r) k ≡ Some x → k + node_count x.here ≤ length (ns r)
-  ends_within k x is =
-      let s = stands unbound r.acts k x is in
-      let xs = nodes x.place s.0 x.here in
-      let size = counted_nodes x.place s.0 x.here in
-      let some = some_count x.here in
-      let y = get_or xs (node_count x.here - 1) x in
-      let here : slice_get xs (node_count x.here - 1) ≡ Some y = slice_get-get_or xs (node_count x.here - 1) x (omega (arith, size, some)) in
-      let last = slice_get_within (ns r) (k + (node_count x.here - 1)) y (s.1 (node_count x.here - 1) y here) in
-      omega (arith, last, some)
-
   -- the node of an entry, and where its tree ends
   pub end_of : (k : ℕ) (e : Entry) → slice_get r.outline.entries.items k ≡ Some e → (x : Node) × (slice_get (ns r) k ≡ Some x) × (e.end ≡ k + node_count x.here)
   end_of k e known = let h = entry_at r k e known in (h.at, h.numbered, h.shaped.ended)
@@ -206,7 +167,7 @@ module _ (r : Recipe) where
       → (x : Node) × (slice_get (ns r) k ≡ Some x) × (e.end ≡ k + node_count x.here) × (e.end ≤ length (ns r))
   end_read k from e in' same is =
       let h = end_of k e (read_at k from e in' same is) in
-      (h.0, h.1, h.2, omega (arith, h.2, ends_within k h.0 h.1))
+      (h.0, h.1, h.2, omega (arith, h.2, ends_within unbound r.acts k h.0 h.1))
 
   -- a child of a node
   pub record Child (node i m : ℕ) : Type 0 where
@@ -271,8 +232,8 @@ module _ (r : Recipe) where
 
               not_below : (m < at + node_count here.here) → ⊥
               not_below less =
-                  let up = place_within node x is at here is_entry.numbered (omega (arith, h.later)) high in
-                  let down = place_within at here is_entry.numbered m z (c x is).1 low less in
+                  let up = place_within unbound r.acts node x is at here is_entry.numbered (omega (arith, h.later)) high in
+                  let down = place_within unbound r.acts at here is_entry.numbered m z (c x is).1 low less in
                   let far = above_differs up.0 up.1 in
                   let near = below_differs down.0 down.1 in
                   omega (arith, far, near, ap length (c x is).2, length-append x.place (i ∷ []), ap length up.1, length-append x.place up.0, ap length down.1, length-append here.place down.0)

@@ -1,6 +1,7 @@
 use Rattle.std.proofs.Common.{◌+◌, arith, inl, inr, refl}
+use Rattle.batch_recipe.proofs.Below.{some_count}
 use Rattle.batch_recipe.proofs.Climbing.{as_many}
-use Rattle.batch_recipe.proofs.Reaching.{KeepsLooking-first, KeepsLooking-found, KeepsLooking-more, KeepsLooking-none, end_read, read_at, some_count}
+use Rattle.batch_recipe.proofs.Reaching.{KeepsLooking-first, KeepsLooking-found, KeepsLooking-more, KeepsLooking-none, end_read, read_at}
 use Rattle.batch_recipe.proofs.nodes.child_of.Goals as goal
 
 pub index-requires : goal.index-requires
@@ -30,7 +31,7 @@ loop-at-smaller c =
     let r = c.args.recipe.now in
     let x = end_read r c.args.node c.from.result c.index.result.now c.requires c.from.ensures c.index.ensures in
     let y = end_read r c.loop-at.at c.from-in-loop-at.result c.index-entry.result.now (omega (arith, c.loop-at-test.true, x.3)) c.from-in-loop-at.ensures c.index-entry.ensures in
-    omega (arith, c.loop-at-test.true, y.2, some_count r y.0.here)
+    omega (arith, c.loop-at-test.true, y.2, some_count y.0.here)
 
 pub loop-at-preserved : goal.loop-at-preserved
 loop-at-preserved c =
