@@ -20,7 +20,7 @@ use Rattle.batch_chart.specs.Running.{IsLaid}
 use Rattle.batch_chart.proofs.Stepping.{node-got}
 
 abbrev no_entry : Node
-no_entry = record { kind = kind.Skip; end = 0 }
+no_entry = record { kind = kind.Skip; end = 0; parent = 0 }
 
 abbrev no_node : nodes.Node
 no_node = record { place = []; asked = []; here = skip }
