@@ -15,7 +15,8 @@ use Rattle.batch_model.specs.Standing.{IsRestOf, IsBranch, AreBranches, IsChosen
 use Rattle.batch_model.proofs.Members.{Has-split}
 use Rattle.batch_chart.specs.NodesOf.{nodes_of, node_at, place_at, step_at, task_at, step_of, task_of}
 use Rattle.batch_chart.proofs.Numbering.{Sits, sits-append, sits-self, order-at}
-use Rattle.batch_chart.proofs.Stepping.{get-or, all-has}
+use Rattle.batch_chart.proofs.Stepping.{all-has}
+use Rattle.batch_chart.proofs.NodesStand.{get-or}
 use Rattle.batch_chart.proofs.Found.{acts-all, AllActs}
 use Rattle.batch_chart.specs.Finding.{wants}
 use Rattle.batch_chart.specs.declared.wanted.Wanted.TheVariants as wanted

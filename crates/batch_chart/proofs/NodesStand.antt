@@ -17,10 +17,17 @@ use Rattle.batch_chart.specs.Compiled.{kind_at, StandsOn, StandsActOn, AreStandi
 use Rattle.batch_chart.specs.Needs.{needs_of, needs_to}
 use Rattle.batch_chart.specs.NodesOf.{nodes_of, node_at, step_of, needs_in, needs_of_each, needs_of_choices, phase_named}
 use Rattle.batch_chart.specs.Running.{IsLaid}
-use Rattle.batch_chart.proofs.Stepping.{node-got}
+
+pub get-or : {X : Type 0} (l : List X) (k : ℕ) (d : X) → k < length l → slice_get l k ≡ Some (slice_index_or l k d)
+get-or [] k d h = absurd (omega arith)
+get-or (x ∷ l) zero d h = refl
+get-or (x ∷ l) (suc k) d h = get-or l k d (omega arith)
+
+pub node-got : (ns : List Node) (ds : List Detail) (t : Tree) → IsLaid ns ds t → (k : ℕ) → k < length ns → slice_get (nodes_of t) k ≡ Some (node_at t k)
+node-got ns ds t laid k lt = get-or (nodes_of t) k (record { place = []; asked = []; here = skip }) (omega (arith, laid.count, counted_nodes (0 ∷ []) [] t))
 
 abbrev no_entry : Node
-no_entry = record { kind = kind.Skip; end = 0 }
+no_entry = record { kind = kind.Skip; end = 0; parent = 0 }
 
 abbrev no_node : nodes.Node
 no_node = record { place = []; asked = []; here = skip }

@@ -36,10 +36,10 @@ use Rattle.batch_chart.proofs.Choosing.{chosen-true, chosen-false}
 use Rattle.batch_chart.proofs.Found.{nothing, numbered-acts, acts-all}
 use Rattle.batch_chart.proofs.Gravest.{gravest_states, gravest-is}
 use Rattle.batch_chart.proofs.Joining.{some_batch, no-live, known}
-use Rattle.batch_chart.proofs.NodesStand.{node-stands}
+use Rattle.batch_chart.proofs.NodesStand.{node-got, node-stands}
 use Rattle.batch_chart.proofs.Numbering.{told, has-entry, if-begun, either, if-turning}
 use Rattle.batch_chart.proofs.StepsOf.{steps-of, own_step, step_in, unreached, step-found}
-use Rattle.batch_chart.proofs.Stepping.{Fits, node-got, entry-at, entry-undone, act-place, all-has}
+use Rattle.batch_chart.proofs.Stepping.{Fits, entry-at, entry-undone, act-place, all-has}
 use Rattle.batch_chart.proofs.Waiting.{carries}
 
 some-nothing : (o : Option ℕ) → nothing o ≡ not (is_some o)

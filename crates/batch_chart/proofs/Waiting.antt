@@ -37,7 +37,8 @@ use Rattle.batch_chart.proofs.Stepping.{Fits}
 use Rattle.batch_chart.proofs.Choosing.{chosen-true, chosen-false}
 use Rattle.batch_chart.proofs.Found.{numbered-acts}
 use Rattle.batch_chart.proofs.Numbering.{order-at}
-use Rattle.batch_chart.proofs.Stepping.{node-got, number-at-place, act-place, entry-undone}
+use Rattle.batch_chart.proofs.Stepping.{number-at-place, act-place, entry-undone}
+use Rattle.batch_chart.proofs.NodesStand.{node-got}
 use Rattle.batch_chart.proofs.Joining.{known, first-has}
 
 -- Each act among the nodes carries the place of its node

@@ -1,0 +1,132 @@
+-- Going on along the path to the root is going on with the whole chart.
+use Rattle.std.proofs.Common.{◌≡◌, ◌⊎◌, inl, inr, ◌<◌, ◌≤◌, ℕ, ◌+◌, List, length, true, arith, refl, sym, ◌∙◌, subst, ap, length-set}
+use Rattle.std.specs.Prelude.{slice_set}
+use Rattle.batch_recipe.specs.Conditions.{ValueList}
+use Rattle.batch_recipe.specs.Tree.{Tree, act, skip, seq, par, sel, loop}
+use Rattle.batch_model.specs.Rest.{in_par, done, is_done, advance}
+use Rattle.batch_chart.specs.declared.node.Node.{Node}
+use Rattle.batch_chart.specs.declared.node.Detail.{Detail}
+use Rattle.batch_chart.specs.declared.stage.Stage.{Stage}
+use Rattle.batch_chart.specs.declared.stage.Stage.TheVariants.{Finished, Freeing}
+use Rattle.batch_chart.specs.Advancing.{HasAdvanced}
+use Rattle.batch_chart.specs.Climbing.{IsRisen, HasStopped, HasRisen}
+use Rattle.batch_chart.specs.Compiled.{end_at, Stands, IsCompiled}
+use Rattle.batch_chart.specs.Freeing.{HasFinished}
+use Rattle.batch_chart.specs.Meaning.{meaning, meaning_below, meaning_each, act_as, loop_as, branch, chosen, AgreeOutside}
+use Rattle.batch_chart.specs.Parents.{IsAbove, parent_at}
+use Rattle.batch_chart.specs.Running.{IsLaid, SomeLives}
+use Rattle.batch_chart.specs.Stages.{stage_at, is_finished, is_begun, turns_of}
+use Rattle.batch_chart.specs.Told.{AreTold}
+use Rattle.batch_chart.proofs.Agreeing.{stage-set_same, stage-set_other}
+use Rattle.batch_chart.proofs.Likeness.{told-after}
+use Rattle.batch_chart.proofs.Choosing.{chosen-false}
+use Rattle.batch_chart.proofs.Lifted.{lifted}
+use Rattle.batch_chart.proofs.Reached.{within-set}
+use Rattle.batch_chart.proofs.Standing.{count-pos, some-stands, stood}
+use Rattle.batch_chart.proofs.Stepping.{all-told}
+use Rattle.batch_chart.proofs.Telling.{finished-means, told-finished, told-one, told-part, told-same, nests, nests-below}
+
+module _ (ns : List Node) (ds : List Detail) (t : Tree) (laid : IsLaid ns ds t) where
+  root-end : end_at ns 0 ≡ length ns
+  root-end = omega (arith, (stood ns ds 0 t laid.stands).end, laid.count)
+
+  pub above-each : (n : ℕ) → 0 < n → n < length ns → IsAbove ns (parent_at ns n) n
+  above-each n a b = laid.parents n a b
+
+  pub some-at : (ys : List Stage) (n : ℕ) → length ys ≡ length ns → n < length ns → IsCompiled ns ds ys n
+  some-at ys n l lt = (l, some-stands ns ds n t 0 laid.stands (omega arith) (omega (arith, laid.count)))
+
+  module _ (vs : ValueList) (xs ws : List Stage) where
+    -- nothing is left of the whole chart
+    pub risen-top : (n : ℕ) (ys : List Stage) → n ≡ 0 → IsRisen ns ds vs xs ws n ys → HasRisen ns ds vs ws ys
+    risen-top n ys e r =
+        let a : HasAdvanced ns ds vs 0 ws ys true = subst (λ z. HasAdvanced ns ds vs z ws ys true) e r.advanced in
+        let b : AreTold ns ds 0 (end_at ns 0) ys = subst (λ z. AreTold ns ds z (end_at ns z) ys) e r.below in
+        record { finished = true; advanced = a; told = subst (λ z. AreTold ns ds 0 z ys) root-end b }
+
+    -- something is left of it
+    pub risen-stop : (p : ℕ) (ys : List Stage) → p < length ns → HasStopped ns ds vs xs ws p ys → HasRisen ns ds vs ws ys
+    risen-stop p ys lt r =
+        let at = some-stands ns ds p t 0 laid.stands (omega arith) (omega (arith, laid.count)) in
+        let end = (stood ns ds p at.0 at.1).end in
+        let below : p < end_at ns p = omega (arith, end, count-pos at.0) in
+        let fits : end_at ns p ≤ length ns = omega (arith, end, (stood ns ds p at.0 at.1).fits) in
+        let kept : is_finished (stage_at ys p) ≡ is_finished (stage_at xs p) = r.kept ∙ ap is_finished r.stage in
+        let told : AreTold ns ds 0 (length ns) ys = told-after ns ds p (length ns) xs ys both kept below fits r.told r.below in
+        let root : 0 < length ns = omega arith in
+        let went : (c : Tree) → Stands ns ds 0 c → meaning c 0 ys ≡ advance vs (meaning c 0 ws) =
+        λ c s. lifted ns ds vs p ws ys r.advanced.outside r.kept (λ d q. (r.advanced.means d q).0) c 0 s (inl (omega arith)) (told 0 c (omega arith) root s).advanced in
+        record {
+          finished = is_finished (stage_at ys 0);
+          advanced = record {
+            means = λ c s. (went c s, (told 0 c (omega arith) root s).finished ∙ ap is_done (went c s));
+            own = refl;
+            outside = outer fits;
+          };
+          told = told;
+        }
+      where
+        both : AgreeOutside p (end_at ns p) xs ys
+        both k q = r.advanced.outside k q ∙ r.same k q
+
+        outer : end_at ns p ≤ length ns → AgreeOutside 0 (end_at ns 0) ws ys
+        outer fits k (inl q) = absurd (omega arith)
+        outer fits k (inr q) = r.advanced.outside k (inr (omega (arith, root-end)))
+
+-- an act that has ended and holds nothing is no more than a finished one
+
+freed-means : (c : Tree) (n : ℕ) (xs : List Stage) → stage_at xs n ≡ Freeing 0 → meaning c n xs ≡ done
+freed-means (act s w) n xs e = ap (λ x. act_as s w (meaning_below w (n + 1) xs) x) e
+freed-means skip n xs e = refl
+freed-means (seq ts) n xs e = chosen-false (is_begun (stage_at xs n)) (branch ts (n + 1) xs) done (ap is_begun e)
+freed-means (par ts) n xs e = chosen-false (is_begun (stage_at xs n)) (in_par (meaning_each ts (n + 1) xs)) done (ap is_begun e)
+freed-means (sel ch) n xs e = chosen-false (is_begun (stage_at xs n)) (chosen ch (n + 1) xs) done (ap is_begun e)
+freed-means (loop k p body) n xs e = ap (λ x. loop_as (turns_of x) p body (meaning body (n + 1) xs)) e
+
+module _ (ns : List Node) (ds : List Detail) (vs : ValueList) (xs : List Stage) (lives : SomeLives ns ds xs) (k : ℕ) (lt : k < length ns) where
+  pub as-many : length xs ≡ length ns
+  as-many = lives.2.fits ∙ sym lives.1.count
+
+  at-k : (c : Tree) × Stands ns ds k c
+  at-k = some-stands ns ds k lives.0 0 lives.1.stands (omega arith) (omega (arith, lives.1.count))
+
+  below-k : k < end_at ns k
+  below-k = omega (arith, (stood ns ds k at-k.0 at-k.1).end, count-pos at-k.0)
+
+  inside : k < length xs
+  inside = omega (arith, as-many)
+
+  risen : IsRisen ns ds vs xs (slice_set xs k (Freeing 0)) k (slice_set xs k Finished)
+  risen =
+      let is : stage_at (slice_set xs k Finished) k ≡ Finished = stage-set_same xs k Finished inside in
+      let was : stage_at (slice_set xs k (Freeing 0)) k ≡ Freeing 0 = stage-set_same xs k (Freeing 0) inside in
+      let told = all-told ns ds lives.0 lives.1 xs lives.2 in
+      let fits : end_at ns k ≤ length ns = omega (arith, (stood ns ds k at-k.0 at-k.1).end, (stood ns ds k at-k.0 at-k.1).fits) in
+      record {
+        before = as-many;
+        after = length-set xs k (Freeing 0) ∙ as-many;
+        told = told;
+        same = λ j q. stage-set_other xs k j (Freeing 0) (apart j q);
+        left = ap is_finished was;
+        advanced = record {
+          means = λ c s. (
+            finished-means c k (slice_set xs k Finished) is ∙ sym (ap (advance vs) (freed-means c k (slice_set xs k (Freeing 0)) was)),
+            sym (ap (λ z. is_done (advance vs z)) (freed-means c k (slice_set xs k (Freeing 0)) was)),
+          );
+          own = ap is_finished is;
+          outside = λ j q. stage-set_other xs k j Finished (apart j q) ∙ sym (stage-set_other xs k j (Freeing 0) (apart j q));
+        };
+        below =
+            told-one ns ds k (end_at ns k) (slice_set xs k Finished) (λ c s. told-finished c k (slice_set xs k Finished) is)
+            (told-same ns ds (k + 1) (end_at ns k) xs (slice_set xs k Finished) (nests-below ns ds k (k + 1) (end_at ns k) (omega arith) (nests ns ds k at-k.0 at-k.1)) (within-set xs k (end_at ns k) Finished)
+            (told-part ns ds 0 (length ns) (k + 1) (end_at ns k) xs (omega arith) fits told));
+      }
+    where
+      apart : (j : ℕ) → (j < k) ⊎ (end_at ns k ≤ j) → (j ≡ k → ⊥)
+      apart j (inl q) = λ e. absurd (omega arith)
+      apart j (inr q) = λ e. absurd (omega (arith, below-k))
+
+  pub finishes : (ys : List Stage) → length ys ≡ length xs → ((us ws : List Stage) → IsRisen ns ds vs us ws k (slice_set xs k Finished) → HasRisen ns ds vs ws ys) → HasFinished ns ds vs k xs ys
+  finishes ys l h =
+      let r = h xs (slice_set xs k (Freeing 0)) risen in
+      record { fits = l; finished = r.finished; advanced = r.advanced; told = r.told }

@@ -1,0 +1,51 @@
+-- private: what going on from a finished node upwards makes of the stages.
+use Rattle.std.specs.Prelude.{◌≡◌, ℕ, ◌+◌, List, length, Bool, true, false}
+use Rattle.batch_recipe.specs.Conditions.{ValueList}
+use Rattle.batch_recipe.specs.Nodes.{node_count}
+use Rattle.batch_recipe.specs.Tree.{Trees, no_trees, tree}
+use Rattle.batch_chart.specs.declared.node.Node.{Node}
+use Rattle.batch_chart.specs.declared.node.Detail.{Detail}
+use Rattle.batch_chart.specs.declared.stage.Stage.{Stage}
+use Rattle.batch_chart.specs.Advancing.{HasAdvanced}
+use Rattle.batch_chart.specs.Compiled.{end_at, AreStanding}
+use Rattle.batch_chart.specs.Meaning.{AgreeOutside}
+use Rattle.batch_chart.specs.Stages.{stage_at, is_finished}
+use Rattle.batch_chart.specs.Told.{AreTold}
+
+-- all trees of the row from n on are finished by their stages
+abbrev pub all_finished : Trees → ℕ → List Stage → Bool
+all_finished no_trees n xs = true
+all_finished (tree c ts) n xs = elim (is_finished (stage_at xs n)) [ true ↦ all_finished ts (n + node_count c) xs | false ↦ false ]
+
+pub record AreFinished (ns : List Node) (n m : ℕ) (xs : List Stage) (result : Bool) : Type 0 where
+  pub means : (ds : List Detail) (ts : Trees) → AreStanding ns ds n m ts → result ≡ all_finished ts n xs
+
+-- an act below n has been finished, by which the stages xs have come to ws; the tree at n has gone on from these to ys, and nothing is left of it
+pub record IsRisen (ns : List Node) (ds : List Detail) (vs : ValueList) (xs ws : List Stage) (n : ℕ) (ys : List Stage) : Type 0 where
+  pub before : length xs ≡ length ns
+  pub after : length ws ≡ length ns
+  pub told : AreTold ns ds 0 (length ns) xs
+  pub same : AgreeOutside n (end_at ns n) xs ws
+  pub left : is_finished (stage_at ws n) ≡ false
+  pub advanced : HasAdvanced ns ds vs n ws ys true
+  pub below : AreTold ns ds n (end_at ns n) ys
+
+-- or something is left of it, or it isn't reached
+pub record HasStopped (ns : List Node) (ds : List Detail) (vs : ValueList) (xs ws : List Stage) (n : ℕ) (ys : List Stage) : Type 0 where
+  pub finished : Bool
+  pub told : AreTold ns ds 0 (length ns) xs
+  pub same : AgreeOutside n (end_at ns n) xs ws
+  pub stage : stage_at ws n ≡ stage_at xs n
+  pub kept : is_finished (stage_at ys n) ≡ is_finished (stage_at ws n)
+  pub advanced : HasAdvanced ns ds vs n ws ys finished
+  pub below : AreTold ns ds n (end_at ns n) ys
+
+abbrev pub HasPassed : List Node → List Detail → ValueList → List Stage → List Stage → ℕ → List Stage → Bool → Type 0
+HasPassed ns ds vs xs ws n ys true = IsRisen ns ds vs xs ws n ys
+HasPassed ns ds vs xs ws n ys false = HasStopped ns ds vs xs ws n ys
+
+-- the whole chart has gone on
+pub record HasRisen (ns : List Node) (ds : List Detail) (vs : ValueList) (ws ys : List Stage) : Type 0 where
+  pub finished : Bool
+  pub advanced : HasAdvanced ns ds vs 0 ws ys finished
+  pub told : AreTold ns ds 0 (length ns) ys
