@@ -1,9 +1,15 @@
 -- A list that goes round: its claims leave it in turn, and those that stay join its end again.
-use Rattle.std.proofs.Common.{ℕ, ◌≡◌, ◌+◌, ◌-◌, ◌<◌, ◌≤◌, List, [], ◌∷◌, ◌++◌, length, get_or, take, drop, sym, ap, ◌∙◌, arith, true, false, not, filter}
-use Rattle.std.proofs.lemmas.List.{drop_more, drop_all, take_more, take_all, length-append, length-drop, length-set, get_or-set_same, set-set, append_assoc, append-nil}
+use Rattle.std.proofs.Common.{ℕ, ◌≡◌, ◌+◌, ◌-◌, ◌<◌, ◌≤◌, List, [], ◌∷◌, ◌++◌, length, get_or, take, drop, refl, sym, ap, ◌∙◌, arith, Bool, true, false, not, filter}
+use Rattle.std.specs.Prelude.{◌||◌}
+use Rattle.std.specs.List.{list_any}
+use Rattle.std.proofs.lemmas.List.{drop_more, drop_all, take_more, take_all, length-append, length-drop, length-set, get_or-set_same, set-set, set-get_or, append_assoc, append-nil}
 use Rattle.std.proofs.lemmas.List.Elements.{filter-append}
 use Rattle.batch_arbiter.specs.Allocation.{Claim, is_of_batch}
 use Rattle.batch_arbiter.specs.Linked.{Lists, list_at, with_list}
+
+neither : (a b : Bool) → a || b ≡ false → (a ≡ false) × (b ≡ false)
+neither true b e = absurd (let no : ⊥ = cc in no)
+neither false b e = (refl, e)
 
 abbrev pub staying : ℕ → List Claim → List Claim
 staying batch claims = filter (λ c. not (is_of_batch batch c)) claims
@@ -98,3 +104,27 @@ rotated-some p s k batch i known lt now =
     let here : list_at s k ≡ drop i (list_at p k) ++ staying batch (take i (list_at p k)) =
     ap (λ q. list_at q k) now ∙ list-with p k (p.room + leaving batch (take i (list_at p k))) (drop i (list_at p k) ++ staying batch (take i (list_at p k))) known in
     omega (arith, ap length here, length-append (drop i (list_at p k)) (staying batch (take i (list_at p k))), length-drop i (list_at p k))
+
+-- a list without a claim of the batch stays as it is
+pub none-leaves : (p : Lists) (k batch : ℕ) → list_any (is_of_batch batch) (list_at p k) ≡ false → p ≡ with_list p k (staying batch (list_at p k)) (p.room + leaving batch (list_at p k))
+none-leaves p k batch none =
+    let stays : staying batch (list_at p k) ≡ list_at p k = all_stay (list_at p k) none in
+    let leaves : leaving batch (list_at p k) ≡ 0 = none_leave (list_at p k) none in
+    let room : p.room + leaving batch (list_at p k) ≡ p.room = omega (arith, leaves) in
+    sym
+    (ap (λ cs. with_list p k cs (p.room + leaving batch (list_at p k))) stays
+    ∙ ap (λ n. with_list p k (list_at p k) n) room
+    ∙ ap (λ ls. record { lists = ls; room = p.room }) (set-get_or p.lists k [])
+    )
+  where
+    all_stay : (cs : List Claim) → list_any (is_of_batch batch) cs ≡ false → staying batch cs ≡ cs
+    all_stay [] e = refl
+    all_stay (c ∷ cs) e =
+        let both : (is_of_batch batch c ≡ false) × (list_any (is_of_batch batch) cs ≡ false) = neither (is_of_batch batch c) (list_any (is_of_batch batch) cs) e in
+        rw both.0 (ap (λ xs. c ∷ xs) (all_stay cs both.1))
+
+    none_leave : (cs : List Claim) → list_any (is_of_batch batch) cs ≡ false → leaving batch cs ≡ 0
+    none_leave [] e = refl
+    none_leave (c ∷ cs) e =
+        let both : (is_of_batch batch c ≡ false) × (list_any (is_of_batch batch) cs ≡ false) = neither (is_of_batch batch c) (list_any (is_of_batch batch) cs) e in
+        rw both.0 (none_leave cs both.1)

@@ -1,5 +1,6 @@
 //! The pool.
 ghost use Rattle.std.specs.Prelude.{◌≡◌, ◌+◌, ◌-◌, ◌<◌, ◌≤◌, ◌^◌, ◌++◌, ◌∷◌, [], ℕ, List, length, map, filter, not, drop, replicate, slice_get, option_map, Option, Some, None, MatchOption, IfSome, IfNone, IfOk, IsOk, OnOk, OnErr, Bool, true, false, vec_len, vec_capacity};
+ghost use Rattle.std.specs.List.{list_any};
 ghost use Rattle.batch_arbiter.specs.Allocation.{is_claim, is_of_batch, without_first};
 ghost use Rattle.batch_arbiter.specs.Linked.{claim_of, claims_of, at, list_at, with_list, IsSomeList, IsBefore, HasNone, IsRemoved, IsGrown};
 
@@ -130,13 +131,24 @@ impl Pool {
         self.lists[list].len
     }
 
-    /// All claims of the batch leave a list. It goes round once, and each claim that stays joins its end again.
+    /// Whether a list has a claim of the batch.
+    fn has_batch(&self, list: usize, batch: u64) -> bool
+        requires { list < length self.now.lists }
+        ensures { result ≡ list_any (is_of_batch batch) (list_at self.now list) }
+    {
+        any_of_batch(&self.entries, self.lists[list], batch)
+    }
+
+    /// All claims of the batch leave a list. If it has any it goes round once: each claim that stays joins its end again.
     pub fn remove_batch(&mut self, list: usize, batch: u64)
         requires { list < length self.old.lists }
         ensures { self.new ≡ with_list self.old list
             (filter (λ c. not (is_of_batch batch c)) (list_at self.old list))
             (self.old.room + length (filter (is_of_batch batch) (list_at self.old list))) }
     {
+        if !self.has_batch(list, batch) {
+            return;
+        }
         for _ in 0..self.len(list) {
             let claim = self.take_first(list);
             if claim.batch != batch {
@@ -201,6 +213,22 @@ impl Pool {
         self.room = n;
         Ok(())
     }
+}
+
+/// Whether a claim of the list is the batch's.
+fn any_of_batch(entries: &[Entry], ends: Ends, batch: u64) -> bool
+    requires { IsSomeList entries.now ends }
+    ensures { result ≡ list_any (is_of_batch batch) (claims_of entries.now ends) }
+{
+    let mut at = ends.first;
+    for _ in 0..ends.len {
+        let entry = entries[at as usize];
+        if entry.batch == batch {
+            return true;
+        }
+        at = entry.next;
+    }
+    false
 }
 
 /// The number of the entry before the first one of the act, which isn't the list's first. None where the act has none.
