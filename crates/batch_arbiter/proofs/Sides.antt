@@ -1,0 +1,125 @@
+-- The lists of the pool as shares and lines: what an edit of one list does to the allocation.
+use Rattle.std.proofs.Common.{ℕ, ◌≡◌, ◌≢◌, ◌+◌, ◌-◌, ◌<◌, ◌≤◌, List, [], ◌∷◌, ◌++◌, length, take, drop, refl, sym, ap, ◌∙◌, subst, arith, Bool, true, false, cond, set, Option, Some, None, inl, inr}
+use Rattle.std.specs.Prelude.{nat_le, slice_index, replicate}
+use Rattle.std.proofs.lemmas.Bool.{cases_eq, leb-true}
+use Rattle.std.proofs.lemmas.List.{length-set, get_or-set_same, get_or-set_other, get_or-take, get_or-drop, take-set-le, drop-set-lt, drop-set-add, take-replicate, drop-replicate}
+use Rattle.std.proofs.lemmas.List.Sums.{sum_by_push}
+use Rattle.std.proofs.Math.Seq.{take-set-lt}
+use Rattle.batch_arbiter.specs.Allocation.{Claim, Allocation, is_claim, held_units, without_first, shares_of, line_of, next_in, next_grant, idle, asked, granted, released}
+use Rattle.batch_arbiter.specs.Linked.{Lists, list_at, with_list}
+use Rattle.batch_arbiter.specs.Standing.{seen, IsSound}
+
+pub shares-seen : (capacities : List ℕ) (p : Lists) (r : ℕ) → r < length capacities → shares_of (seen capacities p) r ≡ list_at p r
+shares-seen capacities p r h = get_or-take (length capacities) p.lists r [] h
+
+pub line-seen : (capacities : List ℕ) (p : Lists) (r : ℕ) → line_of (seen capacities p) r ≡ list_at p (length capacities + r)
+line-seen capacities p r = get_or-drop (length capacities) p.lists r []
+
+-- another list of shares
+pub seen-share : (capacities : List ℕ) (p : Lists) (r room : ℕ) (claims : List Claim) → r < length capacities
+    → seen capacities (with_list p r claims room) ≡ record (seen capacities p) { shares = set (seen capacities p).shares r claims; room = room }
+seen-share capacities p r room claims h =
+    ap (λ xs. record { capacities = capacities; shares = xs; lines = drop (length capacities) (set p.lists r claims); room = room }) (take-set-lt (length capacities) p.lists r claims h)
+    ∙ ap (λ xs. record { capacities = capacities; shares = set (take (length capacities) p.lists) r claims; lines = xs; room = room }) (drop-set-lt (length capacities) p.lists r claims h)
+
+-- another line
+pub seen-line : (capacities : List ℕ) (p : Lists) (r room : ℕ) (claims : List Claim)
+    → seen capacities (with_list p (length capacities + r) claims room) ≡ record (seen capacities p) { lines = set (seen capacities p).lines r claims; room = room }
+seen-line capacities p r room claims =
+    ap (λ xs. record { capacities = capacities; shares = xs; lines = drop (length capacities) (set p.lists (length capacities + r) claims); room = room }) (take-set-le (length capacities) p.lists (length capacities + r) claims (omega arith))
+    ∙ ap (λ xs. record { capacities = capacities; shares = take (length capacities) p.lists; lines = xs; room = room }) (drop-set-add (length capacities) p.lists r claims)
+
+pub seen-ask : (capacities : List ℕ) (p : Lists) (r : ℕ) (c : Claim)
+    → seen capacities (with_list p (length capacities + r) (list_at p (length capacities + r) ++ c ∷ []) (p.room - 1)) ≡ asked r c (seen capacities p)
+seen-ask capacities p r c =
+    seen-line capacities p r (p.room - 1) (list_at p (length capacities + r) ++ c ∷ [])
+    ∙ ap (λ cs. record (seen capacities p) { lines = set (seen capacities p).lines r (cs ++ c ∷ []); room = p.room - 1 }) (sym (line-seen capacities p r))
+
+pub seen-release : (capacities : List ℕ) (p : Lists) (r batch node : ℕ) → r < length capacities
+    → seen capacities (with_list p r (without_first (is_claim batch node) (list_at p r)) (p.room + 1)) ≡ released r batch node (seen capacities p)
+seen-release capacities p r batch node h =
+    seen-share capacities p r (p.room + 1) (without_first (is_claim batch node) (list_at p r)) h
+    ∙ ap (λ cs. record (seen capacities p) { shares = set (seen capacities p).shares r (without_first (is_claim batch node) cs); room = p.room + 1 }) (sym (shares-seen capacities p r h))
+
+-- nobody holds or waits for anything
+pub seen-new : (capacities : List ℕ) (p : Lists) (m : ℕ) → m ≡ length capacities + length capacities → p ≡ record { lists = replicate m []; room = 0 } → seen capacities p ≡ idle capacities
+seen-new capacities p m twice new =
+    let less : m - length capacities ≡ length capacities = omega arith in
+    ap (seen capacities) new
+    ∙ ap (λ xs. record { capacities = capacities; shares = xs; lines = drop (length capacities) (replicate m []); room = 0 }) (take-replicate (length capacities) m [] (omega arith))
+    ∙ ap (λ xs. record { capacities = capacities; shares = replicate (length capacities) []; lines = xs; room = 0 }) (drop-replicate (length capacities) m [] ∙ ap (λ n. replicate n []) less)
+
+-- what is granted next is free
+next-free : (capacity : ℕ) (shares line : List Claim) (c : Claim) → next_in capacity shares line ≡ Some c → held_units shares + c.units ≤ capacity
+next-free capacity shares [] c e = absurd (let no : ⊥ = cc in no)
+next-free capacity shares (d ∷ later) c e = go (nat_le (held_units shares + d.units) capacity) refl e
+  where
+    go : (b : Bool) → nat_le (held_units shares + d.units) capacity ≡ b → ◌≡◌ {A = Option Claim} (cond b (Some d) None) (Some c) → held_units shares + c.units ≤ capacity
+    go true t h =
+        let same : d ≡ c = cc in
+        subst (λ (x : Claim). held_units shares + x.units ≤ capacity) same (leb-true _ _ t)
+    go false t h = absurd (let no : ⊥ = cc in no)
+
+-- the oldest ask leaves its line and joins the shares
+module _ (capacities held : List ℕ) (p q s : Lists) (r : ℕ) (c : Claim) (known : r < length capacities) (sound : IsSound capacities held p) (next : next_grant (seen capacities p) r ≡ Some c) (left : q ≡ with_list p (length capacities + r) (drop 1 (list_at p (length capacities + r))) (p.room + 1)) (joined : s ≡ with_list q r (list_at q r ++ c ∷ []) (q.room - 1)) where
+  same_shares : (k : ℕ) → k < length capacities → list_at q k ≡ list_at p k
+  same_shares k h = ap (λ x. list_at x k) left ∙ get_or-set_other p.lists (length capacities + r) k (drop 1 (list_at p (length capacities + r))) [] (omega arith)
+
+  free : held_units (list_at p r) + c.units ≤ slice_index capacities r
+  free = subst (λ (cs : List Claim). held_units cs + c.units ≤ slice_index capacities r) (shares-seen capacities p r known) (next-free (slice_index capacities r) (shares_of (seen capacities p) r) (line_of (seen capacities p) r) c next)
+
+  pub fits : slice_index held r + c.units ≤ slice_index capacities r
+  fits = omega (arith, free, sound.sums r known)
+
+  pub seen-grant : seen capacities s ≡ granted r (next_grant (seen capacities p) r) (seen capacities p)
+  seen-grant =
+      let room : q.room - 1 ≡ p.room = omega (arith, ap (λ (x : Lists). x.room) left) in
+      let old : list_at q r ≡ shares_of (seen capacities p) r = same_shares r known ∙ sym (shares-seen capacities p r known) in
+      ap (seen capacities) joined
+      ∙ seen-share capacities q r (q.room - 1) (list_at q r ++ c ∷ []) known
+      ∙ ap (λ n. record (seen capacities q) { shares = set (seen capacities q).shares r (list_at q r ++ c ∷ []); room = n }) room
+      ∙ ap (λ cs. record (seen capacities q) { shares = set (seen capacities q).shares r (cs ++ c ∷ []); room = p.room }) old
+      ∙ ap (λ (a : Allocation). record a { shares = set a.shares r (shares_of (seen capacities p) r ++ c ∷ []); room = p.room })
+      (ap (seen capacities) left ∙ seen-line capacities p r (p.room + 1) (drop 1 (list_at p (length capacities + r))))
+      ∙ ap (λ cs. record (seen capacities p) { shares = set (seen capacities p).shares r (shares_of (seen capacities p) r ++ c ∷ []); lines = set (seen capacities p).lines r (drop 1 cs) }) (sym (line-seen capacities p r))
+      ∙ ap (λ o. granted r o (seen capacities p)) (sym next)
+
+  list_r : list_at s r ≡ list_at p r ++ c ∷ []
+  list_r =
+      let many : r < length q.lists = omega (arith, ap (λ (x : Lists). length x.lists) left, length-set p.lists (length capacities + r) (drop 1 (list_at p (length capacities + r))), sound.twice) in
+      ap (λ x. list_at x r) joined ∙ get_or-set_same q.lists r (list_at q r ++ c ∷ []) [] many ∙ ap (λ cs. cs ++ c ∷ []) (same_shares r known)
+
+  list_other : (k : ℕ) → k < length capacities → k ≢ r → list_at s k ≡ list_at p k
+  list_other k h ne = ap (λ x. list_at x k) joined ∙ get_or-set_other q.lists r k (list_at q r ++ c ∷ []) [] ne ∙ same_shares k h
+
+  held_r : slice_index (set held r (slice_index held r + c.units)) r ≡ slice_index held r + c.units
+  held_r = get_or-set_same held r (slice_index held r + c.units) 0 (omega (arith, sound.counts))
+
+  held_other : (k : ℕ) → k ≢ r → slice_index (set held r (slice_index held r + c.units)) k ≡ slice_index held k
+  held_other k ne = get_or-set_other held r k (slice_index held r + c.units) 0 ne
+
+  sum_at : (k : ℕ) → k ≡ r → slice_index (set held r (slice_index held r + c.units)) k ≡ held_units (list_at s k)
+  sum_at k e =
+      ap (slice_index (set held r (slice_index held r + c.units))) e
+      ∙ (let more : held_units (list_at p r ++ c ∷ []) ≡ held_units (list_at p r) + c.units = sum_by_push (λ (x : Claim). x.units) (list_at p r) c in
+      let sum : slice_index (set held r (slice_index held r + c.units)) r ≡ held_units (list_at p r ++ c ∷ []) = omega (arith, held_r, sound.sums r known, more) in
+      sum ∙ ap held_units (sym list_r))
+      ∙ ap (λ x. held_units (list_at s x)) (sym e)
+
+  within_at : (k : ℕ) → k ≡ r → slice_index (set held r (slice_index held r + c.units)) k ≤ slice_index capacities k
+  within_at k e = subst (λ (x : ℕ). slice_index (set held r (slice_index held r + c.units)) x ≤ slice_index capacities x) (sym e) (omega (arith, held_r, fits))
+
+  pub IsSound-grant : IsSound capacities (set held r (slice_index held r + c.units)) s
+  IsSound-grant = record {
+    twice = omega (arith, ap (λ (x : Lists). length x.lists) joined, length-set q.lists r (list_at q r ++ c ∷ []), ap (λ (x : Lists). length x.lists) left, length-set p.lists (length capacities + r) (drop 1 (list_at p (length capacities + r))), sound.twice);
+    counts = length-set held r (slice_index held r + c.units) ∙ sound.counts;
+    sums = λ k h. elim (cases_eq k r) [
+      | inl e ↦ sum_at k e
+      | inr ne ↦ held_other k ne ∙ sound.sums k h ∙ ap held_units (sym (list_other k h ne))
+    ];
+    within = λ k h. elim (cases_eq k r) [
+      | inl e ↦ within_at k e
+      | inr ne ↦ subst (λ (x : ℕ). x ≤ slice_index capacities k) (sym (held_other k ne)) (sound.within k h)
+    ];
+    counted = sound.counted;
+  }

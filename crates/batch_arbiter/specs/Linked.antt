@@ -1,0 +1,119 @@
+-- surface: lists of claims whose entries stand in one pool, each with the number of the next.
+use Rattle.std.specs.Prelude.{ℕ, zero, suc, ◌≡◌, ◌≢◌, ◌+◌, ◌<◌, ◌≤◌, ◌^◌, List, [], ◌∷◌, length, slice_index_or, slice_set, map, sum_by, cond, nat_eq, Bool, true, false, ⊤}
+use Rattle.std.specs.List.{All}
+use Rattle.batch_arbiter.specs.Allocation.{Claim, is_claim, held_units, without_first}
+use Rattle.batch_arbiter.specs.declared.entry.Entry.{Entry}
+use Rattle.batch_arbiter.specs.declared.ends.Ends.{Ends}
+
+-- what a caller sees: each list, and how many claims can still be taken without memory
+pub record Lists : Type 0 where
+  pub lists : List (List Claim)
+  pub room : ℕ
+
+abbrev pub list_at : Lists → ℕ → List Claim
+list_at p k = slice_index_or p.lists k []
+
+-- list k is another one, and there is room for so many
+abbrev pub with_list : Lists → ℕ → List Claim → ℕ → Lists
+with_list p k claims room = record { lists = slice_set p.lists k claims; room = room }
+
+abbrev pub claim_of : Entry → Claim
+claim_of e = record { batch = e.batch; node = e.node; units = e.units }
+
+abbrev pub nowhere : Entry
+nowhere = record { batch = 0; units = 0; next = 0; node = 0 }
+
+abbrev pub at : List Entry → ℕ → Entry
+at entries i = slice_index_or entries i nowhere
+
+abbrev pub no_list : Ends
+no_list = record { first = 0; len = 0; end = 0 }
+
+abbrev pub ends_at : List Ends → ℕ → Ends
+ends_at lists k = slice_index_or lists k no_list
+
+-- the claims of n entries, one after the other
+abbrev pub claims_from : List Entry → ℕ → ℕ → List Claim
+claims_from entries zero first = []
+claims_from entries (suc n) first = claim_of (at entries first) ∷ claims_from entries n (at entries first).next
+
+abbrev pub claims_of : List Entry → Ends → List Claim
+claims_of entries l = claims_from entries l.len l.first
+
+-- what part an entry plays: it ends the free ones, is free, ends a list, or has a claim of a list
+pub data Part : Type 0 where
+  bottom : Part
+  free : Part
+  end_of : ℕ → Part
+  claim_in : ℕ → Part
+
+-- an entry plays another part
+abbrev pub marked : (ℕ → Part) → ℕ → Part → ℕ → Part
+marked parts i part k = cond (nat_eq k i) part (parts k)
+
+-- from the entry first, n entries that play this part are linked one after the other, and the last leads to end
+abbrev pub Leads : Part → (ℕ → Part) → List Entry → ℕ → ℕ → ℕ → Type 0
+Leads part parts entries zero first end = first ≡ end
+Leads part parts entries (suc n) first end =
+    (first < length entries) × (parts first ≡ part) × Leads part parts entries n (at entries first).next end
+
+-- none of these n entries is the entry i
+abbrev pub Avoids : ℕ → List Entry → ℕ → ℕ → Type 0
+Avoids i entries zero first = ⊤
+Avoids i entries (suc n) first = (first ≢ i) × Avoids i entries n (at entries first).next
+
+-- list k is linked from its first entry to its end, an empty entry of its own
+pub record IsList (parts : ℕ → Part) (entries : List Entry) (k : ℕ) (l : Ends) : Type 0 where
+  pub within : l.end < length entries
+  pub ends : parts l.end ≡ end_of k
+  pub linked : Leads (claim_in k) parts entries l.len l.first l.end
+
+-- every list is linked, and so are the free entries
+pub record IsLinkedBy (parts : ℕ → Part) (entries : List Entry) (lists : List Ends) (unused room : ℕ) : Type 0 where
+  pub each : (k : ℕ) → k < length lists → IsList parts entries k (ends_at lists k)
+  pub spare : Leads free parts entries room unused 0
+  pub bottom_at_0 : parts 0 ≡ bottom
+  -- so that no length runs over: the first entry is in no list
+  pub total : sum_by (λ l. l.len) lists + room < length entries
+  pub numbered : length entries ≤ 2 ^ 32
+
+pub record IsLinked (entries : List Entry) (lists : List Ends) (unused room : ℕ) : Type 0 where
+  pub parts : ℕ → Part
+  pub by_parts : IsLinkedBy parts entries lists unused room
+
+-- the number of the entry that stands m places behind the first
+abbrev pub behind : List Entry → ℕ → ℕ → ℕ
+behind entries zero first = first
+behind entries (suc m) first = behind entries m (at entries first).next
+
+-- a list is linked, whatever part its entries play
+pub record IsSomeList (entries : List Entry) (l : Ends) : Type 0 where
+  pub parts : ℕ → Part
+  pub part : Part
+  pub linked : Leads part parts entries l.len l.first l.end
+
+-- the entry m places behind the first is the act's
+abbrev pub is_claim_behind : List Entry → Ends → ℕ → ℕ → ℕ → Bool
+is_claim_behind entries l batch node m = is_claim batch node (claim_of (at entries (behind entries m l.first)))
+
+-- this entry stands before the first one of the act
+pub record IsBefore (entries : List Entry) (l : Ends) (batch node before : ℕ) : Type 0 where
+  pub place : ℕ
+  pub is : before ≡ behind entries place l.first
+  pub within : suc place < l.len
+  pub others : (m : ℕ) → m < suc place → is_claim_behind entries l batch node m ≡ false
+  pub here : is_claim_behind entries l batch node (suc place) ≡ true
+
+-- no claim of the list is the act's
+abbrev pub HasNone : ℕ → ℕ → List Claim → Type 0
+HasNone batch node claims = All (λ c. is_claim batch node c ≡ false) claims
+
+-- the act's first claim, for so many units, has left list k
+pub record IsRemoved (old : Lists) (k batch node units : ℕ) (new : Lists) : Type 0 where
+  pub sum : held_units (list_at old k) ≡ held_units (without_first (is_claim batch node) (list_at old k)) + units
+  pub after : new ≡ with_list old k (without_first (is_claim batch node) (list_at old k)) (old.room + 1)
+
+-- so many entries more are free, and each list is as it was
+abbrev pub IsGrown : List Entry → ℕ → List Entry → ℕ → ℕ → Type 0
+IsGrown old unused new unused' more =
+    (lists : List Ends) (room : ℕ) → IsLinked old lists unused room → IsLinked new lists unused' (room + more) × (map (claims_of new) lists ≡ map (claims_of old) lists)

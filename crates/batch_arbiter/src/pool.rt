@@ -1,0 +1,269 @@
+//! The pool.
+ghost use Rattle.std.specs.Prelude.{◌≡◌, ◌+◌, ◌-◌, ◌<◌, ◌≤◌, ◌^◌, ◌++◌, ◌∷◌, [], ℕ, List, length, map, filter, not, drop, replicate, slice_get, option_map, Option, Some, None, MatchOption, IfSome, IfNone, IfOk, IsOk, OnOk, OnErr, Bool, true, false, vec_len, vec_capacity};
+ghost use Rattle.std.specs.List.{list_any};
+ghost use Rattle.batch_arbiter.specs.Allocation.{is_claim, is_of_batch, without_first};
+ghost use Rattle.batch_arbiter.specs.Linked.{claim_of, claims_of, at, list_at, with_list, IsSomeList, IsBefore, HasNone, IsRemoved, IsGrown};
+
+use crate::ends::Ends;
+use crate::entry::Entry;
+use std::alloc::{AllocError, Global};
+use std::marker::Model;
+
+/// As many as a `u32` numbers.
+const MAX_ENTRIES: usize = 1 << 32;
+
+/// Lists of claims whose entries stand in one table. Only `new` and `reserve` take memory.
+#[derive(Drop)]
+pub struct Pool {
+    /// The first one is never used: the free entries lead to it.
+    entries: Vec<Entry>,
+    lists: Vec<Ends>,
+    /// The number of the first free entry.
+    free: u32,
+    /// How many entries are free.
+    room: usize,
+}
+
+impl Model for Pool {
+    ghost use Rattle.std.specs.Prelude.{map};
+    ghost use Rattle.batch_arbiter.specs.Linked.{Lists, IsLinked, claims_of};
+
+    ghost Value = { Lists };
+
+    ghost view = { λ p. record { lists = map (claims_of p.entries.items) p.lists.items; room = p.room } };
+
+    ghost invariant = { λ p. IsLinked p.entries.items p.lists.items p.free p.room };
+}
+
+impl Pool {
+    /// So many lists without a claim, and no room.
+    pub fn new(alloc: Global, lists: usize) -> Result<Self, AllocError>
+        requires { lists < 2 ^ 31 }
+        ensures { IfOk result (λ p. p ≡ record { lists = replicate lists []; room = 0 }) }
+    {
+        let mut entries = Vec::with_capacity(alloc, lists + 1)?;
+        let mut ends = Vec::with_capacity(alloc, lists)?;
+        entries.push(Entry::EMPTY)?;
+        for list in 0..lists {
+            let end = list as u32 + 1;
+            entries.push(Entry::EMPTY)?;
+            ends.push(Ends {
+                first: end,
+                len: 0,
+                end,
+            })?;
+        }
+        Ok(Self {
+            entries,
+            lists: ends,
+            free: 0,
+            room: 0,
+        })
+    }
+
+    /// How many claims can still be taken.
+    pub fn room(&self) -> usize
+        ensures { result ≡ self.now.room }
+    {
+        self.room
+    }
+
+    /// The first claim of a list.
+    pub fn first(&self, list: usize) -> Option<Entry>
+        requires { list < length self.now.lists }
+        ensures { option_map claim_of result ≡ slice_get (list_at self.now list) 0 }
+    {
+        let ends = self.lists[list];
+        if ends.len == 0 {
+            return None;
+        }
+        Some(self.entries[ends.first as usize])
+    }
+
+    /// A claim joins the end of a list.
+    pub fn push(&mut self, list: usize, claim: Entry)
+        requires known { list < length self.old.lists }
+        requires room { 0 < self.old.room }
+        ensures { self.new ≡ with_list self.old list (list_at self.old list ++ claim_of claim ∷ []) (self.old.room - 1) }
+    {
+        let taken = self.free;
+        let ends = self.lists[list];
+        self.free = self.entries[taken as usize].next;
+        self.entries[ends.end as usize] = Entry {
+            batch: claim.batch,
+            units: claim.units,
+            next: taken,
+            node: claim.node,
+        };
+        self.lists[list] = Ends {
+            first: ends.first,
+            len: ends.len + 1,
+            end: taken,
+        };
+        self.room -= 1;
+    }
+
+    /// The first claim leaves a list that has one.
+    pub fn take_first(&mut self, list: usize) -> Entry
+        requires known { list < length self.old.lists }
+        requires some { 0 < length (list_at self.old list) }
+        ensures value { list_at self.old list ≡ claim_of result ∷ drop 1 (list_at self.old list) }
+        ensures after { self.new ≡ with_list self.old list (drop 1 (list_at self.old list)) (self.old.room + 1) }
+    {
+        let ends = self.lists[list];
+        let taken = self.entries[ends.first as usize];
+        self.entries[ends.first as usize].next = self.free;
+        self.lists[list] = Ends {
+            first: taken.next,
+            len: ends.len - 1,
+            end: ends.end,
+        };
+        self.free = ends.first;
+        self.room += 1;
+        taken
+    }
+
+    /// How many claims a list has.
+    fn len(&self, list: usize) -> u32
+        requires { list < length self.now.lists }
+        ensures { result ≡ length (list_at self.now list) }
+    {
+        self.lists[list].len
+    }
+
+    /// Whether a list has a claim of the batch.
+    fn has_batch(&self, list: usize, batch: u64) -> bool
+        requires { list < length self.now.lists }
+        ensures { result ≡ list_any (is_of_batch batch) (list_at self.now list) }
+    {
+        any_of_batch(&self.entries, self.lists[list], batch)
+    }
+
+    /// All claims of the batch leave a list. If it has any it goes round once: each claim that stays joins its end again.
+    pub fn remove_batch(&mut self, list: usize, batch: u64)
+        requires { list < length self.old.lists }
+        ensures { self.new ≡ with_list self.old list
+            (filter (λ c. not (is_of_batch batch c)) (list_at self.old list))
+            (self.old.room + length (filter (is_of_batch batch) (list_at self.old list))) }
+    {
+        if !self.has_batch(list, batch) {
+            return;
+        }
+        for _ in 0..self.len(list) {
+            let claim = self.take_first(list);
+            if claim.batch != batch {
+                self.push(list, claim);
+            }
+        }
+    }
+
+    /// The first claim of the act leaves a list, and its units are told. None where the act has none there.
+    pub fn remove(&mut self, list: usize, batch: u64, node: u16) -> Option<u32>
+        requires { list < length self.old.lists }
+        ensures some { IfSome result (λ units. IsRemoved self.old list batch node units self.new) }
+        ensures none { IfNone result (HasNone batch node (list_at self.old list)) }
+    {
+        let first = self.first(list)?;
+        if first.is_of(batch, node) {
+            return Some(self.take_first(list).units);
+        }
+        self.remove_later(list, batch, node)
+    }
+
+    /// The same where the first claim of the list is another act's.
+    fn remove_later(&mut self, list: usize, batch: u64, node: u16) -> Option<u32>
+        requires known { list < length self.old.lists }
+        requires later { MatchOption (slice_get (list_at self.old list) 0) ⊥ (λ c. is_claim batch node c ≡ false) }
+        ensures some { IfSome result (λ units. IsRemoved self.old list batch node units self.new) }
+        ensures none { IfNone result (HasNone batch node (list_at self.old list)) }
+    {
+        let ends = self.lists[list];
+        let before = before_act(&self.entries, ends, batch, node)? as usize;
+        let taken = self.entries[before].next;
+        let claim = self.entries[taken as usize];
+        self.entries[before].next = claim.next;
+        self.entries[taken as usize].next = self.free;
+        self.lists[list] = Ends {
+            first: ends.first,
+            len: ends.len - 1,
+            end: ends.end,
+        };
+        self.free = taken;
+        self.room += 1;
+        Some(claim.units)
+    }
+
+    /// More room, where it isn't there already.
+    pub fn reserve(&mut self, n: usize) -> Result<(), AllocError>
+        ensures ok { OnOk result (n ≤ self.new.room) }
+        ensures room { self.old.room ≤ self.new.room }
+        ensures rest { self.new ≡ record self.old { room = self.new.room } }
+        ensures there { n ≤ self.old.room → IsOk result }
+        ensures err { OnErr result (self.new ≡ self.old) }
+    {
+        if n <= self.room {
+            return Ok(());
+        }
+        let more = n - self.room;
+        if more > MAX_ENTRIES - self.entries.len() {
+            return Err(AllocError);
+        }
+        self.entries.reserve(more)?;
+        self.free = add_free(&mut self.entries, self.free, more);
+        self.room = n;
+        Ok(())
+    }
+}
+
+/// Whether a claim of the list is the batch's.
+fn any_of_batch(entries: &[Entry], ends: Ends, batch: u64) -> bool
+    requires { IsSomeList entries.now ends }
+    ensures { result ≡ list_any (is_of_batch batch) (claims_of entries.now ends) }
+{
+    let mut at = ends.first;
+    for _ in 0..ends.len {
+        let entry = entries[at as usize];
+        if entry.batch == batch {
+            return true;
+        }
+        at = entry.next;
+    }
+    false
+}
+
+/// The number of the entry before the first one of the act, which isn't the list's first. None where the act has none.
+fn before_act(entries: &[Entry], ends: Ends, batch: u64, node: u16) -> Option<u32>
+    requires linked { IsSomeList entries.now ends }
+    requires some { 0 < ends.len }
+    requires later { is_claim batch node (claim_of (at entries.now ends.first)) ≡ false }
+    ensures some { IfSome result (λ before. IsBefore entries.now ends batch node before) }
+    ensures none { IfNone result (HasNone batch node (claims_of entries.now ends)) }
+{
+    let mut before = ends.first;
+    for _ in 1..ends.len {
+        let next = entries[before as usize].next;
+        if entries[next as usize].is_of(batch, node) {
+            return Some(before);
+        }
+        before = next;
+    }
+    None
+}
+
+/// More entries before the first free one; the number of what is the first free one then.
+fn add_free(entries: &mut Vec<Entry>, free: u32, more: usize) -> u32
+    requires fits { vec_len entries.old + more ≤ vec_capacity entries.old }
+    requires numbered { vec_len entries.old + more ≤ 2 ^ 32 }
+    ensures { IsGrown entries.old.items free entries.new.items result more }
+{
+    let mut first = free;
+    for _ in 0..more {
+        let entry = Entry {
+            next: first,
+            ..Entry::EMPTY
+        };
+        first = entries.len() as u32;
+        let _ = entries.push(entry);
+    }
+    first
+}
