@@ -89,7 +89,7 @@ module _ (c : Setup) (s : Plant) (b : Model.Batch) (t : Tree) (placed : IsPlaced
       let got : ◌≡◌ {A = Option Need} (Some g.need) (Some (need_at t n.0 g.held)) = sym g.at ∙ ap (λ (z : Step). slice_get z.needs g.held) n.3 ∙ need-got n.0 g.held few in
       (n.0, (n.1, few, has), n.3, n.4, n.2, (let e : g.need ≡ need_at t n.0 g.held = cc in e))
 
-  served-node : (m : Move) (g : Granted c s b m) → (let n = asks-node m g in Served n.0 g.held)
+  pub served-node : (m : Move) (g : Granted c s b m) → (let n = asks-node m g in Served n.0 g.held)
   served-node m g =
       let n = asks-node m g in
       subst₂ (λ (x : Need) (y : Place). is_served c s x (b.number, y) ≡ true) n.5 n.4 g.served

@@ -28,7 +28,7 @@ use Rattle.batch_model.specs.Standing.{IsControl}
 use Rattle.batch_laws.proofs.Clearing.{control-clear}
 use Rattle.batch_laws.proofs.Entries.{name_same}
 use Rattle.batch_verify.specs.ClearedSet.{ClearedSet}
-use Rattle.batch_arbiter.proofs.Positions.{NonePasses, NonePasses-position}
+use Rattle.batch_engine.proofs.Positions.{NonePasses, NonePasses-position}
 use Rattle.batch_chart.specs.NodesOf.{nodes_of, node_at, step_of, step_at, task_of, need_at, no_need, phase_at, phase_in, phase_named}
 use Rattle.batch_engine.specs.Names as Names
 use Rattle.batch_engine.specs.Numbered as Numbers

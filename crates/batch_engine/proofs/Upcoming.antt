@@ -14,7 +14,8 @@ use Rattle.batch_engine.specs.declared.step.Step.{Step}
 use Rattle.batch_engine.specs.declared.step.Step.TheVariants.{Own, Grant}
 use Rattle.batch_engine.specs.View.{EngineView, setup, batch_of, plant_of, tree_of}
 use Rattle.batch_engine.specs.Kept.{IsKept}
-use Rattle.batch_engine.specs.Steps.{IsStep, HasNoMove, IsLeastAt, IsNext}
+use Rattle.batch_engine.specs.Marked.{HasNoMove}
+use Rattle.batch_engine.specs.Steps.{IsStep, IsLeastAt, IsNext}
 use Rattle.batch_engine.proofs.Choosing.{next-first, next-none}
 use Rattle.batch_chart.proofs.Earliest.{own-first-elim}
 use Rattle.batch_engine.proofs.Told.{standing}

@@ -16,6 +16,7 @@ use Rattle.batch_engine.specs.declared.batch.Batch.{Batch}
 use Rattle.batch_engine.specs.declared.line.Line.{Line}
 use Rattle.batch_engine.specs.declared.step.Step.{Step}
 use Rattle.batch_engine.specs.declared.step.Step.TheVariants.{Own, Grant}
+use Rattle.batch_engine.specs.Marked.{HasNoMove}
 use Rattle.batch_engine.specs.Names.{resource_name, phase_name}
 use Rattle.batch_engine.specs.Surface as Surface
 use Rattle.batch_engine.specs.View.{EngineView, setup, batch_of, number_of, plant_of, tree_of}
@@ -54,12 +55,6 @@ IsStep v told (Grant i node resource units) = IsGrantStep v told i node resource
 abbrev pub index_of : Step → ℕ
 index_of (Own i m) = i
 index_of (Grant i node resource units) = i
-
--- the batch at an index has no move
-pub record HasNoMove (v : EngineView) (i : ℕ) : Type 0 where
-  pub batch : Batch
-  pub at : slice_get v.batches i ≡ Some batch
-  pub none : batch_moves (setup v.cleared) (plant_of v) (batch_of v.cleared batch) ≡ []
 
 -- the least move of the batch at an index
 pub record IsLeastAt (v : EngineView) (i : ℕ) (m : Model.Move) : Type 0 where

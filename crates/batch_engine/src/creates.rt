@@ -14,7 +14,7 @@ ghost use Rattle.batch_engine.specs.View.{setup, plant_of, tree_at};
 
 use crate::batch::Batch;
 use crate::bindings::units_for;
-use crate::engine::Engine;
+use crate::control::Control;
 use crate::refusal::Refusal;
 use crate::reply::Reply;
 use batch_chart::Running;
@@ -69,7 +69,7 @@ fn recipe_named(recipes: &[Recipe], name: &Name) -> Option<usize>
         .position(|recipe| recipe.acts.procedure.name == *name)
 }
 
-impl Engine {
+impl Control {
     /// How many needs the acts of all batches have, and those of a further batch of the recipe.
     fn needs_with(&self, recipe: u16) -> usize
         requires known { recipe < length self.now.cleared.recipes }

@@ -1,22 +1,17 @@
 //! The engine.
-use crate::batches::Batches;
-use crate::numbers::RecipeNumbers;
-use batch_arbiter::Arbiter;
-use batch_chart::Compiled;
-use batch_verify::Cleared;
-use std::alloc::Global;
+use crate::control::Control;
+use crate::marks::Marks;
 use std::marker::Model;
 
 /// The engine: a cleared set of recipes, and the batches that are made of it.
+///
+/// It looks for the next move at marked batches alone. A batch is marked by its own moves and events, and where an act of it may
+/// be the next that is served of a resource: after a release or a grant of that resource, and after a stop or an abort.
 #[derive(Drop)]
 pub struct Engine {
-    pub(crate) alloc: Global,
-    pub(crate) cleared: Cleared,
-    pub(crate) charts: Vec<Compiled>,
-    pub(crate) numbers: Vec<RecipeNumbers>,
-    pub(crate) batches: Batches,
-    pub(crate) next_number: u64,
-    pub(crate) arbiter: Arbiter,
+    pub(crate) control: Control,
+    /// Of the indices of batches: one that isn't marked has no move.
+    pub(crate) marks: Marks,
 }
 
 impl Model for Engine {
@@ -26,14 +21,14 @@ impl Model for Engine {
     ghost use Rattle.batch_verify.specs.contracts.cleared.Cleared as cleared_contracts;
     ghost use Rattle.batch_engine.specs.contracts.batch.Batch as batch_contracts;
     ghost use Rattle.batch_engine.specs.contracts.numbers.RecipeNumbers as numbers_contracts;
-    ghost use Rattle.batch_engine.specs.Kept.{IsEngine};
-    ghost use Rattle.batch_engine.specs.View.{EngineView, seen};
+    ghost use Rattle.batch_engine.specs.Marked.{IsMarked};
+    ghost use Rattle.batch_engine.specs.View.{EngineView};
 
     ghost Value = { EngineView };
 
     ghost coded = { Prim.hlevel (codes, batch_contracts.the_row.coded, compiled_contracts.the_row.coded, cleared_contracts.the_row.coded, arbiter_contracts.the_row.coded, numbers_contracts.the_row.coded) };
 
-    ghost view = { λ e. seen e.cleared e.charts.items e.numbers.items e.batches.batches e.next_number e.arbiter };
+    ghost view = { λ e. e.control };
 
-    ghost invariant = { λ e. IsEngine e.batches (seen e.cleared e.charts.items e.numbers.items e.batches.batches e.next_number e.arbiter) };
+    ghost invariant = { λ e. IsMarked e.control e.marks };
 }

@@ -8,7 +8,7 @@ ghost use Rattle.batch_engine.specs.Names.{handed_of, node_of};
 ghost use Rattle.batch_engine.specs.Steps.{IsNeedAt, IsNext, IsNextStep, IsNodeAt, IsOwnStep, IsPhaseAt, IsUnitAt, Tells};
 ghost use Rattle.batch_engine.specs.Surface.{move_of};
 
-use crate::engine::Engine;
+use crate::control::Control;
 use crate::line::Line;
 use crate::numbering::number_on;
 use crate::numbers::{PhaseNumber, ResourceNumber, TaskNumber};
@@ -43,7 +43,7 @@ fn handed(recipe: &Recipe, node: u16, values: &Values) -> [u64; MAX_VALUES]
     }
 }
 
-impl Engine {
+impl Control {
     /// The numbers of the phase that an act of the batch at an index runs. Those of an act that runs none name nothing.
     pub(crate) fn phase_at(&self, index: usize, node: u16) -> PhaseNumber
         requires { IsNodeAt self.now index node }

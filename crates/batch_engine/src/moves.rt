@@ -1,18 +1,14 @@
 //! Making the next move.
-ghost use Rattle.std.specs.Prelude.{◌≡◌, Some, option_map};
+ghost use Rattle.std.specs.Prelude.{Some};
 ghost use Rattle.batch_chart.specs.declared.chart_move.Move.TheVariants as Moves;
-ghost use Rattle.batch_model.specs.Moves.{next};
 ghost use Rattle.batch_engine.specs.Steps.{IsGrantStep, IsNext, IsNextStep, IsNumberAt, IsOwnStep, IsQuiet, MakesNext};
-ghost use Rattle.batch_engine.specs.Surface.{move_of, plant_after};
-ghost use Rattle.batch_engine.specs.View.{setup, plant_of};
 
-use crate::engine::Engine;
-use crate::line::Line;
+use crate::control::Control;
 use crate::step::Step;
 use batch_chart::Move;
 use batch_matrix::State;
 
-impl Engine {
+impl Control {
     /// The batch at an index changes its state.
     fn change_state(&mut self, index: usize, state: State)
         requires { IsOwnStep self.old (IsNext self.old) index (Moves.State state) }
@@ -94,7 +90,7 @@ impl Engine {
     }
 
     /// Makes the next step.
-    fn make(&mut self, step: Step)
+    pub(crate) fn make(&mut self, step: Step)
         requires { IsNextStep self.old (Some step) }
         ensures { MakesNext self.old self.new }
     {
@@ -107,17 +103,5 @@ impl Engine {
                 units,
             } => self.grant(index, node, resource, units),
         }
-    }
-
-    /// Makes the next move, if one is possible.
-    pub fn next_move(&mut self) -> Option<Line>
-        ensures next { option_map (move_of self.old.cleared) result ≡ next (setup self.old.cleared) (plant_of self.old) }
-        ensures plant { plant_of self.new ≡ plant_after self.old.cleared (plant_of self.old) result }
-        ensures cleared { self.new.cleared ≡ self.old.cleared }
-    {
-        let step = self.upcoming()?;
-        let line = self.line_of(step);
-        self.make(step);
-        Some(line)
     }
 }

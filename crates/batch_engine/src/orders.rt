@@ -8,12 +8,12 @@ ghost use Rattle.batch_engine.specs.Answered.{IsAnswered};
 ghost use Rattle.batch_engine.specs.Orders.{EndsAsks, IsOrder, IsOrdered, IsPlain};
 ghost use Rattle.batch_engine.specs.View.{setup, plant_of};
 
-use crate::engine::Engine;
+use crate::control::Control;
 use crate::refusal::Refusal;
 use crate::reply::Reply;
 use batch_matrix::{Command, State, after};
 
-impl Engine {
+impl Control {
     /// Where the batch with this number stands.
     pub(crate) fn index_of(&self, number: u64) -> Option<usize>
         ensures { result ≡ position (λ b. nat_eq b.number number) self.now.batches }

@@ -1,11 +1,13 @@
 //! Choosing the next move.
-ghost use Rattle.std.specs.Prelude.{◌≡◌, ◌<◌, ◌↔◌, Some, None, length, option_map, IsTrue};
+ghost use Rattle.std.specs.Prelude.{◌≡◌, ◌<◌, ◌↔◌, Some, length, option_map, IsTrue};
 ghost use Rattle.batch_arbiter.specs.Allocation.{batch_node, next_grant, resource_count};
-ghost use Rattle.batch_model.specs.Moves.{is_stopped, next};
-ghost use Rattle.batch_engine.specs.Steps.{IsBatchStep, IsFirstGrant, IsNeedAt, IsNextStep, IsNumberAt};
-ghost use Rattle.batch_engine.specs.View.{setup, plant_of};
+ghost use Rattle.batch_model.specs.Moves.{is_stopped};
+ghost use Rattle.batch_engine.specs.Marked.{AreMarked};
+ghost use Rattle.batch_engine.specs.Marking.{IsFirstStep};
+ghost use Rattle.batch_engine.specs.Steps.{IsBatchStep, IsFirstGrant, IsNeedAt, IsNumberAt};
 
-use crate::engine::Engine;
+use crate::control::Control;
+use crate::marks::Marks;
 use crate::step::Step;
 use batch_arbiter::Arbiter;
 use batch_matrix::State;
@@ -28,7 +30,7 @@ fn is_stopped(state: State) -> bool
     matches!(state, State::Stopped | State::Aborted)
 }
 
-impl Engine {
+impl Control {
     /// The number of the resource that an act of the batch at an index needs, and how many units of it.
     pub(crate) fn resource_at(&self, index: usize, node: u16, need: u16) -> (u16, u32)
         requires { IsNeedAt self.now index node need }
@@ -82,22 +84,23 @@ impl Engine {
         })
     }
 
-    /// The next move.
-    pub(crate) fn upcoming(&self) -> Option<Step>
-        ensures { IsNextStep self.now result }
+    /// The next step: that of the first marked batch that has one.
+    pub(crate) fn first_step(&self, marks: &Marks) -> Option<Step>
+        requires { AreMarked self.now marks.now }
+        ensures { IsFirstStep self.now result }
     {
-        for index in 0..self.batches.len() {
+        self.is_kept();
+        let mut from = 0;
+        while let Some(index) = marks.next(from) {
+            // A mark past the last batch is left where batches were removed.
+            if index >= self.len() {
+                return None;
+            }
             if let Some(step) = self.batch_step(index) {
                 return Some(step);
             }
+            from = index + 1;
         }
         None
-    }
-
-    /// Whether no move is possible.
-    pub fn settled(&self) -> bool
-        ensures { IsTrue result ↔ (next (setup self.now.cleared) (plant_of self.now) ≡ None) }
-    {
-        self.upcoming().is_none()
     }
 }

@@ -7,7 +7,7 @@ ghost use Rattle.batch_engine.specs.Answered.{IsAnswered};
 ghost use Rattle.batch_engine.specs.Reports.{IsLiveIn, IsLivePhase};
 ghost use Rattle.batch_engine.specs.View.{setup, plant_of};
 
-use crate::engine::Engine;
+use crate::control::Control;
 use crate::event::PhaseReport;
 use crate::numbers::PhaseNumber;
 use crate::refusal::Refusal;
@@ -39,7 +39,7 @@ fn is_number(number: Option<u16>, unit: u16) -> bool
     }
 }
 
-impl Engine {
+impl Control {
     /// The live phase with this name that the batch at an index runs on the unit with this name: its node and its state.
     fn live_in(&self, index: usize, unit: &Name, phase: &Name) -> Option<(u16, State)>
         requires { index < length self.now.batches }

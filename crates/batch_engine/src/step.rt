@@ -1,4 +1,7 @@
 //! Steps.
+ghost use Rattle.std.specs.Prelude.{◌≡◌};
+ghost use Rattle.batch_engine.specs.Steps.{index_of};
+
 use batch_chart::Move;
 
 /// What the engine does next: a move of a batch's chart, or a grant.
@@ -16,4 +19,15 @@ pub enum Step {
         resource: u16,
         units: u32,
     },
+}
+
+impl Step {
+    /// Where the batch stands that makes it.
+    pub(crate) fn index(self) -> usize
+        ensures { result ≡ index_of self }
+    {
+        match self {
+            Step::Own { index, .. } | Step::Grant { index, .. } => index,
+        }
+    }
 }

@@ -1,0 +1,183 @@
+-- Moves of a batch in two plants that serve the same acts of it.
+use Rattle.std.proofs.Common.{◌≡◌, ⊎_elim, refl, sym, ◌∙◌, ap, subst, subst₂, ℕ, ◌+◌, List, [], ◌∷◌, ◌++◌, Bool, true, false, ◌&&◌, filter_map, Option, Some, None, inl, inr, slice_get}
+use Rattle.std.specs.Prelude.{nat_le}
+use Rattle.std.specs.List.{cons_option}
+use Rattle.std.proofs.lemmas.Bool.{and_parts}
+use Rattle.batch_recipe.specs.Conditions.{Name, same_name}
+use Rattle.batch_recipe.specs.Tree.{Place, Step, Task}
+use Rattle.batch_recipe.specs.declared.need.Need.{Need}
+use Rattle.batch_model.specs.Lists.{Has}
+use Rattle.batch_model.specs.Rest.{Rest, ready, asking, open_act, live, freeing, in_seq, in_par, in_loop, done, acts}
+use Rattle.batch_model.specs.Plant.{Setup, Batch, BatchAct, Share, units_in, Plant, is_same_act, holders}
+use Rattle.batch_model.specs.Moves.{Move, send, state, release, begin, start, end, ask, grant, batch_of, act_move, state_move, batch_moves, is_served, when, after, next, possible}
+use Rattle.batch_model.specs.Runs.{Out, move}
+use Rattle.batch_model.specs.Records.{holders_told, holders_after, without}
+use Rattle.batch_machine.proofs.Falling.{Has-batch_moves}
+use Rattle.batch_machine.proofs.Ordering.{none_least}
+use Rattle.batch_machine.proofs.Telling.{holders_told-last}
+use Rattle.batch_laws.specs.Telling.{IsTold}
+use Rattle.batch_laws.proofs.Members.{flat_map-Has}
+use Rattle.batch_laws.proofs.Entries.{name_same, same_act}
+use Rattle.batch_engine.specs.Marking.{touched}
+
+no-elements : {X : Type 0} (xs : List X) → ((x : X) → Has xs x → ⊥) → xs ≡ []
+no-elements [] h = refl
+no-elements (x ∷ xs) h = absurd (h x (inl refl))
+
+filter_map-Has : {X Y : Type 0} (h : X → Option Y) (xs : List X) (x : X) (y : Y) → Has xs x → h x ≡ Some y → Has (filter_map h xs) y
+filter_map-Has h [] x y m e = absurd m
+filter_map-Has {X = X} {Y = Y} h (z ∷ xs) x y (inl q) e = go (h z) (ap h q ∙ e)
+  where
+    go : (o : Option Y) → o ≡ Some y → Has (cons_option o (filter_map h xs)) y
+    go None f = absurd cc
+    go (Some w) f = inl cc
+filter_map-Has {X = X} {Y = Y} h (z ∷ xs) x y (inr m) e = go (h z) (filter_map-Has h xs x y m e)
+  where
+    go : (o : Option Y) → Has (filter_map h xs) y → Has (cons_option o (filter_map h xs)) y
+    go None f = f
+    go (Some w) f = inr f
+
+module _ (c : Setup) (s : Plant) (b : Batch) where
+  act-Has : (a : Rest) (m : Move) → Has (acts b.rest) a → act_move c s b a ≡ Some m → Has (batch_moves c s b) m
+  act-Has a m j f = go (state_move b) (filter_map-Has (act_move c s b) (acts b.rest) a m j f)
+    where
+      go : (o : Option Move) → Has (filter_map (act_move c s b) (acts b.rest)) m
+          → Has (elim o [ None ↦ filter_map (act_move c s b) (acts b.rest) | Some l ↦ l ∷ filter_map (act_move c s b) (acts b.rest) ]) m
+      go None h = h
+      go (Some l) h = inr h
+
+  state-Has : (m : Move) → state_move b ≡ Some m → Has (batch_moves c s b) m
+  state-Has m e = go (state_move b) e
+    where
+      go : (o : Option Move) → o ≡ Some m
+          → Has (elim o [ None ↦ filter_map (act_move c s b) (acts b.rest) | Some l ↦ l ∷ filter_map (act_move c s b) (acts b.rest) ]) m
+      go None f = absurd cc
+      go (Some l) f = inl cc
+
+-- an act of the batch that is served in t was served in s
+abbrev pub ServesBefore : Setup → Plant → Plant → Batch → Type 0
+ServesBefore c s t b =
+    (step : Step) (task : Task) (held : ℕ) (need : Need) → Has (acts b.rest) (asking step task held) → slice_get step.needs held ≡ Some need
+    → is_served c t need (b.number, step.place) ≡ true → is_served c s need (b.number, step.place) ≡ true
+
+-- what an act can do in t it can do in s, where it isn't newly served
+act-before : (c : Setup) (s t : Plant) (b : Batch) → ServesBefore c s t b → (a : Rest) → Has (acts b.rest) a → (m : Move) → act_move c t b a ≡ Some m → act_move c s b a ≡ Some m
+act-before c s t b h (ready p w k) i m e = e
+act-before c s t b h (asking p w k) i m e = go (slice_get p.needs k) refl e
+  where
+    pick : (x y : Bool) (g : Move) → (x ≡ true → y ≡ true) → when x g ≡ Some m → when y g ≡ Some m
+    pick true true g f q = q
+    pick true false g f q = absurd (let z : ◌≡◌ {A = Bool} false true = f refl in cc)
+    pick false y g f q = absurd cc
+
+    go : (o : Option Need) → slice_get p.needs k ≡ o
+        → ◌≡◌ {A = Option Move} (elim o [ None ↦ None | Some r ↦ when (is_served c t r (b.number, p.place)) (grant b.number p.place r) ]) (Some m)
+        → ◌≡◌ {A = Option Move} (elim o [ None ↦ None | Some r ↦ when (is_served c s r (b.number, p.place)) (grant b.number p.place r) ]) (Some m)
+    go None f q = absurd cc
+    go (Some r) f q = pick (is_served c t r (b.number, p.place)) (is_served c s r (b.number, p.place)) (grant b.number p.place r) (h p w k r i f) q
+act-before c s t b h (open_act p r) i m e = e
+act-before c s t b h (live p x y) i m e = e
+act-before c s t b h (freeing p k) i m e = e
+act-before c s t b h (in_seq r cs) i m e = e
+act-before c s t b h (in_par rs) i m e = e
+act-before c s t b h (in_loop n q body r) i m e = e
+act-before c s t b h done i m e = e
+
+-- a batch without a move has none where none of its acts is newly served
+pub lines-alone : (c : Setup) (s t : Plant) (b : Batch) → ServesBefore c s t b → batch_moves c s b ≡ [] → batch_moves c t b ≡ []
+lines-alone c s t b h none =
+    no-elements (batch_moves c t b) (λ m i. gone m (⊎_elim
+    (λ e. state-Has c s b m e)
+    (λ k. act-Has c s b k.0 m k.1 (act-before c s t b h k.0 k.1 m k.2))
+    (Has-batch_moves c t b m i)))
+  where
+    gone : (m : Move) → Has (batch_moves c s b) m → ⊥
+    gone m i = subst (λ ms. Has ms m) none i
+
+-- no batch of a settled plant has a move
+pub settled-none : (c : Setup) (s : Plant) → next c s ≡ None → (b : Batch) → Has s.batches b → batch_moves c s b ≡ []
+settled-none c s e b i = no-elements (batch_moves c s b) (λ m j. subst (λ ms. Has ms m) (none_least (possible c s) e) (flat_map-Has (batch_moves c s) s.batches b m i j))
+
+-- Moves
+
+abbrev pub first_in : List Share → BatchAct → Bool
+first_in line a = elim line [ [] ↦ false | x ∷ xs ↦ is_same_act x.act a ]
+
+abbrev pub serves : ℕ → ℕ → ℕ → List Share → BatchAct → Bool
+serves held units capacity line a = nat_le (held + units) capacity && first_in line a
+
+and-true : (a b : Bool) → a ≡ true → b ≡ true → (a && b) ≡ true
+and-true true true e f = refl
+and-true true false e f = absurd cc
+and-true false b e f = absurd cc
+
+-- an act that joins the end of a line is first in no other act's stead
+joined : (line : List Share) (x : Share) (a : BatchAct) → (a.0 ≡ x.act.0 → ⊥) → first_in (line ++ x ∷ []) a ≡ true → first_in line a ≡ true
+joined [] x a other e = absurd (other (ap (λ (z : BatchAct). z.0) (sym (same_act x.act a e))))
+joined (y ∷ line) x a other e = e
+
+module _ (c : Setup) (outs : List Out) (s : Plant) (told : IsTold outs s) where
+  -- as much is held as before
+  pub held-same : (o : Out) (t : Plant) → IsTold (outs ++ o ∷ []) t → (q : Name) → holders_after q (holders_told outs q) o ≡ holders_told outs q
+      → units_in (holders t q) ≡ units_in (holders s q)
+  held-same o t after_told q e = sym (after_told.held_units q) ∙ ap (λ hs. units_in hs) (holders_told-last outs o q ∙ e) ∙ told.held_units q
+
+  -- and the line is as it was
+  pub as-before : (t : Plant) (need : Need) (a : BatchAct) → units_in (holders t need.resource) ≡ units_in (holders s need.resource) → t.line need.resource ≡ s.line need.resource
+      → is_served c t need a ≡ true → is_served c s need a ≡ true
+  as-before t need a e f h = subst₂ (λ n line. serves n need.units (c.capacity need.resource) line a ≡ true) e f h
+
+  -- a move serves no act of another batch newly, but of the resource that it gives or takes
+  pub served-before : (m : Move) → IsTold (outs ++ move m ∷ []) (after s m) → (n : ℕ) → (n ≡ batch_of m → ⊥)
+      → (need : Need) (p : Place) → (touched m ≡ Some need.resource → ⊥) → is_served c (after s m) need (n, p) ≡ true → is_served c s need (n, p) ≡ true
+  served-before (send k p x command) t n other need place apart e = as-before (after s (send k p x command)) need (n, place) (held-same (move (send k p x command)) (after s (send k p x command)) t need.resource refl) refl e
+  served-before (state k x) t n other need place apart e = as-before (after s (state k x)) need (n, place) (held-same (move (state k x)) (after s (state k x)) t need.resource refl) refl e
+  served-before (begin k p name) t n other need place apart e = as-before (after s (begin k p name)) need (n, place) (held-same (move (begin k p name)) (after s (begin k p name)) t need.resource refl) refl e
+  served-before (start k p x vs) t n other need place apart e = as-before (after s (start k p x vs)) need (n, place) (held-same (move (start k p x vs)) (after s (start k p x vs)) t need.resource refl) refl e
+  served-before (end k p) t n other need place apart e = as-before (after s (end k p)) need (n, place) (held-same (move (end k p)) (after s (end k p)) t need.resource refl) refl e
+  served-before (release k p r) t n other need place apart e = go (same_name need.resource r.resource) refl
+    where
+      m : Move
+      m = release k p r
+
+      go : (b : Bool) → same_name need.resource r.resource ≡ b → is_served c s need (n, place) ≡ true
+      go true f = absurd (apart (ap Some (sym (name_same need.resource r.resource f))))
+      go false f =
+          as-before (after s m) need (n, place)
+          (held-same (move m) (after s m) t need.resource
+          (ap (λ (b : Bool). let hs : List Share = elim b [ true ↦ without (k, p) (holders_told outs need.resource) | false ↦ holders_told outs need.resource ] in hs) f)) refl e
+  served-before (grant k p r) t n other need place apart e = go (same_name need.resource r.resource) refl
+    where
+      m : Move
+      m = grant k p r
+
+      go : (b : Bool) → same_name need.resource r.resource ≡ b → is_served c s need (n, place) ≡ true
+      go true f = absurd (apart (ap Some (sym (name_same need.resource r.resource f))))
+      go false f =
+          as-before (after s m) need (n, place)
+          (held-same (move m) (after s m) t need.resource
+          (ap (λ (b : Bool). let hs : List Share = elim b [ true ↦ holders_told outs need.resource ++ record { act = (k, p); units = r.units } ∷ [] | false ↦ holders_told outs need.resource ] in hs) f))
+          (ap (λ (b : Bool). let line : List Share = elim b [ true ↦ without (k, p) (s.line need.resource) | false ↦ s.line need.resource ] in line) f) e
+  served-before (ask k p r) t n other need place apart e = go (same_name need.resource r.resource) refl
+    where
+      m : Move
+      m = ask k p r
+
+      share : Share
+      share = record { act = (k, p); units = r.units }
+
+      same : units_in (holders (after s m) need.resource) ≡ units_in (holders s need.resource)
+      same = held-same (move m) (after s m) t need.resource refl
+
+      go : (b : Bool) → same_name need.resource r.resource ≡ b → is_served c s need (n, place) ≡ true
+      go true f =
+          let line : (after s m).line need.resource ≡ s.line need.resource ++ share ∷ [] =
+          ap (λ (b : Bool). let l : List Share = elim b [ true ↦ s.line need.resource ++ record { act = (k, p); units = r.units } ∷ [] | false ↦ s.line need.resource ] in l) f in
+          let now : serves (units_in (holders s need.resource)) need.units (c.capacity need.resource) (s.line need.resource ++ share ∷ []) (n, place) ≡ true =
+          subst₂ (λ h l. serves h need.units (c.capacity need.resource) l (n, place) ≡ true) same line e in
+          let parts = and_parts (nat_le (units_in (holders s need.resource) + need.units) (c.capacity need.resource)) (first_in (s.line need.resource ++ share ∷ []) (n, place)) now in
+          and-true (nat_le (units_in (holders s need.resource) + need.units) (c.capacity need.resource)) (first_in (s.line need.resource) (n, place)) parts.0
+          (joined (s.line need.resource) share (n, place) other parts.1)
+      go false f =
+          as-before (after s m) need (n, place) same
+          (ap (λ (b : Bool). let l : List Share = elim b [ true ↦ s.line need.resource ++ record { act = (k, p); units = r.units } ∷ [] | false ↦ s.line need.resource ] in l) f) e

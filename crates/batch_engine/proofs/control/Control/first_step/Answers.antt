@@ -1,0 +1,52 @@
+use Rattle.std.proofs.Common.{◌≡◌, ◌<◌, sym, subst, ℕ, arith, length, inl, inr}
+use Rattle.batch_engine.specs.View.{EngineView}
+use Rattle.batch_engine.specs.Marked.{HasNoMove}
+use Rattle.batch_engine.specs.Steps.{IsLeastAt, IsNext, IsBatchStep, index_of}
+use Rattle.batch_engine.proofs.Unmarked.{few}
+use Rattle.batch_engine.proofs.Nodes.{within-or_past}
+use Rattle.batch_engine.proofs.Upcoming.{step-map, next-at, none-next}
+use Rattle.batch_engine.proofs.control.Control.first_step.Goals as goal
+
+pub returns-then-index-len : goal.returns-then-index-len
+returns-then-index-len c =
+    let v : EngineView = c.args.self.now in
+    none-next v c.is_kept.ensures (λ j lt. elim (within-or_past j c.loop-index.from) [
+      | inl q ↦ c.loop-index.invariant.1 j q lt
+      | inr q ↦ c.requires j lt (c.in-Some.ensures.3 j q (omega (arith, lt, c.len.ensures, c.if-index-len.true)))
+    ])
+
+pub returns-in-Some-batch_step : goal.returns-in-Some-batch_step
+returns-in-Some-batch_step c =
+    let v : EngineView = c.args.self.now in
+    let less : c.in-Some.index < length v.batches = omega (arith, c.len.ensures, c.if-index-len.false) in
+    let before : (j : ℕ) → j < c.in-Some.index → HasNoMove v j = λ j lt. elim (within-or_past j c.loop-index.from) [
+      | inl q ↦ c.loop-index.invariant.1 j q (omega (arith, lt, less))
+      | inr q ↦ c.requires j (omega (arith, lt, less)) (c.in-Some.ensures.3 j q lt)
+    ] in
+    let here : index_of c.in-Some-batch_step.step ≡ c.in-Some.index = c.in-Some-batch_step.ensures.0 in (
+      step-map v (IsLeastAt v c.in-Some.index) (IsNext v) (λ m l. next-at v c.is_kept.ensures c.in-Some.index m before l) c.in-Some-batch_step.step c.in-Some-batch_step.ensures.1,
+      subst (λ n. n < length v.batches) (sym here) less,
+      λ i lt. before i (subst (λ n. i < n) here lt),
+    )
+
+pub loop-index-preserved : goal.loop-index-preserved
+loop-index-preserved c =
+    let v : EngineView = c.args.self.now in
+    let here : HasNoMove v c.in-Some.index = subst (IsBatchStep v c.in-Some.index) c.in_default-batch_step.is c.batch_step.ensures in (
+      omega (arith, c.in-Some.ensures.0),
+      λ i lt less. elim (within-or_past i c.loop-index.from) [
+        | inl q ↦ c.loop-index.invariant.1 i q less
+        | inr q ↦ elim (within-or_past i c.in-Some.index) [
+          | inl r ↦ c.requires i less (c.in-Some.ensures.3 i q r)
+          | inr r ↦ subst (HasNoMove v) (let e : c.in-Some.index ≡ i = omega (arith, lt, r) in e) here
+        ]
+      ],
+    )
+
+pub returns : goal.returns
+returns c =
+    let v : EngineView = c.args.self.now in
+    none-next v c.is_kept.ensures (λ j lt. elim (within-or_past j c.loop-index.from) [
+      | inl q ↦ c.loop-index.invariant.1 j q lt
+      | inr q ↦ c.requires j lt (c.in_default.ensures j q (omega (arith, lt, few v c.is_kept.ensures)))
+    ])

@@ -1,0 +1,132 @@
+use Rattle.std.proofs.Common.{◌≡◌, sym, ◌∙◌, ap, subst, ℕ, List, Bool, true, false, Some, None, arith}
+use Rattle.std.specs.Prelude.{slice_get, position}
+use Rattle.batch_cell.specs.LookUps.{units_of}
+use Rattle.batch_cell.specs.declared.cell.Cell.{Cell}
+use Rattle.batch_recipe.specs.Conditions.{Name, same_name}
+use Rattle.batch_model.specs.Events.{live_in}
+use Rattle.batch_model.specs.Rest.{acts}
+use Rattle.batch_chart.specs.Charts.{remains, remains_from}
+use Rattle.batch_chart.specs.NodesOf.{node_at, phase_at, phase_named}
+use Rattle.batch_chart.specs.declared.compiled.Compiled.{Compiled}
+use Rattle.batch_chart.proofs.Live.{from-first}
+use Rattle.batch_engine.specs.declared.batch.Batch.{Batch}
+use Rattle.batch_engine.specs.View.{EngineView, batch_of, tree_of}
+use Rattle.batch_engine.specs.Kept.{IsKept}
+use Rattle.batch_engine.proofs.Answering.{at-same}
+use Rattle.batch_engine.proofs.Finding.{chart-here, got-batch, got-chart, in-charts, batch-runs, runs-here}
+use Rattle.batch_engine.proofs.LivePhases.{found-on, passed-over, phase-within}
+use Rattle.batch_engine.proofs.control.Control.live_in.Goals as goal
+
+pub loop-node-init : goal.loop-node-init
+loop-node-init c =
+    let v : EngineView = c.args.self.now in
+    let b : Batch = c.index-batch.result.now in
+    (omega arith, ap (live_in (batch_of v.cleared b) c.args.unit.now c.args.phase.now) (sym (from-first (tree_of v.cleared b) b.running.stages.items)))
+
+pub live-requires : goal.live-requires
+live-requires c =
+    let v : EngineView = c.args.self.now in
+    let kept : IsKept v = subst IsKept c.self.view_is c.self.invariant.kept in
+    let i : ℕ = c.args.index in
+    let unit : Name = c.args.unit.now in
+    let phase : Name = c.args.phase.now in
+    let b : Batch = c.index-batch.result.now in
+    let at : slice_get v.batches i ≡ Some b = got-batch v _ i b c.self.view_is c.requires c.index-batch.ensures in
+    let x : Compiled = c.index-chart.result.now in
+    let compiled : slice_get v.charts b.recipe ≡ Some x = got-chart v _ c.from.result b.recipe x c.self.view_is c.from.ensures (in-charts v kept i b at) c.index-chart.ensures in
+    let t = tree_of v.cleared b in
+    let chart = chart-here v kept i b at x compiled in
+    let runs = (batch-runs v kept i b at).runs in
+    runs-here v kept i b at x compiled
+
+pub phase_at-requires : goal.phase_at-requires
+phase_at-requires c =
+    let v : EngineView = c.args.self.now in
+    let kept : IsKept v = subst IsKept c.self.view_is c.self.invariant.kept in
+    let i : ℕ = c.args.index in
+    let unit : Name = c.args.unit.now in
+    let phase : Name = c.args.phase.now in
+    let b : Batch = c.index-batch.result.now in
+    let at : slice_get v.batches i ≡ Some b = got-batch v _ i b c.self.view_is c.requires c.index-batch.ensures in
+    let x : Compiled = c.index-chart.result.now in
+    let compiled : slice_get v.charts b.recipe ≡ Some x = got-chart v _ c.from.result b.recipe x c.self.view_is c.from.ensures (in-charts v kept i b at) c.index-chart.ensures in
+    let t = tree_of v.cleared b in
+    let chart = chart-here v kept i b at x compiled in
+    let runs = (batch-runs v kept i b at).runs in
+    let node : ℕ = c.in-Some.node in
+    let named : phase_named (node_at t node).here ≡ Some ((phase_at t node).unit, phase) = c.in-Some.ensures.runs t chart runs in
+    (b, at, phase-within t node ((phase_at t node).unit, phase) named)
+
+pub returns-then-is_number : goal.returns-then-is_number
+returns-then-is_number c =
+    let v : EngineView = c.args.self.now in
+    let kept : IsKept v = subst IsKept c.self.view_is c.self.invariant.kept in
+    let i : ℕ = c.args.index in
+    let unit : Name = c.args.unit.now in
+    let phase : Name = c.args.phase.now in
+    let b : Batch = c.index-batch.result.now in
+    let at : slice_get v.batches i ≡ Some b = got-batch v _ i b c.self.view_is c.requires c.index-batch.ensures in
+    let x : Compiled = c.index-chart.result.now in
+    let compiled : slice_get v.charts b.recipe ≡ Some x = got-chart v _ c.from.result b.recipe x c.self.view_is c.from.ensures (in-charts v kept i b at) c.index-chart.ensures in
+    let t = tree_of v.cleared b in
+    let chart = chart-here v kept i b at x compiled in
+    let runs = (batch-runs v kept i b at).runs in
+    let node : ℕ = c.in-Some.node in
+    let named : phase_named (node_at t node).here ≡ Some ((phase_at t node).unit, phase) = c.in-Some.ensures.runs t chart runs in
+    let units : List Name = units_of v.cleared.cell in
+    let own : position (same_name (phase_at t node).unit) units ≡ Some c.phase_at.result.unit = c.phase_at.ensures.unit b at ((phase_at t node).unit, phase) named in
+    let number : c.unit_of-number.result ≡ position (same_name unit) units =
+    c.unit_of-number.ensures ∙ ap (λ (z : Cell). position (same_name unit) (units_of z)) (c.cell.ensures.value ∙ ap (λ (z : EngineView). z.cleared.cell) c.self.view_is) in
+    let found = c.in-Some.ensures.found t (batch_of v.cleared b) unit chart runs in
+    let there : position (same_name unit) units ≡ Some c.phase_at.result.unit = sym number ∙ c.is_number.ensures.0 c.if-is_number.true in (
+      b,
+      x,
+      record { at = at; compiled = compiled },
+      c.loop-node.invariant.1 ∙ found ∙ found-on t (batch_of v.cleared b) (remains_from t b.running) unit phase node c.in-Some.state units c.phase_at.result.unit own there,
+      c.in-Some.ensures.live,
+    )
+
+pub loop-node-preserved : goal.loop-node-preserved
+loop-node-preserved c =
+    let v : EngineView = c.args.self.now in
+    let kept : IsKept v = subst IsKept c.self.view_is c.self.invariant.kept in
+    let i : ℕ = c.args.index in
+    let unit : Name = c.args.unit.now in
+    let phase : Name = c.args.phase.now in
+    let b : Batch = c.index-batch.result.now in
+    let at : slice_get v.batches i ≡ Some b = got-batch v _ i b c.self.view_is c.requires c.index-batch.ensures in
+    let x : Compiled = c.index-chart.result.now in
+    let compiled : slice_get v.charts b.recipe ≡ Some x = got-chart v _ c.from.result b.recipe x c.self.view_is c.from.ensures (in-charts v kept i b at) c.index-chart.ensures in
+    let t = tree_of v.cleared b in
+    let chart = chart-here v kept i b at x compiled in
+    let runs = (batch-runs v kept i b at).runs in
+    let node : ℕ = c.in-Some.node in
+    let named : phase_named (node_at t node).here ≡ Some ((phase_at t node).unit, phase) = c.in-Some.ensures.runs t chart runs in
+    let units : List Name = units_of v.cleared.cell in
+    let own : position (same_name (phase_at t node).unit) units ≡ Some c.phase_at.result.unit = c.phase_at.ensures.unit b at ((phase_at t node).unit, phase) named in
+    let number : c.unit_of-number.result ≡ position (same_name unit) units =
+    c.unit_of-number.ensures ∙ ap (λ (z : Cell). position (same_name unit) (units_of z)) (c.cell.ensures.value ∙ ap (λ (z : EngineView). z.cleared.cell) c.self.view_is) in
+    let found = c.in-Some.ensures.found t (batch_of v.cleared b) unit chart runs in
+    let differs : position (same_name unit) units ≡ Some c.phase_at.result.unit → ⊥ =
+    λ e. (let yes = c.is_number.ensures.1 (number ∙ e) in absurd (let bad : ◌≡◌ {A = Bool} true false = sym yes ∙ c.if-is_number.false in cc)) in (
+      omega (arith, c.in-Some.ensures.later.1),
+      c.loop-node.invariant.1 ∙ found ∙ passed-over t (batch_of v.cleared b) (remains_from t b.running) unit phase node c.in-Some.state units c.phase_at.result.unit own differs,
+    )
+
+pub returns : goal.returns
+returns c =
+    let v : EngineView = c.args.self.now in
+    let kept : IsKept v = subst IsKept c.self.view_is c.self.invariant.kept in
+    let i : ℕ = c.args.index in
+    let unit : Name = c.args.unit.now in
+    let phase : Name = c.args.phase.now in
+    let b : Batch = c.index-batch.result.now in
+    let at : slice_get v.batches i ≡ Some b = got-batch v _ i b c.self.view_is c.requires c.index-batch.ensures in
+    let x : Compiled = c.index-chart.result.now in
+    let compiled : slice_get v.charts b.recipe ≡ Some x = got-chart v _ c.from.result b.recipe x c.self.view_is c.from.ensures (in-charts v kept i b at) c.index-chart.ensures in
+    let t = tree_of v.cleared b in
+    let chart = chart-here v kept i b at x compiled in
+    let runs = (batch-runs v kept i b at).runs in
+    let none : live_in (batch_of v.cleared b) unit phase (acts (remains t b.running)) ≡ None =
+    c.loop-node.invariant.1 ∙ c.in_default.ensures.found t (batch_of v.cleared b) unit chart runs in
+    λ d e. at-same v.batches i b d (λ (z : Batch). live_in (batch_of v.cleared z) unit phase (acts (batch_of v.cleared z).rest) ≡ None) at e none

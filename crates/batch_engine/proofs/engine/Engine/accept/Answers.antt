@@ -1,0 +1,22 @@
+use Rattle.std.proofs.Common.{◌≡◌, refl, sym, subst, None}
+use Rattle.batch_model.specs.Moves.{next}
+use Rattle.batch_engine.specs.View.{EngineView, setup, plant_of}
+use Rattle.batch_engine.specs.Answered.{IsAnswered}
+use Rattle.batch_engine.specs.Surface.{event_of}
+use Rattle.batch_engine.proofs.Unmarked.{marked-answered}
+use Rattle.batch_engine.proofs.engine.Engine.accept.Goals as goal
+
+pub invariant_of-self : goal.invariant_of-self
+invariant_of-self c =
+    let v : EngineView = c.self.inside.control in
+    let w : EngineView = c.judge-reply.new.self in
+    let settled : next (setup v.cleared) (plant_of v) ≡ None =
+    subst (λ (z : EngineView). next (setup z.cleared) (plant_of z) ≡ None) (sym c.self.view_is) (c.if-not-settled.ensures.0 refl) in
+    record {
+      kept = c.is_kept.ensures;
+      marked = marked-answered v w c.self.invariant.kept c.is_kept.ensures settled (event_of c.args.event.now) c.judge-reply.result c.judge-reply.ensures
+          c.mark_answered.new.marks c.mark_answered.ensures;
+    }
+
+pub returns : goal.returns
+returns c = subst (λ (v : EngineView). IsAnswered v (event_of c.args.event.now) c.judge-reply.result c.judge-reply.new.self) c.self.view_is c.judge-reply.ensures

@@ -1,0 +1,37 @@
+use Rattle.std.proofs.Common.{◌<◌, ◌≤◌, sym, subst}
+use Rattle.std.specs.Prelude.{IfSome, length}
+use Rattle.batch_engine.specs.Marking.{AreMoveMarked}
+use Rattle.batch_engine.specs.View.{EngineView}
+use Rattle.batch_engine.specs.declared.step.Step.{Step}
+use Rattle.batch_engine.proofs.Unmarked.{marked-after, same-count, settled-marked, step-within}
+use Rattle.batch_engine.proofs.engine.Engine.next_move.Goals as goal
+
+pub mark_moved-requires-clause-batch : goal.mark_moved-requires-clause-batch
+mark_moved-requires-clause-batch c =
+    let v : EngineView = c.self.inside.control in
+    let w : EngineView = c.make.new.self in
+    subst (λ n. n < length w.batches) (sym c.index.ensures) (step-within v w c.self.invariant.kept c.is_kept.ensures c.in-Some.step c.in-Some.ensures c.make.ensures)
+
+pub mark_moved-requires-clause-known : goal.mark_moved-requires-clause-known
+mark_moved-requires-clause-known c =
+    let v : EngineView = c.self.inside.control in
+    let w : EngineView = c.make.new.self in
+    subst (λ n. IfSome c.touched-resource.result (λ q. q < n)) (sym (same-count v w c.self.invariant.kept c.is_kept.ensures c.in-Some.step c.in-Some.ensures.0 c.make.ensures)) c.touched-resource.ensures.known
+
+pub invariant_of-self : goal.invariant_of-self
+invariant_of-self c =
+    record { kept = c.self.invariant.kept; marked = settled-marked c.self.inside.control c.in_default.ensures c.new-self-inside.result }
+
+pub invariant_of-self-2 : goal.invariant_of-self-2
+invariant_of-self-2 c =
+    let v : EngineView = c.self.inside.control in
+    let w : EngineView = c.make.new.self in
+    let s : Step = c.in-Some.step in
+    let zs = c.mark_moved.new.marks in
+    record {
+      kept = c.is_kept.ensures;
+      marked = marked-after v w c.self.invariant.kept c.is_kept.ensures c.self.inside.marks zs c.self.invariant.marked s c.in-Some.ensures c.make.ensures
+          c.touched-resource.result c.touched-resource.ensures.number
+          (subst (λ n. AreMoveMarked w n c.touched-resource.result zs) c.index.ensures c.mark_moved.ensures.set)
+          (λ i l u. c.mark_moved.ensures.kept i (subst (λ n. n ≤ i) (sym c.index.ensures) l) u);
+    }

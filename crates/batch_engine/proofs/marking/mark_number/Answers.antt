@@ -1,0 +1,18 @@
+use Rattle.std.proofs.Common.{◌<◌, sym, ◌∙◌, subst, arith, length}
+use Rattle.batch_engine.specs.Marks.{IsUnmarked}
+use Rattle.batch_engine.specs.View.{EngineView}
+use Rattle.batch_engine.proofs.Unmarked.{few, found-within, found-there, found-nowhere}
+use Rattle.batch_engine.proofs.marking.mark_number.Goals as goal
+
+pub mark-requires : goal.mark-requires
+mark-requires c =
+    let v : EngineView = c.args.control.now in
+    let less : c.in-Some.index < length v.batches = found-within v c.args.number c.in-Some.index (sym c.index_of.ensures ∙ c.in-Some.is) in
+    omega (arith, less, few v c.is_kept.ensures)
+
+pub returns-in-Some-clause-set : goal.returns-in-Some-clause-set
+returns-in-Some-clause-set c i b at n u =
+    c.mark.ensures.set (subst (IsUnmarked c.mark.new.marks) (found-there c.args.control.now c.is_kept.ensures c.args.number c.in-Some.index i b (sym c.index_of.ensures ∙ c.in-Some.is) at n) u)
+
+pub returns-in_default-clause-set : goal.returns-in_default-clause-set
+returns-in_default-clause-set c i b at n u = found-nowhere c.args.control.now c.args.number i b (sym c.index_of.ensures ∙ c.in_default.is) at n

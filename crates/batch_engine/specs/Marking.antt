@@ -1,0 +1,96 @@
+-- private: whose moves a move or an event may change, and which batches are marked for it.
+use Rattle.std.specs.Prelude.{◌≡◌, ◌<◌, ℕ, List, Bool, true, false, Option, Some, None, option_map, slice_get, length}
+use Rattle.batch_recipe.specs.Conditions.{Name}
+use Rattle.batch_model.specs.Events as Events
+use Rattle.batch_model.specs.Moves.{Move, release, grant}
+use Rattle.batch_arbiter.specs.Allocation.{next_grant, batch_node, resource_count}
+use Rattle.batch_engine.specs.declared.batch.Batch.{Batch}
+use Rattle.batch_engine.specs.declared.reply.Reply.{Reply}
+use Rattle.batch_engine.specs.declared.reply.Reply.TheVariants.{Created, Ordered, Removed, Reported, Refused}
+use Rattle.batch_engine.specs.declared.step.Step.{Step}
+use Rattle.batch_engine.specs.Marked.{HasNoMove}
+use Rattle.batch_engine.specs.Marks.{IsUnmarked}
+use Rattle.batch_engine.specs.Steps.{IsNext, IsNextStep, index_of}
+use Rattle.batch_engine.specs.View.{EngineView, number_of}
+
+-- Of the machine
+
+-- the resource of which the move gives or takes a share
+abbrev pub touched : Move → Option Name
+touched (release number place need) = Some need.resource
+touched (grant number place need) = Some need.resource
+touched _ = None
+
+-- the batch that the reply names, if it is there still
+abbrev pub named : Events.Reply → Option ℕ
+named (Events.created number recipe size roles) = Some number
+named (Events.ordered command number becomes) = Some number
+named (Events.removed number) = None
+named (Events.reported unit name word number place becomes) = Some number
+named (Events.refused refusal) = None
+
+-- whether asks were withdrawn
+abbrev pub withdraws : Events.Reply → Bool
+withdraws (Events.ordered command number becomes) = Events.ends_asks command
+withdraws _ = false
+
+-- Of the engine
+
+-- an act of the batch at an index would be served of the resource
+abbrev pub IsServedAt : EngineView → ℕ → ℕ → Type 0
+IsServedAt v resource i =
+    (b : Batch) × (slice_get v.batches i ≡ Some b) × ((node : ℕ) × (option_map batch_node (next_grant v.allocation resource) ≡ Some (b.number, node)))
+
+-- where the batch stands of which an act would be served of the resource
+abbrev pub IsFirstServed : EngineView → ℕ → Option ℕ → Type 0
+IsFirstServed v resource None = (i : ℕ) → IsServedAt v resource i → ⊥
+IsFirstServed v resource (Some j) = (j < length v.batches) × ((i : ℕ) → IsServedAt v resource i → i ≡ j)
+
+-- the next step, before whose batch none has a move
+abbrev pub IsFirstStep : EngineView → Option Step → Type 0
+IsFirstStep v None = IsNextStep v None
+IsFirstStep v (Some s) = IsNextStep v (Some s) × (index_of s < length v.batches) × ((i : ℕ) → i < index_of s → HasNoMove v i)
+
+-- this is the number of the resource of which the next move gives or takes a share
+abbrev pub IsTouched : EngineView → Option ℕ → Type 0
+IsTouched v number =
+    (m : Move) (resource : Name) → IsNext v m → touched m ≡ Some resource → (q : ℕ) × (number ≡ Some q) × (number_of v.cleared resource ≡ Some q)
+
+-- the batch that the reply names
+abbrev pub named_by : Reply → Option ℕ
+named_by (Created batch recipe size units) = Some batch
+named_by (Ordered command batch state) = Some batch
+named_by (Removed batch) = None
+named_by (Reported unit phase word batch recipe node state) = Some batch
+named_by (Refused refusal) = None
+
+abbrev pub withdraws_by : Reply → Bool
+withdraws_by (Ordered command batch state) = Events.ends_asks command
+withdraws_by _ = false
+
+-- Marks
+
+abbrev pub IsSet : List ℕ → ℕ → Type 0
+IsSet marks i = IsUnmarked marks i → ⊥
+
+-- no mark was taken away
+abbrev pub KeepsMarks : List ℕ → List ℕ → Type 0
+KeepsMarks old new = (i : ℕ) → IsUnmarked new i → IsUnmarked old i
+
+-- the batch is marked of which an act would be served of the resource
+abbrev pub IsFirstMarked : EngineView → ℕ → List ℕ → Type 0
+IsFirstMarked v resource marks = (i : ℕ) → IsServedAt v resource i → IsSet marks i
+
+-- the batch with this number is marked
+abbrev pub IsNumberMarked : EngineView → ℕ → List ℕ → Type 0
+IsNumberMarked v number marks = (i : ℕ) (b : Batch) → slice_get v.batches i ≡ Some b → b.number ≡ number → IsSet marks i
+
+-- after an event: the batch that the reply names is marked, and where asks were withdrawn, whoever would be served of any resource
+pub record AreAnswerMarked (v : EngineView) (reply : Reply) (marks : List ℕ) : Type 0 where
+  pub own : (number : ℕ) → named_by reply ≡ Some number → IsNumberMarked v number marks
+  pub firsts : withdraws_by reply ≡ true → (resource : ℕ) → resource < resource_count v.allocation → IsFirstMarked v resource marks
+
+-- after a move: its batch is marked, and whoever would be served of the resource that it gave or took
+pub record AreMoveMarked (v : EngineView) (index : ℕ) (number : Option ℕ) (marks : List ℕ) : Type 0 where
+  pub own : IsSet marks index
+  pub first : (resource : ℕ) → number ≡ Some resource → IsFirstMarked v resource marks

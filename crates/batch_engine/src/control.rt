@@ -1,0 +1,180 @@
+//! The control of batches.
+ghost use Rattle.std.specs.Prelude.{◌≡◌, IfOk, IfErr, Some, None, length};
+ghost use Rattle.batch_arbiter.specs.Allocation.{resource_count};
+ghost use Rattle.batch_model.specs.ActStates.{state_of};
+ghost use Rattle.batch_model.specs.Moves.{next};
+ghost use Rattle.batch_model.specs.Plant.{opening};
+ghost use Rattle.batch_engine.specs.Answered.{IsAnswered};
+ghost use Rattle.batch_engine.specs.Kept.{AreChartsOf, IsKept};
+ghost use Rattle.batch_engine.specs.Led.{IsLed};
+ghost use Rattle.batch_engine.specs.Looked.{batch_state_in, value_in};
+ghost use Rattle.batch_engine.specs.Surface.{event_of};
+ghost use Rattle.batch_engine.specs.View.{setup, plant_of};
+
+use crate::batches::Batches;
+use crate::event::Event;
+use crate::numbering::number_recipes;
+use crate::numbers::RecipeNumbers;
+use crate::reply::Reply;
+use batch_arbiter::Arbiter;
+use batch_chart::Compiled;
+use batch_matrix::State;
+use batch_recipe::Recipe;
+use batch_text::{Name, Place};
+use batch_verify::Cleared;
+use std::alloc::{AllocError, Global};
+use std::marker::Model;
+
+/// What answers events and makes moves: a cleared set of recipes, the batches that are made of it, and the arbiter of what they need.
+#[derive(Drop)]
+pub struct Control {
+    pub(crate) alloc: Global,
+    pub(crate) cleared: Cleared,
+    pub(crate) charts: Vec<Compiled>,
+    pub(crate) numbers: Vec<RecipeNumbers>,
+    pub(crate) batches: Batches,
+    pub(crate) next_number: u64,
+    pub(crate) arbiter: Arbiter,
+}
+
+impl Model for Control {
+    ghost use Rattle.std.specs.Coded.{codes};
+    ghost use Rattle.batch_arbiter.specs.contracts.arbiter.Arbiter as arbiter_contracts;
+    ghost use Rattle.batch_chart.specs.contracts.compiled.Compiled as compiled_contracts;
+    ghost use Rattle.batch_verify.specs.contracts.cleared.Cleared as cleared_contracts;
+    ghost use Rattle.batch_engine.specs.contracts.batch.Batch as batch_contracts;
+    ghost use Rattle.batch_engine.specs.contracts.numbers.RecipeNumbers as numbers_contracts;
+    ghost use Rattle.batch_engine.specs.Kept.{IsEngine};
+    ghost use Rattle.batch_engine.specs.View.{EngineView, seen};
+
+    ghost Value = { EngineView };
+
+    ghost coded = { Prim.hlevel (codes, batch_contracts.the_row.coded, compiled_contracts.the_row.coded, cleared_contracts.the_row.coded, arbiter_contracts.the_row.coded, numbers_contracts.the_row.coded) };
+
+    ghost view = { λ e. seen e.cleared e.charts.items e.numbers.items e.batches.batches e.next_number e.arbiter };
+
+    ghost invariant = { λ e. IsEngine e.batches (seen e.cleared e.charts.items e.numbers.items e.batches.batches e.next_number e.arbiter) };
+}
+
+/// Compiles the recipes.
+fn compile(alloc: Global, recipes: &[Recipe]) -> Result<Vec<Compiled>, AllocError>
+    ensures count { IfOk result (λ charts. length charts.items ≡ length recipes.now) }
+    ensures each { IfOk result (λ charts. AreChartsOf recipes.now charts.items) }
+{
+    let mut charts = Vec::new(alloc);
+    for recipe in recipes {
+        let chart = Compiled::new(alloc, recipe)?;
+        charts.push(chart)?;
+    }
+    Ok(charts)
+}
+
+impl Control {
+    /// The control of cleared recipes, before anything has happened. It keeps the allocator.
+    pub(crate) fn new(alloc: Global, cleared: Cleared) -> Result<Control, (AllocError, Cleared)>
+        ensures opening { IfOk result (λ control. plant_of control ≡ opening) }
+        ensures cleared { IfOk result (λ control. control.cleared ≡ cleared) }
+        ensures back { IfErr result (λ fault. fault.1 ≡ cleared) }
+    {
+        let Ok(charts) = compile(alloc, cleared.recipes()) else {
+            return Err((AllocError, cleared));
+        };
+        let Ok(numbers) = number_recipes(alloc, cleared.cell(), cleared.recipes(), &charts) else {
+            return Err((AllocError, cleared));
+        };
+        let Ok(arbiter) = Arbiter::new(alloc, cleared.cell()) else {
+            return Err((AllocError, cleared));
+        };
+        Ok(Control {
+            alloc,
+            cleared,
+            charts,
+            numbers,
+            batches: Batches::new(alloc),
+            next_number: 1,
+            arbiter,
+        })
+    }
+
+    /// The recipes, and their cell.
+    pub(crate) fn cleared(&self) -> &Cleared
+        ensures value { result.now ≡ self.now.cleared }
+        ensures led { IsLed self.now }
+    {
+        &self.cleared
+    }
+
+    /// Tells what this type keeps, and does nothing.
+    pub(crate) fn is_kept(&self)
+        ensures { IsKept self.now }
+    {
+        let _number = self.next_number;
+    }
+
+    /// How many batches there are.
+    pub(crate) fn len(&self) -> usize
+        ensures { result ≡ length self.now.batches }
+    {
+        self.batches.len()
+    }
+
+    /// How many resources there are.
+    pub(crate) fn resources(&self) -> u16
+        ensures { result ≡ resource_count self.now.allocation }
+    {
+        self.is_kept();
+        self.cleared.cell().resources()
+    }
+
+    /// Answers an event, while no move is pending.
+    pub(crate) fn judge(&mut self, event: &Event) -> Reply
+        requires { next (setup self.old.cleared) (plant_of self.old) ≡ None }
+        ensures { IsAnswered self.old (event_of event.now) result self.new }
+    {
+        match event {
+            Event::Create {
+                recipe,
+                size,
+                roles,
+            } => self.create(recipe, *size, roles),
+            Event::Order { command, batch } => self.order(*command, *batch),
+            Event::Remove { batch } => self.remove(*batch),
+            Event::Report(report) => self.report(report),
+        }
+    }
+
+    /// The state that the act at a place of the batch with this number shows. None where there is no such batch, or no act at that place.
+    pub(crate) fn state_of(&self, batch: u64, place: &Place) -> Option<State>
+        ensures { result ≡ state_of (plant_of self.now) batch place.now }
+    {
+        let Some(index) = self.index_of(batch) else {
+            return None;
+        };
+        let batch = &self.batches[index];
+        let Some(node) = self.cleared.node_of(batch.recipe, place) else {
+            return None;
+        };
+        let chart = &self.charts[usize::from(batch.recipe)];
+        batch.running.state_at(chart, node, batch.state)
+    }
+
+    /// The value with this name of the batch with this number. None where there is no such batch, or no such value.
+    pub(crate) fn value_of(&self, batch: u64, name: &Name) -> Option<u64>
+        ensures { result ≡ value_in (plant_of self.now) batch name.now }
+    {
+        let Some(index) = self.index_of(batch) else {
+            return None;
+        };
+        self.batches[index].values.value_of(name)
+    }
+
+    /// The state of the batch with this number. None where there is no such batch.
+    pub(crate) fn batch_state(&self, batch: u64) -> Option<State>
+        ensures { result ≡ batch_state_in (plant_of self.now) batch }
+    {
+        let Some(index) = self.index_of(batch) else {
+            return None;
+        };
+        Some(self.batches[index].state)
+    }
+}

@@ -1,0 +1,133 @@
+//! Marking the batches that may have a move.
+ghost use Rattle.std.specs.Prelude.{◌≡◌, ◌<◌, ◌≤◌, IfSome, Some, length, ℕ};
+ghost use Rattle.batch_arbiter.specs.Allocation.{resource_count};
+ghost use Rattle.batch_engine.specs.Marks.{mark_at};
+ghost use Rattle.batch_engine.specs.Marking.{AreAnswerMarked, AreMoveMarked, IsFirstMarked, IsFirstServed, IsNumberMarked, IsSet, IsTouched, KeepsMarks, named_by};
+ghost use Rattle.batch_engine.specs.Steps.{IsNextStep};
+
+use crate::control::Control;
+use crate::marks::Marks;
+use crate::reply::Reply;
+use crate::step::Step;
+use batch_chart::Move;
+use batch_matrix::Command;
+
+/// Marks the batch at an index.
+fn mark(marks: &mut Marks, index: usize)
+    requires { index < 4096 }
+    ensures set { IsSet marks.new index }
+    ensures kept { KeepsMarks marks.old marks.new }
+{
+    marks.set(index);
+}
+
+/// Marks the batch with this number.
+fn mark_number(marks: &mut Marks, control: &Control, number: u64)
+    ensures set { IsNumberMarked control.now number marks.new }
+    ensures kept { KeepsMarks marks.old marks.new }
+{
+    control.is_kept();
+    if let Some(index) = control.index_of(number) {
+        mark(marks, index);
+    }
+}
+
+/// Marks the batch whose act would be served of a resource.
+fn mark_first(marks: &mut Marks, control: &Control, resource: u16)
+    requires { resource < resource_count control.now.allocation }
+    ensures set { IsFirstMarked control.now resource marks.new }
+    ensures kept { KeepsMarks marks.old marks.new }
+{
+    control.is_kept();
+    if let Some(index) = control.first_served(resource) {
+        mark(marks, index);
+    }
+}
+
+/// Marks each batch whose act would be served of some resource.
+fn mark_firsts(marks: &mut Marks, control: &Control)
+    ensures set { (resource : ℕ) → resource < resource_count control.now.allocation → IsFirstMarked control.now resource marks.new }
+    ensures kept { KeepsMarks marks.old marks.new }
+{
+    for resource in 0..control.resources() {
+        mark_first(marks, control, resource);
+    }
+}
+
+/// Marks the batches that an event has given a move.
+pub fn mark_answered(marks: &mut Marks, control: &Control, reply: Reply)
+    ensures { AreAnswerMarked control.now reply marks.new }
+{
+    if let Some(number) = reply.batch() {
+        mark_number(marks, control, number);
+    }
+    if let Reply::Ordered {
+        command: Command::Stop | Command::Abort,
+        ..
+    } = reply
+    {
+        // An ask that is withdrawn makes way for the one behind it, which may be for fewer units. Looking at all lines
+        // takes no longer with more batches.
+        mark_firsts(marks, control);
+    }
+}
+
+/// Marks the batches that a move of the batch at an index has given a move, where it gave or took a share of this resource. No
+/// batch before it had one.
+pub fn mark_moved(marks: &mut Marks, control: &Control, index: usize, resource: Option<u16>)
+    requires batch { index < length control.now.batches }
+    requires known { IfSome resource (λ number. number < resource_count control.now.allocation) }
+    ensures set { AreMoveMarked control.now index resource marks.new }
+    ensures kept { (i : ℕ) → index ≤ i → mark_at marks.new i ≡ 0 → mark_at marks.old i ≡ 0 }
+{
+    control.is_kept();
+    marks.clear_below(index);
+    mark(marks, index);
+    if let Some(number) = resource {
+        mark_first(marks, control, number);
+    }
+}
+
+impl Reply {
+    /// The batch that was created, ordered or reported to.
+    fn batch(&self) -> Option<u64>
+        ensures { result ≡ named_by self.now }
+    {
+        match self {
+            Reply::Created { batch, .. }
+            | Reply::Ordered { batch, .. }
+            | Reply::Reported { batch, .. } => Some(*batch),
+            Reply::Removed { .. } | Reply::Refused(_) => None,
+        }
+    }
+}
+
+impl Control {
+    /// The resource of which a step gives or takes a share.
+    pub(crate) fn touched(&self, step: Step) -> Option<u16>
+        requires { IsNextStep self.now (Some step) }
+        ensures number { IsTouched self.now result }
+        ensures known { IfSome result (λ number. number < resource_count self.now.allocation) }
+    {
+        self.is_kept();
+        match step {
+            Step::Own { index, made } => match made {
+                Move::Release { node, need } => {
+                    let (resource, _units) = self.resource_at(index, node, need);
+                    Some(resource)
+                }
+                _ => None,
+            },
+            Step::Grant { resource, .. } => Some(resource),
+        }
+    }
+
+    /// Where the batch stands whose act would be served of a resource.
+    fn first_served(&self, resource: u16) -> Option<usize>
+        requires { resource < resource_count self.now.allocation }
+        ensures { IsFirstServed self.now resource result }
+    {
+        let (number, _node) = self.arbiter.first(resource)?;
+        self.index_of(number)
+    }
+}

@@ -1,0 +1,32 @@
+//! Bits of a word.
+ghost use Rattle.std.specs.Prelude.{◌≡◌, ◌<◌, ℕ};
+ghost use Rattle.std.specs.Int.{bit_at};
+ghost use Rattle.batch_engine.specs.Marks.{IsLowestFrom, with_one, with_zero};
+
+/// The word with this bit set.
+pub fn with_bit(word: u64, at: usize) -> u64
+    requires { at < 64 }
+    ensures { (k : ℕ) → bit_at result k ≡ with_one at (bit_at word) k }
+{
+    word | (1 << at)
+}
+
+/// The word with this bit cleared.
+pub fn without_bit(word: u64, at: usize) -> u64
+    requires { at < 64 }
+    ensures { (k : ℕ) → bit_at result k ≡ with_zero at (bit_at word) k }
+{
+    word & !(1 << at)
+}
+
+/// The lowest bit that is set, from this one on.
+pub fn lowest_from(word: u64, from: usize) -> Option<usize>
+    requires { from < 64 }
+    ensures { IsLowestFrom word from result }
+{
+    let rest = word & (u64::MAX << from);
+    if rest == 0 {
+        return None;
+    }
+    Some(rest.trailing_zeros() as usize)
+}
