@@ -21,5 +21,5 @@ pub fn graph_of(alloc: Global, cell: &Cell, recipes: &[Recipe]) -> Result<Vec<Ed
     if !is_recipe_set(recipes) {
         return Err(CheckFault::Recipes);
     }
-    Ok(edges_of(alloc, cell, recipes)?)
+    Ok(edges_of(alloc, cell, recipes)?.edges)
 }
