@@ -6,7 +6,7 @@ use Rattle.batch_check.specs.declared.edge.Edge.{Edge}
 use Rattle.batch_check.specs.declared.edge_set.EdgeSet.{EdgeSet}
 use Rattle.batch_check.specs.Edges.{has_pair}
 use Rattle.batch_check.specs.Pairs.{ArePaired}
-use Rattle.batch_check.specs.Joining.{AreBelow, Grows, HasJoined, LeadsFrom}
+use Rattle.batch_check.specs.Joining.{AreBelow, Grows, HasJoined, HasTaken, LeadsFrom}
 
 pub slice_get-left : {X : Type 0} (xs ys : List X) (k : ℕ) (x : X) → slice_get xs k ≡ Some x → slice_get (xs ++ ys) k ≡ Some x
 slice_get-left [] ys k x h = let bad : None ≡ Some x = h in cc
@@ -156,3 +156,14 @@ AreBelow-push count needs need below here k among = elim (Contains-split needs (
   | inl known ↦ below k known
   | inr new ↦ here k (Contains-one need (Some k) new)
 ]
+
+-- one more of the edges is taken
+pub HasTaken-more : (edges : List Edge) (old set new : EdgeSet) (e : Edge) → HasTaken edges old set → Grows set new → Contains edges e
+    → ((edge : Edge) → Contains new.edges.items edge → Contains set.edges.items edge ⊎ (edge ≡ e)) → HasTaken edges old new
+HasTaken-more edges old set new e h grown among only = record {
+  grown = Grows-twice old set new h.grown grown;
+  only = λ edge stands. elim (only edge stands) [
+    | inl known ↦ h.only edge known
+    | inr same ↦ inr (subst (λ (x : Edge). Contains edges x) (sym same) among)
+  ];
+}

@@ -15,7 +15,7 @@ use Rattle.batch_recipe.specs.Procedure.{bound_nodes, procedure_nodes}
 use Rattle.batch_recipe.specs.Tree.{Place}
 use Rattle.batch_recipe.specs.declared.recipe.Recipe.{Recipe}
 use Rattle.batch_model.specs.Lists.{Each}
-use Rattle.batch_model.proofs.Members.{Each-append}
+use Rattle.batch_model.proofs.Members.{Each-append, Each-map}
 use Rattle.batch_check.specs.declared.edge.Edge.{Edge}
 use Rattle.batch_check.specs.declared.edge_set.EdgeSet.{EdgeSet}
 use Rattle.batch_check.specs.declared.path.Path.{Path}
@@ -26,8 +26,9 @@ use Rattle.batch_verify.proofs.Tried.{numbered-tried}
 use Rattle.batch_check.specs.Edges.{OfNodes, Stands, Covers, CoversRecipes, Follows, AreEdgesOf, has_pair, number_of, numbers_of}
 use Rattle.batch_check.specs.LeastRanking.{IsWithin}
 use Rattle.batch_check.specs.Pairs.{ArePaired, Keeps}
-use Rattle.batch_check.specs.Joining.{Grows, needs_in}
+use Rattle.batch_check.specs.Joining.{Grows, HasTaken, needs_in}
 use Rattle.batch_check.specs.Collecting.{AreAdded, HasAllPairs, IsReady, IsCollected, IsAdded, PairsAll, PairsRecipe, kept_at_top, kept_by}
+use Rattle.batch_check.proofs.Asking.{Follows-keeps}
 use Rattle.batch_check.proofs.Bound.{bindings_suffice}
 use Rattle.batch_check.proofs.Joins.{Contains-none, Grows-same, Grows-twice}
 use Rattle.batch_check.proofs.Names.{number_of_own}
@@ -39,6 +40,13 @@ same_length cell recipe index =
     let place_of : Node → Place = λ n. n.place in
     let bound : Binding = numbered cell recipe.roles.items index in
     sym (length-map (bound_nodes bound recipe.acts) place_of) ∙ (ap length (places_stay bound recipe.acts) ∙ length-map (procedure_nodes recipe.acts) place_of)
+
+covers_more : (cell : Cell) (old new : List Edge) → Keeps old new → (recipes : List Recipe) → CoversRecipes cell recipes old → CoversRecipes cell recipes new
+covers_more cell old new keeps [] h = tt
+covers_more cell old new keeps (r ∷ rs) h = (
+  λ bound tried. Each-map (Covers cell old) (Covers cell new) (λ node covered. Follows-keeps old new keeps None (numbers_of cell node.asked) covered) (bound_nodes bound r.acts) (h.0 bound tried),
+  covers_more cell old new keeps rs h.1,
+)
 
 -- where the needs of all paths are paired, there is an edge wherever one stands
 pair_stands : (cell : Cell) (recipes : List Recipe) (edges : List Edge) → Each (PairsRecipe cell edges) recipes → (e : Edge) → Stands cell recipes e → IsTrue (has_pair edges e.earlier e.later)
@@ -96,6 +104,17 @@ module _ (cell : Cell) (recipes : List Recipe) where
       | inr here ↦ here
     ];
     covering = h.covering set.edges.items (λ i j known. known);
+  }
+
+  -- edges that stand may be added
+  pub edges_with : (old new : EdgeSet) (circle : List Edge) → AreEdgesOf cell recipes old.edges.items → All (Stands cell recipes) circle → HasTaken circle old new
+      → AreEdgesOf cell recipes new.edges.items
+  edges_with old new circle h standing taken = record {
+    standing = λ k e in'. elim (taken.only (get_or new.edges.items k e) (Contains-get_or new.edges.items k e in')) [
+      | inl known ↦ All-contains (Stands cell recipes) old.edges.items (get_or new.edges.items k e) h.standing known
+      | inr added ↦ All-contains (Stands cell recipes) circle (get_or new.edges.items k e) standing added
+    ];
+    covering = covers_more cell old.edges.items new.edges.items taken.grown.kept recipes h.covering;
   }
 
   -- the edges of each two needs, where all edges stood before

@@ -67,7 +67,11 @@ fn check_each(alloc: Global, cell: &Cell, recipes: &[Recipe]) -> Result<(), Chec
 }
 
 /// The least ranks that rise along all paths of the recipes, by number, or a circle with the fewest edges.
-fn ranks_of(alloc: Global, cell: &Cell, recipes: &[Recipe]) -> Result<Vec<u32>, CheckFault>
+pub(crate) fn ranks_of(
+    alloc: Global,
+    cell: &Cell,
+    recipes: &[Recipe],
+) -> Result<Vec<u32>, CheckFault>
     requires { length recipes.now ≤ MAX_RECIPES }
     ensures least { IfOk result (λ ranks. AreLeastRanks cell.now recipes.now ranks.items) }
     ensures fault { IfErr result (IsCircleFault cell.now recipes.now) }
