@@ -1,8 +1,8 @@
 -- The edges to the needs of one act.
-use Rattle.std.proofs.Common.{◌≡◌, ℕ, zero, suc, ◌+◌, ◌<◌, ◌⊎◌, inl, inr, List, [], ◌∷◌, ◌++◌, length, get_or, slice_get, IsTrue, Option, Some, None, refl, sym, ap, ◌∙◌, subst, arith, length-append, append_assoc}
+use Rattle.std.proofs.Common.{◌≡◌, ℕ, suc, ◌+◌, ◌<◌, ◌⊎◌, inl, inr, List, [], ◌∷◌, ◌++◌, length, get_or, slice_get, IsTrue, Option, Some, None, option_map, refl, sym, ap, ◌∙◌, subst, arith, length-append, append_assoc, append-nil}
 use Rattle.std.proofs.lemmas.List.{map-append}
 use Rattle.std.specs.List.{Contains}
-use Rattle.std.proofs.lemmas.Option.{slice_get-get_or}
+use Rattle.std.proofs.lemmas.Option.{slice_get-get_or, slice_get-map, slice_get_within}
 use Rattle.std.proofs.lemmas.List.Quantifiers.{position-Some}
 use Rattle.std.proofs.lemmas.Slice.Eq.{bytes_eq-Decides}
 use Rattle.batch_cell.specs.LookUps.{resources_of}
@@ -12,17 +12,10 @@ use Rattle.batch_check.specs.declared.edge.Edge.{Edge}
 use Rattle.batch_check.specs.declared.edge_set.EdgeSet.{EdgeSet}
 use Rattle.batch_check.specs.declared.path.Path.{Path}
 use Rattle.batch_check.specs.Edges.{has_pair, number_of, numbers_of, Joins, Follows}
-use Rattle.batch_check.specs.Pairs.{Keeps}
-use Rattle.batch_check.specs.Collecting.{Grows, IsReady, last_number, EndsIn, IsAmong, HasAsked}
-
-pub slice_get-left : {X : Type 0} (xs ys : List X) (k : ℕ) (x : X) → slice_get xs k ≡ Some x → slice_get (xs ++ ys) k ≡ Some x
-slice_get-left [] ys k x h = let bad : None ≡ Some x = h in cc
-slice_get-left (y ∷ xs) ys zero x h = h
-slice_get-left (y ∷ xs) ys (suc k) x h = slice_get-left xs ys k x h
-
-pub slice_get-right : {X : Type 0} (xs ys : List X) (k : ℕ) → slice_get (xs ++ ys) (length xs + k) ≡ slice_get ys k
-slice_get-right [] ys k = let e : 0 + k ≡ k = omega arith in ap (slice_get ys) e
-slice_get-right (x ∷ xs) ys k = let e : length (x ∷ xs) + k ≡ suc (length xs + k) = omega arith in ap (slice_get (x ∷ (xs ++ ys))) e ∙ slice_get-right xs ys k
+use Rattle.batch_check.specs.Pairs.{ArePaired, Keeps}
+use Rattle.batch_check.specs.Joining.{AreBelow, Grows, HasJoined, IsKept, needs_in}
+use Rattle.batch_check.specs.Collecting.{IsCopy, IsPathOf, IsReady, kept_by, last_number, EndsIn, IsAmong, HasAsked}
+use Rattle.batch_check.proofs.Joins.{ArePaired-push, AreBelow-push, Contains-at, at-Contains, Contains-none, Contains-one, Grows-same, Grows-twice, slice_get-left, slice_get-right}
 
 -- Numbers of resources
 
@@ -73,23 +66,49 @@ module _ (cell : Cell) where
     | inr last ↦ last
   ]
 
-  -- the edge from the last need above to the need after it
-  pub IsAmong-next : (above : List Name) (need : Name) (edge : Edge) → EndsIn cell above (Some edge.earlier) → number_of cell need ≡ Some edge.later
-      → IsAmong cell above (need ∷ []) edge
-  IsAmong-next above need edge ends is =
-      let last = EndsIn-last above edge.earlier ends in
-      record {
-        earlier_name = last.name;
-        later_name = need;
-        earlier_named = number_named last.name edge.earlier last.numbered;
-        later_named = number_named need edge.later is;
-        before = last.place;
-        place = length above + 0;
-        ordered = omega (arith, last.at_end);
-        among_own = omega arith;
-        earlier_is = slice_get-left above (need ∷ []) last.place last.name last.name_is;
-        later_is = slice_get-right above (need ∷ []) 0;
+  -- a need above, where that is a resource
+  pub record IsAskedAbove (above : List Name) (number : ℕ) : Type 0 where
+    pub name : Name
+    pub place : ℕ
+    pub name_is : slice_get above place ≡ Some name
+    pub numbered : number_of cell name ≡ Some number
+
+  pub IsAskedAbove-last : (above : List Name) (number : ℕ) → EndsIn cell above (Some number) → IsAskedAbove above number
+  IsAskedAbove-last above number ends =
+      let last = EndsIn-last above number ends in
+      record { name = last.name; place = last.place; name_is = last.name_is; numbered = last.numbered }
+
+  -- a number of the needs above is one of a resource
+  pub number_at : (above : List Name) (place number : ℕ) → slice_get (numbers_of cell above) place ≡ Some (Some number) → IsAskedAbove above number
+  number_at above place number is = go (slice_get above place) refl (sym (slice_get-map (number_of cell) above place) ∙ is)
+    where
+      go : (o : Option Name) → slice_get above place ≡ o → option_map (number_of cell) o ≡ Some (Some number) → IsAskedAbove above number
+      go None at mapped = let bad : None ≡ Some (Some number) = mapped in absurd cc
+      go (Some name) at mapped = record {
+        name = name;
+        place = place;
+        name_is = at;
+        numbered = let e : Some (number_of cell name) ≡ Some (Some number) = mapped in cc;
       }
+
+  pub IsAskedAbove-kept : (above : List Name) (number : ℕ) → Contains (numbers_of cell above) (Some number) → IsAskedAbove above number
+  IsAskedAbove-kept above number among = let at = at-Contains (numbers_of cell above) (Some number) among in number_at above at.0 number at.1
+
+  -- the edge from a need above to the need after all of them
+  pub IsAmong-next : (above : List Name) (need : Name) (edge : Edge) → IsAskedAbove above edge.earlier → number_of cell need ≡ Some edge.later
+      → IsAmong cell above (need ∷ []) edge
+  IsAmong-next above need edge from is = record {
+    earlier_name = from.name;
+    later_name = need;
+    earlier_named = number_named from.name edge.earlier from.numbered;
+    later_named = number_named need edge.later is;
+    before = from.place;
+    place = length above + 0;
+    ordered = omega (arith, slice_get_within above from.place from.name from.name_is);
+    among_own = omega arith;
+    earlier_is = slice_get-left above (need ∷ []) from.place from.name from.name_is;
+    later_is = slice_get-right above (need ∷ []) 0;
+  }
 
   -- an edge to one of the first needs is one to all of them
   pub IsAmong-more : (above xs ys : List Name) (edge : Edge) → IsAmong cell above xs edge → IsAmong cell above (xs ++ ys) edge
@@ -135,61 +154,102 @@ pub Follows-append : (edges : List Edge) (last : Option ℕ) (xs ys : List (Opti
 Follows-append edges last [] ys h g = g
 Follows-append edges last (x ∷ xs) ys h g = (h.0, Follows-append edges x xs ys h.1 g)
 
-pub Grows-twice : (old mid new : EdgeSet) → Grows old mid → Grows mid new → Grows old new
-Grows-twice old mid new h g = record { same_count = g.same_count ∙ h.same_count; kept = λ i j known. g.kept i j (h.kept i j known) }
+-- What a path keeps
+
+pub items_assoc : (o : Option (List (Option ℕ))) (xs ys : List (Option ℕ)) → option_map (λ (ns : List (Option ℕ)). ns ++ ys) (option_map (λ (ns : List (Option ℕ)). ns ++ xs) o)
+    ≡ option_map (λ (ns : List (Option ℕ)). ns ++ (xs ++ ys)) o
+items_assoc None xs ys = refl
+items_assoc (Some ns) xs ys = ap (λ (l : List (Option ℕ)). Some l) (append_assoc ns xs ys)
+
+items_none : (o : Option (List (Option ℕ))) → o ≡ option_map (λ (ns : List (Option ℕ)). ns ++ []) o
+items_none None = refl
+items_none (Some ns) = ap (λ (l : List (Option ℕ)). Some l) (sym (append-nil ns))
+
+-- the needs that were kept before these
+kept_before : (o kept : Option (List (Option ℕ))) (own : List (Option ℕ)) (needs : List (Option ℕ)) → kept ≡ option_map (λ (ns : List (Option ℕ)). ns ++ own) o → kept ≡ Some needs
+    → (ns : List (Option ℕ)) × (o ≡ Some ns) × (needs ≡ ns ++ own)
+kept_before None kept own needs extended is = let bad : None ≡ Some needs = sym extended ∙ is in absurd cc
+kept_before (Some ns) kept own needs extended is = (ns, refl, (let e : Some needs ≡ Some (ns ++ own) = sym is ∙ extended in cc))
+
+module _ (cell : Cell) where
+  -- the path goes on by needs of its own
+  pub IsPathOf-append : (above own : List Name) (path next : Path) → next.last ≡ last_number path.last (numbers_of cell own)
+      → kept_by next ≡ option_map (λ (ns : List (Option ℕ)). ns ++ numbers_of cell own) (kept_by path) → IsPathOf cell above path → IsPathOf cell (above ++ own) next
+  IsPathOf-append above own path next ends extended h = record {
+    ends = EndsIn-append cell above own path.last h.ends ∙ sym ends;
+    kept = λ needs is.
+        let before = kept_before (kept_by path) (kept_by next) (numbers_of cell own) needs extended is in
+        before.2 ∙ (ap (λ (ns : List (Option ℕ)). ns ++ numbers_of cell own) (h.kept before.0 before.1) ∙ sym (numbers-append cell above own));
+  }
+
+  -- the edges that lead on from a path stand where it was asked for their earlier ones
+  pub earlier_above : (above : List Name) (path : Path) (number : ℕ) → IsPathOf cell above path → Contains (path.last ∷ []) (Some number) ⊎ Contains (needs_in (kept_by path)) (Some number)
+      → IsAskedAbove cell above number
+  earlier_above above path number h (inl last) = IsAskedAbove-last cell above number (h.ends ∙ Contains-one path.last (Some number) last)
+  earlier_above above path number h (inr kept) = go (kept_by path) refl kept
+    where
+      go : (o : Option (List (Option ℕ))) → kept_by path ≡ o → Contains (needs_in o) (Some number) → IsAskedAbove cell above number
+      go None is among = absurd (Contains-none (Some number) among)
+      go (Some needs) is among = IsAskedAbove-kept cell above number (subst (λ (ns : List (Option ℕ)). Contains ns (Some number)) (h.kept needs is) among)
 
 -- What an act has asked for
 
 module _ (cell : Cell) (path : Path) (node : ℕ) where
-  -- one need, to which an edge leads where both are resources
-  pub HasAsked-one : (need : Name) (old new : EdgeSet) (next : Path) → IsReady cell path old → Grows old new → next.recipe ≡ path.recipe → next.last ≡ number_of cell need
-      → Joins new.edges.items path.last (number_of cell need)
-      → ((edge : Edge) → Contains new.edges.items edge → Contains old.edges.items edge
-      ⊎ ((edge.recipe ≡ path.recipe) × (edge.node ≡ node) × (path.last ≡ Some edge.earlier) × (number_of cell need ≡ Some edge.later)))
+  -- one need, to which edges lead from the last one, and from all that are kept
+  pub HasAsked-one : (need : Name) (number : Option ℕ) (old mid new : EdgeSet) (next : Path) → number_of cell need ≡ number → IsReady cell path old
+      → next.recipe ≡ path.recipe → next.last ≡ number
+      → HasJoined path.recipe node (path.last ∷ []) number old mid → IsKept path.recipe node (kept_by path) number mid new (kept_by next)
       → HasAsked cell path node (need ∷ []) old new next
-  HasAsked-one need old new next ready grown recipe last joined only = record {
-    grown = grown;
-    ready = record {
-      sized = grown.same_count ∙ ready.sized;
-      within = λ k is. let below = number_within cell need k (sym last ∙ is) in omega (arith, below, grown.same_count, ready.sized);
-    };
-    same_recipe = recipe;
-    ends = last;
-    covering = (joined, tt);
-    standing = λ above ends edge stands. elim (only edge stands) [
-      | inl old ↦ inl old
-      | inr new ↦ inr (new.0, new.1, IsAmong-next cell above need edge (ends ∙ new.2) new.3)
-    ];
-  }
+  HasAsked-one need number old mid new next is ready recipe last h g =
+      let grown : Grows old new = Grows-twice old mid new h.grown g.joined.grown in
+      let here : (k : ℕ) → number ≡ Some k → k < new.count = λ k numbered. let below = number_within cell need k (is ∙ numbered) in omega (arith, below, grown.same_count, ready.sized) in
+      let extended : kept_by next ≡ option_map (λ (ns : List (Option ℕ)). ns ++ number_of cell need ∷ []) (kept_by path) =
+      subst (λ (o : Option ℕ). kept_by next ≡ option_map (λ (ns : List (Option ℕ)). ns ++ o ∷ []) (kept_by path)) (sym is) g.extended in
+      record {
+        grown = grown;
+        ready = record {
+          sized = grown.same_count ∙ ready.sized;
+          within = λ k numbered. here k (sym last ∙ numbered);
+          below = below_next (kept_by path) (kept_by next) new.count number
+              (λ k among. omega (arith, ready.below k among, grown.same_count)) here g.extended;
+        };
+        same_recipe = recipe;
+        ends = last ∙ sym is;
+        extended = extended;
+        covering = (joins path.last (number_of cell need) (λ i j from into. g.joined.grown.kept i j (h.joined i j (Contains-at (path.last ∷ []) 0 (Some i) (ap (λ (o : Option ℕ). Some o) from)) (sym is ∙ into))), tt);
+        pairing = λ needs kept final later paired.
+            ArePaired-push final needs (number_of cell need) paired
+            (λ i j among into. later i j (g.joined.joined i j (subst (λ (o : Option (List (Option ℕ))). Contains (needs_in o) (Some i)) (sym kept) among) (sym is ∙ into)));
+        standing = λ above of edge stands. elim (g.joined.only edge stands) [
+          | inr new ↦ inr (new.recipe_is, new.node_is, IsAmong-next cell above need edge (earlier_above cell above path edge.earlier of (inr new.earlier_is)) (is ∙ new.later_is))
+          | inl known ↦ elim (h.only edge known) [
+            | inl old ↦ inl old
+            | inr new ↦ inr (new.recipe_is, new.node_is, IsAmong-next cell above need edge (earlier_above cell above path edge.earlier of (inl new.earlier_is)) (is ∙ new.later_is))
+          ]
+        ];
+      }
+    where
+      below_next : (o kept : Option (List (Option ℕ))) (count : ℕ) (number : Option ℕ) → AreBelow count (needs_in o) → ((k : ℕ) → number ≡ Some k → k < count)
+          → kept ≡ option_map (λ (ns : List (Option ℕ)). ns ++ number ∷ []) o → AreBelow count (needs_in kept)
+      below_next None kept count number below here e = λ k among. absurd (Contains-none (Some k) (subst (λ (o : Option (List (Option ℕ))). Contains (needs_in o) (Some k)) e among))
+      below_next (Some ns) kept count number below here e = λ k among.
+          AreBelow-push count ns number below here k (subst (λ (o : Option (List (Option ℕ))). Contains (needs_in o) (Some k)) e among)
 
-  pub HasAsked-pair : (need : Name) (old new : EdgeSet) (next : Path) (earlier later : ℕ) → IsReady cell path old → next.recipe ≡ path.recipe → next.last ≡ number_of cell need
-      → path.last ≡ Some earlier → next.last ≡ Some later → Grows old new → IsTrue (has_pair new.edges.items earlier later)
-      → ((edge : Edge) → Contains new.edges.items edge → Contains old.edges.items edge ⊎ (edge ≡ record { recipe = path.recipe; node = node; earlier = earlier; later = later }))
-      → HasAsked cell path node (need ∷ []) old new next
-  HasAsked-pair need old new next earlier later ready recipe last before numbered grown added only =
-      let number : number_of cell need ≡ Some later = sym last ∙ numbered in
-      let here : Joins new.edges.items (Some earlier) (Some later) = added in
-      let half : Joins new.edges.items path.last (Some later) = subst (λ o. Joins new.edges.items o (Some later)) (sym before) here in
-      HasAsked-one need old new next ready grown recipe last
-      (subst (λ o. Joins new.edges.items path.last o) (sym number) half)
-      (λ edge stands. elim (only edge stands) [
-        | inl known ↦ inl known
-        | inr same ↦ inr (
-          ap (λ (e : Edge). e.recipe) same,
-          ap (λ (e : Edge). e.node) same,
-          before ∙ ap (λ (e : Edge). Some e.earlier) (sym same),
-          number ∙ ap (λ (e : Edge). Some e.later) (sym same),
-        )
-      ])
+      joins : (last need : Option ℕ) → ((i j : ℕ) → last ≡ Some i → need ≡ Some j → IsTrue (has_pair new.edges.items i j)) → Joins new.edges.items last need
+      joins None need f = tt
+      joins (Some i) None f = tt
+      joins (Some i) (Some j) f = f i j refl refl
 
   pub HasAsked-none : (edges : EdgeSet) → IsReady cell path edges → HasAsked cell path node [] edges edges path
   HasAsked-none edges ready = record {
-    grown = record { same_count = refl; kept = λ i j known. known };
+    grown = Grows-same edges;
     ready = ready;
     same_recipe = refl;
     ends = refl;
+    extended = items_none (kept_by path);
     covering = tt;
-    standing = λ above ends edge stands. inl stands;
+    pairing = λ needs kept final later paired. subst (λ (ns : List (Option ℕ)). ArePaired final ns) (sym (append-nil needs)) paired;
+    standing = λ above of edge stands. inl stands;
   }
 
   pub HasAsked-append : (xs ys : List Name) (old mid new : EdgeSet) (at next : Path) → HasAsked cell path node xs old mid at → HasAsked cell at node ys mid new next
@@ -199,17 +259,51 @@ module _ (cell : Cell) (path : Path) (node : ℕ) where
     ready = g.ready;
     same_recipe = g.same_recipe ∙ h.same_recipe;
     ends = g.ends ∙ (ap (λ o. last_number o (numbers_of cell ys)) h.ends ∙ sym (last-append cell path.last xs ys));
+    extended =
+        g.extended ∙ (ap (option_map (λ (ns : List (Option ℕ)). ns ++ numbers_of cell ys)) h.extended
+        ∙ (items_assoc (kept_by path) (numbers_of cell xs) (numbers_of cell ys)
+        ∙ ap (λ (own : List (Option ℕ)). option_map (λ (ns : List (Option ℕ)). ns ++ own) (kept_by path)) (sym (numbers-append cell xs ys))));
     covering = subst (λ (ns : List (Option ℕ)). Follows new.edges.items path.last ns) (sym (numbers-append cell xs ys))
         (Follows-append new.edges.items path.last (numbers_of cell xs) (numbers_of cell ys)
         (Follows-keeps mid.edges.items new.edges.items g.grown.kept path.last (numbers_of cell xs) h.covering)
         (subst (λ o. Follows new.edges.items o (numbers_of cell ys)) h.ends g.covering));
-    standing = λ above ends edge stands.
-        let ends_at : EndsIn cell (above ++ xs) at.last = EndsIn-append cell above xs path.last ends ∙ sym h.ends in
-        elim (g.standing (above ++ xs) ends_at edge stands) [
+    pairing = λ needs kept final later paired.
+        let first : ArePaired final (needs ++ numbers_of cell xs) = h.pairing needs kept final (λ i j known. later i j (g.grown.kept i j known)) paired in
+        let at_kept : kept_by at ≡ Some (needs ++ numbers_of cell xs) = h.extended ∙ ap (option_map (λ (ns : List (Option ℕ)). ns ++ numbers_of cell xs)) kept in
+        subst (λ (ns : List (Option ℕ)). ArePaired final ns)
+        (append_assoc needs (numbers_of cell xs) (numbers_of cell ys) ∙ ap (λ (own : List (Option ℕ)). needs ++ own) (sym (numbers-append cell xs ys)))
+        (g.pairing (needs ++ numbers_of cell xs) at_kept final later first);
+    standing = λ above of edge stands.
+        let of_at : IsPathOf cell (above ++ xs) at = IsPathOf-append cell above xs path at h.ends h.extended of in
+        elim (g.standing (above ++ xs) of_at edge stands) [
           | inr new ↦ inr (new.0 ∙ h.same_recipe, new.1, IsAmong-after cell above xs ys edge new.2)
-          | inl before ↦ elim (h.standing above ends edge before) [
+          | inl before ↦ elim (h.standing above of edge before) [
             | inl old ↦ inl old
             | inr new ↦ inr (new.0, new.1, IsAmong-more cell above xs ys edge new.2)
           ]
+        ];
+  }
+
+  -- a path goes on as its copy does
+  pub IsReady-copy : (copy : Path) (edges : EdgeSet) → IsCopy path copy → IsReady cell path edges → IsReady cell copy edges
+  IsReady-copy copy edges same ready = record {
+    sized = ready.sized;
+    within = λ k is. ready.within k (sym same.same_last ∙ is);
+    below = λ k among. ready.below k (subst (λ (o : Option (List (Option ℕ))). Contains (needs_in o) (Some k)) same.same_kept among);
+  }
+
+  pub HasAsked-copy : (copy : Path) (own : List Name) (old new : EdgeSet) (next : Path) → IsCopy path copy → HasAsked cell copy node own old new next → HasAsked cell path node own old new next
+  HasAsked-copy copy own old new next same h = record {
+    grown = h.grown;
+    ready = h.ready;
+    same_recipe = h.same_recipe ∙ same.same_recipe;
+    ends = h.ends ∙ ap (λ o. last_number o (numbers_of cell own)) same.same_last;
+    extended = h.extended ∙ ap (option_map (λ (ns : List (Option ℕ)). ns ++ numbers_of cell own)) same.same_kept;
+    covering = subst (λ o. Follows new.edges.items o (numbers_of cell own)) same.same_last h.covering;
+    pairing = λ needs kept final later paired. h.pairing needs (same.same_kept ∙ kept) final later paired;
+    standing = λ above of edge stands.
+        elim (h.standing above (record { ends = of.ends ∙ sym same.same_last; kept = λ needs is. of.kept needs (sym same.same_kept ∙ is) }) edge stands) [
+          | inl known ↦ inl known
+          | inr new ↦ inr (new.0 ∙ same.same_recipe, new.1, new.2)
         ];
   }

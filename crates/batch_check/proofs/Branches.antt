@@ -18,8 +18,9 @@ use Rattle.batch_check.specs.declared.edge.Edge.{Edge}
 use Rattle.batch_check.specs.declared.edge_set.EdgeSet.{EdgeSet}
 use Rattle.batch_check.specs.declared.path.Path.{Path}
 use Rattle.batch_check.specs.Pairs.{Keeps}
-use Rattle.batch_check.specs.Collecting.{Grows, IsReady, IsCollected}
-use Rattle.batch_check.proofs.Asking.{Grows-twice}
+use Rattle.batch_check.specs.Joining.{Grows}
+use Rattle.batch_check.specs.Collecting.{IsReady, IsCollected}
+use Rattle.batch_check.proofs.Joins.{Grows-same, Grows-twice}
 use Rattle.batch_check.proofs.Collects.{collected-append, collected-none, collected-under}
 use Rattle.batch_recipe.specs.Needs.{resources_of}
 
@@ -31,10 +32,8 @@ pub IsReady-grown : (cell : Cell) (path : Path) (old new : EdgeSet) → IsReady 
 IsReady-grown cell path old new h g = record {
   sized = g.same_count ∙ h.sized;
   within = λ k is. let below = h.within k is in omega (arith, below, g.same_count);
+  below = λ k among. let below = h.below k among in omega (arith, below, g.same_count);
 }
-
-pub Grows-same : (edges : EdgeSet) → Grows edges edges
-Grows-same edges = record { same_count = refl; kept = λ i j known. known }
 
 module _ (F : Name → Name → Place → Tree) (cell : Cell) (path : Path) where
   -- what is said of a chart at child i of any place

@@ -6,6 +6,7 @@ pub mod Turns
 pub mod Entries
 pub mod Told
 pub mod Pairs
+pub mod Joins
 pub mod Asking
 pub mod Collects
 pub mod Branches
@@ -14,5 +15,8 @@ pub mod Rising
 pub mod Bound
 pub mod Recipes
 pub mod Circles
+pub mod Spreads
+pub mod Fewest
+pub mod Detours
 pub mod Tight
 pub mod Verdicts

@@ -1,7 +1,7 @@
 -- A cell's resources by name and by number.
-use Rattle.std.proofs.Common.{◌≡◌, ◌≢◌, ℕ, ◌<◌, Bool, true, false, cond, List, [], ◌∷◌, ◌++◌, map, filter, length, get_or, slice_get, position, Some, None, Option, All, AllPairs, ◌↔◌, refl, sym, arith, nat_lt, lt-ltb}
+use Rattle.std.proofs.Common.{◌≡◌, ◌≢◌, ℕ, ◌<◌, Bool, true, false, cond, List, [], ◌∷◌, ◌++◌, map, filter, length, get_or, slice_get, position, Some, None, Option, All, AllPairs, ◌↔◌, refl, sym, ap, ◌∙◌, arith, nat_lt, lt-ltb}
 use Rattle.std.specs.List.{AllByRecursion, IsDistinct, position_or_len}
-use Rattle.std.proofs.lemmas.Option.{get_or_from_slice_get}
+use Rattle.std.proofs.lemmas.Option.{get_or_from_slice_get, slice_get_within}
 use Rattle.std.proofs.lemmas.Slice.Eq.{bytes_eq-Decides}
 use Rattle.std.proofs.lemmas.List.Sums.{position_or_len_is}
 use Rattle.std.proofs.lemmas.Map.Made.{AllPairs-from_IsDistinct}
@@ -10,6 +10,7 @@ use Rattle.batch_cell.specs.LookUps.{resources_of}
 use Rattle.batch_cell.specs.declared.cell.Cell.{Cell}
 use Rattle.batch_recipe.specs.Conditions.{Name, same_name}
 use Rattle.batch_check.specs.declared.edge.Edge.{Edge}
+use Rattle.batch_check.specs.Edges.{number_of}
 use Rattle.batch_check.specs.LeastRanking.{IsWithin}
 use Rattle.batch_check.specs.ByName.{name_in}
 use Rattle.batch_verify.specs.Refusals.{rank_in}
@@ -79,3 +80,9 @@ ranks_rise_by_name c ranks edges within = (
 -- what a look-up of a name gives
 pub name_in-found : (c : Cell) (resource : ℕ) (name : Name) → slice_get (resources_of c) resource ≡ Some name → name_in c resource ≡ name
 name_in-found c resource name found = get_or_from_slice_get (resources_of c) resource name [] found
+
+-- a resource has the number of the place where it stands
+pub number_of_own : (c : Cell) (name : Name) (k : ℕ) → slice_get (resources_of c) k ≡ Some name → number_of c name ≡ Some k
+number_of_own c name k found =
+    ap (λ (n : Name). position (same_name n) (resources_of c)) (sym (name_in-found c k name found))
+    ∙ position_of_own (resources_of c) k (resources_differ c) (slice_get_within (resources_of c) k name found)

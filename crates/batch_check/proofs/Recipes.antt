@@ -1,10 +1,10 @@
 -- The edges of recipes, one recipe after another.
-use Rattle.std.proofs.Common.{◌≡◌, ℕ, ◌+◌, ◌<◌, ◌≤◌, ◌⊎◌, inl, inr, refl, List, [], ◌∷◌, ◌++◌, get_or, take, length, slice_get, Some, None, All, sym, ap, ◌∙◌, subst, arith}
+use Rattle.std.proofs.Common.{◌≡◌, ℕ, ◌+◌, ◌<◌, ◌≤◌, ◌⊎◌, inl, inr, refl, List, [], ◌∷◌, ◌++◌, get_or, take, length, slice_get, IsTrue, Option, Some, None, option_map, All, sym, ap, ◌∙◌, subst, arith}
 use Rattle.std.specs.List.{Contains}
 use Rattle.std.proofs.lemmas.Bool.{cases_lt}
 use Rattle.std.proofs.lemmas.List.{length-map, take_more}
-use Rattle.std.proofs.lemmas.List.Elements.{All-weaker, Contains-get_or}
-use Rattle.std.proofs.lemmas.Option.{slice_get_within, slice_get-get_or}
+use Rattle.std.proofs.lemmas.List.Elements.{All-weaker, All-contains, Contains-get_or}
+use Rattle.std.proofs.lemmas.Option.{slice_get_within, slice_get-get_or, slice_get-map}
 use Rattle.batch_cell.specs.LookUps.{resources_of}
 use Rattle.batch_cell.specs.declared.cell.Cell.{Cell}
 use Rattle.batch_recipe.proofs.Bindings.{places_stay}
@@ -15,25 +15,24 @@ use Rattle.batch_recipe.specs.Procedure.{bound_nodes, procedure_nodes}
 use Rattle.batch_recipe.specs.Tree.{Place}
 use Rattle.batch_recipe.specs.declared.recipe.Recipe.{Recipe}
 use Rattle.batch_model.specs.Lists.{Each}
-use Rattle.batch_model.proofs.Members.{Each-append}
+use Rattle.batch_model.proofs.Members.{Each-append, Each-map}
 use Rattle.batch_check.specs.declared.edge.Edge.{Edge}
 use Rattle.batch_check.specs.declared.edge_set.EdgeSet.{EdgeSet}
 use Rattle.batch_check.specs.declared.path.Path.{Path}
-use Rattle.batch_model.specs.Setups.{setup_of}
+use Rattle.batch_check.specs.declared.path.Reach.{Reach}
+use Rattle.batch_check.specs.declared.path.Reach.TheVariants.{Next, Whole}
 use Rattle.batch_verify.specs.Bindings.{binding_count, numbered}
 use Rattle.batch_verify.proofs.Tried.{numbered-tried}
-use Rattle.batch_check.specs.Edges.{OfNodes, Stands, Covers, CoversRecipes, Follows, AreEdgesOf, numbers_of}
+use Rattle.batch_check.specs.Edges.{OfNodes, Stands, Covers, CoversRecipes, Follows, AreEdgesOf, has_pair, number_of, numbers_of}
 use Rattle.batch_check.specs.LeastRanking.{IsWithin}
-use Rattle.batch_check.specs.Pairs.{Keeps}
-use Rattle.batch_check.specs.Collecting.{Grows, IsReady, IsCollected, IsAdded}
-use Rattle.batch_check.proofs.Asking.{Grows-twice}
+use Rattle.batch_check.specs.Pairs.{ArePaired, Keeps}
+use Rattle.batch_check.specs.Joining.{Grows, HasTaken, needs_in}
+use Rattle.batch_check.specs.Collecting.{AreAdded, HasAllPairs, IsReady, IsCollected, IsAdded, PairsAll, PairsRecipe, kept_at_top, kept_by}
+use Rattle.batch_check.proofs.Asking.{Follows-keeps}
 use Rattle.batch_check.proofs.Bound.{bindings_suffice}
-use Rattle.batch_check.proofs.Branches.{Grows-same}
-
-pub record KeepsRecipes (cell : Cell) (recipes : List Recipe) (set : EdgeSet) (index : ℕ) : Type 0 where
-  pub sized : set.count ≡ length (resources_of cell)
-  pub standing : (edge : Edge) → Contains set.edges.items edge → Stands cell recipes edge
-  pub covering : (final : List Edge) → Keeps set.edges.items final → CoversRecipes cell (take index recipes) final
+use Rattle.batch_check.proofs.Joins.{Contains-none, Grows-same, Grows-twice}
+use Rattle.batch_check.proofs.Names.{number_of_own}
+use Rattle.batch_check.proofs.Rising.{Each-get}
 
 -- as many nodes as where no unit takes any role
 same_length : (cell : Cell) (recipe : Recipe) (index : ℕ) → length (bound_nodes (numbered cell recipe.roles.items index) recipe.acts) ≡ length (procedure_nodes recipe.acts)
@@ -42,35 +41,27 @@ same_length cell recipe index =
     let bound : Binding = numbered cell recipe.roles.items index in
     sym (length-map (bound_nodes bound recipe.acts) place_of) ∙ (ap length (places_stay bound recipe.acts) ∙ length-map (procedure_nodes recipe.acts) place_of)
 
+covers_more : (cell : Cell) (old new : List Edge) → Keeps old new → (recipes : List Recipe) → CoversRecipes cell recipes old → CoversRecipes cell recipes new
+covers_more cell old new keeps [] h = tt
+covers_more cell old new keeps (r ∷ rs) h = (
+  λ bound tried. Each-map (Covers cell old) (Covers cell new) (λ node covered. Follows-keeps old new keeps None (numbers_of cell node.asked) covered) (bound_nodes bound r.acts) (h.0 bound tried),
+  covers_more cell old new keeps rs h.1,
+)
+
+-- where the needs of all paths are paired, there is an edge wherever one stands
+pair_stands : (cell : Cell) (recipes : List Recipe) (edges : List Edge) → Each (PairsRecipe cell edges) recipes → (e : Edge) → Stands cell recipes e → IsTrue (has_pair edges e.earlier e.later)
+pair_stands cell recipes edges paired e s =
+    let here = Each-get (PairsAll cell edges) (bound_nodes s.bound s.recipe.acts) e.node s.node
+    (Each-get (PairsRecipe cell edges) recipes e.recipe s.recipe paired s.found s.bound s.tried) s.numbered in
+    let number : (name : Name) (k place : ℕ) → slice_get (resources_of cell) k ≡ Some name → slice_get s.node.asked place ≡ Some name
+    → slice_get (numbers_of cell s.node.asked) place ≡ Some (Some k) =
+    λ name k place named at. slice_get-map (number_of cell) s.node.asked place
+    ∙ (ap (option_map (number_of cell)) at ∙ ap (λ (o : Option ℕ). Some o) (number_of_own cell name k named)) in
+    here s.asked.asked.before s.asked.asked.own e.earlier e.later s.asked.asked.ordered
+    (number s.asked.earlier_name e.earlier s.asked.asked.before s.asked.earlier_named s.asked.asked.earlier_is)
+    (number s.asked.later_name e.later s.asked.asked.own s.asked.later_named s.asked.asked.later_is)
+
 module _ (cell : Cell) (recipes : List Recipe) where
-  pub KeepsRecipes-first : (set : EdgeSet) → set.count ≡ length (resources_of cell) → set.edges.items ≡ [] → KeepsRecipes cell recipes set 0
-  KeepsRecipes-first set sized empty = record {
-    sized = sized;
-    standing = λ edge stands. let at = subst (λ (es : List Edge). Contains es edge) empty stands in absurd (omega arith);
-    covering = λ final later. tt;
-  }
-
-  pub KeepsRecipes-more : (set new : EdgeSet) (index : ℕ) (recipe : Recipe) → KeepsRecipes cell recipes set index → index < length recipes → recipe ≡ get_or recipes index recipe
-      → ((all : List Recipe) → slice_get all index ≡ Some recipe → IsAdded cell all recipe set new) → KeepsRecipes cell recipes new (index + 1)
-  KeepsRecipes-more set new index recipe h in' is adds =
-      let added = adds recipes (slice_get-get_or recipes index recipe in' ∙ ap (λ (r : Recipe). Some r) (sym is)) in
-      record {
-        sized = added.grown.same_count ∙ h.sized;
-        standing = λ edge stands. elim (added.standing edge stands) [ inl known ↦ h.standing edge known | inr here ↦ here ];
-        covering = λ final later.
-            subst (λ (rs : List Recipe). CoversRecipes cell rs final)
-            (sym (take_more recipes index recipe in' ∙ ap (λ (r : Recipe). take index recipes ++ r ∷ []) (sym is)))
-            (Each-append (OfNodes cell (Covers cell final)) (take index recipes) (recipe ∷ [])
-            (h.covering final (λ i j known. later i j (added.grown.kept i j known)))
-            (added.covering final later, tt));
-      }
-
-  pub edges_of_all : (set : EdgeSet) (index : ℕ) → take index recipes ≡ recipes → KeepsRecipes cell recipes set index → AreEdgesOf cell recipes set.edges.items
-  edges_of_all set index all h = record {
-    standing = λ k e in'. h.standing (get_or set.edges.items k e) (Contains-get_or set.edges.items k e in');
-    covering = subst (λ (rs : List Recipe). CoversRecipes cell rs set.edges.items) all (h.covering set.edges.items (λ i j known. known));
-  }
-
   pub standing_within : (edges : List Edge) → All (Stands cell recipes) edges → IsWithin (length (resources_of cell)) edges
   standing_within edges standing =
       All-weaker (Stands cell recipes) (λ (e : Edge). (e.earlier < length (resources_of cell)) × (e.later < length (resources_of cell)))
@@ -79,56 +70,159 @@ module _ (cell : Cell) (recipes : List Recipe) where
         slice_get_within (resources_of cell) e.later s.asked.later_name s.asked.later_named,
       )) edges standing
 
+  module _ (kept : Option (List (Option ℕ))) (old : EdgeSet) where
+    pub AreAdded-none : AreAdded cell kept recipes [] old old
+    AreAdded-none = record { grown = Grows-same old; standing = λ edge stands. inl stands; covering = λ final later. tt; pairing = λ whole final later. tt }
+
+    pub AreAdded-more : (set new : EdgeSet) (index : ℕ) (recipe : Recipe) → AreAdded cell kept recipes (take index recipes) old set → index < length recipes
+        → recipe ≡ get_or recipes index recipe → ((all : List Recipe) → slice_get all index ≡ Some recipe → IsAdded cell kept all recipe set new)
+        → AreAdded cell kept recipes (take (index + 1) recipes) old new
+    AreAdded-more set new index recipe h in' is adds =
+        let added = adds recipes (slice_get-get_or recipes index recipe in' ∙ ap (λ (r : Recipe). Some r) (sym is)) in
+        let more : take (index + 1) recipes ≡ take index recipes ++ recipe ∷ [] =
+        take_more recipes index recipe in' ∙ ap (λ (r : Recipe). take index recipes ++ r ∷ []) (sym is) in
+        record {
+          grown = Grows-twice old set new h.grown added.grown;
+          standing = λ edge stands. elim (added.standing edge stands) [ inl known ↦ h.standing edge known | inr here ↦ inr here ];
+          covering = λ final later.
+              subst (λ (rs : List Recipe). CoversRecipes cell rs final) (sym more)
+              (Each-append (OfNodes cell (Covers cell final)) (take index recipes) (recipe ∷ [])
+              (h.covering final (λ i j known. later i j (added.grown.kept i j known)))
+              (added.covering final later, tt));
+          pairing = λ whole final later.
+              subst (λ (rs : List Recipe). Each (PairsRecipe cell final) rs) (sym more)
+              (Each-append (PairsRecipe cell final) (take index recipes) (recipe ∷ [])
+              (h.pairing whole final (λ i j known. later i j (added.grown.kept i j known)))
+              (added.pairing whole final later, tt));
+        }
+
+  -- the edges of all recipes, where there were none before
+  pub edges_of_all : (kept : Option (List (Option ℕ))) (old set : EdgeSet) → old.edges.items ≡ [] → AreAdded cell kept recipes recipes old set → AreEdgesOf cell recipes set.edges.items
+  edges_of_all kept old set empty h = record {
+    standing = λ k e in'. elim (h.standing (get_or set.edges.items k e) (Contains-get_or set.edges.items k e in')) [
+      | inl known ↦ absurd (Contains-none (get_or set.edges.items k e) (subst (λ (es : List Edge). Contains es (get_or set.edges.items k e)) empty known))
+      | inr here ↦ here
+    ];
+    covering = h.covering set.edges.items (λ i j known. known);
+  }
+
+  -- edges that stand may be added
+  pub edges_with : (old new : EdgeSet) (circle : List Edge) → AreEdgesOf cell recipes old.edges.items → All (Stands cell recipes) circle → HasTaken circle old new
+      → AreEdgesOf cell recipes new.edges.items
+  edges_with old new circle h standing taken = record {
+    standing = λ k e in'. elim (taken.only (get_or new.edges.items k e) (Contains-get_or new.edges.items k e in')) [
+      | inl known ↦ All-contains (Stands cell recipes) old.edges.items (get_or new.edges.items k e) h.standing known
+      | inr added ↦ All-contains (Stands cell recipes) circle (get_or new.edges.items k e) standing added
+    ];
+    covering = covers_more cell old.edges.items new.edges.items taken.grown.kept recipes h.covering;
+  }
+
+  -- the edges of each two needs, where all edges stood before
+  pub pairs_of_all : (old set : EdgeSet) → AreEdgesOf cell recipes old.edges.items → AreAdded cell (Some []) recipes recipes old set → HasAllPairs cell recipes old set
+  pairs_of_all old set edges h = record {
+    grown = h.grown;
+    standing = λ edge stands. elim (h.standing edge stands) [
+      | inl known ↦ All-contains (Stands cell recipes) old.edges.items edge edges.standing known
+      | inr here ↦ here
+    ];
+    whole = λ edge stands. pair_stands cell recipes set.edges.items (h.pairing refl set.edges.items (λ i j known. known)) edge stands;
+  }
+
+  pub pairs_within : (old set : EdgeSet) → HasAllPairs cell recipes old set → IsWithin (length (resources_of cell)) set.edges.items
+  pairs_within old set h = standing_within set.edges.items (λ k e in'. h.standing (get_or set.edges.items k e) (Contains-get_or set.edges.items k e in'))
+
 -- One recipe, binding by binding
 
-pub record KeepsBindings (cell : Cell) (recipe : Recipe) (number : ℕ) (old set : EdgeSet) (index : ℕ) : Type 0 where
+-- the nodes of the recipe where units take its roles by the binding with this number
+abbrev nodes_by : Cell → Recipe → ℕ → List Node
+nodes_by cell recipe k = bound_nodes (numbered cell recipe.roles.items k) recipe.acts
+
+pub record KeepsBindings (cell : Cell) (kept : Option (List (Option ℕ))) (recipe : Recipe) (number : ℕ) (old set : EdgeSet) (index : ℕ) : Type 0 where
   pub grown : Grows old set
   pub standing : (all : List Recipe) → slice_get all number ≡ Some recipe → (edge : Edge) → Contains set.edges.items edge → Contains old.edges.items edge ⊎ Stands cell all edge
   pub covering : (final : List Edge) → Keeps set.edges.items final → (k : ℕ) → k < index → Each (Covers cell final) (bound_nodes (numbered cell recipe.roles.items k) recipe.acts)
+  pub pairing : kept ≡ Some [] → (final : List Edge) → Keeps set.edges.items final → (k : ℕ) → k < index
+      → Each (PairsAll cell final) (bound_nodes (numbered cell recipe.roles.items k) recipe.acts)
 
-module _ (cell : Cell) (recipe : Recipe) (number : ℕ) (old : EdgeSet) where
-  pub KeepsBindings-first : KeepsBindings cell recipe number old old 0
+-- no needs are kept above all nodes
+pub top_kept : (reach : Reach) → (kept_at_top reach ≡ None) ⊎ (kept_at_top reach ≡ Some [])
+top_kept Next = inl refl
+top_kept Whole = inr refl
+
+module _ (cell : Cell) (kept : Option (List (Option ℕ))) (recipe : Recipe) (number : ℕ) (old : EdgeSet) where
+  pub KeepsBindings-first : KeepsBindings cell kept recipe number old old 0
   KeepsBindings-first = record {
     grown = Grows-same old;
     standing = λ all found edge stands. inl stands;
     covering = λ final later k below. absurd (omega arith);
+    pairing = λ whole final later k below. absurd (omega arith);
   }
 
-  pub IsReady-first : (set : EdgeSet) (index : ℕ) (path : Path) → old.count ≡ length (resources_of cell) → KeepsBindings cell recipe number old set index → path.last ≡ None → IsReady cell path set
-  IsReady-first set index path sized h none = record { sized = h.grown.same_count ∙ sized; within = λ k is. let bad : None ≡ Some k = sym none ∙ is in absurd cc }
+  -- the path above all nodes
+  pub record IsTop (path : Path) : Type 0 where
+    pub recipe_is : path.recipe ≡ number
+    pub last_is : path.last ≡ None
+    pub kept_is : kept_by path ≡ kept
 
-  pub KeepsBindings-more : (set new : EdgeSet) (index next : ℕ) (path : Path) → KeepsBindings cell recipe number old set index → path.recipe ≡ number → path.last ≡ None → Grows set new
+  pub IsReady-first : (set : EdgeSet) (index : ℕ) (path : Path) → old.count ≡ length (resources_of cell) → KeepsBindings cell kept recipe number old set index
+      → (kept ≡ None) ⊎ (kept ≡ Some []) → IsTop path → IsReady cell path set
+  IsReady-first set index path sized h empty top = record {
+    sized = h.grown.same_count ∙ sized;
+    within = λ k is. let bad : None ≡ Some k = sym top.last_is ∙ is in absurd cc;
+    below = λ k among. absurd (Contains-none (Some k) (subst (λ (ns : List (Option ℕ)). Contains ns (Some k)) (ap needs_in top.kept_is ∙ no_needs empty) among));
+  }
+    where
+      no_needs : (kept ≡ None) ⊎ (kept ≡ Some []) → needs_in kept ≡ []
+      no_needs (inl none) = ap needs_in none
+      no_needs (inr empty) = ap needs_in empty
+
+  pub KeepsBindings-more : (set new : EdgeSet) (index next : ℕ) (path : Path) → KeepsBindings cell kept recipe number old set index → IsTop path
+      → (kept ≡ None) ⊎ (kept ≡ Some []) → Grows set new
       → IsCollected cell path 0 [] (bound_nodes (numbered cell recipe.roles.items index) recipe.acts) set.edges.items new.edges.items next
-      → KeepsBindings cell recipe number old new (index + 1)
-  KeepsBindings-more set new index next path h numbered_so none grown collected = record {
+      → KeepsBindings cell kept recipe number old new (index + 1)
+  KeepsBindings-more set new index next path h top empty grown collected = record {
     grown = Grows-twice old set new h.grown grown;
     standing = λ all found edge stands.
-        elim (collected.standing (sym none) (omega (arith, recipe.small, same_length cell recipe index)) edge stands) [
+        elim (collected.standing (record { ends = sym top.last_is; kept = λ needs is. none_kept needs empty (sym top.kept_is ∙ is) })
+        (omega (arith, recipe.small, same_length cell recipe index)) edge stands) [
           | inl known ↦ h.standing all found edge known
           | inr here ↦ inr (record {
             recipe = recipe;
-            found = ap (slice_get all) (here.recipe_is ∙ numbered_so) ∙ found;
+            found = ap (slice_get all) (here.recipe_is ∙ top.recipe_is) ∙ found;
             bound = numbered cell recipe.roles.items index;
             tried = numbered-tried cell (recipe ∷ []) recipe recipe.own_roles index;
             node = here.node;
-            numbered = ap (slice_get (bound_nodes (numbered cell recipe.roles.items index) recipe.acts)) (let e : edge.node ≡ here.index = omega (arith, here.node_is) in e) ∙ here.numbered;
+            numbered = ap (slice_get (nodes_by cell recipe index)) (let e : edge.node ≡ here.index = omega (arith, here.node_is) in e) ∙ here.numbered;
             asked = here.asked;
           })
         ];
-    covering = λ final later k below. covers final later k (cases_lt k index) below;
+    covering = λ final later k below. so_far (Covers cell final) k
+        (λ before. h.covering final (λ i j known. later i j (grown.kept i j known)) k before)
+        (collected.covering final later (record { covered = tt; ends = sym top.last_is })) (cases_lt k index) below;
+    pairing = λ whole final later k below. so_far (PairsAll cell final) k
+        (λ before. h.pairing whole final (λ i j known. later i j (grown.kept i j known)) k before)
+        (collected.pairing final later (record {
+          paired = λ before place i j ordered at_before at_place. let bad : None ≡ Some (Some i) = at_before in absurd cc;
+          kept = top.kept_is ∙ whole;
+        })) (cases_lt k index) below;
   }
     where
-      covers : (final : List Edge) → Keeps new.edges.items final → (k : ℕ) → (k < index) ⊎ (index ≤ k) → k < index + 1 → Each (Covers cell final) (bound_nodes (numbered cell recipe.roles.items k) recipe.acts)
-      covers final later k (inl before) below = h.covering final (λ i j known. later i j (grown.kept i j known)) k before
-      covers final later k (inr here) below =
-          subst (λ i. Each (Covers cell final) (bound_nodes (numbered cell recipe.roles.items i) recipe.acts)) (let e : index ≡ k = omega arith in e)
-          (collected.covering final later (record { covered = tt; ends = sym none }))
+      none_kept : (needs : List (Option ℕ)) → (kept ≡ None) ⊎ (kept ≡ Some []) → kept ≡ Some needs → needs ≡ []
+      none_kept needs (inl none) is = let bad : None ≡ Some needs = sym none ∙ is in absurd cc
+      none_kept needs (inr empty) is = let e : Some needs ≡ Some [] = sym is ∙ empty in cc
 
-  pub added_all : (set : EdgeSet) (index : ℕ) → binding_count cell recipe.roles.items ≤ index → KeepsBindings cell recipe number old set index
-      → (all : List Recipe) → slice_get all number ≡ Some recipe → IsAdded cell all recipe old set
+      so_far : (P : Node → Type 0) (k : ℕ) → (k < index → Each P (nodes_by cell recipe k)) → Each P (nodes_by cell recipe index) → (k < index) ⊎ (index ≤ k) → k < index + 1
+          → Each P (nodes_by cell recipe k)
+      so_far P k f here (inl before) below = f before
+      so_far P k f here (inr past) below = subst (λ i. Each P (nodes_by cell recipe i)) (let e : index ≡ k = omega arith in e) here
+
+  pub added_all : (set : EdgeSet) (index : ℕ) → binding_count cell recipe.roles.items ≤ index → KeepsBindings cell kept recipe number old set index
+      → (all : List Recipe) → slice_get all number ≡ Some recipe → IsAdded cell kept all recipe old set
   added_all set index past h all found = record {
     grown = h.grown;
     standing = h.standing all found;
     covering = λ final later bound tried.
         bindings_suffice cell (recipe ∷ []) recipe (λ (names : List Name). Follows final None (numbers_of cell names)) (λ k below. h.covering final later k (omega (arith, past))) bound tried;
+    pairing = λ whole final later bound tried.
+        bindings_suffice cell (recipe ∷ []) recipe (λ (names : List Name). ArePaired final (numbers_of cell names)) (λ k below. h.pairing whole final later k (omega (arith, past))) bound tried;
   }

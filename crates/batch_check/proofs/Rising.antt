@@ -1,5 +1,5 @@
 -- Rising paths and rising edges.
-use Rattle.std.proofs.Common.{◌≡◌, ℕ, zero, suc, ◌<◌, ◌≤◌, List, [], ◌∷◌, IsTrue, Bool, true, false, ◌&&◌, nat_eq, map, length, position, get_or, slice_get, Option, Some, None, All, Contains, refl, sym, ap, ◌∙◌, subst, arith}
+use Rattle.std.proofs.Common.{◌≡◌, ℕ, zero, suc, ◌<◌, ◌≤◌, List, [], ◌∷◌, IsTrue, true, ◌&&◌, nat_eq, map, length, position, get_or, slice_get, Option, Some, None, All, Contains, refl, sym, ap, ◌∙◌, subst, arith}
 use Rattle.std.specs.List.{Any}
 use Rattle.std.proofs.lemmas.Bool.{and_parts, eqb-true}
 use Rattle.std.proofs.lemmas.List.Quantifiers.{position-Some}
@@ -78,7 +78,7 @@ pub record HasEdge (edges : List Edge) (i j : ℕ) : Type 0 where
   pub from : edge.earlier ≡ i
   pub into : edge.later ≡ j
 
-edge_of : (edges : List Edge) (i j : ℕ) → IsTrue (has_pair edges i j) → HasEdge edges i j
+pub edge_of : (edges : List Edge) (i j : ℕ) → IsTrue (has_pair edges i j) → HasEdge edges i j
 edge_of edges i j h =
     let any : Any (λ (e : Edge). (nat_eq e.earlier i && nat_eq e.later j) ≡ true) edges = Any-from_list_any (λ (e : Edge). nat_eq e.earlier i && nat_eq e.later j) edges h in
     let both = and_parts (nat_eq any.1.earlier i) (nat_eq any.1.later j) any.4 in

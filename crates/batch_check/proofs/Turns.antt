@@ -1,5 +1,5 @@
 -- Circles turned to another start, and the least of the names.
-use Rattle.std.proofs.Common.{◌≡◌, ◌≢◌, ℕ, ◌+◌, ◌<◌, ◌≤◌, suc, true, List, [], ◌∷◌, ◌++◌, map, length, take, drop, drop-cons, get_or, All, AllPairs, Contains, refl, sym, ap, ◌∙◌, subst, arith, below_more, eqb, is_lt}
+use Rattle.std.proofs.Common.{◌≡◌, ◌≢◌, ℕ, ◌+◌, ◌<◌, ◌≤◌, suc, true, List, [], ◌∷◌, ◌++◌, map, length, take, drop, drop-cons, get_or, All, AllPairs, Contains, refl, sym, ap, ◌∙◌, subst, arith, below_more, eqb, is_lt, length-append}
 use Rattle.std.specs.Cmp.{unsigned_Decides}
 use Rattle.std.specs.declared.cmp.Ordering.{Ordering}
 use Rattle.std.specs.declared.cmp.Ordering.TheVariants.{Less, Equal, Greater}
@@ -91,6 +91,12 @@ IsCircle-swapped edges xs ys h =
 
 pub IsCircle-turned : (edges circle : List Edge) (place : ℕ) → IsCircle edges circle → IsCircle edges (drop place circle ++ take place circle)
 IsCircle-turned edges circle place h = IsCircle-swapped edges (take place circle) (drop place circle) (subst (IsCircle edges) (sym (take-append-drop place circle)) h)
+
+pub length-turned : (circle : List Edge) (place : ℕ) → length (drop place circle ++ take place circle) ≡ length circle
+length-turned circle place =
+    let swapped : length (drop place circle ++ take place circle) ≡ length (drop place circle) + length (take place circle) = length-append (drop place circle) (take place circle) in
+    let whole : length (take place circle ++ drop place circle) ≡ length (take place circle) + length (drop place circle) = length-append (take place circle) (drop place circle) in
+    omega (arith, swapped, whole, ap length (take-append-drop place circle))
 
 pub BeginsWithLeastName-turned : (c : Cell) (circle : List Edge) (place : ℕ) (d : Edge) → place < length circle
     → All (λ e. ¬ (IsBelow (name_in c e.earlier) (name_in c (get_or circle place d).earlier))) circle → BeginsWithLeastName c (drop place circle ++ take place circle)

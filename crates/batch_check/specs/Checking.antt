@@ -12,6 +12,7 @@ use Rattle.batch_check.specs.declared.fault.CheckFault.{CheckFault}
 use Rattle.batch_check.specs.declared.fault.CheckFault.TheVariants.{Recipes, Recipe as in_recipe, Circle, Memory}
 use Rattle.batch_check.specs.ByName.{BeginsWithLeastName}
 use Rattle.batch_check.specs.Clearing.{StandsAsCircle}
+use Rattle.batch_check.specs.Shortest.{IsShortest}
 
 -- all nodes of the recipe meet the rules that don't speak of ranks, whatever units are tried for its roles
 abbrev pub IsSoundRecipe : Setup → Master → Type 0
@@ -32,7 +33,7 @@ IsFault c recipes (in_recipe k broken) =
     IsRecipeSet (setup_of c recipes).recipes × IsFirstUnsound (setup_of c recipes) (setup_of c recipes).recipes k broken
 IsFault c recipes (Circle circle) =
     IsRecipeSet (setup_of c recipes).recipes × Each (IsSoundRecipe (setup_of c recipes)) (setup_of c recipes).recipes
-    × StandsAsCircle c recipes circle.items × BeginsWithLeastName c circle.items
+    × StandsAsCircle c recipes circle.items × BeginsWithLeastName c circle.items × IsShortest c recipes circle.items
 IsFault c recipes Memory = ⊤
 
 -- the recipes are no set, or memory was wanting

@@ -1,5 +1,5 @@
 -- private: what is kept while the edges of recipes are collected.
-use Rattle.std.specs.Prelude.{◌≡◌, ℕ, ◌+◌, ◌<◌, ◌≤◌, List, [], ◌∷◌, ◌++◌, length, map, slice_get, Option, Some, None, ◌⊎◌}
+use Rattle.std.specs.Prelude.{◌≡◌, ℕ, ◌+◌, ◌<◌, ◌≤◌, List, [], ◌∷◌, ◌++◌, length, map, slice_get, Option, Some, None, ◌⊎◌, IsTrue, option_map}
 use Rattle.std.specs.List.{Contains}
 use Rattle.batch_cell.specs.LookUps.{resources_of}
 use Rattle.batch_cell.specs.declared.cell.Cell.{Cell}
@@ -20,21 +20,36 @@ use Rattle.batch_verify.specs.Bindings.{numbered}
 use Rattle.batch_check.specs.declared.edge.Edge.{Edge}
 use Rattle.batch_check.specs.declared.edge_set.EdgeSet.{EdgeSet}
 use Rattle.batch_check.specs.declared.path.Path.{Path}
+use Rattle.batch_check.specs.declared.path.Reach.{Reach}
+use Rattle.batch_check.specs.declared.path.Reach.TheVariants.{Next, Whole}
 use Rattle.batch_check.specs.declared.path.Site.{Site}
-use Rattle.batch_check.specs.Edges.{AsksByNumber, OfNodes, Stands, numbers_of, Follows, Covers}
-use Rattle.batch_check.specs.Pairs.{Keeps}
+use Rattle.batch_check.specs.Edges.{AsksByNumber, CoversRecipes, OfNodes, Stands, has_pair, numbers_of, Follows, Covers}
+use Rattle.batch_check.specs.Joining.{AreBelow, Grows, items_in, needs_in}
+use Rattle.batch_check.specs.Pairs.{ArePaired, Keeps}
+
+-- The needs that a path keeps
+
+-- those of all nodes above, where edges are to lead from each of them
+abbrev pub kept_by : Path → Option (List (Option ℕ))
+kept_by path = items_in path.asked
+
+abbrev pub kept_at_top : Reach → Option (List (Option ℕ))
+kept_at_top Next = None
+kept_at_top Whole = Some []
+
+-- the paths go on alike
+pub record IsCopy (path copy : Path) : Type 0 where
+  pub same_recipe : copy.recipe ≡ path.recipe
+  pub same_last : copy.last ≡ path.last
+  pub same_kept : kept_by copy ≡ kept_by path
 
 -- Sets of edges
-
--- the set grows
-pub record Grows (old new : EdgeSet) : Type 0 where
-  pub same_count : new.count ≡ old.count
-  pub kept : Keeps old.edges.items new.edges.items
 
 -- the set is one for the cell's resources, and the last need on the path is one of these, or none
 pub record IsReady (cell : Cell) (path : Path) (edges : EdgeSet) : Type 0 where
   pub sized : edges.count ≡ length (resources_of cell)
   pub within : (number : ℕ) → path.last ≡ Some number → number < edges.count
+  pub below : AreBelow edges.count (needs_in (kept_by path))
 
 -- Paths
 
@@ -50,6 +65,11 @@ last_number last (need ∷ needs) = last_number need needs
 -- the needs above end in this one
 abbrev pub EndsIn : Cell → List Name → Option ℕ → Type 0
 EndsIn cell above last = last_number None (numbers_of cell above) ≡ last
+
+-- the path is that of the needs above: it ends in the last one, and where it keeps needs, it keeps these
+pub record IsPathOf (cell : Cell) (above : List Name) (path : Path) : Type 0 where
+  pub ends : EndsIn cell above path.last
+  pub kept : (needs : List (Option ℕ)) → kept_by path ≡ Some needs → needs ≡ numbers_of cell above
 
 -- the edge leads to one of the own needs, which are asked for after those above
 pub record IsAmong (cell : Cell) (above own : List Name) (edge : Edge) : Type 0 where
@@ -70,8 +90,11 @@ pub record HasAsked (cell : Cell) (path : Path) (node : ℕ) (own : List Name) (
   pub ready : IsReady cell next new
   pub same_recipe : next.recipe ≡ path.recipe
   pub ends : next.last ≡ last_number path.last (numbers_of cell own)
+  pub extended : kept_by next ≡ option_map (λ needs. needs ++ numbers_of cell own) (kept_by path)
   pub covering : Follows new.edges.items path.last (numbers_of cell own)
-  pub standing : (above : List Name) → EndsIn cell above path.last → (edge : Edge) → Contains new.edges.items edge
+  pub pairing : (needs : List (Option ℕ)) → kept_by path ≡ Some needs → (final : List Edge) → Keeps new.edges.items final
+      → ArePaired final needs → ArePaired final (needs ++ numbers_of cell own)
+  pub standing : (above : List Name) → IsPathOf cell above path → (edge : Edge) → Contains new.edges.items edge
       → Contains old.edges.items edge ⊎ ((edge.recipe ≡ path.recipe) × (edge.node ≡ node) × IsAmong cell above own edge)
 
 -- Nodes
@@ -113,13 +136,23 @@ pub record PathTo (cell : Cell) (edges : List Edge) (above : List Name) (last : 
   pub covered : Follows edges None (numbers_of cell above)
   pub ends : EndsIn cell above last
 
+-- each two of the needs above are paired, and kept by the path
+pub record IsPairedTo (cell : Cell) (edges : List Edge) (above : List Name) (path : Path) : Type 0 where
+  pub paired : ArePaired edges (numbers_of cell above)
+  pub kept : kept_by path ≡ Some (numbers_of cell above)
+
+-- each two resources on the node's path are an edge
+abbrev pub PairsAll : Cell → List Edge → Node → Type 0
+PairsAll cell edges node = ArePaired edges (numbers_of cell node.asked)
+
 -- the edges of these nodes below a path were collected: the next node has that number, each new edge stands among the nodes,
--- and whatever edges come later, the nodes are covered where the path above is
+-- and whatever edges come later, the nodes are covered, and their needs paired, where the path above is
 pub record IsCollected (cell : Cell) (path : Path) (first : ℕ) (above : List Name) (nodes : List Node) (old new : List Edge) (next : ℕ) : Type 0 where
   pub next_is : first + length nodes < 65536 → next ≡ first + length nodes
-  pub standing : EndsIn cell above path.last → first + length nodes < 65536 → (edge : Edge) → Contains new edge
+  pub standing : IsPathOf cell above path → first + length nodes < 65536 → (edge : Edge) → Contains new edge
       → Contains old edge ⊎ StandsAmong cell path.recipe first nodes edge
   pub covering : (final : List Edge) → Keeps new final → PathTo cell final above path.last → Each (Covers cell final) nodes
+  pub pairing : (final : List Edge) → Keeps new final → IsPairedTo cell final above path → Each (PairsAll cell final) nodes
 
 -- so wherever the nodes stand
 abbrev pub AreCollected : Cell → Path → ℕ → Standing → EdgeSet → EdgeSet → ℕ → Type 0
@@ -128,9 +161,27 @@ AreCollected cell path first standing old new next =
 
 -- Recipes
 
--- the edges of the recipe with this number were collected: each new edge stands in it, and whatever edges come later, its nodes
--- are covered
-pub record IsAdded (cell : Cell) (recipes : List Recipe) (recipe : Recipe) (old new : EdgeSet) : Type 0 where
+-- each two resources on a path of the recipe are an edge, whatever units take its roles
+abbrev pub PairsRecipe : Cell → List Edge → Recipe → Type 0
+PairsRecipe cell edges recipe = OfNodes cell (PairsAll cell edges) recipe
+
+-- the edges of the recipe were collected: each new edge stands in one of all recipes, and whatever edges come later, its nodes are
+-- covered, and their needs paired where needs are kept
+pub record IsAdded (cell : Cell) (kept : Option (List (Option ℕ))) (recipes : List Recipe) (recipe : Recipe) (old new : EdgeSet) : Type 0 where
   pub grown : Grows old new
   pub standing : (edge : Edge) → Contains new.edges.items edge → Contains old.edges.items edge ⊎ Stands cell recipes edge
   pub covering : (final : List Edge) → Keeps new.edges.items final → OfNodes cell (Covers cell final) recipe
+  pub pairing : kept ≡ Some [] → (final : List Edge) → Keeps new.edges.items final → PairsRecipe cell final recipe
+
+-- so those of some recipes
+pub record AreAdded (cell : Cell) (kept : Option (List (Option ℕ))) (recipes some : List Recipe) (old new : EdgeSet) : Type 0 where
+  pub grown : Grows old new
+  pub standing : (edge : Edge) → Contains new.edges.items edge → Contains old.edges.items edge ⊎ Stands cell recipes edge
+  pub covering : (final : List Edge) → Keeps new.edges.items final → CoversRecipes cell some final
+  pub pairing : kept ≡ Some [] → (final : List Edge) → Keeps new.edges.items final → Each (PairsRecipe cell final) some
+
+-- no edge went, each edge stands, and where an edge stands between two resources there is one between them
+pub record HasAllPairs (cell : Cell) (recipes : List Recipe) (old new : EdgeSet) : Type 0 where
+  pub grown : Grows old new
+  pub standing : (edge : Edge) → Contains new.edges.items edge → Stands cell recipes edge
+  pub whole : (edge : Edge) → Stands cell recipes edge → IsTrue (has_pair new.edges.items edge.earlier edge.later)

@@ -17,6 +17,7 @@ use Rattle.batch_check.specs.ByName.{BeginsWithLeastName}
 use Rattle.batch_check.specs.Checking.{IsFirstUnsound}
 use Rattle.batch_check.specs.Clearing.{StandsAsCircle, NeedResources, RiseLeast}
 use Rattle.batch_check.specs.LeastRanking.{IsCircle, IsLeastRanking}
+use Rattle.batch_check.specs.Shortest.{IsShortest}
 use Rattle.batch_check.specs.TightRanks.{RanksTightly}
 
 -- the least ranking, or a circle
@@ -32,7 +33,7 @@ IsRecipeFault setup _ = ⊥
 
 -- a circle, where the orders of needs alone were looked at
 abbrev pub IsCircleFault : equipment.Cell → List document.Recipe → CheckFault → Type 0
-IsCircleFault c recipes (fault.Circle circle) = StandsAsCircle c recipes circle.items × BeginsWithLeastName c circle.items
+IsCircleFault c recipes (fault.Circle circle) = StandsAsCircle c recipes circle.items × BeginsWithLeastName c circle.items × IsShortest c recipes circle.items
 IsCircleFault c recipes fault.Memory = ⊤
 IsCircleFault c recipes _ = ⊥
 

@@ -4,8 +4,11 @@ pub mod RanksTold
 pub mod Raising
 pub mod Pairs
 pub mod Edges
+pub mod Joining
+pub mod Spreading
 pub mod Collecting
 pub mod Clearing
+pub mod Shortest
 pub mod TightRanks
 pub mod Checking
 pub mod Finding

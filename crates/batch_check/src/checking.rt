@@ -12,10 +12,11 @@ ghost use Rattle.batch_check.specs.Clearing.{IsLeastClearance};
 ghost use Rattle.batch_check.specs.Finding.{AreLeastRanks, IsCircleFault, IsRecipeFault};
 ghost use Rattle.batch_check.specs.TightRanks.{RanksTightly};
 
-use crate::edges::edges_of;
+use crate::edges::{add_pairs, edges_of};
 use crate::fault::CheckFault;
 use crate::naming::ranks_by_name;
 use crate::ranking::{Ranking, least_ranks};
+use crate::shortest::shortest_circle;
 use crate::turning::turned;
 use batch_cell::Cell;
 use batch_recipe::Recipe;
@@ -65,15 +66,23 @@ fn check_each(alloc: Global, cell: &Cell, recipes: &[Recipe]) -> Result<(), Chec
     Ok(())
 }
 
-/// The least ranks that rise along all paths of the recipes, by number, or a circle.
-fn ranks_of(alloc: Global, cell: &Cell, recipes: &[Recipe]) -> Result<Vec<u32>, CheckFault>
+/// The least ranks that rise along all paths of the recipes, by number, or a circle with the fewest edges.
+pub(crate) fn ranks_of(
+    alloc: Global,
+    cell: &Cell,
+    recipes: &[Recipe],
+) -> Result<Vec<u32>, CheckFault>
     requires { length recipes.now ≤ MAX_RECIPES }
     ensures least { IfOk result (λ ranks. AreLeastRanks cell.now recipes.now ranks.items) }
     ensures fault { IfErr result (IsCircleFault cell.now recipes.now) }
 {
-    let edges = edges_of(alloc, cell, recipes)?;
-    match least_ranks(alloc, cell.resources(), &edges)? {
+    let mut set = edges_of(alloc, cell, recipes)?;
+    match least_ranks(alloc, cell.resources(), &set.edges)? {
         Ranking::Ranks(ranks) => Ok(ranks),
-        Ranking::Circle(circle) => Err(CheckFault::Circle(turned(cell, circle))),
+        Ranking::Circle(circle) => {
+            add_pairs(alloc, cell, recipes, &mut set)?;
+            let shortest = shortest_circle(alloc, cell.resources(), &set.edges, circle)?;
+            Err(CheckFault::Circle(turned(cell, shortest)))
+        }
     }
 }

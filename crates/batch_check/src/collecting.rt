@@ -1,6 +1,7 @@
 //! The edges of recipes.
 ghost use Rattle.std.specs.Prelude.{IfOk, OnOk};
-ghost use Rattle.batch_check.specs.Collecting.{AreCollected, Grows, IsReady, act_nodes, bound_on, branch_nodes, chart_nodes, choice_nodes};
+ghost use Rattle.batch_check.specs.Collecting.{AreCollected, IsReady, act_nodes, bound_on, branch_nodes, chart_nodes, choice_nodes};
+ghost use Rattle.batch_check.specs.Joining.{Grows};
 
 use crate::edge_set::EdgeSet;
 use crate::path::{Path, Site, ask_all};
@@ -15,20 +16,20 @@ pub(crate) fn collect_act(
     act: &Act,
     site: &Site,
     level: Option<Level>,
-    path: Path,
+    path: &Path,
     node: u16,
     edges: &mut EdgeSet,
 ) -> Result<u16, AllocError>
-    requires { IsReady site.now.cell.now path edges.old }
+    requires { IsReady site.now.cell.now path.now edges.old }
     ensures grown { OnOk result (Grows edges.old edges.new) }
     ensures collected { IfOk result
-        (AreCollected site.now.cell.now path node (act_nodes (bound_on site.now) site.now.acts.now level act.now) edges.old edges.new) }
+        (AreCollected site.now.cell.now path.now node (act_nodes (bound_on site.now) site.now.acts.now level act.now) edges.old edges.new) }
 {
     let below = ask_all(act, site, path, node, edges)?;
     let next = node.saturating_add(1);
     match &act.work {
         Work::Runs { .. } => Ok(next),
-        Work::Follows(chart) => collect(chart, site, level, below, next, edges),
+        Work::Follows(chart) => collect(chart, site, level, &below, next, edges),
     }
 }
 
@@ -38,14 +39,14 @@ fn collect(
     chart: &Chart,
     site: &Site,
     level: Option<Level>,
-    path: Path,
+    path: &Path,
     node: u16,
     edges: &mut EdgeSet,
 ) -> Result<u16, AllocError>
-    requires { IsReady site.now.cell.now path edges.old }
+    requires { IsReady site.now.cell.now path.now edges.old }
     ensures grown { OnOk result (Grows edges.old edges.new) }
     ensures collected { IfOk result
-        (AreCollected site.now.cell.now path node (chart_nodes (bound_on site.now) site.now.acts.now level chart.now) edges.old edges.new) }
+        (AreCollected site.now.cell.now path.now node (chart_nodes (bound_on site.now) site.now.acts.now level chart.now) edges.old edges.new) }
 {
     let next = node.saturating_add(1);
     match chart {
@@ -71,14 +72,14 @@ fn collect_each(
     parts: &[Chart],
     site: &Site,
     level: Option<Level>,
-    path: Path,
+    path: &Path,
     node: u16,
     edges: &mut EdgeSet,
 ) -> Result<u16, AllocError>
-    requires { IsReady site.now.cell.now path edges.old }
+    requires { IsReady site.now.cell.now path.now edges.old }
     ensures grown { OnOk result (Grows edges.old edges.new) }
     ensures collected { IfOk result
-        (AreCollected site.now.cell.now path node (branch_nodes (bound_on site.now) site.now.acts.now level parts.now) edges.old edges.new) }
+        (AreCollected site.now.cell.now path.now node (branch_nodes (bound_on site.now) site.now.acts.now level parts.now) edges.old edges.new) }
 {
     let mut next = node;
     for part in parts {
@@ -94,14 +95,14 @@ fn collect_choices(
     last: &Chart,
     site: &Site,
     level: Option<Level>,
-    path: Path,
+    path: &Path,
     node: u16,
     edges: &mut EdgeSet,
 ) -> Result<u16, AllocError>
-    requires { IsReady site.now.cell.now path edges.old }
+    requires { IsReady site.now.cell.now path.now edges.old }
     ensures grown { OnOk result (Grows edges.old edges.new) }
     ensures collected { IfOk result
-        (AreCollected site.now.cell.now path node (choice_nodes (bound_on site.now) site.now.acts.now level choices.now last.now) edges.old edges.new) }
+        (AreCollected site.now.cell.now path.now node (choice_nodes (bound_on site.now) site.now.acts.now level choices.now last.now) edges.old edges.new) }
 {
     let mut next = node;
     for choice in choices {

@@ -41,6 +41,7 @@ impl EdgeSet {
         ensures count { self.new.count ≡ self.old.count }
         ensures added { OnOk result (IsTrue (has_pair self.new.edges.items edge.earlier edge.later)) }
         ensures kept { Keeps self.old.edges.items self.new.edges.items }
+        ensures stays { (e : Edge) → Contains self.old.edges.items e → Contains self.new.edges.items e }
         ensures only { (e : Edge) → Contains self.new.edges.items e → Contains self.old.edges.items e ⊎ (e ≡ edge) }
     {
         let pair = usize::from(edge.earlier) * usize::from(self.count) + usize::from(edge.later);

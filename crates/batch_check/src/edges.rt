@@ -2,15 +2,14 @@
 ghost use Rattle.std.specs.Prelude.{◌≡◌, ◌≤◌, List, Some, length, slice_get, IfOk, OnOk};
 ghost use Rattle.batch_cell.specs.LookUps.{resources_of};
 ghost use Rattle.batch_recipe.specs.declared.recipe.Recipe.{Recipe};
-ghost use Rattle.batch_check.specs.Collecting.{IsAdded};
+ghost use Rattle.batch_check.specs.Collecting.{AreAdded, HasAllPairs, IsAdded, kept_at_top};
 ghost use Rattle.batch_check.specs.Edges.{AreEdgesOf};
 ghost use Rattle.batch_check.specs.LeastRanking.{IsWithin};
 ghost use Rattle.batch_model.specs.declared.limits.TheConstants.{MAX_RECIPES};
 
 use crate::collecting::collect_act;
-use crate::edge::Edge;
 use crate::edge_set::EdgeSet;
-use crate::path::{Path, Site};
+use crate::path::{Path, Reach, Site};
 use batch_cell::Cell;
 use batch_recipe::{Level, Recipe};
 use batch_verify::binding_count;
@@ -22,34 +21,66 @@ pub(crate) fn edges_of(
     alloc: Global,
     cell: &Cell,
     recipes: &[Recipe],
-) -> Result<Vec<Edge>, AllocError>
+) -> Result<EdgeSet, AllocError>
     requires { length recipes.now ≤ MAX_RECIPES }
-    ensures edges { IfOk result (λ edges. AreEdgesOf cell.now recipes.now edges.items) }
-    ensures within { IfOk result (λ edges. IsWithin (length (resources_of cell.now)) edges.items) }
+    ensures sized { IfOk result (λ set. set.count ≡ length (resources_of cell.now)) }
+    ensures edges { IfOk result (λ set. AreEdgesOf cell.now recipes.now set.edges.items) }
+    ensures within { IfOk result (λ set. IsWithin (length (resources_of cell.now)) set.edges.items) }
 {
     let mut set = EdgeSet::new(alloc, cell.resources())?;
+    add_all(alloc, cell, recipes, Reach::Next, &mut set)?;
+    Ok(set)
+}
+
+/// Adds an edge for each two resources that are asked for on one path, whatever units take the roles.
+pub(crate) fn add_pairs(
+    alloc: Global,
+    cell: &Cell,
+    recipes: &[Recipe],
+    set: &mut EdgeSet,
+) -> Result<(), AllocError>
+    requires few { length recipes.now ≤ MAX_RECIPES }
+    requires sized { set.old.count ≡ length (resources_of cell.now) }
+    requires edges { AreEdgesOf cell.now recipes.now set.old.edges.items }
+    ensures pairs { OnOk result (HasAllPairs cell.now recipes.now set.old set.new) }
+    ensures within { OnOk result (IsWithin (length (resources_of cell.now)) set.new.edges.items) }
+{
+    add_all(alloc, cell, recipes, Reach::Whole, set)
+}
+
+/// Adds the edges of the recipes, one after another.
+fn add_all(
+    alloc: Global,
+    cell: &Cell,
+    recipes: &[Recipe],
+    reach: Reach,
+    set: &mut EdgeSet,
+) -> Result<(), AllocError>
+    requires few { length recipes.now ≤ MAX_RECIPES }
+    requires sized { set.old.count ≡ length (resources_of cell.now) }
+    ensures { OnOk result (AreAdded cell.now (kept_at_top reach) recipes.now recipes.now set.old set.new) }
+{
     for (number, recipe) in recipes.iter().enumerate() {
-        add_edges(cell, recipe, number as u16, &mut set)?;
+        add_edges(alloc, cell, recipe, number as u16, reach, set)?;
     }
-    Ok(set.edges)
+    Ok(())
 }
 
 /// Adds the edges of the recipe with this number, binding by binding.
 fn add_edges(
+    alloc: Global,
     cell: &Cell,
     recipe: &Recipe,
     number: u16,
+    reach: Reach,
     edges: &mut EdgeSet,
 ) -> Result<(), AllocError>
     requires { edges.old.count ≡ length (resources_of cell.now) }
     ensures { OnOk result ((recipes : List Recipe) → slice_get recipes number ≡ Some recipe.now
-        → IsAdded cell.now recipes recipe.now edges.old edges.new) }
+        → IsAdded cell.now (kept_at_top reach) recipes recipe.now edges.old edges.new) }
 {
     let level = Some(Level::UnitProcedures);
-    let path = Path {
-        recipe: number,
-        last: None,
-    };
+    let path = Path::top(alloc, number, reach);
     for binding in 0..binding_count(cell, &recipe.roles) {
         let site = Site {
             cell,
@@ -57,7 +88,7 @@ fn add_edges(
             roles: &recipe.roles,
             binding,
         };
-        collect_act(&recipe.acts.procedure, &site, level, path, 0, edges)?;
+        collect_act(&recipe.acts.procedure, &site, level, &path, 0, edges)?;
     }
     Ok(())
 }

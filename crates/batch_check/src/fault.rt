@@ -23,7 +23,7 @@ pub enum CheckFault {
         broken: Broken,
     },
     /// These edges, which all stand in recipes, lead from a resource back to it, and no resource comes twice. The first comes
-    /// from the resource with the least name.
+    /// from the resource with the least name. No such edges are fewer.
     #[error("edges lead from a resource back to it: {0:?}")]
     Circle(Vec<Edge>),
     /// Out of memory.

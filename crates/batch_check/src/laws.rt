@@ -3,6 +3,7 @@ ghost use Rattle.batch_check.specs.ByName.{RanksByName, RanksRiseByName};
 ghost use Rattle.batch_check.specs.Clearing.{CirclesLeaveNoClearance, CirclesLeaveNoRising, LeastRanksRise};
 ghost use Rattle.batch_check.specs.LeastRanking.{CirclesLeaveNoRanking};
 ghost use Rattle.batch_check.specs.RanksTold.{CertificatesTellRanks};
+ghost use Rattle.batch_check.specs.Shortest.{ShortestTakeNoDetour};
 
 /// No ranks rise along the edges of a circle.
 pub fn circle_leaves_no_ranking()
@@ -24,6 +25,11 @@ pub fn certificates_tell_ranks()
 pub fn standing_circles_leave_no_clearance()
     ensures rising { CirclesLeaveNoRising }
     ensures clearance { CirclesLeaveNoClearance }
+{}
+
+/// No two neighbouring edges of a circle with the fewest edges can be replaced by one.
+pub fn shortest_circles_take_no_detour()
+    ensures { ShortestTakeNoDetour }
 {}
 
 /// The least ranks along the edges of recipes, which join needs that follow one another, are the least along all their

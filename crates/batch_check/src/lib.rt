@@ -9,11 +9,14 @@ mod edge_set;
 mod edges;
 mod fault;
 mod graph;
+mod joining;
 mod laws;
 mod naming;
 mod path;
 mod raising;
 mod ranking;
+mod shortest;
+mod spreading;
 mod turning;
 
 pub use checking::check;
@@ -22,5 +25,5 @@ pub use fault::CheckFault;
 pub use graph::graph_of;
 pub use laws::{
     certificates_tell_ranks, circle_leaves_no_ranking, least_ranks_rise_along_paths,
-    ranks_are_told_by_name, standing_circles_leave_no_clearance,
+    ranks_are_told_by_name, shortest_circles_take_no_detour, standing_circles_leave_no_clearance,
 };

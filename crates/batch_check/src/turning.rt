@@ -1,5 +1,5 @@
 //! Circles that begin with the least name.
-ghost use Rattle.std.specs.Prelude.{◌<◌, List, length, slice_index};
+ghost use Rattle.std.specs.Prelude.{◌≡◌, ◌<◌, List, length, slice_index};
 ghost use Rattle.std.specs.List.{All, HoldsAt};
 ghost use Rattle.batch_cell.specs.LookUps.{resources_of};
 ghost use Rattle.batch_check.specs.ByName.{name_in, IsBelow, BeginsWithLeastName};
@@ -15,6 +15,7 @@ pub(crate) fn turned(cell: &Cell, mut circle: Vec<Edge>) -> Vec<Edge>
     requires within { IsWithin (length (resources_of cell.now)) circle.items }
     ensures circle { (edges : List Edge) → IsCircle edges circle.items → IsCircle edges result.items }
     ensures first { BeginsWithLeastName cell.now result.items }
+    ensures sized { length result.items ≡ length circle.items }
 {
     let start = place_of_least_name(cell, &circle);
     circle.rotate_left(start);

@@ -4,6 +4,8 @@
 #[cfg(test)]
 mod certificates;
 #[cfg(test)]
+mod circles;
+#[cfg(test)]
 mod command_line;
 #[cfg(test)]
 mod documents;

@@ -1,5 +1,5 @@
 use Rattle.batch_check.proofs.Raises.{no_edge}
-use Rattle.batch_check.proofs.Turns.{IsCircle-turned, BeginsWithLeastName-turned}
+use Rattle.batch_check.proofs.Turns.{IsCircle-turned, BeginsWithLeastName-turned, length-turned}
 use Rattle.batch_check.proofs.turning.turned.Goals as goal
 
 pub returns-clause-circle : goal.returns-clause-circle
@@ -10,3 +10,6 @@ returns-clause-first c =
     rw c.rotate_left.ensures.items
     (BeginsWithLeastName-turned c.args.cell.now c.args.circle.items c.place_of_least_name-start.result no_edge (rw c.deref.ensures.value at c.place_of_least_name-start.ensures.place)
     (rw c.deref.ensures.value at (c.place_of_least_name-start.ensures.least no_edge)))
+
+pub returns-clause-sized : goal.returns-clause-sized
+returns-clause-sized c = rw c.rotate_left.ensures.items (length-turned c.args.circle.items c.place_of_least_name-start.result)

@@ -1,0 +1,8 @@
+use Rattle.batch_check.specs.Collecting.{kept_at_top}
+use Rattle.batch_check.proofs.Recipes.{AreAdded-more}
+use Rattle.batch_check.proofs.edges.add_all.Goals as goal
+
+pub loop-number-preserved : goal.loop-number-preserved
+loop-number-preserved c =
+    AreAdded-more c.args.cell.now c.args.recipes.now (kept_at_top c.args.reach) c.args.set.now c.loop-number.set c.add_edges.new.edges c.loop-number.number c.index-recipes-number.result
+    c.loop-number.invariant c.loop-number-test.true c.index-recipes-number.is c.in_ok-add_edges.ensures

@@ -1,0 +1,5 @@
+use Rattle.batch_check.specs.Joining.{HasTaken}
+use Rattle.batch_check.proofs.graph.take.Given as goal
+
+abbrev pub invariant-loop-edge : goal.invariant-loop-edge
+invariant-loop-edge l = HasTaken l.edges l.fn.set l.set
