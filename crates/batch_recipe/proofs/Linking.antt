@@ -9,10 +9,11 @@ use Rattle.batch_recipe.specs.Expanding.{Binding}
 use Rattle.batch_recipe.specs.Needs.{resources_of}
 use Rattle.batch_recipe.specs.Nodes.{Node, node, nodes, nodes_within, nodes_of_each, nodes_of_choices, child, needs_of, node_count, count_within, count_of_each, count_of_choices}
 use Rattle.batch_recipe.specs.Outlines.{Shape, act_of, shape_of, shape, shapes, shapes_within, shapes_of_each, shapes_of_choices, IsOutline}
-use Rattle.batch_recipe.specs.Links.{form_at, IsShaped, Hangs, IsEntryOf}
+use Rattle.batch_recipe.specs.Links.{form_at, IsShaped, Hangs, IsEntryOf, IsBranch, IsChoice, IsOnlyChild, IsChildTree}
 use Rattle.batch_recipe.specs.Procedure.{bound_tree, bound_nodes}
 use Rattle.batch_recipe.specs.Tree.{Place, Tree, act, skip, seq, par, sel, loop, Task, runs, follows, Trees, no_trees, tree, Choices, otherwise, choice}
 use Rattle.batch_recipe.specs.declared.acts.Acts.{Acts}
+use Rattle.batch_recipe.specs.declared.condition.Cond.{Cond}
 use Rattle.batch_recipe.specs.declared.entry.Entry.{Entry}
 use Rattle.batch_recipe.proofs.Order.{counted_nodes}
 use Rattle.batch_recipe.proofs.Slices.{slice_get-left, slice_get-right}
@@ -72,33 +73,37 @@ module _ (ns : List Node) where
       let same : n + 1 + j ≡ n + suc j = omega arith in
       (g.0, g.1, subst (λ k. IsLinked k g.0 s) same g.2)
 
-  -- below the node y with the number u, which ends no earlier than what still comes
-  record Below (u n m : ℕ) (p : Place) (above : List Name) : Type 0 where
+  -- below the node y with the number u, whose tree is `of`, and which ends no earlier than what still comes
+  record Below (u n m : ℕ) (p : Place) (above : List Name) (of : Tree) : Type 0 where
     pub y : Node
     pub known : slice_get ns u ≡ Some y
     pub earlier : u < n
     pub room : m ≤ u + node_count y.here
     pub placed : y.place ≡ p
     pub asked : y.asked ≡ above
+    pub here : y.here ≡ of
 
-  first_linked : (n u i m : ℕ) (p : Place) (above : List Name) (t : Tree) → n + node_count t ≤ m → Below u n m p above → IsLinked n (node (child p i) above t) (shape (form_at t) n u i t)
-  first_linked n u i m p above t fits b = (
+  first_linked : (n u i m : ℕ) (p : Place) (above : List Name) (of t : Tree) → n + node_count t ≤ m → IsChildTree of i t → Below u n m p above of
+      → IsLinked n (node (child p i) above t) (shape (form_at t) n u i t)
+  first_linked n u i m p above of t fits is b = (
     record { formed = refl; ended = refl },
     record {
       above = b.y;
       known = b.known;
       earlier = b.earlier;
       within = omega (arith, b.room, fits);
+      branch = subst (λ (w : Tree). IsChildTree w i t) (sym b.here) is;
       placed = ap (λ q. child q i) (sym b.placed);
       asks = ap (λ xs. xs ++ resources_of (needs_of t)) (sym b.asked);
     },
   )
 
-  under : (n m : ℕ) (p : Place) (above : List Name) (t : Tree) (xs : List Node) → m ≡ n + node_count t → AreFrom n (node p above t ∷ xs) → Below n (n + 1) m p (above ++ resources_of (needs_of t))
-  under n m p above t xs size h = record { y = node p above t; known = from_head n (node p above t) xs h; earlier = omega arith; room = omega (arith, size); placed = refl; asked = refl }
+  under : (n m : ℕ) (p : Place) (above : List Name) (t : Tree) (xs : List Node) → m ≡ n + node_count t → AreFrom n (node p above t ∷ xs) → Below n (n + 1) m p (above ++ resources_of (needs_of t)) t
+  under n m p above t xs size h =
+      record { y = node p above t; known = from_head n (node p above t) xs h; earlier = omega arith; room = omega (arith, size); placed = refl; asked = refl; here = refl }
 
   -- where it asks for nothing itself
-  plain : (n m : ℕ) (p : Place) (above : List Name) (t : Tree) (xs : List Node) → needs_of t ≡ [] → m ≡ n + node_count t → AreFrom n (node p above t ∷ xs) → Below n (n + 1) m p above
+  plain : (n m : ℕ) (p : Place) (above : List Name) (t : Tree) (xs : List Node) → needs_of t ≡ [] → m ≡ n + node_count t → AreFrom n (node p above t ∷ xs) → Below n (n + 1) m p above t
   plain n m p above t xs none size h =
       record {
         y = node p above t;
@@ -107,53 +112,89 @@ module _ (ns : List Node) where
         room = omega (arith, size);
         placed = refl;
         asked = ap (λ ys. above ++ resources_of ys) none ∙ append-nil above;
+        here = refl;
       }
 
-  later : (u n k m : ℕ) (p : Place) (above : List Name) → Below u n m p above → Below u (n + k) m p above
-  later u n k m p above b = record { y = b.y; known = b.known; earlier = omega (arith, b.earlier); room = b.room; placed = b.placed; asked = b.asked }
+  later : (u n k m : ℕ) (p : Place) (above : List Name) (of : Tree) → Below u n m p above of → Below u (n + k) m p above of
+  later u n k m p above of b = record { y = b.y; known = b.known; earlier = omega (arith, b.earlier); room = b.room; placed = b.placed; asked = b.asked; here = b.here }
+
+  -- the branches that are numbered from i are branches of the tree
+  abbrev AreBranches : Tree → ℕ → Trees → Type 0
+  AreBranches of i ts = (j : ℕ) (t : Tree) → IsBranch ts j t → IsChildTree of (i + j) t
+
+  abbrev AreChoices : Tree → ℕ → Choices → Type 0
+  AreChoices of i cs = (j : ℕ) (t : Tree) → IsChoice cs j t → IsChildTree of (i + j) t
+
+  first_branch : (of : Tree) (i : ℕ) (t : Tree) (ts : Trees) → AreBranches of i (tree t ts) → IsChildTree of i t
+  first_branch of i t ts h = let same : i + 0 ≡ i = omega arith in subst (λ k. IsChildTree of k t) same (h 0 t refl)
+
+  more_branches : (of : Tree) (i : ℕ) (t : Tree) (ts : Trees) → AreBranches of i (tree t ts) → AreBranches of (i + 1) ts
+  more_branches of i t ts h = λ j v is. let same : i + suc j ≡ i + 1 + j = omega arith in subst (λ k. IsChildTree of k v) same (h (suc j) v is)
+
+  only_choice : (of : Tree) (i : ℕ) (t : Tree) → AreChoices of i (otherwise t) → IsChildTree of i t
+  only_choice of i t h = let same : i + 0 ≡ i = omega arith in subst (λ k. IsChildTree of k t) same (h 0 t refl)
+
+  first_choice : (of : Tree) (i : ℕ) (c : Cond) (t : Tree) (cs : Choices) → AreChoices of i (choice c t cs) → IsChildTree of i t
+  first_choice of i c t cs h = let same : i + 0 ≡ i = omega arith in subst (λ k. IsChildTree of k t) same (h 0 t refl)
+
+  more_choices : (of : Tree) (i : ℕ) (c : Cond) (t : Tree) (cs : Choices) → AreChoices of i (choice c t cs) → AreChoices of (i + 1) cs
+  more_choices of i c t cs h = λ j v is. let same : i + suc j ≡ i + 1 + j = omega arith in subst (λ k. IsChildTree of k v) same (h (suc j) v is)
+
+  own_branches : (of : Tree) (ts : Trees) → ((j : ℕ) (t : Tree) → IsBranch ts j t → IsChildTree of j t) → AreBranches of 0 ts
+  own_branches of ts h = λ j t is. let same : j ≡ 0 + j = omega arith in subst (λ k. IsChildTree of k t) same (h j t is)
 
   mutual
-    tree_linked : (n u i m : ℕ) (p : Place) (above : List Name) (t : Tree) → n + node_count t ≤ m → Below u n m p above → AreFrom n (nodes (child p i) above t) → AreLinked n (nodes (child p i) above t) (shapes n u i t)
-    tree_linked n u i m p above (act s w) fits b h =
-        let size : n + node_count (act s w) ≡ n + 1 + count_within w = omega arith in
-        (first_linked n u i m p above (act s w) fits b, within_linked n (n + node_count (act s w)) (child p i) (above ++ resources_of s.needs) w (omega (arith, size)) (under n (n + node_count (act s w)) (child p i) above (act s w) _ refl h) (from_tail n _ _ h))
-    tree_linked n u i m p above skip fits b h = (first_linked n u i m p above skip fits b, tt)
-    tree_linked n u i m p above (seq ts) fits b h = (
-      first_linked n u i m p above (seq ts) fits b,
-      each_linked (n + 1) n 0 (n + node_count (seq ts)) (child p i) above ts (omega arith) (plain n (n + node_count (seq ts)) (child p i) above (seq ts) _ refl refl h) (from_tail n _ _ h),
+    tree_linked : (n u i m : ℕ) (p : Place) (above : List Name) (of t : Tree) → n + node_count t ≤ m → IsChildTree of i t → Below u n m p above of → AreFrom n (nodes (child p i) above t)
+        → AreLinked n (nodes (child p i) above t) (shapes n u i t)
+    tree_linked n u i m p above of (act s w) fits is b h =
+        let size : n + node_count (act s w) ≡ n + 1 + count_within w = omega arith in (
+          first_linked n u i m p above of (act s w) fits is b,
+          within_linked n (n + node_count (act s w)) (child p i) (above ++ resources_of s.needs) (act s w) w (omega (arith, size)) (λ j t c. c) (under n (n + node_count (act s w)) (child p i) above (act s w) _ refl h) (from_tail n _ _ h),
+        )
+    tree_linked n u i m p above of skip fits is b h = (first_linked n u i m p above of skip fits is b, tt)
+    tree_linked n u i m p above of (seq ts) fits is b h = (
+      first_linked n u i m p above of (seq ts) fits is b,
+      each_linked (n + 1) n 0 (n + node_count (seq ts)) (child p i) above (seq ts) ts (omega arith) (own_branches (seq ts) ts (λ j t c. c)) (plain n (n + node_count (seq ts)) (child p i) above (seq ts) _ refl refl h) (from_tail n _ _ h),
     )
-    tree_linked n u i m p above (par ts) fits b h = (
-      first_linked n u i m p above (par ts) fits b,
-      each_linked (n + 1) n 0 (n + node_count (par ts)) (child p i) above ts (omega arith) (plain n (n + node_count (par ts)) (child p i) above (par ts) _ refl refl h) (from_tail n _ _ h),
+    tree_linked n u i m p above of (par ts) fits is b h = (
+      first_linked n u i m p above of (par ts) fits is b,
+      each_linked (n + 1) n 0 (n + node_count (par ts)) (child p i) above (par ts) ts (omega arith) (own_branches (par ts) ts (λ j t c. c)) (plain n (n + node_count (par ts)) (child p i) above (par ts) _ refl refl h) (from_tail n _ _ h),
     )
-    tree_linked n u i m p above (sel cs) fits b h = (
-      first_linked n u i m p above (sel cs) fits b,
-      choices_linked (n + 1) n 0 (n + node_count (sel cs)) (child p i) above cs (omega arith) (plain n (n + node_count (sel cs)) (child p i) above (sel cs) _ refl refl h) (from_tail n _ _ h),
+    tree_linked n u i m p above of (sel cs) fits is b h = (
+      first_linked n u i m p above of (sel cs) fits is b,
+      choices_linked (n + 1) n 0 (n + node_count (sel cs)) (child p i) above (sel cs) cs (omega arith)
+          (λ j t c. let same : j ≡ 0 + j = omega arith in subst (λ k. IsChildTree (sel cs) k t) same c)
+          (plain n (n + node_count (sel cs)) (child p i) above (sel cs) _ refl refl h) (from_tail n _ _ h),
     )
-    tree_linked n u i m p above (loop k c t) fits b h = (
-      first_linked n u i m p above (loop k c t) fits b,
-      tree_linked (n + 1) n 0 (n + node_count (loop k c t)) (child p i) above t (omega arith) (plain n (n + node_count (loop k c t)) (child p i) above (loop k c t) _ refl refl h) (from_tail n _ _ h),
+    tree_linked n u i m p above of (loop k c t) fits is b h = (
+      first_linked n u i m p above of (loop k c t) fits is b,
+      tree_linked (n + 1) n 0 (n + node_count (loop k c t)) (child p i) above (loop k c t) t (omega arith) (refl, refl) (plain n (n + node_count (loop k c t)) (child p i) above (loop k c t) _ refl refl h) (from_tail n _ _ h),
     )
 
-    within_linked : (n m : ℕ) (p : Place) (above : List Name) (w : Task) → n + 1 + count_within w ≤ m → Below n (n + 1) m p above → AreFrom (n + 1) (nodes_within p above w) → AreLinked (n + 1) (nodes_within p above w) (shapes_within n w)
-    within_linked n m p above (runs phase) fits b h = tt
-    within_linked n m p above (follows name t) fits b h = tree_linked (n + 1) n 0 m p above t fits b h
+    within_linked : (n m : ℕ) (p : Place) (above : List Name) (of : Tree) (w : Task) → n + 1 + count_within w ≤ m → ((j : ℕ) (t : Tree) → IsOnlyChild w j t → IsChildTree of j t) → Below n (n + 1) m p above of
+        → AreFrom (n + 1) (nodes_within p above w) → AreLinked (n + 1) (nodes_within p above w) (shapes_within n w)
+    within_linked n m p above of (runs phase) fits is b h = tt
+    within_linked n m p above of (follows name t) fits is b h = tree_linked (n + 1) n 0 m p above of t fits (is 0 t (refl, refl)) b h
 
-    each_linked : (n u i m : ℕ) (p : Place) (above : List Name) (ts : Trees) → n + count_of_each ts ≤ m → Below u n m p above → AreFrom n (nodes_of_each p above i ts) → AreLinked n (nodes_of_each p above i ts) (shapes_of_each n u i ts)
-    each_linked n u i m p above no_trees fits b h = tt
-    each_linked n u i m p above (tree t ts) fits b h =
+    each_linked : (n u i m : ℕ) (p : Place) (above : List Name) (of : Tree) (ts : Trees) → n + count_of_each ts ≤ m → AreBranches of i ts → Below u n m p above of → AreFrom n (nodes_of_each p above i ts)
+        → AreLinked n (nodes_of_each p above i ts) (shapes_of_each n u i ts)
+    each_linked n u i m p above of no_trees fits are b h = tt
+    each_linked n u i m p above of (tree t ts) fits are b h =
         let size = counted_nodes (child p i) above t in
         linked_both n (node_count t) (nodes (child p i) above t) (nodes_of_each p above (i + 1) ts) (shapes n u i t) (shapes_of_each (n + node_count t) u (i + 1) ts) size
-        (tree_linked n u i m p above t (omega (arith, fits)) b (from_left n (nodes (child p i) above t) (nodes_of_each p above (i + 1) ts) h))
-        (each_linked (n + node_count t) u (i + 1) m p above ts (omega (arith, fits)) (later u n (node_count t) m p above b) (from_right n (node_count t) (nodes (child p i) above t) (nodes_of_each p above (i + 1) ts) size h))
+        (tree_linked n u i m p above of t (omega (arith, fits)) (first_branch of i t ts are) b (from_left n (nodes (child p i) above t) (nodes_of_each p above (i + 1) ts) h))
+        (each_linked (n + node_count t) u (i + 1) m p above of ts (omega (arith, fits)) (more_branches of i t ts are) (later u n (node_count t) m p above of b)
+        (from_right n (node_count t) (nodes (child p i) above t) (nodes_of_each p above (i + 1) ts) size h))
 
-    choices_linked : (n u i m : ℕ) (p : Place) (above : List Name) (cs : Choices) → n + count_of_choices cs ≤ m → Below u n m p above → AreFrom n (nodes_of_choices p above i cs) → AreLinked n (nodes_of_choices p above i cs) (shapes_of_choices n u i cs)
-    choices_linked n u i m p above (otherwise t) fits b h = tree_linked n u i m p above t fits b h
-    choices_linked n u i m p above (choice c t cs) fits b h =
+    choices_linked : (n u i m : ℕ) (p : Place) (above : List Name) (of : Tree) (cs : Choices) → n + count_of_choices cs ≤ m → AreChoices of i cs → Below u n m p above of → AreFrom n (nodes_of_choices p above i cs)
+        → AreLinked n (nodes_of_choices p above i cs) (shapes_of_choices n u i cs)
+    choices_linked n u i m p above of (otherwise t) fits are b h = tree_linked n u i m p above of t fits (only_choice of i t are) b h
+    choices_linked n u i m p above of (choice c t cs) fits are b h =
         let size = counted_nodes (child p i) above t in
         linked_both n (node_count t) (nodes (child p i) above t) (nodes_of_choices p above (i + 1) cs) (shapes n u i t) (shapes_of_choices (n + node_count t) u (i + 1) cs) size
-        (tree_linked n u i m p above t (omega (arith, fits)) b (from_left n (nodes (child p i) above t) (nodes_of_choices p above (i + 1) cs) h))
-        (choices_linked (n + node_count t) u (i + 1) m p above cs (omega (arith, fits)) (later u n (node_count t) m p above b) (from_right n (node_count t) (nodes (child p i) above t) (nodes_of_choices p above (i + 1) cs) size h))
+        (tree_linked n u i m p above of t (omega (arith, fits)) (first_choice of i c t cs are) b (from_left n (nodes (child p i) above t) (nodes_of_choices p above (i + 1) cs) h))
+        (choices_linked (n + node_count t) u (i + 1) m p above of cs (omega (arith, fits)) (more_choices of i c t cs are) (later u n (node_count t) m p above of b)
+        (from_right n (node_count t) (nodes (child p i) above t) (nodes_of_choices p above (i + 1) cs) size h))
 
 some_is : (a b : Shape) → Some a ≡ Some b → a ≡ b
 some_is a b e = cc
@@ -174,7 +215,7 @@ root_entry s w (suc k) e is =
     let asked = resources_of s.needs in
     let xs = nodes_within (0 ∷ []) asked w in
     let all : (j : ℕ) (x : Node) → slice_get ns j ≡ Some x → slice_get ns (0 + j) ≡ Some x = λ j x h. ap (slice_get ns) (omega arith) ∙ h in
-    let linked = within_linked ns 0 (node_count (act s w)) (0 ∷ []) asked w (omega arith) (under ns 0 (node_count (act s w)) (0 ∷ []) [] (act s w) xs (omega arith) all) (from_tail ns 0 root xs all) in
+    let linked = within_linked ns 0 (node_count (act s w)) (0 ∷ []) asked (act s w) w (omega arith) (λ j t c. c) (under ns 0 (node_count (act s w)) (0 ∷ []) [] (act s w) xs (omega arith) all) (from_tail ns 0 root xs all) in
     let g = linked_at ns 1 xs (shapes_within 0 w) linked k (shape_of e) is in
     let same : 1 + k ≡ suc k = omega arith in
     record {
