@@ -104,9 +104,6 @@ module _ (parts : ℕ → Part) (es : List Entry) (ls : List Ends) (k unused roo
   pub t_within : (t < length es) × (parts t ≡ claim_in k)
   t_within = subst (λ (x : ℕ). (x < length es) × (parts x ≡ claim_in k)) (sym is_t) (behind-within (claim_in k) parts es (suc m) (suc n) (ends_at ls k).first (ends_at ls k).end (omega arith) all_leads)
 
-  pub t_behind : t ≡ (at es b).next
-  t_behind = is_t ∙ behind-suc es m (ends_at ls k).first ∙ ap (λ x. (at es x).next) (sym is_b)
-
   pub b_off_t : b ≢ t
   b_off_t q = behind-apart (claim_in k) parts es m n (ends_at ls k).first (ends_at ls k).end lt end_apart all_leads (sym is_b ∙ q ∙ is_t)
 

@@ -1,8 +1,9 @@
 -- The lists of the pool as shares and lines: what an edit of one list does to the allocation.
-use Rattle.std.proofs.Common.{ℕ, ◌≡◌, ◌≢◌, ◌+◌, ◌-◌, ◌<◌, ◌≤◌, List, [], ◌∷◌, ◌++◌, length, take, drop, refl, sym, ap, ◌∙◌, subst, arith, Bool, true, false, cond, set, Option, Some, None, inl, inr}
+use Rattle.std.proofs.Common.{ℕ, ◌≡◌, ◌≢◌, ◌+◌, ◌-◌, ◌<◌, ◌≤◌, ◌^◌, List, [], ◌∷◌, ◌++◌, length, take, drop, refl, sym, ap, ◌∙◌, subst, arith, Bool, true, false, cond, set, Option, Some, None, inl, inr}
 use Rattle.std.specs.Prelude.{nat_le, slice_index, replicate}
+use Rattle.std.specs.List.{All}
 use Rattle.std.proofs.lemmas.Bool.{cases_eq, leb-true}
-use Rattle.std.proofs.lemmas.List.{length-set, get_or-set_same, get_or-set_other, get_or-take, get_or-drop, take-set-le, drop-set-lt, drop-set-add, take-replicate, drop-replicate}
+use Rattle.std.proofs.lemmas.List.{length-set, get_or-set_same, get_or-set_other, get_or-take, get_or-drop, take-set-le, drop-set-lt, drop-set-add, take-replicate, drop-replicate, length-replicate, get_or-replicate}
 use Rattle.std.proofs.lemmas.List.Sums.{sum_by_push}
 use Rattle.std.proofs.Math.Seq.{take-set-lt}
 use Rattle.batch_arbiter.specs.Allocation.{Claim, Allocation, is_claim, held_units, without_first, shares_of, line_of, next_in, next_grant, idle, asked, granted, released}
@@ -48,6 +49,18 @@ seen-new capacities p m twice new =
     ap (seen capacities) new
     ∙ ap (λ xs. record { capacities = capacities; shares = xs; lines = drop (length capacities) (replicate m []); room = 0 }) (take-replicate (length capacities) m [] (omega arith))
     ∙ ap (λ xs. record { capacities = capacities; shares = replicate (length capacities) []; lines = xs; room = 0 }) (drop-replicate (length capacities) m [] ∙ ap (λ n. replicate n []) less)
+
+pub IsSound-new : (capacities held : List ℕ) (p : Lists) (m : ℕ) → held ≡ replicate (length capacities) 0 → m ≡ length capacities + length capacities → p ≡ record { lists = replicate m []; room = 0 } → All (λ c. c < 2 ^ 32) capacities → IsSound capacities held p
+IsSound-new capacities held p m none twice new counted =
+    let at_held : (r : ℕ) → r < length capacities → slice_index held r ≡ 0 = λ r h. ap (λ xs. slice_index xs r) none ∙ get_or-replicate (length capacities) r 0 0 h in
+    let at_list : (r : ℕ) → r < length capacities → list_at p r ≡ [] = λ r h. ap (λ x. list_at x r) new ∙ get_or-replicate m r [] [] (omega (arith, twice, h)) in
+    record {
+      twice = ap (λ (x : Lists). length x.lists) new ∙ length-replicate m [] ∙ twice;
+      counts = ap length none ∙ length-replicate (length capacities) 0;
+      sums = λ r h. at_held r h ∙ sym (ap held_units (at_list r h));
+      within = λ r h. omega (arith, at_held r h);
+      counted = counted;
+    }
 
 -- what is granted next is free
 next-free : (capacity : ℕ) (shares line : List Claim) (c : Claim) → next_in capacity shares line ≡ Some c → held_units shares + c.units ≤ capacity
