@@ -1,18 +1,17 @@
 -- The batch that holds a unit is found by what is noted of it.
-use Rattle.std.proofs.Common.{◌≡◌, ◌<◌, refl, sym, ◌∙◌, ap, ap₂, subst, subst₂, ℕ, List, Bool, true, false, Option, Some, None, arith, get_or, length, nat_eq}
+use Rattle.std.proofs.Common.{◌≡◌, refl, sym, ◌∙◌, ap, ap₂, subst, subst₂, ℕ, List, Bool, true, false, Option, Some, None, arith, get_or, length, nat_eq}
 use Rattle.std.specs.Prelude.{slice_get, slice_set, position}
 use Rattle.batch_cell.specs.LookUps.{capacities_of}
 use Rattle.batch_recipe.specs.Conditions.{Name}
 use Rattle.batch_recipe.specs.Tree.{Tree}
 use Rattle.batch_recipe.specs.declared.need.Need.{Need}
 use Rattle.batch_model.specs.Events.{LivePhase, live_in}
-use Rattle.batch_model.specs.Moves.{Move, after, grant, next}
+use Rattle.batch_model.specs.Moves.{Move, after, grant}
 use Rattle.batch_model.specs.Events as Events
 use Rattle.batch_model.specs.Plant as Model
 use Rattle.batch_model.specs.Plant.{Plant}
 use Rattle.batch_model.specs.Rest.{acts}
 use Rattle.batch_verify.specs.ClearedSet.{ClearedSet}
-use Rattle.batch_arbiter.specs.Allocation.{resource_count}
 use Rattle.batch_chart.specs.NodesOf.{need_at, place_at}
 use Rattle.batch_chart.specs.Seen.{move_of}
 use Rattle.batch_chart.specs.declared.chart_move.Move as ChartMove
@@ -30,11 +29,10 @@ use Rattle.batch_engine.specs.declared.step.Step.{Step}
 use Rattle.batch_engine.specs.declared.step.Step.TheVariants.{Own, Grant}
 use Rattle.batch_engine.proofs.Answering.{same-at}
 use Rattle.batch_engine.proofs.BatchPlaces.{Has-batch_of}
-use Rattle.batch_engine.proofs.Finding.{Has-get, named}
+use Rattle.batch_engine.proofs.Finding.{Has-get}
 use Rattle.batch_engine.proofs.Made.{same-next}
 use Rattle.batch_engine.proofs.Making.{same-number}
 use Rattle.batch_engine.proofs.Noted.{live-noted, move-noted, noted-length, reply-noted}
-use Rattle.batch_engine.proofs.Reporting.{live-nowhere}
 use Rattle.batch_engine.proofs.Told.{down}
 use Rattle.batch_engine.proofs.Unmarked.{found-nowhere, found-there, known-resource, same-count, step-move, untested}
 

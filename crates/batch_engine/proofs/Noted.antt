@@ -1,9 +1,8 @@
 -- Who holds the one unit of a resource.
-use Rattle.std.proofs.Common.{◌≡◌, ◌≤◌, ◌<◌, ◌+◌, ⊎_elim, refl, sym, ◌∙◌, ap, subst, ℕ, zero, suc, List, [], ◌∷◌, ◌++◌, Bool, true, false, ◌&&◌, Option, Some, None, inl, inr, arith, length, nat_eq}
+use Rattle.std.proofs.Common.{◌≡◌, ◌≤◌, ◌<◌, ⊎_elim, refl, sym, ◌∙◌, ap, subst, ℕ, zero, suc, List, [], ◌∷◌, ◌++◌, Bool, true, false, ◌&&◌, Option, Some, None, inl, inr, arith, length, nat_eq}
 use Rattle.std.specs.Prelude.{slice_get, slice_set}
 use Rattle.std.proofs.lemmas.Bool.{and_parts}
 use Rattle.std.proofs.lemmas.List.{length-set}
-use Rattle.std.proofs.lemmas.Option.{slice_get_within}
 use Rattle.batch_matrix.specs.declared.state.State.{State}
 use Rattle.batch_recipe.specs.Conditions.{Name, same_name}
 use Rattle.batch_recipe.specs.Needs.{one_unit}
@@ -11,7 +10,7 @@ use Rattle.batch_recipe.specs.Tree.{Place, Phase, Step}
 use Rattle.batch_recipe.specs.declared.need.Need.{Need}
 use Rattle.batch_model.specs.Cleared.{Ranking, phases}
 use Rattle.batch_model.specs.Events.{Event, Reply, LivePhase, live_in}
-use Rattle.batch_model.specs.Lists.{Has, Each}
+use Rattle.batch_model.specs.Lists.{Has}
 use Rattle.batch_model.specs.Moves.{Move, send, state, release, begin, start, end, ask, grant, after, next}
 use Rattle.batch_model.specs.Plant.{Setup, Batch, BatchAct, Share, units_in, Plant, opening, holders}
 use Rattle.batch_model.specs.Records.{holders_told, holders_after, without}
@@ -26,8 +25,8 @@ use Rattle.batch_laws.specs.Telling.{IsTold, IsLiveAt}
 use Rattle.batch_laws.proofs.Along.{kept-along, kept-at_first, placed-trees}
 use Rattle.batch_laws.proofs.Batches.{entry-of, of-entry, holders-entries}
 use Rattle.batch_laws.proofs.ClearedDown.{AreClearedDown}
-use Rattle.batch_laws.proofs.Entries.{Has-without, holders-Has, nat_same, nat_self, name_same, name_self, units-cons}
-use Rattle.batch_laws.proofs.Facts.{holding, performing, facts, entries, holders_among, share}
+use Rattle.batch_laws.proofs.Entries.{Has-without, holders-Has, nat_same, name_same, name_self, units-cons}
+use Rattle.batch_laws.proofs.Facts.{holding, performing, entries, share}
 use Rattle.batch_laws.proofs.Invariant.{IsKept, IsSound, standing-of}
 use Rattle.batch_laws.proofs.Telling.{tells_the_plant}
 use Rattle.batch_laws.proofs.Units.{performed-phase, unit-held}

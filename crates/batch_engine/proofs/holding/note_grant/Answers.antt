@@ -1,8 +1,7 @@
-use Rattle.std.proofs.Common.{◌≡◌, subst, List, ℕ, Some}
+use Rattle.std.proofs.Common.{◌≡◌, subst, Some}
 use Rattle.std.specs.Prelude.{slice_get}
 use Rattle.std.proofs.lemmas.Option.{slice_get_within}
 use Rattle.batch_engine.specs.declared.batch.Batch.{Batch}
-use Rattle.batch_engine.specs.declared.step.Step.TheVariants.{Grant}
 use Rattle.batch_engine.specs.Steps.{IsGrantStep, IsNext, IsStep}
 use Rattle.batch_engine.specs.View.{EngineView}
 use Rattle.batch_engine.proofs.Finding.{got-batch}

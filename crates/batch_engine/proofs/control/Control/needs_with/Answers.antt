@@ -1,8 +1,7 @@
-use Rattle.std.proofs.Common.{◌≡◌, ◌<◌, ap, subst, List, ℕ, [], Some, arith, length, get_or}
+use Rattle.std.proofs.Common.{◌≡◌, ◌<◌, ap, subst, [], Some, arith, length}
 use Rattle.std.specs.Prelude.{slice_get}
-use Rattle.batch_chart.specs.NodesOf.{needs_in}
 use Rattle.batch_engine.specs.declared.numbers.RecipeNumbers.{RecipeNumbers}
-use Rattle.batch_engine.specs.View.{EngineView, tree_at}
+use Rattle.batch_engine.specs.View.{EngineView}
 use Rattle.batch_engine.specs.Kept.{IsKept, needs_of_all}
 use Rattle.batch_engine.proofs.FewNeeds.{few-needs, few-of_all}
 use Rattle.batch_engine.proofs.NumbersFound.{got-numbers, needs-here}
