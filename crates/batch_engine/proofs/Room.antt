@@ -1,11 +1,13 @@
 -- Room is there for all needs of all batches.
-use Rattle.std.proofs.Common.{◌≡◌, ◌<◌, ◌≤◌, ◌+◌, sym, ◌∙◌, ap, ℕ, zero, suc, List, [], ◌∷◌, ◌++◌, Bool, true, false, Some, cond, arith, length, drop, set}
+use Rattle.std.proofs.Common.{◌≡◌, ◌<◌, ◌≤◌, ◌+◌, refl, sym, ◌∙◌, ap, get_or, ℕ, zero, suc, List, [], ◌∷◌, ◌++◌, Bool, true, false, Some, cond, arith, length, drop, set}
+use Rattle.std.specs.List.{remove}
 use Rattle.std.specs.Prelude.{slice_get}
 use Rattle.std.proofs.lemmas.List.{length-append}
-use Rattle.std.proofs.lemmas.List.Sums.{sum_by-set, sum_by-cons}
+use Rattle.std.proofs.lemmas.List.Sums.{sum_by-set, sum_by-cons, sum_by_push}
 use Rattle.batch_verify.specs.ClearedSet.{ClearedSet}
 use Rattle.batch_arbiter.specs.Allocation.{Claim, shares_of, line_of, asked, granted, released, without_first, is_claim}
 use Rattle.batch_chart.specs.NodesOf.{needs_in}
+use Rattle.batch_engine.specs.Batches.{BatchList, with_batch_at}
 use Rattle.batch_engine.specs.declared.batch.Batch.{Batch}
 use Rattle.batch_engine.specs.View.{EngineView, tree_at, tree_of}
 use Rattle.batch_engine.specs.Kept.{needs_of_all, HasRoom}
@@ -21,6 +23,30 @@ needs-same c (x ∷ bs) zero b b' e r =
     omega (arith, sum_by-cons (λ (z : Batch). needs_in (tree_of c z)) b' bs, sum_by-cons (λ (z : Batch). needs_in (tree_of c z)) x bs, n)
 needs-same c (x ∷ bs) (suc i) b b' e r =
     omega (arith, sum_by-cons (λ (z : Batch). needs_in (tree_of c z)) x (set bs i b'), sum_by-cons (λ (z : Batch). needs_in (tree_of c z)) x bs, needs-same c bs i b b' e r)
+
+-- the same, where the batch is read at the index
+pub needs-set : (c : ClearedSet) (r : BatchList) (i : ℕ) (b b' : Batch) → b ≡ get_or r.batches i b → made_by b' ≡ made_by b → (needs : ℕ) → needs ≡ needs_of_all c r.batches
+    → needs ≡ needs_of_all c (with_batch_at i r b').batches
+needs-set c r i b b' at made needs e = e ∙ sym (go r.batches i at)
+  where
+    go : (bs : List Batch) (j : ℕ) → b ≡ get_or bs j b → needs_of_all c (set bs j b') ≡ needs_of_all c bs
+    go [] zero f = refl
+    go [] (suc j) f = refl
+    go (x ∷ bs) zero f = needs-same c (x ∷ bs) 0 b b' (ap Some (sym f)) made
+    go (x ∷ bs) (suc j) f =
+        omega (arith, go bs j f, sum_by-cons (λ (z : Batch). needs_in (tree_of c z)) x (set bs j b'), sum_by-cons (λ (z : Batch). needs_in (tree_of c z)) x bs)
+
+-- a batch that is added brings its needs
+pub needs-added : (c : ClearedSet) (bs : List Batch) (b : Batch) → needs_of_all c (bs ++ b ∷ []) ≡ needs_of_all c bs + needs_in (tree_of c b)
+needs-added c bs b = sum_by_push (λ (z : Batch). needs_in (tree_of c z)) bs b
+
+-- a batch that is taken out takes its needs with it
+pub needs-removed : (c : ClearedSet) (bs : List Batch) (i : ℕ) (b : Batch) → slice_get bs i ≡ Some b → needs_of_all c (remove bs i) + needs_in (tree_of c b) ≡ needs_of_all c bs
+needs-removed c [] i b e = absurd cc
+needs-removed c (x ∷ bs) zero b e =
+    let f : x ≡ b = cc in omega (arith, sum_by-cons (λ (z : Batch). needs_in (tree_of c z)) x bs, ap (λ (z : Batch). needs_in (tree_of c z)) f)
+needs-removed c (x ∷ bs) (suc i) b e =
+    omega (arith, needs-removed c bs i b e, sum_by-cons (λ (z : Batch). needs_in (tree_of c z)) x bs, sum_by-cons (λ (z : Batch). needs_in (tree_of c z)) x (remove bs i))
 
 without-length : (p : Claim → Bool) (xs : List Claim) → length xs ≤ length (without_first p xs) + 1
 without-length p [] = omega arith

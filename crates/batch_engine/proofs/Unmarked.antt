@@ -38,12 +38,12 @@ use Rattle.batch_engine.specs.Marking.{touched, named, withdraws, IsServedAt, Is
 use Rattle.batch_engine.specs.Marks.{IsUnmarked}
 use Rattle.batch_engine.specs.Steps.{IsNext, IsStep, Makes, MakesNext, index_of}
 use Rattle.batch_engine.specs.Surface.{reply_of}
-use Rattle.batch_engine.specs.View.{EngineView, setup, batch_of, line_at, number_of, plant_of, tree_of}
+use Rattle.batch_engine.specs.View.{EngineView, setup, batch_of, line_at, names_of, number_of, plant_of, tree_of}
 use Rattle.batch_engine.proofs.BatchPlaces.{chosen-false, later-number, Has-batch_of}
-use Rattle.batch_engine.proofs.Finding.{Has-get, batch-runs, serves-first, tree-placed}
+use Rattle.batch_engine.proofs.Cells.{length-capacities}
+use Rattle.batch_engine.proofs.Finding.{named as named-resource, Has-get, batch-runs, serves-first, tree-placed}
 use Rattle.batch_engine.proofs.Frames.{ServesBefore, first_in, lines-alone, serves, settled-none, served-before}
 use Rattle.batch_engine.proofs.Granting.{Granted, asks-node, served-node}
-use Rattle.batch_engine.proofs.Made.{known}
 use Rattle.batch_engine.proofs.Nodes.{within-or_past}
 use Rattle.batch_engine.proofs.Others.{batches-are-few, others-none}
 use Rattle.batch_engine.proofs.Positions.{NonePasses-position}
@@ -57,7 +57,7 @@ few v k =
     let small : (setup v.cleared).batch_limit ≤ 4096 = omega arith in
     omega (arith, limit, small, length-map v.batches (batch_of v.cleared))
 
-untested : (m n : ℕ) → (m ≡ n → ⊥) → nat_eq m n ≡ false
+pub untested : (m n : ℕ) → (m ≡ n → ⊥) → nat_eq m n ≡ false
 untested m n d = go (nat_eq m n) refl
   where
     same : (i j : ℕ) → nat_eq i j ≡ true → i ≡ j
@@ -232,6 +232,10 @@ same-count v w k l s first makes =
     let d = step-move v s first in
     ap (λ (xs : List ℕ). length xs) l.cell.capacities ∙ ap (λ (c : ClearedSet). length (capacities_of c.cell)) (makes d.0 d.1).cleared ∙ ap (λ (xs : List ℕ). length xs) (sym k.cell.capacities)
 
+pub known-resource : (v : EngineView) → IsKept v → (name : Name) (q : ℕ) → number_of v.cleared name ≡ Some q → q < resource_count v.allocation
+known-resource v k name q e =
+    omega (arith, slice_get_within (names_of v.cleared) q name (named-resource v.cleared name q e), ap (λ (xs : List ℕ). length xs) k.cell.capacities, length-capacities v.cleared.cell)
+
 -- Settled
 
 some-at : {X : Type 0} (xs : List X) (i : ℕ) → i < length xs → (x : X) × (slice_get xs i ≡ Some x)
@@ -280,7 +284,7 @@ marked-answered v w k l settled e r answered marks set i less unmarked =
     absurd (let now : is_served (setup w.cleared) (plant_of w) need (d.number, step.place) ≡ true =
     subst (λ (c : ClearedSet). is_served (setup c) (plant_of w) need (d.number, step.place) ≡ true) (sym answered.cleared) served in
     let q = served-named w need (d.number, step.place) now in
-    set.firsts (sym (same-withdraws v.cleared r) ∙ f) q.0 (known w l i b.0 b.1 need.resource q.0 q.1) i
+    set.firsts (sym (same-withdraws v.cleared r) ∙ f) q.0 (known-resource w l need.resource q.0 q.1) i
     (served-at w l i b.0 b.1 step task held need q.0 here got q.1 now) unmarked) in
     record {
       batch = b.0;

@@ -1,4 +1,4 @@
--- surface: the batches, and how they are kept.
+-- private: the batches, and how they are kept.
 use Rattle.std.specs.Prelude.{◌≡◌, ◌≢◌, ◌<◌, ◌++◌, ℕ, List, [], ◌∷◌, ⊤, length, map, filter_map, slice_set}
 use Rattle.std.specs.List.{remove}
 use Rattle.slab.specs.Slab.{Slab, ContainsKey, get, slab_len}

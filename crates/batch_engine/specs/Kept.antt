@@ -80,7 +80,8 @@ pub record IsKept (v : EngineView) : Type 0 where
   pub once : (name : Name) (k : ℕ) → number_of v.cleared name ≡ Some k → IsOnce (acts_of v.cleared v.batches (line_of v.allocation k))
   pub room : HasRoom v
 
--- of the fields of an engine: what is seen of them is kept, and each batch can be found by its number
-pub record IsEngine (r : BatchList) (v : EngineView) : Type 0 where
+-- of the fields of a control: what is seen of them is kept, each batch can be found by its number, and the needs are counted
+pub record IsCounted (r : BatchList) (needs : ℕ) (v : EngineView) : Type 0 where
   pub kept : IsKept v
   pub numbers : HaveOwnNumbers r
+  pub needs_are : needs ≡ needs_of_all v.cleared v.batches

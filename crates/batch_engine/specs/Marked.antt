@@ -1,10 +1,14 @@
--- surface: what the marks on batches tell.
-use Rattle.std.specs.Prelude.{◌≡◌, ◌<◌, ℕ, List, [], Some, slice_get, length}
+-- surface: what the marks on batches tell, and what is noted of resources.
+use Rattle.std.specs.Prelude.{◌≡◌, ◌<◌, ℕ, List, [], Option, Some, slice_get, length}
+use Rattle.batch_arbiter.specs.Allocation.{resource_count}
+use Rattle.batch_model.specs.Lists.{Has}
 use Rattle.batch_model.specs.Moves.{batch_moves}
+use Rattle.batch_model.specs.Plant.{Setup, Share, Plant, holders}
+use Rattle.batch_recipe.specs.Conditions.{Name}
 use Rattle.batch_engine.specs.declared.batch.Batch.{Batch}
 use Rattle.batch_engine.specs.Kept.{IsKept}
 use Rattle.batch_engine.specs.Marks.{IsUnmarked}
-use Rattle.batch_engine.specs.View.{EngineView, setup, batch_of, plant_of}
+use Rattle.batch_engine.specs.View.{EngineView, setup, batch_of, number_of, plant_of}
 
 -- the batch at an index has no move
 pub record HasNoMove (v : EngineView) (i : ℕ) : Type 0 where
@@ -16,7 +20,18 @@ pub record HasNoMove (v : EngineView) (i : ℕ) : Type 0 where
 abbrev pub AreMarked : EngineView → List ℕ → Type 0
 AreMarked v marks = (i : ℕ) → i < length v.batches → IsUnmarked marks i → HasNoMove v i
 
+-- of each resource of capacity 1, by its number, the batch is noted that holds it
+abbrev pub AreNotedBy : (Name → Option ℕ) → Setup → Plant → List ℕ → Type 0
+AreNotedBy number setup plant noted =
+    (name : Name) (q : ℕ) → number name ≡ Some q → setup.capacity name ≡ 1
+    → (share : Share) → Has (holders plant name) share → share.units ≡ 1 → slice_get noted q ≡ Some share.act.0
+
+pub record AreNoted (v : EngineView) (noted : List ℕ) : Type 0 where
+  pub count : length noted ≡ resource_count v.allocation
+  pub held : AreNotedBy (number_of v.cleared) (setup v.cleared) (plant_of v) noted
+
 -- of the fields of an engine
-pub record IsMarked (v : EngineView) (marks : List ℕ) : Type 0 where
+pub record IsEngine (v : EngineView) (marks noted : List ℕ) : Type 0 where
   pub kept : IsKept v
   pub marked : AreMarked v marks
+  pub noted_are : AreNoted v noted

@@ -1,5 +1,5 @@
 -- private: whose moves a move or an event may change, and which batches are marked for it.
-use Rattle.std.specs.Prelude.{◌≡◌, ◌<◌, ℕ, List, Bool, true, false, Option, Some, None, option_map, slice_get, length}
+use Rattle.std.specs.Prelude.{◌≡◌, ◌<◌, ℕ, List, Bool, true, false, Option, Some, None, nat_eq, option_map, slice_get, slice_set, length}
 use Rattle.batch_recipe.specs.Conditions.{Name}
 use Rattle.batch_model.specs.Events as Events
 use Rattle.batch_model.specs.Moves.{Move, release, grant}
@@ -33,6 +33,17 @@ named (Events.refused refusal) = None
 abbrev pub withdraws : Events.Reply → Bool
 withdraws (Events.ordered command number becomes) = Events.ends_asks command
 withdraws _ = false
+
+-- the batch with this number is noted for a resource, if there is one
+abbrev pub noted_for : Option ℕ → ℕ → List ℕ → List ℕ
+noted_for None number holders = holders
+noted_for (Some resource) number holders = slice_set holders resource number
+
+-- the batch is noted that is granted one unit of a resource
+abbrev pub noted : (Name → Option ℕ) → Move → List ℕ → List ℕ
+noted number_of (grant number place need) holders =
+    elim (nat_eq need.units 1) [ true ↦ noted_for (number_of need.resource) number holders | false ↦ holders ]
+noted number_of _ holders = holders
 
 -- Of the engine
 

@@ -12,6 +12,7 @@ ghost use Rattle.batch_engine.specs.View.{setup, plant_of};
 use crate::control::Control;
 use crate::engine::Engine;
 use crate::event::Event;
+use crate::holding::{no_holders, note_grant};
 use crate::line::Line;
 use crate::marking::{mark_answered, mark_moved};
 use crate::marks::Marks;
@@ -29,11 +30,15 @@ impl Engine {
         ensures cleared { IfOk result (λ engine. engine.cleared ≡ cleared) }
         ensures back { IfErr result (λ fault. fault.1 ≡ cleared) }
     {
+        let Ok(holders) = no_holders(alloc, cleared.cell()) else {
+            return Err((AllocError, cleared));
+        };
         let control = Control::new(alloc, cleared)?;
         control.is_kept();
         Ok(Engine {
             control,
             marks: Marks::new(),
+            holders,
         })
     }
 
@@ -52,7 +57,7 @@ impl Engine {
         if !self.settled() {
             return Reply::Refused(Refusal::MovesPending);
         }
-        let reply = self.control.judge(event);
+        let reply = self.control.judge(event, &self.holders);
         self.control.is_kept();
         mark_answered(&mut self.marks, &self.control, reply);
         reply
@@ -78,6 +83,7 @@ impl Engine {
         };
         let line = self.control.line_of(step);
         let resource = self.control.touched(step);
+        note_grant(&mut self.holders, &self.control, step);
         self.control.make(step);
         self.control.is_kept();
         mark_moved(&mut self.marks, &self.control, step.index(), resource);

@@ -8,6 +8,7 @@ ghost use Rattle.batch_engine.specs.Answered.{IsAnswered};
 ghost use Rattle.batch_engine.specs.Kept.{AreChartsOf, IsKept};
 ghost use Rattle.batch_engine.specs.Led.{IsLed};
 ghost use Rattle.batch_engine.specs.Looked.{batch_state_in, value_in};
+ghost use Rattle.batch_engine.specs.Marked.{AreNoted};
 ghost use Rattle.batch_engine.specs.Surface.{event_of};
 ghost use Rattle.batch_engine.specs.View.{setup, plant_of};
 
@@ -33,6 +34,8 @@ pub struct Control {
     pub(crate) charts: Vec<Compiled>,
     pub(crate) numbers: Vec<RecipeNumbers>,
     pub(crate) batches: Batches,
+    /// How many needs the acts of all batches have.
+    pub(crate) needs: usize,
     pub(crate) next_number: u64,
     pub(crate) arbiter: Arbiter,
 }
@@ -44,7 +47,7 @@ impl Model for Control {
     ghost use Rattle.batch_verify.specs.contracts.cleared.Cleared as cleared_contracts;
     ghost use Rattle.batch_engine.specs.contracts.batch.Batch as batch_contracts;
     ghost use Rattle.batch_engine.specs.contracts.numbers.RecipeNumbers as numbers_contracts;
-    ghost use Rattle.batch_engine.specs.Kept.{IsEngine};
+    ghost use Rattle.batch_engine.specs.Kept.{IsCounted};
     ghost use Rattle.batch_engine.specs.View.{EngineView, seen};
 
     ghost Value = { EngineView };
@@ -53,7 +56,7 @@ impl Model for Control {
 
     ghost view = { λ e. seen e.cleared e.charts.items e.numbers.items e.batches.batches e.next_number e.arbiter };
 
-    ghost invariant = { λ e. IsEngine e.batches (seen e.cleared e.charts.items e.numbers.items e.batches.batches e.next_number e.arbiter) };
+    ghost invariant = { λ e. IsCounted e.batches e.needs (seen e.cleared e.charts.items e.numbers.items e.batches.batches e.next_number e.arbiter) };
 }
 
 /// Compiles the recipes.
@@ -91,6 +94,7 @@ impl Control {
             charts,
             numbers,
             batches: Batches::new(alloc),
+            needs: 0,
             next_number: 1,
             arbiter,
         })
@@ -126,9 +130,10 @@ impl Control {
         self.cleared.cell().resources()
     }
 
-    /// Answers an event, while no move is pending.
-    pub(crate) fn judge(&mut self, event: &Event) -> Reply
-        requires { next (setup self.old.cleared) (plant_of self.old) ≡ None }
+    /// Answers an event, while no move is pending, by the batches that hold the units.
+    pub(crate) fn judge(&mut self, event: &Event, holders: &[u64]) -> Reply
+        requires settled { next (setup self.old.cleared) (plant_of self.old) ≡ None }
+        requires noted { AreNoted self.old holders.now }
         ensures { IsAnswered self.old (event_of event.now) result self.new }
     {
         match event {
@@ -139,7 +144,7 @@ impl Control {
             } => self.create(recipe, *size, roles),
             Event::Order { command, batch } => self.order(*command, *batch),
             Event::Remove { batch } => self.remove(*batch),
-            Event::Report(report) => self.report(report),
+            Event::Report(report) => self.report(report, holders),
         }
     }
 

@@ -76,12 +76,7 @@ impl Control {
         requires free { length self.now.batches < MAX_LIVE_BATCHES }
         ensures { (units : List ℕ) → result ≡ needs_of_all self.now.cleared self.now.batches + needs_in (tree_at self.now.cleared recipe units) }
     {
-        let mut needs = self.numbers[usize::from(recipe)].needs;
-        for index in 0..self.batches.len() {
-            let batch = &self.batches[index];
-            needs += self.numbers[usize::from(batch.recipe)].needs;
-        }
-        needs
+        self.needs + self.numbers[usize::from(recipe)].needs
     }
 
     /// Makes a batch, once all its room is made.
@@ -110,6 +105,7 @@ impl Control {
         let Ok(()) = self.batches.add(batch) else {
             return Reply::Refused(Refusal::Memory);
         };
+        self.needs = needs;
         self.next_number = number + 1;
         Reply::Created {
             batch: number,

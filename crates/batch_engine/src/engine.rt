@@ -12,6 +12,8 @@ pub struct Engine {
     pub(crate) control: Control,
     /// Of the indices of batches: one that isn't marked has no move.
     pub(crate) marks: Marks,
+    /// Of resources, by their numbers: the batch that was granted one unit last. Who holds a unit of the cell is found by it.
+    pub(crate) holders: Vec<u64>,
 }
 
 impl Model for Engine {
@@ -21,7 +23,7 @@ impl Model for Engine {
     ghost use Rattle.batch_verify.specs.contracts.cleared.Cleared as cleared_contracts;
     ghost use Rattle.batch_engine.specs.contracts.batch.Batch as batch_contracts;
     ghost use Rattle.batch_engine.specs.contracts.numbers.RecipeNumbers as numbers_contracts;
-    ghost use Rattle.batch_engine.specs.Marked.{IsMarked};
+    ghost use Rattle.batch_engine.specs.Marked.{IsEngine};
     ghost use Rattle.batch_engine.specs.View.{EngineView};
 
     ghost Value = { EngineView };
@@ -30,5 +32,5 @@ impl Model for Engine {
 
     ghost view = { λ e. e.control };
 
-    ghost invariant = { λ e. IsMarked e.control e.marks };
+    ghost invariant = { λ e. IsEngine e.control e.marks e.holders.items };
 }

@@ -94,7 +94,8 @@ impl Control {
         let State::Idle = state else {
             return Reply::Refused(Refusal::NotIdle(state));
         };
-        let _removed = self.batches.remove(index);
+        let removed = self.batches.remove(index);
+        self.needs -= self.numbers[usize::from(removed.recipe)].needs;
         Reply::Removed { batch: number }
     }
 }

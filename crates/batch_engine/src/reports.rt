@@ -4,6 +4,7 @@ ghost use Rattle.batch_model.specs.Events as Events;
 ghost use Rattle.batch_model.specs.Events.{batch_state_after};
 ghost use Rattle.batch_model.specs.Moves.{next};
 ghost use Rattle.batch_engine.specs.Answered.{IsAnswered};
+ghost use Rattle.batch_engine.specs.Marked.{AreNoted};
 ghost use Rattle.batch_engine.specs.Reports.{IsLiveIn, IsLivePhase};
 ghost use Rattle.batch_engine.specs.View.{setup, plant_of};
 
@@ -58,24 +59,25 @@ impl Control {
         None
     }
 
-    /// The live phase of the unit with this name: where its batch stands, its node and its state.
-    fn live(&self, unit: &Name, phase: &Name) -> Option<(usize, u16, State)>
+    /// The live phase of the unit with this name: where the batch stands that holds the unit, its node and its state.
+    fn live(&self, holders: &[u64], unit: &Name, phase: &Name) -> Option<(usize, u16, State)>
+        requires { AreNoted self.now holders.now }
         ensures { IsLivePhase self.now unit.now phase.now result }
     {
-        for index in 0..self.batches.len() {
-            if let Some((node, state)) = self.live_in(index, unit, phase) {
-                return Some((index, node, state));
-            }
-        }
-        None
+        self.is_kept();
+        let resource = self.cleared.cell().resource_of(unit)?;
+        let index = self.index_of(holders[usize::from(resource)])?;
+        let (node, state) = self.live_in(index, unit, phase)?;
+        Some((index, node, state))
     }
 
     /// A live phase of a unit tells something.
-    pub(crate) fn report(&mut self, report: &PhaseReport) -> Reply
-        requires { next (setup self.old.cleared) (plant_of self.old) ≡ None }
+    pub(crate) fn report(&mut self, report: &PhaseReport, holders: &[u64]) -> Reply
+        requires settled { next (setup self.old.cleared) (plant_of self.old) ≡ None }
+        requires noted { AreNoted self.old holders.now }
         ensures { IsAnswered self.old (Events.report report.now.unit report.now.phase report.now.word report.now.outputs.items) result self.new }
     {
-        let Some((index, node, state)) = self.live(&report.unit, &report.phase) else {
+        let Some((index, node, state)) = self.live(holders, &report.unit, &report.phase) else {
             return Reply::Refused(Refusal::NoLivePhase);
         };
         let Some(_end) = after_report(state, report.word) else {

@@ -443,3 +443,59 @@ start 3 0.0.0.0 R3 ADD
 ",
     )
 }
+
+/// The same by an abort, of the batch with the least number.
+#[test]
+fn abort_lets_the_next_ask_be_granted(rt: HostRuntime) -> Result<(), Fail> {
+    assert_told(
+        &rt,
+        rt.alloc(),
+        THREE_UNITS,
+        &[BIG, SMALL, LITTLE],
+        "create BIG 1000
+create SMALL 1000
+create LITTLE 1000
+start 2
+start 1
+start 3
+abort 1
+settled
+",
+        "created 1 BIG 1000
+created 2 SMALL 1000
+created 3 LITTLE 1000
+ok start 2 running
+begin 2 0 SMALL
+ask 2 0.0 R2
+grant 2 0.0 R2
+begin 2 0.0 MAKE
+begin 2 0.0.0 CHARGE
+ask 2 0.0.0.0 STEAM
+grant 2 0.0.0.0 STEAM
+start 2 0.0.0.0 R2 ADD
+ok start 1 running
+begin 1 0 BIG
+ask 1 0.0 R1
+grant 1 0.0 R1
+begin 1 0.0 MAKE
+ask 1 0.0.0 HDR
+grant 1 0.0.0 HDR
+begin 1 0.0.0 CHARGE
+ask 1 0.0.0.0 STEAM*2
+ok start 3 running
+begin 3 0 LITTLE
+ask 3 0.0 R3
+grant 3 0.0 R3
+begin 3 0.0 MAKE
+begin 3 0.0.0 CHARGE
+ask 3 0.0.0.0 STEAM
+ok abort 1 aborting
+release 1 0.0.0 HDR
+release 1 0.0 R1
+state 1 aborted
+grant 3 0.0.0.0 STEAM
+start 3 0.0.0.0 R3 ADD
+settled: true
+",
+    )
+}

@@ -20,6 +20,7 @@ use Rattle.batch_engine.specs.Names.{recipe_name, roles_told}
 use Rattle.batch_engine.proofs.Telling.{recipe-named, some-at}
 use Rattle.batch_engine.specs.Batches.{BatchList, HaveOwnNumbers}
 use Rattle.batch_engine.proofs.Filing.{own-numbers-push}
+use Rattle.batch_engine.proofs.Room.{needs-added}
 use Rattle.batch_engine.proofs.Seeking.{new-number}
 use Rattle.batch_engine.proofs.control.Control.add.Goals as goal
 
@@ -64,6 +65,7 @@ invariant_of-self-in_default-add c =
       kept = subst (λ (a : Allocation). IsKept (seen c.self.inside.cleared c.self.inside.charts.items c.self.inside.numbers.items c.add.new.self.batches c.self.inside.next_number a)) (sym arbiter)
           (subst (λ (bs : List Batch). IsKept (seen c.self.inside.cleared c.self.inside.charts.items c.self.inside.numbers.items bs c.self.inside.next_number (record (c.self.inside.arbiter) { room = room }))) (sym items) inside);
       numbers = subst HaveOwnNumbers (sym c.in_default-add.ensures.same) c.self.invariant.numbers;
+      needs_are = c.self.invariant.needs_are ∙ sym (ap (needs_of_all c.self.inside.cleared) items);
     }
 
 pub invariant_of-self-2 : goal.invariant_of-self-2
@@ -85,6 +87,8 @@ invariant_of-self-2 c =
     let enough : needs_of_all v.cleared v.batches + needs_in t ≤ room = omega (arith, c.needs_with-needs.ensures c.args.units, c.in-Ok-reserve.ensures.ok) in
     let arbiter : c.reserve.new.self ≡ record (c.self.inside.arbiter) { room = room } = c.in-Ok-reserve.ensures.rest in
     let items : c.add.new.self.batches ≡ c.self.inside.batches.batches ++ b ∷ [] = ap (λ (r : BatchList). r.batches) c.in-Ok-add.ensures.added in
+    let counted : c.needs_with-needs.result ≡ needs_of_all w.cleared (w.batches ++ b ∷ []) =
+    c.needs_with-needs.ensures c.args.units ∙ sym (needs-added v.cleared v.batches b) ∙ sym (ap (λ (z : EngineView). needs_of_all z.cleared (z.batches ++ b ∷ [])) e) in
     let kept_after : IsKept (with v (v.batches ++ b ∷ []) (v.next_number + 1) (record (v.allocation) { room = room })) =
     create-kept v kept c.args.recipe c.requires.0 c.args.size c.requires.1 c.args.units c.args.values c.requires.2 b room number refl (made c.args.values).0 new enough in
     let inside : IsKept (with w (w.batches ++ b ∷ []) (w.next_number + 1) (record (w.allocation) { room = room })) =
@@ -93,6 +97,7 @@ invariant_of-self-2 c =
       kept = subst (λ (a : Allocation). IsKept (seen c.self.inside.cleared c.self.inside.charts.items c.self.inside.numbers.items c.add.new.self.batches (c.self.inside.next_number + 1) a)) (sym arbiter)
           (subst (λ (bs : List Batch). IsKept (seen c.self.inside.cleared c.self.inside.charts.items c.self.inside.numbers.items bs (c.self.inside.next_number + 1) (record (c.self.inside.arbiter) { room = room }))) (sym items) inside);
       numbers = subst HaveOwnNumbers (sym c.in-Ok-add.ensures.added) (own-numbers-push c.self.inside.batches b c.self.invariant.numbers);
+      needs_are = counted ∙ sym (ap (needs_of_all w.cleared) items);
     }
 
 pub returns : goal.returns

@@ -13,6 +13,7 @@ use Rattle.batch_engine.proofs.Stepping.{changed}
 use Rattle.batch_engine.proofs.Made.{Becomes, state-changed}
 use Rattle.batch_engine.proofs.Answering.{step-is, closed-kept, closed-makes}
 use Rattle.batch_engine.proofs.Filing.{own-numbers-set}
+use Rattle.batch_engine.proofs.Room.{needs-set}
 use Rattle.batch_engine.proofs.control.Control.change_state.Goals as goal
 
 pub invariant_of-self : goal.invariant_of-self
@@ -29,6 +30,7 @@ invariant_of-self c =
     record {
       kept = closed-kept v _ c.args.index (record b { state = c.args.state }) c.self.inside.arbiter (Moves.state b.number c.args.state) c.self.view_is a;
       numbers = own-numbers-set c.self.inside.batches c.args.index b (record b { state = c.args.state }) c.index_mut-batch.ensures.value refl c.self.invariant.numbers;
+      needs_are = needs-set c.self.inside.cleared c.self.inside.batches c.args.index b (record b { state = c.args.state }) c.index_mut-batch.ensures.value refl c.self.inside.needs c.self.invariant.needs_are;
     }
 
 pub returns : goal.returns

@@ -15,6 +15,7 @@ use Rattle.batch_engine.proofs.Stepping.{changed}
 use Rattle.batch_engine.proofs.Made.{Becomes, grant-made}
 use Rattle.batch_engine.proofs.Answering.{same-at, closed-kept, closed-makes}
 use Rattle.batch_engine.proofs.Filing.{own-numbers-set}
+use Rattle.batch_engine.proofs.Room.{needs-set}
 use Rattle.batch_engine.proofs.control.Control.grant.Goals as goal
 
 pub index_mut-batch-requires : goal.index_mut-batch-requires
@@ -84,6 +85,7 @@ invariant_of-self c =
     record {
       kept = closed-kept v _ c.args.index (record b { running = c.grant.new.self }) c.grant_next.new.self m c.self.view_is a;
       numbers = own-numbers-set c.self.inside.batches c.args.index b (record b { running = c.grant.new.self }) c.index_mut-batch.ensures.value refl c.self.invariant.numbers;
+      needs_are = needs-set c.self.inside.cleared c.self.inside.batches c.args.index b (record b { running = c.grant.new.self }) c.index_mut-batch.ensures.value refl c.self.inside.needs c.self.invariant.needs_are;
     }
 
 pub returns : goal.returns

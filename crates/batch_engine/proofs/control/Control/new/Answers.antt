@@ -1,11 +1,11 @@
-use Rattle.std.proofs.Common.{◌≡◌, refl, sym, ◌∙◌, ap, ap₂, subst, List, [], length}
+use Rattle.std.proofs.Common.{◌≡◌, refl, sym, ◌∙◌, ap, ap₂, subst, ℕ, List, [], length}
 use Rattle.batch_cell.specs.LookUps.{capacities_of}
 use Rattle.batch_cell.specs.declared.cell.Cell.{Cell}
 use Rattle.batch_recipe.specs.declared.recipe.Recipe as document
 use Rattle.batch_arbiter.specs.Allocation.{Allocation, idle}
 use Rattle.batch_verify.specs.ClearedSet.{ClearedSet}
 use Rattle.batch_engine.specs.View.{seen, plant_of}
-use Rattle.batch_engine.specs.Kept.{AreChartsOf, AreCompiled, IsKept}
+use Rattle.batch_engine.specs.Kept.{AreChartsOf, AreCompiled, IsKept, needs_of_all}
 use Rattle.batch_engine.specs.Numbered.{AreRecipesNumbered}
 use Rattle.batch_engine.proofs.Opening.{opening-plant, opening-kept, are-compiled}
 use Rattle.batch_engine.specs.Batches.{BatchList, HaveOwnNumbers}
@@ -32,6 +32,7 @@ invariant_of-result c =
       kept = subst (λ (r : BatchList). IsKept (seen set charts numbers r.batches 1 c.in-Ok-new.arbiter)) (sym c.new-2.ensures)
           (subst (λ (a : Allocation). IsKept (seen set charts numbers [] 1 a)) (sym arbiter) (opening-kept set charts numbers c.recipes.ensures.cleared compiled numbered));
       numbers = subst HaveOwnNumbers (sym c.new-2.ensures) refl;
+      needs_are = subst (λ (r : BatchList). ◌≡◌ {A = ℕ} 0 (needs_of_all set r.batches)) (sym c.new-2.ensures) refl;
     }
 
 pub returns-clause-opening : goal.returns-clause-opening

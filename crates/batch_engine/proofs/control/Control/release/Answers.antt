@@ -16,6 +16,7 @@ use Rattle.batch_engine.proofs.Stepping.{changed}
 use Rattle.batch_engine.proofs.Made.{Becomes, release-made, known, held-share}
 use Rattle.batch_engine.proofs.Answering.{same-at, step-is, step-about, step-can, closed-kept, closed-makes}
 use Rattle.batch_engine.proofs.Filing.{own-numbers-set}
+use Rattle.batch_engine.proofs.Room.{needs-set}
 use Rattle.batch_engine.proofs.control.Control.release.Goals as goal
 
 pub release-requires-clause-known : goal.release-requires-clause-known
@@ -102,6 +103,7 @@ invariant_of-self c =
     record {
       kept = closed-kept v _ c.args.index (record b { running = c.make.new.self }) c.release.new.self m c.self.view_is a;
       numbers = own-numbers-set c.self.inside.batches c.args.index b (record b { running = c.make.new.self }) c.index_mut-batch.ensures.value refl c.self.invariant.numbers;
+      needs_are = needs-set c.self.inside.cleared c.self.inside.batches c.args.index b (record b { running = c.make.new.self }) c.index_mut-batch.ensures.value refl c.self.inside.needs c.self.invariant.needs_are;
     }
 
 pub returns : goal.returns

@@ -28,6 +28,7 @@ use Rattle.batch_engine.proofs.Stepping.{changed}
 use Rattle.batch_engine.proofs.Reporting.{Reported, outputs-own, report-bad, report-made}
 use Rattle.batch_engine.proofs.Telling.{place-here}
 use Rattle.batch_engine.proofs.Filing.{own-numbers-set}
+use Rattle.batch_engine.proofs.Room.{needs-set}
 use Rattle.batch_engine.proofs.control.Control.report.Goals as goal
 
 pub phase_at-unit-requires : goal.phase_at-unit-requires
@@ -118,13 +119,14 @@ invariant_of-self c =
     let b' : Batch = record b { values = c.set_outputs.new.self; state = batch_state_after word b.state; running = c.report.new.self } in
     let reply : Events.Reply = Events.reported unit name word b.number (place_at t node) (batch_state_after word b.state) in
     let r : Reported v (changed v i b' v.allocation) unit name word outs reply =
-    report-made v kept i b at unit name word outs c.requires (outputs-own word outs c.args.report.now.done_alone) node s c.in-Some-after_report._end found ends fine c.set_outputs.new.self values c.report.new.self made.0 (made.1 s c.in-Some-after_report._end live ends) in
+    report-made v kept i b at unit name word outs c.requires.settled (outputs-own word outs c.args.report.now.done_alone) node s c.in-Some-after_report._end found ends fine c.set_outputs.new.self values c.report.new.self made.0 (made.1 s c.in-Some-after_report._end live ends) in
     let state : c.state_after-next.result ≡ batch_state_after word b.state = c.state_after-next.ensures in
     let read : IsKept (changed v i (record b { values = c.set_outputs.new.self; state = c.state_after-next.result; running = c.report.new.self }) v.allocation) =
     subst (λ (y : State). IsKept (changed v i (record b { values = c.set_outputs.new.self; state = y; running = c.report.new.self }) v.allocation)) (sym state) r.kept in
     record {
       kept = subst (λ (z : EngineView). IsKept (changed z i (record b { values = c.set_outputs.new.self; state = c.state_after-next.result; running = c.report.new.self }) z.allocation)) (sym c.self.view_is) read;
       numbers = own-numbers-set c.self.inside.batches i b (record b { values = c.set_outputs.new.self; state = c.state_after-next.result; running = c.report.new.self }) c.index_mut-batch.ensures.value refl c.self.invariant.numbers;
+      needs_are = needs-set c.self.inside.cleared c.self.inside.batches i b (record b { values = c.set_outputs.new.self; state = c.state_after-next.result; running = c.report.new.self }) c.index_mut-batch.ensures.value refl c.self.inside.needs c.self.invariant.needs_are;
     }
 
 pub returns : goal.returns
@@ -164,7 +166,7 @@ returns c =
     let b' : Batch = record b { values = c.set_outputs.new.self; state = batch_state_after word b.state; running = c.report.new.self } in
     let reply : Events.Reply = Events.reported unit name word b.number (place_at t node) (batch_state_after word b.state) in
     let r : Reported v (changed v i b' v.allocation) unit name word outs reply =
-    report-made v kept i b at unit name word outs c.requires (outputs-own word outs c.args.report.now.done_alone) node s c.in-Some-after_report._end found ends fine c.set_outputs.new.self values c.report.new.self made.0 (made.1 s c.in-Some-after_report._end live ends) in
+    report-made v kept i b at unit name word outs c.requires.settled (outputs-own word outs c.args.report.now.done_alone) node s c.in-Some-after_report._end found ends fine c.set_outputs.new.self values c.report.new.self made.0 (made.1 s c.in-Some-after_report._end live ends) in
     let state : c.state_after-next.result ≡ batch_state_after word b.state = c.state_after-next.ensures in
     let y : State = c.state_after-next.result in
     let b2 : Batch = record b { values = c.set_outputs.new.self; state = y; running = c.report.new.self } in
@@ -248,7 +250,7 @@ returns-then-not-are_outputs c =
     ∙ ap₂ (λ xs ys. are_outputs xs ys) outputs (sym c.deref-2.ensures.value) ∙ sym c.are_outputs.ensures ∙ c.if-not-are_outputs.true in
     record {
       cleared = refl;
-      reacts = report-bad v unit name word outs c.requires (outputs-own word outs c.args.report.now.done_alone) (record { batch = batch_of v.cleared g.batch; place = place_at (tree_of v.cleared g.batch) node; state = s }) g.found c.in-Some-after_report._end ends off;
+      reacts = report-bad v unit name word outs c.requires.settled (outputs-own word outs c.args.report.now.done_alone) (record { batch = batch_of v.cleared g.batch; place = place_at (tree_of v.cleared g.batch) node; state = s }) g.found c.in-Some-after_report._end ends off;
     }
 
 pub index_mut-batch-requires : goal.index_mut-batch-requires

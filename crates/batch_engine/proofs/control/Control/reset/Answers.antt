@@ -18,6 +18,7 @@ use Rattle.batch_recipe.specs.Conditions.{ValueList}
 use Rattle.batch_recipe.specs.Values.{with_outputs_zero}
 use Rattle.batch_engine.proofs.Finding.{recipe-read}
 use Rattle.batch_engine.proofs.Filing.{own-numbers-set}
+use Rattle.batch_engine.proofs.Room.{needs-set}
 use Rattle.batch_engine.proofs.control.Control.reset.Goals as goal
 
 pub reset-requires : goal.reset-requires
@@ -65,6 +66,7 @@ invariant_of-self c =
     record {
       kept = closed-kept' v _ i b' c.self.inside.arbiter Reset n c.self.view_is a;
       numbers = own-numbers-set c.self.inside.batches i b b' c.index_mut-batch.ensures.value refl c.self.invariant.numbers;
+      needs_are = needs-set c.self.inside.cleared c.self.inside.batches i b b' c.index_mut-batch.ensures.value refl c.self.inside.needs c.self.invariant.needs_are;
     }
 
 pub returns : goal.returns

@@ -14,6 +14,7 @@ use Rattle.batch_engine.proofs.Stepping.{changed}
 use Rattle.batch_engine.proofs.Made.{Becomes, run-quiet}
 use Rattle.batch_engine.proofs.Answering.{step-is, step-can, closed-kept, closed-makes}
 use Rattle.batch_engine.proofs.Filing.{own-numbers-set}
+use Rattle.batch_engine.proofs.Room.{needs-set}
 use Rattle.batch_engine.proofs.control.Control.run.Goals as goal
 
 pub make-requires-clause-running : goal.make-requires-clause-running
@@ -56,6 +57,7 @@ invariant_of-self c =
     record {
       kept = closed-kept v _ c.args.index (record b { running = c.make.new.self }) c.self.inside.arbiter m c.self.view_is a;
       numbers = own-numbers-set c.self.inside.batches c.args.index b (record b { running = c.make.new.self }) c.index_mut-batch.ensures.value refl c.self.invariant.numbers;
+      needs_are = needs-set c.self.inside.cleared c.self.inside.batches c.args.index b (record b { running = c.make.new.self }) c.index_mut-batch.ensures.value refl c.self.inside.needs c.self.invariant.needs_are;
     }
 
 pub returns : goal.returns

@@ -15,6 +15,7 @@ use Rattle.batch_engine.proofs.Stepping.{changed}
 use Rattle.batch_engine.proofs.Ordering.{Ordered, stop-made}
 use Rattle.batch_engine.proofs.OrderAnswers.{order-at, order-batch, closed-kept', closed-ordered}
 use Rattle.batch_engine.proofs.Filing.{own-numbers-set}
+use Rattle.batch_engine.proofs.Room.{needs-set}
 use Rattle.batch_engine.proofs.control.Control.stop.Goals as goal
 
 pub invariant_of-self : goal.invariant_of-self
@@ -42,6 +43,7 @@ invariant_of-self c =
     record {
       kept = closed-kept' v _ i b' c.withdraw.new.self c.args.command n c.self.view_is a;
       numbers = own-numbers-set c.self.inside.batches i b b' c.index_mut-batch.ensures.value refl c.self.invariant.numbers;
+      needs_are = needs-set c.self.inside.cleared c.self.inside.batches i b b' c.index_mut-batch.ensures.value refl c.self.inside.needs c.self.invariant.needs_are;
     }
 
 pub returns : goal.returns

@@ -2,9 +2,14 @@ use Rattle.std.proofs.Common.{◌≡◌, refl, sym, subst, None}
 use Rattle.batch_model.specs.Moves.{next}
 use Rattle.batch_engine.specs.View.{EngineView, setup, plant_of}
 use Rattle.batch_engine.specs.Answered.{IsAnswered}
+use Rattle.batch_engine.specs.Marked.{AreNoted}
+use Rattle.batch_engine.proofs.HeldUnits.{reply-kept}
 use Rattle.batch_engine.specs.Surface.{event_of}
 use Rattle.batch_engine.proofs.Unmarked.{marked-answered}
 use Rattle.batch_engine.proofs.engine.Engine.accept.Goals as goal
+
+pub judge-reply-requires-clause-noted : goal.judge-reply-requires-clause-noted
+judge-reply-requires-clause-noted c = subst (AreNoted c.self.inside.control) (sym c.deref.ensures.value) c.self.invariant.noted_are
 
 pub invariant_of-self : goal.invariant_of-self
 invariant_of-self c =
@@ -16,6 +21,7 @@ invariant_of-self c =
       kept = c.is_kept.ensures;
       marked = marked-answered v w c.self.invariant.kept c.is_kept.ensures settled (event_of c.args.event.now) c.judge-reply.result c.judge-reply.ensures
           c.mark_answered.new.marks c.mark_answered.ensures;
+      noted_are = reply-kept v w c.self.invariant.kept c.is_kept.ensures c.self.inside.holders.items c.self.invariant.noted_are (event_of c.args.event.now) c.judge-reply.result c.judge-reply.ensures;
     }
 
 pub returns : goal.returns

@@ -3,6 +3,7 @@ use Rattle.std.specs.Prelude.{IfSome, length}
 use Rattle.batch_engine.specs.Marking.{AreMoveMarked}
 use Rattle.batch_engine.specs.View.{EngineView}
 use Rattle.batch_engine.specs.declared.step.Step.{Step}
+use Rattle.batch_engine.proofs.HeldUnits.{move-kept}
 use Rattle.batch_engine.proofs.Unmarked.{marked-after, same-count, settled-marked, step-within}
 use Rattle.batch_engine.proofs.engine.Engine.next_move.Goals as goal
 
@@ -20,7 +21,7 @@ mark_moved-requires-clause-known c =
 
 pub invariant_of-self : goal.invariant_of-self
 invariant_of-self c =
-    record { kept = c.self.invariant.kept; marked = settled-marked c.self.inside.control c.in_default.ensures c.new-self-inside.result }
+    record { kept = c.self.invariant.kept; marked = settled-marked c.self.inside.control c.in_default.ensures c.new-self-inside.result; noted_are = c.self.invariant.noted_are }
 
 pub invariant_of-self-2 : goal.invariant_of-self-2
 invariant_of-self-2 c =
@@ -34,4 +35,5 @@ invariant_of-self-2 c =
           c.touched-resource.result c.touched-resource.ensures.number
           (subst (λ n. AreMoveMarked w n c.touched-resource.result zs) c.index.ensures c.mark_moved.ensures.set)
           (λ i l u. c.mark_moved.ensures.kept i (subst (λ n. n ≤ i) (sym c.index.ensures) l) u);
+      noted_are = move-kept v w c.self.invariant.kept c.is_kept.ensures c.self.inside.holders.items c.self.invariant.noted_are s c.in-Some.ensures.0 c.make.ensures c.note_grant.new.holders.items c.note_grant.ensures;
     }

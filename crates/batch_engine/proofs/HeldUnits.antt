@@ -1,0 +1,150 @@
+-- The batch that holds a unit is found by what is noted of it.
+use Rattle.std.proofs.Common.{◌≡◌, refl, sym, ◌∙◌, ap, ap₂, subst, subst₂, ℕ, List, Bool, true, false, Option, Some, None, arith, get_or, length, nat_eq}
+use Rattle.std.specs.Prelude.{slice_get, slice_set, position}
+use Rattle.batch_cell.specs.LookUps.{capacities_of}
+use Rattle.batch_recipe.specs.Conditions.{Name}
+use Rattle.batch_recipe.specs.Tree.{Tree}
+use Rattle.batch_recipe.specs.declared.need.Need.{Need}
+use Rattle.batch_model.specs.Events.{LivePhase, live_in}
+use Rattle.batch_model.specs.Moves.{Move, after, grant}
+use Rattle.batch_model.specs.Events as Events
+use Rattle.batch_model.specs.Plant as Model
+use Rattle.batch_model.specs.Plant.{Plant}
+use Rattle.batch_model.specs.Rest.{acts}
+use Rattle.batch_verify.specs.ClearedSet.{ClearedSet}
+use Rattle.batch_chart.specs.NodesOf.{need_at, place_at}
+use Rattle.batch_chart.specs.Seen.{move_of}
+use Rattle.batch_chart.specs.declared.chart_move.Move as ChartMove
+use Rattle.batch_chart.specs.declared.chart_move.Move.TheVariants.{Send, State, Release, Begin, Start, End, Ask}
+use Rattle.batch_engine.specs.Answered.{IsAnswered}
+use Rattle.batch_engine.specs.Kept.{IsKept}
+use Rattle.batch_engine.specs.Marked.{AreNotedBy, AreNoted}
+use Rattle.batch_engine.specs.Marking.{noted, noted_for}
+use Rattle.batch_engine.specs.Steps.{IsNext, IsStep, Makes, MakesNext}
+use Rattle.batch_engine.specs.Surface.{reply_of}
+use Rattle.batch_engine.specs.View.{EngineView, setup, batch_of, number_of, plant_of, tree_of}
+use Rattle.batch_engine.specs.declared.batch.Batch.{Batch}
+use Rattle.batch_engine.specs.declared.reply.Reply.{Reply}
+use Rattle.batch_engine.specs.declared.step.Step.{Step}
+use Rattle.batch_engine.specs.declared.step.Step.TheVariants.{Own, Grant}
+use Rattle.batch_engine.proofs.Answering.{same-at}
+use Rattle.batch_engine.proofs.BatchPlaces.{Has-batch_of}
+use Rattle.batch_engine.proofs.Finding.{Has-get}
+use Rattle.batch_engine.proofs.Made.{same-next}
+use Rattle.batch_engine.proofs.Making.{same-number}
+use Rattle.batch_engine.proofs.Noted.{live-noted, move-noted, noted-length, reply-noted}
+use Rattle.batch_engine.proofs.Told.{down}
+use Rattle.batch_engine.proofs.Unmarked.{found-nowhere, found-there, known-resource, same-count, step-move, untested}
+
+-- what has capacity 1 is a resource
+known-capacity : (c : ClearedSet) (name : Name) → (setup c).capacity name ≡ 1 → (q : ℕ) × (number_of c name ≡ Some q)
+known-capacity c name one = go (number_of c name) refl
+  where
+    go : (o : Option ℕ) → number_of c name ≡ o → (q : ℕ) × (number_of c name ≡ Some q)
+    go (Some q) e = (q, e)
+    go None e =
+        absurd (let z : ◌≡◌ {A = ℕ} 0 1 = sym (ap (λ (o : Option ℕ). let r : ℕ = elim o [ None ↦ 0 | Some number ↦ get_or (capacities_of c.cell) number 0 ] in r) e) ∙ one in omega (arith, z))
+
+module _ (v : EngineView) (k : IsKept v) (hs : List ℕ) (are : AreNoted v hs) (unit name : Name) where
+  abbrev live_at : Batch → Option LivePhase
+  live_at b = live_in (batch_of v.cleared b) unit name (acts (batch_of v.cleared b).rest)
+
+  -- the batch that runs a live phase of the unit is noted
+  live-batch : (i : ℕ) (b : Batch) → slice_get v.batches i ≡ Some b → (l : LivePhase) → live_at b ≡ Some l → (q : ℕ) × (number_of v.cleared unit ≡ Some q) × (slice_get hs q ≡ Some b.number)
+  live-batch i b at l found =
+      live-noted (setup v.cleared) k.cleared.0 (down v.cleared k.cleared) k.tracked.events k.tracked.outs (plant_of v) k.tracked.leads (number_of v.cleared) hs are.held
+      (known-capacity v.cleared) (batch_of v.cleared b) (Has-batch_of v.cleared v.batches b (Has-get v.batches i b at)) unit name l found
+
+  not-live : (i : ℕ) (b : Batch) → slice_get v.batches i ≡ Some b → ((q : ℕ) → number_of v.cleared unit ≡ Some q → slice_get hs q ≡ Some b.number → ⊥) → live_at b ≡ None
+  not-live i b at other = go (live_at b) refl
+    where
+      go : (o : Option LivePhase) → live_at b ≡ o → live_at b ≡ None
+      go None e = e
+      go (Some l) e = absurd (let r = live-batch i b at l e in other r.0 r.1 r.2)
+
+  -- no other runs one
+  pub live-no_unit : number_of v.cleared unit ≡ None → (j : ℕ) (d : Batch) → slice_get v.batches j ≡ Some d → live_at d ≡ None
+  live-no_unit none j d at = not-live j d at (λ q e f. (let z : ◌≡◌ {A = Option ℕ} None (Some q) = sym none ∙ e in cc))
+
+  module _ (resource number : ℕ) (is : number_of v.cleared unit ≡ Some resource) (noted_is : slice_get hs resource ≡ Some number) where
+    same-noted : (q n : ℕ) → number_of v.cleared unit ≡ Some q → slice_get hs q ≡ Some n → n ≡ number
+    same-noted q n e f =
+        let z : ◌≡◌ {A = Option ℕ} (Some q) (Some resource) = sym e ∙ is in
+        let at : q ≡ resource = cc in
+        let y : ◌≡◌ {A = Option ℕ} (Some n) (Some number) = sym f ∙ ap (slice_get hs) at ∙ noted_is in cc
+
+    pub live-no_batch : position (λ (b : Batch). nat_eq b.number number) v.batches ≡ None → (j : ℕ) (d : Batch) → slice_get v.batches j ≡ Some d → live_at d ≡ None
+    live-no_batch none j d at = not-live j d at (λ q e f. found-nowhere v number j d none at (same-noted q d.number e f))
+
+    module _ (i : ℕ) (here : position (λ (b : Batch). nat_eq b.number number) v.batches ≡ Some i) where
+      pub live-elsewhere : (j : ℕ) (d : Batch) → slice_get v.batches j ≡ Some d → (j ≡ i → ⊥) → live_at d ≡ None
+      live-elsewhere j d at other = not-live j d at (λ q e f. other (found-there v k number i j d here at (same-noted q d.number e f)))
+
+-- What is noted at a step
+
+quiet : (t : Tree) (b : Model.Batch) (m : ChartMove.Move) (number : Name → Option ℕ) (hs : List ℕ) → noted number (move_of t b m) hs ≡ hs
+quiet t b (Send k c) number hs = refl
+quiet t b (State x) number hs = refl
+quiet t b (Release k i) number hs = refl
+quiet t b (Begin k) number hs = refl
+quiet t b (Start k) number hs = refl
+quiet t b (End k) number hs = refl
+quiet t b (Ask k i) number hs = refl
+
+-- a move of a chart is no grant
+pub noted-own : (v : EngineView) (i : ℕ) (made : ChartMove.Move) → IsStep v (IsNext v) (Own i made) → (hs : List ℕ) (m : Move) → IsNext v m → hs ≡ noted (number_of v.cleared) m hs
+noted-own v i made g hs m is =
+    let t : Tree = tree_of v.cleared g.batch in
+    let same : m ≡ move_of t (batch_of v.cleared g.batch) made = same-next v m (move_of t (batch_of v.cleared g.batch) made) is g.is in
+    sym (ap (λ (l : Move). noted (number_of v.cleared) l hs) same ∙ quiet t (batch_of v.cleared g.batch) made (number_of v.cleared) hs)
+
+-- a grant of as many units of the resource, to the batch at the index
+noted-grant : (v : EngineView) (i node resource units : ℕ) → IsStep v (IsNext v) (Grant i node resource units) → (b : Batch) → slice_get v.batches i ≡ Some b → (hs : List ℕ) (m : Move) → IsNext v m
+    → noted (number_of v.cleared) m hs ≡ (let r : List ℕ = elim (nat_eq units 1) [ true ↦ slice_set hs resource b.number | false ↦ hs ] in r)
+noted-grant v i node resource units g b at hs m is =
+    let need : Need = need_at (tree_of v.cleared g.batch) node g.need in
+    let l : Move = grant g.batch.number (place_at (tree_of v.cleared g.batch) node) need in
+    ap (λ (x : Move). noted (number_of v.cleared) x hs) (same-next v m l is g.is)
+    ∙ ap (λ (o : Option ℕ). let r : List ℕ = elim (nat_eq need.units 1) [ true ↦ noted_for o g.batch.number hs | false ↦ hs ] in r) g.number
+    ∙ ap₂ (λ (n : ℕ) (z : Batch). let r : List ℕ = elim (nat_eq n 1) [ true ↦ slice_set hs resource z.number | false ↦ hs ] in r) g.units_are (same-at v.batches i g.batch b g.here.at at)
+
+pub granted-one : (v : EngineView) (i node resource units : ℕ) → IsStep v (IsNext v) (Grant i node resource units) → (b : Batch) → slice_get v.batches i ≡ Some b → units ≡ 1 → (q : ℕ) → q ≡ resource
+    → (hs : List ℕ) (m : Move) → IsNext v m → slice_set hs q b.number ≡ noted (number_of v.cleared) m hs
+granted-one v i node resource units g b at one q same hs m is =
+    ap (λ (j : ℕ). let r : List ℕ = slice_set hs j b.number in r) same
+    ∙ sym (noted-grant v i node resource units g b at hs m is
+    ∙ ap (λ (t : Bool). let r : List ℕ = elim t [ true ↦ slice_set hs resource b.number | false ↦ hs ] in r) (subst (λ k. nat_eq k 1 ≡ true) (sym one) refl))
+
+pub granted-more : (v : EngineView) (i node resource units : ℕ) → IsStep v (IsNext v) (Grant i node resource units) → (units ≡ 1 → ⊥) → (hs : List ℕ) (m : Move) → IsNext v m
+    → hs ≡ noted (number_of v.cleared) m hs
+granted-more v i node resource units g more hs m is =
+    sym (noted-grant v i node resource units g g.batch g.here.at hs m is
+    ∙ ap (λ (t : Bool). let r : List ℕ = elim t [ true ↦ slice_set hs resource g.batch.number | false ↦ hs ] in r) (untested units 1 more))
+
+-- After a move
+
+pub move-kept : (v w : EngineView) (k : IsKept v) → IsKept w → (hs : List ℕ) → AreNoted v hs → (s : Step) → IsStep v (IsNext v) s → MakesNext v w → (zs : List ℕ)
+    → ((m : Move) → IsNext v m → zs ≡ noted (number_of v.cleared) m hs) → AreNoted w zs
+move-kept v w k l hs are s step makes zs noted_are =
+    let d = step-move v s step in
+    let made : Makes v w d.0 = makes d.0 d.1 in
+    let held : AreNotedBy (number_of v.cleared) (setup v.cleared) (after (plant_of v) d.0) (noted (number_of v.cleared) d.0 hs) =
+    move-noted (setup v.cleared) k.cleared.0 (down v.cleared k.cleared) k.tracked.events k.tracked.outs (plant_of v) k.tracked.leads (number_of v.cleared)
+    (λ x y q e f. same-number v.cleared x y q q e f refl) hs are.held d.0 d.1 (λ name q e. omega (arith, are.count, known-resource v k name q e)) in
+    record {
+      count = ap (λ (xs : List ℕ). length xs) (noted_are d.0 d.1) ∙ noted-length (number_of v.cleared) d.0 hs ∙ are.count ∙ sym (same-count v w k l s step makes);
+      held = subst (λ (c : ClearedSet). AreNotedBy (number_of c) (setup c) (plant_of w) zs) (sym made.cleared)
+          (subst₂ (λ (t : Plant) (xs : List ℕ). AreNotedBy (number_of v.cleared) (setup v.cleared) t xs) (sym made.plant) (sym (noted_are d.0 d.1)) held);
+    }
+
+-- After an event
+
+pub reply-kept : (v w : EngineView) (k : IsKept v) → IsKept w → (hs : List ℕ) → AreNoted v hs → (e : Events.Event) (r : Reply) → IsAnswered v e r w → AreNoted w hs
+reply-kept v w k l hs are e r answered =
+    let held : AreNotedBy (number_of v.cleared) (setup v.cleared) (plant_of w) hs =
+    reply-noted (setup v.cleared) k.cleared.0 (down v.cleared k.cleared) k.tracked.events k.tracked.outs (plant_of v) k.tracked.leads (number_of v.cleared)
+    (λ x y q e f. same-number v.cleared x y q q e f refl) hs are.held e (reply_of v.cleared r) (plant_of w) answered.reacts in
+    record {
+      count = are.count ∙ ap (λ (xs : List ℕ). length xs) k.cell.capacities ∙ ap (λ (c : ClearedSet). length (capacities_of c.cell)) (sym answered.cleared) ∙ ap (λ (xs : List ℕ). length xs) (sym l.cell.capacities);
+      held = subst (λ (c : ClearedSet). AreNotedBy (number_of c) (setup c) (plant_of w) hs) (sym answered.cleared) held;
+    }
