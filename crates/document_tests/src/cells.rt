@@ -5,8 +5,6 @@ mod limits;
 mod refusals;
 mod worked;
 
-use crate::reading::{cell_refusal, refused_at};
-use batch_reader::{EntryFault, TableKind};
 use std::alloc::{AllocError, Global};
 
 /// The cell of the worked examples, up to the capacity of its steam.
@@ -33,9 +31,4 @@ capacity = ";
 /// The cell of the worked examples, whose steam has this capacity.
 fn demo(alloc: Global, steam: &str) -> Result<String, AllocError> {
     format!(in alloc; "{DEMO}{steam}\n")
-}
-
-/// Whether the document is refused for this fault of this table.
-fn refuses(alloc: Global, text: &str, kind: TableKind, entry: usize, fault: EntryFault) -> bool {
-    cell_refusal(alloc, text) == refused_at(kind, entry, fault)
 }

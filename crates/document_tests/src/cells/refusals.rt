@@ -1,44 +1,39 @@
 //! Cell documents with two faults: which is told.
-use super::refuses;
-use batch_reader::{EntryFault, TableKind};
+use crate::reading::cell_refusal;
+use std::alloc::{AllocError, Global};
+use std::test::Fail;
 
-/// Cells with two faults, of which the first is told.
-const WITH_TWO_FAULTS: [(&str, TableKind, usize, EntryFault); 5] = [
-    (
+/// Cells with two faults, of which the first is told. Without a contract here, no test's proof reads them.
+fn with_two_faults() -> [&'static str; 5] {
+    [
         "size = 1\ncell = 5\n",
-        TableKind::Cell,
-        0,
-        EntryFault::UnknownKey,
-    ),
-    (
         "cell = \"C\"\n[[module]]\n[[unit]]\nname = 5\n",
-        TableKind::Unit,
-        0,
-        EntryFault::WrongKind,
-    ),
-    (
         "cell = \"C\"\n[[module]]\nname = \"M\"\n[[module]]\nname = \"M\"\n",
-        TableKind::Unit,
-        0,
-        EntryFault::OutOfLimit,
-    ),
-    (
         "cell = \"C\"\n[[unit]]\nname = \"U\"\n[[module]]\nname = \"U\"\nunit = \"V\"\nphases = [\"A\"]\n",
-        TableKind::Module,
-        0,
-        EntryFault::Duplicate,
-    ),
-    (
         "cell = \"C\"\n[[unit]]\nname = \"U\"\n[[module]]\nname = \"M\"\nunit = \"U\"\nphases = [\"A\", \"A\"]\n[[module]]\nname = \"N\"\nunit = \"V\"\nphases = [\"A\"]\n",
-        TableKind::Module,
-        1,
-        EntryFault::Undeclared,
-    ),
-];
+    ]
+}
+
+/// Why each document is refused, a line each.
+fn refusals(alloc: Global, documents: &[&str]) -> Result<String, AllocError> {
+    let mut text = String::new(alloc);
+    for document in documents {
+        let line = format!(in alloc; "{:?}\n", cell_refusal(alloc, document))?;
+        text.push_str(line.as_str())?;
+    }
+    Ok(text)
+}
 
 #[test]
-fn first_of_two_faults(rt: HostRuntime) {
-    for (text, kind, entry, fault) in WITH_TWO_FAULTS {
-        assert!(rt; refuses(rt.alloc(), text, kind, entry, fault), "{text}");
-    }
+fn first_of_two_faults(rt: HostRuntime) -> Result<(), Fail> {
+    assert_eq!(rt;
+        refusals(rt.alloc(), &with_two_faults())?.as_str(),
+        "Some(Entry(Spot { kind: Cell, entry: 0 }, UnknownKey))
+Some(Entry(Spot { kind: Unit, entry: 0 }, WrongKind))
+Some(Entry(Spot { kind: Unit, entry: 0 }, OutOfLimit))
+Some(Entry(Spot { kind: Module, entry: 0 }, Duplicate))
+Some(Entry(Spot { kind: Module, entry: 1 }, Undeclared))
+"
+    );
+    Ok(())
 }

@@ -41,11 +41,21 @@ fn looked_up(alloc: Global, cell: &Cell, names: &[&str]) -> Result<String, Fail>
 fn line_of(alloc: Global, cell: &Cell, name: &str) -> Result<String, Fail> {
     let wanted = Name::read(alloc, name.as_bytes())?;
     let number = cell.resource_of(&wanted);
+    tell_number(alloc, cell, name, number, cell.unit_of(&wanted))
+}
+
+/// The line of a name, of the resource's number and of the unit's.
+fn tell_number(
+    alloc: Global,
+    cell: &Cell,
+    name: &str,
+    number: Option<u16>,
+    unit: Option<u16>,
+) -> Result<String, Fail> {
     let found = match number {
         Some(number) => resource(cell, number),
         None => None,
     };
-    let unit = cell.unit_of(&wanted);
     Ok(format!(in alloc; "{name} {number:?} {found:?} {unit:?}\n")?)
 }
 
@@ -66,13 +76,19 @@ fn line_of_phase(alloc: Global, cell: &Cell, unit: u16, phase: &Name) -> Result<
 }
 
 /// The phases of the unit that have the numbers 0 to 3.
-fn phase_names(cell: &Cell, unit: u16) -> [Option<&str>; 4] {
-    [
+fn phase_names(alloc: Global, cell: &Cell, unit: u16) -> Result<String, Fail> {
+    let names = [
         phase_name(cell, unit, 0),
         phase_name(cell, unit, 1),
         phase_name(cell, unit, 2),
         phase_name(cell, unit, 3),
-    ]
+    ];
+    Ok(format!(in alloc; "{names:?}\n")?)
+}
+
+/// How many units and how many resources the cell has.
+fn counts(alloc: Global, cell: &Cell) -> Result<String, Fail> {
+    Ok(format!(in alloc; "{} {}\n", cell.units(), cell.resources())?)
 }
 
 fn phase_name(cell: &Cell, unit: u16, number: u16) -> Option<&str> {
@@ -112,29 +128,66 @@ const TOLD: [&str; 2] = [
     r#" }], names: {"R1", "R2", "HDR", "STEAM"}, offered: [{"ADD", "HEAT", "DRAIN"}, {"ADD", "HEAT", "DRAIN"}] }"#,
 ];
 
+/// What is told of the worked cell whose steam has this capacity.
+fn told(alloc: Global, steam: &str) -> Result<String, Fail> {
+    let text = demo(alloc, steam)?;
+    let cell = cell_of(alloc, text.as_str())?;
+    tell_fields(alloc, &cell)
+}
+
+fn tell_fields(alloc: Global, cell: &Cell) -> Result<String, Fail> {
+    Ok(format!(in alloc; "{cell:?}")?)
+}
+
+fn wanted(alloc: Global, steam: &str) -> Result<String, Fail> {
+    let [before, after] = TOLD;
+    Ok(format!(in alloc; "{before}{steam}{after}")?)
+}
+
+fn is_told_as_wanted(alloc: Global, steam: &str) -> Result<bool, Fail> {
+    let told = told(alloc, steam)?;
+    Ok(told.as_str() == wanted(alloc, steam)?.as_str())
+}
+
 #[test]
 fn reads_each_field(rt: HostRuntime) -> Result<(), Fail> {
     let alloc = rt.alloc();
-    for steam in ["2", "1"] {
-        let cell = cell_of(alloc, demo(alloc, steam)?.as_str())?;
-        let told = format!(in alloc; "{cell:?}")?;
-        let [before, after] = TOLD;
-        let wanted = format!(in alloc; "{before}{steam}{after}")?;
-        assert!(rt; told.as_str() == wanted.as_str(), "{told}");
-    }
+    assert!(rt; is_told_as_wanted(alloc, "2")?);
+    assert!(rt; is_told_as_wanted(alloc, "1")?);
     Ok(())
+}
+
+/// What is looked up by these names, behind the numbers of units and resources.
+fn resources_told(alloc: Global, document: &str, names: &[&str]) -> Result<String, Fail> {
+    let cell = cell_of(alloc, document)?;
+    tell_resources(alloc, &cell, names)
+}
+
+fn tell_resources(alloc: Global, cell: &Cell, names: &[&str]) -> Result<String, Fail> {
+    let mut text = counts(alloc, cell)?;
+    text.push_str(looked_up(alloc, cell, names)?.as_str())?;
+    Ok(text)
+}
+
+/// What the unit offers of these phases, and the names of its phases.
+fn phases_told(alloc: Global, document: &str, unit: u16, names: &[&str]) -> Result<String, Fail> {
+    let cell = cell_of(alloc, document)?;
+    tell_phases(alloc, &cell, unit, names)
+}
+
+fn tell_phases(alloc: Global, cell: &Cell, unit: u16, names: &[&str]) -> Result<String, Fail> {
+    let mut text = offered(alloc, cell, unit, names)?;
+    text.push_str(phase_names(alloc, cell, unit)?.as_str())?;
+    Ok(text)
 }
 
 #[test]
 fn numbers_the_resources(rt: HostRuntime) -> Result<(), Fail> {
-    let alloc = rt.alloc();
-    let cell = cell_of(alloc, FREE)?;
-    assert_eq!(rt; cell.units(), 1);
-    assert_eq!(rt; cell.resources(), 3);
-    let told = looked_up(alloc, &cell, &["U", "FREE", "S", "A", "NONE"])?;
+    let names = ["U", "FREE", "S", "A", "NONE"];
     assert_eq!(rt;
-        told.as_str(),
-        r#"U Some(0) Some(("U", 1)) Some(0)
+        resources_told(rt.alloc(), FREE, &names)?.as_str(),
+        r#"1 3
+U Some(0) Some(("U", 1)) Some(0)
 FREE Some(1) Some(("FREE", 1)) None
 S Some(2) Some(("S", 1000)) None
 A None None None
@@ -146,14 +199,16 @@ NONE None None None
 
 #[test]
 fn numbers_the_phases(rt: HostRuntime) -> Result<(), Fail> {
-    let alloc = rt.alloc();
-    let cell = cell_of(alloc, FREE)?;
-    let told = offered(alloc, &cell, 0, &["MIX", "COOL", "HEAT", "DRAIN"])?;
+    let names = ["MIX", "COOL", "HEAT", "DRAIN"];
     assert_eq!(rt;
-        told.as_str(),
-        "MIX true Some(0)\nCOOL true Some(1)\nHEAT true Some(2)\nDRAIN false None\n"
+        phases_told(rt.alloc(), FREE, 0, &names)?.as_str(),
+        r#"MIX true Some(0)
+COOL true Some(1)
+HEAT true Some(2)
+DRAIN false None
+[Some("MIX"), Some("COOL"), Some("HEAT"), None]
+"#
     );
-    assert!(rt; phase_names(&cell, 0) == [Some("MIX"), Some("COOL"), Some("HEAT"), None]);
     Ok(())
 }
 
@@ -174,19 +229,21 @@ fn makes_a_cell(rt: HostRuntime) -> Result<(), Fail> {
 #[test]
 fn looks_up_the_worked_cell(rt: HostRuntime) -> Result<(), Fail> {
     let alloc = rt.alloc();
-    let cell = cell_of(alloc, demo(alloc, "2")?.as_str())?;
-    assert_eq!(rt; cell.units(), 2);
-    assert_eq!(rt; cell.resources(), 4);
-    let told = looked_up(alloc, &cell, &["R1", "R2", "HDR", "STEAM"])?;
+    let demo = demo(alloc, "2")?;
+    let names = ["R1", "R2", "HDR", "STEAM"];
     assert_eq!(rt;
-        told.as_str(),
-        r#"R1 Some(0) Some(("R1", 1)) Some(0)
+        resources_told(alloc, demo.as_str(), &names)?.as_str(),
+        r#"2 4
+R1 Some(0) Some(("R1", 1)) Some(0)
 R2 Some(1) Some(("R2", 1)) Some(1)
 HDR Some(2) Some(("HDR", 1)) None
 STEAM Some(3) Some(("STEAM", 2)) None
 "#
     );
-    assert!(rt; phase_names(&cell, 1) == [Some("ADD"), Some("HEAT"), Some("DRAIN"), None]);
+    assert_eq!(rt;
+        phases_told(alloc, demo.as_str(), 1, &[])?.as_str(),
+        "[Some(\"ADD\"), Some(\"HEAT\"), Some(\"DRAIN\"), None]\n"
+    );
     Ok(())
 }
 
@@ -213,23 +270,40 @@ phases = [\"COOL\"]
 #[test]
 fn numbers_the_phases_of_each_unit(rt: HostRuntime) -> Result<(), Fail> {
     let alloc = rt.alloc();
-    let cell = cell_of(alloc, UNLIKE)?;
     let names = ["MIX", "HEAT", "COOL", "DRAIN", "FILL"];
     assert_eq!(rt;
-        offered(alloc, &cell, 0, &names)?.as_str(),
-        "MIX true Some(0)\nHEAT true Some(1)\nCOOL true Some(2)\nDRAIN false None\nFILL false None\n"
+        phases_told(alloc, UNLIKE, 0, &names)?.as_str(),
+        r#"MIX true Some(0)
+HEAT true Some(1)
+COOL true Some(2)
+DRAIN false None
+FILL false None
+[Some("MIX"), Some("HEAT"), Some("COOL"), None]
+"#
     );
     assert_eq!(rt;
-        offered(alloc, &cell, 1, &names)?.as_str(),
-        "MIX false None\nHEAT true Some(0)\nCOOL false None\nDRAIN true Some(1)\nFILL false None\n"
+        phases_told(alloc, UNLIKE, 1, &names)?.as_str(),
+        r#"MIX false None
+HEAT true Some(0)
+COOL false None
+DRAIN true Some(1)
+FILL false None
+[Some("HEAT"), Some("DRAIN"), None, None]
+"#
     );
     Ok(())
 }
 
 #[test]
 fn names_the_phases_of_each_unit(rt: HostRuntime) -> Result<(), Fail> {
-    let cell = cell_of(rt.alloc(), UNLIKE)?;
-    assert!(rt; phase_names(&cell, 0) == [Some("MIX"), Some("HEAT"), Some("COOL"), None]);
-    assert!(rt; phase_names(&cell, 1) == [Some("HEAT"), Some("DRAIN"), None, None]);
+    let alloc = rt.alloc();
+    assert_eq!(rt;
+        phases_told(alloc, UNLIKE, 0, &[])?.as_str(),
+        "[Some(\"MIX\"), Some(\"HEAT\"), Some(\"COOL\"), None]\n"
+    );
+    assert_eq!(rt;
+        phases_told(alloc, UNLIKE, 1, &[])?.as_str(),
+        "[Some(\"HEAT\"), Some(\"DRAIN\"), None, None]\n"
+    );
     Ok(())
 }

@@ -1,6 +1,7 @@
 //! A document with each key that may be missing.
 use super::told::told;
 use crate::reading::recipe_of;
+use std::alloc::Global;
 use std::test::Fail;
 
 const WHOLE: &str = r#"recipe = "ALL-1_abcdefghijklmnopqrstuvwxyz"
@@ -60,10 +61,14 @@ operation A None [] Follows(Sel([(Cond { name: "A", op: Less, term: Named("B") }
 phase A None ["par", "A"*2] Runs { phase: "else", values: ["D", "A", "B", "A"] }
 "#;
 
+/// What is told of the recipe that the document says.
+fn found(alloc: Global, document: &str) -> Result<String, Fail> {
+    let recipe = recipe_of(alloc, document)?;
+    Ok(told(alloc, &recipe)?)
+}
+
 #[test]
 fn reads_each_key(rt: HostRuntime) -> Result<(), Fail> {
-    let alloc = rt.alloc();
-    let recipe = recipe_of(alloc, WHOLE)?;
-    assert!(rt; told(alloc, &recipe)?.as_str() == TOLD);
+    assert_eq!(rt; found(rt.alloc(), WHOLE)?.as_str(), TOLD);
     Ok(())
 }

@@ -1,7 +1,7 @@
 //! The values that recipe documents give to batches.
 use super::{ADD, CHARGE, MAKE, PROCEDURE, document};
 use crate::reading::recipe_of;
-use batch_recipe::{FormulaFault, Values, are_outputs, formula};
+use batch_recipe::{FormulaFault, Recipe, Values, are_outputs, formula};
 use batch_text::Name;
 use std::alloc::{AllocError, Global};
 use std::test::Fail;
@@ -32,24 +32,39 @@ fn given(alloc: Global, parts: [&str; 5], size: u64) -> Result<String, Fail> {
     })
 }
 
+/// What is given for each size, a line each.
+fn given_for(alloc: Global, parts: [&str; 5], sizes: &[u64]) -> Result<String, Fail> {
+    let mut text = String::new(alloc);
+    for size in sizes {
+        text.push_str(line_of_size(alloc, parts, *size)?.as_str())?;
+    }
+    Ok(text)
+}
+
+fn line_of_size(alloc: Global, parts: [&str; 5], size: u64) -> Result<String, Fail> {
+    let given = given(alloc, parts, size)?;
+    Ok(format!(in alloc; "{size} {given}\n")?)
+}
+
 const INPUT: &str = "[[input]]\nname = \"QTY\"\nvalue = 333\nmin = 0\nmax = 500\n";
 
 const HANDED: &str = "[[phase]]\nname = \"ADD\"\nvalues = [\"QTY\"]\n";
 
 #[test]
 fn scaled_quantity(rt: HostRuntime) -> Result<(), Fail> {
-    for (size, wanted) in [
-        (0, "F1"),
-        (1, "QTY=0;"),
-        (500, "QTY=167;"),
-        (1503, "QTY=500;"),
-        (1504, "F2 0 QTY"),
-        (1_000_000_000, "F2 0 QTY"),
-        (1_000_000_001, "F1"),
-    ] {
-        let found = given(rt.alloc(), [INPUT, PROCEDURE, MAKE, CHARGE, HANDED], size)?;
-        assert!(rt; found.as_str() == wanted, "{size}");
-    }
+    let parts = [INPUT, PROCEDURE, MAKE, CHARGE, HANDED];
+    let sizes = [0, 1, 500, 1503, 1504, 1_000_000_000, 1_000_000_001];
+    assert_eq!(rt;
+        given_for(rt.alloc(), parts, &sizes)?.as_str(),
+        "0 F1
+1 QTY=0;
+500 QTY=167;
+1503 QTY=500;
+1504 F2 0 QTY
+1000000000 F2 0 QTY
+1000000001 F1
+"
+    );
     Ok(())
 }
 
@@ -57,14 +72,15 @@ fn scaled_quantity(rt: HostRuntime) -> Result<(), Fail> {
 #[test]
 fn largest_size(rt: HostRuntime) -> Result<(), Fail> {
     let input = "[[input]]\nname = 'QTY'\nvalue = 1000000\nmin = 0\nmax = 1000000000000\n";
-    for (size, wanted) in [
-        (999_999_999, "QTY=999999999000;"),
-        (1_000_000_000, "QTY=1000000000000;"),
-        (1_000_000_001, "F1"),
-    ] {
-        let found = given(rt.alloc(), [input, PROCEDURE, MAKE, CHARGE, HANDED], size)?;
-        assert!(rt; found.as_str() == wanted, "{size}");
-    }
+    let parts = [input, PROCEDURE, MAKE, CHARGE, HANDED];
+    let sizes = [999_999_999, 1_000_000_000, 1_000_000_001];
+    assert_eq!(rt;
+        given_for(rt.alloc(), parts, &sizes)?.as_str(),
+        "999999999 QTY=999999999000;
+1000000000 QTY=1000000000000;
+1000000001 F1
+"
+    );
     Ok(())
 }
 
@@ -99,39 +115,88 @@ max = 12
 
 #[test]
 fn several_values(rt: HostRuntime) -> Result<(), Fail> {
-    for (size, wanted) in [
-        (50, "F2 2 HEAT"),
-        (500, "WATER=500;SALT=2;HEAT=4;X=0;"),
-        (1000, "WATER=1000;SALT=3;HEAT=7;X=0;"),
-        (2000, "F2 2 HEAT"),
-        (5000, "F2 1 SALT"),
-        (6000, "F2 0 WATER"),
-    ] {
-        let found = given(rt.alloc(), [SEVERAL, PROCEDURE, MAKE, CHARGE, ADD], size)?;
-        assert!(rt; found.as_str() == wanted, "{size}");
-    }
+    let parts = [SEVERAL, PROCEDURE, MAKE, CHARGE, ADD];
+    let sizes = [50, 500, 1000, 2000, 5000, 6000];
+    assert_eq!(rt;
+        given_for(rt.alloc(), parts, &sizes)?.as_str(),
+        "50 F2 2 HEAT
+500 WATER=500;SALT=2;HEAT=4;X=0;
+1000 WATER=1000;SALT=3;HEAT=7;X=0;
+2000 F2 2 HEAT
+5000 F2 1 SALT
+6000 F2 0 WATER
+"
+    );
     Ok(())
+}
+
+/// The recipe of several values.
+fn several(alloc: Global) -> Result<Recipe, Fail> {
+    let parts = [SEVERAL, PROCEDURE, MAKE, CHARGE, ADD];
+    let text = document(alloc, "F", parts)?;
+    Ok(recipe_of(alloc, text.as_str())?)
+}
+
+/// Outputs by their names.
+fn named(alloc: Global, outputs: &[(&str, u64)]) -> Result<Vec<(Name, u64)>, Fail> {
+    let mut named = Vec::new(alloc);
+    for (name, value) in outputs {
+        named.push((Name::read(alloc, name.as_bytes())?, *value))?;
+    }
+    Ok(named)
+}
+
+/// Whether these are outputs of the recipe of several values.
+fn are_its_outputs(alloc: Global, outputs: &[(&str, u64)]) -> Result<bool, Fail> {
+    let recipe = several(alloc)?;
+    are_outputs_of(alloc, &recipe, outputs)
+}
+
+fn are_outputs_of(alloc: Global, recipe: &Recipe, outputs: &[(&str, u64)]) -> Result<bool, Fail> {
+    let named = named(alloc, outputs)?;
+    Ok(are_outputs(&recipe.outputs, &named))
+}
+
+/// The value of the first output once these are set, and once the recipe's outputs are cleared.
+fn set_then_cleared(
+    values: &mut Values,
+    outputs: &[(Name, u64)],
+    cleared: &[Name],
+) -> (Option<u64>, Option<u64>) {
+    values.set_outputs(outputs);
+    let set = first_value(values, outputs);
+    values.clear_outputs(cleared);
+    (set, first_value(values, outputs))
+}
+
+fn first_value(values: &Values, outputs: &[(Name, u64)]) -> Option<u64> {
+    match outputs.first() {
+        Some((name, _)) => values.value_of(name),
+        None => None,
+    }
+}
+
+/// The value of X in a batch of the recipe of several values, once it is set to the most and once it is cleared.
+fn set_and_cleared(alloc: Global) -> Result<(Option<u64>, Option<u64>), Fail> {
+    let recipe = several(alloc)?;
+    set_and_cleared_in(alloc, &recipe)
+}
+
+fn set_and_cleared_in(alloc: Global, recipe: &Recipe) -> Result<(Option<u64>, Option<u64>), Fail> {
+    let known = named(alloc, &[("X", 1_000_000_000_000)])?;
+    match formula(alloc, recipe, 1000) {
+        Ok(mut values) => Ok(set_then_cleared(&mut values, &known, &recipe.outputs)),
+        Err(_) => Err(Fail::from("no values")),
+    }
 }
 
 #[test]
 fn outputs_are_set_and_cleared(rt: HostRuntime) -> Result<(), Fail> {
     let alloc = rt.alloc();
-    let parts = [SEVERAL, PROCEDURE, MAKE, CHARGE, ADD];
-    let recipe = recipe_of(alloc, document(alloc, "F", parts)?.as_str())?;
-    let Ok(mut values) = formula(alloc, &recipe, 1000) else {
-        return Err(Fail::from("no values"));
-    };
-    let known = [(Name::read(alloc, b"X")?, 1_000_000_000_000)];
-    assert!(rt; are_outputs(&recipe.outputs, &known));
-    values.set_outputs(&known);
-    assert!(rt; values.value_of(&known[0].0) == Some(1_000_000_000_000));
-    values.clear_outputs(&recipe.outputs);
-    assert!(rt; values.value_of(&known[0].0) == Some(0));
-    let above = [(Name::read(alloc, b"X")?, 1_000_000_000_001)];
-    assert!(rt; !are_outputs(&recipe.outputs, &above));
-    let input = [(Name::read(alloc, b"SALT")?, 1)];
-    assert!(rt; !are_outputs(&recipe.outputs, &input));
-    let twice = [(Name::read(alloc, b"X")?, 1), (Name::read(alloc, b"X")?, 1)];
-    assert!(rt; !are_outputs(&recipe.outputs, &twice));
+    assert!(rt; are_its_outputs(alloc, &[("X", 1_000_000_000_000)])?);
+    assert_eq!(rt; set_and_cleared(alloc)?, (Some(1_000_000_000_000), Some(0)));
+    assert!(rt; !are_its_outputs(alloc, &[("X", 1_000_000_000_001)])?);
+    assert!(rt; !are_its_outputs(alloc, &[("SALT", 1)])?);
+    assert!(rt; !are_its_outputs(alloc, &[("X", 1), ("X", 1)])?);
     Ok(())
 }

@@ -2,27 +2,21 @@
 use super::{ADD, CHARGE, MAKE, PROCEDURE, document};
 use crate::reading::{recipe_refusal, refused_at, repeated};
 use batch_reader::{EntryFault, TableKind};
+use std::alloc::{AllocError, Global};
 use std::test::Fail;
 
-/// Charts of the greatest length, which would expand to more than 10^11 nodes.
-#[test]
-fn recipes_that_would_expand_too_far(rt: HostRuntime) -> Result<(), Fail> {
-    let alloc = rt.alloc();
-    let top = repeated(alloc, "[procedure]\nchart = 'seq(U", ",U", 8_188, ")'\n")?;
-    let unit_procedure = repeated(
-        alloc,
-        "[[unit_procedure]]\nname = 'U'\nunit = 'R1'\nchart = 'seq(O",
-        ",O",
-        8_188,
-        ")'\n",
-    )?;
-    let operation = repeated(
-        alloc,
-        "[[operation]]\nname = 'O'\nchart = 'seq(S",
-        ",S",
-        8_188,
-        ")'\n",
-    )?;
+/// A table up to its chart, which lists this label 8,189 times: it has the greatest length.
+fn long_table(alloc: Global, head: &str, label: &str) -> Result<String, AllocError> {
+    let head = format!(in alloc; "{head}chart = 'seq({label}")?;
+    let piece = format!(in alloc; ",{label}")?;
+    repeated(alloc, head.as_str(), piece.as_str(), 8_188, ")'\n")
+}
+
+/// A recipe that would expand to more than 10^11 nodes.
+fn too_large(alloc: Global) -> Result<String, AllocError> {
+    let top = long_table(alloc, "[procedure]\n", "U")?;
+    let unit_procedure = long_table(alloc, "[[unit_procedure]]\nname = 'U'\nunit = 'R1'\n", "O")?;
+    let operation = long_table(alloc, "[[operation]]\nname = 'O'\n", "S")?;
     let parts = [
         "",
         top.as_str(),
@@ -30,23 +24,53 @@ fn recipes_that_would_expand_too_far(rt: HostRuntime) -> Result<(), Fail> {
         operation.as_str(),
         "[[phase]]\nname = 'S'\n",
     ];
-    let text = document(alloc, "A", parts)?;
-    let too_large = refused_at(TableKind::Procedure, 0, EntryFault::OutOfLimit);
-    assert_eq!(rt; recipe_refusal(alloc, text.as_str()), too_large);
+    document(alloc, "A", parts)
+}
+
+#[test]
+fn recipes_that_would_expand_too_far(rt: HostRuntime) -> Result<(), Fail> {
+    let alloc = rt.alloc();
+    let refused = refused_at(TableKind::Procedure, 0, EntryFault::OutOfLimit);
+    assert_eq!(rt; recipe_refusal(alloc, too_large(alloc)?.as_str()), refused);
     Ok(())
+}
+
+/// A recipe document of the greatest length.
+fn longest(alloc: Global) -> Result<String, AllocError> {
+    let recipe = document(alloc, "A", [PROCEDURE, MAKE, CHARGE, ADD, ""])?;
+    let most: usize = 1_048_576;
+    let more = most.saturating_sub(recipe.len());
+    repeated(alloc, recipe.as_str(), "#", more, "")
+}
+
+/// A document with one byte more.
+fn longer(alloc: Global) -> Result<String, AllocError> {
+    let mut text = longest(alloc)?;
+    text.push('#')?;
+    Ok(text)
+}
+
+/// How long the document is, and why it is refused.
+fn told(alloc: Global, document: &str) -> Result<String, Fail> {
+    let refusal = recipe_refusal(alloc, document);
+    Ok(format!(in alloc; "{} {refusal:?}", document.len())?)
+}
+
+fn longest_told(alloc: Global) -> Result<String, Fail> {
+    told(alloc, longest(alloc)?.as_str())
+}
+
+fn longer_told(alloc: Global) -> Result<String, Fail> {
+    told(alloc, longer(alloc)?.as_str())
 }
 
 #[test]
 fn lengths_of_documents(rt: HostRuntime) -> Result<(), Fail> {
     let alloc = rt.alloc();
-    let recipe = document(alloc, "A", [PROCEDURE, MAKE, CHARGE, ADD, ""])?;
-    let most: usize = 1_048_576;
-    let more = most.saturating_sub(recipe.len());
-    let mut text = repeated(alloc, recipe.as_str(), "#", more, "")?;
-    assert_eq!(rt; recipe_refusal(alloc, text.as_str()), None);
-    text.push('#')?;
-    assert_eq!(rt; text.len(), 1_048_577);
-    let too_long = refused_at(TableKind::Recipe, 0, EntryFault::OutOfLimit);
-    assert_eq!(rt; recipe_refusal(alloc, text.as_str()), too_long);
+    assert_eq!(rt; longest_told(alloc)?.as_str(), "1048576 None");
+    assert_eq!(rt;
+        longer_told(alloc)?.as_str(),
+        "1048577 Some(Entry(Spot { kind: Recipe, entry: 0 }, OutOfLimit))"
+    );
     Ok(())
 }

@@ -33,61 +33,100 @@ fn name_at(recipe: &Recipe, node: u16) -> Option<&str> {
 }
 
 /// The names of the acts at the nodes, and at the number after them.
-fn names(recipe: &Recipe) -> [Option<&str>; 9] {
-    [
-        name_at(recipe, 0),
-        name_at(recipe, 1),
-        name_at(recipe, 2),
-        name_at(recipe, 3),
-        name_at(recipe, 4),
-        name_at(recipe, 5),
-        name_at(recipe, 6),
-        name_at(recipe, 7),
-        name_at(recipe, 8),
-    ]
+fn names(alloc: Global, recipe: &Recipe) -> Result<String, Fail> {
+    let mut text = String::new(alloc);
+    for node in 0..9 {
+        let line = format!(in alloc; "{node} {:?}\n", name_at(recipe, node))?;
+        text.push_str(line.as_str())?;
+    }
+    Ok(text)
 }
 
 /// The first seven numbers of the node's place.
-fn place(recipe: &Recipe, node: u16) -> [Option<u16>; 7] {
-    [
-        place_at(recipe, node, 0),
-        place_at(recipe, node, 1),
-        place_at(recipe, node, 2),
-        place_at(recipe, node, 3),
-        place_at(recipe, node, 4),
-        place_at(recipe, node, 5),
-        place_at(recipe, node, 6),
-    ]
+fn place(alloc: Global, recipe: &Recipe, node: u16) -> Result<String, Fail> {
+    let mut text = String::new(alloc);
+    for depth in 0..7 {
+        let line = format!(in alloc; "{depth} {:?}\n", place_at(recipe, node, depth))?;
+        text.push_str(line.as_str())?;
+    }
+    Ok(text)
+}
+
+/// How many nodes the recipe has, their names, the place of node 6, and whether node 8 has none.
+fn nodes_told(alloc: Global, document: &str) -> Result<String, Fail> {
+    let recipe = recipe_of(alloc, document)?;
+    let count = node_count(&recipe);
+    let no_place = place_at(&recipe, 8, 0).is_none();
+    let names = names(alloc, &recipe)?;
+    let place = place(alloc, &recipe, 6)?;
+    Ok(format!(in alloc; "{count}\n{names}{place}{no_place}\n")?)
 }
 
 #[test]
 fn numbers_nodes_by_place(rt: HostRuntime) -> Result<(), Fail> {
-    let recipe = recipe_of(rt.alloc(), CROSSED)?;
-    assert_eq!(rt; node_count(&recipe), 8);
-    let (p, u, o) = (Some("P"), Some("U"), Some("O"));
-    let (add, drain, heat) = (Some("ADDH"), Some("DRAIN"), Some("HEATS"));
-    assert!(rt; names(&recipe) == [p, u, o, None, add, None, drain, heat, None]);
-    let (first, second) = (Some(0), Some(1));
-    assert!(rt; place(&recipe, 6) == [first, first, first, first, second, first, None]);
-    assert!(rt; place_at(&recipe, 8, 0).is_none());
+    assert_eq!(rt;
+        nodes_told(rt.alloc(), CROSSED)?.as_str(),
+        r#"8
+0 Some("P")
+1 Some("U")
+2 Some("O")
+3 None
+4 Some("ADDH")
+5 None
+6 Some("DRAIN")
+7 Some("HEATS")
+8 None
+0 Some(0)
+1 Some(0)
+2 Some(0)
+3 Some(0)
+4 Some(1)
+5 Some(0)
+6 None
+true
+"#
+    );
     Ok(())
+}
+
+/// The nodes at these places, a line each.
+fn nodes_of(alloc: Global, recipe: &Recipe, places: &[&str]) -> Result<String, Fail> {
+    let mut text = String::new(alloc);
+    for place in places {
+        let node = node_of(alloc, recipe, place)?;
+        let line = format!(in alloc; "{place} {node:?}\n")?;
+        text.push_str(line.as_str())?;
+    }
+    Ok(text)
+}
+
+fn nodes_found(alloc: Global, document: &str, places: &[&str]) -> Result<String, Fail> {
+    let recipe = recipe_of(alloc, document)?;
+    nodes_of(alloc, &recipe, places)
 }
 
 #[test]
 fn finds_nodes_by_place(rt: HostRuntime) -> Result<(), Fail> {
-    let alloc = rt.alloc();
-    let recipe = recipe_of(alloc, CROSSED)?;
-    for (place, want) in [
-        ("0", Some(0)),
-        ("0.0.0", Some(2)),
-        ("0.0.0.0.1", Some(5)),
-        ("0.0.0.0.1.1", Some(7)),
-        ("0.0.0.0.2", None),
-        ("0.1", None),
-        ("1", None),
-    ] {
-        assert_eq!(rt; node_of(alloc, &recipe, place)?, want, "{place}");
-    }
+    let places = [
+        "0",
+        "0.0.0",
+        "0.0.0.0.1",
+        "0.0.0.0.1.1",
+        "0.0.0.0.2",
+        "0.1",
+        "1",
+    ];
+    assert_eq!(rt;
+        nodes_found(rt.alloc(), CROSSED, &places)?.as_str(),
+        "0 Some(0)
+0.0.0 Some(2)
+0.0.0.0.1 Some(5)
+0.0.0.0.1.1 Some(7)
+0.0.0.0.2 None
+0.1 None
+1 None
+"
+    );
     Ok(())
 }
 

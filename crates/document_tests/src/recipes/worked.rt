@@ -267,54 +267,76 @@ phase DRAIN None [] Runs { phase: "DRAIN", values: [] }
 "#,
 };
 
-fn reads(alloc: Global, example: Example) -> Result<bool, Fail> {
-    let Example {
-        name,
-        parts,
-        told: wanted,
-    } = example;
-    let recipe = recipe_of(alloc, document(alloc, name, parts)?.as_str())?;
-    Ok(told(alloc, &recipe)?.as_str() == wanted)
+/// What is told of the example's recipe.
+fn found(alloc: Global, example: &Example) -> Result<String, Fail> {
+    let text = document(alloc, example.name, example.parts)?;
+    let recipe = recipe_of(alloc, text.as_str())?;
+    Ok(told(alloc, &recipe)?)
 }
 
-#[test]
-fn recipes_of_one_phase(rt: HostRuntime) -> Result<(), Fail> {
-    for example in [
+/// The name of the first example that isn't told as it should be.
+fn told_otherwise(alloc: Global, examples: &[Example]) -> Result<Option<&'static str>, Fail> {
+    for example in examples {
+        if found(alloc, example)?.as_str() != example.told {
+            return Ok(Some(example.name));
+        }
+    }
+    Ok(None)
+}
+
+fn of_one_phase() -> [Example; 5] {
+    [
         ONE_PHASE,
         WITH_AN_INPUT,
         NEEDS_OF_A_PHASE,
         NEEDS_OF_A_UNIT_PROCEDURE,
         NEEDS_OF_A_PROCEDURE,
-    ] {
-        let name = example.name;
-        assert!(rt; reads(rt.alloc(), example)?, "{name}");
-    }
+    ]
+}
+
+#[test]
+fn recipes_of_one_phase(rt: HostRuntime) -> Result<(), Fail> {
+    assert_eq!(rt; told_otherwise(rt.alloc(), &of_one_phase())?, None);
     Ok(())
+}
+
+fn of_several_steps() -> [Example; 4] {
+    [SELECTION, SEQUENCE, PARALLEL, LOOPING]
 }
 
 #[test]
 fn recipes_of_several_steps(rt: HostRuntime) -> Result<(), Fail> {
-    for example in [SELECTION, SEQUENCE, PARALLEL, LOOPING] {
-        let name = example.name;
-        assert!(rt; reads(rt.alloc(), example)?, "{name}");
-    }
+    assert_eq!(rt; told_otherwise(rt.alloc(), &of_several_steps())?, None);
     Ok(())
+}
+
+fn of_steps_in_parallel() -> [Example; 3] {
+    [SHARED_STEAM, HEADER_FIRST, STEAM_FIRST]
 }
 
 #[test]
 fn recipes_of_steps_in_parallel(rt: HostRuntime) -> Result<(), Fail> {
-    for example in [SHARED_STEAM, HEADER_FIRST, STEAM_FIRST] {
-        let name = example.name;
-        assert!(rt; reads(rt.alloc(), example)?, "{name}");
-    }
+    assert_eq!(rt; told_otherwise(rt.alloc(), &of_steps_in_parallel())?, None);
     Ok(())
+}
+
+/// How many nodes the example's recipe has.
+fn nodes(alloc: Global, example: &Example) -> Result<u16, Fail> {
+    let text = document(alloc, example.name, example.parts)?;
+    Ok(nodes_of(alloc, text.as_str())?)
+}
+
+fn looping() -> Example {
+    LOOPING
+}
+
+fn header_first() -> Example {
+    HEADER_FIRST
 }
 
 #[test]
 fn nodes_of_worked_examples(rt: HostRuntime) -> Result<(), Fail> {
-    for (example, nodes) in [(LOOPING, 5), (HEADER_FIRST, 8)] {
-        let text = document(rt.alloc(), example.name, example.parts)?;
-        assert_eq!(rt; nodes_of(rt.alloc(), text.as_str())?, nodes);
-    }
+    assert_eq!(rt; nodes(rt.alloc(), &looping())?, 5);
+    assert_eq!(rt; nodes(rt.alloc(), &header_first())?, 8);
     Ok(())
 }
