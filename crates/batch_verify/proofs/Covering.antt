@@ -1,6 +1,7 @@
 -- Each node of a tried binding's tree is like one of a numbered binding's.
 use Rattle.std.proofs.Common.{◌≡◌, ℕ, zero, suc, ◌+◌, ◌<◌, ◌++◌, ◌⊎◌, inl, inr, ◌||◌, ◌&&◌, List, [], ◌∷◌, length, slice_get, Option, Some, None, refl, sym, ap, ap₂, ◌∙◌, subst, arith}
 use Rattle.std.proofs.lemmas.List.{length-map}
+use Rattle.batch_recipe.specs.ActsAtNodes.{IsNoAct}
 use Rattle.batch_recipe.specs.Conditions.{Name}
 use Rattle.batch_recipe.specs.Diagram as chart
 use Rattle.batch_recipe.specs.Diagram.{Diagram, Diagrams, Cases}
@@ -20,7 +21,7 @@ use Rattle.batch_verify.specs.declared.rule.Rule.{Rule}
 use Rattle.batch_verify.specs.declared.rule.Rule.TheVariants.{UnknownResource, ShareAboveCapacity, PhaseNotOffered, SamePhaseInParallel, LoopWithoutPhase, RankNotRising}
 use Rattle.batch_verify.proofs.Entering.{meets}
 use Rattle.batch_verify.proofs.Sizes.{size_of}
-use Rattle.batch_verify.proofs.Verdicts.{IsBare, bare_needs, bare_known, bare_within, bare_offered, bare_on_procedure}
+use Rattle.batch_verify.proofs.Verdicts.{bare_needs, bare_known, bare_within, bare_offered, bare_on_procedure}
 
 -- Lists
 
@@ -63,7 +64,7 @@ module _ (setup : Setup) where
   pub same_alike : (x : Part) → IsAlike setup x x
   same_alike x = record { level = refl; place = refl; asked = refl; breaks = λ ranking rule b. b; meets = λ ranking h. h }
 
-  module _ (p : Place) (above : List Name) (t u : Tree) (bt : IsBare t) (bu : IsBare u) (to : TurnsRun t → TurnsRun u) (from : TurnsRun u → TurnsRun t) where
+  module _ (p : Place) (above : List Name) (t u : Tree) (bt : IsNoAct t) (bu : IsNoAct u) (to : TurnsRun t → TurnsRun u) (from : TurnsRun u → TurnsRun t) where
     abbrev at_t : Part
     at_t = part in_procedure p above t
 
@@ -153,7 +154,7 @@ module _ (setup : Setup) (count : ℕ) (some : 0 < count) (F : Name → Place �
       parts_count l p above (expanded F p d) ∙ size_of F sizes sized p d ∙ sym (size_of (N j) sizes (sized_by j) p d) ∙ sym (parts_count l p above (expanded (N j) p d))
 
   -- the node of a chart itself
-  first_covered : (p : Place) (above : List Name) (t : Tree) (u : ℕ → Tree) (rest : ℕ → List Part) (x : Part) → IsBare t → IsBare (u 0)
+  first_covered : (p : Place) (above : List Name) (t : Tree) (u : ℕ → Tree) (rest : ℕ → List Part) (x : Part) → IsNoAct t → IsNoAct (u 0)
       → (TurnsRun t → TurnsRun (u 0)) → (TurnsRun (u 0) → TurnsRun t) → Some (part in_procedure p above t) ≡ Some x → Covered (λ j. part in_procedure p above (u j) ∷ rest j) 0 x
   first_covered p above t u rest x bt bu to from e =
       let same : part in_procedure p above t ≡ x = cc in

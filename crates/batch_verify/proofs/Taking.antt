@@ -1,19 +1,16 @@
 -- Who takes a role in a numbered binding, and how many there are.
-use Rattle.std.proofs.Common.{◌≡◌, ℕ, true, false, ◌<◌, ◌≤◌, ◌++◌, max, List, [], length, map, filter, get_or, slice_get, position, Option, Some, None, sym, ap, ◌∙◌, arith}
+use Rattle.std.proofs.Common.{◌≡◌, ℕ, true, false, ◌≤◌, max, List, length, filter, position, Some, None, sym, ap, ◌∙◌, arith}
 use Rattle.std.specs.List.{slice_index_or}
 use Rattle.std.proofs.lemmas.Bool.{false_from_ne_true}
 use Rattle.std.proofs.Math.Nat.{le-max_left, le-max_right, max-le}
-use Rattle.std.proofs.lemmas.List.{length-append, length-map, get_or_append_left}
+use Rattle.std.proofs.lemmas.List.{length-map}
 use Rattle.std.proofs.lemmas.List.Sums.{length-filter, count_by-le-length}
-use Rattle.std.proofs.lemmas.Option.{get_or_from_slice_get}
-use Rattle.batch_cell.specs.Equipment.{is_free}
 use Rattle.batch_cell.specs.LookUps.{units_of, resources_of, units_of_class, is_of_class}
 use Rattle.batch_cell.specs.declared.cell.Cell as equipment
 use Rattle.batch_cell.specs.declared.unit.Unit.{Unit}
 use Rattle.batch_recipe.specs.Conditions.{Name, same_name}
 use Rattle.batch_recipe.specs.WellFormed.{is_among}
-use Rattle.batch_recipe.specs.declared.role.Role.{Role}
-use Rattle.batch_verify.specs.Bindings.{nobody, candidate_of, role_named, numbered}
+use Rattle.batch_verify.specs.Bindings.{nobody}
 use Rattle.batch_verify.specs.Refusals.{rank_in}
 use Rattle.batch_verify.proofs.Entering.{unit_is_resource}
 use Rattle.batch_verify.proofs.Finding.{found_is_among}
@@ -52,31 +49,3 @@ module _ (c : equipment.Cell) where
         length-filter (is_of_class class) c.units.items,
         count_by-le-length (is_of_class class) c.units.items,
       )
-
-  -- a unit has its name as a resource
-  pub name_of_unit : (number : ℕ) (name : Name) → number < length (units_of c) → slice_get (resources_of c) number ≡ Some name → get_or (units_of c) number [] ≡ name
-  name_of_unit number name below at =
-      let free = map (λ m. m.name) (filter is_free c.modules.items) in
-      let shared = map (λ s. s.name) c.shared.items in
-      let inside : number < length (units_of c ++ free) = omega (arith, below, length-append (units_of c) free) in
-      sym (get_or_append_left (units_of c ++ free) shared [] number inside ∙ get_or_append_left (units_of c) free [] number below) ∙ get_or_from_slice_get (resources_of c) number name [] at
-
-  module _ (roles : List Role) (number : ℕ) (name : Name) where
-    abbrev by : Option Name → Name
-    by unit = elim unit [ None ↦ nobody (resources_of c) | Some unit ↦ unit ]
-
-    abbrev by_role : Option Role → Option Name
-    by_role role = elim role [ None ↦ None | Some role ↦ candidate_of (units_of_class c role.class) number ]
-
-    abbrev or_first : List Name → Option Name → Option Name
-    or_first candidates unit = elim unit [ None ↦ slice_get candidates 0 | Some unit ↦ Some unit ]
-
-    pub undeclared : role_named roles name ≡ None → numbered c roles number name ≡ nobody (resources_of c)
-    undeclared none = ap (λ o. by (by_role o)) none
-
-    module _ (role : Role) (found : role_named roles name ≡ Some role) where
-      pub takes_own : (unit : Name) → slice_get (units_of_class c role.class) number ≡ Some unit → unit ≡ numbered c roles number name
-      takes_own unit at = sym (ap (λ o. by (by_role o)) found ∙ ap (λ o. by (or_first (units_of_class c role.class) o)) at)
-
-      pub takes_first : (first : Option Name) → slice_get (units_of_class c role.class) number ≡ None → slice_get (units_of_class c role.class) 0 ≡ first → numbered c roles number name ≡ by first
-      takes_first first none at = ap (λ o. by (by_role o)) found ∙ ap (λ o. by (or_first (units_of_class c role.class) o)) none ∙ ap by at

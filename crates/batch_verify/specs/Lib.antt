@@ -1,10 +1,14 @@
 pub mod Bindings
 pub mod CertificateText
+pub mod Charts
 pub mod ClearedSet
 pub mod Comparing
 pub mod Covering
 pub mod Judging
+pub mod NodePhases
 pub mod Ranked
 pub mod Refusals
+pub mod RunningNodes
 pub mod Verifying
 pub mod Walking
+pub mod Ways

@@ -1,11 +1,13 @@
 //! The small checker: certificates, and the clearance of recipes for a cell by a certificate.
 #![tactic(auto)]
 
-mod apart;
 mod bindings;
+mod branch_phases;
 mod certificate;
+mod charts;
 mod cleared;
 mod comparing;
+mod depth;
 mod judgement;
 mod laws;
 mod lines;
@@ -17,7 +19,7 @@ mod refusal;
 mod rejected;
 mod rising;
 mod rule;
-mod running;
+mod running_nodes;
 mod site;
 mod walk;
 

@@ -1,41 +1,101 @@
-use Rattle.std.proofs.Common.{List, [], ◌∷◌, Some, refl, subst, arith, option_copied}
-use Rattle.batch_recipe.specs.Expanding.{unbound}
-use Rattle.batch_recipe.specs.Procedure.{procedure_tree, tables_from}
-use Rattle.batch_recipe.specs.declared.acts.Level.TheVariants.{UnitProcedures}
-use Rattle.batch_recipe.proofs.Order.{counted_nodes}
+use Rattle.std.proofs.Common.{◌≡◌, ◌≤◌, ◌+◌, List, Option, Some, None, Ok, Err, length, option_copied, get_or, slice_get, sym, ap, ◌∙◌, subst, arith}
+use Rattle.std.proofs.lemmas.Option.{slice_get-get_or}
+use Rattle.batch_recipe.specs.Outlines.{act_of}
+use Rattle.batch_recipe.specs.declared.act.Act.{Act}
+use Rattle.batch_recipe.specs.declared.entry.Entry.{Entry}
+use Rattle.batch_recipe.specs.declared.entry.Kind.TheVariants as kind
 use Rattle.batch_recipe.specs.declared.role.Role.{Role}
-use Rattle.batch_model.specs.Lists.{Each}
-use Rattle.batch_model.specs.Cleared.{is_procedure, procedure_parts}
-use Rattle.batch_model.specs.Recipes.{recipe_of}
+use Rattle.batch_recipe.proofs.Climbing.{as_many}
+use Rattle.batch_model.specs.Cleared.{Level}
 use Rattle.batch_model.specs.Setups.{setup_of}
 use Rattle.batch_verify.specs.Bindings.{numbered}
-use Rattle.batch_verify.specs.Refusals.{MeetsRules, IsFirstBroken, ranking_in}
-use Rattle.batch_verify.proofs.Levels.{procedure_kind}
-use Rattle.batch_verify.proofs.Ranks.{path_begins}
-use Rattle.batch_verify.proofs.Sizes.{act_size_is}
+use Rattle.batch_verify.specs.Refusals.{ranking_in, IsFirstBroken}
+use Rattle.batch_verify.specs.Ways.{bound_parts}
+use Rattle.batch_verify.specs.Walking.{IsEntered}
+use Rattle.batch_verify.specs.declared.rule.Rule.{Rule}
+use Rattle.batch_verify.specs.declared.site.Path.{Path}
+use Rattle.batch_verify.proofs.Paths.{KeepsPaths-more, number_above, looked, fault_known, path_stops, paths_end}
 use Rattle.batch_verify.proofs.walk.broken_on.Goals as goal
 
-pub walk_act-requires-clause-room : goal.walk_act-requires-clause-room
-walk_act-requires-clause-room c =
-    let acts = c.args.recipe.now.acts in
-    omega (
-      arith,
-      act_size_is unbound (tables_from acts (Some UnitProcedures)) [] acts.procedure [],
-      act_size_is unbound (tables_from acts (Some UnitProcedures)) [] acts.procedure (0 ∷ []),
-      counted_nodes (0 ∷ []) [] (procedure_tree acts),
-      c.args.recipe.now.small,
-    )
+abbrev no_entry : Entry
+no_entry = record { kind = kind.Skip; end = 0; parent = 0; child = 0 }
 
-pub returns-in-Ok : goal.returns-in-Ok
-returns-in-Ok c = λ recipes.
-    subst (λ (roles : List Role). Each (MeetsRules (setup_of c.args.cell.now recipes) (ranking_in c.args.cell.now (option_copied c.args.ranks)))
-    (procedure_parts (recipe_of c.args.recipe.now (numbered c.args.cell.now roles c.args.binding)))) c.deref.ensures.value
-    ((c.in-Ok.ensures.verdict is_procedure refl (procedure_kind c.args.recipe.now.acts c.args.recipe.now.kinds) recipes [] (0 ∷ []) [] c.args.recipe.now.kinds tt
-    (path_begins (ranking_in c.args.cell.now (option_copied c.args.ranks)))).1)
+pub bounds-faults-node : goal.bounds-faults-node
+bounds-faults-node c =
+    omega (arith, c.len-node.ensures, c.loop-entry.invariant.size, c.loop-entry-test.true, ap length c.deref-entry-items.ensures.value, as_many c.args.recipe.now, c.requires.as_many)
 
-pub returns-in-Err-Found : goal.returns-in-Err-Found
-returns-in-Err-Found c = λ recipes.
-    subst (λ (roles : List Role). IsFirstBroken (setup_of c.args.cell.now recipes) (ranking_in c.args.cell.now (option_copied c.args.ranks))
-    (procedure_parts (recipe_of c.args.recipe.now (numbered c.args.cell.now roles c.args.binding))) 0 c.in-Err-Found.broken) c.deref.ensures.value
-    ((rw c.in-Err-Found.field-0-is at c.in-Err-Found.ensures.verdict) is_procedure refl (procedure_kind c.args.recipe.now.acts c.args.recipe.now.kinds) recipes [] (0 ∷ []) [] c.args.recipe.now.kinds tt
-    (path_begins (ranking_in c.args.cell.now (option_copied c.args.ranks))))
+pub look-requires : goal.look-requires
+look-requires c =
+    let cell = c.args.cell.now in
+    let r = c.args.recipe.now in
+    let ranking = ranking_in cell (option_copied c.args.ranks) in
+    let bound = numbered cell r.roles.items c.args.binding in
+    let n = c.loop-entry.entry-index in
+    let h = c.loop-entry.invariant in
+    let paths = c.loop-entry.paths.items in
+    let entry : Entry = get_or c.deref-entry-items.result.now n no_entry in
+    let is : slice_get r.outline.entries.items n ≡ Some entry =
+    ap (λ xs. slice_get xs n) (sym c.deref-entry-items.ensures.value) ∙ slice_get-get_or c.deref-entry-items.result.now n no_entry c.loop-entry-test.true in
+    let above = c.path_above-above.result in
+    number_above cell ranking bound r paths n h entry is above
+    (λ q q_is. c.path_above-above.ensures.some q (ap (λ xs. slice_get xs entry.parent) c.deref-in-loop-entry.ensures.value ∙ q_is))
+    (λ past. c.path_above-above.ensures.none (omega (arith, past, ap length c.deref-in-loop-entry.ensures.value)))
+
+pub returns-in-Err : goal.returns-in-Err
+returns-in-Err c = λ recipes.
+    let cell = c.args.cell.now in
+    let r = c.args.recipe.now in
+    let ranking = ranking_in cell (option_copied c.args.ranks) in
+    let bound = numbered cell r.roles.items c.args.binding in
+    let n = c.loop-entry.entry-index in
+    let h = c.loop-entry.invariant in
+    let paths = c.loop-entry.paths.items in
+    let entry : Entry = get_or c.deref-entry-items.result.now n no_entry in
+    let is : slice_get r.outline.entries.items n ≡ Some entry =
+    ap (λ xs. slice_get xs n) (sym c.deref-entry-items.ensures.value) ∙ slice_get-get_or c.deref-entry-items.result.now n no_entry c.loop-entry-test.true in
+    let above = c.path_above-above.result in
+    let node : n ≡ c.len-node.result = omega (arith, c.len-node.ensures, h.size) in
+    let fault : Option Rule = get_or c.args.faults.now c.len-node.result None in
+    let fault_is : slice_get c.args.faults.now n ≡ Some fault =
+    ap (slice_get c.args.faults.now) node ∙ slice_get-get_or c.args.faults.now c.len-node.result None
+    (omega (arith, node, c.loop-entry-test.true, ap length c.deref-entry-items.ensures.value, as_many r, c.requires.as_many)) in
+    let entered = subst (λ (roles : List Role). (a : Act) → act_of r.acts entry.kind ≡ Some a → (level : Level) → IsEntered cell (numbered cell roles c.args.binding) ranking level above a (Err c.in-Err.rule))
+    c.deref.ensures.value c.in-Err.ensures.act in
+    let some = (λ (q : Path) (q_is : slice_get paths entry.parent ≡ Some q). c.path_above-above.ensures.some q (ap (λ xs. slice_get xs entry.parent) c.deref-in-loop-entry.ensures.value ∙ q_is)) in
+    let none = (λ (past : length paths ≤ entry.parent). c.path_above-above.ensures.none (omega (arith, past, ap length c.deref-in-loop-entry.ensures.value))) in
+    let known = fault_known cell ranking bound r paths n h entry is above some none c.args.faults.now c.requires fault fault_is in
+    let broken = looked cell ranking bound r paths n h entry is above some none (Err c.in-Err.rule) fault known entered c.in-Err.ensures.chart in
+    let at : 0 + n ≡ c.len-node.result = omega (arith, node) in
+    subst (λ k. IsFirstBroken (setup_of cell recipes) ranking (bound_parts bound r.acts) 0 (record { node = k; rule = c.in-Err.rule })) at
+    (path_stops cell ranking bound r paths n h entry is above some none c.in-Err.rule broken recipes)
+
+pub loop-entry-preserved : goal.loop-entry-preserved
+loop-entry-preserved c =
+    let cell = c.args.cell.now in
+    let r = c.args.recipe.now in
+    let ranking = ranking_in cell (option_copied c.args.ranks) in
+    let bound = numbered cell r.roles.items c.args.binding in
+    let n = c.loop-entry.entry-index in
+    let h = c.loop-entry.invariant in
+    let paths = c.loop-entry.paths.items in
+    let entry : Entry = get_or c.deref-entry-items.result.now n no_entry in
+    let is : slice_get r.outline.entries.items n ≡ Some entry =
+    ap (λ xs. slice_get xs n) (sym c.deref-entry-items.ensures.value) ∙ slice_get-get_or c.deref-entry-items.result.now n no_entry c.loop-entry-test.true in
+    let above = c.path_above-above.result in
+    let node : n ≡ c.len-node.result = omega (arith, c.len-node.ensures, h.size) in
+    let fault : Option Rule = get_or c.args.faults.now c.len-node.result None in
+    let fault_is : slice_get c.args.faults.now n ≡ Some fault =
+    ap (slice_get c.args.faults.now) node ∙ slice_get-get_or c.args.faults.now c.len-node.result None
+    (omega (arith, node, c.loop-entry-test.true, ap length c.deref-entry-items.ensures.value, as_many r, c.requires.as_many)) in
+    let entered = subst (λ (roles : List Role). (a : Act) → act_of r.acts entry.kind ≡ Some a → (level : Level) → IsEntered cell (numbered cell roles c.args.binding) ranking level above a (Ok c.in-Ok.path))
+    c.deref.ensures.value c.in-Ok.ensures.act in
+    let some = (λ (q : Path) (q_is : slice_get paths entry.parent ≡ Some q). c.path_above-above.ensures.some q (ap (λ xs. slice_get xs entry.parent) c.deref-in-loop-entry.ensures.value ∙ q_is)) in
+    let none = (λ (past : length paths ≤ entry.parent). c.path_above-above.ensures.none (omega (arith, past, ap length c.deref-in-loop-entry.ensures.value))) in
+    let known = fault_known cell ranking bound r paths n h entry is above some none c.args.faults.now c.requires fault fault_is in
+    let good = looked cell ranking bound r paths n h entry is above some none (Ok c.in-Ok.path) fault known entered c.in-Ok.ensures.chart in
+    rw c.in_ok-push-in-Ok.ensures.items (KeepsPaths-more cell ranking bound r paths n h entry is above some none c.in-Ok.path good c.in-Ok.ensures.number)
+
+pub returns : goal.returns
+returns c = λ recipes.
+    paths_end c.args.cell.now (ranking_in c.args.cell.now (option_copied c.args.ranks)) (numbered c.args.cell.now c.args.recipe.now.roles.items c.args.binding) c.args.recipe.now
+    c.loop-entry.paths.items c.loop-entry.entry-index c.loop-entry.invariant (omega (arith, c.loop-entry-test.false, ap length c.deref-entry-items.ensures.value)) recipes

@@ -1,0 +1,142 @@
+-- What nodes break as `par`s and loops, by number.
+use Rattle.std.proofs.Common.{◌≡◌, ◌≢◌, ◌⊎◌, ℕ, ◌+◌, ◌<◌, ◌≤◌, List, [], ◌∷◌, ◌++◌, length, Option, Some, None, slice_get, get_or, sym, ap, ◌∙◌, refl, subst, arith, inl, inr, length-append}
+use Rattle.std.proofs.lemmas.Bool.{cases_lt}
+use Rattle.std.proofs.lemmas.Option.{slice_get_within, slice_get-get_or}
+use Rattle.batch_recipe.specs.Expanding.{unbound}
+use Rattle.batch_recipe.specs.Links.{form_at}
+use Rattle.batch_recipe.specs.Nodes.{Node}
+use Rattle.batch_recipe.specs.Outlines.{act_of, form_of}
+use Rattle.batch_recipe.specs.Procedure.{bound_nodes, procedure_nodes}
+use Rattle.batch_recipe.specs.declared.act.Act.{Act}
+use Rattle.batch_recipe.specs.declared.entry.Entry.{Entry}
+use Rattle.batch_recipe.specs.declared.recipe.Recipe.{Recipe}
+use Rattle.batch_recipe.proofs.Climbing.{as_many}
+use Rattle.batch_recipe.proofs.Slices.{slice_get-left, slice_get-right}
+use Rattle.batch_model.specs.Cleared.{Level, Part, below, IsApart}
+use Rattle.batch_verify.specs.Charts.{depth_is, IsFaultOf, AreFaults}
+use Rattle.batch_verify.specs.Ways.{Spot, Way, bound_parts, bound_ways}
+use Rattle.batch_verify.specs.declared.depth.Depth.{Depth}
+use Rattle.batch_verify.specs.declared.depth.Depth.TheVariants.{Procedure}
+use Rattle.batch_verify.specs.declared.rule.Rule.{Rule}
+use Rattle.batch_verify.specs.declared.rule.Rule.TheVariants as rules
+use Rattle.batch_verify.proofs.Alike.{IsLike, apart_as, turns_as, part_alike}
+use Rattle.batch_verify.proofs.Stands.{IsTop, IsBelow, Stands, stands, node_of}
+use Rattle.batch_verify.proofs.WayActs.{IsHereOn}
+
+-- what is at a number of a list to which one more was added: one of those before, or it
+pub one_more : {X : Type 0} (xs : List X) (x : X) (n k : ℕ) (y : X) → length xs ≡ n → slice_get (xs ++ x ∷ []) k ≡ Some y → ((k < n) × (slice_get xs k ≡ Some y)) ⊎ ((k ≡ n) × (x ≡ y))
+one_more {X = X} xs x n k y size is = go (cases_lt k n)
+  where
+    some_is : (a b : X) → Some a ≡ Some b → a ≡ b
+    some_is a b e = cc
+
+    go : (k < n) ⊎ (n ≤ k) → ((k < n) × (slice_get xs k ≡ Some y)) ⊎ ((k ≡ n) × (x ≡ y))
+    go (inl lt) =
+        let z = get_or xs k x in
+        let was = slice_get-get_or xs k x (omega (arith, size, lt)) in
+        inl (lt, was ∙ ap (λ (q : X). Some q) (some_is z y (sym (slice_get-left xs (x ∷ []) k z was) ∙ is)))
+    go (inr le) =
+        let in' = slice_get_within (xs ++ x ∷ []) k y is in
+        let k_is : k ≡ n = omega (arith, le, in', length-append xs (x ∷ []), size) in
+        let here : k ≡ length xs + 0 = omega (arith, k_is, size) in
+        inr (k_is, some_is x y (sym (slice_get-right xs (x ∷ []) 0) ∙ (ap (slice_get (xs ++ x ∷ [])) (sym here) ∙ is)))
+
+apart_back : (x y : Part) → IsLike y x → IsApart y.level y.node.here → IsApart x.level x.node.here
+apart_back x y from a = apart_as x.level y.node.here x.node.here from.1 (subst (λ (l : Level). IsApart l y.node.here) from.0 a)
+
+module _ (r : Recipe) where
+  -- so far: where what is below each node stands, and what each node breaks
+  pub record KeepsFaults (below : List Depth) (faults : List (Option Rule)) (n : ℕ) : Type 0 where
+    pub few : length below ≡ n
+    pub many : length faults ≡ n
+    pub depths : (k : ℕ) (w : Way) (d : Depth) → slice_get (bound_ways unbound r.acts) k ≡ Some w → slice_get below k ≡ Some d → depth_is d ≡ w.under.level
+    pub each : (k : ℕ) (x : Part) (fault : Option Rule) → slice_get (bound_parts unbound r.acts) k ≡ Some x → slice_get faults k ≡ Some fault → IsFaultOf x fault
+
+  pub KeepsFaults-none : KeepsFaults [] [] 0
+  KeepsFaults-none = record {
+    few = refl;
+    many = refl;
+    depths = λ k w d is none. absurd cc;
+    each = λ k x fault is none. absurd cc;
+  }
+
+  module _ (below' : List Depth) (faults : List (Option Rule)) (n : ℕ) (h : KeepsFaults below' faults n) (e : Entry) (is : slice_get r.outline.entries.items n ≡ Some e)
+      (depth : Depth) (some : (d : Depth) → slice_get below' e.parent ≡ Some d → depth ≡ d) (none : length below' ≤ e.parent → depth ≡ Procedure) where
+    abbrev at : Stands r unbound n e
+    at = stands r unbound n e is
+
+    depth_at : depth_is depth ≡ at.own.here.level
+    depth_at = go at.hangs
+      where
+        go : IsTop n at.own at.x ⊎ IsBelow (bound_ways unbound r.acts) (bound_nodes unbound r.acts) n e at.own at.x → depth_is depth ≡ at.own.here.level
+        go (inl t) = ap depth_is (none (omega (arith, h.few, t.number))) ∙ ap (λ (s : Spot). s.level) (sym t.stands)
+        go (inr b) =
+            let d = get_or below' e.parent Procedure in
+            let d_is = slice_get-get_or below' e.parent Procedure (omega (arith, h.few, b.earlier)) in
+            ap depth_is (some d d_is) ∙ (h.depths e.parent b.way d b.way_is d_is ∙ ap (λ (s : Spot). s.level) (sym b.stands))
+
+    module _ (next : Depth) (under : act_of r.acts e.kind ≢ None → depth_is next ≡ below (depth_is depth)) (along : act_of r.acts e.kind ≡ None → next ≡ depth) where
+      depth_under : depth_is next ≡ at.own.under.level
+      depth_under = go (act_of r.acts e.kind) refl at.on.here
+        where
+          go : (o : Option Act) → act_of r.acts e.kind ≡ o → IsHereOn unbound at.own at.x o → depth_is next ≡ at.own.under.level
+          go None o_is here = ap depth_is (along o_is) ∙ (depth_at ∙ ap (λ (s : Spot). s.level) (sym here.1))
+          go (Some a) o_is here = under (λ no. let bad : Some a ≡ None = sym o_is ∙ no in cc) ∙ (ap below depth_at ∙ sym here.under_level)
+
+      module _ (fault : Option Rule)
+          (found : (x : Node) → slice_get (procedure_nodes r.acts) n ≡ Some x → form_of e.kind ≡ form_at x.here → IsFaultOf (record { level = depth_is depth; node = x }) fault) where
+        own_fault : IsFaultOf at.x fault
+        own_fault =
+            subst (λ (l : Level). IsFaultOf (record { level = l; node = at.x.node }) fault) (depth_at ∙ sym at.on.level) (found at.x.node (node_of r unbound n at.x at.x_is) at.formed)
+
+        pub KeepsFaults-more : KeepsFaults (below' ++ next ∷ []) (faults ++ fault ∷ []) (n + 1)
+        KeepsFaults-more = record {
+          few = omega (arith, length-append below' (next ∷ []), h.few);
+          many = omega (arith, length-append faults (fault ∷ []), h.many);
+          depths = λ k w d w_is d_is. depth_now k w d w_is (one_more below' next n k d h.few d_is);
+          each = λ k x f x_is f_is. fault_now k x f x_is (one_more faults fault n k f h.many f_is);
+        }
+          where
+            way_is : (a b : Way) → Some a ≡ Some b → a ≡ b
+            way_is a b e = cc
+
+            part_is : (a b : Part) → Some a ≡ Some b → a ≡ b
+            part_is a b e = cc
+
+            depth_now : (k : ℕ) (w : Way) (d : Depth) → slice_get (bound_ways unbound r.acts) k ≡ Some w → ((k < n) × (slice_get below' k ≡ Some d)) ⊎ ((k ≡ n) × (next ≡ d)) → depth_is d ≡ w.under.level
+            depth_now k w d w_is (inl was) = h.depths k w d w_is was.1
+            depth_now k w d w_is (inr new) =
+                let same = way_is at.own w (sym at.own_is ∙ (ap (slice_get (bound_ways unbound r.acts)) (sym new.0) ∙ w_is)) in
+                ap depth_is (sym new.1) ∙ (depth_under ∙ ap (λ (v : Way). v.under.level) same)
+
+            fault_now : (k : ℕ) (x : Part) (f : Option Rule) → slice_get (bound_parts unbound r.acts) k ≡ Some x → ((k < n) × (slice_get faults k ≡ Some f)) ⊎ ((k ≡ n) × (fault ≡ f)) → IsFaultOf x f
+            fault_now k x f x_is (inl was) = h.each k x f x_is was.1
+            fault_now k x f x_is (inr new) =
+                let same = part_is at.x x (sym at.x_is ∙ (ap (slice_get (bound_parts unbound r.acts)) (sym new.0) ∙ x_is)) in
+                subst (λ (o : Option Rule). IsFaultOf x o) new.1 (subst (λ (y : Part). IsFaultOf y fault) same own_fault)
+
+  -- a fault is that of the node whatever units take the roles
+  fault_as : (x y : Part) → IsLike x y → IsLike y x → (fault : Option Rule) → IsFaultOf y fault → IsFaultOf x fault
+  fault_as x y to from None h = (
+    apart_back x y from h.0,
+    turns_as y.node.here x.node.here from.1 h.1,
+  )
+  fault_as x y to from (Some rules.SamePhaseInParallel) h = λ a. h (apart_back y x to a)
+  fault_as x y to from (Some rules.LoopWithoutPhase) h = (apart_back x y from h.0, λ t. h.1 (turns_as x.node.here y.node.here to.1 t))
+  fault_as x y to from (Some rules.UnknownResource) h = absurd h
+  fault_as x y to from (Some rules.ShareAboveCapacity) h = absurd h
+  fault_as x y to from (Some rules.PhaseNotOffered) h = absurd h
+  fault_as x y to from (Some rules.RankNotRising) h = absurd h
+
+  part_is : (a b : Part) → Some a ≡ Some b → a ≡ b
+  part_is a b e = cc
+
+  pub all_faults : (below' : List Depth) (faults : List (Option Rule)) (n : ℕ) → KeepsFaults below' faults n → length r.outline.entries.items ≤ n → n ≤ length r.outline.entries.items → AreFaults r.acts faults
+  all_faults below' faults n h all most = record {
+    as_many = omega (arith, h.many, as_many r, all, most);
+    each = λ bound k x fault x_is f_is.
+        let to = part_alike bound unbound r.acts k x x_is in
+        let from = part_alike unbound bound r.acts k to.0 to.1 in
+        let same = part_is from.0 x (sym from.1 ∙ x_is) in
+        fault_as x to.0 to.2 (subst (λ (y : Part). IsLike to.0 y) same from.2) fault (h.each k to.0 fault to.1 f_is);
+  }

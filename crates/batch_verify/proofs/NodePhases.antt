@@ -1,0 +1,143 @@
+-- The phases of a tree are those that the acts at its nodes run.
+use Rattle.std.proofs.Common.{◌≡◌, ℕ, zero, suc, ◌+◌, List, [], ◌∷◌, ◌++◌, length, Option, Some, None, slice_get, take, drop, sym, ap, ap₂, ◌∙◌, refl, arith, append_assoc}
+use Rattle.batch_recipe.specs.ActsAtNodes.{ActList, procedure_acts, AreActsAt, IsActAt, IsNoAct}
+use Rattle.batch_recipe.specs.Conditions.{Name}
+use Rattle.batch_recipe.specs.Expanding.{task_of, unbound}
+use Rattle.batch_recipe.specs.Needs.{resources_of}
+use Rattle.batch_recipe.specs.Nodes.{Node, nodes, nodes_within, nodes_of_each, nodes_of_choices, child, node_count}
+use Rattle.batch_recipe.specs.Procedure.{procedure_nodes}
+use Rattle.batch_recipe.specs.Tree.{Place, Tree, act, skip, seq, par, sel, loop, Task, runs, follows, Trees, no_trees, tree, Choices, otherwise, choice}
+use Rattle.batch_recipe.specs.declared.act.Act.{Act}
+use Rattle.batch_recipe.specs.declared.act.Work.{Work}
+use Rattle.batch_recipe.specs.declared.act.Work.TheVariants.{Follows, Runs}
+use Rattle.batch_recipe.specs.declared.acts.Acts.{Acts}
+use Rattle.batch_recipe.proofs.Below.{stands}
+use Rattle.batch_recipe.proofs.Linking.{AreFrom}
+use Rattle.batch_recipe.proofs.NodeActs.{procedure_acts_are}
+use Rattle.batch_recipe.proofs.Order.{counted_nodes}
+use Rattle.batch_model.specs.Cleared.{phases, phases_within, phases_of_each, phases_of_choices}
+use Rattle.batch_verify.specs.NodePhases.{phase_run, phase_at, phases_along, phases_between}
+use Rattle.batch_verify.specs.Walking.{phase_names}
+use Rattle.batch_verify.proofs.Phases.{phase_names-append}
+
+-- the phase that a tree runs at its root
+abbrev run_by : Task → List Name
+run_by (runs phase) = phase.name ∷ []
+run_by (follows name t) = []
+
+abbrev run_at : Tree → List Name
+run_at (act s w) = run_by w
+run_at skip = []
+run_at (seq ts) = []
+run_at (par ts) = []
+run_at (sel cs) = []
+run_at (loop n c t) = []
+
+-- those that are run at nodes
+abbrev run_along : List Node → List Name
+run_along [] = []
+run_along (x ∷ xs) = run_at x.here ++ run_along xs
+
+run_along-append : (xs ys : List Node) → run_along (xs ++ ys) ≡ run_along xs ++ run_along ys
+run_along-append [] ys = refl
+run_along-append (x ∷ xs) ys = ap (λ names. run_at x.here ++ names) (run_along-append xs ys) ∙ sym (append_assoc (run_at x.here) (run_along xs) (run_along ys))
+
+-- the phases of a tree are those that are run at its nodes
+mutual
+  tree_runs : (p : Place) (above : List Name) (t : Tree) → phase_names (phases t) ≡ run_along (nodes p above t)
+  tree_runs p above (act s w) = task_runs p (above ++ resources_of s.needs) w
+  tree_runs p above skip = refl
+  tree_runs p above (seq ts) = each_runs p above 0 ts
+  tree_runs p above (par ts) = each_runs p above 0 ts
+  tree_runs p above (sel cs) = choices_run p above 0 cs
+  tree_runs p above (loop n c t) = tree_runs (child p 0) above t
+
+  task_runs : (p : Place) (above : List Name) (w : Task) → phase_names (phases_within w) ≡ run_by w ++ run_along (nodes_within p above w)
+  task_runs p above (runs phase) = refl
+  task_runs p above (follows name t) = tree_runs (child p 0) above t
+
+  each_runs : (p : Place) (above : List Name) (i : ℕ) (ts : Trees) → phase_names (phases_of_each ts) ≡ run_along (nodes_of_each p above i ts)
+  each_runs p above i no_trees = refl
+  each_runs p above i (tree t ts) =
+      phase_names-append (phases t) (phases_of_each ts)
+      ∙ (ap₂ (λ xs ys. xs ++ ys) (tree_runs (child p i) above t) (each_runs p above (i + 1) ts)
+      ∙ sym (run_along-append (nodes (child p i) above t) (nodes_of_each p above (i + 1) ts)))
+
+  choices_run : (p : Place) (above : List Name) (i : ℕ) (cs : Choices) → phase_names (phases_of_choices cs) ≡ run_along (nodes_of_choices p above i cs)
+  choices_run p above i (otherwise t) = tree_runs (child p i) above t
+  choices_run p above i (choice c t cs) =
+      phase_names-append (phases t) (phases_of_choices cs)
+      ∙ (ap₂ (λ xs ys. xs ++ ys) (tree_runs (child p i) above t) (choices_run p above (i + 1) cs)
+      ∙ sym (run_along-append (nodes (child p i) above t) (nodes_of_choices p above (i + 1) cs)))
+
+work_runs : (trees : Name → Place → Tree) (unit name : Name) (p : Place) (work : Work) → run_by (task_of trees unit name p work) ≡ phase_run work
+work_runs trees unit name p (Follows c) = refl
+work_runs trees unit name p (Runs phase values) = refl
+
+none_runs : (t : Tree) → IsNoAct t → run_at t ≡ []
+none_runs (act s w) h = absurd h
+none_runs skip h = refl
+none_runs (seq ts) h = refl
+none_runs (par ts) h = refl
+none_runs (sel cs) h = refl
+none_runs (loop n c t) h = refl
+
+module _ (acts : Acts) where
+  -- what is run at a node is what its act runs
+  node_runs : (o : Option Act) (x : Node) → IsActAt unbound acts o x → run_at x.here ≡ phase_at o
+  node_runs None x h = none_runs x.here h
+  node_runs (Some a) x h = ap run_at h.here_is ∙ work_runs _ _ _ _ a.work
+
+  nodes_run : (list : ActList) (xs : List Node) → AreActsAt unbound acts list xs → run_along xs ≡ phases_along list
+  nodes_run [] [] h = refl
+  nodes_run [] (x ∷ xs) h = absurd h
+  nodes_run (o ∷ list) [] h = absurd h
+  nodes_run (o ∷ list) (x ∷ xs) h = ap₂ (λ ys zs. ys ++ zs) (node_runs o x h.0) (nodes_run list xs h.1)
+
+  taken : (n : ℕ) (list : ActList) (xs : List Node) → AreActsAt unbound acts list xs → AreActsAt unbound acts (take n list) (take n xs)
+  taken zero list xs h = tt
+  taken (suc n) [] [] h = tt
+  taken (suc n) [] (x ∷ xs) h = absurd h
+  taken (suc n) (o ∷ list) [] h = absurd h
+  taken (suc n) (o ∷ list) (x ∷ xs) h = (h.0, taken n list xs h.1)
+
+  dropped : (n : ℕ) (list : ActList) (xs : List Node) → AreActsAt unbound acts list xs → AreActsAt unbound acts (drop n list) (drop n xs)
+  dropped zero list xs h = h
+  dropped (suc n) [] [] h = tt
+  dropped (suc n) [] (x ∷ xs) h = absurd h
+  dropped (suc n) (o ∷ list) [] h = absurd h
+  dropped (suc n) (o ∷ list) (x ∷ xs) h = dropped n list xs h.1
+
+node_is : (a b : Node) → Some a ≡ Some b → a ≡ b
+node_is a b e = cc
+
+-- nodes that are the first ones of a list
+front : (n : ℕ) (ns xs : List Node) → ((j : ℕ) (x : Node) → slice_get xs j ≡ Some x → slice_get ns j ≡ Some x) → n ≡ length xs → take n ns ≡ xs
+front zero ns [] h size = refl
+front zero ns (x ∷ xs) h size = absurd (omega (arith, size))
+front (suc n) ns [] h size = absurd (omega (arith, size))
+front (suc n) [] (x ∷ xs) h size = let bad : None ≡ Some x = h 0 x refl in absurd cc
+front (suc n) (y ∷ ns) (x ∷ xs) h size =
+    ap₂ (λ z zs. z ∷ zs) (node_is y x (h 0 x refl)) (front n ns xs (λ j z is. h (suc j) z is) (omega (arith, size)))
+
+-- nodes that stand from number k on
+middle : (k m : ℕ) (ns xs : List Node) → AreFrom ns k xs → m ≡ k + length xs → drop k (take m ns) ≡ xs
+middle zero m ns xs h size = front m ns xs (λ j x is. let same : j ≡ 0 + j = omega arith in ap (slice_get ns) same ∙ h j x is) (omega (arith, size))
+middle (suc k) zero ns xs h size = absurd (omega (arith, size))
+middle (suc k) (suc m) [] [] h size = refl
+middle (suc k) (suc m) [] (x ∷ xs) h size = let bad : None ≡ Some x = h 0 x refl in absurd cc
+middle (suc k) (suc m) (y ∷ ns) xs h size =
+    middle k m ns xs (λ j x is. let same : suc (k + j) ≡ suc k + j = omega arith in ap (slice_get (y ∷ ns)) same ∙ h j x is) (omega (arith, size))
+
+-- the phases of the tree at a node
+pub node_phases : (acts : Acts) (k : ℕ) (x : Node) → slice_get (procedure_nodes acts) k ≡ Some x → phase_names (phases x.here) ≡ phases_between (procedure_acts acts) k (k + node_count x.here)
+node_phases acts k x is =
+    let ns = procedure_nodes acts in
+    let list = procedure_acts acts in
+    let here = stands unbound acts k x is in
+    let xs = nodes x.place here.0 x.here in
+    let end = k + node_count x.here in
+    let size : end ≡ k + length xs = omega (arith, counted_nodes x.place here.0 x.here) in
+    tree_runs x.place here.0 x.here
+    ∙ (ap run_along (sym (middle k end ns xs here.1 size))
+    ∙ nodes_run acts (drop k (take end list)) (drop k (take end ns)) (dropped acts k (take end list) (take end ns) (taken acts end list ns (procedure_acts_are unbound acts))))

@@ -1,0 +1,13 @@
+use Rattle.std.proofs.Common.{◌≡◌, Some, sym, ap, ◌∙◌, subst, option_copied}
+use Rattle.batch_recipe.specs.declared.act.Act.{Act}
+use Rattle.batch_verify.specs.Walking.{IsEntered, bound_on, ranks_on}
+use Rattle.batch_verify.proofs.walk.look.Goals as goal
+
+some_is : (a b : Act) → Some a ≡ Some b → a ≡ b
+some_is a b e = cc
+
+pub returns-in-Some-clause-act : goal.returns-in-Some-clause-act
+returns-in-Some-clause-act c = λ a is level.
+    let site = c.args.site.now in
+    let same = some_is c.in-Some.act.now a (sym (ap option_copied c.in-Some.is) ∙ (c.act.ensures ∙ is)) in
+    subst (λ (x : Act). IsEntered site.cell.now (bound_on site) (ranks_on site) level c.args.path x c.enter.result) same (c.enter.ensures.rules level)

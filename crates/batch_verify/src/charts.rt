@@ -1,0 +1,90 @@
+//! Rules on `par`s and loops, which don't depend on the units that take the roles.
+ghost use Rattle.std.specs.Prelude.{◌≡◌, ◌≢◌, ◌<◌, ◌≤◌, map, length, slice_get, Some, None, IfOk};
+ghost use Rattle.batch_recipe.specs.Nodes.{Node};
+ghost use Rattle.batch_recipe.specs.Outlines.{act_of, form_of};
+ghost use Rattle.batch_recipe.specs.Links.{form_at};
+ghost use Rattle.batch_recipe.specs.Procedure.{procedure_nodes};
+ghost use Rattle.batch_model.specs.Cleared.{below, surely_runs};
+ghost use Rattle.batch_verify.specs.Charts.{depth_is, AreFaults, IsFaultOf};
+
+use crate::branch_phases::branches_run_apart;
+use crate::depth::Depth;
+use crate::rule::Rule;
+use crate::running_nodes::running_nodes;
+use batch_recipe::{Acts, Entry, Kind, Recipe};
+use std::alloc::{AllocError, Global};
+
+/// Where a node stands, where these are the levels below the nodes before it. The first node is the procedure.
+fn depth_above(below: &[Depth], entry: &Entry) -> Depth
+    ensures some { (depth : Depth) → slice_get below.now entry.now.parent ≡ Some depth → result ≡ depth }
+    ensures none { length below.now ≤ entry.now.parent → result ≡ Depth.Procedure }
+{
+    match below.get(usize::from(entry.parent)) {
+        None => Depth::Procedure,
+        Some(depth) => *depth,
+    }
+}
+
+/// Where those below a node stand, where it stands there itself.
+fn depth_below(acts: &Acts, entry: &Entry, depth: Depth) -> Depth
+    ensures act { act_of acts.now entry.now.kind ≢ None → depth_is result ≡ below (depth_is depth) }
+    ensures chart { act_of acts.now entry.now.kind ≡ None → result ≡ depth }
+{
+    match entry.kind.act(acts) {
+        None => depth,
+        Some(_) => depth.below(),
+    }
+}
+
+/// The rule that the node breaks as a `par` or a loop.
+fn chart_fault(
+    alloc: Global,
+    recipe: &Recipe,
+    runs: &[bool],
+    entry: &Entry,
+    node: u16,
+    depth: Depth,
+) -> Result<Option<Rule>, AllocError>
+    requires known { node < length runs.now }
+    requires runs { runs.now ≡ map (λ x. surely_runs x.here) (procedure_nodes recipe.now.acts) }
+    ensures { IfOk result (λ fault. (x : Node) → slice_get (procedure_nodes recipe.now.acts) node ≡ Some x → form_of entry.now.kind ≡ form_at x.here
+        → IsFaultOf (record { level = depth_is depth; node = x }) fault) }
+{
+    match entry.kind {
+        Kind::Par => match depth {
+            Depth::InOperation => {
+                if branches_run_apart(alloc, recipe, node)? {
+                    Ok(None)
+                } else {
+                    Ok(Some(Rule::SamePhaseInParallel))
+                }
+            }
+            Depth::Procedure | Depth::InProcedure | Depth::InUnitProcedure => Ok(None),
+        },
+        // Every way through a loop runs a phase just where every way through its body does.
+        Kind::Loop => {
+            if runs[usize::from(node)] {
+                Ok(None)
+            } else {
+                Ok(Some(Rule::LoopWithoutPhase))
+            }
+        }
+        Kind::Skip | Kind::Procedure | Kind::Act(..) | Kind::Seq | Kind::Sel => Ok(None),
+    }
+}
+
+/// The rule that each node breaks as a `par` or a loop, by number.
+pub(crate) fn chart_faults(alloc: Global, recipe: &Recipe) -> Result<Vec<Option<Rule>>, AllocError>
+    ensures { IfOk result (λ faults. AreFaults recipe.now.acts faults.items) }
+{
+    let runs = running_nodes(alloc, recipe)?;
+    let mut below = Vec::new(alloc);
+    let mut faults = Vec::new(alloc);
+    for entry in &recipe.outline.entries {
+        let depth = depth_above(&below, entry);
+        let node = faults.len() as u16;
+        faults.push(chart_fault(alloc, recipe, &runs, entry, node, depth)?)?;
+        below.push(depth_below(&recipe.acts, entry, depth))?;
+    }
+    Ok(faults)
+}
