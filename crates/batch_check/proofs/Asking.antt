@@ -14,7 +14,7 @@ use Rattle.batch_check.specs.declared.path.Path.{Path}
 use Rattle.batch_check.specs.Edges.{has_pair, number_of, numbers_of, Joins, Follows}
 use Rattle.batch_check.specs.Pairs.{ArePaired, Keeps}
 use Rattle.batch_check.specs.Joining.{AreBelow, Grows, HasJoined, IsKept, needs_in}
-use Rattle.batch_check.specs.Collecting.{IsCopy, IsPathOf, IsReady, kept_by, last_number, EndsIn, IsAmong, HasAsked}
+use Rattle.batch_check.specs.Collecting.{IsCopy, IsPathOf, IsReady, kept_by, last_number, EndsIn, IsAmong, GoesOn, HasAsked}
 use Rattle.batch_check.proofs.Joins.{ArePaired-push, AreBelow-push, Contains-at, at-Contains, Contains-none, Contains-one, Grows-same, Grows-twice, slice_get-left, slice_get-right}
 
 -- Numbers of resources
@@ -173,12 +173,11 @@ kept_before (Some ns) kept own needs extended is = (ns, refl, (let e : Some need
 
 module _ (cell : Cell) where
   -- the path goes on by needs of its own
-  pub IsPathOf-append : (above own : List Name) (path next : Path) → next.last ≡ last_number path.last (numbers_of cell own)
-      → kept_by next ≡ option_map (λ (ns : List (Option ℕ)). ns ++ numbers_of cell own) (kept_by path) → IsPathOf cell above path → IsPathOf cell (above ++ own) next
-  IsPathOf-append above own path next ends extended h = record {
-    ends = EndsIn-append cell above own path.last h.ends ∙ sym ends;
+  pub IsPathOf-append : (above own : List Name) (path next : Path) (edges : EdgeSet) → GoesOn cell path own edges next → IsPathOf cell above path → IsPathOf cell (above ++ own) next
+  IsPathOf-append above own path next edges on h = record {
+    ends = EndsIn-append cell above own path.last h.ends ∙ sym on.ends;
     kept = λ needs is.
-        let before = kept_before (kept_by path) (kept_by next) (numbers_of cell own) needs extended is in
+        let before = kept_before (kept_by path) (kept_by next) (numbers_of cell own) needs on.extended is in
         before.2 ∙ (ap (λ (ns : List (Option ℕ)). ns ++ numbers_of cell own) (h.kept before.0 before.1) ∙ sym (numbers-append cell above own));
   }
 
@@ -191,6 +190,67 @@ module _ (cell : Cell) where
       go : (o : Option (List (Option ℕ))) → kept_by path ≡ o → Contains (needs_in o) (Some number) → IsAskedAbove cell above number
       go None is among = absurd (Contains-none (Some number) among)
       go (Some needs) is among = IsAskedAbove-kept cell above number (subst (λ (ns : List (Option ℕ)). Contains ns (Some number)) (h.kept needs is) among)
+
+-- Paths that go on
+
+-- a set that has grown serves the same path
+IsReady-grown : (cell : Cell) (path : Path) (old new : EdgeSet) → IsReady cell path old → Grows old new → IsReady cell path new
+IsReady-grown cell path old new h g = record {
+  sized = g.same_count ∙ h.sized;
+  within = λ k is. let below = h.within k is in omega (arith, below, g.same_count);
+  below = λ k among. let below = h.below k among in omega (arith, below, g.same_count);
+}
+
+module _ (cell : Cell) (path : Path) where
+  pub IsReady-copy : (copy : Path) (edges : EdgeSet) → IsCopy path copy → IsReady cell path edges → IsReady cell copy edges
+  IsReady-copy copy edges same ready = record {
+    sized = ready.sized;
+    within = λ k is. ready.within k (sym same.same_last ∙ is);
+    below = λ k among. ready.below k (subst (λ (o : Option (List (Option ℕ))). Contains (needs_in o) (Some k)) same.same_kept among);
+  }
+
+  -- up to its copy a path goes on by nothing
+  pub GoesOn-copied : (copy : Path) (edges : EdgeSet) → IsReady cell path edges → IsCopy path copy → GoesOn cell path [] edges copy
+  GoesOn-copied copy edges ready same = record {
+    ready = IsReady-copy copy edges same ready;
+    same_recipe = same.same_recipe;
+    ends = same.same_last;
+    extended = same.same_kept ∙ items_none (kept_by path);
+    covering = tt;
+    pairing = λ needs kept final later paired. subst (λ (ns : List (Option ℕ)). ArePaired final ns) (sym (append-nil needs)) paired;
+  }
+
+  pub GoesOn-none : (edges : EdgeSet) → IsReady cell path edges → GoesOn cell path [] edges path
+  GoesOn-none edges ready = GoesOn-copied path edges ready (record { same_recipe = refl; same_last = refl; same_kept = refl })
+
+  pub GoesOn-grown : (own : List Name) (old new : EdgeSet) (next : Path) → Grows old new → GoesOn cell path own old next → GoesOn cell path own new next
+  GoesOn-grown own old new next grown h = record {
+    ready = IsReady-grown cell next old new h.ready grown;
+    same_recipe = h.same_recipe;
+    ends = h.ends;
+    extended = h.extended;
+    covering = Follows-keeps old.edges.items new.edges.items grown.kept path.last (numbers_of cell own) h.covering;
+    pairing = λ needs kept final later paired. h.pairing needs kept final (λ i j known. later i j (grown.kept i j known)) paired;
+  }
+
+  pub GoesOn-append : (xs ys : List Name) (edges : EdgeSet) (at next : Path) → GoesOn cell path xs edges at → GoesOn cell at ys edges next → GoesOn cell path (xs ++ ys) edges next
+  GoesOn-append xs ys edges at next h g = record {
+    ready = g.ready;
+    same_recipe = g.same_recipe ∙ h.same_recipe;
+    ends = g.ends ∙ (ap (λ o. last_number o (numbers_of cell ys)) h.ends ∙ sym (last-append cell path.last xs ys));
+    extended =
+        g.extended ∙ (ap (option_map (λ (ns : List (Option ℕ)). ns ++ numbers_of cell ys)) h.extended
+        ∙ (items_assoc (kept_by path) (numbers_of cell xs) (numbers_of cell ys)
+        ∙ ap (λ (own : List (Option ℕ)). option_map (λ (ns : List (Option ℕ)). ns ++ own) (kept_by path)) (sym (numbers-append cell xs ys))));
+    covering = subst (λ (ns : List (Option ℕ)). Follows edges.edges.items path.last ns) (sym (numbers-append cell xs ys))
+        (Follows-append edges.edges.items path.last (numbers_of cell xs) (numbers_of cell ys) h.covering
+        (subst (λ o. Follows edges.edges.items o (numbers_of cell ys)) h.ends g.covering));
+    pairing = λ needs kept final later paired.
+        let at_kept : kept_by at ≡ Some (needs ++ numbers_of cell xs) = h.extended ∙ ap (option_map (λ (ns : List (Option ℕ)). ns ++ numbers_of cell xs)) kept in
+        subst (λ (ns : List (Option ℕ)). ArePaired final ns)
+        (append_assoc needs (numbers_of cell xs) (numbers_of cell ys) ∙ ap (λ (own : List (Option ℕ)). needs ++ own) (sym (numbers-append cell xs ys)))
+        (g.pairing (needs ++ numbers_of cell xs) at_kept final later (h.pairing needs kept final later paired));
+  }
 
 -- What an act has asked for
 
@@ -207,19 +267,21 @@ module _ (cell : Cell) (path : Path) (node : ℕ) where
       subst (λ (o : Option ℕ). kept_by next ≡ option_map (λ (ns : List (Option ℕ)). ns ++ o ∷ []) (kept_by path)) (sym is) g.extended in
       record {
         grown = grown;
-        ready = record {
-          sized = grown.same_count ∙ ready.sized;
-          within = λ k numbered. here k (sym last ∙ numbered);
-          below = below_next (kept_by path) (kept_by next) new.count number
-              (λ k among. omega (arith, ready.below k among, grown.same_count)) here g.extended;
+        further = record {
+          ready = record {
+            sized = grown.same_count ∙ ready.sized;
+            within = λ k numbered. here k (sym last ∙ numbered);
+            below = below_next (kept_by path) (kept_by next) new.count number
+                (λ k among. omega (arith, ready.below k among, grown.same_count)) here g.extended;
+          };
+          same_recipe = recipe;
+          ends = last ∙ sym is;
+          extended = extended;
+          covering = (joins path.last (number_of cell need) (λ i j from into. g.joined.grown.kept i j (h.joined i j (Contains-at (path.last ∷ []) 0 (Some i) (ap (λ (o : Option ℕ). Some o) from)) (sym is ∙ into))), tt);
+          pairing = λ needs kept final later paired.
+              ArePaired-push final needs (number_of cell need) paired
+              (λ i j among into. later i j (g.joined.joined i j (subst (λ (o : Option (List (Option ℕ))). Contains (needs_in o) (Some i)) (sym kept) among) (sym is ∙ into)));
         };
-        same_recipe = recipe;
-        ends = last ∙ sym is;
-        extended = extended;
-        covering = (joins path.last (number_of cell need) (λ i j from into. g.joined.grown.kept i j (h.joined i j (Contains-at (path.last ∷ []) 0 (Some i) (ap (λ (o : Option ℕ). Some o) from)) (sym is ∙ into))), tt);
-        pairing = λ needs kept final later paired.
-            ArePaired-push final needs (number_of cell need) paired
-            (λ i j among into. later i j (g.joined.joined i j (subst (λ (o : Option (List (Option ℕ))). Contains (needs_in o) (Some i)) (sym kept) among) (sym is ∙ into)));
         standing = λ above of edge stands. elim (g.joined.only edge stands) [
           | inr new ↦ inr (new.recipe_is, new.node_is, IsAmong-next cell above need edge (earlier_above cell above path edge.earlier of (inr new.earlier_is)) (is ∙ new.later_is))
           | inl known ↦ elim (h.only edge known) [
@@ -240,43 +302,14 @@ module _ (cell : Cell) (path : Path) (node : ℕ) where
       joins (Some i) None f = tt
       joins (Some i) (Some j) f = f i j refl refl
 
-  pub HasAsked-none : (edges : EdgeSet) → IsReady cell path edges → HasAsked cell path node [] edges edges path
-  HasAsked-none edges ready = record {
-    grown = Grows-same edges;
-    ready = ready;
-    same_recipe = refl;
-    ends = refl;
-    extended = items_none (kept_by path);
-    covering = tt;
-    pairing = λ needs kept final later paired. subst (λ (ns : List (Option ℕ)). ArePaired final ns) (sym (append-nil needs)) paired;
-    standing = λ above of edge stands. inl stands;
-  }
-
   pub HasAsked-append : (xs ys : List Name) (old mid new : EdgeSet) (at next : Path) → HasAsked cell path node xs old mid at → HasAsked cell at node ys mid new next
       → HasAsked cell path node (xs ++ ys) old new next
   HasAsked-append xs ys old mid new at next h g = record {
     grown = Grows-twice old mid new h.grown g.grown;
-    ready = g.ready;
-    same_recipe = g.same_recipe ∙ h.same_recipe;
-    ends = g.ends ∙ (ap (λ o. last_number o (numbers_of cell ys)) h.ends ∙ sym (last-append cell path.last xs ys));
-    extended =
-        g.extended ∙ (ap (option_map (λ (ns : List (Option ℕ)). ns ++ numbers_of cell ys)) h.extended
-        ∙ (items_assoc (kept_by path) (numbers_of cell xs) (numbers_of cell ys)
-        ∙ ap (λ (own : List (Option ℕ)). option_map (λ (ns : List (Option ℕ)). ns ++ own) (kept_by path)) (sym (numbers-append cell xs ys))));
-    covering = subst (λ (ns : List (Option ℕ)). Follows new.edges.items path.last ns) (sym (numbers-append cell xs ys))
-        (Follows-append new.edges.items path.last (numbers_of cell xs) (numbers_of cell ys)
-        (Follows-keeps mid.edges.items new.edges.items g.grown.kept path.last (numbers_of cell xs) h.covering)
-        (subst (λ o. Follows new.edges.items o (numbers_of cell ys)) h.ends g.covering));
-    pairing = λ needs kept final later paired.
-        let first : ArePaired final (needs ++ numbers_of cell xs) = h.pairing needs kept final (λ i j known. later i j (g.grown.kept i j known)) paired in
-        let at_kept : kept_by at ≡ Some (needs ++ numbers_of cell xs) = h.extended ∙ ap (option_map (λ (ns : List (Option ℕ)). ns ++ numbers_of cell xs)) kept in
-        subst (λ (ns : List (Option ℕ)). ArePaired final ns)
-        (append_assoc needs (numbers_of cell xs) (numbers_of cell ys) ∙ ap (λ (own : List (Option ℕ)). needs ++ own) (sym (numbers-append cell xs ys)))
-        (g.pairing (needs ++ numbers_of cell xs) at_kept final later first);
+    further = GoesOn-append cell path xs ys new at next (GoesOn-grown cell path xs mid new at g.grown h.further) g.further;
     standing = λ above of edge stands.
-        let of_at : IsPathOf cell (above ++ xs) at = IsPathOf-append cell above xs path at h.ends h.extended of in
-        elim (g.standing (above ++ xs) of_at edge stands) [
-          | inr new ↦ inr (new.0 ∙ h.same_recipe, new.1, IsAmong-after cell above xs ys edge new.2)
+        elim (g.standing (above ++ xs) (IsPathOf-append cell above xs path at mid h.further of) edge stands) [
+          | inr new ↦ inr (new.0 ∙ h.further.same_recipe, new.1, IsAmong-after cell above xs ys edge new.2)
           | inl before ↦ elim (h.standing above of edge before) [
             | inl old ↦ inl old
             | inr new ↦ inr (new.0, new.1, IsAmong-more cell above xs ys edge new.2)
@@ -285,25 +318,24 @@ module _ (cell : Cell) (path : Path) (node : ℕ) where
   }
 
   -- a path goes on as its copy does
-  pub IsReady-copy : (copy : Path) (edges : EdgeSet) → IsCopy path copy → IsReady cell path edges → IsReady cell copy edges
-  IsReady-copy copy edges same ready = record {
-    sized = ready.sized;
-    within = λ k is. ready.within k (sym same.same_last ∙ is);
-    below = λ k among. ready.below k (subst (λ (o : Option (List (Option ℕ))). Contains (needs_in o) (Some k)) same.same_kept among);
-  }
-
   pub HasAsked-copy : (copy : Path) (own : List Name) (old new : EdgeSet) (next : Path) → IsCopy path copy → HasAsked cell copy node own old new next → HasAsked cell path node own old new next
   HasAsked-copy copy own old new next same h = record {
     grown = h.grown;
-    ready = h.ready;
-    same_recipe = h.same_recipe ∙ same.same_recipe;
-    ends = h.ends ∙ ap (λ o. last_number o (numbers_of cell own)) same.same_last;
-    extended = h.extended ∙ ap (option_map (λ (ns : List (Option ℕ)). ns ++ numbers_of cell own)) same.same_kept;
-    covering = subst (λ o. Follows new.edges.items o (numbers_of cell own)) same.same_last h.covering;
-    pairing = λ needs kept final later paired. h.pairing needs (same.same_kept ∙ kept) final later paired;
+    further = record {
+      ready = h.further.ready;
+      same_recipe = h.further.same_recipe ∙ same.same_recipe;
+      ends = h.further.ends ∙ ap (λ o. last_number o (numbers_of cell own)) same.same_last;
+      extended = h.further.extended ∙ ap (option_map (λ (ns : List (Option ℕ)). ns ++ numbers_of cell own)) same.same_kept;
+      covering = subst (λ o. Follows new.edges.items o (numbers_of cell own)) same.same_last h.further.covering;
+      pairing = λ needs kept final later paired. h.further.pairing needs (same.same_kept ∙ kept) final later paired;
+    };
     standing = λ above of edge stands.
         elim (h.standing above (record { ends = of.ends ∙ sym same.same_last; kept = λ needs is. of.kept needs (sym same.same_kept ∙ is) }) edge stands) [
           | inl known ↦ inl known
           | inr new ↦ inr (new.0 ∙ same.same_recipe, new.1, new.2)
         ];
   }
+
+  -- at a node that asks for nothing
+  pub HasAsked-copied : (copy : Path) (edges : EdgeSet) → IsReady cell path edges → IsCopy path copy → HasAsked cell path node [] edges edges copy
+  HasAsked-copied copy edges ready same = record { grown = Grows-same edges; further = GoesOn-copied cell path copy edges ready same; standing = λ above of edge stands. inl stands }

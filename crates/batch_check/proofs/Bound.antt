@@ -16,7 +16,8 @@ use Rattle.batch_verify.specs.Refusals.{IsTried}
 use Rattle.batch_verify.proofs.Bound.{numbered_bindings_suffice}
 use Rattle.batch_check.proofs.Rising.{Each-get, nodes-Each, parts_hold}
 
-each_at : {X : Type 0} (P : X → Type 0) (xs : List X) → ((i : ℕ) (x : X) → slice_get xs i ≡ Some x → P x) → Each P xs
+-- what holds at each number holds of all
+pub each_at : {X : Type 0} (P : X → Type 0) (xs : List X) → ((i : ℕ) (x : X) → slice_get xs i ≡ Some x → P x) → Each P xs
 each_at P [] f = tt
 each_at P (x ∷ xs) f = (f 0 x refl, each_at P xs (λ i y is. f (suc i) y is))
 

@@ -1,197 +1,188 @@
--- The edges of nodes, one node after another.
-use Rattle.std.proofs.Common.{◌≡◌, ℕ, ◌+◌, ◌<◌, inl, inr, List, [], ◌∷◌, ◌++◌, length, Option, Some, None, option_map, Result, Ok, Err, IfOk, refl, sym, ap, ◌∙◌, subst, arith, length-append, append-nil}
+-- The paths to the nodes of a recipe, and the edges along them, by number.
+use Rattle.std.proofs.Common.{◌≡◌, ◌⊎◌, ℕ, ◌+◌, ◌<◌, ◌≤◌, List, [], ◌∷◌, ◌++◌, length, Option, Some, None, slice_get, get_or, sym, ap, ◌∙◌, refl, subst, arith, inl, inr, length-append}
+use Rattle.std.specs.List.{Contains}
+use Rattle.std.proofs.lemmas.Bool.{cases_lt}
+use Rattle.std.proofs.lemmas.List.{get_or_append_left, get_or-append-add, get_or_past, length-map}
+use Rattle.std.proofs.lemmas.Option.{slice_get_within}
+use Rattle.batch_cell.specs.LookUps.{resources_of as cell_resources}
 use Rattle.batch_cell.specs.declared.cell.Cell.{Cell}
 use Rattle.batch_recipe.specs.Conditions.{Name}
-use Rattle.batch_recipe.specs.Tree.{Place, Tree}
-use Rattle.batch_recipe.specs.Nodes.{Node, node, needs_of}
-use Rattle.batch_model.proofs.Members.{Each-append}
+use Rattle.batch_recipe.specs.Expanding.{Binding}
+use Rattle.batch_recipe.specs.Growing.{entries_of}
+use Rattle.batch_recipe.specs.Links.{IsEntryOf, IsFirst, Hangs, asked_at}
+use Rattle.batch_recipe.specs.Needs.{resources_of}
+use Rattle.batch_recipe.specs.Nodes.{Node, needs_of}
+use Rattle.batch_recipe.specs.Outlines.{act_of, shape_of}
+use Rattle.batch_recipe.specs.Procedure.{bound_nodes}
+use Rattle.batch_recipe.specs.declared.entry.Entry.{Entry}
+use Rattle.batch_recipe.specs.declared.recipe.Recipe.{Recipe}
+use Rattle.batch_recipe.proofs.Asking.{own_needs}
+use Rattle.batch_recipe.proofs.Climbing.{entry_in}
+use Rattle.batch_recipe.proofs.Linking.{as_many_entries}
+use Rattle.batch_recipe.proofs.Shaping.{is_outline}
 use Rattle.batch_check.specs.declared.edge.Edge.{Edge}
 use Rattle.batch_check.specs.declared.edge_set.EdgeSet.{EdgeSet}
 use Rattle.batch_check.specs.declared.path.Path.{Path}
-use Rattle.batch_check.specs.Edges.{numbers_of, Follows, Covers}
-use Rattle.batch_check.specs.Pairs.{ArePaired, Keeps}
-use Rattle.batch_check.specs.Collecting.{HasAsked, IsPairedTo, IsPathOf, PairsAll, StandsAmong, IsCollected}
-use Rattle.batch_check.proofs.Asking.{EndsIn-append, Follows-append, Follows-keeps, IsPathOf-append, numbers-append}
-use Rattle.batch_check.proofs.Joins.{slice_get-left, slice_get-right}
-use Rattle.batch_recipe.specs.Needs.{resources_of}
-use Rattle.std.proofs.lemmas.List.{length-map}
+use Rattle.batch_check.specs.declared.path.Reach.{Reach}
+use Rattle.batch_check.specs.declared.path.Reach.TheVariants.{Next, Whole}
+use Rattle.batch_check.specs.Edges.{Covers, Follows, numbers_of}
+use Rattle.batch_check.specs.Joining.{Grows, needs_in}
+use Rattle.batch_check.specs.Collecting.{GoesOn, HasAsked, IsAmong, IsCollected, IsPathOf, IsReady, PairsAll, StandsAmong, kept_at_top, kept_by}
+use Rattle.batch_check.proofs.Asking.{Follows-keeps, GoesOn-append, GoesOn-grown, GoesOn-none, IsPathOf-append}
+use Rattle.batch_check.proofs.Bound.{each_at}
+use Rattle.batch_check.proofs.Joins.{Contains-none, Grows-same, Grows-twice}
 
-module _ (cell : Cell) where
-  standing_left : (recipe first : ℕ) (xs ys : List Node) (edge : Edge) → StandsAmong cell recipe first xs edge → StandsAmong cell recipe first (xs ++ ys) edge
-  standing_left recipe first xs ys edge h = record {
-    recipe_is = h.recipe_is;
-    index = h.index;
-    node_is = h.node_is;
-    node = h.node;
-    numbered = slice_get-left xs ys h.index h.node h.numbered;
-    asked = h.asked;
+-- no need was asked for above all nodes
+pub record IsTop (recipe : ℕ) (kept : Option (List (Option ℕ))) (top : Path) : Type 0 where
+  pub recipe_is : top.recipe ≡ recipe
+  pub last_is : top.last ≡ None
+  pub kept_is : kept_by top ≡ kept
+  pub empty : (kept ≡ None) ⊎ (kept ≡ Some [])
+
+pub top_of : (recipe : ℕ) (reach : Reach) (top : Path) → top.recipe ≡ recipe → top.last ≡ None → kept_by top ≡ kept_at_top reach → IsTop recipe (kept_at_top reach) top
+top_of recipe reach top recipe_is last_is kept_is = record { recipe_is = recipe_is; last_is = last_is; kept_is = kept_is; empty = nothing reach }
+  where
+    nothing : (reach : Reach) → (kept_at_top reach ≡ None) ⊎ (kept_at_top reach ≡ Some [])
+    nothing Next = inl refl
+    nothing Whole = inr refl
+
+-- the edges of the first nodes were collected, on the paths to them
+pub record KeepsPaths (cell : Cell) (top : Path) (nodes : List Node) (old edges : EdgeSet) (paths : List Path) (count : ℕ) : Type 0 where
+  pub as_many : length paths ≡ count
+  pub grown : Grows old edges
+  pub along : (k : ℕ) (x : Node) → slice_get nodes k ≡ Some x → k < length paths → GoesOn cell top x.asked edges (get_or paths k top)
+  pub standing : (edge : Edge) → Contains edges.edges.items edge → Contains old.edges.items edge ⊎ StandsAmong cell top.recipe nodes edge
+
+module _ (cell : Cell) (number : ℕ) (kept : Option (List (Option ℕ))) (top : Path) (is_top : IsTop number kept top) where
+  no_needs : (needs : List (Option ℕ)) → kept_by top ≡ Some needs → needs ≡ []
+  no_needs needs is = go kept is_top.empty (sym is_top.kept_is ∙ is)
+    where
+      go : (o : Option (List (Option ℕ))) → (o ≡ None) ⊎ (o ≡ Some []) → o ≡ Some needs → needs ≡ []
+      go o (inl none) at = let bad : None ≡ Some needs = sym none ∙ at in absurd cc
+      go o (inr empty) at = let e : Some needs ≡ Some [] = sym at ∙ empty in cc
+
+  above_all : IsPathOf cell [] top
+  above_all = record { ends = sym is_top.last_is; kept = no_needs }
+
+  top_is_ready : (edges : EdgeSet) → edges.count ≡ length (cell_resources cell) → IsReady cell top edges
+  top_is_ready edges sized = record {
+    sized = sized;
+    within = λ k is. let bad : None ≡ Some k = sym is_top.last_is ∙ is in absurd cc;
+    below = λ k among. absurd (Contains-none (Some k) (subst (λ (ns : List (Option ℕ)). Contains ns (Some k)) (none_in (kept_by top) no_needs) among));
   }
+    where
+      none_in : (o : Option (List (Option ℕ))) → ((needs : List (Option ℕ)) → o ≡ Some needs → needs ≡ []) → needs_in o ≡ []
+      none_in None h = refl
+      none_in (Some needs) h = h needs refl
 
-  standing_right : (recipe first : ℕ) (xs ys : List Node) (edge : Edge) → StandsAmong cell recipe (first + length xs) ys edge → StandsAmong cell recipe first (xs ++ ys) edge
-  standing_right recipe first xs ys edge h = record {
-    recipe_is = h.recipe_is;
-    index = length xs + h.index;
-    node_is = omega (arith, h.node_is);
-    node = h.node;
-    numbered = slice_get-right xs ys h.index ∙ h.numbered;
-    asked = h.asked;
-  }
+  module _ (recipe : Recipe) (bound : Binding) (old : EdgeSet) (sized : old.count ≡ length (cell_resources cell)) where
+    abbrev ns : List Node
+    ns = bound_nodes bound recipe.acts
 
-  module _ (path : Path) (above : List Name) where
-    -- nodes after others
-    pub collected-append : (first mid next : ℕ) (xs ys : List Node) (old half new : List Edge)
-        → IsCollected cell path first above xs old half mid → Keeps half new → IsCollected cell path mid above ys half new next
-        → IsCollected cell path first above (xs ++ ys) old new next
-    collected-append first mid next xs ys old half new h keeps g = record {
-      next_is = λ room.
-          let all = length-append xs ys in
-          let at_mid : mid ≡ first + length xs = h.next_is (omega arith) in
-          let at_next : next ≡ mid + length ys = g.next_is (omega arith) in
-          omega arith;
-      standing = λ of room edge stands.
-          let all = length-append xs ys in
-          let at_mid : mid ≡ first + length xs = h.next_is (omega arith) in
-          elim (g.standing of (omega arith) edge stands) [
-            | inr here ↦ inr (standing_right path.recipe first xs ys edge (subst (λ n. StandsAmong cell path.recipe n ys edge) at_mid here))
-            | inl before ↦ elim (h.standing of (omega arith) edge before) [
-              | inl known ↦ inl known
-              | inr here ↦ inr (standing_left path.recipe first xs ys edge here)
-            ]
+    as_many_nodes : length recipe.outline.entries.items ≡ length ns
+    as_many_nodes = ap length recipe.outlined ∙ as_many_entries recipe.acts (entries_of recipe.acts) (is_outline recipe.acts) bound
+
+    pub KeepsPaths-first : KeepsPaths cell top ns old old [] 0
+    KeepsPaths-first = record { as_many = refl; grown = Grows-same old; along = λ k x at past. absurd (omega (arith, past)); standing = λ edge stands. inl stands }
+
+    module _ (edges : EdgeSet) (paths : List Path) (count : ℕ) (h : KeepsPaths cell top ns old edges paths count) where
+      module _ (e : Entry) (is : slice_get recipe.outline.entries.items count ≡ Some e) where
+        abbrev it : IsEntryOf ns count e
+        it = entry_in recipe bound count e is
+
+        -- what the node asks for itself
+        abbrev own : List Name
+        own = resources_of (asked_at bound (act_of recipe.acts e.kind))
+
+        own_is : resources_of (needs_of it.at.here) ≡ own
+        own_is = ap resources_of (own_needs recipe bound count e it.at is it.numbered)
+
+        -- the path above it
+        abbrev above : Path
+        above = get_or paths e.parent top
+
+        pub record IsAbove : Type 0 where
+          pub asked : List Name
+          pub further : GoesOn cell top asked edges above
+          pub asks : it.at.asked ≡ asked ++ own
+
+        pub is_above : IsAbove
+        is_above = go it.hangs
+          where
+            go : IsFirst count it.at (shape_of e) ⊎ Hangs ns count it.at (shape_of e) → IsAbove
+            go (inl first) = record {
+              asked = [];
+              further = subst (λ (path : Path). GoesOn cell top [] edges path) (sym (get_or_past paths e.parent top (omega (arith, h.as_many, first.number))))
+                  (GoesOn-none cell top edges (top_is_ready edges (h.grown.same_count ∙ sized)));
+              asks = first.asks ∙ own_is;
+            }
+            go (inr hangs) = record {
+              asked = hangs.above.asked;
+              further = h.along e.parent hangs.above hangs.known (omega (arith, h.as_many, hangs.earlier));
+              asks = hangs.asks ∙ ap (λ (names : List Name). hangs.above.asked ++ names) own_is;
+            }
+
+        pub KeepsPaths-more : (next : Path) (new : EdgeSet) → HasAsked cell above count own edges new next
+            → KeepsPaths cell top ns old new (paths ++ next ∷ []) (count + 1)
+        KeepsPaths-more next new asked = record {
+          as_many = omega (arith, length-append paths (next ∷ []), h.as_many);
+          grown = Grows-twice old edges new h.grown asked.grown;
+          along = λ k x at below. path_to k x at (cases_lt k count) (omega (arith, below, length-append paths (next ∷ []), h.as_many));
+          standing = λ edge stands. elim (asked.standing is_above.asked (IsPathOf-append cell [] is_above.asked top above edges is_above.further above_all) edge stands) [
+            | inl known ↦ h.standing edge known
+            | inr here ↦ inr (stands_here edge (here.0 ∙ is_above.further.same_recipe) here.1 here.2)
           ];
-      covering = λ final later to.
-          Each-append (Covers cell final) xs ys (h.covering final (λ i j known. later i j (keeps i j known)) to) (g.covering final later to);
-      pairing = λ final later to.
-          Each-append (PairsAll cell final) xs ys (h.pairing final (λ i j known. later i j (keeps i j known)) to) (g.pairing final later to);
-    }
+        }
+          where
+            node_is : (a b : Node) → Some a ≡ Some b → a ≡ b
+            node_is a b same = cc
 
-    -- no nodes
-    pub collected-none : (first : ℕ) (edges : List Edge) → IsCollected cell path first above [] edges edges first
-    collected-none first edges = record {
-      next_is = λ room. omega arith;
-      standing = λ of room edge stands. inl stands;
-      covering = λ final later to. tt;
-      pairing = λ final later to. tt;
-    }
+            path_to : (k : ℕ) (x : Node) → slice_get ns k ≡ Some x → (k < count) ⊎ (count ≤ k) → k ≤ count → GoesOn cell top x.asked new (get_or (paths ++ next ∷ []) k top)
+            path_to k x at (inl before) below =
+                subst (λ (path : Path). GoesOn cell top x.asked new path) (sym (get_or_append_left paths (next ∷ []) top k (omega (arith, h.as_many, before))))
+                (GoesOn-grown cell top x.asked edges new (get_or paths k top) asked.grown (h.along k x at (omega (arith, h.as_many, before))))
+            path_to k x at (inr past) below =
+                let last : k ≡ length paths + 0 = omega (arith, past, below, h.as_many) in
+                let same : count ≡ k = omega (arith, past, below) in
+                let found : it.at ≡ x = node_is it.at x (sym it.numbered ∙ (ap (slice_get ns) same ∙ at)) in
+                let is_next : get_or (paths ++ next ∷ []) k top ≡ next = ap (λ i. get_or (paths ++ next ∷ []) i top) last ∙ get_or-append-add paths (next ∷ []) 0 top in
+                subst (λ (path : Path). GoesOn cell top x.asked new path) (sym is_next)
+                (subst (λ (names : List Name). GoesOn cell top names new next) (sym is_above.asks ∙ ap (λ (y : Node). y.asked) found)
+                (GoesOn-append cell top is_above.asked own new above next (GoesOn-grown cell top is_above.asked edges new above asked.grown is_above.further) asked.further))
 
-    -- what is paired above a node without needs is paired on its path
-    bare_paired : (own : List Name) (final : List Edge) → own ≡ [] → IsPairedTo cell final above path → ArePaired final (numbers_of cell (above ++ own))
-    bare_paired own final bare to =
-        subst (λ (ns : List Name). ArePaired final (numbers_of cell ns)) (sym (ap (λ (ns : List Name). above ++ ns) bare ∙ append-nil above)) to.paired
-
-    -- a node that is no act
-    pub collected-bare : (first next : ℕ) (place : Place) (t : Tree) (edges : List Edge) → resources_of (needs_of t) ≡ [] → (first + 1 < 65536 → next ≡ first + 1)
-        → IsCollected cell path first above (node place above t ∷ []) edges edges next
-    collected-bare first next place t edges bare next_is = record {
-      next_is = λ room. next_is room;
-      standing = λ of room edge stands. inl stands;
-      covering = λ final later to.
-          (subst (λ (ns : List Name). Follows final None (numbers_of cell ns)) (sym (ap (λ (ns : List Name). above ++ ns) bare ∙ append-nil above)) to.covered, tt);
-      pairing = λ final later to. (bare_paired (resources_of (needs_of t)) final bare to, tt);
-    }
-
-    -- a node that is no act, and those below it
-    pub collected-under : (first mid next : ℕ) (place : Place) (t : Tree) (ns : List Node) (old new : List Edge) → resources_of (needs_of t) ≡ [] → (first + 1 < 65536 → mid ≡ first + 1)
-        → IsCollected cell path mid above ns old new next → IsCollected cell path first above (node place above t ∷ ns) old new next
-    collected-under first mid next place t ns old new bare mid_is g = record {
-      next_is = λ room.
-          let at_mid : mid ≡ first + 1 = mid_is (omega arith) in
-          let at_next : next ≡ mid + length ns = g.next_is (omega arith) in
-          omega arith;
-      standing = λ of room edge stands.
-          let at_mid : mid ≡ first + 1 = mid_is (omega arith) in
-          elim (g.standing of (omega arith) edge stands) [
-            | inl known ↦ inl known
-            | inr here ↦ inr (standing_right path.recipe first (node place above t ∷ []) ns edge (subst (λ n. StandsAmong cell path.recipe n ns edge) at_mid here))
-          ];
-      covering = λ final later to. (
-        subst (λ (own : List Name). Follows final None (numbers_of cell own)) (sym (ap (λ (own : List Name). above ++ own) bare ∙ append-nil above)) to.covered,
-        g.covering final later to,
-      );
-      pairing = λ final later to. (bare_paired (resources_of (needs_of t)) final bare to, g.pairing final later to);
-    }
-
-    -- the node of an act that has asked for its needs
-    module _ (first : ℕ) (place : Place) (t : Tree) (old new : EdgeSet) (within : Path) (h : HasAsked cell path first (resources_of (needs_of t)) old new within) where
-      -- the path within is paired where that above is
-      paired_below : (final : List Edge) → Keeps new.edges.items final → IsPairedTo cell final above path → IsPairedTo cell final (above ++ resources_of (needs_of t)) within
-      paired_below final later to = record {
-        paired = subst (λ (ns : List (Option ℕ)). ArePaired final ns) (sym (numbers-append cell above (resources_of (needs_of t))))
-            (h.pairing (numbers_of cell above) to.kept final later to.paired);
-        kept =
-            h.extended ∙ (ap (option_map (λ (ns : List (Option ℕ)). ns ++ numbers_of cell (resources_of (needs_of t)))) to.kept
-            ∙ ap (λ (ns : List (Option ℕ)). Some ns) (sym (numbers-append cell above (resources_of (needs_of t)))));
-      }
-
-      pub collected-act : (next : ℕ) → (first + 1 < 65536 → next ≡ first + 1) → IsCollected cell path first above (node place above t ∷ []) old.edges.items new.edges.items next
-      collected-act next next_is = record {
-        next_is = λ room. next_is room;
-        standing = λ of room edge stands. elim (h.standing above of edge stands) [
-          | inl known ↦ inl known
-          | inr own ↦ inr (record {
-            recipe_is = own.0;
-            index = 0;
-            node_is = omega (arith, own.1);
-            node = node place above t;
-            numbered = refl;
-            asked = record {
-              earlier_name = own.2.earlier_name;
-              later_name = own.2.later_name;
-              earlier_named = own.2.earlier_named;
-              later_named = own.2.later_named;
+            stands_here : (edge : Edge) → edge.recipe ≡ top.recipe → edge.node ≡ count → IsAmong cell is_above.asked own edge → StandsAmong cell top.recipe ns edge
+            stands_here edge recipe_is node_is among = record {
+              recipe_is = recipe_is;
+              node = it.at;
+              numbered = ap (slice_get ns) node_is ∙ it.numbered;
               asked = record {
-                before = own.2.before;
-                own = own.2.place;
-                ordered = own.2.ordered;
-                among_own = omega (arith, own.2.among_own, length-append above (resources_of (needs_of t)), length-map (needs_of t) (λ n. n.resource));
-                earlier_is = own.2.earlier_is;
-                later_is = own.2.later_is;
+                earlier_name = among.earlier_name;
+                later_name = among.later_name;
+                earlier_named = among.earlier_named;
+                later_named = among.later_named;
+                asked = record {
+                  before = among.before;
+                  own = among.place;
+                  ordered = among.ordered;
+                  among_own = omega (arith, among.among_own, ap length is_above.asks, length-append is_above.asked own, ap length own_is, length-map (needs_of it.at.here) (λ n. n.resource));
+                  earlier_is = ap (λ (names : List Name). slice_get names among.before) is_above.asks ∙ among.earlier_is;
+                  later_is = ap (λ (names : List Name). slice_get names among.place) is_above.asks ∙ among.later_is;
+                };
               };
-            };
-          })
-        ];
-        covering = λ final later to. (
-          subst (λ (ns : List (Option ℕ)). Follows final None ns) (sym (numbers-append cell above (resources_of (needs_of t))))
-              (Follows-append final None (numbers_of cell above) (numbers_of cell (resources_of (needs_of t))) to.covered
-              (subst (λ o. Follows final o (numbers_of cell (resources_of (needs_of t)))) (sym to.ends)
-              (Follows-keeps new.edges.items final later path.last (numbers_of cell (resources_of (needs_of t))) h.covering))),
-          tt,
-        );
-        pairing = λ final later to. ((paired_below final later to).paired, tt);
+            }
+
+      -- the edges of all nodes
+      pub all_collected : length recipe.outline.entries.items ≤ count → IsCollected cell kept number ns old edges
+      all_collected past = record {
+        grown = h.grown;
+        standing = λ edge stands. subst (λ n. Contains old.edges.items edge ⊎ StandsAmong cell n ns edge) is_top.recipe_is (h.standing edge stands);
+        covering = λ final later. each_at (Covers cell final) ns (λ k x at.
+            subst (λ o. Follows final o (numbers_of cell x.asked)) is_top.last_is
+            (Follows-keeps edges.edges.items final later top.last (numbers_of cell x.asked) (path_of k x at).covering));
+        pairing = λ whole final later. each_at (PairsAll cell final) ns (λ k x at.
+            (path_of k x at).pairing [] (is_top.kept_is ∙ whole) final later
+            (λ before place i j ordered at_before at_place. let bad : None ≡ Some (Some i) = at_before in absurd cc));
       }
-
-      -- what is below it, seen from above
-      pub collected-below : (n after : ℕ) (ns : List Node) (final : List Edge) → Keeps new.edges.items final
-          → IsCollected cell within n (above ++ resources_of (needs_of t)) ns new.edges.items final after → IsCollected cell path n above ns new.edges.items final after
-      collected-below n after ns final grown g = record {
-        next_is = g.next_is;
-        standing = λ of room edge stands.
-            let below : IsPathOf cell (above ++ resources_of (needs_of t)) within = IsPathOf-append cell above (resources_of (needs_of t)) path within h.ends h.extended of in
-            elim (g.standing below room edge stands) [
-              | inl known ↦ inl known
-              | inr here ↦ inr (subst (λ r. StandsAmong cell r n ns edge) h.same_recipe here)
-            ];
-        covering = λ last later to.
-            g.covering last later (record {
-              covered =
-                  subst (λ (ns : List (Option ℕ)). Follows last None ns) (sym (numbers-append cell above (resources_of (needs_of t))))
-                  (Follows-append last None (numbers_of cell above) (numbers_of cell (resources_of (needs_of t))) to.covered
-                  (subst (λ o. Follows last o (numbers_of cell (resources_of (needs_of t)))) (sym to.ends)
-                  (Follows-keeps new.edges.items last (λ i j known. later i j (grown i j known)) path.last (numbers_of cell (resources_of (needs_of t))) h.covering)));
-              ends = EndsIn-append cell above (resources_of (needs_of t)) path.last to.ends ∙ sym h.ends;
-            });
-        pairing = λ last later to. g.pairing last later (paired_below last (λ i j known. later i j (grown i j known)) to);
-      }
-
-      pub collected-within : (mid after : ℕ) (ns : List Node) (final : List Edge) → (first + 1 < 65536 → mid ≡ first + 1) → Keeps new.edges.items final
-          → IsCollected cell within mid (above ++ resources_of (needs_of t)) ns new.edges.items final after
-          → IsCollected cell path first above (node place above t ∷ ns) old.edges.items final after
-      collected-within mid after ns final mid_is grown g =
-          collected-append first mid after (node place above t ∷ []) ns old.edges.items new.edges.items final (collected-act mid mid_is) grown (collected-below mid after ns final grown g)
-
-pub IfOk-map : {A E : Type 0} (r : Result A E) (P Q : A → Type 0) → ((x : A) → P x → Q x) → IfOk r P → IfOk r Q
-IfOk-map (Ok x) P Q f h = f x h
-IfOk-map (Err e) P Q f h = tt
-
-pub IfOk-both : {A E : Type 0} (r : Result A E) (P Q R : A → Type 0) → ((x : A) → P x → Q x → R x) → IfOk r P → IfOk r Q → IfOk r R
-IfOk-both (Ok x) P Q R f h g = f x h g
-IfOk-both (Err e) P Q R f h g = tt
+        where
+          path_of : (k : ℕ) (x : Node) → slice_get ns k ≡ Some x → GoesOn cell top x.asked edges (get_or paths k top)
+          path_of k x at = h.along k x at (omega (arith, slice_get_within ns k x at, past, h.as_many, as_many_nodes))

@@ -9,7 +9,6 @@ pub mod Pairs
 pub mod Joins
 pub mod Asking
 pub mod Collects
-pub mod Branches
 pub mod Known
 pub mod Rising
 pub mod Bound

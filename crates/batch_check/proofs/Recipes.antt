@@ -2,44 +2,31 @@
 use Rattle.std.proofs.Common.{◌≡◌, ℕ, ◌+◌, ◌<◌, ◌≤◌, ◌⊎◌, inl, inr, refl, List, [], ◌∷◌, ◌++◌, get_or, take, length, slice_get, IsTrue, Option, Some, None, option_map, All, sym, ap, ◌∙◌, subst, arith}
 use Rattle.std.specs.List.{Contains}
 use Rattle.std.proofs.lemmas.Bool.{cases_lt}
-use Rattle.std.proofs.lemmas.List.{length-map, take_more}
+use Rattle.std.proofs.lemmas.List.{take_more}
 use Rattle.std.proofs.lemmas.List.Elements.{All-weaker, All-contains, Contains-get_or}
 use Rattle.std.proofs.lemmas.Option.{slice_get_within, slice_get-get_or, slice_get-map}
 use Rattle.batch_cell.specs.LookUps.{resources_of}
 use Rattle.batch_cell.specs.declared.cell.Cell.{Cell}
-use Rattle.batch_recipe.proofs.Bindings.{places_stay}
 use Rattle.batch_recipe.specs.Conditions.{Name}
-use Rattle.batch_recipe.specs.Expanding.{Binding}
 use Rattle.batch_recipe.specs.Nodes.{Node}
-use Rattle.batch_recipe.specs.Procedure.{bound_nodes, procedure_nodes}
-use Rattle.batch_recipe.specs.Tree.{Place}
+use Rattle.batch_recipe.specs.Procedure.{bound_nodes}
 use Rattle.batch_recipe.specs.declared.recipe.Recipe.{Recipe}
 use Rattle.batch_model.specs.Lists.{Each}
 use Rattle.batch_model.proofs.Members.{Each-append, Each-map}
 use Rattle.batch_check.specs.declared.edge.Edge.{Edge}
 use Rattle.batch_check.specs.declared.edge_set.EdgeSet.{EdgeSet}
-use Rattle.batch_check.specs.declared.path.Path.{Path}
-use Rattle.batch_check.specs.declared.path.Reach.{Reach}
-use Rattle.batch_check.specs.declared.path.Reach.TheVariants.{Next, Whole}
 use Rattle.batch_verify.specs.Bindings.{binding_count, numbered}
 use Rattle.batch_verify.proofs.Tried.{numbered-tried}
 use Rattle.batch_check.specs.Edges.{OfNodes, Stands, Covers, CoversRecipes, Follows, AreEdgesOf, has_pair, number_of, numbers_of}
 use Rattle.batch_check.specs.LeastRanking.{IsWithin}
 use Rattle.batch_check.specs.Pairs.{ArePaired, Keeps}
-use Rattle.batch_check.specs.Joining.{Grows, HasTaken, needs_in}
-use Rattle.batch_check.specs.Collecting.{AreAdded, HasAllPairs, IsReady, IsCollected, IsAdded, PairsAll, PairsRecipe, kept_at_top, kept_by}
+use Rattle.batch_check.specs.Joining.{Grows, HasTaken}
+use Rattle.batch_check.specs.Collecting.{AreAdded, HasAllPairs, IsCollected, IsAdded, PairsAll, PairsRecipe}
 use Rattle.batch_check.proofs.Asking.{Follows-keeps}
 use Rattle.batch_check.proofs.Bound.{bindings_suffice}
 use Rattle.batch_check.proofs.Joins.{Contains-none, Grows-same, Grows-twice}
 use Rattle.batch_check.proofs.Names.{number_of_own}
 use Rattle.batch_check.proofs.Rising.{Each-get}
-
--- as many nodes as where no unit takes any role
-same_length : (cell : Cell) (recipe : Recipe) (index : ℕ) → length (bound_nodes (numbered cell recipe.roles.items index) recipe.acts) ≡ length (procedure_nodes recipe.acts)
-same_length cell recipe index =
-    let place_of : Node → Place = λ n. n.place in
-    let bound : Binding = numbered cell recipe.roles.items index in
-    sym (length-map (bound_nodes bound recipe.acts) place_of) ∙ (ap length (places_stay bound recipe.acts) ∙ length-map (procedure_nodes recipe.acts) place_of)
 
 covers_more : (cell : Cell) (old new : List Edge) → Keeps old new → (recipes : List Recipe) → CoversRecipes cell recipes old → CoversRecipes cell recipes new
 covers_more cell old new keeps [] h = tt
@@ -140,14 +127,8 @@ nodes_by cell recipe k = bound_nodes (numbered cell recipe.roles.items k) recipe
 pub record KeepsBindings (cell : Cell) (kept : Option (List (Option ℕ))) (recipe : Recipe) (number : ℕ) (old set : EdgeSet) (index : ℕ) : Type 0 where
   pub grown : Grows old set
   pub standing : (all : List Recipe) → slice_get all number ≡ Some recipe → (edge : Edge) → Contains set.edges.items edge → Contains old.edges.items edge ⊎ Stands cell all edge
-  pub covering : (final : List Edge) → Keeps set.edges.items final → (k : ℕ) → k < index → Each (Covers cell final) (bound_nodes (numbered cell recipe.roles.items k) recipe.acts)
-  pub pairing : kept ≡ Some [] → (final : List Edge) → Keeps set.edges.items final → (k : ℕ) → k < index
-      → Each (PairsAll cell final) (bound_nodes (numbered cell recipe.roles.items k) recipe.acts)
-
--- no needs are kept above all nodes
-pub top_kept : (reach : Reach) → (kept_at_top reach ≡ None) ⊎ (kept_at_top reach ≡ Some [])
-top_kept Next = inl refl
-top_kept Whole = inr refl
+  pub covering : (final : List Edge) → Keeps set.edges.items final → (k : ℕ) → k < index → Each (Covers cell final) (nodes_by cell recipe k)
+  pub pairing : kept ≡ Some [] → (final : List Edge) → Keeps set.edges.items final → (k : ℕ) → k < index → Each (PairsAll cell final) (nodes_by cell recipe k)
 
 module _ (cell : Cell) (kept : Option (List (Option ℕ))) (recipe : Recipe) (number : ℕ) (old : EdgeSet) where
   pub KeepsBindings-first : KeepsBindings cell kept recipe number old old 0
@@ -158,59 +139,30 @@ module _ (cell : Cell) (kept : Option (List (Option ℕ))) (recipe : Recipe) (nu
     pairing = λ whole final later k below. absurd (omega arith);
   }
 
-  -- the path above all nodes
-  pub record IsTop (path : Path) : Type 0 where
-    pub recipe_is : path.recipe ≡ number
-    pub last_is : path.last ≡ None
-    pub kept_is : kept_by path ≡ kept
-
-  pub IsReady-first : (set : EdgeSet) (index : ℕ) (path : Path) → old.count ≡ length (resources_of cell) → KeepsBindings cell kept recipe number old set index
-      → (kept ≡ None) ⊎ (kept ≡ Some []) → IsTop path → IsReady cell path set
-  IsReady-first set index path sized h empty top = record {
-    sized = h.grown.same_count ∙ sized;
-    within = λ k is. let bad : None ≡ Some k = sym top.last_is ∙ is in absurd cc;
-    below = λ k among. absurd (Contains-none (Some k) (subst (λ (ns : List (Option ℕ)). Contains ns (Some k)) (ap needs_in top.kept_is ∙ no_needs empty) among));
-  }
-    where
-      no_needs : (kept ≡ None) ⊎ (kept ≡ Some []) → needs_in kept ≡ []
-      no_needs (inl none) = ap needs_in none
-      no_needs (inr empty) = ap needs_in empty
-
-  pub KeepsBindings-more : (set new : EdgeSet) (index next : ℕ) (path : Path) → KeepsBindings cell kept recipe number old set index → IsTop path
-      → (kept ≡ None) ⊎ (kept ≡ Some []) → Grows set new
-      → IsCollected cell path 0 [] (bound_nodes (numbered cell recipe.roles.items index) recipe.acts) set.edges.items new.edges.items next
-      → KeepsBindings cell kept recipe number old new (index + 1)
-  KeepsBindings-more set new index next path h top empty grown collected = record {
-    grown = Grows-twice old set new h.grown grown;
-    standing = λ all found edge stands.
-        elim (collected.standing (record { ends = sym top.last_is; kept = λ needs is. none_kept needs empty (sym top.kept_is ∙ is) })
-        (omega (arith, recipe.small, same_length cell recipe index)) edge stands) [
-          | inl known ↦ h.standing all found edge known
-          | inr here ↦ inr (record {
-            recipe = recipe;
-            found = ap (slice_get all) (here.recipe_is ∙ top.recipe_is) ∙ found;
-            bound = numbered cell recipe.roles.items index;
-            tried = numbered-tried cell (recipe ∷ []) recipe recipe.own_roles index;
-            node = here.node;
-            numbered = ap (slice_get (nodes_by cell recipe index)) (let e : edge.node ≡ here.index = omega (arith, here.node_is) in e) ∙ here.numbered;
-            asked = here.asked;
-          })
-        ];
+  pub KeepsBindings-more : (set new : EdgeSet) (index : ℕ) → KeepsBindings cell kept recipe number old set index
+      → IsCollected cell kept number (nodes_by cell recipe index) set new → KeepsBindings cell kept recipe number old new (index + 1)
+  KeepsBindings-more set new index h collected = record {
+    grown = Grows-twice old set new h.grown collected.grown;
+    standing = λ all found edge stands. elim (collected.standing edge stands) [
+      | inl known ↦ h.standing all found edge known
+      | inr here ↦ inr (record {
+        recipe = recipe;
+        found = ap (slice_get all) here.recipe_is ∙ found;
+        bound = numbered cell recipe.roles.items index;
+        tried = numbered-tried cell (recipe ∷ []) recipe recipe.own_roles index;
+        node = here.node;
+        numbered = here.numbered;
+        asked = here.asked;
+      })
+    ];
     covering = λ final later k below. so_far (Covers cell final) k
-        (λ before. h.covering final (λ i j known. later i j (grown.kept i j known)) k before)
-        (collected.covering final later (record { covered = tt; ends = sym top.last_is })) (cases_lt k index) below;
+        (λ before. h.covering final (λ i j known. later i j (collected.grown.kept i j known)) k before)
+        (collected.covering final later) (cases_lt k index) below;
     pairing = λ whole final later k below. so_far (PairsAll cell final) k
-        (λ before. h.pairing whole final (λ i j known. later i j (grown.kept i j known)) k before)
-        (collected.pairing final later (record {
-          paired = λ before place i j ordered at_before at_place. let bad : None ≡ Some (Some i) = at_before in absurd cc;
-          kept = top.kept_is ∙ whole;
-        })) (cases_lt k index) below;
+        (λ before. h.pairing whole final (λ i j known. later i j (collected.grown.kept i j known)) k before)
+        (collected.pairing whole final later) (cases_lt k index) below;
   }
     where
-      none_kept : (needs : List (Option ℕ)) → (kept ≡ None) ⊎ (kept ≡ Some []) → kept ≡ Some needs → needs ≡ []
-      none_kept needs (inl none) is = let bad : None ≡ Some needs = sym none ∙ is in absurd cc
-      none_kept needs (inr empty) is = let e : Some needs ≡ Some [] = sym is ∙ empty in cc
-
       so_far : (P : Node → Type 0) (k : ℕ) → (k < index → Each P (nodes_by cell recipe k)) → Each P (nodes_by cell recipe index) → (k < index) ⊎ (index ≤ k) → k < index + 1
           → Each P (nodes_by cell recipe k)
       so_far P k f here (inl before) below = f before

@@ -1,19 +1,12 @@
 -- private: what is kept while the edges of recipes are collected.
-use Rattle.std.specs.Prelude.{◌≡◌, ℕ, ◌+◌, ◌<◌, ◌≤◌, List, [], ◌∷◌, ◌++◌, length, map, slice_get, Option, Some, None, ◌⊎◌, IsTrue, option_map}
+use Rattle.std.specs.Prelude.{◌≡◌, ℕ, ◌<◌, ◌≤◌, List, [], ◌∷◌, ◌++◌, length, slice_get, Option, Some, None, ◌⊎◌, IsTrue, option_map}
 use Rattle.std.specs.List.{Contains}
 use Rattle.batch_cell.specs.LookUps.{resources_of}
 use Rattle.batch_cell.specs.declared.cell.Cell.{Cell}
 use Rattle.batch_recipe.specs.Conditions.{Name}
-use Rattle.batch_recipe.specs.Diagram.{diagram_of, diagrams_of, cases_of}
-use Rattle.batch_recipe.specs.Expanding.{Binding, act_tree_with, expanded, expanded_each, expanded_cases, named_tree_with}
-use Rattle.batch_recipe.specs.Nodes.{Node, nodes, nodes_of_each, nodes_of_choices}
-use Rattle.batch_recipe.specs.Procedure.{tables_from}
-use Rattle.batch_recipe.specs.Tree.{Place}
-use Rattle.batch_recipe.specs.declared.act.Act.{Act}
-use Rattle.batch_recipe.specs.declared.acts.Acts.{Acts}
-use Rattle.batch_recipe.specs.declared.acts.Level.{Level}
-use Rattle.batch_recipe.specs.declared.chart.Chart.{Chart}
-use Rattle.batch_recipe.specs.declared.condition.Cond.{Cond}
+use Rattle.batch_recipe.specs.Expanding.{Binding}
+use Rattle.batch_recipe.specs.Nodes.{Node}
+use Rattle.batch_recipe.specs.Procedure.{bound_nodes}
 use Rattle.batch_model.specs.Lists.{Each}
 use Rattle.batch_recipe.specs.declared.recipe.Recipe.{Recipe}
 use Rattle.batch_verify.specs.Bindings.{numbered}
@@ -53,9 +46,13 @@ pub record IsReady (cell : Cell) (path : Path) (edges : EdgeSet) : Type 0 where
 
 -- Paths
 
--- how units take the roles on a walk
+-- how units take the roles of the site's recipe
 abbrev pub bound_on : Site → Binding
-bound_on site = numbered site.cell.now site.roles.now site.binding
+bound_on site = numbered site.cell.now site.recipe.now.roles.items site.binding
+
+-- the nodes of the recipe then
+abbrev pub nodes_on : Site → List Node
+nodes_on site = bound_nodes (bound_on site) site.recipe.now.acts
 
 -- the number of the last need, which is `last` where there are no more
 abbrev pub last_number : Option ℕ → List (Option ℕ) → Option ℕ
@@ -84,80 +81,43 @@ pub record IsAmong (cell : Cell) (above own : List Name) (edge : Edge) : Type 0 
   pub earlier_is : slice_get (above ++ own) before ≡ Some earlier_name
   pub later_is : slice_get (above ++ own) place ≡ Some later_name
 
--- the act at the node number has asked for its own needs, and the path goes on from there
-pub record HasAsked (cell : Cell) (path : Path) (node : ℕ) (own : List Name) (old new : EdgeSet) (next : Path) : Type 0 where
-  pub grown : Grows old new
-  pub ready : IsReady cell next new
+-- the path goes on by these needs up to `next`: an edge leads to each from the one before it, and where needs are kept, from each one before it
+pub record GoesOn (cell : Cell) (path : Path) (own : List Name) (edges : EdgeSet) (next : Path) : Type 0 where
+  pub ready : IsReady cell next edges
   pub same_recipe : next.recipe ≡ path.recipe
   pub ends : next.last ≡ last_number path.last (numbers_of cell own)
   pub extended : kept_by next ≡ option_map (λ needs. needs ++ numbers_of cell own) (kept_by path)
-  pub covering : Follows new.edges.items path.last (numbers_of cell own)
-  pub pairing : (needs : List (Option ℕ)) → kept_by path ≡ Some needs → (final : List Edge) → Keeps new.edges.items final
+  pub covering : Follows edges.edges.items path.last (numbers_of cell own)
+  pub pairing : (needs : List (Option ℕ)) → kept_by path ≡ Some needs → (final : List Edge) → Keeps edges.edges.items final
       → ArePaired final needs → ArePaired final (needs ++ numbers_of cell own)
+
+-- the act at the node number has asked for its own needs, and the path goes on by them
+pub record HasAsked (cell : Cell) (path : Path) (node : ℕ) (own : List Name) (old new : EdgeSet) (next : Path) : Type 0 where
+  pub grown : Grows old new
+  pub further : GoesOn cell path own new next
   pub standing : (above : List Name) → IsPathOf cell above path → (edge : Edge) → Contains new.edges.items edge
       → Contains old.edges.items edge ⊎ ((edge.recipe ≡ path.recipe) × (edge.node ≡ node) × IsAmong cell above own edge)
 
 -- Nodes
 
--- nodes on a unit, at a place, below a path that asks for these resources
-abbrev pub Standing : Type 0
-Standing = Name → Place → List Name → List Node
-
--- those of an act, the labels of its chart looked up from the level on
-abbrev pub act_nodes : Binding → Acts → Option Level → Act → Standing
-act_nodes bound acts level act unit place above = nodes place above (act_tree_with bound (named_tree_with bound (tables_from acts level)) unit act place)
-
--- those of a chart
-abbrev pub chart_nodes : Binding → Acts → Option Level → Chart → Standing
-chart_nodes bound acts level chart unit place above = nodes place above (expanded (named_tree_with bound (tables_from acts level) unit) place (diagram_of chart))
-
--- those of branches
-abbrev pub branch_nodes : Binding → Acts → Option Level → List Chart → Standing
-branch_nodes bound acts level parts unit place above =
-    nodes_of_each place above 0 (expanded_each (named_tree_with bound (tables_from acts level) unit) place 0 (diagrams_of (map diagram_of parts)))
-
--- those of a selection's branches
-abbrev pub choice_nodes : Binding → Acts → Option Level → List (Cond × Chart) → Chart → Standing
-choice_nodes bound acts level choices last unit place above =
-    nodes_of_choices place above 0
-    (expanded_cases (named_tree_with bound (tables_from acts level) unit) place 0 (cases_of (map (λ choice. (choice.0, diagram_of choice.1)) choices) (diagram_of last)))
-
--- the edge stands at one of these nodes, which are numbered from `first`
-pub record StandsAmong (cell : Cell) (recipe first : ℕ) (nodes : List Node) (edge : Edge) : Type 0 where
+-- the edge stands at one of these nodes of the recipe with this number
+pub record StandsAmong (cell : Cell) (recipe : ℕ) (nodes : List Node) (edge : Edge) : Type 0 where
   pub recipe_is : edge.recipe ≡ recipe
-  pub index : ℕ
-  pub node_is : edge.node ≡ first + index
   pub node : Node
-  pub numbered : slice_get nodes index ≡ Some node
+  pub numbered : slice_get nodes edge.node ≡ Some node
   pub asked : AsksByNumber cell node edge.earlier edge.later
-
--- the needs above are covered, and end in this one
-pub record PathTo (cell : Cell) (edges : List Edge) (above : List Name) (last : Option ℕ) : Type 0 where
-  pub covered : Follows edges None (numbers_of cell above)
-  pub ends : EndsIn cell above last
-
--- each two of the needs above are paired, and kept by the path
-pub record IsPairedTo (cell : Cell) (edges : List Edge) (above : List Name) (path : Path) : Type 0 where
-  pub paired : ArePaired edges (numbers_of cell above)
-  pub kept : kept_by path ≡ Some (numbers_of cell above)
 
 -- each two resources on the node's path are an edge
 abbrev pub PairsAll : Cell → List Edge → Node → Type 0
 PairsAll cell edges node = ArePaired edges (numbers_of cell node.asked)
 
--- the edges of these nodes below a path were collected: the next node has that number, each new edge stands among the nodes,
--- and whatever edges come later, the nodes are covered, and their needs paired, where the path above is
-pub record IsCollected (cell : Cell) (path : Path) (first : ℕ) (above : List Name) (nodes : List Node) (old new : List Edge) (next : ℕ) : Type 0 where
-  pub next_is : first + length nodes < 65536 → next ≡ first + length nodes
-  pub standing : IsPathOf cell above path → first + length nodes < 65536 → (edge : Edge) → Contains new edge
-      → Contains old edge ⊎ StandsAmong cell path.recipe first nodes edge
-  pub covering : (final : List Edge) → Keeps new final → PathTo cell final above path.last → Each (Covers cell final) nodes
-  pub pairing : (final : List Edge) → Keeps new final → IsPairedTo cell final above path → Each (PairsAll cell final) nodes
-
--- so wherever the nodes stand
-abbrev pub AreCollected : Cell → Path → ℕ → Standing → EdgeSet → EdgeSet → ℕ → Type 0
-AreCollected cell path first standing old new next =
-    (unit : Name) (place : Place) (above : List Name) → IsCollected cell path first above (standing unit place above) old.edges.items new.edges.items next
+-- the edges of these nodes were collected: each new edge stands at one of them, and whatever edges come later, the nodes are
+-- covered, and their needs paired where needs are kept
+pub record IsCollected (cell : Cell) (kept : Option (List (Option ℕ))) (recipe : ℕ) (nodes : List Node) (old new : EdgeSet) : Type 0 where
+  pub grown : Grows old new
+  pub standing : (edge : Edge) → Contains new.edges.items edge → Contains old.edges.items edge ⊎ StandsAmong cell recipe nodes edge
+  pub covering : (final : List Edge) → Keeps new.edges.items final → Each (Covers cell final) nodes
+  pub pairing : kept ≡ Some [] → (final : List Edge) → Keeps new.edges.items final → Each (PairsAll cell final) nodes
 
 -- Recipes
 

@@ -1,112 +1,62 @@
-//! The edges of recipes.
-ghost use Rattle.std.specs.Prelude.{IfOk, OnOk};
-ghost use Rattle.batch_check.specs.Collecting.{AreCollected, IsReady, act_nodes, bound_on, branch_nodes, chart_nodes, choice_nodes};
-ghost use Rattle.batch_check.specs.Joining.{Grows};
+//! The edges of a recipe's nodes.
+ghost use Rattle.std.specs.Prelude.{◌≡◌, length, slice_index_or, IfOk, OnOk};
+ghost use Rattle.batch_cell.specs.LookUps.{resources_of as cell_resources};
+ghost use Rattle.batch_recipe.specs.Links.{asked_at};
+ghost use Rattle.batch_recipe.specs.Needs.{resources_of};
+ghost use Rattle.batch_recipe.specs.Outlines.{act_of};
+ghost use Rattle.batch_check.specs.Collecting.{HasAsked, IsCollected, IsReady, bound_on, kept_at_top, nodes_on};
 
 use crate::edge_set::EdgeSet;
-use crate::path::{Path, Site, ask_all};
-use batch_recipe::{Act, Chart, Cond, Level, Work, act_named};
-use std::alloc::AllocError;
+use crate::path::{Path, Reach, Site, ask_all};
+use batch_recipe::Entry;
+use std::alloc::{AllocError, Global};
 
-/// Adds the edges of an act's nodes, of which the first has this number: the number after the last one.
-///
-/// A recipe has far fewer nodes than there are numbers, so that no number is cut off.
-#[cycle(collect)]
-pub(crate) fn collect_act(
-    act: &Act,
+/// Adds the edges of the nodes of the site's recipe, which has this number.
+pub(crate) fn collect(
+    alloc: Global,
     site: &Site,
-    level: Option<Level>,
-    path: &Path,
-    node: u16,
+    number: u16,
+    reach: Reach,
     edges: &mut EdgeSet,
-) -> Result<u16, AllocError>
-    requires { IsReady site.now.cell.now path.now edges.old }
-    ensures grown { OnOk result (Grows edges.old edges.new) }
-    ensures collected { IfOk result
-        (AreCollected site.now.cell.now path.now node (act_nodes (bound_on site.now) site.now.acts.now level act.now) edges.old edges.new) }
+) -> Result<(), AllocError>
+    requires { edges.old.count ≡ length (cell_resources site.now.cell.now) }
+    ensures { OnOk result (IsCollected site.now.cell.now (kept_at_top reach) number (nodes_on site.now) edges.old edges.new) }
 {
-    let below = ask_all(act, site, path, node, edges)?;
-    let next = node.saturating_add(1);
-    match &act.work {
-        Work::Runs { .. } => Ok(next),
-        Work::Follows(chart) => collect(chart, site, level, &below, next, edges),
+    let top = Path::top(alloc, number, reach);
+    // The path to each node so far, by number.
+    let mut paths = Vec::new(alloc);
+    for (node, entry) in site.recipe.outline.entries.iter().enumerate() {
+        let above = path_above(&paths, entry, &top);
+        let path = path_at(entry, site, above, node as u16, edges)?;
+        paths.push(path)?;
+    }
+    Ok(())
+}
+
+/// The path to the node above that of the entry: `top` for the first node, which comes before all paths.
+fn path_above<'a>(paths: &'a [Path], entry: &Entry, top: &'a Path) -> &'a Path
+    ensures { result.now ≡ slice_index_or paths.now entry.now.parent top.now }
+{
+    match paths.get(usize::from(entry.parent)) {
+        None => top,
+        Some(path) => path,
     }
 }
 
-/// Adds the edges of a chart's nodes, whose labels are looked up from the level on.
-#[cycle(collect)]
-fn collect(
-    chart: &Chart,
+/// The path to the node of the entry, which goes on from the path above it. Adds the edges to what the node itself asks for.
+fn path_at(
+    entry: &Entry,
     site: &Site,
-    level: Option<Level>,
-    path: &Path,
+    above: &Path,
     node: u16,
     edges: &mut EdgeSet,
-) -> Result<u16, AllocError>
-    requires { IsReady site.now.cell.now path.now edges.old }
-    ensures grown { OnOk result (Grows edges.old edges.new) }
-    ensures collected { IfOk result
-        (AreCollected site.now.cell.now path.now node (chart_nodes (bound_on site.now) site.now.acts.now level chart.now) edges.old edges.new) }
+) -> Result<Path, AllocError>
+    requires { IsReady site.now.cell.now above.now edges.old }
+    ensures { IfOk result (HasAsked site.now.cell.now above.now node
+        (resources_of (asked_at (bound_on site.now) (act_of site.now.recipe.now.acts entry.now.kind))) edges.old edges.new) }
 {
-    let next = node.saturating_add(1);
-    match chart {
-        Chart::Label(name) => match level {
-            None => Ok(next),
-            Some(table) => match act_named(site.acts.table(table), name) {
-                None => Ok(next),
-                Some(act) => collect_act(act, site, table.below(), path, node, edges),
-            },
-        },
-        Chart::Skip => Ok(next),
-        Chart::Seq(parts) | Chart::Par(parts) => {
-            collect_each(parts, site, level, path, next, edges)
-        }
-        Chart::Sel(choices, last) => collect_choices(choices, last, site, level, path, next, edges),
-        Chart::Loop(_, _, body) => collect(body, site, level, path, next, edges),
+    match entry.kind.act(&site.recipe.acts) {
+        None => above.copied(),
+        Some(act) => ask_all(act, site, above, node, edges),
     }
-}
-
-/// Adds the edges of the nodes of branches.
-#[cycle(collect)]
-fn collect_each(
-    parts: &[Chart],
-    site: &Site,
-    level: Option<Level>,
-    path: &Path,
-    node: u16,
-    edges: &mut EdgeSet,
-) -> Result<u16, AllocError>
-    requires { IsReady site.now.cell.now path.now edges.old }
-    ensures grown { OnOk result (Grows edges.old edges.new) }
-    ensures collected { IfOk result
-        (AreCollected site.now.cell.now path.now node (branch_nodes (bound_on site.now) site.now.acts.now level parts.now) edges.old edges.new) }
-{
-    let mut next = node;
-    for part in parts {
-        next = collect(part, site, level, path, next, edges)?;
-    }
-    Ok(next)
-}
-
-/// Adds the edges of the nodes of a selection's branches.
-#[cycle(collect)]
-fn collect_choices(
-    choices: &[(Cond, Chart)],
-    last: &Chart,
-    site: &Site,
-    level: Option<Level>,
-    path: &Path,
-    node: u16,
-    edges: &mut EdgeSet,
-) -> Result<u16, AllocError>
-    requires { IsReady site.now.cell.now path.now edges.old }
-    ensures grown { OnOk result (Grows edges.old edges.new) }
-    ensures collected { IfOk result
-        (AreCollected site.now.cell.now path.now node (choice_nodes (bound_on site.now) site.now.acts.now level choices.now last.now) edges.old edges.new) }
-{
-    let mut next = node;
-    for choice in choices {
-        next = collect(&choice.1, site, level, path, next, edges)?;
-    }
-    collect(last, site, level, path, next, edges)
 }

@@ -7,11 +7,11 @@ ghost use Rattle.batch_check.specs.Edges.{AreEdgesOf};
 ghost use Rattle.batch_check.specs.LeastRanking.{IsWithin};
 ghost use Rattle.batch_model.specs.declared.limits.TheConstants.{MAX_RECIPES};
 
-use crate::collecting::collect_act;
+use crate::collecting::collect;
 use crate::edge_set::EdgeSet;
-use crate::path::{Path, Reach, Site};
+use crate::path::{Reach, Site};
 use batch_cell::Cell;
-use batch_recipe::{Level, Recipe};
+use batch_recipe::Recipe;
 use batch_verify::binding_count;
 use std::alloc::{AllocError, Global};
 
@@ -79,16 +79,13 @@ fn add_edges(
     ensures { OnOk result ((recipes : List Recipe) → slice_get recipes number ≡ Some recipe.now
         → IsAdded cell.now (kept_at_top reach) recipes recipe.now edges.old edges.new) }
 {
-    let level = Some(Level::UnitProcedures);
-    let path = Path::top(alloc, number, reach);
     for binding in 0..binding_count(cell, &recipe.roles) {
         let site = Site {
             cell,
-            acts: &recipe.acts,
-            roles: &recipe.roles,
+            recipe,
             binding,
         };
-        collect_act(&recipe.acts.procedure, &site, level, &path, 0, edges)?;
+        collect(alloc, &site, number, reach, edges)?;
     }
     Ok(())
 }

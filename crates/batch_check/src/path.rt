@@ -11,17 +11,15 @@ ghost use Rattle.batch_check.specs.Edges.{number_of};
 use crate::edge_set::EdgeSet;
 use crate::joining::{join, keep};
 use batch_cell::Cell;
-use batch_recipe::{Act, Acts, Need, Role, UnitChoice};
+use batch_recipe::{Act, Need, Recipe, UnitChoice};
 use batch_verify::unit_taking;
 use std::alloc::{AllocError, Global};
 
-/// What a recipe's names are looked up in: the cell, the acts and roles of the recipe, and the number of the binding by which
-/// units take these.
+/// A recipe in a cell, whose roles units take by the binding with this number.
 #[derive(Clone, Copy)]
 pub(crate) struct Site<'a> {
     pub(crate) cell: &'a Cell,
-    pub(crate) acts: &'a Acts,
-    pub(crate) roles: &'a [Role],
+    pub(crate) recipe: &'a Recipe,
     pub(crate) binding: u16,
 }
 
@@ -63,7 +61,7 @@ impl Path {
         }
     }
 
-    fn copied(&self) -> Result<Path, AllocError>
+    pub(crate) fn copied(&self) -> Result<Path, AllocError>
         ensures { IfOk result (IsCopy self.now) }
     {
         let asked = match &self.asked {
@@ -108,7 +106,7 @@ fn unit_chosen(site: &Site, choice: &UnitChoice) -> Option<u16>
     match choice {
         UnitChoice::Unit(unit) => site.cell.resource_of(unit),
         UnitChoice::Role(role) => {
-            match unit_taking(site.cell, site.roles, site.binding, role) {
+            match unit_taking(site.cell, &site.recipe.roles, site.binding, role) {
                 None => None,
                 Some(unit) => site.cell.resource_of(unit),
             }

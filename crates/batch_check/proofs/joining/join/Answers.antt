@@ -1,7 +1,7 @@
 use Rattle.std.proofs.Common.{◌∷◌, [], Option, OnOk, IsTrue, ℕ, Some, sym, subst}
 use Rattle.batch_check.specs.Edges.{has_pair}
 use Rattle.batch_check.specs.Joining.{HasJoined}
-use Rattle.batch_check.proofs.Collects.{IfOk-map}
+use Rattle.std.proofs.lemmas.Result.{IfOk-weaker}
 use Rattle.batch_check.proofs.Joins.{HasJoined-pair}
 use Rattle.batch_check.proofs.joining.join.Goals as goal
 
@@ -13,6 +13,6 @@ returns-in-Some-Some c =
     let new = c.add.new.self in
     subst (λ (o : Option ℕ). OnOk c.add.result (HasJoined c.args.recipe c.args.node (o ∷ []) c.args.later old new)) (sym c.in-Some-Some.is-0)
     (subst (λ (o : Option ℕ). OnOk c.add.result (HasJoined c.args.recipe c.args.node (Some earlier ∷ []) o old new)) (sym c.in-Some-Some.is-1)
-    (IfOk-map c.add.result (λ _. IsTrue (has_pair new.edges.items earlier later)) (λ _. HasJoined c.args.recipe c.args.node (Some earlier ∷ []) (Some later) old new)
+    (IfOk-weaker c.add.result (λ _. IsTrue (has_pair new.edges.items earlier later)) (λ _. HasJoined c.args.recipe c.args.node (Some earlier ∷ []) (Some later) old new)
     (λ done added. HasJoined-pair c.args.recipe c.args.node earlier later old new (record { same_count = c.add.ensures.count; kept = c.add.ensures.kept; stays = c.add.ensures.stays }) added c.add.ensures.only)
     c.add.ensures.added))
