@@ -24,13 +24,13 @@ use Rattle.batch_chart.specs.Told.{IsTold, AreTold}
 use Rattle.batch_chart.specs.Reaching.{IsReached, IsFirstReached}
 use Rattle.batch_chart.specs.Advancing.{HasAdvanced, HasFirstAdvanced, HasEachAdvanced, HasChoiceAdvanced}
 use Rattle.batch_chart.specs.Climbing.{all_finished, AreFinished, IsRisen, HasStopped, HasPassed}
-use Rattle.batch_chart.proofs.Standing.{count-pos, stood, stood-each, some-stands, nested, SkipAt, skip_at, skip-at, PhaseAt, phase_at, phase-at, ActAt, act_at, act-at, LoopAt, loop_at, loop-at, RowAt, row_at, row-at, row-end, ChoiceAt, choice_at, choice-at, seq-compiled, sel-compiled, rest-compiled, choices-compiled}
+use Rattle.batch_chart.proofs.Standing.{count-pos, stood, stood-each, some-stands, nested, SkipAt, skip_at, skip-at, PhaseAt, phase_at, phase-at, ActAt, act_at, act-at, LoopAt, loop_at, loop-at, RowAt, row_at, row-at, ChoiceAt, choice_at, choice-at, seq-compiled, sel-compiled, rest-compiled, choices-compiled}
 use Rattle.batch_chart.proofs.Agreeing.{meaning-agree}
 use Rattle.batch_chart.proofs.Calm.{advanced-still}
-use Rattle.batch_chart.proofs.Choosing.{chosen-true, chosen-false}
+use Rattle.batch_chart.proofs.Choosing.{chosen-false}
 use Rattle.batch_chart.proofs.Reached.{within-set}
 use Rattle.batch_chart.proofs.Telling.{nests, nests-below, told-one, told-part, told-same, told-agree}
-use Rattle.batch_chart.proofs.Advanced.{begun-open, over-at, unbegun-act, advanced-act_chart, advanced-act_still, advanced-seq, advanced-par, advanced-sel, advanced-loop_over, advanced-loop_anew, not-false, moved-later, moved-on, chosen-last, chosen-later, chosen-here}
+use Rattle.batch_chart.proofs.Advanced.{over-at, unbegun-act, advanced-act_chart, advanced-act_still, advanced-seq, advanced-par, advanced-sel, advanced-loop_over, advanced-loop_anew, not-false, moved-later, moved-on, chosen-last, chosen-later, chosen-here}
 
 -- tests of rows
 
@@ -68,22 +68,6 @@ set-again : (xs : List Stage) (n : ℕ) (v : Stage) → n < length xs → stage_
 set-again [] n v lt e = absurd (omega arith)
 set-again (x ∷ xs) zero v lt e = ap (λ z. z ∷ xs) (sym e)
 set-again (x ∷ xs) (suc n) v lt e = ap (λ z. x ∷ z) (set-again xs n v (omega arith) e)
-
-pub finished-end : (ns : List Node) (n m : ℕ) (xs : List Stage) → n ≡ m → AreFinished ns n m xs true
-finished-end ns n m xs e = record { means = λ ds ts h. rw (row-end ns ds n m e ts h) refl }
-
-pub finished-not : (ns : List Node) (n m : ℕ) (xs : List Stage) → n ≢ m → false ≡ is_finished (stage_at xs n) → AreFinished ns n m xs false
-finished-not ns n m xs ne u = record { means = λ ds ts h. go ds ts (row-at ns ds n m ne ts h) }
-  where
-    go : (ds : List Detail) (ts : Trees) → RowAt ns ds n m ts → false ≡ all_finished ts n xs
-    go ds _ (row_at c ts a b e f) = sym (chosen-false (is_finished (stage_at xs n)) (all_finished ts (n + node_count c) xs) false (sym u))
-
-pub finished-next : (ns : List Node) (n m : ℕ) (xs : List Stage) (b : Bool) → n ≢ m → true ≡ is_finished (stage_at xs n) → AreFinished ns (end_at ns n) m xs b → AreFinished ns n m xs b
-finished-next ns n m xs b ne u r = record { means = λ ds ts h. go ds ts (row-at ns ds n m ne ts h) }
-  where
-    go : (ds : List Detail) (ts : Trees) → RowAt ns ds n m ts → b ≡ all_finished ts n xs
-    go ds _ (row_at c ts a q e f) =
-        r.means ds ts q ∙ ap (λ z. all_finished ts z xs) e ∙ sym (chosen-true (is_finished (stage_at xs n)) (all_finished ts (n + node_count c) xs) false (sym u))
 
 -- the branches before n, and those from n on
 
@@ -141,7 +125,7 @@ module _ (ns : List Node) (ds : List Detail) (p n : ℕ) (ys : List Stage) (comp
   n-below = omega (arith, (stood ns ds n n-stands.0 n-stands.1).end, count-pos n-stands.0)
 
   -- the only tree below a node is at the next one
-  only-child : (d : Tree) → Stands ns ds (p + 1) d → end_at ns p ≡ p + (1 + node_count d) → n ≡ p + 1
+  pub only-child : (d : Tree) → Stands ns ds (p + 1) d → end_at ns p ≡ p + (1 + node_count d) → n ≡ p + 1
   only-child d s e =
       elim (cases_lt (p + 1) n) [
         | inl lt ↦ absurd (omega (arith, above.between (p + 1) (omega arith) lt, (stood ns ds (p + 1) d s).end, above.past, e))
@@ -478,10 +462,10 @@ module _ (ns : List Node) (ds : List Detail) (vs : ValueList) (p n : ℕ) (ys : 
           let on = advanced-still vs (meaning c i ws) k.0 in
           (k.2 ∙ sym on, k.1 ∙ sym (ap is_done on), inr (omega arith))
 
-  each-advanced : (b : Bool) → AreFinished ns (p + 1) (end_at ns p) ys b → HasEachAdvanced ns ds vs (p + 1) (end_at ns p) true ws ys b
+  each-advanced : (b : Bool) → AreFinished ns ds (p + 1) (end_at ns p) ys b → HasEachAdvanced ns ds vs (p + 1) (end_at ns p) true ws ys b
   each-advanced b f =
       record {
-        means = λ ts h. (let w = each-went ts (p + 1) (end_at ns p) h (omega arith) (inl (omega (arith, above.before))) in (w.0, f.means ds ts h ∙ w.1));
+        means = λ ts h. (let w = each-went ts (p + 1) (end_at ns p) h (omega arith) (inl (omega (arith, above.before))) in (w.0, f.means ts h ∙ w.1));
         outside = outside-row (p + 1) (end_at ns p) (omega (arith, above.before)) end-n;
       }
 
@@ -490,13 +474,13 @@ module _ (ns : List Node) (ds : List Detail) (vs : ValueList) (p n : ℕ) (ys : 
   then-begun : false ≡ not (is_begun (stage_at ys p)) → true ≡ is_begun (stage_at ws p)
   then-begun o = not-false (is_begun (stage_at ys p)) o ∙ ap is_begun is-own
 
-  pub passed-par : (zs : List Stage) (b t : Bool) → p < length ys → (t ≡ b) × (zs ≡ slice_set ys p (closed_as b)) → kind_at ns p ≡ Par → false ≡ is_over_at Par (stage_at ys p) → AreFinished ns (p + 1) (end_at ns p) ys b
+  pub passed-par : (zs : List Stage) (b t : Bool) → p < length ys → (t ≡ b) × (zs ≡ slice_set ys p (closed_as b)) → kind_at ns p ≡ Par → false ≡ is_over_at Par (stage_at ys p) → AreFinished ns ds (p + 1) (end_at ns p) ys b
       → HasPassed ns ds vs xs ws p zs t
   passed-par zs b t lt closes e o f =
       passed-as Par e o zs t (advanced-par ns ds vs ws p then-compiled ys zs b t (then-begun o) lt closes e (each-advanced b f)) (set-under ys zs (closed_as b) closes.1 told-under)
 
-  sel-advanced : (i : ℕ) → kind_at ns p ≡ Sel i → (b : Bool) → AreFinished ns (p + 1) n ys b → HasChoiceAdvanced ns ds vs (p + 1) (end_at ns p) ws ys b
-  sel-advanced i e b f = go b (f.means ds k.0 k.3)
+  sel-advanced : (i : ℕ) → kind_at ns p ≡ Sel i → (b : Bool) → AreFinished ns ds (p + 1) n ys b → HasChoiceAdvanced ns ds vs (p + 1) (end_at ns p) ws ys b
+  sel-advanced i e b f = go b (f.means k.0 k.3)
     where
       k : (us : Trees) × (m : ℕ) × (os : Choices) × AreStanding ns ds (p + 1) n us × AreChoices ns ds m n (end_at ns p) os
       k = sel-split ns ds p n ys compiled above i e
@@ -517,7 +501,7 @@ module _ (ns : List Node) (ds : List Detail) (vs : ValueList) (p n : ℕ) (ys : 
       go true q = went-choices k.0 (p + 1) (end_at ns p) k.3 all end-n (sym q) base
       go false q = not-chosen k.0 (p + 1) (end_at ns p) k.3 all end-n (sym q)
 
-  pub passed-sel : (i : ℕ) (zs : List Stage) (b t : Bool) → p < length ys → (t ≡ b) × (zs ≡ slice_set ys p (closed_as b)) → kind_at ns p ≡ Sel i → false ≡ is_over_at (Sel i) (stage_at ys p) → AreFinished ns (p + 1) n ys b
+  pub passed-sel : (i : ℕ) (zs : List Stage) (b t : Bool) → p < length ys → (t ≡ b) × (zs ≡ slice_set ys p (closed_as b)) → kind_at ns p ≡ Sel i → false ≡ is_over_at (Sel i) (stage_at ys p) → AreFinished ns ds (p + 1) n ys b
       → HasPassed ns ds vs xs ws p zs t
   passed-sel i zs b t lt closes e o f =
       passed-as (Sel i) e o zs t (advanced-sel ns ds vs ws p then-compiled ys zs b t (then-begun o) lt closes i e (sel-advanced i e b f)) (set-under ys zs (closed_as b) closes.1 told-under)
@@ -529,25 +513,15 @@ module _ (ns : List Node) (ds : List Detail) (vs : ValueList) (p n : ℕ) (ys : 
     row : AreCompiled ns ds ws (p + 1) (end_at ns p)
     row = seq-compiled ns ds ws ws p then-compiled e r.after
 
-    -- another branch runs
-    pub passed-early : (f : Bool) → f ≡ false → AreFinished ns (p + 1) n ys f → HasStopped ns ds vs xs ws p ys
-    passed-early f not_all a =
-        let lt : p < length ys = omega (arith, compiled.0, within-p) in
-        let opened : stage_at ys p ≡ Open = begun-open (stage_at ys p) (sym (not-false (is_begun (stage_at ys p)) o)) in
-        passed-as Seq e o ys false
-        (advanced-seq ns ds vs ws p then-compiled ys ys false false (then-begun o) lt (refl, sym (set-again ys p Open lt opened)) e
-        (not-yet parts.0 (p + 1) (end_at ns p) parts.2 row end-n (sym (a.means ds parts.0 parts.2) ∙ not_all)))
-        told-under
-
     -- the next one is reached
-    pub passed-on : (f : Bool) → f ≡ true → AreFinished ns (p + 1) n ys f → (zs us : List Stage) (b t : Bool) → p < length zs → IsFirstReached ns ds vs (end_at ns n) (end_at ns p) ys zs b
+    pub passed-on : (f : Bool) → f ≡ true → AreFinished ns ds (p + 1) n ys f → (zs us : List Stage) (b t : Bool) → p < length zs → IsFirstReached ns ds vs (end_at ns n) (end_at ns p) ys zs b
         → (t ≡ b) × (us ≡ slice_set zs p (closed_as b)) → HasPassed ns ds vs xs ws p us t
     passed-on f over a zs us b t lt reached closes =
         let ne : n ≢ end_at ns p = λ q. absurd (omega (arith, above.past)) in
         let on = moved-on ns ds vs ws n (end_at ns p) ne (r.after, (parts.1, parts.3)) ys zs b (sym r.left) r.advanced reached in
         passed-as Seq e o us t
         (advanced-seq ns ds vs ws p then-compiled zs us b t (then-begun o) lt closes e
-        (went-row parts.0 (p + 1) (end_at ns p) parts.2 row end-n (sym (a.means ds parts.0 parts.2) ∙ over) zs b on))
+        (went-row parts.0 (p + 1) (end_at ns p) parts.2 row end-n (sym (a.means parts.0 parts.2) ∙ over) zs b on))
         (set-under zs us (closed_as b) closes.1 later)
       where
         later : AreTold ns ds (p + 1) (end_at ns p) zs

@@ -1,6 +1,7 @@
 -- Going on along the path to the root is going on with the whole chart.
 use Rattle.std.proofs.Common.{◌≡◌, ◌⊎◌, inl, inr, ◌<◌, ◌≤◌, ℕ, ◌+◌, List, length, true, arith, refl, sym, ◌∙◌, subst, ap, length-set}
 use Rattle.std.specs.Prelude.{slice_set}
+use Rattle.std.proofs.lemmas.Bool.Decides.{eqb_tells}
 use Rattle.batch_recipe.specs.Conditions.{ValueList}
 use Rattle.batch_recipe.specs.Tree.{Tree, act, skip, seq, par, sel, loop}
 use Rattle.batch_model.specs.Rest.{in_par, done, is_done, advance}
@@ -12,6 +13,7 @@ use Rattle.batch_chart.specs.Advancing.{HasAdvanced}
 use Rattle.batch_chart.specs.Climbing.{IsRisen, HasStopped, HasRisen}
 use Rattle.batch_chart.specs.Compiled.{end_at, Stands, IsCompiled}
 use Rattle.batch_chart.specs.Freeing.{HasFinished}
+use Rattle.batch_chart.specs.Neat.{AllFinished}
 use Rattle.batch_chart.specs.Meaning.{meaning, meaning_below, meaning_each, act_as, loop_as, branch, chosen, AgreeOutside}
 use Rattle.batch_chart.specs.Parents.{IsAbove, parent_at}
 use Rattle.batch_chart.specs.Running.{IsLaid, SomeLives}
@@ -21,10 +23,9 @@ use Rattle.batch_chart.proofs.Agreeing.{stage-set_same, stage-set_other}
 use Rattle.batch_chart.proofs.Likeness.{told-after}
 use Rattle.batch_chart.proofs.Choosing.{chosen-false}
 use Rattle.batch_chart.proofs.Lifted.{lifted}
-use Rattle.batch_chart.proofs.Reached.{within-set}
 use Rattle.batch_chart.proofs.Standing.{count-pos, some-stands, stood}
 use Rattle.batch_chart.proofs.Stepping.{all-told}
-use Rattle.batch_chart.proofs.Telling.{finished-means, told-finished, told-one, told-part, told-same, nests, nests-below}
+use Rattle.batch_chart.proofs.Telling.{finished-means, told-finished}
 
 module _ (ns : List Node) (ds : List Detail) (t : Tree) (laid : IsLaid ns ds t) where
   root-end : end_at ns 0 ≡ length ns
@@ -83,50 +84,57 @@ freed-means (par ts) n xs e = chosen-false (is_begun (stage_at xs n)) (in_par (m
 freed-means (sel ch) n xs e = chosen-false (is_begun (stage_at xs n)) (chosen ch (n + 1) xs) done (ap is_begun e)
 freed-means (loop k p body) n xs e = ap (λ x. loop_as (turns_of x) p body (meaning body (n + 1) xs)) e
 
-module _ (ns : List Node) (ds : List Detail) (vs : ValueList) (xs : List Stage) (lives : SomeLives ns ds xs) (k : ℕ) (lt : k < length ns) where
+module _ (ns : List Node) (ds : List Detail) (vs : ValueList) (xs mid : List Stage) (lives : SomeLives ns ds xs) (k : ℕ) (lt : k < length ns) (fits : length mid ≡ length xs) (off : AgreeOutside (k + 1) (end_at ns k) xs mid) (gone : AllFinished (k + 1) (end_at ns k) mid) where
   pub as-many : length xs ≡ length ns
   as-many = lives.2.fits ∙ sym lives.1.count
 
   at-k : (c : Tree) × Stands ns ds k c
   at-k = some-stands ns ds k lives.0 0 lives.1.stands (omega arith) (omega (arith, lives.1.count))
 
-  below-k : k < end_at ns k
+  pub below-k : k < end_at ns k
   below-k = omega (arith, (stood ns ds k at-k.0 at-k.1).end, count-pos at-k.0)
 
-  inside : k < length xs
-  inside = omega (arith, as-many)
+  inside : k < length mid
+  inside = omega (arith, as-many, fits)
 
-  risen : IsRisen ns ds vs xs (slice_set xs k (Freeing 0)) k (slice_set xs k Finished)
+  apart : (j : ℕ) → (j < k) ⊎ (end_at ns k ≤ j) → (j ≡ k → ⊥)
+  apart j (inl q) = λ e. absurd (omega arith)
+  apart j (inr q) = λ e. absurd (omega (arith, below-k))
+
+  wider : (j : ℕ) → (j < k) ⊎ (end_at ns k ≤ j) → stage_at mid j ≡ stage_at xs j
+  wider j (inl q) = off j (inl (omega arith))
+  wider j (inr q) = off j (inr q)
+
+  pub set-out : (v : Stage) → AgreeOutside k (end_at ns k) xs (slice_set mid k v)
+  set-out v j q = stage-set_other mid k j v (apart j q) ∙ wider j q
+
+  -- all is finished from the act on
+  pub all-gone : AllFinished k (end_at ns k) (slice_set mid k Finished)
+  all-gone j a b = elim (eqb_tells j k) [
+    | inl q ↦ ap (stage_at (slice_set mid k Finished)) q.1 ∙ stage-set_same mid k Finished inside
+    | inr q ↦ let ne = q.1 in stage-set_other mid k j Finished q.1 ∙ gone j (omega arith) b
+  ]
+
+  pub risen : IsRisen ns ds vs xs (slice_set mid k (Freeing 0)) k (slice_set mid k Finished)
   risen =
-      let is : stage_at (slice_set xs k Finished) k ≡ Finished = stage-set_same xs k Finished inside in
-      let was : stage_at (slice_set xs k (Freeing 0)) k ≡ Freeing 0 = stage-set_same xs k (Freeing 0) inside in
-      let told = all-told ns ds lives.0 lives.1 xs lives.2 in
-      let fits : end_at ns k ≤ length ns = omega (arith, (stood ns ds k at-k.0 at-k.1).end, (stood ns ds k at-k.0 at-k.1).fits) in
+      let is : stage_at (slice_set mid k Finished) k ≡ Finished = stage-set_same mid k Finished inside in
+      let was : stage_at (slice_set mid k (Freeing 0)) k ≡ Freeing 0 = stage-set_same mid k (Freeing 0) inside in
       record {
         before = as-many;
-        after = length-set xs k (Freeing 0) ∙ as-many;
-        told = told;
-        same = λ j q. stage-set_other xs k j (Freeing 0) (apart j q);
+        after = length-set mid k (Freeing 0) ∙ fits ∙ as-many;
+        told = all-told ns ds lives.0 lives.1 xs lives.2;
+        same = set-out (Freeing 0);
         left = ap is_finished was;
         advanced = record {
           means = λ c s. (
-            finished-means c k (slice_set xs k Finished) is ∙ sym (ap (advance vs) (freed-means c k (slice_set xs k (Freeing 0)) was)),
-            sym (ap (λ z. is_done (advance vs z)) (freed-means c k (slice_set xs k (Freeing 0)) was)),
+            finished-means c k (slice_set mid k Finished) is ∙ sym (ap (advance vs) (freed-means c k (slice_set mid k (Freeing 0)) was)),
+            sym (ap (λ z. is_done (advance vs z)) (freed-means c k (slice_set mid k (Freeing 0)) was)),
           );
           own = ap is_finished is;
-          outside = λ j q. stage-set_other xs k j Finished (apart j q) ∙ sym (stage-set_other xs k j (Freeing 0) (apart j q));
+          outside = λ j q. stage-set_other mid k j Finished (apart j q) ∙ sym (stage-set_other mid k j (Freeing 0) (apart j q));
         };
-        below =
-            told-one ns ds k (end_at ns k) (slice_set xs k Finished) (λ c s. told-finished c k (slice_set xs k Finished) is)
-            (told-same ns ds (k + 1) (end_at ns k) xs (slice_set xs k Finished) (nests-below ns ds k (k + 1) (end_at ns k) (omega arith) (nests ns ds k at-k.0 at-k.1)) (within-set xs k (end_at ns k) Finished)
-            (told-part ns ds 0 (length ns) (k + 1) (end_at ns k) xs (omega arith) fits told));
+        below = λ j c a b s. told-finished c j (slice_set mid k Finished) (all-gone j a b);
       }
-    where
-      apart : (j : ℕ) → (j < k) ⊎ (end_at ns k ≤ j) → (j ≡ k → ⊥)
-      apart j (inl q) = λ e. absurd (omega arith)
-      apart j (inr q) = λ e. absurd (omega (arith, below-k))
 
-  pub finishes : (ys : List Stage) → length ys ≡ length xs → ((us ws : List Stage) → IsRisen ns ds vs us ws k (slice_set xs k Finished) → HasRisen ns ds vs ws ys) → HasFinished ns ds vs k xs ys
-  finishes ys l h =
-      let r = h xs (slice_set xs k (Freeing 0)) risen in
-      record { fits = l; finished = r.finished; advanced = r.advanced; told = r.told }
+  pub finishes : (ys : List Stage) → length ys ≡ length mid → HasRisen ns ds vs (slice_set mid k (Freeing 0)) ys → HasFinished ns ds vs k mid ys
+  finishes ys l r = record { fits = l; finished = r.finished; advanced = r.advanced; told = r.told }

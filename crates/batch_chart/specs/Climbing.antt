@@ -1,5 +1,5 @@
 -- private: what going on from a finished node upwards makes of the stages.
-use Rattle.std.specs.Prelude.{◌≡◌, ℕ, ◌+◌, List, length, Bool, true, false}
+use Rattle.std.specs.Prelude.{◌≡◌, ◌≤◌, ◌<◌, ℕ, ◌+◌, List, length, Bool, true, false}
 use Rattle.batch_recipe.specs.Conditions.{ValueList}
 use Rattle.batch_recipe.specs.Nodes.{node_count}
 use Rattle.batch_recipe.specs.Tree.{Trees, no_trees, tree}
@@ -9,16 +9,20 @@ use Rattle.batch_chart.specs.declared.stage.Stage.{Stage}
 use Rattle.batch_chart.specs.Advancing.{HasAdvanced}
 use Rattle.batch_chart.specs.Compiled.{end_at, AreStanding}
 use Rattle.batch_chart.specs.Meaning.{AgreeOutside}
+use Rattle.batch_chart.specs.Neat.{AreNeat, AreBlank, SignsOutside}
 use Rattle.batch_chart.specs.Stages.{stage_at, is_finished}
+use Rattle.batch_chart.specs.Signs.{sign_at, NoneShows}
+use Rattle.batch_chart.specs.declared.sign.TheConstants.{IS_ACT}
 use Rattle.batch_chart.specs.Told.{AreTold}
+use Rattle.std.specs.Int.Bits.{bit_and}
 
 -- all trees of the row from n on are finished by their stages
 abbrev pub all_finished : Trees → ℕ → List Stage → Bool
 all_finished no_trees n xs = true
 all_finished (tree c ts) n xs = elim (is_finished (stage_at xs n)) [ true ↦ all_finished ts (n + node_count c) xs | false ↦ false ]
 
-pub record AreFinished (ns : List Node) (n m : ℕ) (xs : List Stage) (result : Bool) : Type 0 where
-  pub means : (ds : List Detail) (ts : Trees) → AreStanding ns ds n m ts → result ≡ all_finished ts n xs
+pub record AreFinished (ns : List Node) (ds : List Detail) (n m : ℕ) (xs : List Stage) (result : Bool) : Type 0 where
+  pub means : (ts : Trees) → AreStanding ns ds n m ts → result ≡ all_finished ts n xs
 
 -- an act below n has been finished, by which the stages xs have come to ws; the tree at n has gone on from these to ys, and nothing is left of it
 pub record IsRisen (ns : List Node) (ds : List Detail) (vs : ValueList) (xs ws : List Stage) (n : ℕ) (ys : List Stage) : Type 0 where
@@ -49,3 +53,36 @@ pub record HasRisen (ns : List Node) (ds : List Detail) (vs : ValueList) (ws ys 
   pub finished : Bool
   pub advanced : HasAdvanced ns ds vs 0 ws ys finished
   pub told : AreTold ns ds 0 (length ns) ys
+
+-- the tree at n, of which something was left at the stages xs with the signs ms, has been finished, and shows nothing any more
+pub record IsNeatlyRisen (ns : List Node) (ds : List Detail) (xs : List Stage) (ms : List ℕ) (n : ℕ) (ys : List Stage) (new : List ℕ) : Type 0 where
+  pub count : length new ≡ length ms
+  pub before : AreNeat ns ds 0 (length ns) xs ms
+  pub was : is_finished (stage_at xs n) ≡ false
+  pub same : AgreeOutside n (end_at ns n) xs ys
+  pub signs : SignsOutside n (end_at ns n) ms new
+  pub blank : AreBlank n (end_at ns n) ys new
+
+-- or something is left of it still, which shows what it is
+pub record IsNeatlyLeft (ns : List Node) (ds : List Detail) (xs : List Stage) (ms : List ℕ) (n : ℕ) (ys : List Stage) (new : List ℕ) : Type 0 where
+  pub count : length new ≡ length ms
+  pub before : AreNeat ns ds 0 (length ns) xs ms
+  pub was : is_finished (stage_at xs n) ≡ false
+  pub now : is_finished (stage_at ys n) ≡ false
+  pub same : AgreeOutside n (end_at ns n) xs ys
+  pub signs : SignsOutside n (end_at ns n) ms new
+  pub neat : AreNeat ns ds n (end_at ns n) ys new
+
+abbrev pub HasPassedNeatly : List Node → List Detail → List Stage → List ℕ → ℕ → List Stage → List ℕ → Bool → Type 0
+HasPassedNeatly ns ds xs ms n ys new true = IsNeatlyRisen ns ds xs ms n ys new
+HasPassedNeatly ns ds xs ms n ys new false = IsNeatlyLeft ns ds xs ms n ys new
+
+-- both, wherever the tree at n has been finished
+abbrev pub PassesBy : List Node → List Detail → ValueList → ℕ → List Stage → List ℕ → ℕ → List Stage → List ℕ → Bool → Type 0
+PassesBy ns ds vs n ys old p zs new b =
+    (xs ws : List Stage) (ms : List ℕ) → IsRisen ns ds vs xs ws n ys → IsNeatlyRisen ns ds xs ms n ys old → HasPassed ns ds vs xs ws p zs b × HasPassedNeatly ns ds xs ms p zs new b
+
+-- whether a node from n to m shows that it is an act
+abbrev pub TellsActs : List ℕ → ℕ → ℕ → Bool → Type 0
+TellsActs signs n m true = NoneShows signs IS_ACT n m
+TellsActs signs n m false = (k : ℕ) × (n ≤ k) × (k < m) × (bit_and (sign_at signs k) IS_ACT ≡ 0 → ⊥)

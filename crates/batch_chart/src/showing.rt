@@ -1,12 +1,14 @@
 //! The states that acts show.
 ghost use Rattle.std.specs.Prelude.{◌≡◌};
 ghost use Rattle.batch_chart.specs.Compiled.{IsCompiled, is_act_kind};
+ghost use Rattle.batch_chart.specs.Nexts.{SomeNoted};
 ghost use Rattle.batch_chart.specs.Running.{SomeLives};
 ghost use Rattle.batch_chart.specs.Showing.{IsFirstShown, IsShown, IsStateAt};
 
 use crate::finding::first;
 use crate::next_moves::find;
 use crate::node::{Detail, Kind, Node};
+use crate::signs::Signs;
 use crate::stage::Stage;
 use crate::wanted::Wanted;
 use batch_matrix::State;
@@ -77,10 +79,12 @@ pub fn state_at(
     nodes: &[Node],
     details: &[Detail],
     stages: &[Stage],
+    signs: &Signs,
     node: u16,
     state: State,
 ) -> Option<State>
-    requires { SomeLives nodes.now details.now stages.now }
+    requires lives { SomeLives nodes.now details.now stages.now }
+    requires noted { SomeNoted nodes.now details.now stages.now signs.now }
     ensures { IsStateAt nodes.now details.now stages.now node state result }
 {
     let n = usize::from(node);
@@ -93,7 +97,7 @@ pub fn state_at(
     if !is_act(nodes[n].kind) {
         return None;
     }
-    if find(nodes, details, stages, Wanted::At(n)).is_none() {
+    if find(nodes, details, stages, signs, Wanted::At(n)).is_none() {
         return Some(State::Idle);
     }
     match stages[n] {

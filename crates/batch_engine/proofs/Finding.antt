@@ -133,7 +133,7 @@ module _ (v : EngineView) (k : IsKept v) (i : ℕ) (b : Batch) (at : slice_get v
       let there : Has (acts (remains t b.running)) (asking told_so.3 told_so.4 told_so.5) = subst (λ (d : Model.Batch). Has (acts d.rest) (asking told_so.3 told_so.4 told_so.5)) same told_so.6 in
       let one : asking told_so.3 told_so.4 told_so.5 ≡ asking (step_at t j) (task_at t j) l =
       one_act (acts (remains t b.running)) (asking told_so.3 told_so.4 told_so.5) (asking (step_at t j) (task_at t j) l)
-      (acts-rise (0 ∷ []) t (remains t b.running) tree-placed batch-runs.runs.stands) there asks.2
+      (acts-rise (0 ∷ []) t (remains t b.running) tree-placed batch-runs.runs.alive.stands) there asks.2
       (told_so.7 ∙ ap (λ (z : BatchAct). z.1) (claim-act x j at_node) ∙ sym (step-place t j tree-placed asks.0 (omega (arith, asks.1)))) in
       let step : told_so.3 ≡ step_at t j = cc in
       let held : told_so.5 ≡ l = cc in
@@ -157,12 +157,12 @@ module _ (v : EngineView) (k : IsKept v) (i : ℕ) (b : Batch) (at : slice_get v
       (sym (is-served v k q need (b.number, place_at (tree_of v.cleared b) j) e) ∙ s)
 
   pub no-grants : ((j l : ℕ) → asks_here j l → served_here j l → ⊥) → grants (setup v.cleared) (plant_of v) (batch_of v.cleared b) ≡ []
-  no-grants none = Granting.grants-none (setup v.cleared) (plant_of v) (batch_of v.cleared b) (tree_of v.cleared b) tree-placed batch-runs.runs.stands none
+  no-grants none = Granting.grants-none (setup v.cleared) (plant_of v) (batch_of v.cleared b) (tree_of v.cleared b) tree-placed batch-runs.runs.alive.stands none
 
   pub first-grant : (j l : ℕ) → asks_here j l → served_here j l → ((x y : ℕ) → x < j → asks_here x y → served_here x y → ⊥)
       → least (grants (setup v.cleared) (plant_of v) (batch_of v.cleared b)) ≡ Some (grant b.number (place_at (tree_of v.cleared b) j) (need_at (tree_of v.cleared b) j l))
   first-grant j l asks served before =
-      Granting.grants-first (setup v.cleared) (plant_of v) (batch_of v.cleared b) (tree_of v.cleared b) tree-placed batch-runs.runs.stands j l
+      Granting.grants-first (setup v.cleared) (plant_of v) (batch_of v.cleared b) (tree_of v.cleared b) tree-placed batch-runs.runs.alive.stands j l
       (step-place (tree_of v.cleared b) j tree-placed asks.0 (omega (arith, asks.1))) asks served before
 
   -- nobody before `from` is served, and nobody from there on to `node` is in line
@@ -186,7 +186,7 @@ module _ (v : EngineView) (k : IsKept v) (i : ℕ) (b : Batch) (at : slice_get v
       let t : Tree = tree_of v.cleared b in
       let e : asking (step_at t j) (task_at t j) l ≡ asking (step_at t j) (task_at t j) m =
       one_act (acts (remains t b.running)) (asking (step_at t j) (task_at t j) l) (asking (step_at t j) (task_at t j) m)
-      (acts-rise (0 ∷ []) t (remains t b.running) tree-placed batch-runs.runs.stands) x.2 y.2 refl in
+      (acts-rise (0 ∷ []) t (remains t b.running) tree-placed batch-runs.runs.alive.stands) x.2 y.2 refl in
       let r : l ≡ m = cc in r
 
   -- the act at `node` isn't first in line, so nobody up to it is served

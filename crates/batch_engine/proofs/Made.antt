@@ -210,7 +210,7 @@ module _ (v : EngineView) (k : IsKept v) (i : ℕ) (b : Batch) (at : slice_get v
       let there : Has (acts (remains (tree_of v.cleared b) b.running)) (asking asks.3 asks.4 asks.5) = subst (λ (d : Model.Batch). Has (acts d.rest) (asking asks.3 asks.4 asks.5)) same asks.6 in
       let one : ready (step_at (tree_of v.cleared b) node) (task_at (tree_of v.cleared b) node) need ≡ asking asks.3 asks.4 asks.5 =
       one_act (acts (remains (tree_of v.cleared b) b.running)) (ready (step_at (tree_of v.cleared b) node) (task_at (tree_of v.cleared b) node) need) (asking asks.3 asks.4 asks.5)
-      (acts-rise (0 ∷ []) (tree_of v.cleared b) (remains (tree_of v.cleared b) b.running) (tree-placed v k i b at) (batch-runs v k i b at).runs.stands) here there
+      (acts-rise (0 ∷ []) (tree_of v.cleared b) (remains (tree_of v.cleared b) b.running) (tree-placed v k i b at) (batch-runs v k i b at).runs.alive.stands) here there
       (step-place (tree_of v.cleared b) node (tree-placed v k i b at) few (omega (arith, few')) ∙ sym (asks.7 ∙ ap (λ (z : BatchAct). z.1) is)) in
       cc
 

@@ -132,8 +132,8 @@ served-at w k i b at step task held need q here got number served =
     let t : Tree = tree_of w.cleared b in
     let g : Granted (setup w.cleared) (plant_of w) (batch_of w.cleared b) (grant b.number step.place need) =
     record { step = step; task = task; held = held; need = need; has = here; at = got; served = served; is = refl } in
-    let n = asks-node (setup w.cleared) (plant_of w) (batch_of w.cleared b) t (tree-placed w k i b at) (batch-runs w k i b at).runs.stands (grant b.number step.place need) g in
-    let s = served-node (setup w.cleared) (plant_of w) (batch_of w.cleared b) t (tree-placed w k i b at) (batch-runs w k i b at).runs.stands (grant b.number step.place need) g in
+    let n = asks-node (setup w.cleared) (plant_of w) (batch_of w.cleared b) t (tree-placed w k i b at) (batch-runs w k i b at).runs.alive.stands (grant b.number step.place need) g in
+    let s = served-node (setup w.cleared) (plant_of w) (batch_of w.cleared b) t (tree-placed w k i b at) (batch-runs w k i b at).runs.alive.stands (grant b.number step.place need) g in
     (b, at, (n.0, serves-first w k i b at n.0 held q n.1 (subst (λ (z : Need). number_of w.cleared z.resource ≡ Some q) n.5 number) s))
 
 -- The move of a step

@@ -1,31 +1,59 @@
-use Rattle.std.proofs.Common.{arith}
+use Rattle.std.proofs.Common.{arith, refl, ◌∙◌, ap, inl, inr, length, length-set}
 use Rattle.batch_chart.proofs.Standing.{within, par-compiled}
 use Rattle.batch_chart.proofs.Advanced.{left-at}
-use Rattle.batch_chart.proofs.Climbed.{sel-before, passed-over, passed-still, passed-par, passed-sel}
+use Rattle.batch_chart.proofs.Climbed.{no-skip, no-phase, passed-act, passed-par, passed-sel, told-under}
+use Rattle.batch_chart.proofs.OverBySigns.{over-tells}
+use Rattle.batch_chart.proofs.RisenNeatly.{not-over, finished-row, sel-others, neat-under, neatly-act, neatly-par, neatly-sel}
 use Rattle.batch_chart.proofs.climbing.pass.Goals as goal
 
 pub returns-then-is_over_at : goal.returns-then-is_over_at
-returns-then-is_over_at c = λ xs ws r. passed-over _ _ _ _ _ _ c.requires.compiled c.requires.above xs ws r c.if-is_over_at.ensures
-
-pub are_finished-over-requires : goal.are_finished-over-requires
-are_finished-over-requires c = (c.args.details.now, par-compiled _ _ _ _ _ c.requires.compiled c.in-Par.is c.requires.compiled.0)
-
-pub are_finished-over-requires-in-Sel : goal.are_finished-over-requires-in-Sel
-are_finished-over-requires-in-Sel c = (c.args.details.now, sel-before _ _ _ _ _ c.requires.compiled c.requires.above _ c.in-Sel.is)
+returns-then-is_over_at c = record { passes = λ xs ws ms r s. absurd (not-over _ _ _ _ _ c.requires.compiled c.requires.above xs ms _ s c.if-is_over_at.ensures); count = refl }
 
 pub returns-in-Skip : goal.returns-in-Skip
-returns-in-Skip c = λ xs ws r. passed-still _ _ _ _ _ _ c.requires.compiled c.requires.above xs ws r c.in-Skip.is c.if-is_over_at.ensures
+returns-in-Skip c = record {
+  passes = λ xs ws ms r s. absurd (elim c.in-Skip.is [
+    | inl e ↦ no-skip _ _ _ _ _ c.requires.compiled c.requires.above e
+    | inr e ↦ no-phase _ _ _ _ _ c.requires.compiled c.requires.above e.0 e.1 e.2
+  ]);
+  count = refl;
+}
+
+pub set-requires : goal.set-requires
+set-requires c = let h = within _ _ _ _ c.requires.compiled in omega (arith, h, c.requires.fits)
+
+pub returns-in-Act : goal.returns-in-Act
+returns-in-Act c =
+    let h = within _ _ _ _ c.requires.compiled in
+    record {
+      passes = λ xs ws ms r s. (
+        passed-act _ _ _ _ _ _ c.requires.compiled c.requires.above xs ws r _ c.in-Act.is (left-at c.args.nodes.now c.args.stages.now c.args.p _ c.in-Act.is c.if-is_over_at.ensures),
+        rw c.set.ensures (neatly-act _ _ _ _ _ c.requires.compiled c.requires.above xs ms _ s _ _ c.in-Act.is (omega (arith, h, c.requires.fits)) c.of_open.ensures),
+      );
+      count = ap length c.set.ensures ∙ length-set _ _ _;
+    }
 
 pub returns-in-Par : goal.returns-in-Par
 returns-in-Par c =
     let h = within _ _ _ _ c.requires.compiled in
-    λ xs ws r.
-    passed-par _ _ _ _ _ _ c.requires.compiled c.requires.above xs ws r _ _ _ (omega (arith, h, c.requires.compiled.0)) c.close.ensures c.in-Par.is
-    (left-at c.args.nodes.now c.args.stages.now c.args.p _ c.in-Par.is c.if-is_over_at.ensures) c.are_finished-over.ensures
+    let row = par-compiled _ _ _ _ _ c.requires.compiled c.in-Par.is c.requires.compiled.0 in
+    record {
+      passes = λ xs ws ms r s. (
+          let tells = over-tells _ _ _ _ _ _ _ row.1 (neat-under _ _ _ _ _ c.requires.compiled c.requires.above xs ms _ s) (told-under _ _ _ _ _ _ c.requires.compiled c.requires.above xs ws r) c.are_over-over.ensures in (
+            passed-par _ _ _ _ _ _ c.requires.compiled c.requires.above xs ws r _ _ _ (omega (arith, h, c.requires.compiled.0)) c.close.ensures c.in-Par.is
+                (left-at c.args.nodes.now c.args.stages.now c.args.p _ c.in-Par.is c.if-is_over_at.ensures) tells.1,
+            neatly-par _ _ _ _ _ c.requires.compiled c.requires.above xs ms _ s c.in-Par.is _ _ _ (omega (arith, h, c.requires.compiled.0)) c.close.ensures tells.0,
+          ));
+      count = refl;
+    }
 
 pub returns-in-Sel : goal.returns-in-Sel
 returns-in-Sel c =
     let h = within _ _ _ _ c.requires.compiled in
-    λ xs ws r.
-    passed-sel _ _ _ _ _ _ c.requires.compiled c.requires.above xs ws r _ _ _ _ (omega (arith, h, c.requires.compiled.0)) c.close-in-Sel.ensures c.in-Sel.is
-    (left-at c.args.nodes.now c.args.stages.now c.args.p _ c.in-Sel.is c.if-is_over_at.ensures) c.are_finished-over-in-Sel.ensures
+    record {
+      passes = λ xs ws ms r s. (
+        passed-sel _ _ _ _ _ _ c.requires.compiled c.requires.above xs ws r _ _ _ _ (omega (arith, h, c.requires.compiled.0)) c.close-in-Sel.ensures c.in-Sel.is
+            (left-at c.args.nodes.now c.args.stages.now c.args.p _ c.in-Sel.is c.if-is_over_at.ensures) (finished-row _ _ _ _ _ (sel-others _ _ _ _ _ c.requires.compiled c.requires.above xs ms _ s _ c.in-Sel.is)),
+        neatly-sel _ _ _ _ _ c.requires.compiled c.requires.above xs ms _ s _ c.in-Sel.is _ _ (omega (arith, h, c.requires.compiled.0)) c.close-in-Sel.ensures,
+      );
+      count = refl;
+    }

@@ -1,12 +1,14 @@
-use Rattle.std.proofs.Common.{◌<◌, List, length}
+use Rattle.std.proofs.Common.{◌≡◌, ◌<◌, ℕ, List, length}
 use Rattle.batch_chart.specs.declared.stage.Stage.{Stage}
-use Rattle.batch_chart.specs.Climbing.{IsRisen}
+use Rattle.batch_chart.specs.Climbing.{IsRisen, IsNeatlyRisen}
 use Rattle.batch_chart.proofs.climbing.rise.Given as goal
 
 abbrev pub invariant-loop-n : goal.invariant-loop-n
 invariant-loop-n l = record {
   within : l.n < length l.nodes;
-  risen : (xs ws : List Stage) → IsRisen l.nodes l.details l.values xs ws l.node l.initial.stages → IsRisen l.nodes l.details l.values xs ws l.n l.stages;
+  fits : length l.signs ≡ length l.nodes;
+  risen : (xs ws : List Stage) (ms : List ℕ) → IsRisen l.nodes l.details l.values xs ws l.node l.initial.stages → IsNeatlyRisen l.nodes l.details xs ms l.node l.initial.stages l.initial.signs
+      → IsRisen l.nodes l.details l.values xs ws l.n l.stages × IsNeatlyRisen l.nodes l.details xs ms l.n l.stages l.signs;
 }
 
 abbrev pub decreases-loop-n : goal.decreases-loop-n

@@ -11,7 +11,7 @@ pub returns-then-is_none : goal.returns-then-is_none
 returns-then-is_none c = subst (λ k. IsStateAt c.args.nodes.now c.args.details.now c.args.stages.now k c.args.state (Some Idle)) c.from-n.ensures (state-idle _ _ _ _ _ c.if-n-eq0.false (omega (arith, c.if-n-nodes.false)) _ c.if-is_none.ensures c.if-not-is_act.ensures c.find.ensures)
 
 pub shown-requires : goal.shown-requires
-shown-requires c = below-compiled _ _ _ _ _ c.requires (omega (arith, c.if-n-nodes.false)) c.if-is_none.ensures c.find.ensures c.in-Open.is
+shown-requires c = below-compiled _ _ _ _ _ c.requires.lives (omega (arith, c.if-n-nodes.false)) c.if-is_none.ensures c.find.ensures c.in-Open.is
 
 pub returns-in-Live : goal.returns-in-Live
 returns-in-Live c = subst (λ k. IsStateAt c.args.nodes.now c.args.details.now c.args.stages.now k c.args.state (Some c.in-Live.own)) c.from-n.ensures (state-live _ _ _ _ _ c.if-n-eq0.false (omega (arith, c.if-n-nodes.false)) _ _ c.if-is_none.ensures c.find.ensures c.in-Live.is)

@@ -1,5 +1,19 @@
-use Rattle.batch_chart.proofs.Started.{has-reset, never-empty}
+use Rattle.std.proofs.Common.{◌∙◌, ap}
+use Rattle.batch_chart.specs.Noting.{stage_signs}
+use Rattle.batch_chart.specs.declared.stage.Stage.TheVariants.{Ready}
+use Rattle.batch_chart.proofs.Started.{none-started, starts, starts-none, starts-neatly, empty-length, some-length}
 use Rattle.batch_chart.proofs.starting.start.Goals as goal
 
-pub returns-then-not-is_empty : goal.returns-then-not-is_empty
-returns-then-not-is_empty c = has-reset _ _ _ (never-empty _ _ _ c.requires)
+pub returns-then-is_empty : goal.returns-then-is_empty
+returns-then-is_empty c =
+    let none = empty-length _ c.if-is_empty.true c.is_empty.ensures in
+    record { started = none-started _ _ none; shown = rw c.clear.ensures (starts-none _ _ _ none c.requires.signs) }
+
+pub returns : goal.returns
+returns c =
+    let some = some-length _ c.if-is_empty.false c.is_empty.ensures in
+    let long = c.finish_all.auto.stages ∙ c.requires.fits in
+    record {
+      started = starts _ _ _ 0 some long c.requires.signs c.finish_all.ensures;
+      shown = rw (c.set.ensures, c.clear.ensures) (starts-neatly _ _ _ _ some long c.requires.signs c.finish_all.ensures (c.of_stage.ensures ∙ ap (λ k. stage_signs k (Ready 0)) c.needs.ensures));
+    }

@@ -77,7 +77,7 @@ returns c =
     (noted-is v hs kept c.requires c.args.unit.now c.in_ok-resource.resource c.from.result unit c.from.ensures) i (sym c.index_of.ensures ∙ c.in_ok-index.was) in
     let g : IsLiveIn v i c.args.unit.now c.args.phase.now (Some (c.in_ok-node.node, c.in_ok-node.state)) = c.in_ok-node.ensures in
     let b : Batch = g.0 in
-    let named = live-node (tree_of v.cleared b) (batch_of v.cleared b).rest (batch_of v.cleared b) c.args.unit.now c.args.phase.now c.in_ok-node.node c.in_ok-node.state (tree-placed v kept i b g.2.at) (batch-runs v kept i b g.2.at).runs.stands g.3 in
+    let named = live-node (tree_of v.cleared b) (batch_of v.cleared b).rest (batch_of v.cleared b) c.args.unit.now c.args.phase.now c.in_ok-node.node c.in_ok-node.state (tree-placed v kept i b g.2.at) (batch-runs v kept i b g.2.at).runs.alive.stands g.3 in
     record {
       batch = b;
       chart = g.1;

@@ -43,7 +43,7 @@ returns-in_default-node_of c =
     let shown : Rattle.batch_model.specs.ActStates.state_of (plant_of v) c.args.batch c.args.place.now ≡ state_in (batch_of v.cleared b) c.args.place.now =
     ap (λ (o : Option Model.Batch). let s : Option State = elim o [ None ↦ None | Some d ↦ state_in d c.args.place.now ] in s) (f.is ∙ ap (λ (z : Batch). Some (batch_of v.cleared z)) same) in
     let none : NoNodeAt (nodes_of t) c.args.place.now = subst (λ (z : Tree). NoNodeAt (nodes_of z) c.args.place.now) (sym tree) (nowhere-alike bound r.0.acts c.args.place.now (c.in_default-node_of.ensures.none r.0 read refl)) in
-    sym (shown ∙ state-nowhere (batch_of v.cleared b) c.args.place.now (tree-placed v kept c.in-Some.index b at) (batch-runs v kept c.in-Some.index b at).runs.stands none)
+    sym (shown ∙ state-nowhere (batch_of v.cleared b) c.args.place.now (tree-placed v kept c.in-Some.index b at) (batch-runs v kept c.in-Some.index b at).runs.alive.stands none)
 
 pub state_at-requires : goal.state_at-requires
 state_at-requires c =

@@ -1,0 +1,30 @@
+-- surface: the signs of nodes.
+use Rattle.std.specs.Prelude.{◌≡◌, ◌<◌, ◌≤◌, ◌+◌, ◌*◌, ℕ, List, length, Bool, true, false, not, nat_eq, Option, Some, None, slice_index, slice_set}
+use Rattle.std.specs.Int.Bits.{bit_and}
+
+-- one of the wanted signs is among these
+abbrev pub shows : ℕ → ℕ → Bool
+shows wanted signs = not (nat_eq (bit_and signs wanted) 0)
+
+-- the signs of node k
+abbrev pub sign_at : List ℕ → ℕ → ℕ
+sign_at signs k = slice_index signs k
+
+-- what isn't among the signs of a block isn't among those of its nodes
+abbrev pub covers : List ℕ → ℕ → ℕ → Type 0
+covers signs from all = (k wanted : ℕ) → from ≤ k → k < from + 64 → bit_and all wanted ≡ 0 → bit_and (sign_at signs k) wanted ≡ 0
+
+pub record AreGathered (signs blocks : List ℕ) : Type 0 where
+  pub count : length signs ≤ 64 * length blocks
+  pub gather : (block : ℕ) → covers signs (block * 64) (slice_index blocks block)
+
+abbrev pub NoneShows : List ℕ → ℕ → ℕ → ℕ → Type 0
+NoneShows signs wanted from end = (k : ℕ) → from ≤ k → k < end → bit_and (sign_at signs k) wanted ≡ 0
+
+abbrev pub IsNextShown : List ℕ → ℕ → ℕ → Option ℕ → Type 0
+IsNextShown signs wanted from None = NoneShows signs wanted from (length signs)
+IsNextShown signs wanted from (Some n) = (from ≤ n) × (n < length signs) × (bit_and (sign_at signs n) wanted ≡ 0 → ⊥) × NoneShows signs wanted from n
+
+-- the node shows these signs instead, where it shows any
+abbrev pub replaced : List ℕ → ℕ → ℕ → List ℕ
+replaced signs k new = elim (nat_eq (sign_at signs k) 0) [ true ↦ signs | false ↦ slice_set signs k new ]

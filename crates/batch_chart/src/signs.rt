@@ -1,0 +1,104 @@
+//! What the acts of a chart show, by which they are found.
+ghost use Rattle.std.specs.Prelude.{◌≡◌, ◌<◌, ℕ, length, replicate, slice_set, IfOk};
+ghost use Rattle.batch_chart.specs.Signs.{IsNextShown, covers, replaced, sign_at};
+
+use std::alloc::{AllocError, Global};
+use std::marker::Model;
+
+/// How many nodes stand in a block.
+const BLOCK: usize = 64;
+
+/// For each node a set of signs, as the bits of a word, and for each block of nodes the signs of all of them.
+/// So the next node with a sign is found in as many steps as there are blocks, and twice the nodes of one.
+#[derive(Debug, Drop)]
+pub struct Signs {
+    nodes: Vec<u32>,
+    blocks: Vec<u32>,
+}
+
+impl Model for Signs {
+    ghost use Rattle.std.specs.Prelude.{List, ℕ};
+    ghost use Rattle.batch_chart.specs.Signs.{AreGathered};
+
+    ghost Value = { List ℕ };
+
+    ghost view = { λ signs. signs.nodes.items };
+
+    ghost invariant = { λ signs. AreGathered signs.nodes.items signs.blocks.items };
+}
+
+impl Signs {
+    /// So many nodes without a sign.
+    pub fn new(alloc: Global, count: usize) -> Result<Signs, AllocError>
+        ensures { IfOk result (λ signs. signs ≡ replicate count 0) }
+    {
+        Ok(Signs {
+            nodes: vec![in alloc; 0; count]?,
+            blocks: vec![in alloc; 0; count.div_ceil(BLOCK)]?,
+        })
+    }
+
+    /// The signs that the node shows.
+    pub fn at(&self, node: usize) -> u32
+        ensures { result ≡ sign_at self.now node }
+    {
+        self.nodes.get(node).copied().unwrap_or(0)
+    }
+
+    /// The node shows these signs, and no others.
+    pub fn set(&mut self, node: usize, signs: u32)
+        requires { node < length self.old }
+        ensures { self.new ≡ slice_set self.old node signs }
+    {
+        self.nodes[node] = signs;
+        let block = node / BLOCK;
+        self.blocks[block] = gathered(&self.nodes, block * BLOCK);
+    }
+
+    /// The node shows these signs instead, where it shows any.
+    pub fn replace(&mut self, node: usize, signs: u32)
+        ensures { self.new ≡ replaced self.old node signs }
+    {
+        if self.at(node) != 0 {
+            self.set(node, signs);
+        }
+    }
+
+    /// No node shows a sign any more.
+    pub fn clear(&mut self)
+        ensures { self.new ≡ replicate (length self.old) 0 }
+    {
+        self.nodes.fill(0);
+        self.blocks.fill(0);
+    }
+
+    /// The first node from this one on that shows one of the signs.
+    pub fn next(&self, wanted: u32, from: usize) -> Option<usize>
+        ensures { IsNextShown self.now wanted from result }
+    {
+        let count = self.nodes.len();
+        let mut at = from;
+        while at < count {
+            if at % BLOCK == 0 && self.blocks[at / BLOCK] & wanted == 0 {
+                at = count.min(at + BLOCK);
+            } else if self.nodes[at] & wanted != 0 {
+                return Some(at);
+            } else {
+                at += 1;
+            }
+        }
+        None
+    }
+}
+
+/// The signs of the block that begins at the node.
+fn gathered(nodes: &[u32], from: usize) -> u32
+    ensures { covers nodes.now from result }
+{
+    let end = nodes.len().min(from.saturating_add(BLOCK));
+    let mut signs = 0;
+    for n in from..end {
+        signs |= nodes[n];
+    }
+    signs
+}
