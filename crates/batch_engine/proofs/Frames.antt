@@ -8,10 +8,10 @@ use Rattle.batch_recipe.specs.Tree.{Place, Step, Task}
 use Rattle.batch_recipe.specs.declared.need.Need.{Need}
 use Rattle.batch_model.specs.Lists.{Has}
 use Rattle.batch_model.specs.Rest.{Rest, ready, asking, open_act, live, freeing, in_seq, in_par, in_loop, done, acts}
-use Rattle.batch_model.specs.Plant.{Setup, Batch, BatchAct, Share, units_in, Plant, is_same_act, holders}
+use Rattle.batch_model.specs.Plant.{Setup, Batch, BatchAct, Share, units_in, Plant, is_same_act, holders, without}
 use Rattle.batch_model.specs.Moves.{Move, send, state, release, begin, start, end, ask, grant, batch_of, act_move, state_move, batch_moves, is_served, when, after, next, possible}
 use Rattle.batch_model.specs.Runs.{Out, move}
-use Rattle.batch_model.specs.Records.{holders_told, holders_after, without}
+use Rattle.batch_model.specs.Records.{holders_told, holders_after}
 use Rattle.batch_machine.proofs.Falling.{Has-batch_moves}
 use Rattle.batch_machine.proofs.Ordering.{none_least}
 use Rattle.batch_machine.proofs.Telling.{holders_told-last}

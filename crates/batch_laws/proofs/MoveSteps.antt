@@ -8,8 +8,8 @@ use Rattle.batch_matrix.specs.Matrix.{accepts}
 use Rattle.batch_model.specs.Lists.{Has}
 use Rattle.batch_recipe.specs.Conditions.{Name, ValueList}
 use Rattle.batch_recipe.specs.Tree.{Place, Step, Phase, Task, runs, follows, Tree}
-use Rattle.batch_model.specs.Rest.{Rest, ready, asking, open_act, live, freeing, in_seq, in_par, in_loop, done, is_done, acts}
-use Rattle.batch_model.specs.Plant.{Setup, Batch, units_in, Plant, in_act, place_of, held_in, holders}
+use Rattle.batch_model.specs.Rest.{Rest, ready, asking, open_act, live, freeing, in_seq, in_par, in_loop, done, is_done, acts, place_of}
+use Rattle.batch_model.specs.Plant.{Setup, Batch, units_in, Plant, in_act, held_in, holders}
 use Rattle.batch_model.specs.Moves.{Move, send, release, begin, start, end, ask, grant, is_running, is_stopping, is_stopped, is_quiet, is_empty, passed_on, entering, giving_back, when, is_served, act_move, freed, sent, released, begun, ended, asked, granted, batch_after, after, handed_values}
 use Rattle.batch_model.specs.Runs.{Out, move}
 use Rattle.batch_model.specs.Records.{StartsIdle}

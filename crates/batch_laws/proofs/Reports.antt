@@ -10,8 +10,8 @@ use Rattle.batch_matrix.specs.Matrix.{accepts, after_report}
 use Rattle.batch_model.specs.Lists.{Has}
 use Rattle.batch_recipe.specs.Conditions.{Name, ValueList}
 use Rattle.batch_recipe.specs.Tree.{Place, Phase, Step}
-use Rattle.batch_model.specs.Rest.{Rest, ready, asking, open_act, live, freeing, in_seq, in_par, in_loop, done, acts}
-use Rattle.batch_model.specs.Plant.{Formula, size_out_of_range, value_out_of_range, scaled, Recipe, Master, Setup, Batch, BatchAct, Plant, batch_at, in_batch, in_act, place_of}
+use Rattle.batch_model.specs.Rest.{Rest, ready, asking, open_act, live, freeing, in_seq, in_par, in_loop, done, acts, place_of}
+use Rattle.batch_model.specs.Plant.{Formula, size_out_of_range, value_out_of_range, scaled, Recipe, Master, Setup, Batch, BatchAct, Plant, batch_at, in_batch, in_act}
 use Rattle.batch_model.specs.Moves.{Move, ended, next}
 use Rattle.batch_recipe.specs.Values.{with_values, are_outputs}
 use Rattle.batch_model.specs.Events.{Event, create, order, remove, report, Reply, reported, refused, unknown_recipe, bad_binding, binding, is_binding, bound_by, roles_told, creating_for, unknown_batch, no_live_phase, report_not_expected, bad_output, bad_size, bad_value, full, moves_pending, no_memory, is_full, creating, ordering, removing, LivePhase, live_in, live_phase, now, batch_state_after, outputs_of, batch_reported, reporting, judged, react}

@@ -8,8 +8,8 @@ use Rattle.batch_matrix.specs.declared.command.Command.{Command}
 use Rattle.batch_matrix.specs.declared.command.Command.TheVariants.{Start, Pause, Resume, Hold, Restart, Stop, Abort, Reset}
 use Rattle.batch_matrix.specs.Matrix.{accepts, target}
 use Rattle.batch_recipe.specs.Tree.{Step, Task, runs, follows}
-use Rattle.batch_model.specs.Rest.{Rest, ready, asking, open_act, live, freeing, in_seq, in_par, in_loop, done, is_done}
-use Rattle.batch_model.specs.Plant.{Setup, Batch, Plant, place_of, in_act, held_in}
+use Rattle.batch_model.specs.Rest.{Rest, ready, asking, open_act, live, freeing, in_seq, in_par, in_loop, done, is_done, place_of}
+use Rattle.batch_model.specs.Plant.{Setup, Batch, Plant, in_act, held_in}
 use Rattle.batch_model.specs.Moves.{Move, send, release, begin, start, end, ask, grant, batch_of, place_of_move, passed_on, is_running, is_stopping, is_stopped, is_quiet, is_empty, handed_values, when, entering, giving_back, is_served, act_move, act_after, batch_after, freed}
 use Rattle.batch_model.specs.Runs.{toil, toil_of_work, sends, goes_on, ahead, toil_left}
 use Rattle.batch_machine.proofs.Work.{going, going_no_further, reach-toil}
