@@ -1,13 +1,14 @@
 -- Signs of nodes and of blocks.
-use Rattle.std.proofs.Common.{◌≡◌, ◌<◌, ◌≤◌, ◌+◌, refl, sym, ◌∙◌, ap, ℕ, List, false, inl, inr, ◌⊎◌, arith, nat_eq}
+use Rattle.std.proofs.Common.{◌≡◌, ◌<◌, ◌≤◌, ◌+◌, refl, sym, ◌∙◌, ap, ℕ, List, length, Bool, true, false, Some, None, inl, inr, ◌⊎◌, arith, nat_eq, nat_le}
 use Rattle.std.specs.Prelude.{min, max, not, ◌||◌, zero, suc}
 use Rattle.std.specs.Int.{bit_at}
 use Rattle.std.specs.Int.Bits.{bit_and, bit_or}
 use Rattle.std.proofs.lemmas.Bool.{cases_lt}
+use Rattle.std.proofs.lemmas.List.{get_or_past}
 use Rattle.std.proofs.lemmas.Bool.Decides.{nat_tests}
 use Rattle.std.proofs.lemmas.Nat.{and_or_apart}
 use Rattle.std.proofs.lemmas.Nat.Bits.{bit_at-zero, bit_at_and, bit_at_or, same_from_bits}
-use Rattle.batch_chart.specs.Signs.{sign_at, shows}
+use Rattle.batch_chart.specs.Signs.{sign_at, shows, IsNextShown, TellsNone}
 
 no-bit : (a m : ℕ) → bit_and a m ≡ 0 → (i : ℕ) → min (bit_at a i) (bit_at m i) ≡ 0
 no-bit a m e i = sym (bit_at_and a m i) ∙ ap (λ z. bit_at z i) e ∙ bit_at-zero i
@@ -61,3 +62,19 @@ none-shown m = all-bits 0 m (λ i. ap (λ z. min z (bit_at m i)) (bit_at-zero i)
 
 pub nothing-shown : (m : ℕ) → shows m 0 ≡ false
 nothing-shown m = ap (λ z. not (nat_eq z 0)) (none-shown m)
+
+-- what the next node that shows one of the signs says of those from n to m
+
+pub tells-none : (signs : List ℕ) (wanted n m : ℕ) → IsNextShown signs wanted n None → TellsNone signs wanted n m true
+tells-none signs wanted n m h k a b = go (cases_lt k (length signs))
+  where
+    go : (k < length signs) ⊎ (length signs ≤ k) → bit_and (sign_at signs k) wanted ≡ 0
+    go (inl q) = h k a q
+    go (inr q) = ap (λ z. bit_and z wanted) (get_or_past {X = ℕ} signs k 0 q) ∙ none-shown wanted
+
+pub tells-some : (signs : List ℕ) (wanted n m j : ℕ) → IsNextShown signs wanted n (Some j) → TellsNone signs wanted n m (nat_le m j)
+tells-some signs wanted n m j h = go (nat_le m j) refl
+  where
+    go : (b : Bool) → nat_le m j ≡ b → TellsNone signs wanted n m b
+    go true e = λ k a lt. (let le : m ≤ j = grind (arith, nat_tests) in h.3 k a (omega arith))
+    go false e = (let lt : j < m = grind (arith, nat_tests) in (j, h.0, lt, h.2))

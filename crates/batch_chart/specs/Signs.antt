@@ -25,6 +25,11 @@ abbrev pub IsNextShown : List ℕ → ℕ → ℕ → Option ℕ → Type 0
 IsNextShown signs wanted from None = NoneShows signs wanted from (length signs)
 IsNextShown signs wanted from (Some n) = (from ≤ n) × (n < length signs) × (bit_and (sign_at signs n) wanted ≡ 0 → ⊥) × NoneShows signs wanted from n
 
+-- whether none of the wanted signs is shown from node n up to node m
+abbrev pub TellsNone : List ℕ → ℕ → ℕ → ℕ → Bool → Type 0
+TellsNone signs wanted n m true = NoneShows signs wanted n m
+TellsNone signs wanted n m false = (k : ℕ) × (n ≤ k) × (k < m) × (bit_and (sign_at signs k) wanted ≡ 0 → ⊥)
+
 -- the node shows these signs instead, where it shows any
 abbrev pub replaced : List ℕ → ℕ → ℕ → List ℕ
 replaced signs k new = elim (nat_eq (sign_at signs k) 0) [ true ↦ signs | false ↦ slice_set signs k new ]

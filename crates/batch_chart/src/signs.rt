@@ -1,6 +1,6 @@
 //! What the acts of a chart show, by which they are found.
 ghost use Rattle.std.specs.Prelude.{◌≡◌, ◌<◌, ℕ, length, replicate, slice_set, IfOk};
-ghost use Rattle.batch_chart.specs.Signs.{IsNextShown, covers, replaced, sign_at};
+ghost use Rattle.batch_chart.specs.Signs.{IsNextShown, TellsNone, covers, replaced, sign_at};
 
 use std::alloc::{AllocError, Global};
 use std::marker::Model;
@@ -70,6 +70,16 @@ impl Signs {
     {
         self.nodes.fill(0);
         self.blocks.fill(0);
+    }
+
+    /// Whether no node from this one on, up to `end`, shows one of the signs.
+    pub fn has_none(&self, wanted: u32, from: usize, end: usize) -> bool
+        ensures { TellsNone self.now wanted from end result }
+    {
+        match self.next(wanted, from) {
+            None => true,
+            Some(node) => end <= node,
+        }
     }
 
     /// The first node from this one on that shows one of the signs.
