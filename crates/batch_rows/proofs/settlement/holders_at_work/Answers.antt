@@ -25,7 +25,7 @@ apart : (p : Step) → ◌≡◌ {A = Place} p001 p.place → (below : Place) �
 apart p is below h = let same : p000 ++ below ≡ p001 = h ∙ sym is in absurd cc
 
 beside : Works p000 phase_beside → ⊥
-beside (inl halting) = halting
+beside (inl halting) = absurd cc
 beside (inr phase) =
     elim phase.3 [
       | inl e ↦ absurd cc
