@@ -1,9 +1,8 @@
-use Rattle.std.proofs.Common.{◌≡◌, ◌<◌, ℕ, ◌++◌, codes, decimal, sym, ◌∙◌, arith, append_assoc}
-use Rattle.std.proofs.KnownBytes.{Appends-trans}
+use Rattle.std.proofs.Common.{◌≡◌, ◌<◌, ℕ, ◌++◌, codes, decimal, arith}
 use Rattle.std.proofs.lemmas.Result.{err_from_is_err_and}
 use Rattle.batch_wire.specs.Pieces.{text_of_place}
 use Rattle.batch_wire.proofs.PlaceParts.{entry-read, past-entries, no-text, root-text, text-below}
-use Rattle.batch_wire.proofs.WrittenLemmas.{longer_text, then_beginning, then_last}
+use Rattle.batch_wire.proofs.WrittenLemmas.{longer_text, then_last}
 use Rattle.batch_wire.proofs.places.+write_place_in.Goals as goal
 
 pub returns-in_default : goal.returns-in_default
@@ -28,17 +27,8 @@ returns-in_err-write_place_in g t c =
     rw (p.1, (text-below c.args.recipe.now _ _ is c.if-node-eq0.false).1)
     (longer_text _ _ _ (codes "." ++ decimal c.in-Some.entry.now.child) c.in_err-write_place_in.ensures)
 
-pub returns-in_err-write_all : goal.returns-in_err-write_all
-returns-in_err-write_all g t c =
-    let is = entry-read c.args.recipe.now _ _ _ c.in-Some.entry.now c.from.ensures c.deref.ensures.value c.in-Some.ensures.lookup.0 c.in-Some.ensures.lookup.1 in
-    let p = err_from_is_err_and c.from_residual-in_err-write_all.result c.from_residual-in_err-write_all.ensures.1 in
-    rw (p.1, (text-below c.args.recipe.now _ _ is c.if-node-eq0.false).1)
-    (then_beginning _ _ _ (text_of_place c.args.recipe.now c.in-Some.entry.now.parent) (codes ".") (decimal c.in-Some.entry.now.child) c.in_ok-write_place_in.ensures c.in_err-write_all.ensures)
-
 pub returns : goal.returns
 returns g t c =
     let is = entry-read c.args.recipe.now _ _ _ c.in-Some.entry.now c.from.ensures c.deref.ensures.value c.in-Some.ensures.lookup.0 c.in-Some.ensures.lookup.1 in
-    let above = text_of_place c.args.recipe.now c.in-Some.entry.now.parent in
-    let number = decimal c.in-Some.entry.now.child in
-    rw ((text-below c.args.recipe.now _ _ is c.if-node-eq0.false).1 ∙ sym (append_assoc above (codes ".") number))
-    (then_last _ _ _ _ (above ++ codes ".") number (Appends-trans _ _ _ above (codes ".") c.in_ok-write_place_in.ensures c.in_ok-write_all.ensures) c.write_number-2.ensures)
+    rw (text-below c.args.recipe.now _ _ is c.if-node-eq0.false).1
+    (then_last _ _ _ _ (text_of_place c.args.recipe.now c.in-Some.entry.now.parent) (codes "." ++ decimal c.in-Some.entry.now.child) c.in_ok-write_place_in.ensures c.write_step.ensures)
