@@ -78,7 +78,7 @@ module _ (r : Recipe) where
       go (inr g) = (
         g.earlier,
         text-at k x.at x.numbered ∙ ap place_text g.placed ∙ one-more g.above.place e.child (long-enough e.parent g.above e g.known)
-        ∙ ap (λ t. t ++ (codes "." ++ decimal e.child)) (sym (text-at e.parent g.above g.known)),
+            ∙ ap (λ t. t ++ (codes "." ++ decimal e.child)) (sym (text-at e.parent g.above g.known)),
       )
 
   -- a number that no node has names no place

@@ -1,5 +1,5 @@
 //! Places in lines of the record.
-use crate::records::{engine_of, record};
+use crate::script::assert_told;
 use std::test::Fail;
 
 const CELL: &str = "cell = \"DEMO\"
@@ -30,13 +30,15 @@ name = \"ADD\"
 /// From the root's number alone to a number of two digits below nine others.
 #[test]
 fn places_have_all_their_numbers(rt: HostRuntime) -> Result<(), Fail> {
-    let mut engine = engine_of(rt.alloc(), CELL, &[RECIPE])?;
-    let text = record(
+    assert_told(
+        &rt,
         rt.alloc(),
-        &mut engine,
-        "create P 1000\nstart 1\nreport R1 ADD done\n",
-    )?;
-    assert_eq!(rt; text.as_str(),
+        CELL,
+        &[RECIPE],
+        "create P 1000
+start 1
+report R1 ADD done
+",
         "created 1 P 1000
 ok start 1 running
 begin 1 0 P
@@ -47,7 +49,6 @@ begin 1 0.0.0.0.0.0 O
 start 1 0.0.0.0.0.0.0.0.0.10 R1 ADD
 ok report R1 ADD done 1 0.0.0.0.0.0.0.0.0.10 running
 start 1 0.0.0.0.0.0.0.0.0.11 R1 ADD
-"
-    );
-    Ok(())
+",
+    )
 }
