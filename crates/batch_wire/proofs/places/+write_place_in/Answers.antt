@@ -1,4 +1,4 @@
-use Rattle.std.proofs.Common.{◌≡◌, ◌<◌, ℕ, ◌++◌, codes, decimal, arith}
+use Rattle.std.proofs.Common.{◌++◌, codes, decimal, arith}
 use Rattle.std.proofs.lemmas.Result.{err_from_is_err_and}
 use Rattle.batch_wire.specs.Pieces.{text_of_place}
 use Rattle.batch_wire.proofs.PlaceParts.{entry-read, past-entries, no-text, root-text, text-below}
