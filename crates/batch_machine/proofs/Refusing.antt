@@ -1,7 +1,6 @@
 -- A refused event leaves the plant as it was, and some refusals come only where they have a cause.
 use Rattle.std.proofs.Common.{◌≡◌, ◌⊎◌, refl, sym, subst, ℕ, ◌<◌, ◌≤◌, arith, length, Bool, true, false, ◌||◌, nat_le, nat_lt, Some, None, inl, inr, List}
 use Rattle.std.specs.Prelude.{Option, find, ⊤}
-use Rattle.batch_matrix.specs.declared.state.State.{State}
 use Rattle.batch_matrix.specs.declared.state.State.TheVariants.{Idle}
 use Rattle.batch_matrix.specs.declared.command.Command.{Command}
 use Rattle.batch_matrix.specs.declared.report.Report.{Report}
