@@ -1,6 +1,6 @@
 -- What the loop over a recipe's entries keeps: what is made of each.
-use Rattle.std.proofs.Common.{◌≡◌, inl, inr, map, ℕ, zero, suc, ◌+◌, ◌<◌, ◌≤◌, List, [], ◌∷◌, ◌++◌, length, get_or, Option, Some, None, slice_get, sym, ap, ◌∙◌, refl, subst, arith, append_assoc, length-append}
-use Rattle.std.proofs.lemmas.Option.{slice_get_read, slice_get_within, slice_get-get_or}
+use Rattle.std.proofs.Common.{◌≡◌, inl, inr, map, ℕ, zero, suc, ◌+◌, ◌<◌, ◌≤◌, List, [], ◌∷◌, ◌++◌, length, Option, Some, None, slice_get, sym, ap, ◌∙◌, refl, subst, arith, length-append}
+use Rattle.std.proofs.lemmas.Option.{slice_get_within}
 use Rattle.std.proofs.lemmas.Bool.{cases_lt}
 use Rattle.batch_recipe.specs.Diagram.{Diagram}
 use Rattle.batch_recipe.specs.Outlines.{act_of}
@@ -10,16 +10,16 @@ use Rattle.batch_recipe.specs.declared.act.Work.TheVariants.{Follows, Runs}
 use Rattle.batch_recipe.specs.declared.acts.Acts.{Acts}
 use Rattle.batch_recipe.specs.declared.act.UnitChoice.{UnitChoice}
 use Rattle.batch_recipe.specs.declared.entry.Entry.{Entry}
-use Rattle.batch_recipe.proofs.Slices.{slice_get-left, slice_get-right}
+use Rattle.batch_recipe.proofs.Slices.{slice_get-left}
 use Rattle.batch_chart.specs.Building.{own_unit, diagram_below, conditions_in, unit_at, IsActKind, IsChartKind, IsSiteOf, IsKindOf}
-use Rattle.batch_chart.specs.Compiled.{entry_at, end_at, kind_at, IsNode}
+use Rattle.batch_chart.specs.Compiled.{entry_at, IsNode}
 use Rattle.batch_chart.specs.Parents.{parent_at}
 use Rattle.batch_chart.specs.declared.node.Node.{Node}
 use Rattle.batch_chart.specs.declared.node.Kind.{Kind}
-use Rattle.batch_chart.specs.declared.node.Kind.TheVariants.{Skip}
 use Rattle.batch_chart.specs.declared.node.Detail.{Detail}
 use Rattle.batch_chart.specs.declared.node.Detail.TheVariants as detail
 use Rattle.batch_chart.specs.declared.site.Site.{Site}
+use Rattle.batch_chart.proofs.Pieces.{get_seam}
 
 -- what is made of the entry with the number k, below the site of its parent
 pub record IsMade (acts : Acts) (sites : List Site) (ns : List Node) (ds : List Detail) (k : ℕ) (e : Entry) : Type 0 where
@@ -61,39 +61,6 @@ pub record AreMade (acts : Acts) (es : List Entry) (sites : List Site) (ns : Lis
   pub as_many_nodes : length ns ≡ n
   pub each : (k : ℕ) (e : Entry) → slice_get es k ≡ Some e → k < n → IsMade acts sites ns ds k e
 
--- These stand in a list from number n on.
-module _ {X : Type 0} (all : List X) where
-  pub record AreFrom (n : ℕ) (xs : List X) : Type 0 where
-    pub front : List X
-    pub rest : List X
-    pub is : all ≡ front ++ (xs ++ rest)
-    pub count : length front ≡ n
-
-  pub from_left : (n : ℕ) (xs ys : List X) → AreFrom n (xs ++ ys) → AreFrom n xs
-  from_left n xs ys h = record { front = h.front; rest = ys ++ h.rest; is = h.is ∙ ap (λ zs. h.front ++ zs) (append_assoc xs ys h.rest); count = h.count }
-
-  pub from_right : (n : ℕ) (xs ys : List X) → AreFrom n (xs ++ ys) → AreFrom (n + length xs) ys
-  from_right n xs ys h =
-      record {
-        front = h.front ++ xs;
-        rest = h.rest;
-        is = h.is ∙ (ap (λ zs. h.front ++ zs) (append_assoc xs ys h.rest) ∙ sym (append_assoc h.front xs (ys ++ h.rest)));
-        count = omega (arith, length-append h.front xs, h.count);
-      }
-
-  pub from_tail : (n : ℕ) (x : X) (xs : List X) → AreFrom n (x ∷ xs) → AreFrom (n + 1) xs
-  from_tail n x xs h = from_right n (x ∷ []) xs h
-
-  get_seam : (xs ys : List X) (x : X) → slice_get (xs ++ x ∷ ys) (length xs) ≡ Some x
-  get_seam [] ys x = refl
-  get_seam (y ∷ xs) ys x = get_seam xs ys x
-
-  pub from_head : (n : ℕ) (x : X) (xs : List X) → AreFrom n (x ∷ xs) → slice_get all n ≡ Some x
-  from_head n x xs h = ap (slice_get all) (sym h.count) ∙ (ap (λ zs. slice_get zs (length h.front)) h.is ∙ get_seam h.front (xs ++ h.rest) x)
-
-  pub from_end : (n : ℕ) (xs : List X) → AreFrom n xs → n + length xs ≤ length all
-  from_end n xs h = omega (arith, ap length h.is, length-append h.front (xs ++ h.rest), length-append xs h.rest, h.count)
-
 abbrev IsKept : List Detail → List Detail → Type 0
 IsKept ds fs = (i : ℕ) (x : Detail) → slice_get ds i ≡ Some x → slice_get fs i ≡ Some x
 
@@ -122,10 +89,6 @@ details_kept acts e above ds fs κ h = go (act_of acts e.kind) refl
 
 pub AreMade-none : (acts : Acts) (es : List Entry) → AreMade acts es [] [] [] 0
 AreMade-none acts es = record { as_many_sites = refl; as_many_nodes = refl; each = λ k e is below. absurd (omega arith) }
-
-get_last : {X : Type 0} (xs : List X) (x : X) → slice_get (xs ++ x ∷ []) (length xs) ≡ Some x
-get_last [] x = refl
-get_last (y ∷ xs) x = get_last xs x
 
 get_before : {X : Type 0} (xs ys : List X) (k : ℕ) → k < length xs → slice_get (xs ++ ys) k ≡ slice_get xs k
 get_before [] ys k below = absurd (omega arith)
@@ -165,8 +128,8 @@ module _ (acts : Acts) (es : List Entry) (sites : List Site) (ns : List Node) (d
         node = node;
         before = ds;
         after = fs;
-        known = ap (slice_get (sites ++ site ∷ [])) (sym h.as_many_sites) ∙ get_last sites site;
-        stands = ap (slice_get (ns ++ node ∷ [])) (sym h.as_many_nodes) ∙ get_last ns node;
+        known = ap (slice_get (sites ++ site ∷ [])) (sym h.as_many_sites) ∙ get_seam sites [] site;
+        stands = ap (slice_get (ns ++ node ∷ [])) (sym h.as_many_nodes) ∙ get_seam ns [] node;
         under = λ s earlier is. some s (sym (get_before sites (site ∷ []) own.parent (omega (arith, h.as_many_sites, earlier))) ∙ is);
         first = λ late. none (omega (arith, h.as_many_sites, late));
         end = end_is;

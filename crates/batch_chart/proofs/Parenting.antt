@@ -1,5 +1,5 @@
 -- The parent of each node is the one above it.
-use Rattle.std.proofs.Common.{◌≡◌, inl, inr, ℕ, ◌+◌, ◌<◌, ◌≤◌, List, [], ◌∷◌, ◌++◌, length, Some, slice_get, sym, ap, ◌∙◌, refl, subst, arith, append-nil}
+use Rattle.std.proofs.Common.{◌≡◌, inl, inr, ℕ, ◌+◌, ◌<◌, ◌≤◌, List, [], length, Some, slice_get, sym, ap, ◌∙◌, refl, subst, arith, append-nil}
 use Rattle.std.proofs.lemmas.Bool.{cases_lt}
 use Rattle.std.proofs.lemmas.Bool.Decides.{eqb_tells}
 use Rattle.batch_recipe.specs.Nodes.{node_count, count_within, count_of_each, count_of_choices}
@@ -10,8 +10,8 @@ use Rattle.batch_chart.specs.Compiled.{end_at, Stands, StandsAct, AreStanding, A
 use Rattle.batch_chart.specs.Parents.{parent_at, IsAbove, HaveParents}
 use Rattle.batch_chart.specs.declared.node.Node.{Node}
 use Rattle.batch_chart.specs.declared.node.Detail.{Detail}
-use Rattle.batch_chart.proofs.Made.{AreFrom, from_left, from_right, from_tail, from_head}
-use Rattle.batch_chart.proofs.Standing.{stood, stood-each, stood-choices, nested, count-pos}
+use Rattle.batch_chart.proofs.Pieces.{AreFrom, from_left, from_right, from_tail, from_head}
+use Rattle.batch_chart.proofs.Standing.{stood-each, stood-choices, nested, count-pos}
 
 module _ (all : List Shape) (ns : List Node) (ds : List Detail) (parents : (k : ℕ) (s : Shape) → slice_get all k ≡ Some s → parent_at ns k ≡ s.parent) where
   -- what stands between node u and the number n has ended there

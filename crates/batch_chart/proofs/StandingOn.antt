@@ -1,18 +1,17 @@
 -- What is made of each entry stands for its node: the tree of the recipe stands in what is made of all.
-use Rattle.std.proofs.Common.{◌≡◌, ℕ, zero, suc, ◌+◌, ◌<◌, ◌≤◌, List, [], ◌∷◌, ◌++◌, map, length, get_or, Bool, true, Option, Some, None, slice_get, sym, ap, ◌∙◌, refl, subst, arith, append_assoc, append-nil, length-append, false}
+use Rattle.std.proofs.Common.{◌≡◌, ℕ, suc, ◌+◌, ◌<◌, List, [], ◌∷◌, ◌++◌, map, length, Bool, true, Option, Some, None, slice_get, sym, ap, ◌∙◌, refl, subst, arith, append_assoc, append-nil, length-append, false}
 use Rattle.std.specs.Prelude.{is_some}
-use Rattle.std.proofs.lemmas.Option.{slice_get_read, slice_get_within, slice_get-get_or}
 use Rattle.batch_recipe.specs.Conditions.{Name, same_name}
 use Rattle.batch_recipe.specs.Diagram as diagram
 use Rattle.batch_recipe.specs.Diagram.{Diagram, Diagrams, Cases, diagram_of}
-use Rattle.batch_recipe.specs.Expanding.{Binding, expanded, expanded_each, expanded_cases, unit_chosen, act_named, act_tree_with, named_tree_with, unit_with, unit_below, asked_by, task_of}
+use Rattle.batch_recipe.specs.Expanding.{Binding, expanded, expanded_each, expanded_cases, act_named, act_tree_with, named_tree_with, unit_with, asked_by, task_of}
 use Rattle.batch_recipe.specs.Growing.{entry, topped, bare, grown, grown_each, grown_cases, grown_work, grown_act, grown_named, levels_from, number_in, entries_of}
-use Rattle.batch_recipe.specs.Nodes.{node_count, count_within, count_of_each, count_of_choices, child}
+use Rattle.batch_recipe.specs.Nodes.{node_count, count_of_each, count_of_choices, child}
 use Rattle.batch_recipe.specs.Outlines.{act_of}
 use Rattle.batch_recipe.specs.Procedure.{table_at, tables_from, level_below, bound_tree}
 use Rattle.batch_recipe.specs.Tree as tree
 use Rattle.batch_recipe.specs.Tree.{Place, Step, Task, Tree, Trees, Choices}
-use Rattle.batch_recipe.specs.WellFormed.{are_kinds, has_chart}
+use Rattle.batch_recipe.specs.WellFormed.{are_kinds}
 use Rattle.batch_recipe.specs.declared.act.Act.{Act}
 use Rattle.batch_recipe.specs.declared.act.UnitChoice.{UnitChoice}
 use Rattle.batch_recipe.specs.declared.act.Work.{Work}
@@ -25,9 +24,8 @@ use Rattle.batch_recipe.specs.declared.entry.Entry.{Entry}
 use Rattle.batch_recipe.specs.declared.entry.Kind as recipe
 use Rattle.batch_recipe.specs.declared.entry.Kind.TheVariants as recipe_kind
 use Rattle.batch_recipe.proofs.Growth.{found_at, not_found}
-use Rattle.batch_recipe.proofs.Slices.{slice_get-left, slice_get-right}
-use Rattle.batch_chart.specs.Building.{own_unit, are_on_unit, is_fit, unit_named, act_at_place, label_at, nth, nth_case, branch, work_below, diagram_below, branch_of, unit_at, IsSiteOf, conditions_of, conditions_in, chart_kind, HasNeeds, IsActKind, IsChartKind, IsKindOf}
-use Rattle.batch_chart.specs.Compiled.{entry_at, end_at, kind_at, IsNode, IsCondition, IsPhase, StandsOn, StandsActOn, AreStandingOn, AreChoicesOn}
+use Rattle.batch_chart.specs.Building.{own_unit, are_on_unit, is_fit, unit_named, act_at_place, label_at, nth, nth_case, branch, work_below, diagram_below, branch_of, unit_at, conditions_of, conditions_in, chart_kind, IsActKind, IsChartKind}
+use Rattle.batch_chart.specs.Compiled.{IsNode, IsCondition, StandsOn, AreStandingOn, AreChoicesOn}
 use Rattle.batch_chart.specs.declared.node.Node.{Node}
 use Rattle.batch_chart.specs.declared.node.Kind.{Kind}
 use Rattle.batch_chart.specs.declared.node.Kind.TheVariants.{Skip, Act as act_kind, Seq, Par, Sel, Loop}
@@ -35,12 +33,9 @@ use Rattle.batch_chart.specs.declared.node.Kind.TheVariants as kind
 use Rattle.batch_chart.specs.declared.node.Detail.{Detail}
 use Rattle.batch_chart.specs.declared.node.Detail.TheVariants as detail
 use Rattle.batch_chart.specs.declared.site.Site.{Site}
-use Rattle.batch_chart.proofs.Made.{IsMade, is_node, AreFrom, from_left, from_right, from_tail, from_head, from_end}
+use Rattle.batch_chart.proofs.Made.{IsMade, is_node}
+use Rattle.batch_chart.proofs.Pieces.{get_seam, AreFrom, from_left, from_right, from_tail, from_head, from_end}
 use Rattle.batch_chart.proofs.Units.{own-named, named-fit, chart-fit, procedure-fit}
-
-get_seam : {X : Type 0} (xs ys : List X) (x : X) → slice_get (xs ++ x ∷ ys) (length xs) ≡ Some x
-get_seam [] ys x = refl
-get_seam (y ∷ xs) ys x = get_seam xs ys x
 
 -- the conditions are the details from i on
 abbrev pub HaveConditions : List Detail → ℕ → List Cond → Type 0
@@ -53,7 +48,7 @@ conditions_have ds front (c ∷ cs) h =
     let next : length (front ++ detail.Condition c ∷ []) ≡ length front + 1 = length-append front (detail.Condition c ∷ []) in (
       h (length front) (detail.Condition c) (get_seam front (map detail.Condition cs) (detail.Condition c)),
       subst (λ i. HaveConditions ds i cs) next (conditions_have ds (front ++ detail.Condition c ∷ []) cs
-      (λ i x is. h i x (ap (λ xs. slice_get xs i) (sym (append_assoc front (detail.Condition c ∷ []) (map detail.Condition cs))) ∙ is))),
+          (λ i x is. h i x (ap (λ xs. slice_get xs i) (sym (append_assoc front (detail.Condition c ∷ []) (map detail.Condition cs))) ∙ is))),
     )
 
 module _ (acts : Acts) (kinds : are_kinds acts ≡ true) (bound : Binding) (es : List Entry) (sites : List Site) (ns : List Node) (ds : List Detail)
@@ -175,9 +170,14 @@ module _ (acts : Acts) (kinds : are_kinds acts ≡ true) (bound : Binding) (es :
           let a = chart_stands n u i (child p i) c later (first_seat u i unit c (seats 0 c refl)) (from_left es n xs ys h) in
           let b = each_stand (n + length xs) u (i + 1) p cs (omega (arith, later)) (λ j x is. next_seat u i j unit x (seats (suc j) x is)) (from_right es n xs ys h) in
           let next : n + length xs ≡ n + node_count (expanded trees (child p i) c) = ap (λ k. n + k) a.0 in
-          let end : n + length xs + length ys ≡ n + length (xs ++ ys) = omega (arith, length-append xs ys) in
-          (omega (arith, length-append xs ys, a.0, b.0), (a.1, subst (λ k. AreStandingOn (Some bound) ns ds k (n + length (xs ++ ys)) (expanded_each trees p (i + 1) cs)) next
-          (subst (λ m. AreStandingOn (Some bound) ns ds (n + length xs) m (expanded_each trees p (i + 1) cs)) end b.1)))
+          let end : n + length xs + length ys ≡ n + length (xs ++ ys) = omega (arith, length-append xs ys) in (
+            omega (arith, length-append xs ys, a.0, b.0),
+            (
+              a.1,
+              subst (λ k. AreStandingOn (Some bound) ns ds k (n + length (xs ++ ys)) (expanded_each trees p (i + 1) cs)) next
+                  (subst (λ m. AreStandingOn (Some bound) ns ds (n + length xs) m (expanded_each trees p (i + 1) cs)) end b.1),
+            ),
+          )
 
       cases_stand : (n u i : ℕ) (p : Place) (cs : Cases) (first : ℕ) → u < n → ((j : ℕ) (c : Diagram) → nth_case cs j ≡ Some c → Seat u (i + j) unit c) → HaveConditions ds first (conditions_of cs) → AreFrom es n (grown_cases named n u i cs)
           → (length (grown_cases named n u i cs) ≡ count_of_choices (expanded_cases trees p i cs)) × AreChoicesOn (Some bound) ns ds first n (n + length (grown_cases named n u i cs)) (expanded_cases trees p i cs)
@@ -190,9 +190,15 @@ module _ (acts : Acts) (kinds : are_kinds acts ≡ true) (bound : Binding) (es :
           let a = chart_stands n u i (child p i) c later (first_seat u i unit c (seats 0 c refl)) (from_left es n xs ys h) in
           let b = cases_stand (n + length xs) u (i + 1) p cs (first + 1) (omega (arith, later)) (λ j x is. next_seat u i j unit x (seats (suc j) x is)) conditions.1 (from_right es n xs ys h) in
           let next : n + length xs ≡ n + node_count (expanded trees (child p i) c) = ap (λ k. n + k) a.0 in
-          let end : n + length xs + length ys ≡ n + length (xs ++ ys) = omega (arith, length-append xs ys) in
-          (omega (arith, length-append xs ys, a.0, b.0), (conditions.0, a.1, subst (λ k. AreChoicesOn (Some bound) ns ds (first + 1) k (n + length (xs ++ ys)) (expanded_cases trees p (i + 1) cs)) next
-          (subst (λ m. AreChoicesOn (Some bound) ns ds (first + 1) (n + length xs) m (expanded_cases trees p (i + 1) cs)) end b.1)))
+          let end : n + length xs + length ys ≡ n + length (xs ++ ys) = omega (arith, length-append xs ys) in (
+            omega (arith, length-append xs ys, a.0, b.0),
+            (
+              conditions.0,
+              a.1,
+              subst (λ k. AreChoicesOn (Some bound) ns ds (first + 1) k (n + length (xs ++ ys)) (expanded_cases trees p (i + 1) cs)) next
+                  (subst (λ m. AreChoicesOn (Some bound) ns ds (first + 1) (n + length xs) m (expanded_cases trees p (i + 1) cs)) end b.1),
+            ),
+          )
 
   -- An act whose labels are looked up from a level on.
   module _ (level : Option Level) (labels : (unit : Option UnitChoice) → are_on_unit level unit ≡ true → AreLabels level unit) (unit : Option UnitChoice) (a : Act) (k : recipe.Kind) (is : act_of acts k ≡ Some a)

@@ -1,4 +1,4 @@
-use Rattle.std.proofs.Common.{◌++◌, ◌∙◌, ap, arith, sym}
+use Rattle.std.proofs.Common.{◌++◌, ◌∙◌, ap, arith}
 use Rattle.batch_recipe.specs.Diagram.{diagram_of}
 use Rattle.batch_recipe.proofs.Diagrams.{diagram_of-sel}
 use Rattle.batch_chart.specs.declared.node.Kind.TheVariants.{Sel}
