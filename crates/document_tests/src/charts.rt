@@ -3,6 +3,7 @@
 mod against;
 mod reference;
 
+use crate::expected::assert_told;
 use batch_grammar::{ChartFault, is_chart_word, read_chart, read_chart_and_par};
 use std::alloc::{AllocError, Global};
 use std::test::Fail;
@@ -191,37 +192,50 @@ fn chart_offsets(rt: HostRuntime) -> Result<(), Fail> {
     let alloc = rt.alloc();
     let cases = [("seq(a,par(b,c)", 14), ("seq()", 4), ("", 0)];
     assert_eq!(rt; odd_one(alloc, &cases), None);
-    assert_eq!(rt;
-        all_told(alloc, &["seq(a,par(b,c))", "seq( a , par( b , c ) )"])?.as_str(),
+    assert_told(
+        &rt,
+        all_told(alloc, &["seq(a,par(b,c))", "seq( a , par( b , c ) )"]),
         r#"Ok(Seq([Label("a"), Par([Label("b"), Label("c")])]))
 Ok(Seq([Label("a"), Par([Label("b"), Label("c")])]))
-"#
-    );
-    Ok(())
+"#,
+    )
+}
+
+/// The first word that is a word of charts, or that isn't one.
+fn first_word(words: &[&'static str], is_one: bool) -> Option<&'static str> {
+    for word in words {
+        if is_chart_word(word.as_bytes()) == is_one {
+            return Some(word);
+        }
+    }
+    None
 }
 
 #[test]
-fn the_words_of_charts_are_six(rt: HostRuntime) -> Result<(), Fail> {
-    for word in ["skip", "seq", "par", "sel", "loop", "else"] {
-        assert!(rt; is_chart_word(word.as_bytes()), "{word}");
+fn the_words_of_charts_are_six(rt: HostRuntime) {
+    let words = ["skip", "seq", "par", "sel", "loop", "else"];
+    assert_eq!(rt; first_word(&words, false), None);
+    assert_eq!(rt; first_word(&["", "se", "seqs", "Seq", "if"], true), None);
+}
+
+/// The first text whose first `par` isn't told at its byte.
+fn odd_par(alloc: Global, cases: &[(&'static str, Option<usize>)]) -> Option<&'static str> {
+    for (text, place) in cases {
+        if first_par(alloc, text) != *place {
+            return Some(text);
+        }
     }
-    for word in ["", "se", "seqs", "Seq", "if"] {
-        assert!(rt; !is_chart_word(word.as_bytes()), "{word}");
-    }
-    Ok(())
+    None
 }
 
 #[test]
-fn the_first_par_is_told_at_its_parenthesis(rt: HostRuntime) -> Result<(), Fail> {
-    let alloc = rt.alloc();
-    for (text, place) in [
+fn the_first_par_is_told_at_its_parenthesis(rt: HostRuntime) {
+    let cases = [
         ("seq(a, b)", None),
         ("para", None),
         ("par(a,b)", Some(3)),
         ("seq(a, par (b, par(c, d)), par(e, f))", Some(11)),
         ("sel(X = 1: a, else: par(b, c))", Some(23)),
-    ] {
-        assert_eq!(rt; first_par(alloc, text), place, "{text}");
-    }
-    Ok(())
+    ];
+    assert_eq!(rt; odd_par(rt.alloc(), &cases), None);
 }

@@ -9,6 +9,8 @@ mod cells;
 #[cfg(test)]
 mod charts;
 #[cfg(test)]
+mod expected;
+#[cfg(test)]
 mod matrix;
 #[cfg(test)]
 mod reading;

@@ -138,13 +138,13 @@ fn reads_places(rt: HostRuntime) -> Result<(), Fail> {
         assert!(rt; place == Place::read(alloc, bytes)?, "{bytes:?}");
     }
     assert!(rt; Place::read(alloc, b"0.1")? != Place::read(alloc, b"0.2")?);
-    assert_eq!(rt; Place::read(alloc, &zeros::<199>())?.numbers().len(), 100);
+    assert_eq!(rt; numbers_of_zeros(alloc, 100)?, 100);
     Ok(())
 }
 
 #[test]
-fn refuses_what_is_no_place(rt: HostRuntime) {
-    let cases: [(&[u8], TextFault); 10] = [
+fn refuses_what_is_no_place(rt: HostRuntime) -> Result<(), Fail> {
+    let cases: [(&[u8], TextFault); 9] = [
         (b"", TextFault::Empty),
         (b".", TextFault::BadByte),
         (b".0", TextFault::BadByte),
@@ -153,7 +153,6 @@ fn refuses_what_is_no_place(rt: HostRuntime) {
         (b"0.4096.a", TextFault::BadByte),
         (b"0,1", TextFault::BadByte),
         (b"4096.00000000000000000001", TextFault::TooLong),
-        (&zeros::<201>(), TextFault::TooLong),
         (b"0.4096", TextFault::OutOfRange),
     ];
     for (bytes, fault) in cases {
@@ -162,17 +161,28 @@ fn refuses_what_is_no_place(rt: HostRuntime) {
             "{bytes:?}"
         );
     }
+    // 201 bytes
+    assert_eq!(rt; fault_of_zeros(rt.alloc(), 101)?, Some(TextFault::TooLong));
+    Ok(())
 }
 
-/// Zeros with a dot between, in so many bytes.
-fn zeros<const LEN: usize>() -> [u8; LEN] {
-    let mut bytes = [b'0'; LEN];
-    let mut is_dot = false;
-    for byte in &mut bytes {
-        if is_dot {
-            *byte = b'.';
-        }
-        is_dot = !is_dot;
+/// So many zeros, with a dot between.
+fn zeros(alloc: Global, count: usize) -> Result<String, Fail> {
+    let mut text = String::from_str(alloc, "0")?;
+    for _ in 1..count {
+        text.push_str(".0")?;
     }
-    bytes
+    Ok(text)
+}
+
+/// How many numbers a place of so many zeros has.
+fn numbers_of_zeros(alloc: Global, count: usize) -> Result<usize, Fail> {
+    let text = zeros(alloc, count)?;
+    Ok(Place::read(alloc, text.as_bytes())?.numbers().len())
+}
+
+/// Why so many zeros are no place.
+fn fault_of_zeros(alloc: Global, count: usize) -> Result<Option<TextFault>, Fail> {
+    let text = zeros(alloc, count)?;
+    Ok(Place::read(alloc, text.as_bytes()).err())
 }

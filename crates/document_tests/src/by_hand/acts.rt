@@ -1,8 +1,9 @@
 //! Example acts, and the nodes that they expand to.
 use super::parts::{above_zero, act, label, labels, step, table};
+use crate::expected::assert_told;
 use batch_recipe::{Act, Acts, Chart, Level, Outline, OutlineFault, UnitChoice, act_named};
 use batch_text::Name;
-use std::alloc::Global;
+use std::alloc::{AllocError, Global};
 use std::test::Fail;
 
 #[test]
@@ -14,19 +15,25 @@ fn levels_lie_below_one_another(rt: HostRuntime) {
 
 #[test]
 fn looks_labels_up(rt: HostRuntime) -> Result<(), Fail> {
-    let alloc = rt.alloc();
+    assert_told(
+        &rt,
+        tables_told(rt.alloc()),
+        "Some(\"MAKE\") false, Some(\"CHARGE\") false, Some(\"ADD\") true",
+    )
+}
+
+/// The first act of each table, and whether HEAT is looked up there.
+fn tables_told(alloc: Global) -> Result<String, Fail> {
     let heat = Name::read(alloc, b"HEAT")?;
     let acts = acts(alloc, label(alloc, b"MAKE")?, label(alloc, b"ADD")?)?;
-    for (level, first, has_heat) in [
-        (Level::UnitProcedures, "MAKE", false),
-        (Level::Operations, "CHARGE", false),
-        (Level::Phases, "ADD", true),
-    ] {
-        let table = acts.table(level);
-        assert!(rt; first_name(table) == Some(first), "{first}");
-        assert!(rt; has_act(table, &heat) == has_heat, "{first}");
-    }
-    Ok(())
+    let unit_procedures = table_told(alloc, acts.table(Level::UnitProcedures), &heat)?;
+    let operations = table_told(alloc, acts.table(Level::Operations), &heat)?;
+    let phases = table_told(alloc, acts.table(Level::Phases), &heat)?;
+    Ok(format!(in alloc; "{unit_procedures}, {operations}, {phases}")?)
+}
+
+fn table_told(alloc: Global, table: &[Act], name: &Name) -> Result<String, AllocError> {
+    format!(in alloc; "{:?} {}", first_name(table), has_act(table, name))
 }
 
 fn has_act(table: &[Act], name: &Name) -> bool {
@@ -76,11 +83,21 @@ fn count_of(alloc: Global, charge: Chart) -> Result<Option<u16>, Fail> {
 
 fn count(alloc: Global, procedure: Chart, charge: Chart) -> Result<Option<u16>, Fail> {
     let acts = acts(alloc, procedure, charge)?;
-    match Outline::new(alloc, &acts) {
+    Ok(nodes_of(alloc, &acts)?)
+}
+
+/// The nodes of these acts, if they aren't too many.
+fn nodes_of(alloc: Global, acts: &Acts) -> Result<Option<u16>, OutlineFault> {
+    match outlined(alloc, acts) {
         Ok(outline) => Ok(Some(outline.entries.len() as u16)),
         Err(OutlineFault::TooMany) => Ok(None),
-        Err(fault) => Err(fault)?,
+        Err(fault) => Err(fault),
     }
+}
+
+/// Without a contract here, no other proof reads that of the call.
+fn outlined(alloc: Global, acts: &Acts) -> Result<Outline, OutlineFault> {
+    Outline::new(alloc, acts)
 }
 
 /// ADD, up to 1,000 times.

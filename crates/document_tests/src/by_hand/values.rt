@@ -6,13 +6,17 @@ use std::test::Fail;
 
 #[test]
 fn scales_to_the_nearest(rt: HostRuntime) {
-    assert_eq!(rt; scale(1, 1, 2), 1);
-    assert_eq!(rt; scale(1, 1, 3), 0);
-    assert_eq!(rt;
+    assert_eq!(rt; scaled(), [1, 0, 1_000_000_000_000_000_000_000, 167]);
+}
+
+/// Values that lie between two numbers, the largest one, and one of a worked example.
+fn scaled() -> [u128; 4] {
+    [
+        scale(1, 1, 2),
+        scale(1, 1, 3),
         scale(1_000_000_000_000, 1_000_000_000, 1),
-        1_000_000_000_000_000_000_000
-    );
-    assert_eq!(rt; scale(333, 500, 1000), 167);
+        scale(333, 500, 1000),
+    ]
 }
 
 /// What the operator says of 1, 2 and 3 beside 2.
@@ -22,12 +26,29 @@ fn compared(op: Op) -> (bool, bool, bool) {
 
 #[test]
 fn compares_numbers(rt: HostRuntime) {
-    assert_eq!(rt; compared(Op::Less), (true, false, false));
-    assert_eq!(rt; compared(Op::AtMost), (true, true, false));
-    assert_eq!(rt; compared(Op::Equal), (false, true, false));
-    assert_eq!(rt; compared(Op::NotEqual), (true, false, true));
-    assert_eq!(rt; compared(Op::AtLeast), (false, true, true));
-    assert_eq!(rt; compared(Op::Greater), (false, false, true));
+    assert_eq!(rt;
+        all_compared(),
+        [
+            (true, false, false),
+            (true, true, false),
+            (false, true, false),
+            (true, false, true),
+            (false, true, true),
+            (false, false, true),
+        ]
+    );
+}
+
+/// What each operator says, from `Less` to `Greater`.
+fn all_compared() -> [(bool, bool, bool); 6] {
+    [
+        compared(Op::Less),
+        compared(Op::AtMost),
+        compared(Op::Equal),
+        compared(Op::NotEqual),
+        compared(Op::AtLeast),
+        compared(Op::Greater),
+    ]
 }
 
 #[test]

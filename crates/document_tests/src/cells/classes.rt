@@ -1,4 +1,5 @@
 //! Classes of units: what a cell document says of them, and what is looked up by them.
+use crate::expected::assert_told;
 use crate::reading::{cell_of, cell_refusal, refused_at};
 use batch_cell::Cell;
 use batch_reader::{EntryFault, TableKind};
@@ -32,8 +33,7 @@ fn told(alloc: Global, document: &str) -> Result<String, Fail> {
 
 #[test]
 fn reads_classes(rt: HostRuntime) -> Result<(), Fail> {
-    assert_eq!(rt; told(rt.alloc(), CLASSED)?.as_str(), TOLD);
-    Ok(())
+    assert_told(&rt, told(rt.alloc(), CLASSED), TOLD)
 }
 
 /// How many units are of each class, and the numbers of the first three.
@@ -64,12 +64,11 @@ fn found(alloc: Global, document: &str, classes: &[&str]) -> Result<String, Fail
 
 #[test]
 fn numbers_the_candidates(rt: HostRuntime) -> Result<(), Fail> {
-    let classes = ["RX", "TANK", "R1", "NONE"];
-    assert_eq!(rt;
-        found(rt.alloc(), CLASSED, &classes)?.as_str(),
-        "RX 2 Some(0) Some(3) None\nTANK 1 Some(1) None None\nR1 0 None None None\nNONE 0 None None None\n"
-    );
-    Ok(())
+    assert_told(
+        &rt,
+        found(rt.alloc(), CLASSED, &["RX", "TANK", "R1", "NONE"]),
+        "RX 2 Some(0) Some(3) None\nTANK 1 Some(1) None None\nR1 0 None None None\nNONE 0 None None None\n",
+    )
 }
 
 /// A cell document, and the table and the fault that it is refused for.

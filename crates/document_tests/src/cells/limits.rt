@@ -1,5 +1,6 @@
 //! The longest cell document, and one that is longer.
 use super::demo;
+use crate::expected::assert_told;
 use crate::reading::{cell_refusal, repeated};
 use std::alloc::{AllocError, Global};
 use std::test::Fail;
@@ -36,10 +37,10 @@ fn longer_told(alloc: Global) -> Result<String, Fail> {
 #[test]
 fn lengths_of_documents(rt: HostRuntime) -> Result<(), Fail> {
     let alloc = rt.alloc();
-    assert_eq!(rt; longest_told(alloc)?.as_str(), "1048576 None");
-    assert_eq!(rt;
-        longer_told(alloc)?.as_str(),
-        "1048577 Some(Entry(Spot { kind: Cell, entry: 0 }, OutOfLimit))"
-    );
-    Ok(())
+    assert_told(&rt, longest_told(alloc), "1048576 None")?;
+    assert_told(
+        &rt,
+        longer_told(alloc),
+        "1048577 Some(Entry(Spot { kind: Cell, entry: 0 }, OutOfLimit))",
+    )
 }

@@ -1,6 +1,7 @@
 //! Cell documents with two faults: which is told.
+use crate::expected::assert_told;
 use crate::reading::cell_refusal;
-use std::alloc::{AllocError, Global};
+use std::alloc::Global;
 use std::test::Fail;
 
 /// Cells with two faults, of which the first is told. Without a contract here, no test's proof reads them.
@@ -15,7 +16,7 @@ fn with_two_faults() -> [&'static str; 5] {
 }
 
 /// Why each document is refused, a line each.
-fn refusals(alloc: Global, documents: &[&str]) -> Result<String, AllocError> {
+fn refusals(alloc: Global, documents: &[&str]) -> Result<String, Fail> {
     let mut text = String::new(alloc);
     for document in documents {
         let line = format!(in alloc; "{:?}\n", cell_refusal(alloc, document))?;
@@ -26,14 +27,14 @@ fn refusals(alloc: Global, documents: &[&str]) -> Result<String, AllocError> {
 
 #[test]
 fn first_of_two_faults(rt: HostRuntime) -> Result<(), Fail> {
-    assert_eq!(rt;
-        refusals(rt.alloc(), &with_two_faults())?.as_str(),
+    assert_told(
+        &rt,
+        refusals(rt.alloc(), &with_two_faults()),
         "Some(Entry(Spot { kind: Cell, entry: 0 }, UnknownKey))
 Some(Entry(Spot { kind: Unit, entry: 0 }, WrongKind))
 Some(Entry(Spot { kind: Unit, entry: 0 }, OutOfLimit))
 Some(Entry(Spot { kind: Module, entry: 0 }, Duplicate))
 Some(Entry(Spot { kind: Module, entry: 1 }, Undeclared))
-"
-    );
-    Ok(())
+",
+    )
 }

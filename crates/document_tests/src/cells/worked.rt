@@ -1,5 +1,6 @@
 //! Cell documents that are taken, and what is looked up in their cells.
 use super::demo;
+use crate::expected::assert_told;
 use crate::reading::cell_of;
 use batch_cell::Cell;
 use batch_text::Name;
@@ -183,33 +184,31 @@ fn tell_phases(alloc: Global, cell: &Cell, unit: u16, names: &[&str]) -> Result<
 
 #[test]
 fn numbers_the_resources(rt: HostRuntime) -> Result<(), Fail> {
-    let names = ["U", "FREE", "S", "A", "NONE"];
-    assert_eq!(rt;
-        resources_told(rt.alloc(), FREE, &names)?.as_str(),
+    assert_told(
+        &rt,
+        resources_told(rt.alloc(), FREE, &["U", "FREE", "S", "A", "NONE"]),
         r#"1 3
 U Some(0) Some(("U", 1)) Some(0)
 FREE Some(1) Some(("FREE", 1)) None
 S Some(2) Some(("S", 1000)) None
 A None None None
 NONE None None None
-"#
-    );
-    Ok(())
+"#,
+    )
 }
 
 #[test]
 fn numbers_the_phases(rt: HostRuntime) -> Result<(), Fail> {
-    let names = ["MIX", "COOL", "HEAT", "DRAIN"];
-    assert_eq!(rt;
-        phases_told(rt.alloc(), FREE, 0, &names)?.as_str(),
+    assert_told(
+        &rt,
+        phases_told(rt.alloc(), FREE, 0, &["MIX", "COOL", "HEAT", "DRAIN"]),
         r#"MIX true Some(0)
 COOL true Some(1)
 HEAT true Some(2)
 DRAIN false None
 [Some("MIX"), Some("COOL"), Some("HEAT"), None]
-"#
-    );
-    Ok(())
+"#,
+    )
 }
 
 /// The cell that is made anew of a cell's entries.
@@ -217,34 +216,36 @@ fn made_anew(alloc: Global, cell: Cell) -> Result<Cell, AllocError> {
     Cell::new(alloc, cell.name, cell.units, cell.modules, cell.shared)
 }
 
+/// What is told of the cell that is made anew of the entries that the document says.
+fn made_told(alloc: Global, document: &str) -> Result<String, Fail> {
+    let cell = made_anew(alloc, cell_of(alloc, document)?)?;
+    tell_fields(alloc, &cell)
+}
+
 #[test]
 fn makes_a_cell(rt: HostRuntime) -> Result<(), Fail> {
-    let alloc = rt.alloc();
-    let cell = made_anew(alloc, cell_of(alloc, FREE)?)?;
-    let told = format!(in alloc; "{cell:?}")?;
-    assert!(rt; told.as_str() == MADE, "{told}");
-    Ok(())
+    assert_told(&rt, made_told(rt.alloc(), FREE), MADE)
 }
 
 #[test]
 fn looks_up_the_worked_cell(rt: HostRuntime) -> Result<(), Fail> {
     let alloc = rt.alloc();
     let demo = demo(alloc, "2")?;
-    let names = ["R1", "R2", "HDR", "STEAM"];
-    assert_eq!(rt;
-        resources_told(alloc, demo.as_str(), &names)?.as_str(),
+    assert_told(
+        &rt,
+        resources_told(alloc, demo.as_str(), &["R1", "R2", "HDR", "STEAM"]),
         r#"2 4
 R1 Some(0) Some(("R1", 1)) Some(0)
 R2 Some(1) Some(("R2", 1)) Some(1)
 HDR Some(2) Some(("HDR", 1)) None
 STEAM Some(3) Some(("STEAM", 2)) None
-"#
-    );
-    assert_eq!(rt;
-        phases_told(alloc, demo.as_str(), 1, &[])?.as_str(),
-        "[Some(\"ADD\"), Some(\"HEAT\"), Some(\"DRAIN\"), None]\n"
-    );
-    Ok(())
+"#,
+    )?;
+    assert_told(
+        &rt,
+        phases_told(alloc, demo.as_str(), 1, &[]),
+        "[Some(\"ADD\"), Some(\"HEAT\"), Some(\"DRAIN\"), None]\n",
+    )
 }
 
 /// Two units that have one of their phases in common.
@@ -271,39 +272,41 @@ phases = [\"COOL\"]
 fn numbers_the_phases_of_each_unit(rt: HostRuntime) -> Result<(), Fail> {
     let alloc = rt.alloc();
     let names = ["MIX", "HEAT", "COOL", "DRAIN", "FILL"];
-    assert_eq!(rt;
-        phases_told(alloc, UNLIKE, 0, &names)?.as_str(),
+    assert_told(
+        &rt,
+        phases_told(alloc, UNLIKE, 0, &names),
         r#"MIX true Some(0)
 HEAT true Some(1)
 COOL true Some(2)
 DRAIN false None
 FILL false None
 [Some("MIX"), Some("HEAT"), Some("COOL"), None]
-"#
-    );
-    assert_eq!(rt;
-        phases_told(alloc, UNLIKE, 1, &names)?.as_str(),
+"#,
+    )?;
+    assert_told(
+        &rt,
+        phases_told(alloc, UNLIKE, 1, &names),
         r#"MIX false None
 HEAT true Some(0)
 COOL false None
 DRAIN true Some(1)
 FILL false None
 [Some("HEAT"), Some("DRAIN"), None, None]
-"#
-    );
-    Ok(())
+"#,
+    )
 }
 
 #[test]
 fn names_the_phases_of_each_unit(rt: HostRuntime) -> Result<(), Fail> {
     let alloc = rt.alloc();
-    assert_eq!(rt;
-        phases_told(alloc, UNLIKE, 0, &[])?.as_str(),
-        "[Some(\"MIX\"), Some(\"HEAT\"), Some(\"COOL\"), None]\n"
-    );
-    assert_eq!(rt;
-        phases_told(alloc, UNLIKE, 1, &[])?.as_str(),
-        "[Some(\"HEAT\"), Some(\"DRAIN\"), None, None]\n"
-    );
-    Ok(())
+    assert_told(
+        &rt,
+        phases_told(alloc, UNLIKE, 0, &[]),
+        "[Some(\"MIX\"), Some(\"HEAT\"), Some(\"COOL\"), None]\n",
+    )?;
+    assert_told(
+        &rt,
+        phases_told(alloc, UNLIKE, 1, &[]),
+        "[Some(\"HEAT\"), Some(\"DRAIN\"), None, None]\n",
+    )
 }

@@ -173,6 +173,46 @@ fn comparison(
     Ok((Cond { name, op, term }, end))
 }
 
+/// The condition that begins here, up to the byte that stands behind it.
+fn condition(
+    alloc: Global,
+    text: &[u8],
+    from: usize,
+    behind: u8,
+    outside: &mut Outside,
+) -> Result<(Cond, usize), Refusal> {
+    let (name_read, end) = name(alloc, text, from)?;
+    let (condition, end) = comparison(alloc, text, name_read, end, outside)?;
+    Ok((condition, sign(text, end, behind)?))
+}
+
+/// How often a `loop` turns, and until when, from behind the parenthesis up to the body.
+fn bounds(
+    alloc: Global,
+    text: &[u8],
+    from: usize,
+    outside: &mut Outside,
+) -> Result<(u64, Cond, usize), Refusal> {
+    let (most, end) = number(text, from, 1, 1_000, outside)?;
+    let comma = sign(text, end, b',')?;
+    let (until, end) = condition(alloc, text, comma, b',', outside)?;
+    Ok((most, until, end))
+}
+
+/// The chart that begins here, up to the byte that stands behind it.
+#[cycle(reference)]
+fn part(
+    alloc: Global,
+    text: &[u8],
+    from: usize,
+    depth: u32,
+    behind: u8,
+    outside: &mut Outside,
+) -> Result<(Chart, usize), Refusal> {
+    let (read, end) = chart(alloc, text, from, depth, outside)?;
+    Ok((read, sign(text, end, behind)?))
+}
+
 /// The branches of a `seq` or a `par`, from behind the parenthesis.
 #[cycle(reference)]
 fn branches(
@@ -198,6 +238,33 @@ fn branches(
     Err(Refusal::NotAChart(place))
 }
 
+/// A case of a `sel` but the last one, up to what stands behind its comma.
+#[cycle(reference)]
+fn case(
+    alloc: Global,
+    text: &[u8],
+    from: usize,
+    depth: u32,
+    outside: &mut Outside,
+) -> Result<((Cond, Chart), usize), Refusal> {
+    let (condition, end) = condition(alloc, text, from, b':', outside)?;
+    let (branch, end) = part(alloc, text, end, depth, b',', outside)?;
+    Ok(((condition, branch), end))
+}
+
+/// The last case of a `sel`, from behind its word.
+#[cycle(reference)]
+fn last_case(
+    alloc: Global,
+    text: &[u8],
+    from: usize,
+    depth: u32,
+    outside: &mut Outside,
+) -> Result<(Chart, usize), Refusal> {
+    let colon = sign(text, from, b':')?;
+    part(alloc, text, colon, depth, b')', outside)
+}
+
 /// The cases of a `sel`, from behind the parenthesis.
 #[cycle(reference)]
 fn cases(
@@ -212,17 +279,12 @@ fn cases(
     for _ in text {
         let (bytes, end) = word(text, place)?;
         if bytes == b"else".as_slice() && !choices.is_empty() {
-            let colon = sign(text, end, b':')?;
-            let (last, end) = chart(alloc, text, colon, depth, outside)?;
-            let end = sign(text, end, b')')?;
+            let (last, end) = last_case(alloc, text, end, depth, outside)?;
             return Ok((Chart::Sel(choices, Box::new(alloc, last)?), end));
         }
-        let (name_read, end) = name(alloc, text, place)?;
-        let (condition, end) = comparison(alloc, text, name_read, end, outside)?;
-        let colon = sign(text, end, b':')?;
-        let (branch, end) = chart(alloc, text, colon, depth, outside)?;
-        choices.push((condition, branch))?;
-        place = sign(text, end, b',')?;
+        let (choice, end) = case(alloc, text, place, depth, outside)?;
+        choices.push(choice)?;
+        place = end;
     }
     Err(Refusal::NotAChart(place))
 }
@@ -236,14 +298,9 @@ fn turns(
     depth: u32,
     outside: &mut Outside,
 ) -> Result<(Chart, usize), Refusal> {
-    let (most, end) = number(text, from, 1, 1_000, outside)?;
-    let comma = sign(text, end, b',')?;
-    let (name_read, end) = name(alloc, text, comma)?;
-    let (condition, end) = comparison(alloc, text, name_read, end, outside)?;
-    let comma = sign(text, end, b',')?;
-    let (body, end) = chart(alloc, text, comma, depth, outside)?;
-    let end = sign(text, end, b')')?;
-    Ok((Chart::Loop(most, condition, Box::new(alloc, body)?), end))
+    let (most, until, end) = bounds(alloc, text, from, outside)?;
+    let (body, end) = part(alloc, text, end, depth, b')', outside)?;
+    Ok((Chart::Loop(most, until, Box::new(alloc, body)?), end))
 }
 
 /// A chart that nests at most `depth` deep, and where it ends.

@@ -1,7 +1,6 @@
 //! A document with each key that may be missing.
-use super::told::told;
-use crate::reading::recipe_of;
-use std::alloc::Global;
+use super::told::recipe_told;
+use crate::expected::assert_told;
 use std::test::Fail;
 
 const WHOLE: &str = r#"recipe = "ALL-1_abcdefghijklmnopqrstuvwxyz"
@@ -61,14 +60,7 @@ operation A None [] Follows(Sel([(Cond { name: "A", op: Less, term: Named("B") }
 phase A None ["par", "A"*2] Runs { phase: "else", values: ["D", "A", "B", "A"] }
 "#;
 
-/// What is told of the recipe that the document says.
-fn found(alloc: Global, document: &str) -> Result<String, Fail> {
-    let recipe = recipe_of(alloc, document)?;
-    Ok(told(alloc, &recipe)?)
-}
-
 #[test]
 fn reads_each_key(rt: HostRuntime) -> Result<(), Fail> {
-    assert_eq!(rt; found(rt.alloc(), WHOLE)?.as_str(), TOLD);
-    Ok(())
+    assert_told(&rt, recipe_told(rt.alloc(), WHOLE), TOLD)
 }

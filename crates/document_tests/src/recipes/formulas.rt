@@ -1,5 +1,6 @@
 //! The values that recipe documents give to batches.
 use super::{ADD, CHARGE, MAKE, PROCEDURE, document};
+use crate::expected::assert_told;
 use crate::reading::recipe_of;
 use batch_recipe::{FormulaFault, Recipe, Values, are_outputs, formula};
 use batch_text::Name;
@@ -7,12 +8,19 @@ use std::alloc::{AllocError, Global};
 use std::test::Fail;
 
 fn listed(alloc: Global, values: &Values) -> Result<String, AllocError> {
+    list(alloc, values.entries.as_slice())
+}
+
+fn list(alloc: Global, entries: &[(Name, u64)]) -> Result<String, AllocError> {
     let mut text = String::new(alloc);
-    for (name, value) in &values.entries {
-        let line = format!(in alloc; "{name}={value};")?;
-        text.push_str(line.as_str())?;
+    for (name, value) in entries {
+        text.push_str(entry_told(alloc, name, *value)?.as_str())?;
     }
     Ok(text)
+}
+
+fn entry_told(alloc: Global, name: &Name, value: u64) -> Result<String, AllocError> {
+    format!(in alloc; "{name}={value};")
 }
 
 fn complaint(alloc: Global, fault: &FormulaFault<'_>) -> Result<String, AllocError> {
@@ -54,8 +62,9 @@ const HANDED: &str = "[[phase]]\nname = \"ADD\"\nvalues = [\"QTY\"]\n";
 fn scaled_quantity(rt: HostRuntime) -> Result<(), Fail> {
     let parts = [INPUT, PROCEDURE, MAKE, CHARGE, HANDED];
     let sizes = [0, 1, 500, 1503, 1504, 1_000_000_000, 1_000_000_001];
-    assert_eq!(rt;
-        given_for(rt.alloc(), parts, &sizes)?.as_str(),
+    assert_told(
+        &rt,
+        given_for(rt.alloc(), parts, &sizes),
         "0 F1
 1 QTY=0;
 500 QTY=167;
@@ -63,9 +72,8 @@ fn scaled_quantity(rt: HostRuntime) -> Result<(), Fail> {
 1504 F2 0 QTY
 1000000000 F2 0 QTY
 1000000001 F1
-"
-    );
-    Ok(())
+",
+    )
 }
 
 /// The largest size, which makes the largest value.
@@ -74,14 +82,14 @@ fn largest_size(rt: HostRuntime) -> Result<(), Fail> {
     let input = "[[input]]\nname = 'QTY'\nvalue = 1000000\nmin = 0\nmax = 1000000000000\n";
     let parts = [input, PROCEDURE, MAKE, CHARGE, HANDED];
     let sizes = [999_999_999, 1_000_000_000, 1_000_000_001];
-    assert_eq!(rt;
-        given_for(rt.alloc(), parts, &sizes)?.as_str(),
+    assert_told(
+        &rt,
+        given_for(rt.alloc(), parts, &sizes),
         "999999999 QTY=999999999000;
 1000000000 QTY=1000000000000;
 1000000001 F1
-"
-    );
-    Ok(())
+",
+    )
 }
 
 #[test]
@@ -89,8 +97,7 @@ fn fixed_quantity(rt: HostRuntime) -> Result<(), Fail> {
     let alloc = rt.alloc();
     let input = format!(in alloc; "{INPUT}fixed = true\n")?;
     let parts = [input.as_str(), PROCEDURE, MAKE, CHARGE, HANDED];
-    assert!(rt; given(alloc, parts, 500)?.as_str() == "QTY=333;");
-    Ok(())
+    assert_told(&rt, given(alloc, parts, 500), "QTY=333;")
 }
 
 /// The parameter must not be 0. Tables are not in the order of the values.
@@ -117,17 +124,17 @@ max = 12
 fn several_values(rt: HostRuntime) -> Result<(), Fail> {
     let parts = [SEVERAL, PROCEDURE, MAKE, CHARGE, ADD];
     let sizes = [50, 500, 1000, 2000, 5000, 6000];
-    assert_eq!(rt;
-        given_for(rt.alloc(), parts, &sizes)?.as_str(),
+    assert_told(
+        &rt,
+        given_for(rt.alloc(), parts, &sizes),
         "50 F2 2 HEAT
 500 WATER=500;SALT=2;HEAT=4;X=0;
 1000 WATER=1000;SALT=3;HEAT=7;X=0;
 2000 F2 2 HEAT
 5000 F2 1 SALT
 6000 F2 0 WATER
-"
-    );
-    Ok(())
+",
+    )
 }
 
 /// The recipe of several values.
@@ -163,10 +170,18 @@ fn set_then_cleared(
     outputs: &[(Name, u64)],
     cleared: &[Name],
 ) -> (Option<u64>, Option<u64>) {
-    values.set_outputs(outputs);
+    set(values, outputs);
     let set = first_value(values, outputs);
-    values.clear_outputs(cleared);
+    clear(values, cleared);
     (set, first_value(values, outputs))
+}
+
+fn set(values: &mut Values, outputs: &[(Name, u64)]) {
+    values.set_outputs(outputs);
+}
+
+fn clear(values: &mut Values, outputs: &[Name]) {
+    values.clear_outputs(outputs);
 }
 
 fn first_value(values: &Values, outputs: &[(Name, u64)]) -> Option<u64> {

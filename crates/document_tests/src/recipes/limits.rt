@@ -1,5 +1,6 @@
 //! The longest recipe document, one that is longer, and one whose recipe would be far too large.
 use super::{ADD, CHARGE, MAKE, PROCEDURE, document};
+use crate::expected::assert_told;
 use crate::reading::{recipe_refusal, refused_at, repeated};
 use batch_reader::{EntryFault, TableKind};
 use std::alloc::{AllocError, Global};
@@ -67,10 +68,10 @@ fn longer_told(alloc: Global) -> Result<String, Fail> {
 #[test]
 fn lengths_of_documents(rt: HostRuntime) -> Result<(), Fail> {
     let alloc = rt.alloc();
-    assert_eq!(rt; longest_told(alloc)?.as_str(), "1048576 None");
-    assert_eq!(rt;
-        longer_told(alloc)?.as_str(),
-        "1048577 Some(Entry(Spot { kind: Recipe, entry: 0 }, OutOfLimit))"
-    );
-    Ok(())
+    assert_told(&rt, longest_told(alloc), "1048576 None")?;
+    assert_told(
+        &rt,
+        longer_told(alloc),
+        "1048577 Some(Entry(Spot { kind: Recipe, entry: 0 }, OutOfLimit))",
+    )
 }

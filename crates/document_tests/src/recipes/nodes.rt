@@ -1,6 +1,8 @@
 //! The nodes of a recipe, by number and by place.
+use super::count_of;
+use crate::expected::assert_told;
 use crate::reading::recipe_of;
-use batch_recipe::{Recipe, act_at, node_at, node_count, place_at};
+use batch_recipe::{Recipe, act_at, node_at, place_at};
 use batch_text::Place;
 use std::alloc::Global;
 use std::test::Fail;
@@ -42,11 +44,16 @@ fn names(alloc: Global, recipe: &Recipe) -> Result<String, Fail> {
     Ok(text)
 }
 
+/// A number of the node's place. Without a contract here, no other proof reads that of the call.
+fn number_at(recipe: &Recipe, node: u16, depth: u16) -> Option<u16> {
+    place_at(recipe, node, depth)
+}
+
 /// The first seven numbers of the node's place.
 fn place(alloc: Global, recipe: &Recipe, node: u16) -> Result<String, Fail> {
     let mut text = String::new(alloc);
     for depth in 0..7 {
-        let line = format!(in alloc; "{depth} {:?}\n", place_at(recipe, node, depth))?;
+        let line = format!(in alloc; "{depth} {:?}\n", number_at(recipe, node, depth))?;
         text.push_str(line.as_str())?;
     }
     Ok(text)
@@ -55,17 +62,22 @@ fn place(alloc: Global, recipe: &Recipe, node: u16) -> Result<String, Fail> {
 /// How many nodes the recipe has, their names, the place of node 6, and whether node 8 has none.
 fn nodes_told(alloc: Global, document: &str) -> Result<String, Fail> {
     let recipe = recipe_of(alloc, document)?;
-    let count = node_count(&recipe);
-    let no_place = place_at(&recipe, 8, 0).is_none();
-    let names = names(alloc, &recipe)?;
-    let place = place(alloc, &recipe, 6)?;
+    tell_nodes(alloc, &recipe)
+}
+
+fn tell_nodes(alloc: Global, recipe: &Recipe) -> Result<String, Fail> {
+    let names = names(alloc, recipe)?;
+    let place = place(alloc, recipe, 6)?;
+    let count = count_of(recipe);
+    let no_place = number_at(recipe, 8, 0).is_none();
     Ok(format!(in alloc; "{count}\n{names}{place}{no_place}\n")?)
 }
 
 #[test]
 fn numbers_nodes_by_place(rt: HostRuntime) -> Result<(), Fail> {
-    assert_eq!(rt;
-        nodes_told(rt.alloc(), CROSSED)?.as_str(),
+    assert_told(
+        &rt,
+        nodes_told(rt.alloc(), CROSSED),
         r#"8
 0 Some("P")
 1 Some("U")
@@ -84,9 +96,8 @@ fn numbers_nodes_by_place(rt: HostRuntime) -> Result<(), Fail> {
 5 Some(0)
 6 None
 true
-"#
-    );
-    Ok(())
+"#,
+    )
 }
 
 /// The nodes at these places, a line each.
@@ -116,8 +127,9 @@ fn finds_nodes_by_place(rt: HostRuntime) -> Result<(), Fail> {
         "0.1",
         "1",
     ];
-    assert_eq!(rt;
-        nodes_found(rt.alloc(), CROSSED, &places)?.as_str(),
+    assert_told(
+        &rt,
+        nodes_found(rt.alloc(), CROSSED, &places),
         "0 Some(0)
 0.0.0 Some(2)
 0.0.0.0.1 Some(5)
@@ -125,11 +137,16 @@ fn finds_nodes_by_place(rt: HostRuntime) -> Result<(), Fail> {
 0.0.0.0.2 None
 0.1 None
 1 None
-"
-    );
-    Ok(())
+",
+    )
 }
 
 fn node_of(alloc: Global, recipe: &Recipe, place: &str) -> Result<Option<u16>, Fail> {
-    Ok(node_at(recipe, &Place::read(alloc, place.as_bytes())?))
+    let place = Place::read(alloc, place.as_bytes())?;
+    Ok(node_at_place(recipe, &place))
+}
+
+/// The same, of a place. Without a contract here, no other proof reads that of the call.
+fn node_at_place(recipe: &Recipe, place: &Place) -> Option<u16> {
+    node_at(recipe, place)
 }

@@ -1,5 +1,6 @@
 //! Recipe documents with two faults: which is told.
-use super::{ADD, CHARGE, MAKE, OUTPUT, PROCEDURE, document};
+use super::{ADD, CHARGE, MAKE, MANY_STEPS, MANY_UNIT_PROCEDURES, OUTPUT, PROCEDURE, document};
+use crate::expected::assert_told;
 use crate::reading::{recipe_refusal, refused_at};
 use batch_reader::{DocFault, EntryFault, TableKind};
 use std::alloc::{AllocError, Global};
@@ -22,13 +23,18 @@ fn tops_come_first(rt: HostRuntime) {
 const WITH_AN_UNDECLARED_OPERATION: &str =
     "[[unit_procedure]]\nname = 'MAKE'\nunit = 'R1'\nchart = 'COOK'\n[[phase]]\nname = 'ADD'\n";
 
+const MANY_OPERATIONS: &str =
+    "[[unit_procedure]]\nname = 'U'\nunit = 'R1'\nchart = 'seq(O,O,O,O,O,O,O,O,O,O,O,O,O,O,O,O,O)'\n";
+
+const WITH_AN_UNDECLARED_VALUE: &str = "[[phase]]\nname = 'ADD'\nvalues = ['Y']\n";
+
 /// Charts of seventeen labels each, which would expand to more nodes than a recipe may have.
 fn with_too_many_nodes() -> [&'static str; 5] {
     [
-        "[procedure]\nchart = 'seq(U,U,U,U,U,U,U,U,U,U,U,U,U,U,U,U,U)'\n",
-        "[[unit_procedure]]\nname = 'U'\nunit = 'R1'\nchart = 'seq(O,O,O,O,O,O,O,O,O,O,O,O,O,O,O,O,O)'\n",
-        "[[operation]]\nname = 'O'\nchart = 'seq(ADD,ADD,ADD,ADD,ADD,ADD,ADD,ADD,ADD,ADD,ADD,ADD,ADD,ADD,ADD,ADD,ADD)'\n",
-        "[[phase]]\nname = 'ADD'\nvalues = ['Y']\n",
+        MANY_UNIT_PROCEDURES,
+        MANY_OPERATIONS,
+        MANY_STEPS,
+        WITH_AN_UNDECLARED_VALUE,
         "",
     ]
 }
@@ -48,7 +54,7 @@ fn with_two_faults() -> [[&'static str; 5]; 7] {
 }
 
 /// Why each recipe is refused, a line each.
-pub(super) fn refusals(alloc: Global, recipes: &[[&str; 5]]) -> Result<String, AllocError> {
+pub(super) fn refusals(alloc: Global, recipes: &[[&str; 5]]) -> Result<String, Fail> {
     let mut text = String::new(alloc);
     for parts in recipes {
         text.push_str(refusal_told(alloc, *parts)?.as_str())?;
@@ -63,8 +69,9 @@ fn refusal_told(alloc: Global, parts: [&str; 5]) -> Result<String, AllocError> {
 
 #[test]
 fn first_of_two_faults(rt: HostRuntime) -> Result<(), Fail> {
-    assert_eq!(rt;
-        refusals(rt.alloc(), &with_two_faults())?.as_str(),
+    assert_told(
+        &rt,
+        refusals(rt.alloc(), &with_two_faults()),
         "Some(Entry(Spot { kind: Recipe, entry: 0 }, UnknownKey))
 Some(Entry(Spot { kind: Recipe, entry: 0 }, WrongKind))
 Some(Entry(Spot { kind: Output, entry: 0 }, MissingKey))
@@ -72,7 +79,6 @@ Some(Entry(Spot { kind: Phase, entry: 0 }, WrongKind))
 Some(Entry(Spot { kind: Operation, entry: 0 }, OutOfLimit))
 Some(Entry(Spot { kind: Output, entry: 1 }, Duplicate))
 Some(Entry(Spot { kind: Phase, entry: 0 }, Undeclared))
-"
-    );
-    Ok(())
+",
+    )
 }

@@ -1,8 +1,9 @@
 //! Roles: a worked example, and recipe documents that are refused for what they say of roles.
 use super::refusals::{refusal, refusals};
-use super::told::told;
-use super::{ADD, CHARGE, MAKE, PROCEDURE, document};
-use crate::reading::{recipe_of, refused_at};
+use super::told::recipe_told;
+use super::{ADD, CHARGE, MAKE, MANY_STEPS, MANY_UNIT_PROCEDURES, PROCEDURE, document};
+use crate::expected::assert_told;
+use crate::reading::refused_at;
 use batch_reader::{EntryFault, TableKind};
 use std::alloc::{AllocError, Global};
 use std::test::Fail;
@@ -22,15 +23,13 @@ phase ADD None [] Runs { phase: "ADD", values: [] }
 /// What is told of the recipe of these parts.
 fn found(alloc: Global, parts: [&str; 5]) -> Result<String, Fail> {
     let text = document(alloc, "B", parts)?;
-    let recipe = recipe_of(alloc, text.as_str())?;
-    Ok(told(alloc, &recipe)?)
+    recipe_told(alloc, text.as_str())
 }
 
 #[test]
 fn recipe_with_a_role(rt: HostRuntime) -> Result<(), Fail> {
     let parts = [ROLE, PROCEDURE, MAKE_FOR_ROLE, CHARGE, ADD];
-    assert_eq!(rt; found(rt.alloc(), parts)?.as_str(), TOLD);
-    Ok(())
+    assert_told(&rt, found(rt.alloc(), parts), TOLD)
 }
 
 const FOUR: &str =
@@ -47,15 +46,22 @@ const ADD_AND_CHARGE: &str =
 /// Four roles are taken, though no unit procedure has them, and five aren't. The fifth comes before a name that stands twice.
 #[test]
 fn number_of_roles(rt: HostRuntime) -> Result<(), Fail> {
-    let alloc = rt.alloc();
-    let too_many = refused_at(TableKind::Role, 4, EntryFault::OutOfLimit);
-    let four = [FOUR, PROCEDURE, MAKE, CHARGE, ADD];
-    assert_eq!(rt; refusal(alloc, four)?, None);
-    let five = [FOUR, FIFTH, PROCEDURE, MAKE, ADD_AND_CHARGE];
-    assert_eq!(rt; refusal(alloc, five)?, too_many);
-    let twice = [FOUR, FIFTH_AND_OUTPUTS, PROCEDURE, MAKE, ADD_AND_CHARGE];
-    assert_eq!(rt; refusal(alloc, twice)?, too_many);
-    Ok(())
+    assert_told(
+        &rt,
+        refusals(rt.alloc(), &with_four_roles_and_five()),
+        "None
+Some(Entry(Spot { kind: Role, entry: 4 }, OutOfLimit))
+Some(Entry(Spot { kind: Role, entry: 4 }, OutOfLimit))
+",
+    )
+}
+
+fn with_four_roles_and_five() -> [[&'static str; 5]; 3] {
+    [
+        [FOUR, PROCEDURE, MAKE, CHARGE, ADD],
+        [FOUR, FIFTH, PROCEDURE, MAKE, ADD_AND_CHARGE],
+        [FOUR, FIFTH_AND_OUTPUTS, PROCEDURE, MAKE, ADD_AND_CHARGE],
+    ]
 }
 
 /// The role `rx`, and the unit procedure MAKE, which has it.
@@ -158,42 +164,35 @@ fn refuses_bad_roles(rt: HostRuntime) -> Result<(), Fail> {
 /// acts name before the names of roles, these before the roles that are named, and all before the size of the tree.
 fn with_two_faults() -> [[&'static str; 5]; 5] {
     [
-        ["[[output]]\nname = 5\n", "[[role]]\n", MAKE, CHARGE, ADD],
-        ["[[role]]\n", MAKE, CHARGE, ADD, ""],
-        [
-            ROLE,
-            ROLE,
-            PROCEDURE,
-            "[[unit_procedure]]\nname = 'MAKE'\nrole = 'rx'\nchart = 'COOK'\n",
-            ADD_AND_CHARGE,
-        ],
-        [
-            ROLE,
-            ROLE,
-            PROCEDURE,
-            "[[unit_procedure]]\nname = 'MAKE'\nrole = 'ry'\nchart = 'CHARGE'\n",
-            ADD_AND_CHARGE,
-        ],
-        [
-            "[procedure]\nchart = 'seq(U,U,U,U,U,U,U,U,U,U,U,U,U,U,U,U,U)'\n",
-            "[[unit_procedure]]\nname = 'MAKE'\nunit = 'rx'\nchart = 'skip'\n[[unit_procedure]]\nname = 'U'\nrole = 'rx'\nchart = 'seq(O,O,O,O,O,O,O,O,O,O,O,O,O,O,O,O,O)'\n",
-            "[[operation]]\nname = 'O'\nchart = 'seq(ADD,ADD,ADD,ADD,ADD,ADD,ADD,ADD,ADD,ADD,ADD,ADD,ADD,ADD,ADD,ADD,ADD)'\n",
-            ADD,
-            "",
-        ],
+        [NUMBERED_OUTPUT, NAMELESS_ROLE, MAKE, CHARGE, ADD],
+        [NAMELESS_ROLE, MAKE, CHARGE, ADD, ""],
+        [ROLE, ROLE, PROCEDURE, WITH_NO_OPERATION, ADD_AND_CHARGE],
+        [ROLE, ROLE, PROCEDURE, WITH_NO_ROLE, ADD_AND_CHARGE],
+        [MANY_UNIT_PROCEDURES, WITH_ROLE_AS_UNIT, MANY_STEPS, ADD, ""],
     ]
 }
 
+const NUMBERED_OUTPUT: &str = "[[output]]\nname = 5\n";
+
+const NAMELESS_ROLE: &str = "[[role]]\n";
+
+const WITH_NO_OPERATION: &str = "[[unit_procedure]]\nname = 'MAKE'\nrole = 'rx'\nchart = 'COOK'\n";
+
+const WITH_NO_ROLE: &str = "[[unit_procedure]]\nname = 'MAKE'\nrole = 'ry'\nchart = 'CHARGE'\n";
+
+const WITH_ROLE_AS_UNIT: &str =
+    "[[unit_procedure]]\nname = 'MAKE'\nunit = 'rx'\nchart = 'skip'\n[[unit_procedure]]\nname = 'U'\nrole = 'rx'\nchart = 'seq(O,O,O,O,O,O,O,O,O,O,O,O,O,O,O,O,O)'\n";
+
 #[test]
 fn first_of_two_faults(rt: HostRuntime) -> Result<(), Fail> {
-    assert_eq!(rt;
-        refusals(rt.alloc(), &with_two_faults())?.as_str(),
+    assert_told(
+        &rt,
+        refusals(rt.alloc(), &with_two_faults()),
         "Some(Entry(Spot { kind: Output, entry: 0 }, WrongKind))
 Some(Entry(Spot { kind: Role, entry: 0 }, MissingKey))
 Some(Entry(Spot { kind: UnitProcedure, entry: 0 }, Undeclared))
 Some(Entry(Spot { kind: Role, entry: 1 }, Duplicate))
 Some(Entry(Spot { kind: UnitProcedure, entry: 1 }, Undeclared))
-"
-    );
-    Ok(())
+",
+    )
 }

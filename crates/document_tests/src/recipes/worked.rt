@@ -1,7 +1,6 @@
 //! The worked examples, and what their recipes hold.
-use super::told::told;
+use super::told::recipe_told;
 use super::{ADD, CHARGE, MAKE, OUTPUT, PROCEDURE, document, nodes_of};
-use crate::reading::recipe_of;
 use std::alloc::Global;
 use std::test::Fail;
 
@@ -270,8 +269,7 @@ phase DRAIN None [] Runs { phase: "DRAIN", values: [] }
 /// What is told of the example's recipe.
 fn found(alloc: Global, example: &Example) -> Result<String, Fail> {
     let text = document(alloc, example.name, example.parts)?;
-    let recipe = recipe_of(alloc, text.as_str())?;
-    Ok(told(alloc, &recipe)?)
+    recipe_told(alloc, text.as_str())
 }
 
 /// The name of the first example that isn't told as it should be.
