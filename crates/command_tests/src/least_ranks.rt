@@ -46,12 +46,12 @@ unit = "U"
 chart = "CHARGE"
 [[operation]]
 name = "CHARGE"
-chart = "seq("#;
+chart = "#;
 
 fn document(alloc: Global, pairs: &[Pair]) -> Result<String, AllocError> {
     let labels = labels(alloc, pairs)?;
     let phases = phases(alloc, pairs)?;
-    format!(in alloc; "{HEAD}{labels})\"\n{phases}")
+    format!(in alloc; "{HEAD}\"seq({labels})\"\n{phases}")
 }
 
 /// The labels of the steps, with a comma between.

@@ -23,18 +23,20 @@ fn told(alloc: Global, verdict: &Verdict) -> Result<String, Fail> {
     Ok(format!(in alloc; "{}|{said}", verdict.text.trim_end())?)
 }
 
-fn cell_said(alloc: Global, path: &str, text: &str) -> Result<String, Fail> {
-    match &judge_cell(alloc, path, text.as_bytes()) {
-        Err(Halt::Refused(verdict)) => told(alloc, verdict),
+/// What is told of a refusal, without the value that there would be else.
+fn refusal_told(alloc: Global, halt: Option<Halt>) -> Result<String, Fail> {
+    match halt {
+        Some(Halt::Refused(verdict)) => told(alloc, &verdict),
         _ => Err(Fail::from("not refused")),
     }
 }
 
+fn cell_said(alloc: Global, path: &str, text: &str) -> Result<String, Fail> {
+    refusal_told(alloc, judge_cell(alloc, path, text.as_bytes()).err())
+}
+
 fn recipe_said(alloc: Global, text: &str) -> Result<String, Fail> {
-    match &judge_recipe(alloc, "r", text.as_bytes()) {
-        Err(Halt::Refused(verdict)) => told(alloc, verdict),
-        _ => Err(Fail::from("not refused")),
-    }
+    refusal_told(alloc, judge_recipe(alloc, "r", text.as_bytes()).err())
 }
 
 const FRONT: &str = "cell = \"C\"\n[[unit]]\nname = \"U\"\n[[shared]]\nname = \"S\"\n";
@@ -166,10 +168,10 @@ fn verified(
     recipes: Vec<Recipe>,
     certificate: &Certificate,
 ) -> Result<String, Fail> {
-    match &clear_recipes(alloc, cell, recipes, certificate) {
-        Err(Halt::Refused(verdict)) => told(alloc, verdict),
-        _ => Err(Fail::from("not refused")),
-    }
+    refusal_told(
+        alloc,
+        clear_recipes(alloc, cell, recipes, certificate).err(),
+    )
 }
 
 #[test]
