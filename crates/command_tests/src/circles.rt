@@ -1,5 +1,6 @@
 //! Circles that `check` tells: none has fewer edges.
 use crate::documents::{CELL1, CELL3};
+use crate::expected::assert_told;
 use crate::reading::checked;
 use std::alloc::{AllocError, Global};
 use std::test::Fail;
@@ -30,43 +31,51 @@ needs = [{step}]
     )
 }
 
-/// What `check` prints of recipes with these levels, X and Y.
+/// What `check` prints of recipes with these levels, X and, where there are two, Y.
 fn told(alloc: Global, cell: &str, sets: &[[&str; 4]]) -> Result<String, Fail> {
-    let mut recipes = Vec::new(alloc);
-    for (name, levels) in ["X", "Y"].iter().zip(sets) {
-        recipes.push(recipe(alloc, name, *levels)?)?;
+    match sets {
+        [first] => checked(alloc, cell, &[recipe(alloc, "X", *first)?.as_str()]),
+        [first, second] => told_of_both(alloc, cell, *first, *second),
+        _ => Err("no such set")?,
     }
-    let mut texts = Vec::new(alloc);
-    for recipe in &recipes {
-        texts.push(recipe.as_str())?;
-    }
-    checked(alloc, cell, &texts)
+}
+
+fn told_of_both(
+    alloc: Global,
+    cell: &str,
+    first: [&str; 4],
+    second: [&str; 4],
+) -> Result<String, Fail> {
+    let first = recipe(alloc, "X", first)?;
+    let second = recipe(alloc, "Y", second)?;
+    checked(alloc, cell, &[first.as_str(), second.as_str()])
 }
 
 /// Others are asked for between the two that the edge joins.
 #[test]
 fn needs_far_from_one_another(rt: HostRuntime) -> Result<(), Fail> {
     let alloc = rt.alloc();
-    assert_eq!(rt;
-        told(alloc, CELL1, &[["'HDR'", "", "'STEAM'", "'HDR'"]])?.as_str(),
-        "refused C1\nedge X 0.0.0.0 HDR HDR\n"
-    );
-    assert_eq!(rt;
-        told(alloc, CELL1, &[["'HDR'", "'STEAM'", "'R2'", "'R1'"]])?.as_str(),
-        "refused C1\nedge X 0.0.0.0 R1 R1\n"
-    );
-    Ok(())
+    assert_told(
+        &rt,
+        told(alloc, CELL1, &[["'HDR'", "", "'STEAM'", "'HDR'"]]),
+        "refused C1\nedge X 0.0.0.0 HDR HDR\n",
+    )?;
+    assert_told(
+        &rt,
+        told(alloc, CELL1, &[["'HDR'", "'STEAM'", "'R2'", "'R1'"]]),
+        "refused C1\nedge X 0.0.0.0 R1 R1\n",
+    )
 }
 
 /// X asks for R1, STEAM and R2 in this order, Y for R2 and then R1.
 #[test]
 fn three_edges_become_two(rt: HostRuntime) -> Result<(), Fail> {
     let sets = [["", "'STEAM'", "", "'R2'"], ["'R2'", "", "", ""]];
-    assert_eq!(rt;
-        told(rt.alloc(), CELL1, &sets)?.as_str(),
-        "refused C1\nedge X 0.0.0.0 R1 R2\nedge Y 0.0 R2 R1\n"
-    );
-    Ok(())
+    assert_told(
+        &rt,
+        told(rt.alloc(), CELL1, &sets),
+        "refused C1\nedge X 0.0.0.0 R1 R2\nedge Y 0.0 R2 R1\n",
+    )
 }
 
 /// The edge stands where the second candidate takes the role.
@@ -91,9 +100,9 @@ chart = 'ADD'
 [[phase]]
 name = 'ADD'
 ";
-    assert_eq!(rt;
-        checked(rt.alloc(), CELL3, &[recipe])?.as_str(),
-        "refused C1\nedge X 0.0 R2 R2\n"
-    );
-    Ok(())
+    assert_told(
+        &rt,
+        checked(rt.alloc(), CELL3, &[recipe]),
+        "refused C1\nedge X 0.0 R2 R2\n",
+    )
 }

@@ -1,15 +1,44 @@
 //! The command line.
+use crate::expected::assert_told;
+use crate::shelf::owned;
 use batch_words::{Command, CommandFault, PlantOptions, parse};
 use std::alloc::{AllocError, Global};
 use std::process::Abort;
+use std::test::Fail;
 
-fn parsed(rt: &(impl Abort + AllocGlobal), words: &[&str]) -> Result<Command, CommandFault> {
-    let mut owned = Vec::new(rt.alloc());
-    for word in words {
-        let word = String::from_str(rt.alloc(), word).expect(rt, "memory");
-        owned.push(word).expect(rt, "memory");
-    }
-    parse(rt.alloc(), owned.as_slice())
+fn parsed(alloc: Global, words: &[&str]) -> Result<Result<Command, CommandFault>, Fail> {
+    let words = owned(alloc, words)?;
+    Ok(parse(alloc, words.as_slice()))
+}
+
+fn check_told(
+    alloc: Global,
+    word: &str,
+    cell: &str,
+    recipes: &[String],
+    quiet: bool,
+) -> Result<String, AllocError> {
+    format!(in alloc; "{word} {cell} {recipes:?} {quiet}")
+}
+
+fn verify_told(
+    alloc: Global,
+    word: &str,
+    documents: [&str; 2],
+    recipes: &[String],
+    quiet: bool,
+) -> Result<String, AllocError> {
+    let [cell, certificate] = documents;
+    format!(in alloc; "{word} {cell} {certificate} {recipes:?} {quiet}")
+}
+
+fn plant_told(alloc: Global, options: &PlantOptions) -> Result<String, AllocError> {
+    let PlantOptions {
+        batches,
+        ticks,
+        ring,
+    } = options;
+    format!(in alloc; "plant {batches} {ticks} {ring}")
 }
 
 fn told(alloc: Global, command: &Command) -> Result<String, AllocError> {
@@ -19,32 +48,25 @@ fn told(alloc: Global, command: &Command) -> Result<String, AllocError> {
             cell,
             recipes,
             quiet,
-        } => format!(in alloc; "check {cell} {recipes:?} {quiet}"),
+        } => check_told(alloc, "check", cell, recipes, *quiet),
         Command::Draw {
             cell,
             recipes,
             quiet,
-        } => format!(in alloc; "draw {cell} {recipes:?} {quiet}"),
+        } => check_told(alloc, "draw", cell, recipes, *quiet),
         Command::Verify {
             cell,
             certificate,
             recipes,
             quiet,
-        } => format!(in alloc; "verify {cell} {certificate} {recipes:?} {quiet}"),
+        } => verify_told(alloc, "verify", [cell, certificate], recipes, *quiet),
         Command::Run {
             cell,
             certificate,
             recipes,
             quiet,
-        } => format!(in alloc; "run {cell} {certificate} {recipes:?} {quiet}"),
-        Command::Plant(options) => {
-            let PlantOptions {
-                batches,
-                ticks,
-                ring,
-            } = options;
-            format!(in alloc; "plant {batches} {ticks} {ring}")
-        }
+        } => verify_told(alloc, "run", [cell, certificate], recipes, *quiet),
+        Command::Plant(options) => plant_told(alloc, options),
         Command::Explain { code } => format!(in alloc; "explain {code}"),
     }
 }
@@ -58,81 +80,106 @@ fn kind(fault: &CommandFault) -> &'static str {
 }
 
 /// The command in its words, or why there is none, without the text.
-fn summary(rt: &(impl Abort + AllocGlobal), words: &[&str]) -> String {
-    let summary = match parsed(rt, words) {
-        Ok(command) => told(rt.alloc(), &command),
-        Err(fault) => String::from_str(rt.alloc(), kind(&fault)),
-    };
-    summary.expect(rt, "memory")
+fn summary(alloc: Global, words: &[&str]) -> Result<String, Fail> {
+    match parsed(alloc, words)? {
+        Ok(command) => Ok(told(alloc, &command)?),
+        Err(fault) => Ok(String::from_str(alloc, kind(&fault))?),
+    }
 }
 
-#[test]
-fn commands(rt: HostRuntime) {
-    let rows: [(&[&str], &str); 12] = [
-        (&[], "serve"),
-        (&["check", "c", "r", "s"], "check c [\"r\", \"s\"] false"),
-        (&["check", "c"], "check c [] false"),
-        (&["check", "c", "r", "--quiet"], "check c [\"r\"] true"),
-        (&["check", "--dot", "c", "r"], "draw c [\"r\"] false"),
-        (&["verify", "c", "k", "r"], "verify c k [\"r\"] false"),
-        (&["verify", "c", "k"], "verify c k [] false"),
-        (&["run", "--quiet", "c", "k", "r"], "run c k [\"r\"] true"),
-        (&["plant"], "plant 3 5 1"),
-        (
-            &["plant", "--batches", "100", "--ticks=1000", "--ring", "64"],
-            "plant 100 1000 64",
-        ),
-        (&["plant", "--ticks", "0"], "plant 3 0 1"),
-        (&["explain", "E9"], "explain E9"),
-    ];
+/// That each row's words are the command, or the fault, beside them.
+fn assert_rows(rt: &impl Abort, alloc: Global, rows: &[(&[&str], &str)]) -> Result<(), Fail> {
     for (words, want) in rows {
-        assert_eq!(rt; summary(&rt, words).as_str(), want);
+        assert_told(rt, summary(alloc, words), want)?;
     }
+    Ok(())
 }
 
+const COMMANDS: [(&[&str], &str); 12] = [
+    (&[], "serve"),
+    (&["check", "c", "r", "s"], "check c [\"r\", \"s\"] false"),
+    (&["check", "c"], "check c [] false"),
+    (&["check", "c", "r", "--quiet"], "check c [\"r\"] true"),
+    (&["check", "--dot", "c", "r"], "draw c [\"r\"] false"),
+    (&["verify", "c", "k", "r"], "verify c k [\"r\"] false"),
+    (&["verify", "c", "k"], "verify c k [] false"),
+    (&["run", "--quiet", "c", "k", "r"], "run c k [\"r\"] true"),
+    (&["plant"], "plant 3 5 1"),
+    (
+        &["plant", "--batches", "100", "--ticks=1000", "--ring", "64"],
+        "plant 100 1000 64",
+    ),
+    (&["plant", "--ticks", "0"], "plant 3 0 1"),
+    (&["explain", "E9"], "explain E9"),
+];
+
 #[test]
-fn faults_of_usage(rt: HostRuntime) {
-    let rows: [&[&str]; 17] = [
-        &["serve", "c", "k"],
-        &["verify", "--dot", "c", "k"],
-        &["explain"],
-        &["run", "c"],
-        &["plant", "c"],
-        &["plant", "--batches", "0"],
-        &["plant", "--batches", "101"],
-        &["plant", "--ticks", "1001"],
-        &["plant", "--ring", "0"],
-        &["plant", "--ring", "65"],
-        &["plant", "--ring", "one"],
-        &["help"],
-        &[""],
-        &["check"],
-        &["verify", "c"],
-        &["check", "c", "--fast"],
-        &["--fast"],
-    ];
+fn commands(rt: HostRuntime) -> Result<(), Fail> {
+    assert_rows(&rt, rt.alloc(), &COMMANDS)
+}
+
+/// That each row is a fault of usage.
+fn assert_usage(rt: &impl Abort, alloc: Global, rows: &[&[&str]]) -> Result<(), Fail> {
     for words in rows {
-        assert_eq!(rt; summary(&rt, words).as_str(), "usage", "{words:?}");
+        assert_told(rt, summary(alloc, words), "usage")?;
+    }
+    Ok(())
+}
+
+const USAGE: [&[&str]; 17] = [
+    &["serve", "c", "k"],
+    &["verify", "--dot", "c", "k"],
+    &["explain"],
+    &["run", "c"],
+    &["plant", "c"],
+    &["plant", "--batches", "0"],
+    &["plant", "--batches", "101"],
+    &["plant", "--ticks", "1001"],
+    &["plant", "--ring", "0"],
+    &["plant", "--ring", "65"],
+    &["plant", "--ring", "one"],
+    &["help"],
+    &[""],
+    &["check"],
+    &["verify", "c"],
+    &["check", "c", "--fast"],
+    &["--fast"],
+];
+
+#[test]
+fn faults_of_usage(rt: HostRuntime) -> Result<(), Fail> {
+    assert_usage(&rt, rt.alloc(), &USAGE)
+}
+
+/// The text of the help that is asked for.
+fn help_of(alloc: Global, words: &[&str]) -> Result<String, Fail> {
+    let parsed = parsed(alloc, words)?;
+    Ok(String::from_str(alloc, help_text(&parsed))?)
+}
+
+fn help_text(parsed: &Result<Command, CommandFault>) -> &str {
+    match parsed {
+        Err(CommandFault::Help(text)) => text.as_str(),
+        _ => "no help",
     }
 }
 
 #[test]
-fn help(rt: HostRuntime) {
-    assert_eq!(rt; summary(&rt, &["--help"]).as_str(), "help");
-    assert_eq!(rt; summary(&rt, &["check", "-h"]).as_str(), "help");
-    let Err(CommandFault::Help(text)) = parsed(&rt, &["verify", "--help"]) else {
-        panic!(rt; "no help");
-    };
-    assert!(rt;
-        text.contains("Usage: batchd verify [OPTIONS] <CELL> <CERT> [RECIPE]..."),
-        "{text}"
-    );
+fn help(rt: HostRuntime) -> Result<(), Fail> {
+    assert_rows(&rt, rt.alloc(), &HELP)?;
+    assert!(rt; names_usage(rt.alloc(), &["verify", "--help"])?);
+    Ok(())
+}
+
+const HELP: [(&[&str], &str); 2] = [(&["--help"], "help"), (&["check", "-h"], "help")];
+
+/// Whether the help that is asked for tells how `verify` is used.
+fn names_usage(alloc: Global, words: &[&str]) -> Result<bool, Fail> {
+    let help = help_of(alloc, words)?;
+    Ok(help.contains("Usage: batchd verify [OPTIONS] <CELL> <CERT> [RECIPE]..."))
 }
 
 #[test]
-fn version(rt: HostRuntime) {
-    let Err(CommandFault::Help(text)) = parsed(&rt, &["--version"]) else {
-        panic!(rt; "no version");
-    };
-    assert_eq!(rt; text.as_str(), "batchd 0.1.0\n");
+fn version(rt: HostRuntime) -> Result<(), Fail> {
+    assert_told(&rt, help_of(rt.alloc(), &["--version"]), "batchd 0.1.0\n")
 }

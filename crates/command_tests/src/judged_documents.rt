@@ -1,5 +1,6 @@
 //! Documents that are read and judged one after another.
 use crate::documents::{CELL1, N};
+use crate::expected::assert_told;
 use crate::shelf::{Shelf, ended, owned};
 use batch_commands::{Halt, Verdict, check_documents, judge_certificate, verify_documents};
 use std::alloc::Global;
@@ -48,54 +49,62 @@ fn not_found(alloc: Global, recipes: &[&str]) -> Result<String, Fail> {
 
 #[test]
 fn check(rt: HostRuntime) -> Result<(), Fail> {
-    assert_eq!(rt;
-        checked(rt.alloc(), &[])?.as_str(),
-        "rank HDR 1\nrank R1 1\nrank R2 1\nrank STEAM 1\n0"
-    );
-    assert_eq!(rt;
-        checked(rt.alloc(), &["twice"])?.as_str(),
-        "refused C1\nedge N 0.0.0.0 HDR HDR\n1"
-    );
-    assert_eq!(rt;
-        checked(rt.alloc(), &["twice", "twice"])?.as_str(),
-        "refused V10\n1"
-    );
-    Ok(())
+    assert_told(
+        &rt,
+        checked(rt.alloc(), &[]),
+        "rank HDR 1\nrank R1 1\nrank R2 1\nrank STEAM 1\n0",
+    )?;
+    assert_told(
+        &rt,
+        checked(rt.alloc(), &["twice"]),
+        "refused C1\nedge N 0.0.0.0 HDR HDR\n1",
+    )?;
+    assert_told(
+        &rt,
+        checked(rt.alloc(), &["twice", "twice"]),
+        "refused V10\n1",
+    )
 }
 
 #[test]
 fn verify(rt: HostRuntime) -> Result<(), Fail> {
-    assert_eq!(rt; verified(rt.alloc(), "ranks", &[])?.as_str(), "accepted\n0");
-    assert_eq!(rt;
-        verified(rt.alloc(), "ranks", &["twice"])?.as_str(),
-        "refused V4 N 0.0.0.0\n1"
-    );
-    Ok(())
+    assert_told(&rt, verified(rt.alloc(), "ranks", &[]), "accepted\n0")?;
+    assert_told(
+        &rt,
+        verified(rt.alloc(), "ranks", &["twice"]),
+        "refused V4 N 0.0.0.0\n1",
+    )
 }
 
 #[test]
 fn first_fault_ends(rt: HostRuntime) -> Result<(), Fail> {
-    assert_eq!(rt;
-        checked(rt.alloc(), &["bad", "nowhere"])?.as_str(),
-        "refused D1 bad\n1"
-    );
-    assert_eq!(rt;
-        verified(rt.alloc(), "zero", &["bad"])?.as_str(),
-        "refused K1 1\n1"
-    );
-    assert_eq!(rt;
-        not_found(rt.alloc(), &["nowhere", "bad"])?.as_str(),
-        "nowhere"
-    );
-    Ok(())
+    assert_told(
+        &rt,
+        checked(rt.alloc(), &["bad", "nowhere"]),
+        "refused D1 bad\n1",
+    )?;
+    assert_told(
+        &rt,
+        verified(rt.alloc(), "zero", &["bad"]),
+        "refused K1 1\n1",
+    )?;
+    assert_told(&rt, not_found(rt.alloc(), &["nowhere", "bad"]), "nowhere")
 }
 
 #[test]
 fn long_certificate(rt: HostRuntime) -> Result<(), Fail> {
-    let text = vec![in rt.alloc(); b'x'; 32_769]?;
-    let Err(Halt::Refused(verdict)) = judge_certificate(rt.alloc(), "certificate", &text) else {
-        panic!(rt; "no refusal");
-    };
-    assert_eq!(rt; verdict.text.as_str(), "refused K3\n");
-    Ok(())
+    assert_told(&rt, long_refused(rt.alloc()), "refused K3\n")
+}
+
+/// The text of the refusal of a certificate of one byte more than it may have.
+fn long_refused(alloc: Global) -> Result<String, Fail> {
+    let text = vec![in alloc; b'x'; 32_769]?;
+    refusal_of(alloc, &text)
+}
+
+fn refusal_of(alloc: Global, text: &[u8]) -> Result<String, Fail> {
+    match &judge_certificate(alloc, "certificate", text) {
+        Err(Halt::Refused(verdict)) => Ok(String::from_str(alloc, verdict.text.as_str())?),
+        _ => Err(Fail::from("no refusal")),
+    }
 }

@@ -10,6 +10,8 @@ mod command_line;
 #[cfg(test)]
 mod documents;
 #[cfg(test)]
+mod expected;
+#[cfg(test)]
 mod judged_documents;
 #[cfg(test)]
 mod judgements;

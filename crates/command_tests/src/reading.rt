@@ -58,15 +58,47 @@ pub(crate) fn verified(
     ranks: &str,
     texts: &[&str],
 ) -> Result<String, Fail> {
-    let cell = cell_of(alloc, cell)?;
-    let certificate = match certificate_of(alloc, ranks) {
-        Err(Halt::Refused(verdict)) => return Ok(verdict.text),
-        other => other?,
-    };
+    match certificate_of(alloc, ranks) {
+        Ok(certificate) => verified_by(alloc, cell, &certificate, texts),
+        Err(halt) => refusal_of(halt),
+    }
+}
+
+fn verified_by(
+    alloc: Global,
+    cell: &str,
+    certificate: &Certificate,
+    texts: &[&str],
+) -> Result<String, Fail> {
     let recipes = recipes_of(alloc, texts)?;
-    match clear_recipes(alloc, cell, recipes, &certificate) {
-        Ok(_) => Ok(String::from_str(alloc, "accepted\n")?),
-        Err(Halt::Refused(verdict)) => Ok(verdict.text),
-        Err(other) => Err(other)?,
+    let cell = cell_of(alloc, cell)?;
+    told(alloc, cleared(alloc, cell, recipes, certificate))
+}
+
+fn told(alloc: Global, outcome: Result<(), Halt>) -> Result<String, Fail> {
+    match outcome {
+        Ok(()) => Ok(String::from_str(alloc, "accepted\n")?),
+        Err(halt) => refusal_of(halt),
+    }
+}
+
+/// Whether the recipes are cleared, without the set.
+fn cleared(
+    alloc: Global,
+    cell: Cell,
+    recipes: Vec<Recipe>,
+    certificate: &Certificate,
+) -> Result<(), Halt> {
+    match clear_recipes(alloc, cell, recipes, certificate) {
+        Ok(_) => Ok(()),
+        Err(halt) => Err(halt),
+    }
+}
+
+/// The text of a refusal.
+fn refusal_of(halt: Halt) -> Result<String, Fail> {
+    match halt {
+        Halt::Refused(verdict) => Ok(verdict.text),
+        other => Err(other)?,
     }
 }

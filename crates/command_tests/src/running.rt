@@ -1,9 +1,11 @@
 //! Runs of the commands: the texts, their streams and the exit statuses.
 use crate::documents::{A, CELL1, N};
+use crate::expected::assert_told;
 use crate::shelf::{Shelf, owned};
 use batch_commands::{Course, run_words};
 use std::alloc::Global;
 use std::io::Write;
+use std::process::Abort;
 use std::test::Fail;
 
 /// Ranks that clear recipe A, and not N, which asks for HDR twice.
@@ -44,6 +46,14 @@ fn told(alloc: Global, words: &[&str]) -> Result<String, Fail> {
     Ok(format!(in alloc; "{status:?} {output}|{errors}")?)
 }
 
+/// That of each run the text beside its words is told.
+fn assert_rows(rt: &impl Abort, alloc: Global, rows: &[(&[&str], &str)]) -> Result<(), Fail> {
+    for (words, want) in rows {
+        assert_told(rt, told(alloc, words), want)?;
+    }
+    Ok(())
+}
+
 #[test]
 fn verdicts_are_output(rt: HostRuntime) -> Result<(), Fail> {
     let ranks = "Some(0) rank HDR 1\nrank R1 1\nrank R2 1\nrank STEAM 1\n|";
@@ -72,10 +82,7 @@ fn verdicts_are_output(rt: HostRuntime) -> Result<(), Fail> {
                 |batchd: a: this is a recipe, and the cell is to stand here: the cell comes first\n",
         ),
     ];
-    for (words, want) in rows {
-        assert_eq!(rt; told(rt.alloc(), words)?.as_str(), want, "{words:?}");
-    }
-    Ok(())
+    assert_rows(&rt, rt.alloc(), &rows)
 }
 
 /// Whether what is told begins with the one text, and has the other in it.
@@ -86,16 +93,33 @@ fn begins_and_names(alloc: Global, words: &[&str], front: &str, part: &str) -> R
 
 #[test]
 fn help_is_output(rt: HostRuntime) -> Result<(), Fail> {
-    let told = told(rt.alloc(), &["verify", "--help"])?;
-    assert!(rt; told.contains("Usage: batchd verify [OPTIONS] <CELL> <CERT> [RECIPE]..."));
-    assert!(rt; told.starts_with("Some(0) "));
-    assert!(rt; told.ends_with("|"));
+    assert!(rt; is_help(rt.alloc(), &["verify", "--help"])?);
     Ok(())
+}
+
+/// Whether how `verify` is used is output, with status 0, and there are no errors.
+fn is_help(alloc: Global, words: &[&str]) -> Result<bool, Fail> {
+    let part = "Usage: batchd verify [OPTIONS] <CELL> <CERT> [RECIPE]...";
+    let told = told(alloc, words)?;
+    Ok(told.contains(part) && told.starts_with("Some(0) ") && told.ends_with("|"))
+}
+
+/// The words of the first run that isn't told as beside them.
+fn told_otherwise(
+    alloc: Global,
+    rows: &[(&'static [&'static str], &str, &str)],
+) -> Result<Option<&'static [&'static str]>, Fail> {
+    for (words, front, part) in rows {
+        if !begins_and_names(alloc, words, front, part)? {
+            return Ok(Some(words));
+        }
+    }
+    Ok(None)
 }
 
 #[test]
 fn faults_are_errors(rt: HostRuntime) -> Result<(), Fail> {
-    let rows: [(&[&str], &str, &str); 7] = [
+    let rows: [(&'static [&'static str], &str, &str); 7] = [
         (&["explain", "E13"], "Some(2) |", "no such code"),
         (&["check", "cell", "nowhere", "bad"], "Some(3) |", "nowhere"),
         (&["check"], "Some(2) |", "<CELL>"),
@@ -108,12 +132,7 @@ fn faults_are_errors(rt: HostRuntime) -> Result<(), Fail> {
             "invalid value '65'",
         ),
     ];
-    for (words, front, part) in rows {
-        assert!(rt;
-            begins_and_names(rt.alloc(), words, front, part)?,
-            "{words:?}"
-        );
-    }
+    assert_eq!(rt; told_otherwise(rt.alloc(), &rows)?, None);
     Ok(())
 }
 
@@ -122,64 +141,58 @@ fn codes_are_explained(rt: HostRuntime) -> Result<(), Fail> {
     let want =
         "Some(0) D4: the table has a key that tables of its kind don't have, or a unit procedure has a unit and a role.\n\
         To do: take the key away, or write it as docs/FORMATS.md does.\n|";
-    assert_eq!(rt; told(rt.alloc(), &["explain", "D4"])?.as_str(), want);
-    Ok(())
+    assert_told(&rt, told(rt.alloc(), &["explain", "D4"]), want)
 }
 
 #[test]
 fn graphs_are_drawn(rt: HostRuntime) -> Result<(), Fail> {
     let good = "Some(0) digraph \"DEMO\" {\n}\n|";
-    assert_eq!(rt;
-        told(rt.alloc(), &["check", "--dot", "cell", "a"])?.as_str(),
-        good
-    );
+    assert_told(
+        &rt,
+        told(rt.alloc(), &["check", "--dot", "cell", "a"]),
+        good,
+    )?;
     let circle = "Some(1) digraph \"DEMO\" {
   \"R1\" -> \"HDR\" [label=\"N 0.0.0.0\"];
   \"HDR\" -> \"HDR\" [label=\"N 0.0.0.0\", color=red];
 }
 |batchd: batches can wait in a circle; N holds HDR and asks for HDR\n";
-    assert_eq!(rt;
-        told(rt.alloc(), &["check", "--dot", "cell", "n"])?.as_str(),
-        circle
-    );
-    Ok(())
+    assert_told(
+        &rt,
+        told(rt.alloc(), &["check", "--dot", "cell", "n"]),
+        circle,
+    )
 }
 
 #[test]
 fn sets_are_to_be_served(rt: HostRuntime) -> Result<(), Fail> {
-    let rows: [&[&str]; 2] = [&[], &["run", "cell", "ranks", "a"]];
-    for words in rows {
-        assert_eq!(rt; told(rt.alloc(), words)?.as_str(), "None |", "{words:?}");
-    }
-    Ok(())
+    let alloc = rt.alloc();
+    assert_told(&rt, told(alloc, &[]), "None |")?;
+    assert_told(&rt, told(alloc, &["run", "cell", "ranks", "a"]), "None |")
 }
 
 #[test]
 fn plants_are_to_be_run(rt: HostRuntime) -> Result<(), Fail> {
-    let told = told(rt.alloc(), &["plant", "--ticks", "0"])?;
-    assert_eq!(rt; told.as_str(), "None |");
-    Ok(())
+    assert_told(&rt, told(rt.alloc(), &["plant", "--ticks", "0"]), "None |")
+}
+
+/// How a run ends that can write three bytes: a slice takes no more than its room.
+fn status_of_narrow(alloc: Global, words: &[&str]) -> Result<Option<u8>, Fail> {
+    let mut output = [0u8; 3];
+    let mut errors = [0u8; 3];
+    status_of(alloc, words, &mut &mut output[..], &mut &mut errors[..])
 }
 
 #[test]
 fn writes_fail(rt: HostRuntime) -> Result<(), Fail> {
-    let rows: [(&[&str], u8); 4] = [
-        (&["verify", "cell", "ranks", "a"], 3),
-        (&["check", "cell", "bad"], 3),
-        (&["--help"], 3),
-        (&["plant", "--ring", "65"], 2),
-    ];
-    for (words, status) in rows {
-        // A slice takes no more than its room.
-        let mut output = [0u8; 3];
-        let mut errors = [0u8; 3];
-        let ended = status_of(
-            rt.alloc(),
-            words,
-            &mut &mut output[..],
-            &mut &mut errors[..],
-        )?;
-        assert_eq!(rt; ended, Some(status), "{words:?}");
-    }
+    let alloc = rt.alloc();
+    let verified = status_of_narrow(alloc, &["verify", "cell", "ranks", "a"])?;
+    let checked = status_of_narrow(alloc, &["check", "cell", "bad"])?;
+    let helped = status_of_narrow(alloc, &["--help"])?;
+    let misused = status_of_narrow(alloc, &["plant", "--ring", "65"])?;
+    assert_eq!(rt;
+        [verified, checked, helped, misused],
+        [Some(3), Some(3), Some(3), Some(2)]
+    );
     Ok(())
 }

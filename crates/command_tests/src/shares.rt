@@ -1,7 +1,9 @@
 //! Verdicts on needs of several units.
 use crate::documents::CELL1;
+use crate::expected::assert_told;
 use crate::reading::{checked, judged, verified};
 use std::alloc::{AllocError, Global};
+use std::process::Abort;
 use std::test::Fail;
 
 const RANKS: &str = "rank HDR 1\nrank R1 1\nrank R2 1\nrank STEAM 2\n";
@@ -45,20 +47,29 @@ fn accepted(alloc: Global, heats: &str) -> Result<String, Fail> {
     Ok(told)
 }
 
-#[test]
-fn shares_within_capacity(rt: HostRuntime) -> Result<(), Fail> {
-    for heats in [
-        "runs = 'HEAT'\nneeds = ['STEAM']",
-        "runs = 'HEAT'\nneeds = ['STEAM*1']",
-        "runs = 'HEAT'\nneeds = ['STEAM*2']",
-    ] {
-        assert_eq!(rt;
-            accepted(rt.alloc(), heats)?.as_str(),
+/// That each of these is accepted, with the same certificate.
+fn assert_accepted(rt: &impl Abort, alloc: Global, rows: &[&str]) -> Result<(), Fail> {
+    for heats in rows {
+        assert_told(
+            rt,
+            accepted(alloc, heats),
             "rank HDR 1\nrank R1 1\nrank R2 1\nrank STEAM 2\naccepted\n",
-            "{heats}"
-        );
+        )?;
     }
     Ok(())
+}
+
+#[test]
+fn shares_within_capacity(rt: HostRuntime) -> Result<(), Fail> {
+    assert_accepted(
+        &rt,
+        rt.alloc(),
+        &[
+            "runs = 'HEAT'\nneeds = ['STEAM']",
+            "runs = 'HEAT'\nneeds = ['STEAM*1']",
+            "runs = 'HEAT'\nneeds = ['STEAM*2']",
+        ],
+    )
 }
 
 /// What both print of it.
@@ -67,32 +78,41 @@ fn refused(alloc: Global, heats: &str) -> Result<String, Fail> {
     judged(alloc, CELL1, RANKS, &[text.as_str()])
 }
 
-#[test]
-fn shares_above_capacity(rt: HostRuntime) -> Result<(), Fail> {
-    for (heats, want) in [
-        (
-            "runs = 'HEAT'\nneeds = ['STEAM*3']",
-            "refused V9 Y 0.0.0.0.1\n",
-        ),
-        (
-            "runs = 'HEAT'\nneeds = ['R2*2']",
-            "refused V9 Y 0.0.0.0.1\n",
-        ),
-        // a resource that isn't known comes before a share above capacity, and that before a phase that isn't offered
-        (
-            "runs = 'HEAT'\nneeds = ['STEAM*3', 'WATER']",
-            "refused V3 Y 0.0.0.0.1\n",
-        ),
-        (
-            "runs = 'MIX'\nneeds = ['STEAM*3']",
-            "refused V9 Y 0.0.0.0.1\n",
-        ),
-        (
-            "runs = 'MIX'\nneeds = ['STEAM*2']",
-            "refused V5 Y 0.0.0.0.1\n",
-        ),
-    ] {
-        assert_eq!(rt; refused(rt.alloc(), heats)?.as_str(), want, "{heats}");
+/// That each of these is refused by the text beside it.
+fn assert_refused(rt: &impl Abort, alloc: Global, rows: &[(&str, &str)]) -> Result<(), Fail> {
+    for (heats, want) in rows {
+        assert_told(rt, refused(alloc, heats), want)?;
     }
     Ok(())
+}
+
+#[test]
+fn shares_above_capacity(rt: HostRuntime) -> Result<(), Fail> {
+    assert_refused(
+        &rt,
+        rt.alloc(),
+        &[
+            (
+                "runs = 'HEAT'\nneeds = ['STEAM*3']",
+                "refused V9 Y 0.0.0.0.1\n",
+            ),
+            (
+                "runs = 'HEAT'\nneeds = ['R2*2']",
+                "refused V9 Y 0.0.0.0.1\n",
+            ),
+            // a resource that isn't known comes before a share above capacity, and that before a phase that isn't offered
+            (
+                "runs = 'HEAT'\nneeds = ['STEAM*3', 'WATER']",
+                "refused V3 Y 0.0.0.0.1\n",
+            ),
+            (
+                "runs = 'MIX'\nneeds = ['STEAM*3']",
+                "refused V9 Y 0.0.0.0.1\n",
+            ),
+            (
+                "runs = 'MIX'\nneeds = ['STEAM*2']",
+                "refused V5 Y 0.0.0.0.1\n",
+            ),
+        ],
+    )
 }
