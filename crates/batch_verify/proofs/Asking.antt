@@ -1,5 +1,5 @@
 -- What the needs of an act come to, beside what is said of the path to it.
-use Rattle.std.proofs.Common.{◌≡◌, ℕ, List, [], ◌∷◌, Bool, true, false, if◌then◌else◌, map, slice_get, Option, Some, None, option_map, Result, Ok, Err, refl, sym, ap, ◌∙◌, subst, arith}
+use Rattle.std.proofs.Common.{◌≡◌, ℕ, List, [], ◌∷◌, ◌++◌, ◌+◌, ◌<◌, ◌≤◌, suc, length, drop, get_or, Bool, true, false, if◌then◌else◌, map, slice_get, Option, Some, None, option_map, Result, Ok, Err, refl, sym, ap, ◌∙◌, subst, arith, add-one, drop-cons, drop_of_length-le, append_assoc, append-nil}
 use Rattle.std.specs.Prelude.{MatchResult}
 use Rattle.std.proofs.lemmas.Bool.{ltb-true, ltb-false}
 use Rattle.std.proofs.lemmas.Option.{slice_get-map}
@@ -13,6 +13,19 @@ use Rattle.batch_verify.specs.declared.rule.Rule.TheVariants.{RankNotRising}
 -- what the needs of the act at a place of a table come to
 pub asks_at : {A B : Type 0} (f : A → B) (xs : List A) (n : ℕ) (a : A) → slice_get xs n ≡ Some a → slice_get (map f xs) n ≡ Some (f a)
 asks_at f xs n a h = slice_get-map f xs n ∙ ap (option_map f) h
+
+-- what those of a list before number i come to, one after another
+abbrev pub AreMapped : {A B : Type 0} → (A → B) → List A → ℕ → List B → Type 0
+AreMapped f xs i ys = ys ++ map f (drop i xs) ≡ map f xs
+
+pub AreMapped-more : {A B : Type 0} (f : A → B) (xs : List A) (i : ℕ) (ys zs : List B) → AreMapped f xs i ys → (x : A) → i < length xs → x ≡ get_or xs i x → zs ≡ ys ++ f x ∷ []
+    → AreMapped f xs (i + 1) zs
+AreMapped-more f xs i ys zs h x within is pushed =
+    let cut : drop i xs ≡ x ∷ drop (i + 1) xs = drop-cons xs i x within ∙ (ap (λ y. y ∷ drop (suc i) xs) (sym is) ∙ ap (λ n. x ∷ drop n xs) (sym (add-one i))) in
+    ap (λ ws. ws ++ map f (drop (i + 1) xs)) pushed ∙ (append_assoc ys (f x ∷ []) (map f (drop (i + 1) xs)) ∙ (ap (λ ws. ys ++ map f ws) (sym cut) ∙ h))
+
+pub AreMapped-all : {A B : Type 0} (f : A → B) (xs : List A) (i : ℕ) (ys : List B) → AreMapped f xs i ys → length xs ≤ i → ys ≡ map f xs
+AreMapped-all f xs i ys h past = sym (append-nil ys) ∙ (ap (λ ws. ys ++ map f ws) (sym (drop_of_length-le xs past)) ∙ h)
 
 -- the ranks of the names rise from above the last one to the one that is given, or don't
 abbrev pub IsRise : Ranking → Option ℕ → List Name → Result (Option ℕ) Rule → Type 0

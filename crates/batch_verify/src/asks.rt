@@ -89,10 +89,11 @@ fn asks_in(
 ) -> Result<Vec<Asks>, AllocError>
     ensures { IfOk result (λ asks. asks.items ≡ map (asks_of cell.now (ranking_in cell.now (option_copied ranks.entry))) table.now) }
 {
-    table
-        .iter()
-        .map(|act| asks_of(cell, ranks, act))
-        .collect(alloc)
+    let mut asks = Vec::new(alloc);
+    for act in table {
+        asks.push(asks_of(cell, ranks, act))?;
+    }
+    Ok(asks)
 }
 
 impl Asks {
