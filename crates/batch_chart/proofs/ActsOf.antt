@@ -9,8 +9,7 @@ use Rattle.batch_recipe.specs.Tree.{Place, is_before, Step, Task, runs, follows,
 use Rattle.batch_recipe.proofs.Order.{counted_nodes, in_order}
 use Rattle.batch_model.specs.Lists.{Has}
 use Rattle.batch_model.specs.Placed.{IsPlaced, ArePlaced, IsChoicePlaced}
-use Rattle.batch_model.specs.Plant.{place_of}
-use Rattle.batch_model.specs.Rest.{Rest, ready, asking, open_act, live, freeing, in_seq, in_par, in_loop, done, Rests, no_rests, rest, acts, acts_of_each}
+use Rattle.batch_model.specs.Rest.{Rest, ready, asking, open_act, live, freeing, in_seq, in_par, in_loop, done, Rests, no_rests, rest, acts, acts_of_each, place_of}
 use Rattle.batch_model.specs.Standing.{IsRestOf, IsBranch, AreBranches, IsChosen}
 use Rattle.batch_model.proofs.Members.{Has-split}
 use Rattle.batch_chart.specs.NodesOf.{nodes_of, node_at, place_at, step_at, task_at, step_of, task_of}

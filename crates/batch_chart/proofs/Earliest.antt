@@ -1,6 +1,6 @@
 -- The least of a batch's own moves is the first of the least kind.
 use Rattle.std.proofs.Common.{◌≡◌, ◌≢◌, ◌⊎◌, inl, inr, ◌<◌, ◌≤◌, ℕ, List, [], ◌∷◌, Bool, true, false, Some, None, nat_eq, nat_lt, cond, arith, refl, sym, ◌∙◌, subst, ap}
-use Rattle.std.specs.Prelude.{Option, find, ⊤, slice_get}
+use Rattle.std.specs.Prelude.{Option, find, ⊤, ◌++◌, option_to_list, slice_get}
 use Rattle.std.specs.List.{filter_map, cons_option}
 use Rattle.std.proofs.lemmas.Bool.Decides.{nat_tests}
 use Rattle.batch_recipe.specs.declared.need.Need.{Need}
@@ -8,8 +8,8 @@ use Rattle.batch_recipe.specs.Tree.{Place, is_before}
 use Rattle.batch_model.specs.Lists.{Has, Each}
 use Rattle.batch_machine.specs.Laws.{IsFirst}
 use Rattle.batch_model.specs.Placed.{Rises}
-use Rattle.batch_model.specs.Plant.{Setup, Batch, Plant, opening, place_of}
-use Rattle.batch_model.specs.Rest.{Rest, ready, asking, open_act, live, freeing, in_seq, in_par, in_loop, done, acts}
+use Rattle.batch_model.specs.Plant.{Setup, Batch, Plant, opening}
+use Rattle.batch_model.specs.Rest.{Rest, ready, asking, open_act, live, freeing, in_seq, in_par, in_loop, done, acts, place_of}
 use Rattle.batch_model.specs.Moves.{Move, send, state, release, begin, start, end, ask, grant, batch_of, kind_of, place_of_move, order_of, is_earlier, act_move, state_move, least, batch_moves, when, is_served}
 use Rattle.batch_machine.proofs.Calming.{IsStateMove, state_move-is}
 use Rattle.batch_machine.proofs.Lowering.{IsMoveOf, act_move-is}
@@ -164,8 +164,8 @@ module _ (b : Batch) (rises : Rises (acts b.rest)) where
           let least : n ≤ kind_of l = low l h in
           inr (earlier-kind m l same (omega arith))
 
-  with-state : (o : Option Move) → state_move b ≡ o → own_moves b ≡ elim o as (λ _. List Move) [ None ↦ filter_map (own_move b) (acts b.rest) | Some m ↦ m ∷ filter_map (own_move b) (acts b.rest) ]
-  with-state o e = ap (λ z. elim z as (λ _. List Move) [ None ↦ filter_map (own_move b) (acts b.rest) | Some m ↦ m ∷ filter_map (own_move b) (acts b.rest) ]) e
+  with-state : (o : Option Move) → state_move b ≡ o → own_moves b ≡ option_to_list o ++ filter_map (own_move b) (acts b.rest)
+  with-state o e = ap (λ z. option_to_list z ++ filter_map (own_move b) (acts b.rest)) e
 
   -- kind 1
   pub least-send : (m : Move) → find (is_kind 1) (filter_map (own_move b) (acts b.rest)) ≡ Some m → own_next b ≡ Some m
@@ -342,8 +342,8 @@ module _ (c : Setup) (s : Plant) (b : Batch) where
   own-first = go (state_move b) refl
     where
       go : (o : Option Move) → state_move b ≡ o
-          → least (elim o as (λ _. List Move) [ None ↦ filter_map (act_move c s b) (acts b.rest) | Some m ↦ m ∷ filter_map (act_move c s b) (acts b.rest) ])
-          ≡ chosen_of (least (elim o as (λ _. List Move) [ None ↦ filter_map (own_move b) (acts b.rest) | Some m ↦ m ∷ filter_map (own_move b) (acts b.rest) ])) (least (grants c s b))
+          → least (option_to_list o ++ filter_map (act_move c s b) (acts b.rest))
+          ≡ chosen_of (least (option_to_list o ++ filter_map (own_move b) (acts b.rest))) (least (grants c s b))
       go None q = merges (acts b.rest)
       go (Some m) q =
           let k = state_move-is b m q in

@@ -1,6 +1,6 @@
 -- The first act that is wanted makes the first move of a kind.
 use Rattle.std.proofs.Common.{◌≡◌, ◌⊎◌, inl, inr, ◌<◌, ℕ, zero, suc, ◌+◌, ◌-◌, List, [], ◌∷◌, length, Bool, true, false, ◌&&◌, Some, None, nat_eq, nat_lt, nat_le, cond, arith, refl, sym, ◌∙◌, subst, ap, ap₂}
-use Rattle.std.specs.Prelude.{slice_index_or, Option, not, ◌||◌, map, find, option_map, ◌<◌}
+use Rattle.std.specs.Prelude.{slice_index_or, Option, not, ◌||◌, map, find, option_map, option_and_then, ◌<◌}
 use Rattle.std.specs.List.{filter_map, cons_option}
 use Rattle.std.proofs.lemmas.Bool.Decides.{nat_tests}
 use Rattle.batch_matrix.specs.declared.state.State.{State}
@@ -287,7 +287,7 @@ seen_at q s w b (move.Ask k i) = machine.ask b.number q (slice_index_or s.needs 
 
 own-live : (b : Batch) (c : Command) (s : Step) (p : Phase) (y : State) → passed_on b.state ≡ Some c → accepts y c ≡ true → own_move b (live s p y) ≡ Some (machine.send b.number s.place p c)
 own-live b c s p y e a =
-    ap (λ o. elim o as (λ _. Option machine.Move) [ None ↦ None | Some command ↦ when (accepts y command) (machine.send b.number s.place p command) ]) e
+    ap (λ o. option_and_then (λ command. when (accepts y command) (machine.send b.number s.place p command)) o) e
     ∙ ap (λ t. when t (machine.send b.number s.place p c)) a
 
 own-back : (b : Batch) (s : Step) (w : Task) (k : ℕ) → is_running b.state ≡ false → is_stopping b.state ≡ true → is_quiet b.rest ≡ true → own_move b (ready s w k) ≡ giving_back b s k

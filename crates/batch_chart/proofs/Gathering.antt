@@ -1,13 +1,15 @@
 -- Signs of nodes and of blocks.
-use Rattle.std.proofs.Common.{◌≡◌, ◌<◌, ◌≤◌, ◌+◌, refl, sym, ◌∙◌, ap, ℕ, List, false, inl, inr, ◌⊎◌, arith, nat_eq}
-use Rattle.std.specs.Prelude.{min, max, not, ◌||◌, zero, suc}
+use Rattle.std.proofs.Common.{◌≡◌, ◌<◌, ◌≤◌, ◌+◌, refl, sym, ◌∙◌, ap, ℕ, List, length, Bool, true, false, Some, None, inl, inr, ◌⊎◌, arith, nat_eq, nat_le, get_or}
+use Rattle.std.specs.Prelude.{min, max, not, ◌||◌, ◌/◌, ◌%◌, ◌*◌, zero, suc}
 use Rattle.std.specs.Int.{bit_at}
 use Rattle.std.specs.Int.Bits.{bit_and, bit_or}
 use Rattle.std.proofs.lemmas.Bool.{cases_lt}
+use Rattle.std.proofs.lemmas.Grind.{get_or_default_zero}
+use Rattle.std.proofs.lemmas.List.{get_or_past}
 use Rattle.std.proofs.lemmas.Bool.Decides.{nat_tests}
-use Rattle.std.proofs.lemmas.Nat.{and_or_apart}
+use Rattle.std.proofs.lemmas.Nat.{and_or_apart, div-add-mod', mod_below}
 use Rattle.std.proofs.lemmas.Nat.Bits.{bit_at-zero, bit_at_and, bit_at_or, same_from_bits}
-use Rattle.batch_chart.specs.Signs.{sign_at, shows}
+use Rattle.batch_chart.specs.Signs.{sign_at, shows, AreGathered, NoneShows, IsNextShown, TellsNone}
 
 no-bit : (a m : ℕ) → bit_and a m ≡ 0 → (i : ℕ) → min (bit_at a i) (bit_at m i) ≡ 0
 no-bit a m e i = sym (bit_at_and a m i) ∙ ap (λ z. bit_at z i) e ∙ bit_at-zero i
@@ -61,3 +63,46 @@ none-shown m = all-bits 0 m (λ i. ap (λ z. min z (bit_at m i)) (bit_at-zero i)
 
 pub nothing-shown : (m : ℕ) → shows m 0 ≡ false
 nothing-shown m = ap (λ z. not (nat_eq z 0)) (none-shown m)
+
+-- where a sign isn't among all, no node shows it
+
+pub none-of-all : (signs blocks : List ℕ) (all wanted from : ℕ) → AreGathered signs blocks all → bit_and all wanted ≡ 0 → NoneShows signs wanted from (length signs)
+none-of-all signs blocks all wanted from g e k a b =
+    let parts = div-add-mod' k 64 in
+    let rest = mod_below k 64 (omega arith) in
+    let within : k / 64 < 0 + length blocks = omega (arith, parts, rest, b, g.count) in
+    g.gather (k / 64) k wanted (omega (arith, parts)) (omega (arith, parts, rest)) (g.whole (k / 64) wanted (omega arith) within e)
+
+-- where it isn't among those of a block, none of the block's nodes does
+
+pub none-of-block : (signs blocks : List ℕ) (all wanted from at next d : ℕ) → AreGathered signs blocks all → at % 64 ≡ 0 → at < length signs → bit_and (get_or blocks (at / 64) d) wanted ≡ 0
+    → next ≤ at + 64 → NoneShows signs wanted from at → NoneShows signs wanted from next
+none-of-block signs blocks all wanted from at next d g whole lt e short before k a b = go (cases_lt k at)
+  where
+    starts : at / 64 * 64 ≡ at
+    starts = let parts = div-add-mod' at 64 in omega (arith, parts, whole)
+
+    within : at / 64 < length blocks
+    within = omega (arith, starts, lt, g.count)
+
+    go : (k < at) ⊎ (at ≤ k) → bit_and (sign_at signs k) wanted ≡ 0
+    go (inl q) = before k a q
+    go (inr q) =
+        g.gather (at / 64) k wanted (omega (arith, starts, q)) (omega (arith, starts, short, b))
+        (ap (λ z. bit_and z wanted) (sym (get_or_default_zero blocks (at / 64) d within)) ∙ e)
+
+-- what the next node that shows one of the signs says of those from n to m
+
+pub tells-none : (signs : List ℕ) (wanted n m : ℕ) → IsNextShown signs wanted n None → TellsNone signs wanted n m true
+tells-none signs wanted n m h k a b = go (cases_lt k (length signs))
+  where
+    go : (k < length signs) ⊎ (length signs ≤ k) → bit_and (sign_at signs k) wanted ≡ 0
+    go (inl q) = h k a q
+    go (inr q) = ap (λ z. bit_and z wanted) (get_or_past {X = ℕ} signs k 0 q) ∙ none-shown wanted
+
+pub tells-some : (signs : List ℕ) (wanted n m j : ℕ) → IsNextShown signs wanted n (Some j) → TellsNone signs wanted n m (nat_le m j)
+tells-some signs wanted n m j h = go (nat_le m j) refl
+  where
+    go : (b : Bool) → nat_le m j ≡ b → TellsNone signs wanted n m b
+    go true e = λ k a lt. (let le : m ≤ j = grind (arith, nat_tests) in h.3 k a (omega arith))
+    go false e = (let lt : j < m = grind (arith, nat_tests) in (j, h.0, lt, h.2))

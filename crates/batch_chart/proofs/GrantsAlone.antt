@@ -1,6 +1,6 @@
 -- A batch that makes no move of its own can only be granted what it asks for.
 use Rattle.std.proofs.Common.{◌≡◌, List, [], ◌∷◌, Bool, true, false, Some, None, refl, sym, ◌∙◌, ap}
-use Rattle.std.specs.Prelude.{Option}
+use Rattle.std.specs.Prelude.{Option, ◌++◌, option_to_list}
 use Rattle.std.specs.List.{filter_map, cons_option}
 use Rattle.batch_model.specs.Plant.{Setup, Batch, Plant}
 use Rattle.batch_model.specs.Rest.{Rest, ready, asking, open_act, live, freeing, in_seq, in_par, in_loop, done, acts}
@@ -47,7 +47,7 @@ module _ (c : Setup) (s : Plant) (b : Batch) where
   pub grants-alone : own_next b ≡ None → batch_moves c s b ≡ grants c s b
   grants-alone h = go (state_move b) (least-empty (own_moves b) h)
     where
-      go : (o : Option Move) → elim o as (λ _. List Move) [ None ↦ filter_map (own_move b) (acts b.rest) | Some m ↦ m ∷ filter_map (own_move b) (acts b.rest) ] ≡ []
-          → elim o as (λ _. List Move) [ None ↦ filter_map (act_move c s b) (acts b.rest) | Some m ↦ m ∷ filter_map (act_move c s b) (acts b.rest) ] ≡ grants c s b
+      go : (o : Option Move) → option_to_list o ++ filter_map (own_move b) (acts b.rest) ≡ []
+          → option_to_list o ++ filter_map (act_move c s b) (acts b.rest) ≡ grants c s b
       go None q = alone (acts b.rest) q
       go (Some m) q = absurd (cc)

@@ -1,50 +1,20 @@
 -- The gravest state of live phases is the first, in their order, that one of them has.
-use Rattle.std.proofs.Common.{◌≡◌, ◌⊎◌, inl, inr, ◌<◌, ◌≤◌, ℕ, zero, suc, List, [], ◌∷◌, Bool, true, false, Some, None, nat_lt, arith, refl, sym, ◌∙◌, subst, ap}
+use Rattle.std.proofs.Common.{◌≡◌, ◌⊎◌, inl, inr, ◌<◌, ◌≤◌, ℕ, List, [], ◌∷◌, Bool, true, false, Some, None, nat_lt, arith, refl, sym, ◌∙◌, subst, ap}
 use Rattle.std.specs.Prelude.{Option, find, ◌||◌}
 use Rattle.std.specs.List.{list_any}
 use Rattle.std.proofs.Math.Bool.{cond}
-use Rattle.std.proofs.lemmas.Bool.{eq-eqb}
-use Rattle.std.proofs.lemmas.Bool.Decides.{eqb_tells, nat_tests}
+use denote.Enum.Bare.{same_true, true_same}
+use Rattle.std.proofs.lemmas.Bool.Decides.{nat_tests}
 use Rattle.batch_matrix.specs.declared.state.State.{State}
 use Rattle.batch_matrix.specs.declared.state.State.TheVariants.{Idle, Running, Pausing, Paused, Holding, Held, Restarting, Stopping, Stopped, Aborting, Aborted, Complete}
-use Rattle.batch_matrix.specs.Matrix.{state_number, same_state}
+use Rattle.batch_matrix.specs.contracts.state.State.{the_type}
+use Rattle.batch_matrix.specs.Matrix.{same_state}
 use Rattle.batch_model.specs.ActStates.{gravity, gravest}
 use Rattle.batch_model.specs.Lists.{Has}
 use Rattle.batch_chart.specs.Showing.{is_among}
 
-abbrev numbered_state : ℕ → State
-numbered_state zero = Idle
-numbered_state (suc zero) = Running
-numbered_state (suc (suc zero)) = Pausing
-numbered_state (suc (suc (suc zero))) = Paused
-numbered_state (suc (suc (suc (suc zero)))) = Holding
-numbered_state (suc (suc (suc (suc (suc zero))))) = Held
-numbered_state (suc (suc (suc (suc (suc (suc zero)))))) = Restarting
-numbered_state (suc (suc (suc (suc (suc (suc (suc zero))))))) = Stopping
-numbered_state (suc (suc (suc (suc (suc (suc (suc (suc zero)))))))) = Stopped
-numbered_state (suc (suc (suc (suc (suc (suc (suc (suc (suc zero))))))))) = Aborting
-numbered_state (suc (suc (suc (suc (suc (suc (suc (suc (suc (suc zero)))))))))) = Aborted
-numbered_state _ = Complete
-
-number-back : (x : State) → numbered_state (state_number x) ≡ x
-number-back Idle = refl
-number-back Running = refl
-number-back Pausing = refl
-number-back Paused = refl
-number-back Holding = refl
-number-back Held = refl
-number-back Restarting = refl
-number-back Stopping = refl
-number-back Stopped = refl
-number-back Aborting = refl
-number-back Aborted = refl
-number-back Complete = refl
-
 same-is : (y x : State) → same_state y x ≡ true → y ≡ x
-same-is y x e = elim (eqb_tells (state_number y) (state_number x)) [
-  | inl q ↦ sym (number-back y) ∙ ap numbered_state q.1 ∙ number-back x
-  | inr q ↦ absurd (let f : true ≡ false = sym e ∙ q.0 in cc)
-]
+same-is y x e = same_true the_type tt y x e
 
 among-has : (l : List State) (x : State) → is_among l x ≡ true → Has l x
 among-has [] x e = absurd (cc)
@@ -56,7 +26,7 @@ among-has (y ∷ l) x e = go (same_state y x) refl (among-has l x) e
 
 has-among : (l : List State) (x : State) → Has l x → is_among l x ≡ true
 has-among [] x h = absurd h
-has-among (y ∷ l) x (inl e) = (let f : same_state y x ≡ true = ap (λ z. same_state z x) e ∙ eq-eqb (state_number x) (state_number x) refl in ap (λ b. b || list_any (λ z. same_state z x) l) f)
+has-among (y ∷ l) x (inl e) = ap (λ b. b || list_any (λ z. same_state z x) l) (true_same the_type y x e)
 has-among (y ∷ l) x (inr h) = go (same_state y x) (has-among l x h)
   where
     go : (b : Bool) → list_any (λ z. same_state z x) l ≡ true → (b || list_any (λ z. same_state z x) l) ≡ true

@@ -1,16 +1,17 @@
 -- Which kind of move each act makes, and which move it is.
 use Rattle.std.proofs.Common.{◌≡◌, ◌<◌, ◌≤◌, ℕ, zero, suc, ◌-◌, List, [], ◌∷◌, length, Bool, true, false, ◌&&◌, Some, None, nat_eq, nat_lt, arith, refl, sym, ◌∙◌, ap, ap₂}
-use Rattle.std.specs.Prelude.{slice_get, slice_index_or, Option, ◌||◌, ◌++◌}
+use Rattle.std.specs.Prelude.{slice_get, slice_index_or, Option, option_map, option_and_then, ◌||◌, ◌++◌}
 use Rattle.std.proofs.lemmas.Bool.Decides.{nat_tests}
 use Rattle.batch_matrix.specs.declared.state.State.{State}
 use Rattle.batch_matrix.specs.declared.command.Command.{Command}
 use Rattle.batch_matrix.specs.Matrix.{accepts}
 use Rattle.batch_recipe.specs.Conditions.{Name}
 use Rattle.batch_recipe.specs.Tree.{Step, Phase, Task, runs, follows, Tree}
+use Rattle.batch_recipe.specs.declared.need.Need.{Need}
 use Rattle.batch_model.specs.Plant.{Batch, held_in}
 use Rattle.batch_model.specs.Rest.{Rest, ready, asking, open_act, live, freeing, in_seq, in_par, in_loop, done, Rests, no_rests, rest, acts, acts_of_each, is_done, all_done}
 use Rattle.batch_model.specs.Settled.{IsAdvanced, AreAdvanced}
-use Rattle.batch_model.specs.Moves.{Move, send, begin, start, end, ask, release, kind_of, handed_values, passed_on, is_running, is_stopping, is_stopped, is_empty, is_quiet, when, entering, giving_back}
+use Rattle.batch_model.specs.Moves.{Move, send, begin, start, end, ask, release, kind_of, handed_values, passed_on, is_running, is_stopping, is_stopped, is_empty, is_quiet, when, beginning, entering, giving_back}
 use Rattle.batch_chart.specs.NodesOf.{no_need}
 use Rattle.batch_chart.specs.Finding.{gives}
 use Rattle.batch_chart.specs.OwnMoves.{own_move, is_kind}
@@ -81,40 +82,30 @@ get-none (x ∷ l) zero h = absurd (omega arith)
 get-none (x ∷ l) (suc k) h = get-none l k (omega arith)
 
 module _ (b : Batch) where
+  abbrev entered : Step → Task → Option Need → Option Move
+  entered s w o = elim o as (λ _. Option Move) [ Some need ↦ Some (ask b.number s.place need) | None ↦ Some (beginning b s w) ]
+
   pub entering-ask : (s : Step) (w : Task) (k : ℕ) → nat_lt k (length s.needs) ≡ true → entering b s w k ≡ Some (ask b.number s.place (slice_index_or s.needs k no_need))
-  entering-ask s w k e =
-      ap (λ o. elim o as (λ _. Option Move) [
-        | Some r ↦ Some (ask b.number s.place r)
-        | None ↦ elim w as (λ _. Option Move) [
-          | runs x ↦ Some (start b.number s.place x (handed_values b.values x.handed))
-          | follows name c ↦ Some (begin b.number s.place name)
-        ]
-      ]) (get-or s.needs k no_need (less k (length s.needs) e))
+  entering-ask s w k e = ap (entered s w) (get-or s.needs k no_need (less k (length s.needs) e))
+
+  entering-begins : (s : Step) (w : Task) (k : ℕ) → nat_lt k (length s.needs) ≡ false → entering b s w k ≡ Some (beginning b s w)
+  entering-begins s w k e = ap (entered s w) (get-none s.needs k (not-less k (length s.needs) e))
 
   pub entering-start : (s : Step) (p : Phase) (k : ℕ) → nat_lt k (length s.needs) ≡ false → entering b s (runs p) k ≡ Some (start b.number s.place p (handed_values b.values p.handed))
-  entering-start s p k e =
-      ap (λ o. elim o as (λ _. Option Move) [
-        | Some r ↦ Some (ask b.number s.place r)
-        | None ↦ Some (start b.number s.place p (handed_values b.values p.handed))
-      ]) (get-none s.needs k (not-less k (length s.needs) e))
+  entering-start s p k e = entering-begins s (runs p) k e
 
   pub entering-begin : (s : Step) (name : Name) (c : Tree) (k : ℕ) → nat_lt k (length s.needs) ≡ false → entering b s (follows name c) k ≡ Some (begin b.number s.place name)
-  entering-begin s name c k e =
-      ap (λ o. elim o as (λ _. Option Move) [
-        | Some r ↦ Some (ask b.number s.place r)
-        | None ↦ Some (begin b.number s.place name)
-      ]) (get-none s.needs k (not-less k (length s.needs) e))
+  entering-begin s name c k e = entering-begins s (follows name c) k e
 
   pub giving-some : (s : Step) (k : ℕ) → gives (length s.needs) k ≡ true → giving_back b s k ≡ Some (release b.number s.place (slice_index_or s.needs (k - 1) no_need))
   giving-some s zero e = absurd (cc)
   giving-some s (suc k) e =
-      ap (λ o. elim o as (λ _. Option Move) [ None ↦ None | Some r ↦ Some (release b.number s.place r) ]) (get-or s.needs k no_need (gives-less (length s.needs) k e))
+      ap (option_map (release b.number s.place)) (get-or s.needs k no_need (gives-less (length s.needs) k e))
       ∙ ap (λ i. Some (release b.number s.place (slice_index_or s.needs i no_need))) (let d : k ≡ suc k - 1 = omega arith in d)
 
   pub giving-none : (s : Step) (k : ℕ) → gives (length s.needs) k ≡ false → giving_back b s k ≡ None
   giving-none s zero e = refl
-  giving-none s (suc k) e =
-      ap (λ o. elim o as (λ _. Option Move) [ None ↦ None | Some r ↦ Some (release b.number s.place r) ]) (get-none s.needs k (gives-not (length s.needs) k e))
+  giving-none s (suc k) e = ap (option_map (release b.number s.place)) (get-none s.needs k (gives-not (length s.needs) k e))
 
   entering-kind : (n : ℕ) (s : Step) (w : Task) (k : ℕ) → kind_in n (entering b s w k) ≡ elim (nat_lt k (length s.needs)) as (λ _. Bool) [ true ↦ nat_eq 5 n | false ↦ nat_eq 4 n ]
   entering-kind n s w k = go w (nat_lt k (length s.needs)) refl
@@ -177,7 +168,7 @@ module _ (b : Batch) where
   pub live-kind : (n : ℕ) (s : Step) (p : Phase) (x : State) → kind_in n (own_move b (live s p x)) ≡ live_kind n (passed_on b.state) x
   live-kind n s p x = go (passed_on b.state)
     where
-      go : (o : Option Command) → kind_in n (elim o as (λ _. Option Move) [ None ↦ None | Some command ↦ when (accepts x command) (send b.number s.place p command) ]) ≡ live_kind n o x
+      go : (o : Option Command) → kind_in n (option_and_then (λ command. when (accepts x command) (send b.number s.place p command)) o) ≡ live_kind n o x
       go None = refl
       go (Some c) = when-kind n (accepts x c) (send b.number s.place p c)
 

@@ -34,7 +34,7 @@ use Rattle.batch_chart.proofs.Stepping.{entry-at}
 
 -- the first number that passes a test is that of the first entry which does, where the test tells entries
 
-entry-or-not : (l : List (ℕ × Rest)) (j : ℕ) → ((r : Rest) × Has l (j, r)) ⊎ (sign_in j l 0 ≡ 0)
+pub entry-or-not : (l : List (ℕ × Rest)) (j : ℕ) → ((r : Rest) × Has l (j, r)) ⊎ (sign_in j l 0 ≡ 0)
 entry-or-not l j = go l 0
   where
     go : (l : List (ℕ × Rest)) (none : ℕ) → ((r : Rest) × Has l (j, r)) ⊎ (sign_in j l none ≡ none)
@@ -48,16 +48,16 @@ entry-or-not l j = go l 0
     ]
 
 module _ (p : ℕ → Rest → Bool) (test : ℕ → Bool) where
-  first-none : (l : List (ℕ × Rest)) → ((e : ℕ × Rest) → Has l e → p e.0 e.1 ≡ test e.0) → ((k : ℕ) → test k ≡ false) → None ≡ first_of p l
+  pub first-none : (l : List (ℕ × Rest)) → ((e : ℕ × Rest) → Has l e → p e.0 e.1 ≡ test e.0) → ((k : ℕ) → test k ≡ false) → None ≡ first_of p l
   first-none [] h n = refl
   first-none (a ∷ l) h n = first-none l (λ e i. h e (inr i)) n ∙ sym (chosen-false (p a.0 a.1) (Some a.0) (first_of p l) (h a (inl refl) ∙ n a.0))
 
-  beyond : (l : List (ℕ × Rest)) (n m j : ℕ) (r : Rest) → RiseIn n m l → Has l (j, r) → n ≤ j
+  pub beyond : (l : List (ℕ × Rest)) (n m j : ℕ) (r : Rest) → RiseIn n m l → Has l (j, r) → n ≤ j
   beyond [] n m j r h i = absurd i
   beyond (a ∷ l) n m j r h (inl q) = let e : a.0 ≡ j = ap (λ (z : ℕ × Rest). z.0) q in omega (arith, e, h.0)
   beyond (a ∷ l) n m j r h (inr q) = let e = beyond l (a.0 + 1) m j r h.2 q in omega (arith, e, h.0)
 
-  first-some : (l : List (ℕ × Rest)) (n m : ℕ) → RiseIn n m l → ((e : ℕ × Rest) → Has l e → p e.0 e.1 ≡ test e.0) → (j : ℕ) → test j ≡ true → ((k : ℕ) → k < j → test k ≡ false) → (r : Rest) → Has l (j, r) → Some j ≡ first_of p l
+  pub first-some : (l : List (ℕ × Rest)) (n m : ℕ) → RiseIn n m l → ((e : ℕ × Rest) → Has l e → p e.0 e.1 ≡ test e.0) → (j : ℕ) → test j ≡ true → ((k : ℕ) → k < j → test k ≡ false) → (r : Rest) → Has l (j, r) → Some j ≡ first_of p l
   first-some [] n m rs h j t b r i = absurd i
   first-some (a ∷ l) n m rs h j t b r (inl q) =
       let e : a.0 ≡ j = ap (λ (z : ℕ × Rest). z.0) q in
@@ -67,7 +67,7 @@ module _ (p : ℕ → Rest → Bool) (test : ℕ → Bool) where
       first-some l (a.0 + 1) m rs.2 (λ e z. h e (inr z)) j t b r q ∙ sym (chosen-false (p a.0 a.1) (Some a.0) (first_of p l) (h a (inl refl) ∙ b a.0 lt))
 
 -- what is shown at an entry's node
-sign-entry : (l : List (ℕ × Rest)) (n m : ℕ) → RiseIn n m l → (e : ℕ × Rest) → Has l e → sign_in e.0 l 0 ≡ signs_of e.1
+pub sign-entry : (l : List (ℕ × Rest)) (n m : ℕ) → RiseIn n m l → (e : ℕ × Rest) → Has l e → sign_in e.0 l 0 ≡ signs_of e.1
 sign-entry [] n m h e i = absurd i
 sign-entry (a ∷ l) n m h e (inl q) = subst (λ (z : ℕ × Rest). sign_in z.0 (a ∷ l) 0 ≡ signs_of z.1) q (sign-here m a l 0 h.2)
 sign-entry (a ∷ l) n m h e (inr q) =

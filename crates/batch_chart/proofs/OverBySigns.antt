@@ -1,10 +1,8 @@
 -- Where no node shows that it is an act, nothing is left of a row.
-use Rattle.std.proofs.Common.{◌≡◌, inl, inr, ◌<◌, ◌≤◌, ℕ, ◌+◌, List, [], ◌∷◌, length, Bool, true, false, Some, None, nat_le, arith, refl, sym, ◌∙◌, ap}
+use Rattle.std.proofs.Common.{◌≡◌, inl, inr, ◌<◌, ◌≤◌, ℕ, ◌+◌, List, [], ◌∷◌, Bool, true, false, arith, refl, sym, ◌∙◌, ap}
 use Rattle.std.specs.Prelude.{map}
 use Rattle.std.specs.Int.Bits.{bit_and}
 use Rattle.std.proofs.lemmas.Bool.{cases_lt}
-use Rattle.std.proofs.lemmas.Bool.Decides.{nat_tests}
-use Rattle.std.proofs.lemmas.List.{get_or_past}
 use Rattle.batch_recipe.specs.Nodes.{node_count}
 use Rattle.batch_recipe.specs.Tree.{Tree, Trees, no_trees, tree}
 use Rattle.batch_model.specs.Rest.{Rest, acts}
@@ -15,14 +13,14 @@ use Rattle.batch_chart.specs.declared.sign.TheConstants.{IS_ACT}
 use Rattle.batch_chart.specs.declared.stage.Stage.{Stage}
 use Rattle.batch_chart.specs.declared.stage.Stage.TheVariants.{Finished}
 use Rattle.batch_chart.specs.declared.wanted.Wanted.TheVariants as wanted
-use Rattle.batch_chart.specs.Climbing.{all_finished, AreFinished, TellsActs}
+use Rattle.batch_chart.specs.Climbing.{all_finished, AreFinished}
 use Rattle.batch_chart.specs.Compiled.{Stands, AreStanding}
 use Rattle.batch_chart.specs.Finding.{wants}
 use Rattle.batch_chart.specs.Meaning.{meaning}
 use Rattle.batch_chart.specs.Neat.{AllFinished, AreNeat, shown_of}
 use Rattle.batch_chart.specs.Noting.{signs_of, sign_in}
 use Rattle.batch_chart.specs.Numbered.{numbered}
-use Rattle.batch_chart.specs.Signs.{sign_at, NoneShows, IsNextShown}
+use Rattle.batch_chart.specs.Signs.{sign_at, NoneShows, TellsNone}
 use Rattle.batch_chart.specs.Stages.{stage_at, is_finished}
 use Rattle.batch_chart.specs.Told.{AreTold}
 use Rattle.batch_chart.proofs.Advanced.{finished-stage}
@@ -36,21 +34,6 @@ use Rattle.batch_chart.proofs.Shown.{link}
 use Rattle.batch_chart.proofs.Sought.{says-any}
 use Rattle.batch_chart.proofs.Standing.{count-pos, stood-each, some-each}
 use Rattle.batch_chart.proofs.Telling.{told-part}
-
--- what the next act that is shown says of the nodes from n to m
-
-pub tells-none : (signs : List ℕ) (n m : ℕ) → IsNextShown signs IS_ACT n None → TellsActs signs n m true
-tells-none signs n m h k a b = elim (cases_lt k (length signs)) [
-  | inl q ↦ h k a q
-  | inr q ↦ ap (λ z. bit_and z IS_ACT) (get_or_past {X = ℕ} signs k 0 q) ∙ none-shown IS_ACT
-]
-
-pub tells-some : (signs : List ℕ) (n m j : ℕ) → IsNextShown signs IS_ACT n (Some j) → TellsActs signs n m (nat_le m j)
-tells-some signs n m j h = go (nat_le m j) refl
-  where
-    go : (b : Bool) → nat_le m j ≡ b → TellsActs signs n m b
-    go true e = λ k a lt. (let le : m ≤ j = grind (arith, nat_tests) in h.3 k a (omega arith))
-    go false e = (let lt : j < m = grind (arith, nat_tests) in (j, h.0, lt, h.2))
 
 module _ (ns : List Node) (ds : List Detail) (xs : List Stage) (signs : List ℕ) where
   -- a tree of which something is left has an act that shows
@@ -104,7 +87,7 @@ module _ (ns : List Node) (ds : List Detail) (xs : List Stage) (signs : List ℕ
       both false x e = absurd (cc)
 
   -- so the signs tell whether anything is left of it
-  pub over-tells : (n m : ℕ) (b : Bool) → ((ts : Trees) × AreStanding ns ds n m ts) → AreNeat ns ds n m xs signs → AreTold ns ds n m xs → TellsActs signs n m b → (b ≡ true → AllFinished n m xs) × AreFinished ns ds n m xs b
+  pub over-tells : (n m : ℕ) (b : Bool) → ((ts : Trees) × AreStanding ns ds n m ts) → AreNeat ns ds n m xs signs → AreTold ns ds n m xs → TellsNone signs IS_ACT n m b → (b ≡ true → AllFinished n m xs) × AreFinished ns ds n m xs b
   over-tells n m true row neat told none =
       let all = none-left row.0 n m row.1 neat told none in
       ((λ e. all), finished-row ns ds n m xs all)

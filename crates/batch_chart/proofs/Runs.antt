@@ -26,6 +26,7 @@ use Rattle.batch_chart.specs.Stages.{stage_at, is_finished}
 use Rattle.batch_chart.specs.Upkeep.{IsKeptUp}
 use Rattle.batch_chart.proofs.NodesStand.{node-stands}
 use Rattle.batch_chart.proofs.Shown.{noted}
+use Rattle.batch_chart.proofs.Stepping.{all-told}
 use Rattle.batch_chart.proofs.Standing.{stood, PhaseAt, phase_at, phase-at, ActAt, act_at, act-at, SkipAt, skip_at, skip-at, SeqAt, seq_at, seq-at, ParAt, par_at, par-at, SelAt, sel_at, sel-at, LoopAt, loop_at, loop-at}
 
 -- two trees at one node are alike in what a node shows
@@ -93,8 +94,13 @@ module _ (t : Tree) (ns ms : List Node) (ds es : List Detail) (laid : IsLaid ns 
 
 -- the signs of a running chart are those of its acts
 pub runs-noted : (chart : Compiled) (running : Running) → IsRunning chart running → SomeNoted chart.nodes.items chart.details.items running.stages.items running.signs
-runs-noted chart running h =
-    (h.0, h.1, noted chart.nodes.items chart.details.items running.stages.items running.signs h.0 h.1 h.2.alive h.2.count (h.2.neat chart.nodes.items chart.details.items h.1))
+runs-noted chart running h = (
+  h.0,
+  h.1,
+  noted chart.nodes.items chart.details.items running.stages.items running.signs h.0 h.1 h.2.alive h.2.count (h.2.neat chart.nodes.items chart.details.items h.1),
+  all-told chart.nodes.items chart.details.items h.0 h.1 running.stages.items h.2.alive,
+  h.2.neat chart.nodes.items chart.details.items h.1,
+)
 
 pub runs-lives : (chart : Compiled) (running : Running) → IsRunning chart running → SomeLives chart.nodes.items chart.details.items running.stages.items
 runs-lives chart running h = (h.0, h.1, h.2.alive)

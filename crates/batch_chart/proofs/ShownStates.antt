@@ -14,8 +14,8 @@ use Rattle.batch_model.specs.ActStates.{root, steps, act_state, state_in}
 use Rattle.batch_model.specs.Lists.{Has}
 use Rattle.batch_model.specs.Moves.{is_empty}
 use Rattle.batch_model.proofs.Members.{Has-split}
-use Rattle.batch_model.specs.Plant.{Batch, place_of, phase_states}
-use Rattle.batch_model.specs.Rest.{same_place, Rest, ready, asking, open_act, live, freeing, in_seq, in_par, in_loop, done, acts, is_done}
+use Rattle.batch_model.specs.Plant.{Batch, phase_states}
+use Rattle.batch_model.specs.Rest.{same_place, Rest, ready, asking, open_act, live, freeing, in_seq, in_par, in_loop, done, acts, is_done, place_of}
 use Rattle.batch_chart.specs.declared.node.Node.{Node}
 use Rattle.batch_chart.specs.declared.node.Kind.{Kind}
 use Rattle.batch_chart.specs.declared.node.Kind.TheVariants as kind

@@ -10,7 +10,7 @@ use Rattle.batch_matrix.specs.declared.state.State.TheVariants as state
 use Rattle.batch_matrix.specs.Matrix.{accepts, same_state}
 use Rattle.batch_model.specs.Rest.{Rest, ready, asking, open_act, live, freeing, in_seq, in_par, in_loop, done, acts}
 use Rattle.batch_model.specs.Moves.{is_empty}
-use Rattle.batch_chart.specs.declared.sign.TheConstants.{LIVES}
+use Rattle.batch_chart.specs.declared.sign.TheConstants.{HOLDS, LIVES}
 use Rattle.batch_chart.specs.declared.wanted.Wanted.{Wanted}
 use Rattle.batch_chart.specs.declared.wanted.Wanted.TheVariants.{Any, Holding, Live, NotIn, Accepting, Freeing, Ending, Entering, Asking, Waiting}
 use Rattle.batch_chart.specs.Finding.{wants, gives}
@@ -488,7 +488,7 @@ low-32 state.Aborting = refl
 low-32 state.Aborted = refl
 low-32 state.Complete = refl
 
-said-holding : Says Holding 32
+pub said-holding : Says Holding HOLDS
 said-holding n (ready s w k) = ready-third (nat_lt k (length s.needs)) (nat_le (length s.needs) k) (nat_lt 0 k && nat_lt 0 (length s.needs)) ∙ sym (shows-ready 32 (length s.needs) k)
 said-holding n (asking s w k) = flags-second (nat_lt k (length s.needs)) (nat_lt 0 k && nat_lt 0 (length s.needs)) ∙ sym (shows-flags 32 64 4 32 (nat_lt k (length s.needs)) (nat_lt 0 k && nat_lt 0 (length s.needs)))
 said-holding n (open_act s r) = flags-second (is_empty (acts r)) (nat_lt 0 (length s.needs)) ∙ sym (shows-flags 32 64 8 32 (is_empty (acts r)) (nat_lt 0 (length s.needs)))

@@ -10,8 +10,7 @@ use Rattle.batch_recipe.specs.Tree.{Place, is_before, Step, Task, runs, follows,
 use Rattle.batch_recipe.proofs.Order.{in_order}
 use Rattle.batch_model.specs.Lists.{Has, Each}
 use Rattle.batch_model.specs.Placed.{IsPlaced, IsPlacedBelow, ArePlaced, IsChoicePlaced, Rises}
-use Rattle.batch_model.specs.Plant.{place_of}
-use Rattle.batch_model.specs.Rest.{Rest, asking, acts, is_done}
+use Rattle.batch_model.specs.Rest.{Rest, asking, acts, is_done, place_of}
 use Rattle.batch_model.proofs.Members.{Each-Has}
 use Rattle.batch_machine.proofs.Ordering.{before-asym}
 use Rattle.batch_machine.proofs.Rising.{acts-rise}

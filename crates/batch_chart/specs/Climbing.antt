@@ -1,5 +1,5 @@
 -- private: what going on from a finished node upwards makes of the stages.
-use Rattle.std.specs.Prelude.{◌≡◌, ◌≤◌, ◌<◌, ℕ, ◌+◌, List, length, Bool, true, false}
+use Rattle.std.specs.Prelude.{◌≡◌, ℕ, ◌+◌, List, length, Bool, true, false}
 use Rattle.batch_recipe.specs.Conditions.{ValueList}
 use Rattle.batch_recipe.specs.Nodes.{node_count}
 use Rattle.batch_recipe.specs.Tree.{Trees, no_trees, tree}
@@ -11,10 +11,7 @@ use Rattle.batch_chart.specs.Compiled.{end_at, AreStanding}
 use Rattle.batch_chart.specs.Meaning.{AgreeOutside}
 use Rattle.batch_chart.specs.Neat.{AreNeat, AreBlank, SignsOutside}
 use Rattle.batch_chart.specs.Stages.{stage_at, is_finished}
-use Rattle.batch_chart.specs.Signs.{sign_at, NoneShows}
-use Rattle.batch_chart.specs.declared.sign.TheConstants.{IS_ACT}
 use Rattle.batch_chart.specs.Told.{AreTold}
-use Rattle.std.specs.Int.Bits.{bit_and}
 
 -- all trees of the row from n on are finished by their stages
 abbrev pub all_finished : Trees → ℕ → List Stage → Bool
@@ -81,8 +78,3 @@ HasPassedNeatly ns ds xs ms n ys new false = IsNeatlyLeft ns ds xs ms n ys new
 abbrev pub PassesBy : List Node → List Detail → ValueList → ℕ → List Stage → List ℕ → ℕ → List Stage → List ℕ → Bool → Type 0
 PassesBy ns ds vs n ys old p zs new b =
     (xs ws : List Stage) (ms : List ℕ) → IsRisen ns ds vs xs ws n ys → IsNeatlyRisen ns ds xs ms n ys old → HasPassed ns ds vs xs ws p zs b × HasPassedNeatly ns ds xs ms p zs new b
-
--- whether a node from n to m shows that it is an act
-abbrev pub TellsActs : List ℕ → ℕ → ℕ → Bool → Type 0
-TellsActs signs n m true = NoneShows signs IS_ACT n m
-TellsActs signs n m false = (k : ℕ) × (n ≤ k) × (k < m) × (bit_and (sign_at signs k) IS_ACT ≡ 0 → ⊥)

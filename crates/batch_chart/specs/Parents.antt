@@ -1,7 +1,7 @@
 -- surface: which node of a compiled chart is above which.
-use Rattle.std.specs.Prelude.{◌≡◌, ◌<◌, ◌≤◌, ℕ, List, length, slice_set}
+use Rattle.std.specs.Prelude.{◌<◌, ◌≤◌, ℕ, List, length}
 use Rattle.batch_chart.specs.declared.node.Node.{Node}
-use Rattle.batch_chart.specs.Compiled.{entry_at, end_at, kind_at}
+use Rattle.batch_chart.specs.Compiled.{entry_at, end_at}
 
 abbrev pub parent_at : List Node → ℕ → ℕ
 parent_at ns n = (entry_at ns n).parent
@@ -18,12 +18,3 @@ HaveParentsTo ns j = (n : ℕ) → 0 < n → n < j → IsAbove ns (parent_at ns 
 
 abbrev pub HaveParents : List Node → Type 0
 HaveParents ns = HaveParentsTo ns (length ns)
-
-abbrev pub with_parent : List Node → ℕ → ℕ → List Node
-with_parent ns n parent = slice_set ns n (record { kind = kind_at ns n; end = end_at ns n; parent = parent })
-
--- the nodes are the same, and each has the number of the one above it
-pub record IsLinked (ns ms : List Node) : Type 0 where
-  pub count : length ms ≡ length ns
-  pub same : (k : ℕ) → (kind_at ms k ≡ kind_at ns k) × (end_at ms k ≡ end_at ns k)
-  pub parents : HaveParents ms

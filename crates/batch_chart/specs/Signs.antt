@@ -10,13 +10,15 @@ shows wanted signs = not (nat_eq (bit_and signs wanted) 0)
 abbrev pub sign_at : List ℕ → ℕ → ℕ
 sign_at signs k = slice_index signs k
 
--- what isn't among the signs of a block isn't among those of its nodes
-abbrev pub covers : List ℕ → ℕ → ℕ → Type 0
-covers signs from all = (k wanted : ℕ) → from ≤ k → k < from + 64 → bit_and all wanted ≡ 0 → bit_and (sign_at signs k) wanted ≡ 0
+-- what isn't among all signs of so many, from one on, isn't among those of each
+abbrev pub covers : List ℕ → ℕ → ℕ → ℕ → Type 0
+covers signs from count all = (k wanted : ℕ) → from ≤ k → k < from + count → bit_and all wanted ≡ 0 → bit_and (sign_at signs k) wanted ≡ 0
 
-pub record AreGathered (signs blocks : List ℕ) : Type 0 where
+-- the signs of nodes, those of blocks of them, and all signs
+pub record AreGathered (signs blocks : List ℕ) (all : ℕ) : Type 0 where
   pub count : length signs ≤ 64 * length blocks
-  pub gather : (block : ℕ) → covers signs (block * 64) (slice_index blocks block)
+  pub gather : (block : ℕ) → covers signs (block * 64) 64 (slice_index blocks block)
+  pub whole : covers blocks 0 (length blocks) all
 
 abbrev pub NoneShows : List ℕ → ℕ → ℕ → ℕ → Type 0
 NoneShows signs wanted from end = (k : ℕ) → from ≤ k → k < end → bit_and (sign_at signs k) wanted ≡ 0
@@ -24,6 +26,11 @@ NoneShows signs wanted from end = (k : ℕ) → from ≤ k → k < end → bit_a
 abbrev pub IsNextShown : List ℕ → ℕ → ℕ → Option ℕ → Type 0
 IsNextShown signs wanted from None = NoneShows signs wanted from (length signs)
 IsNextShown signs wanted from (Some n) = (from ≤ n) × (n < length signs) × (bit_and (sign_at signs n) wanted ≡ 0 → ⊥) × NoneShows signs wanted from n
+
+-- whether none of the wanted signs is shown from node n up to node m
+abbrev pub TellsNone : List ℕ → ℕ → ℕ → ℕ → Bool → Type 0
+TellsNone signs wanted n m true = NoneShows signs wanted n m
+TellsNone signs wanted n m false = (k : ℕ) × (n ≤ k) × (k < m) × (bit_and (sign_at signs k) wanted ≡ 0 → ⊥)
 
 -- the node shows these signs instead, where it shows any
 abbrev pub replaced : List ℕ → ℕ → ℕ → List ℕ

@@ -1,7 +1,7 @@
 //! Going on with a chart from a node that has just been finished, along the path to the root.
 ghost use Rattle.std.specs.Prelude.{◌≡◌, ◌<◌, ℕ, List, length, false};
 ghost use Rattle.batch_recipe.specs.Tree.{Tree};
-ghost use Rattle.batch_chart.specs.Climbing.{HasRisen, IsNeatlyRisen, IsRisen, PassesBy, TellsActs};
+ghost use Rattle.batch_chart.specs.Climbing.{HasRisen, IsNeatlyRisen, IsRisen, PassesBy};
 ghost use Rattle.batch_chart.specs.Compiled.{IsCompiled, kind_at};
 ghost use Rattle.batch_chart.specs.Neat.{AreNeat};
 ghost use Rattle.batch_chart.specs.Parents.{IsAbove};
@@ -16,16 +16,6 @@ use crate::sign::{IS_ACT, of_open};
 use crate::signs::Signs;
 use crate::stage::Stage;
 use batch_recipe::Values;
-
-/// Whether no act stands from the first node on, up to `end`.
-fn are_over(signs: &Signs, first: usize, end: usize) -> bool
-    ensures { TellsActs signs.now first end result }
-{
-    match signs.next(IS_ACT, first) {
-        None => true,
-        Some(node) => end <= node,
-    }
-}
 
 /// The `seq` at p goes on after its branch n, which ran and has been finished.
 fn go_on_after(
@@ -109,7 +99,7 @@ fn pass(
         }
         Kind::Seq => go_on_after(nodes, details, values, stages, signs, p, n),
         Kind::Par => {
-            let over = are_over(signs, p + 1, node.end);
+            let over = signs.has_none(IS_ACT, p + 1, node.end);
             close(stages, p, over)
         }
         Kind::Sel { .. } => close(stages, p, true),

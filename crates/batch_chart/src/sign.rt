@@ -21,7 +21,7 @@ const IS_OVER: u32 = 8;
 /// An act that has ended can give back a need.
 const FREES: u32 = 16;
 
-const HOLDS: u32 = 32;
+pub const HOLDS: u32 = 32;
 
 pub const IS_ACT: u32 = 64;
 

@@ -1,6 +1,6 @@
 //! What the acts of a chart show, by which they are found.
 ghost use Rattle.std.specs.Prelude.{◌≡◌, ◌<◌, ℕ, length, replicate, slice_set, IfOk};
-ghost use Rattle.batch_chart.specs.Signs.{IsNextShown, covers, replaced, sign_at};
+ghost use Rattle.batch_chart.specs.Signs.{IsNextShown, TellsNone, covers, replaced, sign_at};
 
 use std::alloc::{AllocError, Global};
 use std::marker::Model;
@@ -8,12 +8,14 @@ use std::marker::Model;
 /// How many nodes stand in a block.
 const BLOCK: usize = 64;
 
-/// For each node a set of signs, as the bits of a word, and for each block of nodes the signs of all of them.
-/// So the next node with a sign is found in as many steps as there are blocks, and twice the nodes of one.
+/// For each node a set of signs, as the bits of a word, and for each block of nodes, and for the whole, the signs of all of them.
+/// So it is told at once that no node has a sign, and the next one that has it is found in as many steps as there are blocks, and
+/// twice the nodes of one.
 #[derive(Debug, Drop)]
 pub struct Signs {
     nodes: Vec<u32>,
     blocks: Vec<u32>,
+    all: u32,
 }
 
 impl Model for Signs {
@@ -24,7 +26,7 @@ impl Model for Signs {
 
     ghost view = { λ signs. signs.nodes.items };
 
-    ghost invariant = { λ signs. AreGathered signs.nodes.items signs.blocks.items };
+    ghost invariant = { λ signs. AreGathered signs.nodes.items signs.blocks.items signs.all };
 }
 
 impl Signs {
@@ -35,6 +37,7 @@ impl Signs {
         Ok(Signs {
             nodes: vec![in alloc; 0; count]?,
             blocks: vec![in alloc; 0; count.div_ceil(BLOCK)]?,
+            all: 0,
         })
     }
 
@@ -52,7 +55,8 @@ impl Signs {
     {
         self.nodes[node] = signs;
         let block = node / BLOCK;
-        self.blocks[block] = gathered(&self.nodes, block * BLOCK);
+        self.blocks[block] = gathered(&self.nodes, block * BLOCK, BLOCK);
+        self.all = gathered(&self.blocks, 0, self.blocks.len());
     }
 
     /// The node shows these signs instead, where it shows any.
@@ -70,12 +74,26 @@ impl Signs {
     {
         self.nodes.fill(0);
         self.blocks.fill(0);
+        self.all = 0;
+    }
+
+    /// Whether no node from this one on, up to `end`, shows one of the signs.
+    pub fn has_none(&self, wanted: u32, from: usize, end: usize) -> bool
+        ensures { TellsNone self.now wanted from end result }
+    {
+        match self.next(wanted, from) {
+            None => true,
+            Some(node) => end <= node,
+        }
     }
 
     /// The first node from this one on that shows one of the signs.
     pub fn next(&self, wanted: u32, from: usize) -> Option<usize>
         ensures { IsNextShown self.now wanted from result }
     {
+        if self.all & wanted == 0 {
+            return None;
+        }
         let count = self.nodes.len();
         let mut at = from;
         while at < count {
@@ -91,14 +109,14 @@ impl Signs {
     }
 }
 
-/// The signs of the block that begins at the node.
-fn gathered(nodes: &[u32], from: usize) -> u32
-    ensures { covers nodes.now from result }
+/// All signs of so many, from this one on.
+fn gathered(parts: &[u32], from: usize, count: usize) -> u32
+    ensures { covers parts.now from count result }
 {
-    let end = nodes.len().min(from.saturating_add(BLOCK));
+    let end = parts.len().min(from.saturating_add(count));
     let mut signs = 0;
     for n in from..end {
-        signs |= nodes[n];
+        signs |= parts[n];
     }
     signs
 }

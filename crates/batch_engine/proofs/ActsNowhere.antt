@@ -14,8 +14,7 @@ use Rattle.batch_model.specs.ActStates.{steps, steps_below, steps_of_each, steps
 use Rattle.batch_model.specs.Lists.{Has}
 use Rattle.batch_model.specs.Placed.{IsPlaced, IsPlacedBelow, ArePlaced, IsChoicePlaced}
 use Rattle.batch_model.specs.Plant as Model
-use Rattle.batch_model.specs.Plant.{place_of}
-use Rattle.batch_model.specs.Rest.{Rest, acts, same_place}
+use Rattle.batch_model.specs.Rest.{Rest, acts, same_place, place_of}
 use Rattle.batch_model.specs.Standing.{IsRestOf}
 use Rattle.batch_model.proofs.Members.{Has-split, Has-left, Has-right}
 use Rattle.batch_chart.specs.NodesOf.{nodes_of, node_at}

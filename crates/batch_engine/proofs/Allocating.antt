@@ -6,10 +6,10 @@ use Rattle.batch_recipe.specs.Conditions.{Name, same_name}
 use Rattle.batch_recipe.specs.Tree.{Place}
 use Rattle.batch_recipe.specs.declared.need.Need.{Need}
 use Rattle.batch_model.specs.Lists.{Has}
-use Rattle.batch_model.specs.Plant.{BatchAct, Share, is_same_act}
+use Rattle.batch_model.specs.Plant.{BatchAct, Share, is_same_act, without}
 use Rattle.batch_model.specs.Moves.{ask, grant, release, line_after}
 use Rattle.batch_model.specs.Runs.{move}
-use Rattle.batch_model.specs.Records.{without, holders_after}
+use Rattle.batch_model.specs.Records.{holders_after}
 use Rattle.batch_laws.proofs.Entries.{IsOnce, once-snoc}
 use Rattle.batch_verify.specs.ClearedSet.{ClearedSet}
 use Rattle.batch_arbiter.specs.Allocation.{Claim, shares_of, line_of, asked, granted, released, without_first, is_claim, next_in, batch_node, held_units}

@@ -119,9 +119,9 @@ module _ (v : EngineView) (k : IsKept v) where
   holder-below name q e x h =
       let a : Share = share_of v.cleared v.batches x in
       let t : Has (holders (plant_of v) name) a = ((told v k).held name).0 a (subst (λ (xs : List Share). Has xs a) (k.tracked.shares q name e) (Has-acts (share_of v.cleared v.batches) (shares_of v.allocation q) x h)) in
-      let d = Has-flat_map (λ (b : Model.Batch). Rattle.std.proofs.Common.flat_map (λ y. map (λ (r : Need). let z : Share = record { act = (b.number, Model.place_of y); units = r.units } in z) (Rattle.std.proofs.Common.filter (λ r. same_name name r.resource) (Model.held_by y))) (Rattle.batch_model.specs.Rest.acts b.rest)) (plant_of v).batches a t in
-      let m = Has-flat_map (λ y. map (λ (r : Need). let z : Share = record { act = (d.0.number, Model.place_of y); units = r.units } in z) (Rattle.std.proofs.Common.filter (λ r. same_name name r.resource) (Model.held_by y))) (Rattle.batch_model.specs.Rest.acts d.0.rest) a d.2 in
-      let r = Has-mapped (λ (r : Need). let z : Share = record { act = (d.0.number, Model.place_of m.0); units = r.units } in z) (Rattle.std.proofs.Common.filter (λ r. same_name name r.resource) (Model.held_by m.0)) a m.2 in
+      let d = Has-flat_map (λ (b : Model.Batch). Rattle.std.proofs.Common.flat_map (λ y. map (λ (r : Need). let z : Share = record { act = (b.number, Rattle.batch_model.specs.Rest.place_of y); units = r.units } in z) (Rattle.std.proofs.Common.filter (λ r. same_name name r.resource) (Model.held_by y))) (Rattle.batch_model.specs.Rest.acts b.rest)) (plant_of v).batches a t in
+      let m = Has-flat_map (λ y. map (λ (r : Need). let z : Share = record { act = (d.0.number, Rattle.batch_model.specs.Rest.place_of y); units = r.units } in z) (Rattle.std.proofs.Common.filter (λ r. same_name name r.resource) (Model.held_by y))) (Rattle.batch_model.specs.Rest.acts d.0.rest) a d.2 in
+      let r = Has-mapped (λ (r : Need). let z : Share = record { act = (d.0.number, Rattle.batch_model.specs.Rest.place_of m.0); units = r.units } in z) (Rattle.std.proofs.Common.filter (λ r. same_name name r.resource) (Model.held_by m.0)) a m.2 in
       below-next v.next_number (plant_of v).batches d.0 x.batch (standing v k).numbers d.1 (ap (λ (z : Share). z.act.0) r.2)
     where
       below-next : (next : ℕ) (bs : List Model.Batch) (b : Model.Batch) (n : ℕ) → AreNumbered next bs → Has bs b → b.number ≡ n → n < next

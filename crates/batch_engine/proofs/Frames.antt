@@ -1,6 +1,6 @@
 -- Moves of a batch in two plants that serve the same acts of it.
 use Rattle.std.proofs.Common.{◌≡◌, ⊎_elim, refl, sym, ◌∙◌, ap, subst, subst₂, ℕ, ◌+◌, List, [], ◌∷◌, ◌++◌, Bool, true, false, ◌&&◌, filter_map, Option, Some, None, inl, inr, slice_get}
-use Rattle.std.specs.Prelude.{nat_le}
+use Rattle.std.specs.Prelude.{nat_le, option_to_list}
 use Rattle.std.specs.List.{cons_option}
 use Rattle.std.proofs.lemmas.Bool.{and_parts}
 use Rattle.batch_recipe.specs.Conditions.{Name, same_name}
@@ -8,10 +8,10 @@ use Rattle.batch_recipe.specs.Tree.{Place, Step, Task}
 use Rattle.batch_recipe.specs.declared.need.Need.{Need}
 use Rattle.batch_model.specs.Lists.{Has}
 use Rattle.batch_model.specs.Rest.{Rest, ready, asking, open_act, live, freeing, in_seq, in_par, in_loop, done, acts}
-use Rattle.batch_model.specs.Plant.{Setup, Batch, BatchAct, Share, units_in, Plant, is_same_act, holders}
+use Rattle.batch_model.specs.Plant.{Setup, Batch, BatchAct, Share, units_in, Plant, is_same_act, holders, without}
 use Rattle.batch_model.specs.Moves.{Move, send, state, release, begin, start, end, ask, grant, batch_of, act_move, state_move, batch_moves, is_served, when, after, next, possible}
 use Rattle.batch_model.specs.Runs.{Out, move}
-use Rattle.batch_model.specs.Records.{holders_told, holders_after, without}
+use Rattle.batch_model.specs.Records.{holders_told, holders_after}
 use Rattle.batch_machine.proofs.Falling.{Has-batch_moves}
 use Rattle.batch_machine.proofs.Ordering.{none_least}
 use Rattle.batch_machine.proofs.Telling.{holders_told-last}
@@ -42,7 +42,7 @@ module _ (c : Setup) (s : Plant) (b : Batch) where
   act-Has a m j f = go (state_move b) (filter_map-Has (act_move c s b) (acts b.rest) a m j f)
     where
       go : (o : Option Move) → Has (filter_map (act_move c s b) (acts b.rest)) m
-          → Has (elim o [ None ↦ filter_map (act_move c s b) (acts b.rest) | Some l ↦ l ∷ filter_map (act_move c s b) (acts b.rest) ]) m
+          → Has (option_to_list o ++ filter_map (act_move c s b) (acts b.rest)) m
       go None h = h
       go (Some l) h = inr h
 
@@ -50,7 +50,7 @@ module _ (c : Setup) (s : Plant) (b : Batch) where
   state-Has m e = go (state_move b) e
     where
       go : (o : Option Move) → o ≡ Some m
-          → Has (elim o [ None ↦ filter_map (act_move c s b) (acts b.rest) | Some l ↦ l ∷ filter_map (act_move c s b) (acts b.rest) ]) m
+          → Has (option_to_list o ++ filter_map (act_move c s b) (acts b.rest)) m
       go None f = absurd cc
       go (Some l) f = inl cc
 

@@ -9,7 +9,7 @@ use Rattle.batch_recipe.specs.Tree.{Place, Step, Task, Tree, is_before}
 use Rattle.batch_model.specs.Lists.{Has}
 use Rattle.batch_model.specs.Rest.{Rest, ready, asking, open_act, live, freeing, in_seq, in_par, in_loop, done, acts}
 use Rattle.batch_model.specs.Plant as Model
-use Rattle.batch_model.specs.Plant.{Setup, BatchAct, Plant, place_of}
+use Rattle.batch_model.specs.Plant.{Setup, BatchAct, Plant}
 use Rattle.batch_model.specs.Moves.{Move, grant, is_earlier, least, is_served, when}
 use Rattle.batch_model.specs.Placed.{IsPlaced}
 use Rattle.batch_model.specs.Standing.{IsRestOf}

@@ -7,9 +7,9 @@ use Rattle.batch_recipe.specs.Tree.{Place, Tree}
 use Rattle.batch_recipe.specs.declared.need.Need.{Need}
 use Rattle.batch_matrix.specs.declared.state.State as states
 use Rattle.batch_model.specs.Lists.{Has}
-use Rattle.batch_model.specs.Rest.{Rest, ready, asking, acts, advance, changed_at}
+use Rattle.batch_model.specs.Rest.{Rest, ready, asking, acts, advance, changed_at, place_of}
 use Rattle.batch_model.specs.Plant as Model
-use Rattle.batch_model.specs.Plant.{BatchAct, Share, Plant, is_same_act, place_of, held_by, holders}
+use Rattle.batch_model.specs.Plant.{BatchAct, Share, Plant, is_same_act, held_by, holders}
 use Rattle.batch_model.specs.Moves as Moves
 use Rattle.batch_model.specs.Moves.{batch_of, batch_after, line_after, after, next}
 use Rattle.batch_model.specs.Runs.{move}

@@ -5,9 +5,8 @@ use Rattle.batch_recipe.specs.Conditions.{Name, same_name}
 use Rattle.batch_recipe.specs.Tree.{Place}
 use Rattle.batch_model.specs.Lists.{Has}
 use Rattle.batch_model.specs.Plant as Model
-use Rattle.batch_model.specs.Plant.{BatchAct, Share, Plant, is_same_act}
+use Rattle.batch_model.specs.Plant.{BatchAct, Share, Plant, is_same_act, without}
 use Rattle.batch_model.specs.Standing.{AreNumbered}
-use Rattle.batch_model.specs.Records.{without}
 use Rattle.batch_machine.proofs.Batches.{only}
 use Rattle.batch_laws.proofs.Entries.{IsOnce, differs, act_self, name_self, name_same}
 use Rattle.batch_verify.specs.ClearedSet.{ClearedSet}

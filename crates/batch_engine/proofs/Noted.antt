@@ -12,8 +12,8 @@ use Rattle.batch_model.specs.Cleared.{Ranking, phases}
 use Rattle.batch_model.specs.Events.{Event, Reply, LivePhase, live_in}
 use Rattle.batch_model.specs.Lists.{Has}
 use Rattle.batch_model.specs.Moves.{Move, send, state, release, begin, start, end, ask, grant, after, next}
-use Rattle.batch_model.specs.Plant.{Setup, Batch, BatchAct, Share, units_in, Plant, opening, holders}
-use Rattle.batch_model.specs.Records.{holders_told, holders_after, without}
+use Rattle.batch_model.specs.Plant.{Setup, Batch, BatchAct, Share, units_in, Plant, opening, holders, without}
+use Rattle.batch_model.specs.Records.{holders_told, holders_after}
 use Rattle.batch_model.specs.Rest.{Rest, ready, asking, open_act, live, freeing, in_seq, in_par, in_loop, done, acts}
 use Rattle.batch_model.specs.Runs.{Out, move, reply, Reacts, Leads}
 use Rattle.batch_model.specs.Standing.{IsStanding, IsStandingBatch}

@@ -2,13 +2,12 @@
 use Rattle.std.proofs.Common.{◌≡◌, ⊎_elim, refl, sym, ◌∙◌, ap, subst, ℕ, ◌<◌, ◌≤◌, ◌||◌, List, [], ◌∷◌, ◌++◌, Bool, true, false, not, map, filter, find, Option, Some, None, inl, inr, length, nat_eq, nat_lt, arith}
 use Rattle.std.specs.Prelude.{nat_le}
 use Rattle.std.proofs.lemmas.List.{length-append, length-map}
-use Rattle.batch_matrix.specs.declared.state.State.{State}
-use Rattle.batch_matrix.specs.declared.state.State.TheVariants.{Idle, Running, Pausing, Paused, Holding, Held, Restarting, Stopping, Stopped, Aborting, Aborted, Complete}
+use Rattle.batch_matrix.specs.declared.state.State.TheVariants.{Idle}
 use Rattle.batch_matrix.specs.declared.command.Command.{Command}
 use Rattle.batch_matrix.specs.declared.command.Command.TheVariants.{Start, Pause, Resume, Hold, Restart, Stop, Abort, Reset}
 use Rattle.batch_matrix.specs.declared.report.Report.{Report}
 use Rattle.batch_matrix.specs.declared.report.PhaseEnd.{PhaseEnd}
-use Rattle.batch_matrix.specs.Matrix.{accepts, target, after_report}
+use Rattle.batch_matrix.specs.Matrix.{same_state, accepts, target, after_report}
 use Rattle.batch_recipe.specs.Conditions.{Name, ValueList, same_name}
 use Rattle.batch_recipe.specs.Values.{are_outputs}
 use Rattle.batch_model.specs.Lists.{Has}
@@ -109,25 +108,15 @@ module _ (c : Setup) (s : Plant) where
           }
 
   removing-leaves : (b : Batch) → Leaves c s (removing s b)
-  removing-leaves b = go b.state
+  removing-leaves b = go (same_state b.state Idle)
     where
-      go : (x : State) → Leaves c s (elim x [ Idle ↦ (removed b.number, without_batch b.number s) | y ↦ (refused (not_idle y), s) ])
-      go Idle =
+      go : (t : Bool) → Leaves c s (elim t [ true ↦ (removed b.number, without_batch b.number s) | false ↦ (refused (not_idle b.state), s) ])
+      go true =
           record {
             few = λ h. omega (arith, length-filter_le (λ (e : Batch). not (nat_eq e.number b.number)) s.batches, h);
             others = λ d h other. (Has-filter (λ (e : Batch). not (nat_eq e.number b.number)) s.batches d h).0;
           }
-      go Running = same (refused (not_idle Running))
-      go Pausing = same (refused (not_idle Pausing))
-      go Paused = same (refused (not_idle Paused))
-      go Holding = same (refused (not_idle Holding))
-      go Held = same (refused (not_idle Held))
-      go Restarting = same (refused (not_idle Restarting))
-      go Stopping = same (refused (not_idle Stopping))
-      go Stopped = same (refused (not_idle Stopped))
-      go Aborting = same (refused (not_idle Aborting))
-      go Aborted = same (refused (not_idle Aborted))
-      go Complete = same (refused (not_idle Complete))
+      go false = same (refused (not_idle b.state))
 
   reporting-leaves : (unit name : Name) (word : Report) (outputs : ValueList) (l : LivePhase) → Leaves c s (reporting s unit name word outputs l)
   reporting-leaves unit name word outputs l = go (after_report l.state word)

@@ -3,8 +3,11 @@ use Rattle.std.proofs.Common.{◌≡◌, ◌<◌, ◌≤◌, refl, sym, ◌∙�
 use Rattle.std.specs.Prelude.{slice_get}
 use Rattle.std.specs.List.{remove}
 use Rattle.std.proofs.lemmas.List.Sums.{sum_by-cons}
+use denote.Enum.Bare.{false_same}
 use Rattle.batch_matrix.specs.declared.state.State.{State}
 use Rattle.batch_matrix.specs.declared.state.State.TheVariants.{Idle}
+use Rattle.batch_matrix.specs.contracts.state.State.{the_type}
+use Rattle.batch_matrix.specs.Matrix.{same_state}
 use Rattle.batch_recipe.specs.Conditions.{Name}
 use Rattle.batch_recipe.specs.Tree.{Place}
 use Rattle.batch_model.specs.Lists.{Has, Each}
@@ -58,7 +61,7 @@ pub react-remove : (v : EngineView) (n : ℕ) (d : Model.Batch) → next (setup 
 react-remove v n d settled found idle =
     ap (λ (m : Option Move). let a : Answer = elim m [ Some l ↦ (refused moves_pending, plant_of v) | None ↦ judged (setup v.cleared) (plant_of v) (Events.remove n) ] in a) settled
     ∙ ap (λ (b : Option Model.Batch). let a : Answer = elim b [ None ↦ (refused unknown_batch, plant_of v) | Some d ↦ removing (plant_of v) d ] in a) found
-    ∙ ap (λ (x : State). let a : Answer = elim x [ Idle ↦ (removed d.number, without_batch d.number (plant_of v)) | y ↦ (refused (not_idle y), plant_of v) ] in a) idle
+    ∙ ap (λ (x : State). let a : Answer = elim (same_state x Idle) [ true ↦ (removed d.number, without_batch d.number (plant_of v)) | false ↦ (refused (not_idle x), plant_of v) ] in a) idle
 
 module _ (c : ClearedSet) where
   kept-cond : {X : Type 0} (t : Bool) (x : X) (xs : List X) → t ≡ true → cond t (x ∷ xs) xs ≡ x ∷ xs
@@ -175,19 +178,9 @@ remove-unknown v n settled none =
     inl (ap (λ (m : Option Move). let a : Answer = elim m [ Some l ↦ (refused moves_pending, plant_of v) | None ↦ judged (setup v.cleared) (plant_of v) (Events.remove n) ] in a) settled
     ∙ ap (λ (b : Option Model.Batch). let a : Answer = elim b [ None ↦ (refused unknown_batch, plant_of v) | Some d ↦ removing (plant_of v) d ] in a) none)
 
-busy : (s : Plant) (d : Model.Batch) (x : State) → (x ≡ Idle → ⊥) → (let a : Answer = elim x [ Idle ↦ (removed d.number, without_batch d.number s) | y ↦ (refused (not_idle y), s) ] in a) ≡ (refused (not_idle x), s)
-busy s d Idle h = absurd (h refl)
-busy s d State.Running h = refl
-busy s d State.Pausing h = refl
-busy s d State.Paused h = refl
-busy s d State.Holding h = refl
-busy s d State.Held h = refl
-busy s d State.Restarting h = refl
-busy s d State.Stopping h = refl
-busy s d State.Stopped h = refl
-busy s d State.Aborting h = refl
-busy s d State.Aborted h = refl
-busy s d State.Complete h = refl
+busy : (s : Plant) (d : Model.Batch) (x : State) → (x ≡ Idle → ⊥) → (let a : Answer = elim (same_state x Idle) [ true ↦ (removed d.number, without_batch d.number s) | false ↦ (refused (not_idle x), s) ] in a) ≡ (refused (not_idle x), s)
+busy s d x h =
+    ap (λ (t : Bool). let a : Answer = elim t [ true ↦ (removed d.number, without_batch d.number s) | false ↦ (refused (not_idle x), s) ] in a) (false_same the_type tt x Idle h)
 
 pub remove-busy : (v : EngineView) (n : ℕ) (d : Model.Batch) → next (setup v.cleared) (plant_of v) ≡ None → batch_at (plant_of v) n ≡ Some d → (d.state ≡ Idle → ⊥)
     → Reacts (setup v.cleared) (plant_of v) (Events.remove n) (refused (not_idle d.state)) (plant_of v)

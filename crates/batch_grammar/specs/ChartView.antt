@@ -1,6 +1,5 @@
 -- private: what the values of the reader of charts stand for, without where they lie in memory.
-use Rattle.std.specs.Prelude.{◌≡◌, ℕ, List, map, reverse, Option, Some, None, Result, Ok, Err, Vec, slice_range}
-use Rattle.std.specs.Global.{Global}
+use Rattle.std.specs.Prelude.{◌≡◌, ℕ, List, map, reverse, Option, Some, None, Result, Ok, Err, slice_range}
 use Rattle.batch_recipe.specs.declared.condition.Cond.{Cond}
 use Rattle.batch_recipe.specs.declared.chart.Chart.{Chart}
 use Rattle.batch_recipe.specs.Diagram.{Diagram, diagram_of}
@@ -72,8 +71,8 @@ Gives view (Ok x) o = o ≡ Some (view x)
 Gives view (Err stop.NotAChart) o = o ≡ None
 Gives view (Err stop.Memory) o = Unit {0}
 
-abbrev pub after_view : TheWant × Vec TheFrame Global → Want × List Frame
-after_view p = (want_view p.0, frames_view p.1.items)
+abbrev pub after_view : List TheFrame → TheWant → Want × List Frame
+after_view frames w = (want_view w, frames_view frames)
 
 -- the state after the bytes before the place
 abbrev pub state_view : List ℕ → ℕ → TheState → State

@@ -1,13 +1,13 @@
 //! The ends of forms.
-ghost use Rattle.std.specs.Prelude.{◌≡◌, ◌∷◌, [], ◌++◌, IfOk};
+ghost use Rattle.std.specs.Prelude.{◌≡◌, ◌∷◌, [], ◌++◌, List, IfOk};
 ghost use Rattle.batch_recipe.specs.Diagram as chart;
 ghost use Rattle.batch_recipe.specs.Diagram.{cases_of, diagram_of, diagrams_of};
-ghost use Rattle.batch_grammar.specs.ChartMachine.{close_par, take_close};
+ghost use Rattle.batch_grammar.specs.ChartMachine.{Frame as Around, after_chart, close_par, take_close};
 ghost use Rattle.batch_grammar.specs.ChartView.{Gives, after_view, cases_view, diagrams_view, frames_view};
 
 use crate::fault::Stop;
 use crate::frame::Frame;
-use crate::stack::popped;
+use crate::stack::pop;
 use crate::want::Want;
 use batch_recipe::{Chart, Cond};
 use std::alloc::{AllocError, Global};
@@ -23,18 +23,15 @@ fn close_seq(mut charts: Vec<Chart>, last: Chart) -> Result<Chart, AllocError>
 
 /// The end of a `par`, which has two branches or more.
 #[tactic(auto, using(crate::proofs::ChartFrames::diagrams_view_last, crate::proofs::ChartFrames::diagram_of_par))]
-fn close_par(
-    mut charts: Vec<Chart>,
-    last: Chart,
-    stack: Vec<Frame>,
-) -> Result<(Want, Vec<Frame>), Stop>
-    ensures { Gives after_view result (close_par (diagrams_view charts.items) (diagram_of last) (frames_view stack.items)) }
+fn close_par(mut charts: Vec<Chart>, last: Chart) -> Result<Chart, Stop>
+    ensures { (frames : List Around) → Gives (λ whole. (after_chart (diagram_of whole), frames)) result
+        (close_par (diagrams_view charts.items) (diagram_of last) frames) }
 {
     if charts.is_empty() {
         return Err(Stop::NotAChart);
     }
     charts.push(last)?;
-    Ok((Want::AfterChart(Chart::Par(charts)), stack))
+    Ok(Chart::Par(charts))
 }
 
 /// The end of a `sel`.
@@ -54,21 +51,19 @@ fn close_loop(alloc: Global, turns: u64, condition: Cond, body: Chart) -> Result
 }
 
 /// A closing parenthesis after a chart.
-pub fn take_close(alloc: Global, last: Chart, stack: Vec<Frame>) -> Result<(Want, Vec<Frame>), Stop>
-    ensures { Gives after_view result (take_close (diagram_of last) (frames_view stack.items)) }
+pub fn take_close(alloc: Global, last: Chart, stack: &mut Vec<Frame>) -> Result<Want, Stop>
+    ensures { Gives (after_view stack.new.items) result (take_close (diagram_of last) (frames_view stack.old.items)) }
 {
-    let Some((frame, stack)) = popped(stack) else {
+    let Some(frame) = pop(stack) else {
         return Err(Stop::NotAChart);
     };
     match frame {
-        Frame::Seq(charts) => Ok((Want::AfterChart(close_seq(charts, last)?), stack)),
-        Frame::Par(charts) => close_par(charts, last, stack),
-        Frame::Else(cases) => Ok((Want::AfterChart(close_sel(alloc, cases, last)?), stack)),
+        Frame::Seq(charts) => Ok(Want::AfterChart(close_seq(charts, last)?)),
+        Frame::Par(charts) => Ok(Want::AfterChart(close_par(charts, last)?)),
+        Frame::Else(cases) => Ok(Want::AfterChart(close_sel(alloc, cases, last)?)),
         Frame::Loop(turns, condition) => {
-            Ok((
-                Want::AfterChart(close_loop(alloc, turns, condition, last)?),
-                stack,
-            ))
+            let whole = close_loop(alloc, turns, condition, last)?;
+            Ok(Want::AfterChart(whole))
         }
         Frame::Case(_, _) => Err(Stop::NotAChart),
     }

@@ -8,6 +8,7 @@ use crate::fault::Stop;
 use crate::want::Want;
 use batch_recipe::{Cond, Op, Term};
 use batch_text::read_number;
+use std::mem::replace;
 
 /// The number that the digits write, whatever it is.
 #[tactic(auto, using(crate::proofs::ChartNumbers::number_fits))]
@@ -19,25 +20,27 @@ pub fn number_of(digits: &[u8]) -> u64
 }
 
 /// A number.
-pub fn take_number(want: Want, number: u64) -> Result<Want, Stop>
-    ensures { Gives want_view result (take_number (want_view want) number) }
+pub fn take_number(want: &mut Want, number: u64) -> Result<(), Stop>
+    ensures { Gives (λ _. want_view want.new) result (take_number (want_view want.old) number) }
 {
-    match want {
-        Want::Turns => Ok(Want::AfterTurns(number)),
+    *want = match replace(want, Want::Chart) {
+        Want::Turns => Want::AfterTurns(number),
         Want::Operand(test, name, op) => {
             let term = Term::Number(number);
-            Ok(Want::AfterCond(test, Cond { name, op, term }))
+            Want::AfterCond(test, Cond { name, op, term })
         }
-        _ => Err(Stop::NotAChart),
-    }
+        _ => return Err(Stop::NotAChart),
+    };
+    Ok(())
 }
 
 /// An operator.
-pub fn take_operator(want: Want, op: Op) -> Result<Want, Stop>
-    ensures { Gives want_view result (take_operator (want_view want) op) }
+pub fn take_operator(want: &mut Want, op: Op) -> Result<(), Stop>
+    ensures { Gives (λ _. want_view want.new) result (take_operator (want_view want.old) op) }
 {
-    match want {
-        Want::Operator(test, name) => Ok(Want::Operand(test, name, op)),
-        _ => Err(Stop::NotAChart),
-    }
+    *want = match replace(want, Want::Chart) {
+        Want::Operator(test, name) => Want::Operand(test, name, op),
+        _ => return Err(Stop::NotAChart),
+    };
+    Ok(())
 }

@@ -37,11 +37,11 @@ pub fn read_chart_and_par(alloc: Global, text: &[u8]) -> Result<ReadChart, Chart
         firsts: Firsts::none(),
     };
     for place in 0..text.len() {
-        state = match step(alloc, text, state, place) {
-            Ok(next) => next,
+        match step(alloc, text, &mut state, place) {
+            Ok(()) => {}
             Err(Stop::NotAChart) => return Err(ChartFault::NotAChart(place)),
             Err(Stop::Memory) => return Err(ChartFault::Memory),
-        };
+        }
     }
     let (chart, firsts) = match finish(alloc, text, state) {
         Ok(found) => found,

@@ -7,10 +7,11 @@ ghost use Rattle.batch_grammar.specs.ChartView.{Gives, after_view, frame_view, f
 use crate::fault::Stop;
 use crate::forms::take_close;
 use crate::frame::Frame;
-use crate::stack::{popped, pushed};
+use crate::stack::{pop, push};
 use crate::want::{Test, Want};
 use batch_recipe::{Chart, Cond};
 use std::alloc::Global;
+use std::mem::replace;
 
 /// The byte is the sign.
 fn expect(byte: u8, sign: u8) -> Result<(), Stop>
@@ -24,18 +25,19 @@ fn expect(byte: u8, sign: u8) -> Result<(), Stop>
 }
 
 /// A chart begins inside the frame.
-fn inside(stack: Vec<Frame>, frame: Frame) -> Result<(Want, Vec<Frame>), Stop>
-    ensures { Gives after_view result (Some (a_chart, frame_view frame ∷ frames_view stack.items)) }
+fn inside(stack: &mut Vec<Frame>, frame: Frame) -> Result<Want, Stop>
+    ensures { Gives (after_view stack.new.items) result (Some (a_chart, frame_view frame ∷ frames_view stack.old.items)) }
 {
-    Ok((Want::Chart, pushed(stack, frame)?))
+    push(stack, frame)?;
+    Ok(Want::Chart)
 }
 
 /// A comma after a chart.
 #[tactic(auto, using(crate::proofs::ChartFrames::diagrams_view_last, crate::proofs::ChartFrames::cases_view_last))]
-fn take_comma(chart: Chart, stack: Vec<Frame>) -> Result<(Want, Vec<Frame>), Stop>
-    ensures { Gives after_view result (take_comma (diagram_of chart) (frames_view stack.items)) }
+fn take_comma(chart: Chart, stack: &mut Vec<Frame>) -> Result<Want, Stop>
+    ensures { Gives (after_view stack.new.items) result (take_comma (diagram_of chart) (frames_view stack.old.items)) }
 {
-    let Some((frame, stack)) = popped(stack) else {
+    let Some(frame) = pop(stack) else {
         return Err(Stop::NotAChart);
     };
     match frame {
@@ -49,7 +51,7 @@ fn take_comma(chart: Chart, stack: Vec<Frame>) -> Result<(Want, Vec<Frame>), Sto
         }
         Frame::Case(mut cases, condition) => {
             cases.push((condition, chart))?;
-            Ok((Want::Name(Test::Sel(cases)), stack))
+            Ok(Want::Name(Test::Sel(cases)))
         }
         Frame::Else(_) | Frame::Loop(_, _) => Err(Stop::NotAChart),
     }
@@ -60,9 +62,9 @@ fn end_condition(
     test: Test,
     condition: Cond,
     byte: u8,
-    stack: Vec<Frame>,
-) -> Result<(Want, Vec<Frame>), Stop>
-    ensures { Gives after_view result (take_sign (after_condition (test_view test) condition) byte (frames_view stack.items)) }
+    stack: &mut Vec<Frame>,
+) -> Result<Want, Stop>
+    ensures { Gives (after_view stack.new.items) result (take_sign (after_condition (test_view test) condition) byte (frames_view stack.old.items)) }
 {
     match test {
         Test::Sel(cases) => {
@@ -77,13 +79,8 @@ fn end_condition(
 }
 
 /// The comma or the parenthesis after a chart.
-fn end_chart(
-    alloc: Global,
-    chart: Chart,
-    byte: u8,
-    stack: Vec<Frame>,
-) -> Result<(Want, Vec<Frame>), Stop>
-    ensures { Gives after_view result (take_sign (after_chart (diagram_of chart)) byte (frames_view stack.items)) }
+fn end_chart(alloc: Global, chart: Chart, byte: u8, stack: &mut Vec<Frame>) -> Result<Want, Stop>
+    ensures { Gives (after_view stack.new.items) result (take_sign (after_chart (diagram_of chart)) byte (frames_view stack.old.items)) }
 {
     match byte {
         b',' => take_comma(chart, stack),
@@ -95,40 +92,41 @@ fn end_chart(
 /// A parenthesis, a comma or a colon.
 pub fn take_sign(
     alloc: Global,
-    want: Want,
+    want: &mut Want,
     byte: u8,
-    stack: Vec<Frame>,
-) -> Result<(Want, Vec<Frame>), Stop>
-    ensures { Gives after_view result (take_sign (want_view want) byte (frames_view stack.items)) }
+    stack: &mut Vec<Frame>,
+) -> Result<(), Stop>
+    ensures { Gives (λ _. after_view stack.new.items want.new) result (take_sign (want_view want.old) byte (frames_view stack.old.items)) }
 {
-    match want {
+    *want = match replace(want, Want::Chart) {
         Want::OpenSeq => {
             expect(byte, b'(')?;
-            inside(stack, Frame::Seq(Vec::new(alloc)))
+            inside(stack, Frame::Seq(Vec::new(alloc)))?
         }
         Want::OpenPar => {
             expect(byte, b'(')?;
-            inside(stack, Frame::Par(Vec::new(alloc)))
+            inside(stack, Frame::Par(Vec::new(alloc)))?
         }
         Want::OpenSel => {
             expect(byte, b'(')?;
-            Ok((Want::Name(Test::Sel(Vec::new(alloc))), stack))
+            Want::Name(Test::Sel(Vec::new(alloc)))
         }
         Want::OpenLoop => {
             expect(byte, b'(')?;
-            Ok((Want::Turns, stack))
+            Want::Turns
         }
         Want::AfterTurns(turns) => {
             expect(byte, b',')?;
-            Ok((Want::Name(Test::Loop(turns)), stack))
+            Want::Name(Test::Loop(turns))
         }
-        Want::AfterCond(test, condition) => end_condition(test, condition, byte, stack),
+        Want::AfterCond(test, condition) => end_condition(test, condition, byte, stack)?,
         Want::AfterElse(cases) => {
             expect(byte, b':')?;
-            inside(stack, Frame::Else(cases))
+            inside(stack, Frame::Else(cases))?
         }
-        Want::AfterChart(chart) => end_chart(alloc, chart, byte, stack),
+        Want::AfterChart(chart) => end_chart(alloc, chart, byte, stack)?,
         Want::Chart | Want::Turns | Want::Name(_) | Want::Operator(_, _) | Want::Operand(_, _, _) =>
-            { Err(Stop::NotAChart) }
-    }
+            { return Err(Stop::NotAChart) }
+    };
+    Ok(())
 }

@@ -1,6 +1,4 @@
 //! How far a text has been read.
-ghost use Rattle.std.specs.Prelude.{◌≡◌};
-
 use crate::firsts::Firsts;
 use crate::frame::Frame;
 use crate::lexeme::Lexeme;
@@ -13,18 +11,4 @@ pub struct State {
     pub want: Want,
     pub stack: Vec<Frame>,
     pub firsts: Firsts,
-}
-
-impl State {
-    /// Between two tokens.
-    pub fn between(want: Want, stack: Vec<Frame>, firsts: Firsts) -> State
-        ensures { result ≡ record { lexeme = Lexeme.Nothing; want = want; stack = stack; firsts = firsts } }
-    {
-        State {
-            lexeme: Lexeme::Nothing,
-            want,
-            stack,
-            firsts,
-        }
-    }
 }

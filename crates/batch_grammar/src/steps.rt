@@ -8,7 +8,7 @@ use crate::fault::Stop;
 use crate::firsts::Firsts;
 use crate::lexeme::Lexeme;
 use crate::signs::take_sign;
-use crate::stack::popped;
+use crate::stack::pop;
 use crate::state::State;
 use crate::tokens::{end_operator, end_token, go_on};
 use crate::want::Want;
@@ -16,43 +16,39 @@ use batch_recipe::{Chart, Op};
 use std::alloc::Global;
 
 /// A token begins that is one of those wanted, or not.
-fn starts(is_wanted: bool, lexeme: Lexeme, state: State) -> Result<State, Stop>
-    ensures { MatchResult result (λ next. (is_wanted ≡ true) × (next ≡ record state { lexeme = lexeme }))
+fn starts(state: &mut State, is_wanted: bool, lexeme: Lexeme) -> Result<(), Stop>
+    ensures { MatchResult result (λ _. (is_wanted ≡ true) × (state.new ≡ record state.old { lexeme = lexeme }))
         (λ stop. (stop ≡ Stop.NotAChart) × (is_wanted ≡ false)) }
 {
-    if is_wanted {
-        Ok(State {
-            lexeme,
-            want: state.want,
-            stack: state.stack,
-            firsts: state.firsts,
-        })
-    } else {
-        Err(Stop::NotAChart)
+    if !is_wanted {
+        return Err(Stop::NotAChart);
     }
+    state.lexeme = lexeme;
+    Ok(())
 }
 
 /// An operator's first byte, or the sign `=`.
-fn begin_operator(state: State, byte: u8) -> Result<State, Stop>
-    ensures { (text : List ℕ) (before after : ℕ) → Gives (state_view text after) result (begin_operator byte (state_view text before state)) }
+fn begin_operator(state: &mut State, byte: u8) -> Result<(), Stop>
+    ensures { (text : List ℕ) (before after : ℕ) → Gives (λ _. state_view text after state.new) result (begin_operator byte (state_view text before state.old)) }
 {
     match byte {
-        b'<' => starts(true, Lexeme::Less, state),
-        b'>' => starts(true, Lexeme::More, state),
-        b'/' => starts(true, Lexeme::Slash, state),
+        b'<' => starts(state, true, Lexeme::Less),
+        b'>' => starts(state, true, Lexeme::More),
+        b'/' => starts(state, true, Lexeme::Slash),
         b'=' => end_operator(state, Op::Equal),
         _ => Err(Stop::NotAChart),
     }
 }
 
 /// A parenthesis, a comma or a colon.
-fn begin_sign(alloc: Global, state: State, place: usize, byte: u8) -> Result<State, Stop>
-    ensures { (text : List ℕ) (before after : ℕ) → Gives (state_view text after) result
-        (with_after place (state_view text before state) (take_sign (want_view state.want) byte (frames_view state.stack.items))) }
+fn begin_sign(alloc: Global, state: &mut State, place: usize, byte: u8) -> Result<(), Stop>
+    ensures { (text : List ℕ) (before after : ℕ) → Gives (λ _. state_view text after state.new) result
+        (with_after place (state_view text before state.old) (take_sign (want_view state.old.want) byte (frames_view state.old.stack.items))) }
 {
-    let firsts = state.firsts.with_sign(&state.want, place);
-    let (want, stack) = take_sign(alloc, state.want, byte, state.stack)?;
-    Ok(State::between(want, stack, firsts))
+    state.firsts = state.firsts.with_sign(&state.want, place);
+    take_sign(alloc, &mut state.want, byte, &mut state.stack)?;
+    state.lexeme = Lexeme::Nothing;
+    Ok(())
 }
 
 /// A space, a tab, a line feed or a carriage return.
@@ -64,20 +60,22 @@ fn is_space(byte: u8) -> bool
 
 /// A byte that no token goes on with.
 #[tactic(auto, unfolding(crate::specs::ChartMachine::begin), using(crate::proofs::ChartTexts::just_one))]
-fn begin(alloc: Global, text: &[u8], state: State, place: usize) -> Result<State, Stop>
+fn begin(alloc: Global, text: &[u8], state: &mut State, place: usize) -> Result<(), Stop>
     requires { place < length text.now }
-    ensures { Gives (state_view text.now (place + 1)) result
-        (begin place (slice_index text.now place) (state_view text.now place state)) }
+    ensures { Gives (λ _. state_view text.now (place + 1) state.new) result
+        (begin place (slice_index text.now place) (state_view text.now place state.old)) }
 {
     let byte = text[place];
     if is_space(byte) {
-        return starts(true, Lexeme::Nothing, state);
+        return starts(state, true, Lexeme::Nothing);
     }
     if byte.is_ascii_alphabetic() {
-        return starts(state.want.takes_word(), Lexeme::Letters(place), state);
+        let is_wanted = state.want.takes_word();
+        return starts(state, is_wanted, Lexeme::Letters(place));
     }
     if byte.is_ascii_digit() {
-        return starts(state.want.takes_number(), Lexeme::Digits(place), state);
+        let is_wanted = state.want.takes_number();
+        return starts(state, is_wanted, Lexeme::Digits(place));
     }
     if state.want.takes_operator() {
         return begin_operator(state, byte);
@@ -87,33 +85,34 @@ fn begin(alloc: Global, text: &[u8], state: State, place: usize) -> Result<State
 
 /// The byte at the place.
 #[tactic(auto, unfolding(crate::specs::ChartMachine::step))]
-pub fn step(alloc: Global, text: &[u8], state: State, place: usize) -> Result<State, Stop>
+pub fn step(alloc: Global, text: &[u8], state: &mut State, place: usize) -> Result<(), Stop>
     requires inside { place < length text.now }
-    requires good { IsGood (lexeme_view text.now place state.lexeme) }
-    ensures { Gives (state_view text.now (place + 1)) result
-        (step place (slice_index text.now place) (state_view text.now place state)) }
+    requires good { IsGood (lexeme_view text.now place state.old.lexeme) }
+    ensures { Gives (λ _. state_view text.now (place + 1) state.new) result
+        (step place (slice_index text.now place) (state_view text.now place state.old)) }
 {
     if state.lexeme.continues(text[place]) {
         return go_on(text, state, place);
     }
-    let state = end_token(alloc, text, state, place)?;
+    end_token(alloc, text, state, place)?;
     begin(alloc, text, state, place)
 }
 
 /// The end of the text.
-#[tactic(auto, unfolding(crate::specs::ChartMachine::finish))]
-pub fn finish(alloc: Global, text: &[u8], state: State) -> Result<(Chart, Firsts), Stop>
+#[tactic(auto, unfolding(crate::specs::ChartMachine::finish), using(crate::proofs::ChartFrames::frames_view_nil))]
+pub fn finish(alloc: Global, text: &[u8], mut state: State) -> Result<(Chart, Firsts), Stop>
     requires { IsGood (lexeme_view text.now (length text.now) state.lexeme) }
     ensures { Gives found_view result (finish (length text.now) (state_view text.now (length text.now) state)) }
 {
+    end_token(alloc, text, &mut state, text.len())?;
     let State {
         lexeme: _,
         want,
-        stack,
+        mut stack,
         firsts,
-    } = end_token(alloc, text, state, text.len())?;
+    } = state;
     match want {
-        Want::AfterChart(chart) => match popped(stack) {
+        Want::AfterChart(chart) => match pop(&mut stack) {
             None => Ok((chart, firsts)),
             Some(_) => Err(Stop::NotAChart),
         },

@@ -15,37 +15,38 @@ use batch_text::{MAX_DIGITS, MAX_NAME_LEN};
 use std::alloc::Global;
 
 /// A word or a number goes on with the byte at the place, where it may be longer.
-fn longer(token: &[u8], most: usize, state: State) -> Result<State, Stop>
-    ensures { MatchResult result (λ next. (length token.now < most) × (next ≡ state)) (λ stop. (stop ≡ Stop.NotAChart) × (most ≤ length token.now)) }
+fn longer(token: &[u8], most: usize) -> Result<(), Stop>
+    ensures { MatchResult result (λ _. length token.now < most) (λ stop. (stop ≡ Stop.NotAChart) × (most ≤ length token.now)) }
 {
     if token.len() < most {
-        Ok(state)
+        Ok(())
     } else {
         Err(Stop::NotAChart)
     }
 }
 
 /// The token is an operator of two bytes.
-pub fn end_operator(state: State, op: Op) -> Result<State, Stop>
-    ensures { (text : List ℕ) (before place : ℕ) → Gives (state_view text place) result
-        (with_want (state_view text before state) (take_operator (want_view state.want) op)) }
+pub fn end_operator(state: &mut State, op: Op) -> Result<(), Stop>
+    ensures { (text : List ℕ) (before after : ℕ) → Gives (λ _. state_view text after state.new) result
+        (with_want (state_view text before state.old) (take_operator (want_view state.old.want) op)) }
 {
-    let want = take_operator(state.want, op)?;
-    Ok(State::between(want, state.stack, state.firsts))
+    take_operator(&mut state.want, op)?;
+    state.lexeme = Lexeme::Nothing;
+    Ok(())
 }
 
 /// The token goes on with the byte at the place.
 #[tactic(auto, using(crate::proofs::ChartTexts::begun_name, crate::proofs::ChartTexts::begun_number, crate::proofs::ChartTexts::one_more))]
-pub fn go_on(text: &[u8], state: State, place: usize) -> Result<State, Stop>
+pub fn go_on(text: &[u8], state: &mut State, place: usize) -> Result<(), Stop>
     requires inside { place < length text.now }
-    requires good { IsGood (lexeme_view text.now place state.lexeme) }
-    ensures { Gives (state_view text.now (place + 1)) result
-        (go_on (lexeme_view text.now place state.lexeme) (slice_index text.now place) (state_view text.now place state)) }
+    requires good { IsGood (lexeme_view text.now place state.old.lexeme) }
+    ensures { Gives (λ _. state_view text.now (place + 1) state.new) result
+        (go_on (lexeme_view text.now place state.old.lexeme) (slice_index text.now place) (state_view text.now place state.old)) }
 {
     match state.lexeme {
         Lexeme::Nothing => Err(Stop::NotAChart),
-        Lexeme::Letters(start) => longer(&text[start..place], MAX_NAME_LEN, state),
-        Lexeme::Digits(start) => longer(&text[start..place], MAX_DIGITS, state),
+        Lexeme::Letters(start) => longer(&text[start..place], MAX_NAME_LEN),
+        Lexeme::Digits(start) => longer(&text[start..place], MAX_DIGITS),
         Lexeme::Less => end_operator(state, Op::AtMost),
         Lexeme::More => end_operator(state, Op::AtLeast),
         Lexeme::Slash => end_operator(state, Op::NotEqual),
@@ -54,40 +55,43 @@ pub fn go_on(text: &[u8], state: State, place: usize) -> Result<State, Stop>
 
 /// The number, before the byte at the place.
 #[tactic(auto, unfolding(crate::specs::ChartMachine::end_number))]
-fn end_number(digits: &[u8], state: State, place: usize) -> Result<State, Stop>
+fn end_number(digits: &[u8], state: &mut State, place: usize) -> Result<(), Stop>
     requires number { IsNumber digits.now }
     requires room { length digits.now ≤ place }
-    ensures { (text : List ℕ) (before after : ℕ) → Gives (state_view text after) result (end_number place digits.now (state_view text before state)) }
+    ensures { (text : List ℕ) (before after : ℕ) → Gives (λ _. state_view text after state.new) result (end_number place digits.now (state_view text before state.old)) }
 {
     let number = number_of(digits);
-    let firsts = state
+    state.firsts = state
         .firsts
         .with_number(&state.want, number, place - digits.len());
-    let want = take_number(state.want, number)?;
-    Ok(State::between(want, state.stack, firsts))
+    take_number(&mut state.want, number)?;
+    state.lexeme = Lexeme::Nothing;
+    Ok(())
 }
 
 /// The word ends.
 #[tactic(auto, using(crate::proofs::ChartFrames::frames_view_length))]
-fn end_word(alloc: Global, word: &[u8], state: State) -> Result<State, Stop>
+fn end_word(alloc: Global, word: &[u8], state: &mut State) -> Result<(), Stop>
     requires { IsName word.now }
-    ensures { (text : List ℕ) (before after : ℕ) → Gives (state_view text after) result
-        (with_want (state_view text before state) (take_word (want_view state.want) word.now (length (frames_view state.stack.items)))) }
+    ensures { (text : List ℕ) (before after : ℕ) → Gives (λ _. state_view text after state.new) result
+        (with_want (state_view text before state.old) (take_word (want_view state.old.want) word.now (length (frames_view state.old.stack.items)))) }
 {
-    let want = take_word(alloc, state.want, word, state.stack.len())?;
-    Ok(State::between(want, state.stack, state.firsts))
+    let depth = state.stack.len();
+    take_word(alloc, &mut state.want, word, depth)?;
+    state.lexeme = Lexeme::Nothing;
+    Ok(())
 }
 
 /// The token ends before the byte at the place.
 #[tactic(auto, using(crate::proofs::ChartTexts::begun_name, crate::proofs::ChartTexts::begun_number))]
-pub fn end_token(alloc: Global, text: &[u8], state: State, place: usize) -> Result<State, Stop>
+pub fn end_token(alloc: Global, text: &[u8], state: &mut State, place: usize) -> Result<(), Stop>
     requires inside { place ≤ length text.now }
-    requires good { IsGood (lexeme_view text.now place state.lexeme) }
-    ensures { Gives (state_view text.now place) result
-        (end_token place (lexeme_view text.now place state.lexeme) (state_view text.now place state)) }
+    requires good { IsGood (lexeme_view text.now place state.old.lexeme) }
+    ensures { Gives (λ _. state_view text.now place state.new) result
+        (end_token place (lexeme_view text.now place state.old.lexeme) (state_view text.now place state.old)) }
 {
     match state.lexeme {
-        Lexeme::Nothing => Ok(state),
+        Lexeme::Nothing => Ok(()),
         Lexeme::Letters(start) => end_word(alloc, &text[start..place], state),
         Lexeme::Digits(start) => end_number(&text[start..place], state, place),
         Lexeme::Less => end_operator(state, Op::Less),

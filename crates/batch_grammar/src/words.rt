@@ -9,6 +9,7 @@ use crate::word::{Word, name_of, word_of};
 use batch_recipe::{Chart, Cond, MAX_DEPTH, Op, Term};
 use batch_text::Name;
 use std::alloc::Global;
+use std::mem::replace;
 
 /// A form begins inside `depth` others.
 fn deeper(depth: usize, want: Want) -> Result<Want, Stop>
@@ -89,15 +90,16 @@ fn take_operand_word(
 }
 
 /// A word, inside `depth` forms.
-pub fn take_word(alloc: Global, want: Want, word: &[u8], depth: usize) -> Result<Want, Stop>
+pub fn take_word(alloc: Global, want: &mut Want, word: &[u8], depth: usize) -> Result<(), Stop>
     requires { IsName word.now }
-    ensures { Gives want_view result (take_word (want_view want) word.now depth) }
+    ensures { Gives (λ _. want_view want.new) result (take_word (want_view want.old) word.now depth) }
 {
     let kind = word_of(word);
-    match want {
-        Want::Chart => take_chart_word(alloc, kind, word, depth),
-        Want::Name(test) => take_name_word(alloc, kind, word, test),
-        Want::Operand(test, name, op) => take_operand_word(alloc, kind, word, test, name, op),
-        _ => Err(Stop::NotAChart),
-    }
+    *want = match replace(want, Want::Chart) {
+        Want::Chart => take_chart_word(alloc, kind, word, depth)?,
+        Want::Name(test) => take_name_word(alloc, kind, word, test)?,
+        Want::Operand(test, name, op) => take_operand_word(alloc, kind, word, test, name, op)?,
+        _ => return Err(Stop::NotAChart),
+    };
+    Ok(())
 }

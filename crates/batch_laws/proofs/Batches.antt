@@ -5,8 +5,8 @@ use Rattle.std.proofs.lemmas.Grind.{flat_map-append}
 use Rattle.batch_model.specs.Lists.{Has}
 use Rattle.batch_recipe.specs.Conditions.{Name}
 use Rattle.batch_recipe.specs.Tree.{Place}
-use Rattle.batch_model.specs.Rest.{Rest, ready, asking, open_act, live, freeing, in_seq, in_par, in_loop, done, Rests, no_rests, rest, acts, acts_of_each, changed_at}
-use Rattle.batch_model.specs.Plant.{Batch, BatchAct, Share, Plant, place_of, held_by, holders}
+use Rattle.batch_model.specs.Rest.{Rest, ready, asking, open_act, live, freeing, in_seq, in_par, in_loop, done, Rests, no_rests, rest, acts, acts_of_each, changed_at, place_of}
+use Rattle.batch_model.specs.Plant.{Batch, BatchAct, Share, Plant, held_by, holders}
 use Rattle.batch_laws.proofs.Facts.{Fact, performing, Standing, held_at, awaited_at, facts, facts_of_each, Entry, entry, entries_of, entries, holders_among, share}
 use Rattle.batch_model.proofs.Members.{Has-split, Has-flat_map}
 use Rattle.batch_laws.proofs.Members.{Has-map, map-Has, flat_map-Has}

@@ -6,10 +6,10 @@ use Rattle.batch_matrix.specs.declared.state.State.{State}
 use Rattle.batch_model.specs.Lists.{Has}
 use Rattle.batch_recipe.specs.Conditions.{Name, ValueList}
 use Rattle.batch_recipe.specs.Tree.{Place, Phase}
-use Rattle.batch_model.specs.Rest.{Rest, advance, changed_at}
-use Rattle.batch_model.specs.Plant.{Setup, Batch, BatchAct, Share, units_in, Plant, place_of}
+use Rattle.batch_model.specs.Rest.{Rest, advance, changed_at, place_of}
+use Rattle.batch_model.specs.Plant.{Setup, Batch, BatchAct, Share, units_in, Plant, without}
 use Rattle.batch_model.specs.Runs.{Out}
-use Rattle.batch_model.specs.Records.{without, holders_after, holders_told, waiters_after, waiters_told, Active, active_after, active_told, state_after, state_told}
+use Rattle.batch_model.specs.Records.{holders_after, holders_told, waiters_after, waiters_told, Active, active_after, active_told, state_after, state_told}
 use Rattle.batch_laws.proofs.Facts.{Fact, holding, awaiting, performing, Standing, held_at, facts, Entry, entry, entries, holders_among, need, share}
 use Rattle.batch_model.specs.Cleared.{Ranking}
 use Rattle.batch_laws.proofs.ClearedDown.{IsClearedDown}

@@ -6,8 +6,7 @@ use Rattle.std.proofs.lemmas.Grind.{flat_map-append}
 use Rattle.std.proofs.lemmas.Bool.{and_parts}
 use Rattle.batch_model.specs.Lists.{Has}
 use Rattle.batch_recipe.specs.Conditions.{Name}
-use Rattle.batch_model.specs.Plant.{BatchAct, Share, units_in, is_same_act}
-use Rattle.batch_model.specs.Records.{without}
+use Rattle.batch_model.specs.Plant.{BatchAct, Share, units_in, is_same_act, without}
 use Rattle.batch_laws.proofs.Facts.{holding, awaiting, performing, Entry, holder_of, holders_among, need, share}
 use Rattle.batch_model.proofs.Members.{Has-split, Has-left, Has-right}
 use Rattle.batch_recipe.specs.declared.need.Need.{Need}

@@ -4,14 +4,14 @@ use Rattle.batch_matrix.specs.declared.state.State.{State}
 use Rattle.batch_matrix.specs.declared.state.State.TheVariants.{Idle, Running, Pausing, Paused, Holding, Held, Restarting, Stopping, Stopped, Aborting, Aborted, Complete}
 use Rattle.batch_matrix.specs.declared.command.Command.{Command}
 use Rattle.batch_matrix.specs.declared.command.Command.TheVariants.{Start, Pause, Resume, Hold, Restart, Stop, Abort, Reset}
-use Rattle.batch_matrix.specs.Matrix.{accepts, target}
+use Rattle.batch_matrix.specs.Matrix.{same_state, accepts, target}
 use Rattle.batch_model.specs.Lists.{Has}
 use Rattle.batch_recipe.specs.Conditions.{Name, ValueList}
 use Rattle.batch_recipe.specs.Tree.{Place, Phase}
 use Rattle.batch_model.specs.Rest.{withdrawn}
 use Rattle.batch_model.specs.Plant.{Recipe, Setup, Batch, BatchAct, Share, units_in, Plant, in_batch}
 use Rattle.batch_recipe.specs.Values.{with_outputs_zero}
-use Rattle.batch_model.specs.Events.{Refusal, created, ordered, removed, refused, command_not_accepted, not_idle, Answer, new_batch, with_batch, reset, stopped, commanded, lines_under, ordering, without_batch, removing}
+use Rattle.batch_model.specs.Events.{Refusal, created, ordered, removed, refused, command_not_accepted, not_idle, Answer, new_batch, with_batch, reset, commanded, lines_under, ordering, without_batch, removing}
 use Rattle.batch_model.specs.Runs.{Out, reply}
 use Rattle.batch_model.specs.Records.{holders_after, waiters_after, Active, active_after, ends_phase, state_after}
 use Rattle.batch_laws.proofs.Facts.{holding, awaiting, performing, Standing, facts, Entry, entry, entries_of, entries, holder_of, holders_among, need}
@@ -190,6 +190,9 @@ module _ (d : Setup) (rank : Ranking) (outs : List Out) (s : Plant) (sd : IsStan
       (order-others Reset b.number Idle, order-own Reset b.number Idle b.state) (λ q hs. refl) (λ q ws. refl) (λ xs. refl)
 
   -- a command that ends the asks of the batch
+  abbrev stopped : Command → Batch → Batch
+  stopped c z = record z { state = target c; rest = withdrawn z.rest }
+
   kept-stopped : (c : Command) → ((es : List Standing) → NothingAwaited es → IsFitting (target c) es)
       → ((q : Name) (ws : List Share) → waiters_after q ws (reply (ordered c b.number (target c))) ≡ filter (λ a. not (nat_eq a.act.0 b.number)) ws)
       → IsKept d rank (outs ++ reply (ordered c b.number (target c)) ∷ []) (changed_plant s b.number (stopped c) (λ q. filter (λ a. not (nat_eq a.act.0 b.number)) (s.line q)))
@@ -307,7 +310,8 @@ module _ (d : Setup) (rank : Ranking) (outs : List Out) (s : Plant) (sd : IsStan
   pub removing-step : Answered d rank outs (removing s b)
   removing-step = go b.state refl
     where
-      go : (x : State) → b.state ≡ x → Answered d rank outs (elim x [ Idle ↦ (removed b.number, without_batch b.number s) | y ↦ (refused (not_idle y), s) ])
+      go : (x : State) → b.state ≡ x
+          → Answered d rank outs (elim (same_state x Idle) [ true ↦ (removed b.number, without_batch b.number s) | false ↦ (refused (not_idle x), s) ])
       go Idle e = kept-removed d rank outs s b i e sd k
       go Running e = kept-refused d rank outs s (not_idle Running) k
       go Pausing e = kept-refused d rank outs s (not_idle Pausing) k

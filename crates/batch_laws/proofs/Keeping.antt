@@ -5,12 +5,12 @@ use Rattle.batch_matrix.specs.declared.report.Report.{Report}
 use Rattle.batch_model.specs.Lists.{Has}
 use Rattle.batch_recipe.specs.Conditions.{Name, ValueList}
 use Rattle.batch_recipe.specs.Tree.{Place, Phase}
-use Rattle.batch_model.specs.Rest.{Rest, acts}
-use Rattle.batch_model.specs.Plant.{Setup, Batch, BatchAct, Share, units_in, Plant, place_of, is_same_act}
+use Rattle.batch_model.specs.Rest.{Rest, acts, place_of}
+use Rattle.batch_model.specs.Plant.{Setup, Batch, BatchAct, Share, units_in, Plant, is_same_act, without}
 use Rattle.batch_model.specs.Moves.{start, ask, grant, release, line_after, is_running}
 use Rattle.batch_model.specs.Events.{reported}
 use Rattle.batch_model.specs.Runs.{Out, move, reply}
-use Rattle.batch_model.specs.Records.{without, holders_after, holders_told, waiters_after, Active, active_after, active_told, state_after, ends_phase}
+use Rattle.batch_model.specs.Records.{holders_after, holders_told, waiters_after, Active, active_after, active_told, state_after, ends_phase}
 use Rattle.batch_laws.proofs.Facts.{holding, awaiting, performing, held_at, facts, Entry, entry, entries_of, entries, holders_among, need, share}
 use Rattle.batch_model.specs.Cleared.{Ranking}
 use Rattle.batch_model.proofs.Members.{Has-split, Has-left, Has-right}

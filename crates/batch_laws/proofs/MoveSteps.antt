@@ -8,9 +8,9 @@ use Rattle.batch_matrix.specs.Matrix.{accepts}
 use Rattle.batch_model.specs.Lists.{Has}
 use Rattle.batch_recipe.specs.Conditions.{Name, ValueList}
 use Rattle.batch_recipe.specs.Tree.{Place, Step, Phase, Task, runs, follows, Tree}
-use Rattle.batch_model.specs.Rest.{Rest, ready, asking, open_act, live, freeing, in_seq, in_par, in_loop, done, is_done, acts}
-use Rattle.batch_model.specs.Plant.{Setup, Batch, units_in, Plant, in_act, place_of, held_in, holders}
-use Rattle.batch_model.specs.Moves.{Move, send, release, begin, start, end, ask, grant, is_running, is_stopping, is_stopped, is_quiet, is_empty, passed_on, entering, giving_back, when, is_served, act_move, freed, sent, released, begun, ended, asked, granted, batch_after, after, handed_values}
+use Rattle.batch_model.specs.Rest.{Rest, ready, asking, open_act, live, freeing, in_seq, in_par, in_loop, done, is_done, acts, place_of}
+use Rattle.batch_model.specs.Plant.{Setup, Batch, units_in, Plant, in_act, held_in, holders}
+use Rattle.batch_model.specs.Moves.{Move, send, release, begin, start, end, ask, grant, is_running, is_stopping, is_stopped, is_quiet, is_empty, passed_on, beginning, entering, giving_back, when, is_served, act_move, freed, sent, released, begun, ended, asked, granted, batch_after, after, handed_values}
 use Rattle.batch_model.specs.Runs.{Out, move}
 use Rattle.batch_model.specs.Records.{StartsIdle}
 use Rattle.batch_laws.proofs.Facts.{holding, awaiting, performing, Standing, held_at, awaited_at, facts, Entry, entries, holders_among}
@@ -225,7 +225,7 @@ module _ (d : Setup) (rank : Ranking) (outs : List Out) (s : Plant) (sd : IsStan
           → ◌≡◌ {A = Option Move}
           (elim o [
             | Some r ↦ Some (ask b.number p.place r)
-            | None ↦ elim v [ runs x ↦ Some (start b.number p.place x (handed_values b.values x.handed)) | follows name c ↦ Some (begin b.number p.place name) ]
+            | None ↦ Some (beginning b p v)
           ])
           (Some m)
           → Stepped d rank outs s m

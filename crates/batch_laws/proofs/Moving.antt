@@ -1,5 +1,5 @@
 -- The next move keeps what is kept.
-use Rattle.std.proofs.Common.{◌≡◌, refl, sym, subst, ℕ, List, [], ◌∷◌, Bool, true, false, ◌&&◌, Option, Some, None, inl, inr, nat_eq, filter_map}
+use Rattle.std.proofs.Common.{◌≡◌, refl, sym, subst, ℕ, List, [], Bool, true, false, ◌&&◌, Option, Some, None, option_and_then, option_to_list, inl, inr, nat_eq, ◌++◌, filter_map}
 use Rattle.std.proofs.lemmas.Bool.{and_parts}
 use Rattle.batch_matrix.specs.declared.state.State.{State}
 use Rattle.batch_matrix.specs.declared.state.State.TheVariants.{Idle, Running, Pausing, Paused, Holding, Held, Restarting, Stopping, Stopped, Aborting, Aborted, Complete}
@@ -8,7 +8,7 @@ use Rattle.batch_model.specs.Lists.{Has}
 use Rattle.batch_recipe.specs.Tree.{Place}
 use Rattle.batch_model.specs.Rest.{Rest, acts}
 use Rattle.batch_model.specs.Plant.{Setup, Batch, Plant, held_in}
-use Rattle.batch_model.specs.Moves.{after, Move, state, is_quiet, is_empty, is_reached, act_move, state_move, batch_moves, next, batch_after}
+use Rattle.batch_model.specs.Moves.{after, Move, state, when, is_quiet, is_empty, is_reached, act_move, state_move, batch_moves, next, batch_after}
 use Rattle.batch_model.specs.Runs.{Out, move}
 use Rattle.batch_laws.proofs.Facts.{Standing, facts}
 use Rattle.batch_model.specs.Cleared.{Ranking}
@@ -49,19 +49,22 @@ nothing_left r e h =
     no_facts (facts r) h (quiet-performs_nothing r q.0) (holding-nothing r q.1)
 
 -- what a state ends as fits what it waited for
-fit-reached : (x y : State) (r : Rest) → is_reached x r ≡ true → ends_as x ≡ Some y → IsFitting x (facts r) → IsFitting y (facts r)
-fit-reached Running y r e f h = subst (λ z. IsFitting z (facts r)) (same_some Complete y f) (done-facts r e)
-fit-reached Pausing y r e f h = subst (λ z. IsFitting z (facts r)) (same_some Paused y f) tt
-fit-reached Holding y r e f h = subst (λ z. IsFitting z (facts r)) (same_some Held y f) tt
-fit-reached Restarting y r e f h = subst (λ z. IsFitting z (facts r)) (same_some Running y f) tt
-fit-reached Stopping y r e f h = subst (λ z. IsFitting z (facts r)) (same_some Stopped y f) (nothing_left r e h)
-fit-reached Aborting y r e f h = subst (λ z. IsFitting z (facts r)) (same_some Aborted y f) (nothing_left r e h)
-fit-reached Idle y r e f h = absurd cc
-fit-reached Paused y r e f h = absurd cc
-fit-reached Held y r e f h = absurd cc
-fit-reached Stopped y r e f h = absurd cc
-fit-reached Aborted y r e f h = absurd cc
-fit-reached Complete y r e f h = absurd cc
+abbrev FitsReached : Rest → State → Type 0
+FitsReached r y = is_reached y r ≡ true → IsFitting y (facts r)
+
+fit-reached : (x y : State) (r : Rest) → ends_as x ≡ Some y → is_reached y r ≡ true → IsFitting x (facts r) → IsFitting y (facts r)
+fit-reached Running y r f e h = subst (FitsReached r) (same_some Complete y f) (done-facts r) e
+fit-reached Pausing y r f e h = subst (FitsReached r) (same_some Paused y f) (λ u. tt) e
+fit-reached Holding y r f e h = subst (FitsReached r) (same_some Held y f) (λ u. tt) e
+fit-reached Restarting y r f e h = subst (FitsReached r) (same_some Running y f) (λ u. tt) e
+fit-reached Stopping y r f e h = subst (FitsReached r) (same_some Stopped y f) (λ u. nothing_left r u h) e
+fit-reached Aborting y r f e h = subst (FitsReached r) (same_some Aborted y f) (λ u. nothing_left r u h) e
+fit-reached Idle y r f e h = absurd cc
+fit-reached Paused y r f e h = absurd cc
+fit-reached Held y r f e h = absurd cc
+fit-reached Stopped y r f e h = absurd cc
+fit-reached Aborted y r f e h = absurd cc
+fit-reached Complete y r f e h = absurd cc
 
 some_move : (m l : Move) → ◌≡◌ {A = Option Move} (Some m) (Some l) → m ≡ l
 some_move m l e = cc
@@ -71,25 +74,24 @@ no_move l e = cc
 
 module _ (d : Setup) (rank : Ranking) (outs : List Out) (s : Plant) (sd : IsStanding d s) (k : IsKept d rank outs s) where
   state-step : (b : Batch) → Has s.batches b → (m : Move) → state_move b ≡ Some m → Stepped d rank outs s m
-  state-step b i m e = go (is_reached b.state b.rest) refl e
+  state-step b i m e = ends (ends_as b.state) refl e
     where
-      made : (x : State) → is_reached b.state b.rest ≡ true → ends_as b.state ≡ Some x → Stepped d rank outs s (state b.number x)
+      made : (x : State) → is_reached x b.rest ≡ true → ends_as b.state ≡ Some x → Stepped d rank outs s (state b.number x)
       made x r q =
           let sound : IsSound d rank b = k.sound b i in let here : IsStandingBatch d b = standing-of d s sd b i in (
             kept-quiet d rank outs s sd k b i (move (state b.number x)) (batch_after (state b.number x)) refl
-                (record { cleared = sound.cleared; fits = fit-reached b.state x b.rest r q sound.fits })
+                (record { cleared = sound.cleared; fits = fit-reached b.state x b.rest q r sound.fits })
                 refl (λ n old w. tells-other b.number n (Some x) old w, tells-own b.number (Some x) (Some b.state)) (λ q hs. refl) (λ q ws. refl) (λ xs. refl),
             starts-nothing d outs (move (state b.number x)) (λ n q y vs e. cc),
           )
 
-      ends : (o : Option State) → ends_as b.state ≡ o → is_reached b.state b.rest ≡ true → ◌≡◌ {A = Option Move} (elim o [ None ↦ None | Some x ↦ Some (state b.number x) ]) (Some m) → Stepped d rank outs s m
-      ends None q r f = absurd (no_move m f)
-      ends (Some x) q r f = subst (Stepped d rank outs s) (some_move (state b.number x) m f) (made x r q)
+      reached : (x : State) → ends_as b.state ≡ Some x → (t : Bool) → is_reached x b.rest ≡ t → when t (state b.number x) ≡ Some m → Stepped d rank outs s m
+      reached x q true r f = subst (Stepped d rank outs s) (some_move (state b.number x) m f) (made x r q)
+      reached x q false r f = absurd (no_move m f)
 
-      go : (t : Bool) → is_reached b.state b.rest ≡ t
-          → ◌≡◌ {A = Option Move} (elim t [ false ↦ None | true ↦ elim (ends_as b.state) [ None ↦ None | Some x ↦ Some (state b.number x) ] ]) (Some m) → Stepped d rank outs s m
-      go false r f = absurd (no_move m f)
-      go true r f = ends (ends_as b.state) refl r f
+      ends : (o : Option State) → ends_as b.state ≡ o → option_and_then (λ x. when (is_reached x b.rest) (state b.number x)) o ≡ Some m → Stepped d rank outs s m
+      ends None q f = absurd (no_move m f)
+      ends (Some x) q f = reached x q (is_reached x b.rest) refl f
 
   batch-step : (b : Batch) → Has s.batches b → (m : Move) → Has (batch_moves d s b) m → IsStanding d (after s m) → Stepped d rank outs s m
   batch-step b i m h td = go (state_move b) refl h
@@ -98,7 +100,7 @@ module _ (d : Setup) (rank : Ranking) (outs : List Out) (s : Plant) (sd : IsStan
       of_act j = let a = Has-filter_map (act_move d s b) (acts b.rest) m j in act-step d rank outs s sd k b i a.0 m a.1 a.2 td
 
       go : (o : Option Move) → state_move b ≡ o
-          → Has (elim o [ None ↦ filter_map (act_move d s b) (acts b.rest) | Some l ↦ l ∷ filter_map (act_move d s b) (acts b.rest) ]) m → Stepped d rank outs s m
+          → Has (option_to_list o ++ filter_map (act_move d s b) (acts b.rest)) m → Stepped d rank outs s m
       go None e j = of_act j
       go (Some l) e (inl q) = subst (Stepped d rank outs s) q (state-step b i l e)
       go (Some l) e (inr j) = of_act j

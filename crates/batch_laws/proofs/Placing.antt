@@ -2,8 +2,7 @@
 use Rattle.std.proofs.Common.{◌+◌, ◌≡◌, sym, ◌∙◌, ap, ℕ, ◌≤◌, arith, List, [], ◌∷◌, ◌++◌, take, slice_get, Option, Some, None, inl, inr, ⊎_elim, append_assoc, append-nil}
 use Rattle.batch_model.specs.Lists.{Has}
 use Rattle.batch_recipe.specs.Tree.{Place, Tree, act, seq, par, sel, loop, Task, runs, follows, Trees, no_trees, tree, Choices, otherwise, choice}
-use Rattle.batch_model.specs.Rest.{Rest, ready, asking, open_act, live, freeing, in_seq, in_par, in_loop, done, Rests, no_rests, rest, acts, acts_of_each}
-use Rattle.batch_model.specs.Plant.{place_of}
+use Rattle.batch_model.specs.Rest.{Rest, ready, asking, open_act, live, freeing, in_seq, in_par, in_loop, done, Rests, no_rests, rest, acts, acts_of_each, place_of}
 use Rattle.batch_recipe.specs.Nodes.{child}
 use Rattle.batch_model.specs.Records.{IsAtOrAbove}
 use Rattle.batch_laws.proofs.Facts.{holding, performing, Standing, held_at, awaited_at, facts, facts_of_each}

@@ -7,14 +7,15 @@ use Rattle.batch_matrix.specs.declared.report.Report.{Report}
 use Rattle.batch_matrix.specs.declared.report.PhaseEnd.{PhaseEnd}
 use Rattle.batch_matrix.specs.declared.report.PhaseEnd.TheVariants.{Ended, Now, Same}
 use Rattle.batch_matrix.specs.Matrix.{accepts, after_report}
+use Rattle.std.specs.Option.{option_or}
 use Rattle.batch_model.specs.Lists.{Has}
 use Rattle.batch_recipe.specs.Conditions.{Name, ValueList}
 use Rattle.batch_recipe.specs.Tree.{Place, Phase, Step}
-use Rattle.batch_model.specs.Rest.{Rest, ready, asking, open_act, live, freeing, in_seq, in_par, in_loop, done, acts}
-use Rattle.batch_model.specs.Plant.{Formula, size_out_of_range, value_out_of_range, scaled, Recipe, Master, Setup, Batch, BatchAct, Plant, batch_at, in_batch, in_act, place_of}
+use Rattle.batch_model.specs.Rest.{Rest, ready, asking, open_act, live, freeing, in_seq, in_par, in_loop, done, acts, place_of}
+use Rattle.batch_model.specs.Plant.{Formula, size_out_of_range, value_out_of_range, scaled, Recipe, Master, Setup, Batch, BatchAct, Plant, batch_at, in_batch, in_act}
 use Rattle.batch_model.specs.Moves.{Move, ended, next}
 use Rattle.batch_recipe.specs.Values.{with_values, are_outputs}
-use Rattle.batch_model.specs.Events.{Event, create, order, remove, report, Reply, reported, refused, unknown_recipe, bad_binding, binding, is_binding, bound_by, roles_told, creating_for, unknown_batch, no_live_phase, report_not_expected, bad_output, bad_size, bad_value, full, moves_pending, no_memory, is_full, creating, ordering, removing, LivePhase, live_in, live_phase, now, batch_state_after, outputs_of, batch_reported, reporting, judged, react}
+use Rattle.batch_model.specs.Events.{Event, create, order, remove, report, Reply, reported, refused, unknown_recipe, bad_binding, binding, is_binding, bound_by, roles_told, creating_for, unknown_batch, no_live_phase, report_not_expected, bad_output, bad_size, bad_value, full, moves_pending, no_memory, is_full, creating, ordering, removing, LivePhase, live_in, live_phase, phase_after, batch_state_after, outputs_of, batch_reported, reporting, judged, react}
 use Rattle.batch_model.specs.Runs.{Out, reply, Reacts}
 use Rattle.batch_model.specs.Records.{Active, active_after, ends_phase}
 use Rattle.batch_laws.proofs.Facts.{Standing, held_at, facts}
@@ -227,7 +228,7 @@ live_phase-found (b ∷ bs) unit name l e = go (live_in b unit name (acts b.rest
     same : (y z : LivePhase) → ◌≡◌ {A = Option LivePhase} (Some y) (Some z) → y ≡ z
     same y z q = cc
 
-    go : (o : Option LivePhase) → live_in b unit name (acts b.rest) ≡ o → ◌≡◌ {A = Option LivePhase} (elim o [ Some y ↦ Some y | None ↦ live_phase bs unit name ]) (Some l)
+    go : (o : Option LivePhase) → live_in b unit name (acts b.rest) ≡ o → option_or o (live_phase bs unit name) ≡ Some l
         → (live_phase bs unit name ≡ Some l → (c : Batch) × Has bs c × IsFound c (acts c.rest) l) → (c : Batch) × Has (b ∷ bs) c × IsFound c (acts c.rest) l
     go (Some y) q f h = (b, inl refl, live_in-found b unit name (acts b.rest) l (q ∙ f))
     go None q f h = let m = h f in (m.0, inr m.1, m.2)
@@ -271,7 +272,7 @@ module _ (d : Setup) (rank : Ranking) (outs : List Out) (s : Plant) (sd : IsStan
       (record { was = refl; is = freed-facts p (length p.needs) ∙ ap (held_at p.place) (take-length p.needs) ∙ sym (append-nil (held_at p.place p.needs)) })
       ends (ended-state word b.state ends) tells
   reported-step (Now y) q =
-      kept-reported (Now y) (now y) (record { number = refl; recipe = refl; goes_on = refl }) refl (now-word t y word q)
+      kept-reported (Now y) (phase_after (Now y)) (record { number = refl; recipe = refl; goes_on = refl }) refl (now-word t y word q)
   reported-step Same q =
       kept-reported Same (λ r. r) (record { number = refl; recipe = refl; goes_on = refl }) refl (same-word t word q)
 

@@ -2,20 +2,19 @@
 use Rattle.std.proofs.Common.{◌≡◌, refl, ℕ, List, [], ◌∷◌, Bool, true, false, Some, None}
 use Rattle.std.specs.Prelude.{Option, find, not, nat_eq}
 use Rattle.batch_matrix.specs.declared.state.State.{State}
-use Rattle.batch_matrix.specs.declared.state.State.TheVariants.{Idle, Running, Pausing, Paused, Holding, Held, Restarting, Stopping, Stopped, Aborting, Aborted, Complete}
+use Rattle.batch_matrix.specs.declared.state.State.TheVariants.{Idle}
 use Rattle.batch_matrix.specs.declared.command.Command.{Command}
-use Rattle.batch_matrix.specs.declared.command.Command.TheVariants.{Start, Pause, Resume, Hold, Restart, Stop, Abort, Reset}
 use Rattle.batch_matrix.specs.declared.report.Report.{Report}
 use Rattle.batch_matrix.specs.declared.report.PhaseEnd.{PhaseEnd}
-use Rattle.batch_matrix.specs.Matrix.{accepts, target, after_report}
+use Rattle.batch_matrix.specs.Matrix.{same_state, accepts, target, after_report}
 use Rattle.batch_recipe.specs.Conditions.{Name, ValueList, same_name}
 use Rattle.batch_recipe.specs.Tree.{Place}
 use Rattle.batch_model.specs.Lists.{Has}
-use Rattle.batch_model.specs.Rest.{reach}
+use Rattle.batch_model.specs.Rest.{reach, withdrawn}
 use Rattle.batch_model.specs.Plant.{Formula, size_out_of_range, value_out_of_range, scaled, Recipe, Setup, Batch, Share, Plant, batch_at, in_batch, Master}
 use Rattle.batch_model.specs.Moves.{Move, next}
 use Rattle.batch_recipe.specs.Values.{with_values, with_outputs_zero, are_outputs}
-use Rattle.batch_model.specs.Events.{Event, create, order, remove, report, ordered, removed, reported, refused, unknown_recipe, bad_binding, binding, is_binding, bound_by, creating_for, roles_told, unknown_batch, command_not_accepted, no_live_phase, report_not_expected, bad_output, full, not_idle, moves_pending, Answer, is_full, new_batch, with_batch, creating, stopped, commanded, lines_under, ordering, without_batch, removing, LivePhase, live_phase, phase_after, batch_state_after, outputs_of, batch_reported, reporting, judged, react}
+use Rattle.batch_model.specs.Events.{Event, create, order, remove, report, ordered, removed, reported, refused, unknown_recipe, bad_binding, binding, is_binding, bound_by, creating_for, roles_told, unknown_batch, command_not_accepted, no_live_phase, report_not_expected, bad_output, full, not_idle, moves_pending, Answer, is_full, new_batch, with_batch, creating, reset, ends_asks, commanded, lines_under, ordering, without_batch, removing, LivePhase, live_phase, phase_after, batch_state_after, outputs_of, batch_reported, reporting, judged, react}
 use Rattle.batch_model.specs.Standing.{IsControl, IsStandingBatch, IsStanding}
 use Rattle.batch_model.proofs.Members.{Each-append, Each-filter, find-Has}
 use Rattle.batch_machine.proofs.Advancing.{reach-advanced, withdrawn-advanced}
@@ -31,32 +30,25 @@ anew-stands : (c : Setup) (b : Batch) (vs : ValueList) → IsControl c b.recipe 
 anew-stands c b vs known =
     record { known = known; stands = reach-IsRestOf vs b.recipe.procedure; advanced = reach-advanced vs b.recipe.procedure }
 
-stopped-stands : (c : Setup) (command : Command) (b : Batch) → IsStandingBatch c b → IsStandingBatch c (stopped command b)
-stopped-stands c command b k =
+in_state-stands : (c : Setup) (b : Batch) (x : State) (ends : Bool) → IsStandingBatch c b
+    → IsStandingBatch c (record b { state = x; rest = elim ends [ true ↦ withdrawn b.rest | false ↦ b.rest ] })
+in_state-stands c b x true k =
     record { known = k.known; stands = withdrawn-IsRestOf b.recipe.procedure b.rest k.stands; advanced = withdrawn-advanced b.rest k.advanced }
-
-in_state-stands : (c : Setup) (b : Batch) (x : State) → IsStandingBatch c b → IsStandingBatch c (record b { state = x })
-in_state-stands c b x k = record { known = k.known; stands = k.stands; advanced = k.advanced }
+in_state-stands c b x false k = record { known = k.known; stands = k.stands; advanced = k.advanced }
 
 commanded-stands : (c : Setup) (command : Command) (b : Batch) → IsStandingBatch c b → IsStandingBatch c (commanded command b)
-commanded-stands c Start b k = in_state-stands c b (target Start) k
-commanded-stands c Pause b k = in_state-stands c b (target Pause) k
-commanded-stands c Resume b k = in_state-stands c b (target Resume) k
-commanded-stands c Hold b k = in_state-stands c b (target Hold) k
-commanded-stands c Restart b k = in_state-stands c b (target Restart) k
-commanded-stands c Stop b k = stopped-stands c Stop b k
-commanded-stands c Abort b k = stopped-stands c Abort b k
-commanded-stands c Reset b k = anew-stands c b (with_outputs_zero b.recipe.outputs b.values) k.known
+commanded-stands c command b k = go (same_state (target command) Idle)
+  where
+    go : (t : Bool) → IsStandingBatch c (elim t [ true ↦ reset b | false ↦ record b { state = target command; rest = elim (ends_asks command) [ true ↦ withdrawn b.rest | false ↦ b.rest ] } ])
+    go true = anew-stands c b (with_outputs_zero b.recipe.outputs b.values) k.known
+    go false = in_state-stands c b (target command) (ends_asks command) k
 
 commanded-number : (command : Command) (b : Batch) → (commanded command b).number ≡ b.number
-commanded-number Start b = refl
-commanded-number Pause b = refl
-commanded-number Resume b = refl
-commanded-number Hold b = refl
-commanded-number Restart b = refl
-commanded-number Stop b = refl
-commanded-number Abort b = refl
-commanded-number Reset b = refl
+commanded-number command b = go (same_state (target command) Idle)
+  where
+    go : (t : Bool) → ◌≡◌ {A = ℕ} (let c : Batch = elim t [ true ↦ reset b | false ↦ record b { state = target command; rest = elim (ends_asks command) [ true ↦ withdrawn b.rest | false ↦ b.rest ] } ] in c.number) b.number
+    go true = refl
+    go false = refl
 
 reported-stands : (c : Setup) (word : Report) (outputs : ValueList) (p : Place) (e : PhaseEnd) (b : Batch) → IsStandingBatch c b
     → IsStandingBatch c (batch_reported word outputs p e b)
@@ -117,7 +109,7 @@ module _ (c : Setup) (s : Plant) (k : IsStanding c s) where
       go true = in_batch-stands b.number (commanded command) (lines_under command b.number s.line) (commanded-stands c command) (commanded-number command)
 
   removing-stands : (b : Batch) → Stands (removing s b)
-  removing-stands b = go b.state
+  removing-stands b = go (same_state b.state Idle)
     where
       gone : IsStanding c (without_batch b.number s)
       gone =
@@ -126,19 +118,9 @@ module _ (c : Setup) (s : Plant) (k : IsStanding c s) where
             numbers = AreNumbered-filter s.next_number (λ d. not (nat_eq d.number b.number)) s.batches k.numbers;
           }
 
-      go : (x : State) → Stands (elim x [ Idle ↦ (removed b.number, without_batch b.number s) | y ↦ (refused (not_idle y), s) ])
-      go Idle = gone
-      go Running = k
-      go Pausing = k
-      go Paused = k
-      go Holding = k
-      go Held = k
-      go Restarting = k
-      go Stopping = k
-      go Stopped = k
-      go Aborting = k
-      go Aborted = k
-      go Complete = k
+      go : (t : Bool) → Stands (elim t [ true ↦ (removed b.number, without_batch b.number s) | false ↦ (refused (not_idle b.state), s) ])
+      go true = gone
+      go false = k
 
   reporting-stands : (unit name : Name) (word : Report) (outputs : ValueList) (l : LivePhase) → Stands (reporting s unit name word outputs l)
   reporting-stands unit name word outputs l = go (after_report l.state word)

@@ -1,7 +1,8 @@
 -- A batch that changes its state by itself has less work left.
-use Rattle.std.proofs.Common.{◌≡◌, refl, sym, ◌∙◌, ap, ℕ, suc, length, ◌-◌, Bool, true, false, List, [], ◌∷◌, Some, None, arith, inl, inr, ◌<◌, ◌≤◌, ◌+◌, ◌*◌}
+use Rattle.std.proofs.Common.{◌≡◌, refl, sym, ◌∙◌, ap, ℕ, suc, length, ◌-◌, Bool, true, false, List, [], ◌∷◌, Some, arith, inl, inr, ◌<◌, ◌≤◌, ◌+◌, ◌*◌}
 use Rattle.std.proofs.lemmas.Bool.{and_parts}
 use Rattle.std.specs.List.{list_all}
+use Rattle.std.specs.Prelude.{option_and_then}
 use Rattle.batch_matrix.specs.declared.state.State.{State}
 use Rattle.batch_matrix.specs.declared.state.State.TheVariants.{Idle, Running, Pausing, Paused, Holding, Held, Restarting, Stopping, Stopped, Aborting, Aborted, Complete}
 use Rattle.batch_matrix.specs.Matrix.{ends_as}
@@ -9,7 +10,7 @@ use Rattle.batch_recipe.specs.Tree.{Step, Phase}
 use Rattle.batch_model.specs.Lists.{Has}
 use Rattle.batch_model.specs.Rest.{Rest, ready, asking, open_act, live, freeing, in_seq, in_par, in_loop, done, Rests, no_rests, rest, is_done, acts, acts_of_each}
 use Rattle.batch_model.specs.Plant.{Batch, phase_states}
-use Rattle.batch_model.specs.Moves.{Move, state, is_running, is_reached, state_move}
+use Rattle.batch_model.specs.Moves.{Move, state, is_running, when, is_reached, state_move}
 use Rattle.batch_model.specs.Runs.{toil, toil_of_work, toil_of_each, sends, ahead, toil_left, toil_left_in_each, state_moves_left}
 use Rattle.batch_model.proofs.Members.{Has-left, Has-right}
 
@@ -73,26 +74,26 @@ sends-running Complete e = absurd cc
 abbrev pub IsStateMove : ℕ → State → Rest → Move → Type 0
 IsStateMove n x r m = (y : State) × (m ≡ state n y) × (state_moves_left y + toil_left y r < state_moves_left x + toil_left x r)
 
-taken : (t : Bool) (l m : Move) → elim t [ false ↦ None | true ↦ Some l ] ≡ Some m → (t ≡ true) × (m ≡ l)
+taken : (t : Bool) (l m : Move) → when t l ≡ Some m → (t ≡ true) × (m ≡ l)
 taken true l m e = (refl, cc)
 taken false l m e = absurd cc
 
 state_move-lowers : (n : ℕ) (x : State) (r : Rest) (m : Move)
-    → elim (is_reached x r) [ false ↦ None | true ↦ elim (ends_as x) [ None ↦ None | Some y ↦ Some (state n y) ] ] ≡ Some m → IsStateMove n x r m
+    → option_and_then (λ y. when (is_reached y r) (state n y)) (ends_as x) ≡ Some m → IsStateMove n x r m
 state_move-lowers n Running r m e =
     (Complete, (taken (is_done r) (state n Complete) m e).1, omega (arith, calmer Running Complete (λ k. omega arith) r (λ s p t h. omega arith)))
 state_move-lowers n Pausing r m e = (
   Paused,
-  (taken (is_reached Pausing r) (state n Paused) m e).1,
+  (taken (is_reached Paused r) (state n Paused) m e).1,
   omega (arith, calmer Pausing Paused (λ k. omega arith) r (λ s p t h. omega arith)),
 )
 state_move-lowers n Holding r m e = (
   Held,
-  (taken (is_reached Holding r) (state n Held) m e).1,
+  (taken (is_reached Held r) (state n Held) m e).1,
   omega (arith, calmer Holding Held (λ k. omega arith) r (λ s p t h. omega arith)),
 )
 state_move-lowers n Restarting r m e =
-    let all = taken (is_reached Restarting r) (state n Running) m e in (
+    let all = taken (is_reached Running r) (state n Running) m e in (
       Running,
       all.1,
       omega (
@@ -102,12 +103,12 @@ state_move-lowers n Restarting r m e =
     )
 state_move-lowers n Stopping r m e = (
   Stopped,
-  (taken (is_reached Stopping r) (state n Stopped) m e).1,
+  (taken (is_reached Stopped r) (state n Stopped) m e).1,
   omega (arith, calmer Stopping Stopped (λ k. omega arith) r (λ s p t h. omega arith)),
 )
 state_move-lowers n Aborting r m e = (
   Aborted,
-  (taken (is_reached Aborting r) (state n Aborted) m e).1,
+  (taken (is_reached Aborted r) (state n Aborted) m e).1,
   omega (arith, calmer Aborting Aborted (λ k. omega arith) r (λ s p t h. omega arith)),
 )
 state_move-lowers n Idle r m e = absurd cc

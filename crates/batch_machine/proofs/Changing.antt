@@ -5,8 +5,7 @@ use Rattle.std.proofs.lemmas.Slice.Eq.{bytes_eq-Decides}
 use Rattle.batch_matrix.specs.declared.state.State.{State}
 use Rattle.batch_model.specs.Lists.{Has}
 use Rattle.batch_recipe.specs.Tree.{Place, Step}
-use Rattle.batch_model.specs.Rest.{same_place, Rest, ready, asking, open_act, live, freeing, in_seq, in_par, in_loop, done, Rests, no_rests, rest, acts, acts_of_each, changed_at, changed_in_each}
-use Rattle.batch_model.specs.Plant.{place_of}
+use Rattle.batch_model.specs.Rest.{same_place, Rest, ready, asking, open_act, live, freeing, in_seq, in_par, in_loop, done, Rests, no_rests, rest, acts, acts_of_each, changed_at, changed_in_each, place_of}
 use Rattle.batch_model.specs.Runs.{toil_left, toil_left_in_each}
 use Rattle.batch_model.proofs.Members.{Has-left, Has-right}
 

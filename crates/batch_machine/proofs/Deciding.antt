@@ -2,8 +2,8 @@
 use Rattle.std.proofs.Common.{◌≡◌, ◌⊎◌, refl, sym, ◌∙◌, ap, subst, [], ◌∷◌, Bool, true, false, Some, inl, inr}
 use Rattle.batch_recipe.specs.Tree.{Place}
 use Rattle.batch_model.specs.Lists.{Has}
-use Rattle.batch_model.specs.Rest.{Rest, acts}
-use Rattle.batch_model.specs.Plant.{Setup, Batch, Plant, place_of}
+use Rattle.batch_model.specs.Rest.{Rest, acts, place_of}
+use Rattle.batch_model.specs.Plant.{Setup, Batch, Plant}
 use Rattle.batch_model.specs.Moves.{Move, batch_of, kind_of, place_of_move, order_of, is_earlier, act_move, state_move, batch_moves, possible, next}
 use Rattle.batch_machine.specs.Laws.{IsLeast, IsFirst}
 use Rattle.batch_model.specs.Standing.{HasPlacedTrees, IsStandingBatch, IsStanding}

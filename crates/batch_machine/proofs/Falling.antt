@@ -1,11 +1,11 @@
 -- Each possible move lowers the work left.
 use Rattle.std.proofs.Common.{◌≡◌, ◌⊎◌, refl, sym, ◌∙◌, ap, subst, true, false, List, [], ◌∷◌, Some, None, arith, inl, inr, ◌<◌}
-use Rattle.std.specs.Prelude.{Option, map, sum_by}
+use Rattle.std.specs.Prelude.{Option, ◌++◌, map, option_to_list, sum_by}
 use Rattle.std.specs.List.{filter_map}
 use Rattle.batch_model.specs.Lists.{Has}
 use Rattle.batch_recipe.specs.Tree.{Place, is_before}
-use Rattle.batch_model.specs.Rest.{Rest, acts, changed_at}
-use Rattle.batch_model.specs.Plant.{Setup, Batch, Plant, place_of, in_act}
+use Rattle.batch_model.specs.Rest.{Rest, acts, changed_at, place_of}
+use Rattle.batch_model.specs.Plant.{Setup, Batch, Plant, in_act}
 use Rattle.batch_model.specs.Moves.{Move, batch_of, place_of_move, act_move, act_after, state_move, batch_moves, possible, batch_after, after, next}
 use Rattle.batch_model.specs.Runs.{toil_left, batch_work_left, work_left}
 use Rattle.batch_model.specs.Standing.{HasPlacedTrees, IsStandingBatch, IsStanding}
@@ -40,7 +40,7 @@ pub Has-batch_moves : (c : Setup) (s : Plant) (b : Batch) (m : Move) → Has (ba
 Has-batch_moves c s b m h = go (state_move b) refl h
   where
     go : (o : Option Move) → state_move b ≡ o
-        → Has (elim o [ None ↦ filter_map (act_move c s b) (acts b.rest) | Some l ↦ l ∷ filter_map (act_move c s b) (acts b.rest) ]) m
+        → Has (option_to_list o ++ filter_map (act_move c s b) (acts b.rest)) m
         → (state_move b ≡ Some m) ⊎ ((a : Rest) × Has (acts b.rest) a × (act_move c s b a ≡ Some m))
     go None e k = inr (Has-filter_map (act_move c s b) (acts b.rest) m k)
     go (Some l) e (inl q) = inl (e ∙ ap Some q)

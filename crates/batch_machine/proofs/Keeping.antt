@@ -7,10 +7,9 @@ use Rattle.batch_matrix.specs.declared.report.PhaseEnd.TheVariants.{Ended, Now, 
 use Rattle.batch_recipe.specs.Conditions.{ValueList}
 use Rattle.batch_recipe.specs.Tree.{Place, Step, Task, runs, follows, Tree, act, seq, par, sel, loop, Trees, no_trees, tree, Choices, otherwise, choice}
 use Rattle.batch_model.specs.Lists.{Has}
-use Rattle.batch_model.specs.Rest.{same_place, Rest, ready, asking, open_act, live, freeing, in_seq, in_par, in_loop, done, Rests, no_rests, rest, acts, acts_of_each, reach, changed_at, changed_in_each, withdrawn, withdrawn_each}
-use Rattle.batch_model.specs.Plant.{place_of}
+use Rattle.batch_model.specs.Rest.{same_place, Rest, ready, asking, open_act, live, freeing, in_seq, in_par, in_loop, done, Rests, no_rests, rest, acts, acts_of_each, reach, changed_at, changed_in_each, withdrawn, withdrawn_each, place_of}
 use Rattle.batch_model.specs.Moves.{freed, sent, released, begun, ended}
-use Rattle.batch_model.specs.Events.{now, phase_after}
+use Rattle.batch_model.specs.Events.{phase_after}
 use Rattle.batch_model.specs.Standing.{IsRestOf, IsRestBelow, IsBranch, AreBranches, IsChosen}
 use Rattle.batch_model.proofs.Members.{Has-left, Has-right}
 use Rattle.batch_machine.proofs.Changing.{to_same_place}
@@ -59,7 +58,7 @@ ended-remains (in_par rs) s w h = absurd h
 ended-remains (in_loop n d b r) s w h = absurd h
 ended-remains done s w h = tt
 
-pub now-remains : (y : State) (a : Rest) → RemainsAs a (now y a)
+pub now-remains : (y : State) (a : Rest) → RemainsAs a (phase_after (Now y) a)
 now-remains y (live t p x) s w h = h
 now-remains y (ready t v k) s w h = h
 now-remains y (asking t v k) s w h = h

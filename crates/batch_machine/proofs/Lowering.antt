@@ -8,9 +8,9 @@ use Rattle.batch_matrix.specs.declared.command.Command.{Command}
 use Rattle.batch_matrix.specs.declared.command.Command.TheVariants.{Start, Pause, Resume, Hold, Restart, Stop, Abort, Reset}
 use Rattle.batch_matrix.specs.Matrix.{accepts, target}
 use Rattle.batch_recipe.specs.Tree.{Step, Task, runs, follows}
-use Rattle.batch_model.specs.Rest.{Rest, ready, asking, open_act, live, freeing, in_seq, in_par, in_loop, done, is_done}
-use Rattle.batch_model.specs.Plant.{Setup, Batch, Plant, place_of, in_act, held_in}
-use Rattle.batch_model.specs.Moves.{Move, send, release, begin, start, end, ask, grant, batch_of, place_of_move, passed_on, is_running, is_stopping, is_stopped, is_quiet, is_empty, handed_values, when, entering, giving_back, is_served, act_move, act_after, batch_after, freed}
+use Rattle.batch_model.specs.Rest.{Rest, ready, asking, open_act, live, freeing, in_seq, in_par, in_loop, done, is_done, place_of}
+use Rattle.batch_model.specs.Plant.{Setup, Batch, Plant, in_act, held_in}
+use Rattle.batch_model.specs.Moves.{Move, send, release, begin, start, end, ask, grant, batch_of, place_of_move, passed_on, is_running, is_stopping, is_stopped, is_quiet, is_empty, handed_values, when, beginning, entering, giving_back, is_served, act_move, act_after, batch_after, freed}
 use Rattle.batch_model.specs.Runs.{toil, toil_of_work, sends, goes_on, ahead, toil_left}
 use Rattle.batch_machine.proofs.Work.{going, going_no_further, reach-toil}
 use Rattle.batch_machine.proofs.Keeping.{RemainsAs, sent-remains, released-remains, ended-remains, begun-remains}
@@ -86,7 +86,7 @@ module _ (b : Batch) where
       ahead-is n = going b.state n (running-goes_on b.state on)
 
       begins : (v : Task) → w ≡ v
-          → elim v [ runs y ↦ Some (start b.number s.place y (handed_values b.values y.handed)) | follows name c ↦ Some (begin b.number s.place name) ] ≡ Some m
+          → Some (beginning b s v) ≡ Some m
           → IsMoveOf b (ready s w k) m
       begins (runs y) q h =
           subst (λ z. IsMoveOf b (ready s z k) m) (sym q)
@@ -114,10 +114,7 @@ module _ (b : Batch) where
           }))
 
       go : (o : Option Need) → slice_get s.needs k ≡ o
-          → elim o [
-            | Some r ↦ Some (ask b.number s.place r)
-            | None ↦ elim w [ runs y ↦ Some (start b.number s.place y (handed_values b.values y.handed)) | follows name c ↦ Some (begin b.number s.place name) ]
-          ] ≡ Some m
+          → elim o [ Some r ↦ Some (ask b.number s.place r) | None ↦ Some (beginning b s w) ] ≡ Some m
           → IsMoveOf b (ready s w k) m
       go (Some r) q h =
           let n : ask b.number s.place r ≡ m = cc in

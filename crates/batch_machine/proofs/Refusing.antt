@@ -1,12 +1,11 @@
 -- A refused event leaves the plant as it was, and some refusals come only where they have a cause.
 use Rattle.std.proofs.Common.{◌≡◌, ◌⊎◌, refl, sym, subst, ℕ, ◌<◌, ◌≤◌, arith, length, Bool, true, false, ◌||◌, nat_le, nat_lt, Some, None, inl, inr, List}
 use Rattle.std.specs.Prelude.{Option, find, ⊤}
-use Rattle.batch_matrix.specs.declared.state.State.{State}
-use Rattle.batch_matrix.specs.declared.state.State.TheVariants.{Idle, Running, Pausing, Paused, Holding, Held, Restarting, Stopping, Stopped, Aborting, Aborted, Complete}
+use Rattle.batch_matrix.specs.declared.state.State.TheVariants.{Idle}
 use Rattle.batch_matrix.specs.declared.command.Command.{Command}
 use Rattle.batch_matrix.specs.declared.report.Report.{Report}
 use Rattle.batch_matrix.specs.declared.report.PhaseEnd.{PhaseEnd}
-use Rattle.batch_matrix.specs.Matrix.{accepts, target, after_report}
+use Rattle.batch_matrix.specs.Matrix.{same_state, accepts, target, after_report}
 use Rattle.batch_recipe.specs.Conditions.{Name, ValueList, same_name}
 use Rattle.batch_model.specs.Plant.{Formula, size_out_of_range, value_out_of_range, scaled, Recipe, Setup, Batch, Plant, batch_at, in_batch, Master}
 use Rattle.batch_model.specs.Moves.{Move, next}
@@ -71,21 +70,11 @@ module _ (c : Setup) (s : Plant) where
       go true = tt
 
   removing-just : (e : Event) (b : Batch) → Just e (removing s b)
-  removing-just e b = go b.state
+  removing-just e b = go (same_state b.state Idle)
     where
-      go : (x : State) → Just e (elim x [ Idle ↦ (removed b.number, without_batch b.number s) | y ↦ (refused (not_idle y), s) ])
-      go Idle = tt
-      go Running = (refl, tt)
-      go Pausing = (refl, tt)
-      go Paused = (refl, tt)
-      go Holding = (refl, tt)
-      go Held = (refl, tt)
-      go Restarting = (refl, tt)
-      go Stopping = (refl, tt)
-      go Stopped = (refl, tt)
-      go Aborting = (refl, tt)
-      go Aborted = (refl, tt)
-      go Complete = (refl, tt)
+      go : (t : Bool) → Just e (elim t [ true ↦ (removed b.number, without_batch b.number s) | false ↦ (refused (not_idle b.state), s) ])
+      go true = tt
+      go false = (refl, tt)
 
   reporting-just : (e : Event) (unit name : Name) (word : Report) (outputs : ValueList) (l : LivePhase) → Just e (reporting s unit name word outputs l)
   reporting-just e unit name word outputs l = go (after_report l.state word)

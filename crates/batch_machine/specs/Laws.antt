@@ -6,8 +6,8 @@ use Rattle.batch_recipe.specs.Procedure.{bound_tree}
 use Rattle.batch_recipe.specs.Tree.{Place, Tree}
 use Rattle.batch_recipe.specs.declared.acts.Acts.{Acts}
 use Rattle.batch_model.specs.Lists.{Has, Each}
-use Rattle.batch_model.specs.Rest.{Rest, acts, reach, advance, withdrawn}
-use Rattle.batch_model.specs.Plant.{Master, Setup, Plant, opening, place_of, held_in, phase_states}
+use Rattle.batch_model.specs.Rest.{Rest, acts, reach, advance, withdrawn, place_of}
+use Rattle.batch_model.specs.Plant.{Master, Setup, Plant, opening, held_in, phase_states}
 use Rattle.batch_model.specs.Moves.{Move, batch_of, place_of_move, is_earlier, possible, next, after}
 use Rattle.batch_model.specs.Events.{Event, create, Reply, refused, Refusal, bad_binding, full, moves_pending, no_memory, is_binding}
 use Rattle.batch_model.specs.Runs.{Out, reply, move, Reacts, Leads, work_left, settling, run}

@@ -3,8 +3,8 @@ use Rattle.std.specs.Prelude.{ℕ, List, [], ◌∷◌, ◌++◌, find, true, fa
 use Rattle.batch_matrix.specs.declared.state.State.{State}
 use Rattle.batch_matrix.specs.declared.state.State.TheVariants.{Idle, Running, Pausing, Paused, Holding, Held, Restarting, Stopping, Stopped, Aborting, Aborted, Complete}
 use Rattle.batch_recipe.specs.Tree.{Place, Step, Task, runs, follows, Tree, act, skip, seq, par, sel, loop, Trees, no_trees, tree, Choices, otherwise, choice}
-use Rattle.batch_model.specs.Rest.{same_place, Rest, open_act, live, acts}
-use Rattle.batch_model.specs.Plant.{Batch, Plant, batch_at, place_of, phase_states}
+use Rattle.batch_model.specs.Rest.{same_place, Rest, open_act, live, acts, place_of}
+use Rattle.batch_model.specs.Plant.{Batch, Plant, batch_at, phase_states}
 
 -- all acts of an expanded tree, in the order of their places
 abbrev mutual

@@ -1,23 +1,23 @@
 -- trusted: the events that come from outside, and what the plant replies and becomes.
 use Rattle.std.specs.Prelude.{ℕ, suc, List, [], ◌∷◌, ◌++◌, length, map, filter, find, Bool, true, false, ◌&&◌, ◌||◌, not, Option, Some, None, nat_eq, nat_lt, nat_le}
 use Rattle.std.specs.List.{list_all}
+use Rattle.std.specs.Option.{option_or}
 use Rattle.batch_matrix.specs.declared.state.State.{State}
 use Rattle.batch_matrix.specs.declared.state.State.TheVariants.{Idle, Holding}
 use Rattle.batch_matrix.specs.declared.command.Command.{Command}
-use Rattle.batch_matrix.specs.declared.command.Command.TheVariants.{Start, Pause, Resume, Hold, Restart, Stop, Abort, Reset}
+use Rattle.batch_matrix.specs.declared.command.Command.TheVariants.{Hold}
 use Rattle.batch_matrix.specs.declared.report.Report.{Report}
 use Rattle.batch_matrix.specs.declared.report.PhaseEnd.{PhaseEnd}
 use Rattle.batch_matrix.specs.declared.report.PhaseEnd.TheVariants.{Ended, Now, Same}
-use Rattle.batch_matrix.specs.Matrix.{accepts, target, after_report}
+use Rattle.batch_matrix.specs.Matrix.{same_state, same_report, accepts, target, after_report}
 use Rattle.batch_recipe.specs.Conditions.{Name, ValueList, same_name}
 use Rattle.batch_recipe.specs.Values.{with_values, with_outputs_zero, are_outputs}
 use Rattle.batch_recipe.specs.Expanding.{Binding}
 use Rattle.batch_recipe.specs.WellFormed.{is_among, are_distinct}
 use Rattle.batch_recipe.specs.Tree.{Place}
-use Rattle.batch_recipe.specs.declared.scaling.TheConstants.{MAX_VALUE}
 use Rattle.batch_model.specs.Rest.{Rest, live, acts, reach, withdrawn}
 use Rattle.batch_model.specs.Plant.{Formula, size_out_of_range, value_out_of_range, scaled, Recipe, Role, Master, Setup, Batch, Share, Plant, batch_at, in_batch, in_act}
-use Rattle.batch_model.specs.Moves.{ended, next}
+use Rattle.batch_model.specs.Moves.{is_stopping, ended, next}
 use Rattle.batch_model.specs.declared.limits.TheConstants.{LAST_NUMBER}
 
 pub data Event : Type 0 where
@@ -102,39 +102,21 @@ binding plant master size pairs =
 
 -- Commands
 
--- the procedure is reached anew, and the outputs are 0
+-- the batch made anew, with its outputs 0
 abbrev pub reset : Batch → Batch
-reset batch =
-    let values = with_outputs_zero batch.recipe.outputs batch.values in
-    record batch { values = values; state = Idle; rest = reach values batch.recipe.procedure }
+reset batch = new_batch batch.number batch.recipe batch.size (with_outputs_zero batch.recipe.outputs batch.values)
 
-abbrev pub stopped : Command → Batch → Batch
-stopped command batch = record batch { state = target command; rest = withdrawn batch.rest }
-
--- the batch in the state to which the command leads
-abbrev pub in_target : Command → Batch → Batch
-in_target command batch = record batch { state = target command }
+-- the command leads on the way to Stopped or Aborted, where no ask is left
+abbrev pub ends_asks : Command → Bool
+ends_asks command = is_stopping (target command)
 
 -- the batch after a command that its state accepts
 abbrev pub commanded : Command → Batch → Batch
-commanded Start batch = in_target Start batch
-commanded Pause batch = in_target Pause batch
-commanded Resume batch = in_target Resume batch
-commanded Hold batch = in_target Hold batch
-commanded Restart batch = in_target Restart batch
-commanded Stop batch = stopped Stop batch
-commanded Abort batch = stopped Abort batch
-commanded Reset batch = reset batch
-
-abbrev pub ends_asks : Command → Bool
-ends_asks Start = false
-ends_asks Pause = false
-ends_asks Resume = false
-ends_asks Hold = false
-ends_asks Restart = false
-ends_asks Stop = true
-ends_asks Abort = true
-ends_asks Reset = false
+commanded command batch =
+    elim (same_state (target command) Idle) [
+      | true ↦ reset batch
+      | false ↦ record batch { state = target command; rest = elim (ends_asks command) [ true ↦ withdrawn batch.rest | false ↦ batch.rest ] }
+    ]
 
 -- the lines without the asks of the batch with this number, where the command ends them
 abbrev pub lines_under : Command → ℕ → (Name → List Share) → Name → List Share
@@ -158,10 +140,8 @@ without_batch number plant = record plant { batches = filter (λ batch. not (nat
 
 abbrev pub removing : Plant → Batch → Answer
 removing plant batch =
-    elim batch.state [
-      | Idle ↦ (removed batch.number, without_batch batch.number plant)
-      | state ↦ (refused (not_idle state), plant)
-    ]
+    elim (same_state batch.state Idle)
+    [ true ↦ (removed batch.number, without_batch batch.number plant) | false ↦ (refused (not_idle batch.state), plant) ]
 
 -- Reports
 
@@ -180,37 +160,21 @@ live_in batch unit name (_ ∷ more) = live_in batch unit name more
 
 abbrev pub live_phase : List Batch → Name → Name → Option LivePhase
 live_phase [] unit name = None
-live_phase (batch ∷ more) unit name =
-    elim (live_in batch unit name (acts batch.rest)) [ Some found ↦ Some found | None ↦ live_phase more unit name ]
-
-abbrev pub now : State → Rest → Rest
-now becomes (live step phase state) = live step phase becomes
-now becomes rest = rest
+live_phase (batch ∷ more) unit name = option_or (live_in batch unit name (acts batch.rest)) (live_phase more unit name)
 
 abbrev pub phase_after : PhaseEnd → Rest → Rest
 phase_after Ended rest = ended rest
-phase_after (Now becomes) rest = now becomes rest
 phase_after Same rest = rest
+phase_after (Now becomes) (live step phase state) = live step phase becomes
+phase_after (Now becomes) rest = rest
 
 -- a fault takes the batch to Holding where its state accepts hold
 abbrev pub batch_state_after : Report → State → State
-batch_state_after Report.Done state = state
-batch_state_after Report.Paused state = state
-batch_state_after Report.Held state = state
-batch_state_after Report.Running state = state
-batch_state_after Report.Stopped state = state
-batch_state_after Report.Aborted state = state
-batch_state_after Report.Fault state = elim (accepts state Hold) [ true ↦ Holding | false ↦ state ]
+batch_state_after word state = elim (same_report word Report.Fault && accepts state Hold) [ true ↦ Holding | false ↦ state ]
 
 -- the outputs of a report, which a phase that is done alone has
 abbrev pub outputs_of : Report → ValueList → ValueList
-outputs_of Report.Done outputs = outputs
-outputs_of Report.Paused outputs = []
-outputs_of Report.Held outputs = []
-outputs_of Report.Running outputs = []
-outputs_of Report.Stopped outputs = []
-outputs_of Report.Aborted outputs = []
-outputs_of Report.Fault outputs = []
+outputs_of word outputs = elim (same_report word Report.Done) [ true ↦ outputs | false ↦ [] ]
 
 -- the batch after a report: first the outputs are set, then the phase changes
 abbrev pub batch_reported : Report → ValueList → Place → PhaseEnd → Batch → Batch

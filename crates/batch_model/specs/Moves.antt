@@ -1,16 +1,18 @@
 -- trusted: the moves that a plant makes by itself: which are possible, which is next, and what each changes.
-use Rattle.std.specs.Prelude.{ℕ, zero, suc, pred, List, [], ◌∷◌, ◌++◌, length, map, filter, flat_map, Bool, true, false, ◌&&◌, ◌||◌, not, Option, Some, None, nat_le, ◌+◌, slice_get}
+use Rattle.std.specs.Prelude.{ℕ, zero, suc, pred, List, [], ◌∷◌, ◌++◌, length, map, find, flat_map, Bool, true, false, ◌&&◌, ◌||◌, Option, Some, None, option_map, option_and_then, option_to_list, nat_le, ◌+◌, slice_get}
 use Rattle.std.specs.List.{list_all, filter_map}
 use Rattle.batch_matrix.specs.declared.state.State.{State}
-use Rattle.batch_matrix.specs.declared.state.State.TheVariants.{Idle, Running, Pausing, Paused, Holding, Held, Restarting, Stopping, Stopped, Aborting, Aborted, Complete}
+use Rattle.batch_matrix.specs.declared.state.State.TheVariants.{Running, Pausing, Holding, Restarting, Stopping, Stopped, Aborting, Aborted, Complete}
 use Rattle.batch_matrix.specs.declared.command.Command.{Command}
 use Rattle.batch_matrix.specs.declared.command.Command.TheVariants.{Pause, Resume, Hold, Restart, Stop, Abort}
 use Rattle.batch_matrix.specs.Matrix.{same_state, accepts, target, ends_as}
-use Rattle.batch_recipe.specs.Conditions.{Name, ValueList, value_or_0, same_name}
+use Rattle.batch_recipe.specs.Conditions.{Name, ValueList, value_or_0}
 use Rattle.batch_recipe.specs.Tree.{Place, is_before, Step, Phase, Task, runs, follows}
 use Rattle.batch_recipe.specs.declared.need.Need.{Need}
 use Rattle.batch_model.specs.Rest.{Rest, ready, asking, open_act, live, freeing, done, is_done, acts, reach}
-use Rattle.batch_model.specs.Plant.{Setup, Batch, BatchAct, Share, units_in, Plant, is_same_act, in_batch, in_act, held_in, phase_states, holders}
+use Rattle.batch_model.specs.Plant.{Setup, Batch, BatchAct, Share, units_in, Plant, is_same_act, with_share, without_share, in_batch, in_act, held_in, phase_states, holders}
+-- the value where the test holds, as std has it
+pub use Rattle.std.specs.Bool.{then_some as when}
 
 -- a move is what its record line says: the number of its batch, mostly the place of an act, and what is done there
 pub data Move : Type 0 where
@@ -64,29 +66,16 @@ is_earlier move other = is_before (order_of move) (order_of other)
 
 -- What is possible
 
--- the command that a batch in this state passes on to its live phases
+-- the state of a batch, and the command that it passes on to its live phases
+abbrev pub passes : List (State × Command)
+passes =
+    (Running, Resume) ∷ (Pausing, Pause) ∷ (Holding, Hold) ∷ (Restarting, Restart) ∷ (Stopping, Stop) ∷ (Aborting, Abort) ∷ []
+
 abbrev pub passed_on : State → Option Command
-passed_on Running = Some Resume
-passed_on Pausing = Some Pause
-passed_on Holding = Some Hold
-passed_on Restarting = Some Restart
-passed_on Stopping = Some Stop
-passed_on Aborting = Some Abort
-passed_on Idle = None
-passed_on Paused = None
-passed_on Held = None
-passed_on Stopped = None
-passed_on Aborted = None
-passed_on Complete = None
+passed_on now = option_map (λ pair. pair.1) (find (λ pair. same_state pair.0 now) passes)
 
 abbrev pub is_running : State → Bool
 is_running now = same_state now Running
-
-abbrev pub is_paused : State → Bool
-is_paused now = same_state now Paused
-
-abbrev pub is_held : State → Bool
-is_held now = same_state now Held
 
 -- the batch is on its way to Stopped or Aborted
 abbrev pub is_stopping : State → Bool
@@ -103,46 +92,33 @@ is_empty (x ∷ xs) = false
 abbrev pub is_quiet : Rest → Bool
 is_quiet rest = is_empty (phase_states (acts rest))
 
--- what a batch in this state waits for has come about
+-- what a batch waits for that is to be in this state has come about: its procedure is finished; or no phase is live and nothing is
+-- held; or else all live phases are in that state
 abbrev pub is_reached : State → Rest → Bool
-is_reached Running rest = is_done rest
-is_reached Pausing rest = list_all is_paused (phase_states (acts rest))
-is_reached Holding rest = list_all is_held (phase_states (acts rest))
-is_reached Restarting rest = list_all is_running (phase_states (acts rest))
-is_reached Stopping rest = is_quiet rest && is_empty (held_in rest)
-is_reached Aborting rest = is_quiet rest && is_empty (held_in rest)
-is_reached Idle rest = false
-is_reached Paused rest = false
-is_reached Held rest = false
-is_reached Stopped rest = false
-is_reached Aborted rest = false
-is_reached Complete rest = false
+is_reached becomes rest =
+    elim (is_stopped becomes) [
+      | true ↦ is_quiet rest && is_empty (held_in rest)
+      | false ↦ elim (same_state becomes Complete) [ true ↦ is_done rest | false ↦ list_all (λ now. same_state now becomes) (phase_states (acts rest)) ]
+    ]
 
 -- the values that a phase is handed
 abbrev pub handed_values : ValueList → List Name → ValueList
 handed_values values names = map (λ name. (name, value_or_0 values name)) names
 
-abbrev pub when : Bool → Move → Option Move
-when true move = Some move
-when false move = None
+-- how an act begins that holds all its needs
+abbrev pub beginning : Batch → Step → Task → Move
+beginning batch step (runs phase) = start batch.number step.place phase (handed_values batch.values phase.handed)
+beginning batch step (follows name chart) = begin batch.number step.place name
 
 -- a ready act that holds all its needs begins, one that lacks a need asks for it
 abbrev pub entering : Batch → Step → Task → ℕ → Option Move
 entering batch step task held =
-    elim (slice_get step.needs held) [
-      | Some need ↦ Some (ask batch.number step.place need)
-      | None ↦
-          elim task [
-            | runs phase ↦ Some (start batch.number step.place phase (handed_values batch.values phase.handed))
-            | follows name chart ↦ Some (begin batch.number step.place name)
-          ]
-    ]
+    elim (slice_get step.needs held) [ Some need ↦ Some (ask batch.number step.place need) | None ↦ Some (beginning batch step task) ]
 
 -- the last of the needs that are held, so many of the first, is given back
 abbrev pub giving_back : Batch → Step → ℕ → Option Move
 giving_back batch step zero = None
-giving_back batch step (suc fewer) =
-    elim (slice_get step.needs fewer) [ None ↦ None | Some need ↦ Some (release batch.number step.place need) ]
+giving_back batch step (suc fewer) = option_map (release batch.number step.place) (slice_get step.needs fewer)
 
 -- as many units of the resource are free as are needed, and the act is first in its line
 abbrev pub is_served : Setup → Plant → Need → BatchAct → Bool
@@ -158,10 +134,8 @@ act_move setup plant batch (ready step task held) =
       | false ↦ elim (is_stopping batch.state && is_quiet batch.rest) [ true ↦ giving_back batch step held | false ↦ None ]
     ]
 act_move setup plant batch (asking step task held) =
-    elim (slice_get step.needs held) [
-      | None ↦ None
-      | Some need ↦ when (is_served setup plant need (batch.number, step.place)) (grant batch.number step.place need)
-    ]
+    option_and_then (λ need. when (is_served setup plant need (batch.number, step.place)) (grant batch.number step.place need))
+    (slice_get step.needs held)
 act_move setup plant batch (open_act step rest) =
     elim (is_stopping batch.state || is_stopped batch.state) [
       | false ↦ when (is_done rest) (end batch.number step.place)
@@ -170,26 +144,16 @@ act_move setup plant batch (open_act step rest) =
           [ true ↦ giving_back batch step (length step.needs) | false ↦ None ]
     ]
 act_move setup plant batch (live step phase now) =
-    elim (passed_on batch.state) [
-      | None ↦ None
-      | Some command ↦ when (accepts now command) (send batch.number step.place phase command)
-    ]
+    option_and_then (λ command. when (accepts now command) (send batch.number step.place phase command)) (passed_on batch.state)
 act_move setup plant batch (freeing step left) = giving_back batch step left
 act_move setup plant batch _ = None
 
 abbrev pub state_move : Batch → Option Move
 state_move batch =
-    elim (is_reached batch.state batch.rest) [
-      | false ↦ None
-      | true ↦ elim (ends_as batch.state) [ None ↦ None | Some becomes ↦ Some (state batch.number becomes) ]
-    ]
+    option_and_then (λ becomes. when (is_reached becomes batch.rest) (state batch.number becomes)) (ends_as batch.state)
 
 abbrev pub batch_moves : Setup → Plant → Batch → List Move
-batch_moves setup plant batch =
-    elim (state_move batch) [
-      | None ↦ filter_map (act_move setup plant batch) (acts batch.rest)
-      | Some move ↦ move ∷ filter_map (act_move setup plant batch) (acts batch.rest)
-    ]
+batch_moves setup plant batch = option_to_list (state_move batch) ++ filter_map (act_move setup plant batch) (acts batch.rest)
 
 abbrev pub possible : Setup → Plant → List Move
 possible setup plant = flat_map (batch_moves setup plant) plant.batches
@@ -250,12 +214,8 @@ act_after values (ask number place need) = asked
 act_after values (grant number place need) = granted
 
 abbrev pub line_after : Move → (Name → List Share) → Name → List Share
-line_after (ask number place need) line resource =
-    elim (same_name resource need.resource)
-    [ true ↦ line resource ++ record { act = (number, place); units = need.units } ∷ [] | false ↦ line resource ]
-line_after (grant number place need) line resource =
-    elim (same_name resource need.resource)
-    [ true ↦ filter (λ share. not (is_same_act share.act (number, place))) (line resource) | false ↦ line resource ]
+line_after (ask number place need) line resource = with_share resource (number, place) need (line resource)
+line_after (grant number place need) line resource = without_share resource (number, place) need (line resource)
 line_after _ line resource = line resource
 
 abbrev pub batch_after : Move → Batch → Batch

@@ -2,8 +2,7 @@
 use Rattle.std.specs.Prelude.{◌≡◌, ℕ, ◌+◌, List, [], ◌∷◌, true, ⊤}
 use Rattle.batch_model.specs.Lists.{Each}
 use Rattle.batch_recipe.specs.Tree.{Place, is_before, Task, runs, follows, Tree, act, skip, seq, par, sel, loop, Trees, no_trees, tree, Choices, otherwise, choice}
-use Rattle.batch_model.specs.Rest.{Rest}
-use Rattle.batch_model.specs.Plant.{place_of}
+use Rattle.batch_model.specs.Rest.{Rest, place_of}
 use Rattle.batch_recipe.specs.Nodes.{child}
 
 abbrev mutual

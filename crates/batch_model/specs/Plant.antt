@@ -1,12 +1,12 @@
 -- trusted: the plant: the batches, what each holds and asks for, and the lines in which the asks stand.
-use Rattle.std.specs.Prelude.{ℕ, List, [], ◌∷◌, take, map, filter, find, flat_map, sum_by, Bool, true, false, ◌&&◌, Option, None, nat_eq, slice_get}
+use Rattle.std.specs.Prelude.{ℕ, List, [], ◌∷◌, ◌++◌, take, map, filter, find, flat_map, sum_by, Bool, true, false, ◌&&◌, not, Option, None, nat_eq, slice_get}
 use Rattle.batch_matrix.specs.declared.state.State.{State}
 use Rattle.batch_recipe.specs.Conditions.{Name, ValueList}
 use Rattle.batch_recipe.specs.Tree.{Place, Tree}
 use Rattle.batch_recipe.specs.Conditions.{same_name}
 use Rattle.batch_recipe.specs.Expanding.{Binding}
 use Rattle.batch_recipe.specs.declared.need.Need.{Need}
-use Rattle.batch_model.specs.Rest.{same_place, Rest, ready, asking, open_act, live, freeing, acts, advance, changed_at}
+use Rattle.batch_model.specs.Rest.{same_place, Rest, ready, asking, open_act, live, freeing, acts, advance, changed_at, place_of}
 
 -- what a formula gives for a size: its values, or why it gives none
 pub data Formula : Type 0 where
@@ -86,6 +86,19 @@ opening = record { batches = []; next_number = 1; line = λ resource. [] }
 abbrev pub is_same_act : BatchAct → BatchAct → Bool
 is_same_act act other = nat_eq act.0 other.0 && same_place act.1 other.1
 
+-- the shares of a resource without those of the act
+abbrev pub without : BatchAct → List Share → List Share
+without act shares = filter (λ share. not (is_same_act share.act act)) shares
+
+-- the shares of a resource when the act's need has joined them, or left them, if it is of that resource
+
+abbrev pub with_share : Name → BatchAct → Need → List Share → List Share
+with_share resource act need shares =
+    elim (same_name resource need.resource) [ true ↦ shares ++ record { act = act; units = need.units } ∷ [] | false ↦ shares ]
+
+abbrev pub without_share : Name → BatchAct → Need → List Share → List Share
+without_share resource act need shares = elim (same_name resource need.resource) [ true ↦ without act shares | false ↦ shares ]
+
 abbrev pub batch_at : Plant → ℕ → Option Batch
 batch_at plant number = find (λ batch. nat_eq batch.number number) plant.batches
 
@@ -97,14 +110,6 @@ in_batch number change plant =
 -- the batch in which the act at this place has been changed, and its charts have gone on from there
 abbrev pub in_act : Place → (Rest → Rest) → Batch → Batch
 in_act place change batch = record batch { rest = advance batch.values (changed_at place change batch.rest) }
-
-abbrev pub place_of : Rest → Place
-place_of (ready step task granted) = step.place
-place_of (asking step task granted) = step.place
-place_of (open_act step rest) = step.place
-place_of (live step phase state) = step.place
-place_of (freeing step left) = step.place
-place_of _ = []
 
 -- what an act itself holds, in the order in which it asked for it
 abbrev pub held_by : Rest → List Need
@@ -134,15 +139,15 @@ phase_states (_ ∷ more) = phase_states more
 abbrev pub acts_of : Batch → List (ℕ × Rest)
 acts_of batch = map (λ act. (batch.number, act)) (acts batch.rest)
 
--- who holds how much of a resource: a share for each need by which an act holds it
+-- an act's shares of a resource: one for each need by which it holds it
+abbrev pub shares_held : Name → Batch → Rest → List Share
+shares_held resource batch act =
+    map (λ need. record { act = (batch.number, place_of act); units = need.units })
+    (filter (λ need. same_name resource need.resource) (held_by act))
+
+-- who holds how much of a resource
 abbrev pub holders : Plant → Name → List Share
-holders plant resource =
-    flat_map
-    (λ batch. flat_map
-    (λ act. map (λ need. record { act = (batch.number, place_of act); units = need.units })
-    (filter (λ need. same_name resource need.resource) (held_by act)))
-    (acts batch.rest))
-    plant.batches
+holders plant resource = flat_map (λ batch. flat_map (shares_held resource batch) (acts batch.rest)) plant.batches
 
 -- who asks for how much of a resource, in the order in which the asks came
 abbrev pub askers : Plant → Name → List Share

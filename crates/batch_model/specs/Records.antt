@@ -1,29 +1,25 @@
 -- trusted: what a record alone tells, and when it is safe.
-use Rattle.std.specs.Prelude.{◌≡◌, ◌⊎◌, ℕ, ◌≤◌, List, [], ◌∷◌, ◌++◌, filter, fold, Bool, true, false, not, IsTrue, ⊤, Option, Some, None, nat_eq}
+use Rattle.std.specs.Prelude.{◌≡◌, ◌⊎◌, ℕ, ◌≤◌, List, [], ◌∷◌, ◌++◌, filter, fold, Bool, true, false, ◌||◌, not, IsTrue, ⊤, Option, Some, None, nat_eq}
 use Rattle.batch_matrix.specs.declared.state.State.{State}
-use Rattle.batch_matrix.specs.declared.state.State.TheVariants.{Idle, Running, Pausing, Paused, Holding, Held, Restarting, Stopping, Stopped, Aborting, Aborted, Complete}
+use Rattle.batch_matrix.specs.declared.state.State.TheVariants.{Idle, Complete}
 use Rattle.batch_matrix.specs.declared.command.Command.TheVariants.{Stop, Abort}
 use Rattle.batch_matrix.specs.declared.report.Report.{Report}
+use Rattle.batch_matrix.specs.Matrix.{same_state, same_report}
 use Rattle.batch_model.specs.Lists.{Has, Each}
-use Rattle.batch_model.specs.Plant.{Setup, BatchAct, Share, units_in, acts_in, Plant, is_same_act, holders, askers}
-use Rattle.batch_model.specs.Moves.{state, release, start, ask, grant}
+use Rattle.batch_model.specs.Plant.{Setup, BatchAct, Share, units_in, acts_in, Plant, is_same_act, with_share, without_share, holders, askers}
+use Rattle.batch_model.specs.Moves.{state, release, start, ask, grant, is_stopped}
 use Rattle.batch_model.specs.Events.{created, ordered, reported}
 use Rattle.batch_model.specs.Runs.{Out, reply, move}
-use Rattle.batch_recipe.specs.Conditions.{Name, same_name}
+use Rattle.batch_recipe.specs.Conditions.{Name}
 use Rattle.batch_recipe.specs.Tree.{Place, Phase}
-
-abbrev pub without : BatchAct → List Share → List Share
-without act shares = filter (λ share. not (is_same_act share.act act)) shares
 
 abbrev pub without_batch : ℕ → List Share → List Share
 without_batch number shares = filter (λ share. not (nat_eq share.act.0 number)) shares
 
 -- a place of a batch holds its share of a resource from its grant to its release
 abbrev pub holders_after : Name → List Share → Out → List Share
-holders_after resource shares (move (grant number place need)) =
-    elim (same_name resource need.resource) [ true ↦ shares ++ record { act = (number, place); units = need.units } ∷ [] | false ↦ shares ]
-holders_after resource shares (move (release number place need)) =
-    elim (same_name resource need.resource) [ true ↦ without (number, place) shares | false ↦ shares ]
+holders_after resource shares (move (grant number place need)) = with_share resource (number, place) need shares
+holders_after resource shares (move (release number place need)) = without_share resource (number, place) need shares
 holders_after resource shares _ = shares
 
 abbrev pub holders_told : List Out → Name → List Share
@@ -31,10 +27,8 @@ holders_told outs resource = fold (holders_after resource) [] outs
 
 -- it waits from its ask to its grant, or to the next stop or abort of its batch
 abbrev pub waiters_after : Name → List Share → Out → List Share
-waiters_after resource shares (move (ask number place need)) =
-    elim (same_name resource need.resource) [ true ↦ shares ++ record { act = (number, place); units = need.units } ∷ [] | false ↦ shares ]
-waiters_after resource shares (move (grant number place need)) =
-    elim (same_name resource need.resource) [ true ↦ without (number, place) shares | false ↦ shares ]
+waiters_after resource shares (move (ask number place need)) = with_share resource (number, place) need shares
+waiters_after resource shares (move (grant number place need)) = without_share resource (number, place) need shares
 waiters_after resource shares (reply (ordered Stop number becomes)) = without_batch number shares
 waiters_after resource shares (reply (ordered Abort number becomes)) = without_batch number shares
 waiters_after resource shares _ = shares
@@ -48,13 +42,7 @@ pub record Active : Type 0 where
   pub phase : Phase
 
 abbrev pub ends_phase : Report → Bool
-ends_phase Report.Done = true
-ends_phase Report.Stopped = true
-ends_phase Report.Aborted = true
-ends_phase Report.Paused = false
-ends_phase Report.Held = false
-ends_phase Report.Running = false
-ends_phase Report.Fault = false
+ends_phase word = same_report word Report.Done || same_report word Report.Stopped || same_report word Report.Aborted
 
 -- a phase of a unit is active from its start to the report at its place that ends it
 abbrev pub active_after : List Active → Out → List Active
@@ -68,11 +56,10 @@ active_told outs = fold active_after [] outs
 
 -- a batch's state is the last one that a line tells
 abbrev pub state_after : ℕ → Option State → Out → Option State
-state_after number old (reply (created its_number recipe size roles)) = elim (nat_eq its_number number) [ true ↦ Some Idle | false ↦ old ]
-state_after number old (reply (ordered command its_number becomes)) = elim (nat_eq its_number number) [ true ↦ Some becomes | false ↦ old ]
-state_after number old (reply (reported unit name word its_number place becomes)) =
-    elim (nat_eq its_number number) [ true ↦ Some becomes | false ↦ old ]
-state_after number old (move (state its_number becomes)) = elim (nat_eq its_number number) [ true ↦ Some becomes | false ↦ old ]
+state_after number old (reply (created batch recipe size roles)) = elim (nat_eq batch number) [ true ↦ Some Idle | false ↦ old ]
+state_after number old (reply (ordered command batch becomes)) = elim (nat_eq batch number) [ true ↦ Some becomes | false ↦ old ]
+state_after number old (reply (reported unit name word batch place becomes)) = elim (nat_eq batch number) [ true ↦ Some becomes | false ↦ old ]
+state_after number old (move (state batch becomes)) = elim (nat_eq batch number) [ true ↦ Some becomes | false ↦ old ]
 state_after number old _ = old
 
 abbrev pub state_told : List Out → ℕ → Option State
@@ -151,19 +138,9 @@ IsChain scene (link ∷ following ∷ links) = IsLink scene link × StandsUnder 
 
 -- Safety
 
+-- the batch is complete, stopped or aborted
 abbrev pub IsAtRest : State → Type 0
-IsAtRest Complete = ⊤
-IsAtRest Stopped = ⊤
-IsAtRest Aborted = ⊤
-IsAtRest Idle = ⊥
-IsAtRest Running = ⊥
-IsAtRest Pausing = ⊥
-IsAtRest Paused = ⊥
-IsAtRest Holding = ⊥
-IsAtRest Held = ⊥
-IsAtRest Restarting = ⊥
-IsAtRest Stopping = ⊥
-IsAtRest Aborting = ⊥
+IsAtRest now = IsTrue (same_state now Complete || is_stopped now)
 
 -- the shares held of a resource are together no more than its capacity
 abbrev pub HasCapacity : Setup → List Out → Type 0
@@ -189,7 +166,7 @@ StartsIdle setup outs =
 abbrev pub HasNoCircle : List Out → Type 0
 HasNoCircle outs = (circle : List Waiting) → IsCircle (scene_told outs) circle → ⊥
 
--- a batch that is complete, stopped or aborted holds nothing and waits for nothing
+-- a batch that is at rest holds nothing and waits for nothing
 abbrev pub RestsEmpty : List Out → Type 0
 RestsEmpty outs =
     (number : ℕ) (now : State) → state_told outs number ≡ Some now → IsAtRest now

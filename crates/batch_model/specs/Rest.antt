@@ -90,15 +90,11 @@ turned values (suc turns) until body remaining =
 -- what remains once everything is reached that can be, and finished what is
 abbrev mutual
   pub advance : ValueList → Rest → Rest
-  advance values (ready step task granted) = ready step task granted
-  advance values (asking step task granted) = asking step task granted
   advance values (open_act step remaining) = open_act step (advance values remaining)
-  advance values (live step phase state) = live step phase state
-  advance values (freeing step left) = freeing step left
   advance values (in_seq remaining charts) = continued values (advance values remaining) charts
   advance values (in_par rests) = joined (advance_each values rests)
   advance values (in_loop turns until body remaining) = turned values turns until body (advance values remaining)
-  advance values done = done
+  advance values remaining = remaining
 
   pub advance_each : ValueList → Rests → Rests
   advance_each values no_rests = no_rests
@@ -107,38 +103,36 @@ abbrev mutual
 -- the acts that the charts have reached and that aren't finished, each as it stands, in the order of their places
 abbrev mutual
   pub acts : Rest → List Rest
-  acts (ready step task granted) = ready step task granted ∷ []
-  acts (asking step task granted) = asking step task granted ∷ []
   acts (open_act step remaining) = open_act step remaining ∷ acts remaining
-  acts (live step phase state) = live step phase state ∷ []
-  acts (freeing step left) = freeing step left ∷ []
   acts (in_seq remaining charts) = acts remaining
   acts (in_par rests) = acts_of_each rests
   acts (in_loop turns until body remaining) = acts remaining
   acts done = []
+  acts reached = reached ∷ []
 
   pub acts_of_each : Rests → List Rest
   acts_of_each no_rests = []
   acts_of_each (rest remaining rests) = acts remaining ++ acts_of_each rests
 
+abbrev pub place_of : Rest → Place
+place_of (ready step task granted) = step.place
+place_of (asking step task granted) = step.place
+place_of (open_act step remaining) = step.place
+place_of (live step phase state) = step.place
+place_of (freeing step left) = step.place
+place_of _ = []
+
 -- the rest in which the act at this place has been changed
 abbrev mutual
   pub changed_at : Place → (Rest → Rest) → Rest → Rest
-  changed_at place change (ready step task granted) =
-      elim (same_place step.place place) [ true ↦ change (ready step task granted) | false ↦ ready step task granted ]
-  changed_at place change (asking step task granted) =
-      elim (same_place step.place place) [ true ↦ change (asking step task granted) | false ↦ asking step task granted ]
   changed_at place change (open_act step remaining) =
       elim (same_place step.place place)
       [ true ↦ change (open_act step remaining) | false ↦ open_act step (changed_at place change remaining) ]
-  changed_at place change (live step phase state) =
-      elim (same_place step.place place) [ true ↦ change (live step phase state) | false ↦ live step phase state ]
-  changed_at place change (freeing step left) =
-      elim (same_place step.place place) [ true ↦ change (freeing step left) | false ↦ freeing step left ]
   changed_at place change (in_seq remaining charts) = in_seq (changed_at place change remaining) charts
   changed_at place change (in_par rests) = in_par (changed_in_each place change rests)
   changed_at place change (in_loop turns until body remaining) = in_loop turns until body (changed_at place change remaining)
   changed_at place change done = done
+  changed_at place change reached = elim (same_place (place_of reached) place) [ true ↦ change reached | false ↦ reached ]
 
   pub changed_in_each : Place → (Rest → Rest) → Rests → Rests
   changed_in_each place change no_rests = no_rests
@@ -147,15 +141,12 @@ abbrev mutual
 -- no ask is left: every act in line is ready again
 abbrev mutual
   pub withdrawn : Rest → Rest
-  withdrawn (ready step task granted) = ready step task granted
   withdrawn (asking step task granted) = ready step task granted
   withdrawn (open_act step remaining) = open_act step (withdrawn remaining)
-  withdrawn (live step phase state) = live step phase state
-  withdrawn (freeing step left) = freeing step left
   withdrawn (in_seq remaining charts) = in_seq (withdrawn remaining) charts
   withdrawn (in_par rests) = in_par (withdrawn_each rests)
   withdrawn (in_loop turns until body remaining) = in_loop turns until body (withdrawn remaining)
-  withdrawn done = done
+  withdrawn remaining = remaining
 
   pub withdrawn_each : Rests → Rests
   withdrawn_each no_rests = no_rests

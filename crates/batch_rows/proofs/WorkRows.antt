@@ -22,5 +22,5 @@ first_alone x y b h two not_first (inr (inr none)) one w = none
 
 -- a running batch without a live phase doesn't
 pub nothing_works : Works p0 nothing_is_live → ⊥
-nothing_works (inl halting) = halting
+nothing_works (inl halting) = absurd cc
 nothing_works (inr phase) = elim phase.3 [ inl e ↦ absurd cc | inr none ↦ absurd none ]

@@ -4,9 +4,10 @@ use Rattle.batch_matrix.specs.declared.state.State.{State}
 use Rattle.batch_matrix.specs.declared.state.State.TheVariants.{Idle, Running, Pausing, Paused, Holding, Held, Restarting, Stopping, Aborting, Complete}
 use Rattle.batch_matrix.specs.declared.command.Command.TheVariants.{Start, Pause, Resume, Hold, Stop, Abort}
 use Rattle.batch_matrix.specs.declared.report.Report.{Report}
+use Rattle.batch_matrix.specs.declared.report.PhaseEnd.TheVariants.{Now}
 use Rattle.batch_model.specs.Plant.{Plant, Batch, in_batch, in_act}
 use Rattle.batch_model.specs.Moves.{send, after}
-use Rattle.batch_model.specs.Events.{Event, create, order, now, react}
+use Rattle.batch_model.specs.Events.{Event, create, order, phase_after, react}
 use Rattle.batch_model.specs.ActStates.{state_of}
 use Rattle.batch_rows.specs.RowDocuments.{r1, add, heat, cell}
 use Rattle.batch_rows.specs.RowParts.{p0, p00, p000, p0000, p00000, p00001, create_a, add_done, says, on, settled_after}
@@ -16,7 +17,7 @@ abbrev pub plant_of_w : List Event → Plant
 plant_of_w es = settled_after cell (create (codes "W") 1000 [] ∷ order Start 1 ∷ es)
 
 abbrev pub with_states : State → State → State → Batch → Batch
-with_states batch first second b = record (in_act p00001 (now second) (in_act p00000 (now first) b)) { state = batch }
+with_states batch first second b = record (in_act p00001 (phase_after (Now second)) (in_act p00000 (phase_after (Now first)) b)) { state = batch }
 
 -- the same with the batch and both phases in these states
 abbrev pub plant_in : State → State → State → Plant

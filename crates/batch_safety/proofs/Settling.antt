@@ -1,5 +1,5 @@
 -- Where no move is possible: too little is free for the oldest ask, and chains are short.
-use Rattle.std.proofs.Common.{◌≡◌, refl, sym, ◌∙◌, ap, ap₂, subst, ℕ, suc, ◌+◌, nat_le, ◌≤◌, ◌<◌, arith, List, [], ◌∷◌, Bool, true, false, not, ◌&&◌, filter, filter_map, slice_get, Option, Some, None, inl, inr, length, bytes_eq}
+use Rattle.std.proofs.Common.{◌≡◌, refl, sym, ◌∙◌, ap, ap₂, subst, ℕ, suc, ◌+◌, nat_le, option_to_list, ◌++◌, ◌≤◌, ◌<◌, arith, List, [], ◌∷◌, Bool, true, false, not, ◌&&◌, filter, filter_map, slice_get, Option, Some, None, inl, inr, length, bytes_eq}
 use Rattle.std.specs.List.{cons_option}
 use Rattle.batch_model.specs.Lists.{Has}
 use Rattle.batch_recipe.specs.Conditions.{Name}
@@ -55,7 +55,7 @@ no_act_move d s e b i a j m f =
     subst (λ ms. Has ms m) (none_least (possible d s) e) (flat_map-Has (batch_moves d s) s.batches b m i (go (state_move b) here))
   where
     go : (o : Option Move) → Has (filter_map (act_move d s b) (acts b.rest)) m
-        → Has (elim o [ None ↦ filter_map (act_move d s b) (acts b.rest) | Some l ↦ l ∷ filter_map (act_move d s b) (acts b.rest) ]) m
+        → Has (option_to_list o ++ filter_map (act_move d s b) (acts b.rest)) m
     go None h = h
     go (Some l) h = inr h
 

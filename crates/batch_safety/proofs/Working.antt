@@ -5,9 +5,9 @@ use Rattle.batch_matrix.specs.declared.state.State.TheVariants.{Idle, Running, P
 use Rattle.batch_model.specs.Lists.{Has}
 use Rattle.batch_recipe.specs.Conditions.{Name}
 use Rattle.batch_recipe.specs.Tree.{Place, Step, Phase, Tree, act, seq, par, sel, loop, Task, runs, follows, Trees, no_trees, tree, Choices, otherwise, choice}
-use Rattle.batch_model.specs.Rest.{Rest, ready, asking, open_act, live, freeing, in_seq, in_par, in_loop, done, Rests, no_rests, rest, acts, acts_of_each, is_done, all_done}
-use Rattle.batch_model.specs.Plant.{Setup, Batch, BatchAct, Share, Plant, opening, place_of, holders}
-use Rattle.batch_model.specs.Moves.{Move, begin, start, end, ask, release, handed_values, entering, giving_back, when, is_running, is_stopping, is_stopped, is_quiet, is_empty, act_move, next}
+use Rattle.batch_model.specs.Rest.{Rest, ready, asking, open_act, live, freeing, in_seq, in_par, in_loop, done, Rests, no_rests, rest, acts, acts_of_each, is_done, all_done, place_of}
+use Rattle.batch_model.specs.Plant.{Setup, Batch, BatchAct, Share, Plant, opening, holders}
+use Rattle.batch_model.specs.Moves.{Move, begin, start, end, ask, release, handed_values, beginning, entering, giving_back, when, is_running, is_stopping, is_stopped, is_quiet, is_empty, act_move, next}
 use Rattle.batch_model.specs.Runs.{Out}
 use Rattle.batch_model.specs.Cleared.{is_procedure, IsCleared}
 use Rattle.batch_model.specs.Standing.{IsStandingBatch, IsStanding}
@@ -199,7 +199,7 @@ ready-moves d s b p w n run h = go (is_running b.state) run h
         → ◌≡◌ {A = Option Move}
         (elim o [
           | Some r ↦ Some (ask b.number p.place r)
-          | None ↦ elim v [ runs x ↦ Some (start b.number p.place x (handed_values b.values x.handed)) | follows name c ↦ Some (begin b.number p.place name) ]
+          | None ↦ Some (beginning b p v)
         ])
         (Some m)
         → ⊥)
@@ -345,14 +345,14 @@ module _ (d : Setup) (rank : Ranking) (outs : List Out) (s : Plant) (sd : IsStan
       go : (b : Batch) → Has s.batches b → b.number ≡ h.0 → Has (facts b.rest) (h.1, holding r) → (x : State) → b.state ≡ x → IsHalting x ⊎ LiveUnder b h.1
       go b i num f Running q = inr (let a = act-of b.rest h.1 (holding r) f in runs-on b i q h num a.0 a.1 a.2 none)
       go b i num f Idle q = absurd (subst (λ z. Has z (h.1, holding r)) (subst (λ z. IsFitting z (facts b.rest)) q (k.sound b i).fits) f)
-      go b i num f Pausing q = inl tt
-      go b i num f Paused q = inl tt
-      go b i num f Holding q = inl tt
-      go b i num f Held q = inl tt
-      go b i num f Restarting q = inl tt
-      go b i num f Stopping q = inl tt
+      go b i num f Pausing q = inl refl
+      go b i num f Paused q = inl refl
+      go b i num f Holding q = inl refl
+      go b i num f Held q = inl refl
+      go b i num f Restarting q = inl refl
+      go b i num f Stopping q = inl refl
       go b i num f Stopped q = absurd (subst (λ z. Has z (h.1, holding r)) (subst (λ z. IsFitting z (facts b.rest)) q (k.sound b i).fits) f)
-      go b i num f Aborting q = inl tt
+      go b i num f Aborting q = inl refl
       go b i num f Aborted q = absurd (subst (λ z. Has z (h.1, holding r)) (subst (λ z. IsFitting z (facts b.rest)) q (k.sound b i).fits) f)
       go b i num f Complete q = absurd (subst (λ z. Has z (h.1, holding r)) (subst (λ z. IsFitting z (facts b.rest)) q (k.sound b i).fits) f)
 

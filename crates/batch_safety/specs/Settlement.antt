@@ -1,7 +1,9 @@
 -- trusted: where no move is possible, whoever waits waits for something.
-use Rattle.std.specs.Prelude.{◌≡◌, ◌⊎◌, ◌≤◌, ◌<◌, ◌+◌, List, [], ◌∷◌, ◌++◌, length, None, ⊤}
+use Rattle.std.specs.Prelude.{◌≡◌, ◌⊎◌, ◌≤◌, ◌<◌, ◌+◌, List, [], ◌∷◌, ◌++◌, length, IsTrue, None}
+use Rattle.std.specs.List.{list_any}
 use Rattle.batch_matrix.specs.declared.state.State.{State}
-use Rattle.batch_matrix.specs.declared.state.State.TheVariants.{Idle, Running, Pausing, Paused, Holding, Held, Restarting, Stopping, Stopped, Aborting, Aborted, Complete}
+use Rattle.batch_matrix.specs.declared.state.State.TheVariants.{Pausing, Paused, Holding, Held, Restarting, Stopping, Aborting}
+use Rattle.batch_matrix.specs.Matrix.{same_state}
 use Rattle.batch_model.specs.Lists.{Has}
 use Rattle.batch_model.specs.Rest.{live, acts}
 use Rattle.batch_model.specs.Plant.{Setup, Batch, BatchAct, Share, units_in, Plant, opening, holders, askers}
@@ -16,18 +18,7 @@ use Rattle.batch_recipe.specs.Conditions.{Name}
 
 -- the batch isn't simply running
 abbrev pub IsHalting : State → Type 0
-IsHalting Pausing = ⊤
-IsHalting Paused = ⊤
-IsHalting Holding = ⊤
-IsHalting Held = ⊤
-IsHalting Restarting = ⊤
-IsHalting Stopping = ⊤
-IsHalting Aborting = ⊤
-IsHalting Idle = ⊥
-IsHalting Running = ⊥
-IsHalting Stopped = ⊥
-IsHalting Aborted = ⊥
-IsHalting Complete = ⊥
+IsHalting now = IsTrue (list_any (same_state now) (Pausing ∷ Paused ∷ Holding ∷ Held ∷ Restarting ∷ Stopping ∷ Aborting ∷ []))
 
 -- the batch of the act is halting, or a phase is live at or below it
 abbrev pub IsAtWork : Plant → BatchAct → Type 0

@@ -18,6 +18,7 @@ pub mod Verdicts
 pub mod Spots
 pub mod WayActs
 pub mod Alike
+pub mod Asking
 pub mod Stands
 pub mod Faults
 pub mod Paths

@@ -1,3 +1,4 @@
+pub mod Asking
 pub mod Bindings
 pub mod CertificateText
 pub mod Charts

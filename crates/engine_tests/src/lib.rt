@@ -28,6 +28,8 @@ mod paint;
 #[cfg(test)]
 mod paint_plant;
 #[cfg(test)]
+mod places;
+#[cfg(test)]
 mod record_lines;
 #[cfg(test)]
 mod records;

@@ -38,7 +38,7 @@ returns-in-Par c =
     let row = par-compiled _ _ _ _ _ c.requires.compiled c.in-Par.is c.requires.compiled.0 in
     record {
       passes = λ xs ws ms r s. (
-          let tells = over-tells _ _ _ _ _ _ _ row.1 (neat-under _ _ _ _ _ c.requires.compiled c.requires.above xs ms _ s) (told-under _ _ _ _ _ _ c.requires.compiled c.requires.above xs ws r) c.are_over-over.ensures in (
+          let tells = over-tells _ _ _ _ _ _ _ row.1 (neat-under _ _ _ _ _ c.requires.compiled c.requires.above xs ms _ s) (told-under _ _ _ _ _ _ c.requires.compiled c.requires.above xs ws r) c.has_none-over.ensures in (
             passed-par _ _ _ _ _ _ c.requires.compiled c.requires.above xs ws r _ _ _ (omega (arith, h, c.requires.compiled.0)) c.close.ensures c.in-Par.is
                 (left-at c.args.nodes.now c.args.stages.now c.args.p _ c.in-Par.is c.if-is_over_at.ensures) tells.1,
             neatly-par _ _ _ _ _ c.requires.compiled c.requires.above xs ms _ s c.in-Par.is _ _ _ (omega (arith, h, c.requires.compiled.0)) c.close.ensures tells.0,

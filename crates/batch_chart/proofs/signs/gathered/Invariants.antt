@@ -5,4 +5,4 @@ use Rattle.batch_chart.proofs.signs.gathered.Given as goal
 
 -- what isn't among the signs so far isn't among those of the nodes before
 abbrev pub invariant-loop-n : goal.invariant-loop-n
-invariant-loop-n l = (k wanted : ℕ) → l.fn.from ≤ k → k < l.n → bit_and l.signs wanted ≡ 0 → bit_and (sign_at l.fn.nodes k) wanted ≡ 0
+invariant-loop-n l = (k wanted : ℕ) → l.fn.from ≤ k → k < l.n → bit_and l.signs wanted ≡ 0 → bit_and (sign_at l.fn.parts k) wanted ≡ 0

@@ -31,7 +31,7 @@ pub loop-place-preserved : goal.loop-place-preserved
 loop-place-preserved c =
     let text = c.args.text.now in
     let place = c.loop-place.place in
-    after_next text place (state_view text place c.loop-place.state) (state_view text (place + 1) c.in-Ok.next) c.loop-place-test.true c.loop-place.invariant c.in-Ok.ensures
+    after_next text place (state_view text place c.loop-place.state) (state_view text (place + 1) c.step.new.state) c.loop-place-test.true c.loop-place.invariant c.in-Ok.ensures
 
 pub returns-in-Err-NotAChart-finish-clause-no_chart : goal.returns-in-Err-NotAChart-finish-clause-no_chart
 returns-in-Err-NotAChart-finish-clause-no_chart c n e =

@@ -18,14 +18,14 @@ returns-clause-phase c = (
 )
 
 pub returns-clause-batch : goal.returns-clause-batch
-returns-clause-batch c = (batch 1 Held (holds p0 (one_unit hdr) done), inl refl, refl, inl tt)
+returns-clause-batch c = (batch 1 Held (holds p0 (one_unit hdr) done), inl refl, refl, inl refl)
 
 -- no place below 0.0.0 is 0.0.1
 apart : (p : Step) → ◌≡◌ {A = Place} p001 p.place → (below : Place) → p000 ++ below ≡ p.place → ⊥
 apart p is below h = let same : p000 ++ below ≡ p001 = h ∙ sym is in absurd cc
 
 beside : Works p000 phase_beside → ⊥
-beside (inl halting) = halting
+beside (inl halting) = absurd cc
 beside (inr phase) =
     elim phase.3 [
       | inl e ↦ absurd cc

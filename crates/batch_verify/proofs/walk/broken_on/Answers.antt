@@ -22,7 +22,7 @@ no_entry = record { kind = kind.Skip; end = 0; parent = 0; child = 0 }
 
 pub bounds-faults-node : goal.bounds-faults-node
 bounds-faults-node c =
-    omega (arith, c.len-node.ensures, c.loop-entry.invariant.size, c.loop-entry-test.true, ap length c.deref-entry-items.ensures.value, as_many c.args.recipe.now, c.requires.as_many)
+    omega (arith, c.len-node.ensures, c.loop-entry.invariant.size, c.loop-entry-test.true, ap length c.deref-entry-items.ensures.value, as_many c.args.recipe.now, c.requires.faults.as_many)
 
 pub look-requires : goal.look-requires
 look-requires c =
@@ -37,9 +37,13 @@ look-requires c =
     let is : slice_get r.outline.entries.items n ≡ Some entry =
     ap (λ xs. slice_get xs n) (sym c.deref-entry-items.ensures.value) ∙ slice_get-get_or c.deref-entry-items.result.now n no_entry c.loop-entry-test.true in
     let above = c.path_above-above.result in
-    number_above cell ranking bound r paths n h entry is above
-    (λ q q_is. c.path_above-above.ensures.some q (ap (λ xs. slice_get xs entry.parent) c.deref-in-loop-entry.ensures.value ∙ q_is))
-    (λ past. c.path_above-above.ensures.none (omega (arith, past, ap length c.deref-in-loop-entry.ensures.value)))
+    record {
+      asks = c.requires.asks;
+      unit =
+          number_above cell ranking bound r paths n h entry is above
+          (λ q q_is. c.path_above-above.ensures.some q (ap (λ xs. slice_get xs entry.parent) c.deref-in-loop-entry.ensures.value ∙ q_is))
+          (λ past. c.path_above-above.ensures.none (omega (arith, past, ap length c.deref-in-loop-entry.ensures.value)));
+    }
 
 pub returns-in-Err : goal.returns-in-Err
 returns-in-Err c = λ recipes.
@@ -58,12 +62,12 @@ returns-in-Err c = λ recipes.
     let fault : Option Rule = get_or c.args.faults.now c.len-node.result None in
     let fault_is : slice_get c.args.faults.now n ≡ Some fault =
     ap (slice_get c.args.faults.now) node ∙ slice_get-get_or c.args.faults.now c.len-node.result None
-    (omega (arith, node, c.loop-entry-test.true, ap length c.deref-entry-items.ensures.value, as_many r, c.requires.as_many)) in
+    (omega (arith, node, c.loop-entry-test.true, ap length c.deref-entry-items.ensures.value, as_many r, c.requires.faults.as_many)) in
     let entered = subst (λ (roles : List Role). (a : Act) → act_of r.acts entry.kind ≡ Some a → (level : Level) → IsEntered cell (numbered cell roles c.args.binding) ranking level above a (Err c.in-Err.rule))
     c.deref.ensures.value c.in-Err.ensures.act in
     let some = (λ (q : Path) (q_is : slice_get paths entry.parent ≡ Some q). c.path_above-above.ensures.some q (ap (λ xs. slice_get xs entry.parent) c.deref-in-loop-entry.ensures.value ∙ q_is)) in
     let none = (λ (past : length paths ≤ entry.parent). c.path_above-above.ensures.none (omega (arith, past, ap length c.deref-in-loop-entry.ensures.value))) in
-    let known = fault_known cell ranking bound r paths n h entry is above some none c.args.faults.now c.requires fault fault_is in
+    let known = fault_known cell ranking bound r paths n h entry is above some none c.args.faults.now c.requires.faults fault fault_is in
     let broken = looked cell ranking bound r paths n h entry is above some none (Err c.in-Err.rule) fault known entered c.in-Err.ensures.chart in
     let at : 0 + n ≡ c.len-node.result = omega (arith, node) in
     subst (λ k. IsFirstBroken (setup_of cell recipes) ranking (bound_parts bound r.acts) 0 (record { node = k; rule = c.in-Err.rule })) at
@@ -86,12 +90,12 @@ loop-entry-preserved c =
     let fault : Option Rule = get_or c.args.faults.now c.len-node.result None in
     let fault_is : slice_get c.args.faults.now n ≡ Some fault =
     ap (slice_get c.args.faults.now) node ∙ slice_get-get_or c.args.faults.now c.len-node.result None
-    (omega (arith, node, c.loop-entry-test.true, ap length c.deref-entry-items.ensures.value, as_many r, c.requires.as_many)) in
+    (omega (arith, node, c.loop-entry-test.true, ap length c.deref-entry-items.ensures.value, as_many r, c.requires.faults.as_many)) in
     let entered = subst (λ (roles : List Role). (a : Act) → act_of r.acts entry.kind ≡ Some a → (level : Level) → IsEntered cell (numbered cell roles c.args.binding) ranking level above a (Ok c.in-Ok.path))
     c.deref.ensures.value c.in-Ok.ensures.act in
     let some = (λ (q : Path) (q_is : slice_get paths entry.parent ≡ Some q). c.path_above-above.ensures.some q (ap (λ xs. slice_get xs entry.parent) c.deref-in-loop-entry.ensures.value ∙ q_is)) in
     let none = (λ (past : length paths ≤ entry.parent). c.path_above-above.ensures.none (omega (arith, past, ap length c.deref-in-loop-entry.ensures.value))) in
-    let known = fault_known cell ranking bound r paths n h entry is above some none c.args.faults.now c.requires fault fault_is in
+    let known = fault_known cell ranking bound r paths n h entry is above some none c.args.faults.now c.requires.faults fault fault_is in
     let good = looked cell ranking bound r paths n h entry is above some none (Ok c.in-Ok.path) fault known entered c.in-Ok.ensures.chart in
     rw c.in_ok-push-in-Ok.ensures.items (KeepsPaths-more cell ranking bound r paths n h entry is above some none c.in-Ok.path good c.in-Ok.ensures.number)
 

@@ -6,6 +6,14 @@ use Rattle.batch_verify.proofs.walk.look.Goals as goal
 some_is : (a b : Act) → Some a ≡ Some b → a ≡ b
 some_is a b e = cc
 
+pub enter-requires : goal.enter-requires
+enter-requires c =
+    let site = c.args.site.now in
+    record {
+      unit = c.requires.unit;
+      asks = c.of.ensures site.cell.now (ranks_on site) site.acts.now c.in-Some.act.now c.requires.asks (sym c.act.ensures ∙ ap option_copied c.in-Some.is);
+    }
+
 pub returns-in-Some-clause-act : goal.returns-in-Some-clause-act
 returns-in-Some-clause-act c = λ a is level.
     let site = c.args.site.now in

@@ -1,0 +1,15 @@
+use Rattle.std.specs.Prelude.{◌≤◌, ◌<◌, ℕ}
+use Rattle.batch_recipe.specs.Tree.{Tree}
+use Rattle.batch_chart.specs.Charts.{AsksAt, IsChartOf, IsRunningOf, remains}
+use Rattle.batch_chart.specs.Running.{IsAlive}
+use Rattle.batch_chart.proofs.Runs.{some-map}
+use Rattle.batch_chart.proofs.running.Running.waiting.Goals as goal
+
+pub returns-clause-before : goal.returns-clause-before
+returns-clause-before c =
+    some-map (λ (w : ℕ × ℕ). (t : Tree) → IsChartOf t c.args.chart.now → IsAlive t c.args.self.now.stages.items
+    → (k i : ℕ) → c.args.from ≤ k → k < w.0 → AsksAt t (remains t c.args.self.now) k i → ⊥)
+    (λ (w : ℕ × ℕ). (t : Tree) → IsChartOf t c.args.chart.now → IsRunningOf t c.args.self.now
+    → (k i : ℕ) → c.args.from ≤ k → k < w.0 → AsksAt t (remains t c.args.self.now) k i → ⊥)
+    (λ w h t laid old. h t laid old.alive) c.next_waiting.result
+    (rw (c.deref.ensures.value, c.deref-2.ensures.value, c.deref-3.ensures.value) at c.next_waiting.ensures).before
