@@ -1,3 +1,4 @@
+use crate::expected::assert_told;
 use batch_text::{Name, Place, TextFault, is_name, is_name_byte, read_number};
 use std::alloc::Global;
 use std::collections::HashSet;
@@ -12,11 +13,19 @@ fn is_read(alloc: Global, text: &str) -> Result<bool, Fail> {
 
 #[test]
 fn reads_names(rt: HostRuntime) -> Result<(), Fail> {
-    let alloc = rt.alloc();
-    assert!(rt; is_read(alloc, "A")?);
-    assert!(rt; is_read(alloc, "R1_a-9")?);
-    assert!(rt; is_read(alloc, "abcdefghijklmnopqrstuvwxyz_-0189")?);
+    let texts = ["A", "R1_a-9", "abcdefghijklmnopqrstuvwxyz_-0189"];
+    assert_eq!(rt; read_otherwise(rt.alloc(), &texts)?, None);
     Ok(())
+}
+
+/// The first text that isn't read so.
+fn read_otherwise(alloc: Global, texts: &[&'static str]) -> Result<Option<&'static str>, Fail> {
+    for text in texts {
+        if !is_read(alloc, text)? {
+            return Ok(Some(text));
+        }
+    }
+    Ok(None)
 }
 
 #[test]
@@ -75,13 +84,34 @@ fn printed(alloc: Global, name: &[u8]) -> Result<String, Fail> {
 #[test]
 fn names_compare_as_their_bytes(rt: HostRuntime) -> Result<(), Fail> {
     let alloc = rt.alloc();
-    assert_eq!(rt; compared(alloc, b"ADD", b"ADDS")?, (true, false));
-    assert_eq!(rt; compared(alloc, b"ADDS", b"HEAT")?, (true, false));
-    assert_eq!(rt; compared(alloc, b"HEAT", b"ADD")?, (false, false));
-    assert_eq!(rt; compared(alloc, b"HEAT", b"HEAT")?, (false, true));
-    assert!(rt; is_found(alloc, b"ADD", b"ADD")? && !is_found(alloc, b"ADD", b"HEAT")?);
-    assert_eq!(rt; printed(alloc, b"ADDS")?.as_str(), "ADDS \"ADDS\"");
-    Ok(())
+    assert_eq!(rt; compared_otherwise(alloc, &COMPARED)?, None);
+    assert_eq!(rt; found_and_not(alloc)?, (true, false));
+    assert_told(&rt, printed(alloc, b"ADDS"), "ADDS \"ADDS\"")
+}
+
+/// Two names, whether the first is less than the second, and whether they are equal.
+type Compared = (&'static [u8], &'static [u8], (bool, bool));
+
+const COMPARED: [Compared; 4] = [
+    (b"ADD", b"ADDS", (true, false)),
+    (b"ADDS", b"HEAT", (true, false)),
+    (b"HEAT", b"ADD", (false, false)),
+    (b"HEAT", b"HEAT", (false, true)),
+];
+
+/// The first of two names that don't compare so.
+fn compared_otherwise(alloc: Global, cases: &[Compared]) -> Result<Option<&'static [u8]>, Fail> {
+    for (first, second, want) in cases {
+        if compared(alloc, first, second)? != *want {
+            return Ok(Some(first));
+        }
+    }
+    Ok(None)
+}
+
+fn found_and_not(alloc: Global) -> Result<(bool, bool), Fail> {
+    let is_there = is_found(alloc, b"ADD", b"ADD")?;
+    Ok((is_there, is_found(alloc, b"ADD", b"HEAT")?))
 }
 
 #[test]
@@ -126,20 +156,40 @@ fn refuses_what_is_no_number(rt: HostRuntime) {
 #[test]
 fn reads_places(rt: HostRuntime) -> Result<(), Fail> {
     let alloc = rt.alloc();
-    let cases: [(&[u8], &[u16]); 4] = [
-        (b"0", &[0]),
-        (b"0.0.1", &[0, 0, 1]),
-        (b"0.4095.17", &[0, 4095, 17]),
-        (b"0.0000000000000000012", &[0, 12]),
-    ];
-    for (bytes, numbers) in cases {
-        let place = Place::read(alloc, bytes)?;
-        assert!(rt; place.numbers() == numbers, "{bytes:?}");
-        assert!(rt; place == Place::read(alloc, bytes)?, "{bytes:?}");
-    }
-    assert!(rt; Place::read(alloc, b"0.1")? != Place::read(alloc, b"0.2")?);
+    assert_eq!(rt; placed_otherwise(alloc, &PLACES)?, None);
+    assert!(rt; !are_equal(alloc, b"0.1", b"0.2")?);
     assert_eq!(rt; numbers_of_zeros(alloc, 100)?, 100);
     Ok(())
+}
+
+/// Places, and their numbers.
+const PLACES: [(&[u8], &[u16]); 4] = [
+    (b"0", &[0]),
+    (b"0.0.1", &[0, 0, 1]),
+    (b"0.4095.17", &[0, 4095, 17]),
+    (b"0.0000000000000000012", &[0, 12]),
+];
+
+fn are_equal(alloc: Global, first: &[u8], second: &[u8]) -> Result<bool, Fail> {
+    let first = Place::read(alloc, first)?;
+    Ok(first == Place::read(alloc, second)?)
+}
+
+fn has_numbers(alloc: Global, bytes: &[u8], numbers: &[u16]) -> Result<bool, Fail> {
+    Ok(Place::read(alloc, bytes)?.numbers() == numbers)
+}
+
+/// The first place that hasn't these numbers, or isn't what is read of it again.
+fn placed_otherwise(
+    alloc: Global,
+    cases: &[(&'static [u8], &[u16])],
+) -> Result<Option<&'static [u8]>, Fail> {
+    for (bytes, numbers) in cases {
+        if !has_numbers(alloc, bytes, numbers)? || !are_equal(alloc, bytes, bytes)? {
+            return Ok(Some(bytes));
+        }
+    }
+    Ok(None)
 }
 
 #[test]

@@ -18,22 +18,42 @@ fn looks_labels_up(rt: HostRuntime) -> Result<(), Fail> {
     assert_told(
         &rt,
         tables_told(rt.alloc()),
-        "Some(\"MAKE\") false, Some(\"CHARGE\") false, Some(\"ADD\") true",
+        "[(Some(\"MAKE\"), false), (Some(\"CHARGE\"), false), (Some(\"ADD\"), true)]",
     )
 }
 
 /// The first act of each table, and whether HEAT is looked up there.
 fn tables_told(alloc: Global) -> Result<String, Fail> {
-    let heat = Name::read(alloc, b"HEAT")?;
-    let acts = acts(alloc, label(alloc, b"MAKE")?, label(alloc, b"ADD")?)?;
-    let unit_procedures = table_told(alloc, acts.table(Level::UnitProcedures), &heat)?;
-    let operations = table_told(alloc, acts.table(Level::Operations), &heat)?;
-    let phases = table_told(alloc, acts.table(Level::Phases), &heat)?;
-    Ok(format!(in alloc; "{unit_procedures}, {operations}, {phases}")?)
+    let charge = label(alloc, b"ADD")?;
+    let acts = acts_with(alloc, charge)?;
+    tell_tables(alloc, &acts)
 }
 
-fn table_told(alloc: Global, table: &[Act], name: &Name) -> Result<String, AllocError> {
-    format!(in alloc; "{:?} {}", first_name(table), has_act(table, name))
+fn tell_tables(alloc: Global, acts: &Acts) -> Result<String, Fail> {
+    let heat = Name::read(alloc, b"HEAT")?;
+    Ok(rows_told(alloc, rows(acts, &heat))?)
+}
+
+fn rows<'a>(acts: &'a Acts, name: &Name) -> [(Option<&'a str>, bool); 3] {
+    [
+        row(acts.table(Level::UnitProcedures), name),
+        row(acts.table(Level::Operations), name),
+        row(acts.table(Level::Phases), name),
+    ]
+}
+
+fn row<'a>(table: &'a [Act], name: &Name) -> (Option<&'a str>, bool) {
+    (first_name(table), has_act(table, name))
+}
+
+fn rows_told(alloc: Global, rows: [(Option<&str>, bool); 3]) -> Result<String, AllocError> {
+    format!(in alloc; "{rows:?}")
+}
+
+/// A procedure that follows MAKE, whose operation has this chart.
+fn acts_with(alloc: Global, charge: Chart) -> Result<Acts, Fail> {
+    let procedure = label(alloc, b"MAKE")?;
+    acts(alloc, procedure, charge)
 }
 
 fn has_act(table: &[Act], name: &Name) -> bool {
@@ -59,17 +79,26 @@ fn counts_branches(rt: HostRuntime) -> Result<(), Fail> {
 
 #[test]
 fn counts_up_to_the_limit(rt: HostRuntime) -> Result<(), Fail> {
-    let alloc = rt.alloc();
-    let most = Chart::Seq(labels(alloc, b"MAKE", 23)?);
-    assert_eq!(rt;
-        count(alloc, most, Chart::Seq(labels(alloc, b"ADD", 175)?))?,
-        Some(4_096)
-    );
+    assert_eq!(rt; count_of_most(rt.alloc())?, Some(4_096));
+    assert_eq!(rt; count_of_more(rt.alloc())?, None);
+    Ok(())
+}
+
+fn count_of_most(alloc: Global) -> Result<Option<u16>, Fail> {
+    let parts = labels(alloc, b"MAKE", 23)?;
+    count_with_most(alloc, parts)
+}
+
+/// One node more, which is a `skip`.
+fn count_of_more(alloc: Global) -> Result<Option<u16>, Fail> {
     let mut parts = labels(alloc, b"MAKE", 23)?;
     parts.push(Chart::Skip)?;
-    let charge = Chart::Seq(labels(alloc, b"ADD", 175)?);
-    assert_eq!(rt; count(alloc, Chart::Seq(parts), charge)?, None);
-    Ok(())
+    count_with_most(alloc, parts)
+}
+
+fn count_with_most(alloc: Global, parts: Vec<Chart>) -> Result<Option<u16>, Fail> {
+    let charge = labels(alloc, b"ADD", 175)?;
+    count(alloc, Chart::Seq(parts), Chart::Seq(charge))
 }
 
 fn first_name(table: &[Act]) -> Option<&str> {
@@ -78,7 +107,8 @@ fn first_name(table: &[Act]) -> Option<&str> {
 
 /// The nodes where the procedure follows MAKE, and its operation this chart.
 fn count_of(alloc: Global, charge: Chart) -> Result<Option<u16>, Fail> {
-    count(alloc, label(alloc, b"MAKE")?, charge)
+    let acts = acts_with(alloc, charge)?;
+    Ok(nodes_of(alloc, &acts)?)
 }
 
 fn count(alloc: Global, procedure: Chart, charge: Chart) -> Result<Option<u16>, Fail> {
@@ -140,12 +170,32 @@ fn unit_procedures(alloc: Global) -> Result<Vec<Act>, Fail> {
 /// A procedure, MAKE on R1 with CHARGE, and the phases ADD and HEAT.
 fn acts(alloc: Global, procedure: Chart, charge: Chart) -> Result<Acts, Fail> {
     let operations = table(alloc, b"CHARGE", None, charge)?;
+    acts_over(alloc, procedure, operations)
+}
+
+// One part is made in each function: with four at once a proof would carry each of them through the others' `?`.
+
+fn acts_over(alloc: Global, procedure: Chart, operations: Vec<Act>) -> Result<Acts, Fail> {
     let procedure = act(alloc, b"A", None, procedure)?;
+    acts_below(alloc, procedure, operations)
+}
+
+fn acts_below(alloc: Global, procedure: Act, operations: Vec<Act>) -> Result<Acts, Fail> {
+    let phases = phases(alloc)?;
+    acts_of(alloc, procedure, operations, phases)
+}
+
+fn acts_of(
+    alloc: Global,
+    procedure: Act,
+    operations: Vec<Act>,
+    phases: Vec<Act>,
+) -> Result<Acts, Fail> {
     let unit_procedures = unit_procedures(alloc)?;
     Ok(Acts {
         procedure,
         unit_procedures,
         operations,
-        phases: phases(alloc)?,
+        phases,
     })
 }

@@ -53,19 +53,44 @@ fn all_compared() -> [(bool, bool, bool); 6] {
 
 #[test]
 fn holds_by_the_values(rt: HostRuntime) -> Result<(), Fail> {
-    let alloc = rt.alloc();
-    let entries = vec![in alloc;
-        (Name::read(alloc, b"X")?, 1),
-        (Name::read(alloc, b"Y")?, 3),
-    ]?;
-    let values = Values::new(entries);
-    assert_eq!(rt; value_of(alloc, &values, "Y")?, Some(3));
-    assert_eq!(rt; value_of(alloc, &values, "Z")?, None);
-    assert!(rt; holds(alloc, &values, Op::Equal, Term::Number(1))?);
-    assert!(rt; !holds(alloc, &values, Op::Greater, Term::Number(1))?);
-    let other = Term::Named(Name::read(alloc, b"Y")?);
-    assert!(rt; holds(alloc, &values, Op::Less, other)?);
+    assert_eq!(rt; looked_up(rt.alloc())?, (Some(3), None));
+    assert_eq!(rt; held(rt.alloc())?, (true, false, true));
     Ok(())
+}
+
+/// X of 1, and Y of 3.
+fn values(alloc: Global) -> Result<Values, Fail> {
+    let first = Name::read(alloc, b"X")?;
+    let second = Name::read(alloc, b"Y")?;
+    Ok(Values::new(vec![in alloc; (first, 1), (second, 3)]?))
+}
+
+/// The values of Y and Z.
+fn looked_up(alloc: Global) -> Result<(Option<u64>, Option<u64>), Fail> {
+    let values = values(alloc)?;
+    looked_up_in(alloc, &values)
+}
+
+fn looked_up_in(alloc: Global, values: &Values) -> Result<(Option<u64>, Option<u64>), Fail> {
+    let known = value_of(alloc, values, "Y")?;
+    Ok((known, value_of(alloc, values, "Z")?))
+}
+
+/// Whether X is 1, whether it is more than 1, and whether it is less than Y.
+fn held(alloc: Global) -> Result<(bool, bool, bool), Fail> {
+    let values = values(alloc)?;
+    held_in(alloc, &values)
+}
+
+fn held_in(alloc: Global, values: &Values) -> Result<(bool, bool, bool), Fail> {
+    let equal = holds(alloc, values, Op::Equal, Term::Number(1))?;
+    let greater = holds(alloc, values, Op::Greater, Term::Number(1))?;
+    Ok((equal, greater, is_below_other(alloc, values)?))
+}
+
+fn is_below_other(alloc: Global, values: &Values) -> Result<bool, Fail> {
+    let other = Term::Named(Name::read(alloc, b"Y")?);
+    holds(alloc, values, Op::Less, other)
 }
 
 fn value_of(alloc: Global, values: &Values, name: &str) -> Result<Option<u64>, Fail> {
