@@ -8,7 +8,7 @@ use Rattle.std.proofs.lemmas.List.Sums.{sum_by_push}
 use Rattle.std.proofs.Math.Seq.{take-set-lt}
 use Rattle.batch_arbiter.specs.Allocation.{Claim, Allocation, is_claim, held_units, without_first, shares_of, line_of, next_in, next_grant, idle, asked, granted, released}
 use Rattle.batch_arbiter.specs.Linked.{Lists, list_at, with_list}
-use Rattle.batch_arbiter.specs.Standing.{seen, IsSound}
+use Rattle.batch_arbiter.specs.Standing.{seen, StandsInPool}
 
 pub shares-seen : (capacities : List ℕ) (p : Lists) (r : ℕ) → r < length capacities → shares_of (seen capacities p) r ≡ list_at p r
 shares-seen capacities p r h = get_or-take (length capacities) p.lists r [] h
@@ -50,7 +50,7 @@ seen-new capacities p m twice new =
     ∙ ap (λ xs. record { capacities = capacities; shares = xs; lines = drop (length capacities) (replicate m []); room = 0 }) (take-replicate (length capacities) m [] (omega arith))
     ∙ ap (λ xs. record { capacities = capacities; shares = replicate (length capacities) []; lines = xs; room = 0 }) (drop-replicate (length capacities) m [] ∙ ap (λ n. replicate n []) less)
 
-pub IsSound-new : (capacities held : List ℕ) (p : Lists) (m : ℕ) → held ≡ replicate (length capacities) 0 → m ≡ length capacities + length capacities → p ≡ record { lists = replicate m []; room = 0 } → All (λ c. c < 2 ^ 32) capacities → IsSound capacities held p
+pub IsSound-new : (capacities held : List ℕ) (p : Lists) (m : ℕ) → held ≡ replicate (length capacities) 0 → m ≡ length capacities + length capacities → p ≡ record { lists = replicate m []; room = 0 } → All (λ c. c < 2 ^ 32) capacities → StandsInPool capacities held p
 IsSound-new capacities held p m none twice new counted =
     let at_held : (r : ℕ) → r < length capacities → slice_index held r ≡ 0 = λ r h. ap (λ xs. slice_index xs r) none ∙ get_or-replicate (length capacities) r 0 0 h in
     let at_list : (r : ℕ) → r < length capacities → list_at p r ≡ [] = λ r h. ap (λ x. list_at x r) new ∙ get_or-replicate m r [] [] (omega (arith, twice, h)) in
@@ -74,7 +74,7 @@ next-free capacity shares (d ∷ later) c e = go (nat_le (held_units shares + d.
     go false t h = absurd (let no : ⊥ = cc in no)
 
 -- the oldest ask leaves its line and joins the shares
-module _ (capacities held : List ℕ) (p q s : Lists) (r : ℕ) (c : Claim) (known : r < length capacities) (sound : IsSound capacities held p) (next : next_grant (seen capacities p) r ≡ Some c) (left : q ≡ with_list p (length capacities + r) (drop 1 (list_at p (length capacities + r))) (p.room + 1)) (joined : s ≡ with_list q r (list_at q r ++ c ∷ []) (q.room - 1)) where
+module _ (capacities held : List ℕ) (p q s : Lists) (r : ℕ) (c : Claim) (known : r < length capacities) (sound : StandsInPool capacities held p) (next : next_grant (seen capacities p) r ≡ Some c) (left : q ≡ with_list p (length capacities + r) (drop 1 (list_at p (length capacities + r))) (p.room + 1)) (joined : s ≡ with_list q r (list_at q r ++ c ∷ []) (q.room - 1)) where
   same_shares : (k : ℕ) → k < length capacities → list_at q k ≡ list_at p k
   same_shares k h = ap (λ x. list_at x k) left ∙ get_or-set_other p.lists (length capacities + r) k (drop 1 (list_at p (length capacities + r))) [] (omega arith)
 
@@ -122,7 +122,7 @@ module _ (capacities held : List ℕ) (p q s : Lists) (r : ℕ) (c : Claim) (kno
   within_at : (k : ℕ) → k ≡ r → slice_index (set held r (slice_index held r + c.units)) k ≤ slice_index capacities k
   within_at k e = subst (λ (x : ℕ). slice_index (set held r (slice_index held r + c.units)) x ≤ slice_index capacities x) (sym e) (omega (arith, held_r, fits))
 
-  pub IsSound-grant : IsSound capacities (set held r (slice_index held r + c.units)) s
+  pub IsSound-grant : StandsInPool capacities (set held r (slice_index held r + c.units)) s
   IsSound-grant = record {
     twice = omega (arith, ap (λ (x : Lists). length x.lists) joined, length-set q.lists r (list_at q r ++ c ∷ []), ap (λ (x : Lists). length x.lists) left, length-set p.lists (length capacities + r) (drop 1 (list_at p (length capacities + r))), sound.twice);
     counts = length-set held r (slice_index held r + c.units) ∙ sound.counts;

@@ -5,7 +5,7 @@ use Rattle.std.proofs.lemmas.List.{length-append, length-map, length-drop, lengt
 use Rattle.std.proofs.lemmas.List.Sums.{sum_by_more}
 use Rattle.batch_arbiter.specs.Allocation.{Claim, held_units, withdrawn}
 use Rattle.batch_arbiter.specs.Linked.{Lists, list_at, with_list}
-use Rattle.batch_arbiter.specs.Standing.{seen, IsSound}
+use Rattle.batch_arbiter.specs.Standing.{seen, StandsInPool}
 use Rattle.batch_arbiter.proofs.Rounds.{staying, leaving}
 
 -- the pool when so many of the lines behind the first n lists have been gone through
@@ -42,7 +42,7 @@ module _ (n batch i : ℕ) (p : Lists) (twice : length p.lists ≡ n + n) (withi
       ∙ get_or_append_left (take n p.lists) (map (staying batch) (take i (drop n p.lists))) [] k (omega (arith, length-take-le n p.lists (omega (arith, twice))))
       ∙ get_or-take n p.lists k [] h
 
-  pub IsSound-withdrawn : (capacities held : List ℕ) → n ≡ length capacities → IsSound capacities held p → IsSound capacities held (withdrawn_to n batch i p)
+  pub IsSound-withdrawn : (capacities held : List ℕ) → n ≡ length capacities → StandsInPool capacities held p → StandsInPool capacities held (withdrawn_to n batch i p)
   IsSound-withdrawn capacities held e sound = record {
     twice = omega (arith, withdrawn-twice, e);
     counts = sound.counts;

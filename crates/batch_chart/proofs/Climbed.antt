@@ -20,7 +20,7 @@ use Rattle.batch_chart.specs.Stages.{stage_at, is_finished, is_begun, is_over, i
 use Rattle.batch_chart.specs.Meaning.{meaning, meaning_each, act_as, branch, chosen, AgreeOutside, AgreeWithin}
 use Rattle.batch_chart.specs.Compiled.{end_at, kind_at, judged, Stands, AreStanding, AreChoices, IsCompiled, AreCompiled, AreCompiledBranches}
 use Rattle.batch_chart.specs.Parents.{IsAbove}
-use Rattle.batch_chart.specs.Told.{IsTold, AreTold}
+use Rattle.batch_chart.specs.Told.{TellsWhetherOver, AreTold}
 use Rattle.batch_chart.specs.Reaching.{IsReached, IsFirstReached}
 use Rattle.batch_chart.specs.Advancing.{HasAdvanced, HasFirstAdvanced, HasEachAdvanced, HasChoiceAdvanced}
 use Rattle.batch_chart.specs.Climbing.{all_finished, AreFinished, IsRisen, HasStopped, HasPassed}
@@ -220,10 +220,10 @@ module _ (ns : List Node) (ds : List Detail) (vs : ValueList) (p n : ℕ) (ys : 
   pub told-under : AreTold ns ds (p + 1) (end_at ns p) ys
   told-under j c a b s = go (cases_lt j n) (cases_lt j (end_at ns n))
     where
-      was : IsTold c j xs
+      was : TellsWhetherOver c j xs
       was = r.told j c (omega arith) (omega (arith, fits-p)) s
 
-      go : (j < n) ⊎ (n ≤ j) → (j < end_at ns n) ⊎ (end_at ns n ≤ j) → IsTold c j ys
+      go : (j < n) ⊎ (n ≤ j) → (j < end_at ns n) ⊎ (end_at ns n ≤ j) → TellsWhetherOver c j ys
       go (inl u) v =
           let e : j + node_count c ≤ n = omega (arith, above.between j (omega arith) u, (stood ns ds j c s).end) in
           told-agree ns ds c j xs ys (λ k f g. r.advanced.outside k (inl (omega arith)) ∙ r.same k (inl (omega arith))) was

@@ -17,7 +17,7 @@ use Rattle.batch_chart.specs.declared.stage.Stage.TheVariants.{Finished, Ready, 
 use Rattle.batch_chart.specs.Stages.{stage_at, is_finished, is_begun, turns_of}
 use Rattle.batch_chart.specs.Meaning.{meaning, meaning_each, act_as, loop_as, branch, chosen, AgreeOutside}
 use Rattle.batch_chart.specs.Compiled.{end_at, Stands, AreStanding, AreChoices}
-use Rattle.batch_chart.specs.Told.{IsTold, AreTold}
+use Rattle.batch_chart.specs.Told.{TellsWhetherOver, AreTold}
 use Rattle.batch_chart.proofs.Standing.{count-pos, choices-pos, stood, stood-each, stood-choices, nested, PhaseAt, phase_at, phase-at, ActAt, act_at, act-at, SkipAt, skip_at, skip-at, SeqAt, seq_at, seq-at, ParAt, par_at, par-at, SelAt, sel_at, sel-at, LoopAt, loop_at, loop-at}
 
 -- as much is left, and as much to be reached
@@ -227,7 +227,7 @@ module _ (ns : List Node) (ds : List Detail) (xs : List Stage) where
   trees-alike c d n h k =
       alike ns ds (length ns) xs xs (λ i q. refl) refl (λ a b s t. absurd (omega (arith, (stood ns ds (length ns) a s).within))) c d n h k (inl (let w = (stood ns ds n c h).within in omega arith))
 
-  pub told-whichever : (c d : Tree) (n : ℕ) → Stands ns ds n c → Stands ns ds n d → IsTold c n xs → IsTold d n xs
+  pub told-whichever : (c d : Tree) (n : ℕ) → Stands ns ds n c → Stands ns ds n d → TellsWhetherOver c n xs → TellsWhetherOver d n xs
   told-whichever c d n h k t = let a = trees-alike c d n h k in record { finished = t.finished ∙ a.0; advanced = a.1 t.advanced }
 
 -- where the subtree at p has gone on telling, and whether p is finished hasn't changed, all stages go on telling
@@ -242,13 +242,13 @@ told-after ns ds p m xs ys outside kept lt le before own n c a b s = go (cases_l
         let is = own p c (omega arith) lt h in
         alike-trans (meaning c p xs) (meaning c p ys) (meaning d p ys) (sym was.finished ∙ sym kept ∙ is.finished, λ q. is.advanced) (trees-alike ns ds ys c d p h k)
 
-    outer : Apart ns ds p n → IsTold c n ys
+    outer : Apart ns ds p n → TellsWhetherOver c n ys
     outer q =
         let was = before n c a b s in
         let like = alike ns ds p xs ys outside kept here c c n s s q in
         record { finished = same-status ns ds p xs ys outside kept n q ∙ was.finished ∙ like.0; advanced = like.1 was.advanced }
 
-    go : (p < n) ⊎ (n ≤ p) → (n < end_at ns p) ⊎ (end_at ns p ≤ n) → IsTold c n ys
+    go : (p < n) ⊎ (n ≤ p) → (n < end_at ns p) ⊎ (end_at ns p ≤ n) → TellsWhetherOver c n ys
     go (inl u) (inl v) = own n c (omega arith) v s
     go (inl u) (inr v) = outer (inr v)
     go (inr u) v = outer (inl u)

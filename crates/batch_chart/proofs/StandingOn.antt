@@ -17,8 +17,8 @@ use Rattle.batch_recipe.specs.declared.act.UnitChoice.{UnitChoice}
 use Rattle.batch_recipe.specs.declared.act.Work.{Work}
 use Rattle.batch_recipe.specs.declared.act.Work.TheVariants.{Follows, Runs}
 use Rattle.batch_recipe.specs.declared.acts.Acts.{Acts}
-use Rattle.batch_recipe.specs.declared.acts.Level.{Level}
-use Rattle.batch_recipe.specs.declared.acts.Level.TheVariants.{UnitProcedures, Operations, Phases}
+use Rattle.batch_recipe.specs.declared.acts.LabelTable.{LabelTable}
+use Rattle.batch_recipe.specs.declared.acts.LabelTable.TheVariants.{UnitProcedures, Operations, Phases}
 use Rattle.batch_recipe.specs.declared.condition.Cond.{Cond}
 use Rattle.batch_recipe.specs.declared.entry.Entry.{Entry}
 use Rattle.batch_recipe.specs.declared.entry.Kind as recipe
@@ -123,11 +123,11 @@ module _ (acts : Acts) (kinds : are_kinds acts ≡ true) (bound : Binding) (es :
       (refl, (stood.0, stood.1 ∙ is, stood.2 ∙ (let e : n + (1 + 0) ≡ n + 1 = omega arith in e), omega (arith, stood.3)))
 
   -- the labels of charts on the unit
-  abbrev AreLabels : Option Level → Option UnitChoice → Type 0
+  abbrev AreLabels : Option LabelTable → Option UnitChoice → Type 0
   AreLabels level unit = (name : Name) (n u i : ℕ) (p : Place) → u < n → Seat u i unit (diagram.label name) → AreFrom es n (grown_named acts (levels_from level) name n u i)
       → StandsAs n (grown_named acts (levels_from level) name n u i) (label_at acts level unit bound name p)
 
-  module _ (level : Option Level) (unit : Option UnitChoice) (labels : AreLabels level unit) where
+  module _ (level : Option LabelTable) (unit : Option UnitChoice) (labels : AreLabels level unit) where
     abbrev named : Name → ℕ → ℕ → ℕ → List Entry
     named = grown_named acts (levels_from level)
 
@@ -201,7 +201,7 @@ module _ (acts : Acts) (kinds : are_kinds acts ≡ true) (bound : Binding) (es :
           )
 
   -- An act whose labels are looked up from a level on.
-  module _ (level : Option Level) (labels : (unit : Option UnitChoice) → are_on_unit level unit ≡ true → AreLabels level unit) (unit : Option UnitChoice) (a : Act) (k : recipe.Kind) (is : act_of acts k ≡ Some a)
+  module _ (level : Option LabelTable) (labels : (unit : Option UnitChoice) → are_on_unit level unit ≡ true → AreLabels level unit) (unit : Option UnitChoice) (a : Act) (k : recipe.Kind) (is : act_of acts k ≡ Some a)
       (fit : is_fit level unit a ≡ true) (n u i : ℕ) (p : Place) where
     abbrev step : Step
     step = record { place = p; needs = asked_by (unit_with bound a.unit) a.needs.items }
@@ -237,7 +237,7 @@ module _ (acts : Acts) (kinds : are_kinds acts ≡ true) (bound : Binding) (es :
         is_chart work = elim work [ Follows c ↦ true | Runs name handed ↦ false ]
 
         -- a phase is run on a unit
-        on_unit : (l : Option Level) → is_fit l unit a ≡ true → a.work ≡ Runs phase values → is_some (own_unit unit a.unit) ≡ true
+        on_unit : (l : Option LabelTable) → is_fit l unit a ≡ true → a.work ≡ Runs phase values → is_some (own_unit unit a.unit) ≡ true
         on_unit None f w = f
         on_unit (Some UnitProcedures) f w = let bad : false ≡ true = sym (ap is_chart w) ∙ f in cc
         on_unit (Some Operations) f w = f
@@ -259,7 +259,7 @@ module _ (acts : Acts) (kinds : are_kinds acts ≡ true) (bound : Binding) (es :
         subst (λ name. StandsAs n (grown_act grown_labels k n u i a) (tree.act step (task_of (trees_on name) name a.name p a.work))) (own-named bound unit a.unit) (work_stands a.work refl h above)
 
   -- Labels, table by table.
-  module _ (table : Level) (labels : (unit : Option UnitChoice) → are_on_unit (level_below table) unit ≡ true → AreLabels (level_below table) unit) (unit : Option UnitChoice) (on : are_on_unit (Some table) unit ≡ true)
+  module _ (table : LabelTable) (labels : (unit : Option UnitChoice) → are_on_unit (level_below table) unit ≡ true → AreLabels (level_below table) unit) (unit : Option UnitChoice) (on : are_on_unit (Some table) unit ≡ true)
       (name : Name) (n u i : ℕ) (p : Place) (later : u < n) (seat : Seat u i unit (diagram.label name)) where
     abbrev below_labels : Name → ℕ → ℕ → ℕ → List Entry
     below_labels = grown_named acts (levels_from (level_below table))
@@ -294,7 +294,7 @@ module _ (acts : Acts) (kinds : are_kinds acts ≡ true) (bound : Binding) (es :
         let found = found_at (λ (a : Act). same_name a.name name) (table_at acts table) k is in
         subst (λ o. StandsAs n (named_entries (Some k)) (named_trees o)) (sym found) (found_stands k (slice_get (table_at acts table) k) refl found h)
 
-  abbrev AllLabels : Option Level → Type 0
+  abbrev AllLabels : Option LabelTable → Type 0
   AllLabels level = (unit : Option UnitChoice) → are_on_unit level unit ≡ true → AreLabels level unit
 
   no_labels : AllLabels None

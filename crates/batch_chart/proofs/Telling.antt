@@ -15,7 +15,7 @@ use Rattle.batch_chart.specs.declared.stage.Stage.TheVariants.{Finished}
 use Rattle.batch_chart.specs.Stages.{stage_at, is_finished, is_begun, turns_of}
 use Rattle.batch_chart.specs.Meaning.{meaning, meaning_below, meaning_each, act_as, loop_as, branch, chosen, AgreeWithin}
 use Rattle.batch_chart.specs.Compiled.{end_at, Stands, AreStanding, AreChoices}
-use Rattle.batch_chart.specs.Told.{IsTold, AreTold}
+use Rattle.batch_chart.specs.Told.{TellsWhetherOver, AreTold}
 use Rattle.batch_chart.proofs.Agreeing.{meaning-agree, agree-part}
 use Rattle.batch_chart.proofs.Choosing.{chosen-false}
 use Rattle.batch_chart.proofs.Standing.{count-pos, stood, nested, nested-each, nested-choices}
@@ -28,12 +28,12 @@ finished-means (par ts) n xs e = chosen-false (is_begun (stage_at xs n)) (in_par
 finished-means (sel ch) n xs e = chosen-false (is_begun (stage_at xs n)) (chosen ch (n + 1) xs) done (ap is_begun e)
 finished-means (loop k p body) n xs e = ap (λ x. loop_as (turns_of x) p body (meaning body (n + 1) xs)) e
 
-pub told-finished : (c : Tree) (n : ℕ) (xs : List Stage) → stage_at xs n ≡ Finished → IsTold c n xs
+pub told-finished : (c : Tree) (n : ℕ) (xs : List Stage) → stage_at xs n ≡ Finished → TellsWhetherOver c n xs
 told-finished c n xs e =
     let m = finished-means c n xs e in
     record { finished = ap is_finished e ∙ sym (ap is_done m); advanced = subst IsAdvanced (sym m) tt }
 
-pub told-reached : (vs : ValueList) (c : Tree) (n : ℕ) (xs : List Stage) (b : Bool) → (meaning c n xs ≡ reach vs c) × (b ≡ is_done (reach vs c)) → is_finished (stage_at xs n) ≡ b → IsTold c n xs
+pub told-reached : (vs : ValueList) (c : Tree) (n : ℕ) (xs : List Stage) (b : Bool) → (meaning c n xs ≡ reach vs c) × (b ≡ is_done (reach vs c)) → is_finished (stage_at xs n) ≡ b → TellsWhetherOver c n xs
 told-reached vs c n xs b m own = record { finished = own ∙ m.1 ∙ sym (ap is_done m.0); advanced = subst IsAdvanced (sym m.0) (reach-advanced vs c) }
 
 -- the subtrees of the nodes from n to m end there
@@ -61,13 +61,13 @@ module _ (ns : List Node) (ds : List Detail) where
   pub told-join : (n i m : ℕ) (xs : List Stage) → AreTold ns ds n i xs → AreTold ns ds i m xs → AreTold ns ds n m xs
   told-join n i m xs f g k c p q s = elim (cases_lt k i) [ inl lt ↦ f k c p lt s | inr le ↦ g k c le q s ]
 
-  pub told-one : (n m : ℕ) (xs : List Stage) → ((c : Tree) → Stands ns ds n c → IsTold c n xs) → AreTold ns ds (n + 1) m xs → AreTold ns ds n m xs
+  pub told-one : (n m : ℕ) (xs : List Stage) → ((c : Tree) → Stands ns ds n c → TellsWhetherOver c n xs) → AreTold ns ds (n + 1) m xs → AreTold ns ds n m xs
   told-one n m xs own h k c p q s = elim (eqb_tells k n) [
-    | inl e ↦ subst (λ z. IsTold c z xs) (sym e.1) (own c (subst (λ z. Stands ns ds z c) e.1 s))
+    | inl e ↦ subst (λ z. TellsWhetherOver c z xs) (sym e.1) (own c (subst (λ z. Stands ns ds z c) e.1 s))
     | inr e ↦ let d = e.1 in h k c (omega arith) q s
   ]
 
-  pub told-agree : (c : Tree) (j : ℕ) (xs ys : List Stage) → AgreeWithin j (j + node_count c) xs ys → IsTold c j xs → IsTold c j ys
+  pub told-agree : (c : Tree) (j : ℕ) (xs ys : List Stage) → AgreeWithin j (j + node_count c) xs ys → TellsWhetherOver c j xs → TellsWhetherOver c j ys
   told-agree c j xs ys h t =
       let m = meaning-agree xs ys c j h in
       record { finished = ap is_finished (h j (omega arith) (omega (arith, count-pos c))) ∙ t.finished ∙ sym (ap is_done m); advanced = subst IsAdvanced (sym m) t.advanced }

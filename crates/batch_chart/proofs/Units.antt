@@ -10,8 +10,8 @@ use Rattle.batch_recipe.specs.WellFormed.{has_unit, has_chart, are_kinds}
 use Rattle.batch_recipe.specs.declared.act.Act.{Act}
 use Rattle.batch_recipe.specs.declared.act.UnitChoice.{UnitChoice}
 use Rattle.batch_recipe.specs.declared.acts.Acts.{Acts}
-use Rattle.batch_recipe.specs.declared.acts.Level.{Level}
-use Rattle.batch_recipe.specs.declared.acts.Level.TheVariants.{UnitProcedures, Operations, Phases}
+use Rattle.batch_recipe.specs.declared.acts.LabelTable.{LabelTable}
+use Rattle.batch_recipe.specs.declared.acts.LabelTable.TheVariants.{UnitProcedures, Operations, Phases}
 use Rattle.batch_chart.specs.Building.{are_on_unit, own_unit, is_fit, unit_named}
 
 found_step : (q : Act → Bool) (b : Bool) (x a : Act) (rest : Option Act) → cond b (Some x) rest ≡ Some a → q x ≡ true → (rest ≡ Some a → q a ≡ true) → q a ≡ true
@@ -44,7 +44,7 @@ pub procedure-fit : (acts : Acts) (unit : Option UnitChoice) → are_kinds acts 
 procedure-fit acts unit k = (and_parts (not (has_unit acts.procedure)) _ ((and_parts (not (has_unit acts.procedure) && has_chart acts.procedure) _ k).0)).1
 
 -- a label names an act that fits
-pub named-fit : (acts : Acts) (table : Level) (unit : Option UnitChoice) (name : Name) (a : Act) → are_kinds acts ≡ true → are_on_unit (Some table) unit ≡ true → act_named (table_at acts table) name ≡ Some a
+pub named-fit : (acts : Acts) (table : LabelTable) (unit : Option UnitChoice) (name : Name) (a : Act) → are_kinds acts ≡ true → are_on_unit (Some table) unit ≡ true → act_named (table_at acts table) name ≡ Some a
     → is_fit (level_below table) unit a ≡ true
 named-fit acts UnitProcedures unit name a k on h =
     let kind : (has_unit a && has_chart a) ≡ true =
@@ -55,7 +55,7 @@ named-fit acts Operations unit name a k on h = unit-above unit a.unit on
 named-fit acts Phases unit name a k on h = unit-above unit a.unit on
 
 -- so does the chart of an act that fits
-pub chart-fit : (level : Option Level) (unit : Option UnitChoice) (a : Act) → is_fit level unit a ≡ true → are_on_unit level (own_unit unit a.unit) ≡ true
+pub chart-fit : (level : Option LabelTable) (unit : Option UnitChoice) (a : Act) → is_fit level unit a ≡ true → are_on_unit level (own_unit unit a.unit) ≡ true
 chart-fit None unit a f = f
 chart-fit (Some UnitProcedures) unit a f = refl
 chart-fit (Some Operations) unit a f = f

@@ -11,10 +11,10 @@ use Rattle.batch_chart.specs.Meaning.{meaning}
 use Rattle.batch_chart.specs.Stages.{stage_at, is_finished}
 
 -- the stage of the node tells whether anything is left of its tree, in which nothing is left to be reached
-pub record IsTold (c : Tree) (n : ℕ) (xs : List Stage) : Type 0 where
+pub record TellsWhetherOver (c : Tree) (n : ℕ) (xs : List Stage) : Type 0 where
   pub finished : is_finished (stage_at xs n) ≡ is_done (meaning c n xs)
   pub advanced : IsAdvanced (meaning c n xs)
 
 -- the stages of all nodes from n to m do, whether they are reached or not
 abbrev pub AreTold : List Node → List Detail → ℕ → ℕ → List Stage → Type 0
-AreTold ns ds n m xs = (j : ℕ) (c : Tree) → n ≤ j → j < m → Stands ns ds j c → IsTold c j xs
+AreTold ns ds n m xs = (j : ℕ) (c : Tree) → n ≤ j → j < m → Stands ns ds j c → TellsWhetherOver c j xs

@@ -11,7 +11,7 @@ use Rattle.batch_recipe.specs.Conditions.{Name, same_name}
 use Rattle.batch_check.specs.declared.edge.Edge.{Edge}
 use Rattle.batch_check.specs.declared.edge_set.EdgeSet.{EdgeSet}
 use Rattle.batch_check.specs.declared.path.Path.{Path}
-use Rattle.batch_check.specs.Edges.{has_pair, number_of, numbers_of, Joins, Follows}
+use Rattle.batch_check.specs.Edges.{has_pair, number_of_resource, numbers_of_resources, Joins, Follows}
 use Rattle.batch_check.specs.Pairs.{ArePaired, Keeps}
 use Rattle.batch_check.specs.Joining.{AreBelow, Grows, HasJoined, IsKept, needs_in}
 use Rattle.batch_check.specs.Collecting.{IsCopy, IsPathOf, IsReady, kept_by, last_number, EndsIn, IsAmong, GoesOn, HasAsked}
@@ -20,24 +20,24 @@ use Rattle.batch_check.proofs.Joins.{ArePaired-push, AreBelow-push, Contains-at,
 -- Numbers of resources
 
 module _ (cell : Cell) where
-  pub number_named : (name : Name) (k : ℕ) → number_of cell name ≡ Some k → slice_get (resources_of cell) k ≡ Some name
+  pub number_named : (name : Name) (k : ℕ) → number_of_resource cell name ≡ Some k → slice_get (resources_of cell) k ≡ Some name
   number_named name k is =
       let found = position-Some (same_name name) (resources_of cell) k name is in
       let same : name ≡ get_or (resources_of cell) k name = (bytes_eq-Decides name (get_or (resources_of cell) k name)).0 found.1 in
       slice_get-get_or (resources_of cell) k name found.0 ∙ ap (λ (n : Name). Some n) (sym same)
 
-  pub number_within : (name : Name) (k : ℕ) → number_of cell name ≡ Some k → k < length (resources_of cell)
+  pub number_within : (name : Name) (k : ℕ) → number_of_resource cell name ≡ Some k → k < length (resources_of cell)
   number_within name k is = (position-Some (same_name name) (resources_of cell) k name is).0
 
-  pub numbers-append : (xs ys : List Name) → numbers_of cell (xs ++ ys) ≡ numbers_of cell xs ++ numbers_of cell ys
-  numbers-append xs ys = map-append (number_of cell) xs ys
+  pub numbers-append : (xs ys : List Name) → numbers_of_resources cell (xs ++ ys) ≡ numbers_of_resources cell xs ++ numbers_of_resources cell ys
+  numbers-append xs ys = map-append (number_of_resource cell) xs ys
 
-  last-append : (last : Option ℕ) (xs ys : List Name) → last_number last (numbers_of cell (xs ++ ys)) ≡ last_number (last_number last (numbers_of cell xs)) (numbers_of cell ys)
+  last-append : (last : Option ℕ) (xs ys : List Name) → last_number last (numbers_of_resources cell (xs ++ ys)) ≡ last_number (last_number last (numbers_of_resources cell xs)) (numbers_of_resources cell ys)
   last-append last [] ys = refl
-  last-append last (x ∷ xs) ys = last-append (number_of cell x) xs ys
+  last-append last (x ∷ xs) ys = last-append (number_of_resource cell x) xs ys
 
-  pub EndsIn-append : (above own : List Name) (last : Option ℕ) → EndsIn cell above last → EndsIn cell (above ++ own) (last_number last (numbers_of cell own))
-  EndsIn-append above own last ends = last-append None above own ∙ ap (λ o. last_number o (numbers_of cell own)) ends
+  pub EndsIn-append : (above own : List Name) (last : Option ℕ) → EndsIn cell above last → EndsIn cell (above ++ own) (last_number last (numbers_of_resources cell own))
+  EndsIn-append above own last ends = last-append None above own ∙ ap (λ o. last_number o (numbers_of_resources cell own)) ends
 
   -- the last need of a path, where that is a resource
   pub record IsLast (above : List Name) (number : ℕ) : Type 0 where
@@ -45,11 +45,11 @@ module _ (cell : Cell) where
     pub place : ℕ
     pub at_end : place + 1 ≡ length above
     pub name_is : slice_get above place ≡ Some name
-    pub numbered : number_of cell name ≡ Some number
+    pub numbered : number_of_resource cell name ≡ Some number
 
-  last_of : (o : Option ℕ) (above : List Name) (k : ℕ) → last_number o (numbers_of cell above) ≡ Some k → ((o ≡ Some k) × (length above ≡ 0)) ⊎ IsLast above k
+  last_of : (o : Option ℕ) (above : List Name) (k : ℕ) → last_number o (numbers_of_resources cell above) ≡ Some k → ((o ≡ Some k) × (length above ≡ 0)) ⊎ IsLast above k
   last_of o [] k is = inl (is, refl)
-  last_of o (x ∷ above) k is = elim (last_of (number_of cell x) above k is) [
+  last_of o (x ∷ above) k is = elim (last_of (number_of_resource cell x) above k is) [
     | inl first ↦ inr (record { name = x; place = 0; at_end = omega (arith, first.1); name_is = refl; numbered = first.0 })
     | inr later ↦ inr (record {
       name = later.name;
@@ -71,7 +71,7 @@ module _ (cell : Cell) where
     pub name : Name
     pub place : ℕ
     pub name_is : slice_get above place ≡ Some name
-    pub numbered : number_of cell name ≡ Some number
+    pub numbered : number_of_resource cell name ≡ Some number
 
   pub IsAskedAbove-last : (above : List Name) (number : ℕ) → EndsIn cell above (Some number) → IsAskedAbove above number
   IsAskedAbove-last above number ends =
@@ -79,23 +79,23 @@ module _ (cell : Cell) where
       record { name = last.name; place = last.place; name_is = last.name_is; numbered = last.numbered }
 
   -- a number of the needs above is one of a resource
-  pub number_at : (above : List Name) (place number : ℕ) → slice_get (numbers_of cell above) place ≡ Some (Some number) → IsAskedAbove above number
-  number_at above place number is = go (slice_get above place) refl (sym (slice_get-map (number_of cell) above place) ∙ is)
+  pub number_at : (above : List Name) (place number : ℕ) → slice_get (numbers_of_resources cell above) place ≡ Some (Some number) → IsAskedAbove above number
+  number_at above place number is = go (slice_get above place) refl (sym (slice_get-map (number_of_resource cell) above place) ∙ is)
     where
-      go : (o : Option Name) → slice_get above place ≡ o → option_map (number_of cell) o ≡ Some (Some number) → IsAskedAbove above number
+      go : (o : Option Name) → slice_get above place ≡ o → option_map (number_of_resource cell) o ≡ Some (Some number) → IsAskedAbove above number
       go None at mapped = let bad : None ≡ Some (Some number) = mapped in absurd cc
       go (Some name) at mapped = record {
         name = name;
         place = place;
         name_is = at;
-        numbered = let e : Some (number_of cell name) ≡ Some (Some number) = mapped in cc;
+        numbered = let e : Some (number_of_resource cell name) ≡ Some (Some number) = mapped in cc;
       }
 
-  pub IsAskedAbove-kept : (above : List Name) (number : ℕ) → Contains (numbers_of cell above) (Some number) → IsAskedAbove above number
-  IsAskedAbove-kept above number among = let at = at-Contains (numbers_of cell above) (Some number) among in number_at above at.0 number at.1
+  pub IsAskedAbove-kept : (above : List Name) (number : ℕ) → Contains (numbers_of_resources cell above) (Some number) → IsAskedAbove above number
+  IsAskedAbove-kept above number among = let at = at-Contains (numbers_of_resources cell above) (Some number) among in number_at above at.0 number at.1
 
   -- the edge from a need above to the need after all of them
-  pub IsAmong-next : (above : List Name) (need : Name) (edge : Edge) → IsAskedAbove above edge.earlier → number_of cell need ≡ Some edge.later
+  pub IsAmong-next : (above : List Name) (need : Name) (edge : Edge) → IsAskedAbove above edge.earlier → number_of_resource cell need ≡ Some edge.later
       → IsAmong cell above (need ∷ []) edge
   IsAmong-next above need edge from is = record {
     earlier_name = from.name;
@@ -177,8 +177,8 @@ module _ (cell : Cell) where
   IsPathOf-append above own path next edges on h = record {
     ends = EndsIn-append cell above own path.last h.ends ∙ sym on.ends;
     kept = λ needs is.
-        let before = kept_before (kept_by path) (kept_by next) (numbers_of cell own) needs on.extended is in
-        before.2 ∙ (ap (λ (ns : List (Option ℕ)). ns ++ numbers_of cell own) (h.kept before.0 before.1) ∙ sym (numbers-append cell above own));
+        let before = kept_before (kept_by path) (kept_by next) (numbers_of_resources cell own) needs on.extended is in
+        before.2 ∙ (ap (λ (ns : List (Option ℕ)). ns ++ numbers_of_resources cell own) (h.kept before.0 before.1) ∙ sym (numbers-append cell above own));
   }
 
   -- the edges that lead on from a path stand where it was asked for their earlier ones
@@ -229,7 +229,7 @@ module _ (cell : Cell) (path : Path) where
     same_recipe = h.same_recipe;
     ends = h.ends;
     extended = h.extended;
-    covering = Follows-keeps old.edges.items new.edges.items grown.kept path.last (numbers_of cell own) h.covering;
+    covering = Follows-keeps old.edges.items new.edges.items grown.kept path.last (numbers_of_resources cell own) h.covering;
     pairing = λ needs kept final later paired. h.pairing needs kept final (λ i j known. later i j (grown.kept i j known)) paired;
   }
 
@@ -237,33 +237,33 @@ module _ (cell : Cell) (path : Path) where
   GoesOn-append xs ys edges at next h g = record {
     ready = g.ready;
     same_recipe = g.same_recipe ∙ h.same_recipe;
-    ends = g.ends ∙ (ap (λ o. last_number o (numbers_of cell ys)) h.ends ∙ sym (last-append cell path.last xs ys));
+    ends = g.ends ∙ (ap (λ o. last_number o (numbers_of_resources cell ys)) h.ends ∙ sym (last-append cell path.last xs ys));
     extended =
-        g.extended ∙ (ap (option_map (λ (ns : List (Option ℕ)). ns ++ numbers_of cell ys)) h.extended
-        ∙ (items_assoc (kept_by path) (numbers_of cell xs) (numbers_of cell ys)
+        g.extended ∙ (ap (option_map (λ (ns : List (Option ℕ)). ns ++ numbers_of_resources cell ys)) h.extended
+        ∙ (items_assoc (kept_by path) (numbers_of_resources cell xs) (numbers_of_resources cell ys)
         ∙ ap (λ (own : List (Option ℕ)). option_map (λ (ns : List (Option ℕ)). ns ++ own) (kept_by path)) (sym (numbers-append cell xs ys))));
     covering = subst (λ (ns : List (Option ℕ)). Follows edges.edges.items path.last ns) (sym (numbers-append cell xs ys))
-        (Follows-append edges.edges.items path.last (numbers_of cell xs) (numbers_of cell ys) h.covering
-        (subst (λ o. Follows edges.edges.items o (numbers_of cell ys)) h.ends g.covering));
+        (Follows-append edges.edges.items path.last (numbers_of_resources cell xs) (numbers_of_resources cell ys) h.covering
+        (subst (λ o. Follows edges.edges.items o (numbers_of_resources cell ys)) h.ends g.covering));
     pairing = λ needs kept final later paired.
-        let at_kept : kept_by at ≡ Some (needs ++ numbers_of cell xs) = h.extended ∙ ap (option_map (λ (ns : List (Option ℕ)). ns ++ numbers_of cell xs)) kept in
+        let at_kept : kept_by at ≡ Some (needs ++ numbers_of_resources cell xs) = h.extended ∙ ap (option_map (λ (ns : List (Option ℕ)). ns ++ numbers_of_resources cell xs)) kept in
         subst (λ (ns : List (Option ℕ)). ArePaired final ns)
-        (append_assoc needs (numbers_of cell xs) (numbers_of cell ys) ∙ ap (λ (own : List (Option ℕ)). needs ++ own) (sym (numbers-append cell xs ys)))
-        (g.pairing (needs ++ numbers_of cell xs) at_kept final later (h.pairing needs kept final later paired));
+        (append_assoc needs (numbers_of_resources cell xs) (numbers_of_resources cell ys) ∙ ap (λ (own : List (Option ℕ)). needs ++ own) (sym (numbers-append cell xs ys)))
+        (g.pairing (needs ++ numbers_of_resources cell xs) at_kept final later (h.pairing needs kept final later paired));
   }
 
 -- What an act has asked for
 
 module _ (cell : Cell) (path : Path) (node : ℕ) where
   -- one need, to which edges lead from the last one, and from all that are kept
-  pub HasAsked-one : (need : Name) (number : Option ℕ) (old mid new : EdgeSet) (next : Path) → number_of cell need ≡ number → IsReady cell path old
+  pub HasAsked-one : (need : Name) (number : Option ℕ) (old mid new : EdgeSet) (next : Path) → number_of_resource cell need ≡ number → IsReady cell path old
       → next.recipe ≡ path.recipe → next.last ≡ number
       → HasJoined path.recipe node (path.last ∷ []) number old mid → IsKept path.recipe node (kept_by path) number mid new (kept_by next)
       → HasAsked cell path node (need ∷ []) old new next
   HasAsked-one need number old mid new next is ready recipe last h g =
       let grown : Grows old new = Grows-twice old mid new h.grown g.joined.grown in
       let here : (k : ℕ) → number ≡ Some k → k < new.count = λ k numbered. let below = number_within cell need k (is ∙ numbered) in omega (arith, below, grown.same_count, ready.sized) in
-      let extended : kept_by next ≡ option_map (λ (ns : List (Option ℕ)). ns ++ number_of cell need ∷ []) (kept_by path) =
+      let extended : kept_by next ≡ option_map (λ (ns : List (Option ℕ)). ns ++ number_of_resource cell need ∷ []) (kept_by path) =
       subst (λ (o : Option ℕ). kept_by next ≡ option_map (λ (ns : List (Option ℕ)). ns ++ o ∷ []) (kept_by path)) (sym is) g.extended in
       record {
         grown = grown;
@@ -277,9 +277,9 @@ module _ (cell : Cell) (path : Path) (node : ℕ) where
           same_recipe = recipe;
           ends = last ∙ sym is;
           extended = extended;
-          covering = (joins path.last (number_of cell need) (λ i j from into. g.joined.grown.kept i j (h.joined i j (Contains-at (path.last ∷ []) 0 (Some i) (ap (λ (o : Option ℕ). Some o) from)) (sym is ∙ into))), tt);
+          covering = (joins path.last (number_of_resource cell need) (λ i j from into. g.joined.grown.kept i j (h.joined i j (Contains-at (path.last ∷ []) 0 (Some i) (ap (λ (o : Option ℕ). Some o) from)) (sym is ∙ into))), tt);
           pairing = λ needs kept final later paired.
-              ArePaired-push final needs (number_of cell need) paired
+              ArePaired-push final needs (number_of_resource cell need) paired
               (λ i j among into. later i j (g.joined.joined i j (subst (λ (o : Option (List (Option ℕ))). Contains (needs_in o) (Some i)) (sym kept) among) (sym is ∙ into)));
         };
         standing = λ above of edge stands. elim (g.joined.only edge stands) [
@@ -324,9 +324,9 @@ module _ (cell : Cell) (path : Path) (node : ℕ) where
     further = record {
       ready = h.further.ready;
       same_recipe = h.further.same_recipe ∙ same.same_recipe;
-      ends = h.further.ends ∙ ap (λ o. last_number o (numbers_of cell own)) same.same_last;
-      extended = h.further.extended ∙ ap (option_map (λ (ns : List (Option ℕ)). ns ++ numbers_of cell own)) same.same_kept;
-      covering = subst (λ o. Follows new.edges.items o (numbers_of cell own)) same.same_last h.further.covering;
+      ends = h.further.ends ∙ ap (λ o. last_number o (numbers_of_resources cell own)) same.same_last;
+      extended = h.further.extended ∙ ap (option_map (λ (ns : List (Option ℕ)). ns ++ numbers_of_resources cell own)) same.same_kept;
+      covering = subst (λ o. Follows new.edges.items o (numbers_of_resources cell own)) same.same_last h.further.covering;
       pairing = λ needs kept final later paired. h.further.pairing needs (same.same_kept ∙ kept) final later paired;
     };
     standing = λ above of edge stands.

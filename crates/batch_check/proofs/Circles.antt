@@ -8,21 +8,21 @@ use Rattle.batch_check.specs.declared.edge_set.EdgeSet.{EdgeSet}
 use Rattle.batch_check.specs.Clearing.{StandsAsCircle}
 use Rattle.batch_check.specs.Collecting.{HasAllPairs}
 use Rattle.batch_check.specs.Edges.{Stands, has_pair}
-use Rattle.batch_check.specs.LeastRanking.{IsCircle, IsWithin}
+use Rattle.batch_check.specs.LeastRanking.{IsEdgeCircle, HasEndsBelow}
 use Rattle.batch_check.specs.Shortest.{IsShortest}
 use Rattle.batch_check.specs.Spreading.{HasFewest}
 
-module _ (edges circle : List Edge) (h : IsCircle edges circle) where
-  pub circle_within : (count : ℕ) → IsWithin count edges → IsWithin count circle
+module _ (edges circle : List Edge) (h : IsEdgeCircle edges circle) where
+  pub circle_within : (count : ℕ) → HasEndsBelow count edges → HasEndsBelow count circle
   circle_within count within =
       let P : Edge → Type 0 = λ e. (e.earlier < count) × (e.later < count) in
       All-weaker (Contains edges) P (λ e stands. All-contains P edges e within stands) circle h.standing
 
-  circle_itself : IsCircle circle circle
+  circle_itself : IsEdgeCircle circle circle
   circle_itself = record { start = h.start; nonempty = h.nonempty; closed = h.closed; apart = h.apart; standing = All-contains_itself circle }
 
   -- it stays one where edges are added
-  pub circle_stays : (more : List Edge) → ((e : Edge) → Contains edges e → Contains more e) → IsCircle more circle
+  pub circle_stays : (more : List Edge) → ((e : Edge) → Contains edges e → Contains more e) → IsEdgeCircle more circle
   circle_stays more stays = record {
     start = h.start;
     nonempty = h.nonempty;
@@ -32,7 +32,7 @@ module _ (edges circle : List Edge) (h : IsCircle edges circle) where
   }
 
 module _ (cell : Cell) (recipes : List Recipe) (old set : EdgeSet) (pairs : HasAllPairs cell recipes old set) where
-  pub stands_as_circle : (circle : List Edge) → IsCircle set.edges.items circle → StandsAsCircle cell recipes circle
+  pub stands_as_circle : (circle : List Edge) → IsEdgeCircle set.edges.items circle → StandsAsCircle cell recipes circle
   stands_as_circle circle h = record {
     circle = circle_itself set.edges.items circle h;
     standing = All-weaker (Contains set.edges.items) (Stands cell recipes) pairs.standing circle h.standing;

@@ -25,7 +25,7 @@ use Rattle.batch_check.specs.declared.edge_set.EdgeSet.{EdgeSet}
 use Rattle.batch_check.specs.declared.path.Path.{Path}
 use Rattle.batch_check.specs.declared.path.Reach.{Reach}
 use Rattle.batch_check.specs.declared.path.Reach.TheVariants.{Next, Whole}
-use Rattle.batch_check.specs.Edges.{Covers, Follows, numbers_of}
+use Rattle.batch_check.specs.Edges.{Covers, Follows, numbers_of_resources}
 use Rattle.batch_check.specs.Joining.{Grows, needs_in}
 use Rattle.batch_check.specs.Collecting.{GoesOn, HasAsked, IsAmong, IsCollected, IsPathOf, IsReady, PairsAll, StandsAmong, kept_at_top, kept_by}
 use Rattle.batch_check.proofs.Asking.{Follows-keeps, GoesOn-append, GoesOn-grown, GoesOn-none, IsPathOf-append}
@@ -177,8 +177,8 @@ module _ (cell : Cell) (number : ℕ) (kept : Option (List (Option ℕ))) (top :
         grown = h.grown;
         standing = λ edge stands. subst (λ n. Contains old.edges.items edge ⊎ StandsAmong cell n ns edge) is_top.recipe_is (h.standing edge stands);
         covering = λ final later. each_at (Covers cell final) ns (λ k x at.
-            subst (λ o. Follows final o (numbers_of cell x.asked)) is_top.last_is
-            (Follows-keeps edges.edges.items final later top.last (numbers_of cell x.asked) (path_of k x at).covering));
+            subst (λ o. Follows final o (numbers_of_resources cell x.asked)) is_top.last_is
+            (Follows-keeps edges.edges.items final later top.last (numbers_of_resources cell x.asked) (path_of k x at).covering));
         pairing = λ whole final later. each_at (PairsAll cell final) ns (λ k x at.
             (path_of k x at).pairing [] (is_top.kept_is ∙ whole) final later
             (λ before place i j ordered at_before at_place. let bad : None ≡ Some (Some i) = at_before in absurd cc));

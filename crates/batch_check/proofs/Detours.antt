@@ -8,7 +8,7 @@ use Rattle.batch_model.specs.Lists.{Each}
 use Rattle.batch_check.specs.declared.edge.Edge.{Edge}
 use Rattle.batch_check.specs.Clearing.{StandsAsCircle}
 use Rattle.batch_check.specs.Edges.{Stands}
-use Rattle.batch_check.specs.LeastRanking.{Leads}
+use Rattle.batch_check.specs.LeastRanking.{LeadsAlong}
 use Rattle.batch_check.specs.Shortest.{CanBeReplaced, IsShortest, TakesNoDetour}
 
 -- no two edges lead to one resource
@@ -33,8 +33,8 @@ apart_to (e ∷ es) h = AllPairs-cons (λ (e f : Edge). e.later ≢ f.later) e e
 -- One edge in place of two that follow one another
 
 module _ (e f g : Edge) (from : g.earlier ≡ e.earlier) (into : g.later ≡ f.later) where
-  leads_by : (before after : List Edge) (first last : ℕ) → Leads first (before ++ (e ∷ f ∷ after)) last → Leads first (before ++ (g ∷ after)) last
-  leads_by [] after first last h = (from ∙ h.0, subst (λ n. Leads n after last) (sym into) h.1.1)
+  leads_by : (before after : List Edge) (first last : ℕ) → LeadsAlong first (before ++ (e ∷ f ∷ after)) last → LeadsAlong first (before ++ (g ∷ after)) last
+  leads_by [] after first last h = (from ∙ h.0, subst (λ n. LeadsAlong n after last) (sym into) h.1.1)
   leads_by (b ∷ bs) after first last h = (h.0, leads_by bs after b.later last h.1)
 
   each_by : (P : Edge → Type 0) (before after : List Edge) → (P f → P g) → Each P (before ++ (e ∷ f ∷ after)) → Each P (before ++ (g ∷ after))
@@ -49,7 +49,7 @@ module _ (e f g : Edge) (from : g.earlier ≡ e.earlier) (into : g.later ≡ f.l
   )
 
   -- and in place of the last and the first
-  leads_round : (between : List Edge) (first last : ℕ) → Leads first (between ++ e ∷ []) last → Leads first (between ++ g ∷ []) f.later
+  leads_round : (between : List Edge) (first last : ℕ) → LeadsAlong first (between ++ e ∷ []) last → LeadsAlong first (between ++ g ∷ []) f.later
   leads_round [] first last h = (from ∙ h.0, into)
   leads_round (b ∷ bs) first last h = (h.0, leads_round bs b.later last h.1)
 
@@ -67,7 +67,7 @@ module _ (e f g : Edge) (from : g.earlier ≡ e.earlier) (into : g.later ≡ f.l
 -- Circles
 
 module _ (c : Cell) (recipes : List Recipe) (circle : List Edge) (h : StandsAsCircle c recipes circle) (shortest : IsShortest c recipes circle) where
-  stands_as : (other : List Edge) (start : ℕ) → 0 < length other → Leads start other start → LeadApart other → Each (Stands c recipes) other → StandsAsCircle c recipes other
+  stands_as : (other : List Edge) (start : ℕ) → 0 < length other → LeadsAlong start other start → LeadApart other → Each (Stands c recipes) other → StandsAsCircle c recipes other
   stands_as other start some closed apart standing = record {
     circle = record { start = start; nonempty = some; closed = closed; apart = apart_to other apart; standing = All-contains_itself other };
     standing = All-from_recursion (Stands c recipes) other standing;
@@ -86,7 +86,7 @@ module _ (c : Cell) (recipes : List Recipe) (circle : List Edge) (h : StandsAsCi
       let few : length circle ≤ length other =
       shortest other
       (stands_as other h.circle.start (omega (arith, less))
-      (leads_by e f g by.from by.into before after h.circle.start h.circle.start (subst (λ (w : List Edge). Leads h.circle.start w h.circle.start) is h.circle.closed))
+      (leads_by e f g by.from by.into before after h.circle.start h.circle.start (subst (λ (w : List Edge). LeadsAlong h.circle.start w h.circle.start) is h.circle.closed))
       (apart_by e f g by.from by.into before after (subst LeadApart is (apart_from circle h.circle.apart)))
       (each_by e f g by.from by.into (Stands c recipes) before after (λ stands. by.standing) (subst (λ (w : List Edge). Each (Stands c recipes) w) is each_stands))) in
       absurd (omega (arith, few, whole, long, less))
@@ -98,7 +98,7 @@ module _ (c : Cell) (recipes : List Recipe) (circle : List Edge) (h : StandsAsCi
       let long : length (between ++ e ∷ []) ≡ length between + length (e ∷ []) = length-append between (e ∷ []) in
       let less : length other ≡ length between + length (g ∷ []) = length-append between (g ∷ []) in
       let whole : length circle ≡ length (f ∷ (between ++ e ∷ [])) = ap length is in
-      let closed : Leads h.circle.start (f ∷ (between ++ e ∷ [])) h.circle.start = subst (λ (w : List Edge). Leads h.circle.start w h.circle.start) is h.circle.closed in
+      let closed : LeadsAlong h.circle.start (f ∷ (between ++ e ∷ [])) h.circle.start = subst (λ (w : List Edge). LeadsAlong h.circle.start w h.circle.start) is h.circle.closed in
       let apart : LeadApart (f ∷ (between ++ e ∷ [])) = subst LeadApart is (apart_from circle h.circle.apart) in
       let standing : Each (Stands c recipes) (f ∷ (between ++ e ∷ [])) = subst (λ (w : List Edge). Each (Stands c recipes) w) is each_stands in
       let few : length circle ≤ length other =

@@ -5,7 +5,7 @@ use Rattle.std.proofs.lemmas.List.Elements.{All-cons, All-contains}
 use Rattle.std.proofs.lemmas.List.Kept.{AllPairs-cons}
 use Rattle.batch_check.specs.declared.edge.Edge.{Edge}
 use Rattle.batch_check.specs.Edges.{has_pair}
-use Rattle.batch_check.specs.LeastRanking.{IsCircle, IsWithin, Leads}
+use Rattle.batch_check.specs.LeastRanking.{IsEdgeCircle, HasEndsBelow, LeadsAlong}
 use Rattle.batch_check.specs.Spreading.{AreJoined, HasFewest, HasReached, IsClosedAt, IsFewest, IsReached, IsSpread, LeadsBack, NoneBelow}
 use Rattle.batch_check.proofs.Rising.{edge_of}
 
@@ -23,12 +23,12 @@ module _ (edges : List Edge) (start level : ℕ) (levels : List ℕ) (causes : L
       ((λ same. on.elsewhere (e.into ∙ same)), omega (arith, on.reached, into), omega (arith, on.near, from, into))
 
   -- a walk that goes on
-  further : (walk : List Edge) (at last : ℕ) → Leads at walk last → at ≢ start → (0 < length walk → last ≢ start) → last ≢ start
+  further : (walk : List Edge) (at last : ℕ) → LeadsAlong at walk last → at ≢ start → (0 < length walk → last ≢ start) → last ≢ start
   further [] at last leads apart f = λ back. apart (leads ∙ back)
   further (e ∷ es) at last leads apart f = f (omega arith)
 
   -- a walk of few edges doesn't come back to the start
-  not_back : (walk : List Edge) (first last : ℕ) → Leads first walk last → AreJoined edges walk → 0 < length walk
+  not_back : (walk : List Edge) (first last : ℕ) → LeadsAlong first walk last → AreJoined edges walk → 0 < length walk
       → 0 < get_or levels first 0 → get_or levels first 0 + length walk ≤ level → last ≢ start
   not_back [] first last leads joined some high low = absurd (omega arith)
   not_back (e ∷ es) first last leads joined some high low =
@@ -43,7 +43,7 @@ module _ (edges : List Edge) (start level : ℕ) (levels : List ℕ) (causes : L
   ]
 
   -- where no level is the last one, no walk comes back
-  never_back : ((k : ℕ) → get_or levels k 0 < level) → (walk : List Edge) (first last : ℕ) → Leads first walk last → AreJoined edges walk → 0 < length walk → 0 < get_or levels first 0 → last ≢ start
+  never_back : ((k : ℕ) → get_or levels k 0 < level) → (walk : List Edge) (first last : ℕ) → LeadsAlong first walk last → AreJoined edges walk → 0 < length walk → 0 < get_or levels first 0 → last ≢ start
   never_back all [] first last leads joined some high = absurd (omega arith)
   never_back all (e ∷ es) first last leads joined some high =
       let pair : IsTrue (has_pair edges first e.later) = subst (λ n. IsTrue (has_pair edges n e.later)) leads.0 joined.0 in
@@ -59,7 +59,7 @@ NoneBelow-less edges start most less low h walk leads some joined = omega (arith
 -- The walk back
 
 pub record WalksBack (edges : List Edge) (start level : ℕ) (levels : List ℕ) (walk : List Edge) (at : ℕ) : Type 0 where
-  pub leads : Leads at walk start
+  pub leads : LeadsAlong at walk start
   pub some : 0 < length walk
   pub apart : AllPairs (λ e f. e.later ≢ f.later) walk
   pub standing : All (Contains edges) walk
@@ -68,7 +68,7 @@ pub record WalksBack (edges : List Edge) (start level : ℕ) (levels : List ℕ)
   pub within : at < length levels
   pub sized : length walk + get_or levels at 0 ≡ level + 1
 
-module _ (edges : List Edge) (start level : ℕ) (levels : List ℕ) (causes : List (Option Edge)) (in_range : IsWithin (length levels) edges) (has : HasReached edges start levels causes) where
+module _ (edges : List Edge) (start level : ℕ) (levels : List ℕ) (causes : List (Option Edge)) (in_range : HasEndsBelow (length levels) edges) (has : HasReached edges start levels causes) where
   pub WalksBack-first : (last : Edge) → LeadsBack edges start level levels causes last → WalksBack edges start level levels (last ∷ []) last.earlier
   WalksBack-first last h = record {
     leads = (refl, h.back);
@@ -95,7 +95,7 @@ module _ (edges : List Edge) (start level : ℕ) (levels : List ℕ) (causes : L
         let one : get_or levels at 0 ≡ get_or levels cause.earlier 0 + 1 = caused.one_above ∙ ap (λ n. n + 1) from in
         let later : get_or levels cause.later 0 ≡ get_or levels at 0 = ap (λ n. get_or levels n 0) into in
         record {
-          leads = (refl, subst (λ n. Leads n walk start) (sym into) h.leads);
+          leads = (refl, subst (λ n. LeadsAlong n walk start) (sym into) h.leads);
           some = omega arith;
           apart = AllPairs-cons (λ (e f : Edge). e.later ≢ f.later) cause walk
               (λ k d in' eq. elim (h.above k d in') [
@@ -129,7 +129,7 @@ module _ (edges : List Edge) (start level : ℕ) (levels : List ℕ) (causes : L
           is_circle = record {
             start = start;
             nonempty = h.some;
-            closed = subst (λ n. Leads n walk start) back h.leads;
+            closed = subst (λ n. LeadsAlong n walk start) back h.leads;
             apart = h.apart;
             standing = h.standing;
           };
@@ -139,7 +139,7 @@ module _ (edges : List Edge) (start level : ℕ) (levels : List ℕ) (causes : L
 -- All starts
 
 pub record KeepsFewest (edges circle : List Edge) (start : ℕ) : Type 0 where
-  pub is_circle : IsCircle edges circle
+  pub is_circle : IsEdgeCircle edges circle
   pub none : (first : ℕ) → first < start → NoneBelow edges first (length circle)
 
 module _ (edges circle : List Edge) (start : ℕ) (h : KeepsFewest edges circle start) where
@@ -157,10 +157,10 @@ module _ (edges circle : List Edge) (start : ℕ) (h : KeepsFewest edges circle 
   }
 
   -- a circle starts at a resource that an edge comes from
-  pub HasFewest-all : (count : ℕ) → IsWithin count edges → count ≤ start → HasFewest edges circle
+  pub HasFewest-all : (count : ℕ) → HasEndsBelow count edges → count ≤ start → HasFewest edges circle
   HasFewest-all count within all other closed joined = h.none closed.start (starts other closed.nonempty closed.closed joined) other closed.closed closed.nonempty joined
     where
-      starts : (walk : List Edge) → 0 < length walk → Leads closed.start walk closed.start → AreJoined edges walk → closed.start < start
+      starts : (walk : List Edge) → 0 < length walk → LeadsAlong closed.start walk closed.start → AreJoined edges walk → closed.start < start
       starts [] some leads joined = absurd (omega arith)
       starts (e ∷ es) some leads joined =
           let found = edge_of edges e.earlier e.later joined.0 in

@@ -12,7 +12,7 @@ use Rattle.batch_recipe.specs.Tree.{Place, Task, runs, follows, Tree, act, skip,
 use Rattle.batch_recipe.specs.Nodes.{Node, nodes, nodes_within, nodes_of_each, nodes_of_choices, needs_of, child}
 use Rattle.batch_model.specs.Lists.{Each}
 use Rattle.batch_model.proofs.Members.{Each-append}
-use Rattle.batch_check.specs.Edges.{number_of}
+use Rattle.batch_check.specs.Edges.{number_of_resource}
 use Rattle.batch_check.proofs.Names.{name_in-found, position_of_own, resources_differ}
 use Rattle.batch_check.specs.ByName.{name_in}
 use Rattle.batch_recipe.specs.Needs as own
@@ -23,7 +23,7 @@ pub record IsFound (c : Cell) (name : Name) : Type 0 where
   pub number : ℕ
   pub below : number < length (resources_of c)
   pub named : name_in c number ≡ name
-  pub numbered : number_of c name ≡ Some number
+  pub numbered : number_of_resource c name ≡ Some number
 
 pub found : (c : Cell) (name : Name) → IsTrue (is_among (resources_of c) name) → IsFound c name
 found c name among =

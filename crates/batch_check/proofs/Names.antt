@@ -10,8 +10,8 @@ use Rattle.batch_cell.specs.LookUps.{resources_of}
 use Rattle.batch_cell.specs.declared.cell.Cell.{Cell}
 use Rattle.batch_recipe.specs.Conditions.{Name, same_name}
 use Rattle.batch_check.specs.declared.edge.Edge.{Edge}
-use Rattle.batch_check.specs.Edges.{number_of}
-use Rattle.batch_check.specs.LeastRanking.{IsWithin}
+use Rattle.batch_check.specs.Edges.{number_of_resource}
+use Rattle.batch_check.specs.LeastRanking.{HasEndsBelow}
 use Rattle.batch_check.specs.ByName.{name_in}
 use Rattle.batch_verify.specs.Refusals.{rank_in}
 
@@ -70,7 +70,7 @@ rank_in-name c ranks resource below = go (position (same_name (name_in c resourc
     go : (o : Option ℕ) → o ≡ Some resource → (elim o [ None ↦ 0 | Some number ↦ get_or ranks number 0 ]) ≡ get_or ranks resource 0
     go o is = rw is refl
 
-pub ranks_rise_by_name : (c : Cell) (ranks : List ℕ) (edges : List Edge) → IsWithin (length (resources_of c)) edges
+pub ranks_rise_by_name : (c : Cell) (ranks : List ℕ) (edges : List Edge) → HasEndsBelow (length (resources_of c)) edges
     → (All (λ e. get_or ranks e.earlier 0 < get_or ranks e.later 0) edges ↔ All (λ e. rank_in c ranks (name_in c e.earlier) < rank_in c ranks (name_in c e.later)) edges)
 ranks_rise_by_name c ranks edges within = (
   λ rising k d in'. rw (rank_in-name c ranks (get_or edges k d).earlier (within k d in').0, rank_in-name c ranks (get_or edges k d).later (within k d in').1) (rising k d in'),
@@ -82,7 +82,7 @@ pub name_in-found : (c : Cell) (resource : ℕ) (name : Name) → slice_get (res
 name_in-found c resource name found = get_or_from_slice_get (resources_of c) resource name [] found
 
 -- a resource has the number of the place where it stands
-pub number_of_own : (c : Cell) (name : Name) (k : ℕ) → slice_get (resources_of c) k ≡ Some name → number_of c name ≡ Some k
+pub number_of_own : (c : Cell) (name : Name) (k : ℕ) → slice_get (resources_of c) k ≡ Some name → number_of_resource c name ≡ Some k
 number_of_own c name k found =
     ap (λ (n : Name). position (same_name n) (resources_of c)) (sym (name_in-found c k name found))
     ∙ position_of_own (resources_of c) k (resources_differ c) (slice_get_within (resources_of c) k name found)

@@ -4,7 +4,7 @@ use Rattle.std.specs.List.{AllByRecursion}
 use Rattle.std.proofs.lemmas.List.Elements.{All-contains, All-weaker, recursion_from_All}
 use Rattle.std.proofs.Math.Seq.{take-append_seam}
 use Rattle.batch_check.specs.declared.edge.Edge.{Edge}
-use Rattle.batch_check.specs.LeastRanking.{IsWithin, IsRanking, IsLeastRanking, IsCircle, Leads}
+use Rattle.batch_check.specs.LeastRanking.{HasEndsBelow, IsRanking, IsLeastRanking, IsEdgeCircle, LeadsAlong}
 use Rattle.batch_check.specs.Raising.{IsProgress, RisesOr}
 
 -- what each round keeps
@@ -46,18 +46,18 @@ IsLeastRanking-still count edges ranks causes sized progress rising = record {
 }
 
 -- after as many rounds as there are resources, all edges rise
-pub IsLeastRanking-all : (count : ℕ) (edges : List Edge) (ranks : List ℕ) (causes : List (Option Edge)) → IsWithin count edges → Rounds count edges ranks causes (count + 1) → IsLeastRanking count edges ranks
+pub IsLeastRanking-all : (count : ℕ) (edges : List Edge) (ranks : List ℕ) (causes : List (Option Edge)) → HasEndsBelow count edges → Rounds count edges ranks causes (count + 1) → IsLeastRanking count edges ranks
 IsLeastRanking-all count edges ranks causes within h =
     IsLeastRanking-still count edges ranks causes h.sized h.progress
     (λ k d in'. ⊎_elim (λ (up : get_or ranks (get_or edges k d).earlier 0 < get_or ranks (get_or edges k d).later 0). up)
     (λ (high : count + 1 ≤ get_or ranks (get_or edges k d).earlier 0). absurd (omega (arith, h.sized, h.progress.bounded (get_or edges k d).earlier (omega (arith, h.sized, (within k d in').0)))))
     (h.rising k d in'))
 
-Leads-rising : (rank : ℕ → ℕ) (first last : ℕ) (walk : List Edge) → AllByRecursion (λ e. rank e.earlier < rank e.later) walk → Leads first walk last → rank first + length walk ≤ rank last
+Leads-rising : (rank : ℕ → ℕ) (first last : ℕ) (walk : List Edge) → AllByRecursion (λ e. rank e.earlier < rank e.later) walk → LeadsAlong first walk last → rank first + length walk ≤ rank last
 Leads-rising rank first last [] h w = omega (arith, ap rank w)
 Leads-rising rank first last (e ∷ es) h w = omega (arith, ap rank w.0, h.0, Leads-rising rank e.later last es h.1 w.1)
 
-pub circle_rules_out : (count : ℕ) (edges circle : List Edge) (rank : ℕ → ℕ) → IsCircle edges circle → IsRanking count edges rank → ⊥
+pub circle_rules_out : (count : ℕ) (edges circle : List Edge) (rank : ℕ → ℕ) → IsEdgeCircle edges circle → IsRanking count edges rank → ⊥
 circle_rules_out count edges circle rank c r =
     let rising : All (λ (e : Edge). rank e.earlier < rank e.later) circle =
     All-weaker (Contains edges) (λ (e : Edge). rank e.earlier < rank e.later) (λ e stands. All-contains (λ (f : Edge). rank f.earlier < rank f.later) edges e r.rising stands) circle c.standing in

@@ -3,7 +3,7 @@ use Rattle.std.proofs.Common.{◌≡◌, ℕ, ◌+◌, ◌<◌, ◌≤◌, ⊎_e
 use Rattle.std.proofs.lemmas.Bool.{cases_eq, false≢true}
 use Rattle.std.proofs.lemmas.List.Elements.{All-contains, All-get_or, Contains-get_or}
 use Rattle.batch_check.specs.declared.edge.Edge.{Edge}
-use Rattle.batch_check.specs.LeastRanking.{IsWithin, IsRanking}
+use Rattle.batch_check.specs.LeastRanking.{HasEndsBelow, IsRanking}
 use Rattle.batch_check.specs.Raising.{IsProgress, IsCaused, RisesOr}
 
 -- no rank falls in a raise
@@ -101,7 +101,7 @@ pub record KeepsRaising (edges : List Edge) (first ranks : List ℕ) (causes : L
   pub still : some_raised ≡ false → (j : ℕ) → j < index → get_or ranks (get_or edges j no_edge).earlier 0 < get_or ranks (get_or edges j no_edge).later 0
 
 module _ (edges : List Edge) (first ranks : List ℕ) (causes : List (Option Edge)) (some_raised : Bool) (index : ℕ)
-    (within : IsWithin (length first) edges)
+    (within : HasEndsBelow (length first) edges)
     (before : KeepsRaising edges first ranks causes some_raised index)
     (in_edges : index < length edges) where
   abbrev item : Edge

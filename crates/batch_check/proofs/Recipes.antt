@@ -17,8 +17,8 @@ use Rattle.batch_check.specs.declared.edge.Edge.{Edge}
 use Rattle.batch_check.specs.declared.edge_set.EdgeSet.{EdgeSet}
 use Rattle.batch_verify.specs.Bindings.{binding_count, numbered}
 use Rattle.batch_verify.proofs.Tried.{numbered-tried}
-use Rattle.batch_check.specs.Edges.{OfNodes, Stands, Covers, CoversRecipes, Follows, AreEdgesOf, has_pair, number_of, numbers_of}
-use Rattle.batch_check.specs.LeastRanking.{IsWithin}
+use Rattle.batch_check.specs.Edges.{OfNodes, Stands, Covers, CoversRecipes, Follows, AreEdgesOf, has_pair, number_of_resource, numbers_of_resources}
+use Rattle.batch_check.specs.LeastRanking.{HasEndsBelow}
 use Rattle.batch_check.specs.Pairs.{ArePaired, Keeps}
 use Rattle.batch_check.specs.Joining.{Grows, HasTaken}
 use Rattle.batch_check.specs.Collecting.{AreAdded, HasAllPairs, IsCollected, IsAdded, PairsAll, PairsRecipe}
@@ -31,7 +31,7 @@ use Rattle.batch_check.proofs.Rising.{Each-get}
 covers_more : (cell : Cell) (old new : List Edge) → Keeps old new → (recipes : List Recipe) → CoversRecipes cell recipes old → CoversRecipes cell recipes new
 covers_more cell old new keeps [] h = tt
 covers_more cell old new keeps (r ∷ rs) h = (
-  λ bound tried. Each-map (Covers cell old) (Covers cell new) (λ node covered. Follows-keeps old new keeps None (numbers_of cell node.asked) covered) (bound_nodes bound r.acts) (h.0 bound tried),
+  λ bound tried. Each-map (Covers cell old) (Covers cell new) (λ node covered. Follows-keeps old new keeps None (numbers_of_resources cell node.asked) covered) (bound_nodes bound r.acts) (h.0 bound tried),
   covers_more cell old new keeps rs h.1,
 )
 
@@ -41,15 +41,15 @@ pair_stands cell recipes edges paired e s =
     let here = Each-get (PairsAll cell edges) (bound_nodes s.bound s.recipe.acts) e.node s.node
     (Each-get (PairsRecipe cell edges) recipes e.recipe s.recipe paired s.found s.bound s.tried) s.numbered in
     let number : (name : Name) (k place : ℕ) → slice_get (resources_of cell) k ≡ Some name → slice_get s.node.asked place ≡ Some name
-    → slice_get (numbers_of cell s.node.asked) place ≡ Some (Some k) =
-    λ name k place named at. slice_get-map (number_of cell) s.node.asked place
-    ∙ (ap (option_map (number_of cell)) at ∙ ap (λ (o : Option ℕ). Some o) (number_of_own cell name k named)) in
+    → slice_get (numbers_of_resources cell s.node.asked) place ≡ Some (Some k) =
+    λ name k place named at. slice_get-map (number_of_resource cell) s.node.asked place
+    ∙ (ap (option_map (number_of_resource cell)) at ∙ ap (λ (o : Option ℕ). Some o) (number_of_own cell name k named)) in
     here s.asked.asked.before s.asked.asked.own e.earlier e.later s.asked.asked.ordered
     (number s.asked.earlier_name e.earlier s.asked.asked.before s.asked.earlier_named s.asked.asked.earlier_is)
     (number s.asked.later_name e.later s.asked.asked.own s.asked.later_named s.asked.asked.later_is)
 
 module _ (cell : Cell) (recipes : List Recipe) where
-  pub standing_within : (edges : List Edge) → All (Stands cell recipes) edges → IsWithin (length (resources_of cell)) edges
+  pub standing_within : (edges : List Edge) → All (Stands cell recipes) edges → HasEndsBelow (length (resources_of cell)) edges
   standing_within edges standing =
       All-weaker (Stands cell recipes) (λ (e : Edge). (e.earlier < length (resources_of cell)) × (e.later < length (resources_of cell)))
       (λ e s. (
@@ -115,7 +115,7 @@ module _ (cell : Cell) (recipes : List Recipe) where
     whole = λ edge stands. pair_stands cell recipes set.edges.items (h.pairing refl set.edges.items (λ i j known. known)) edge stands;
   }
 
-  pub pairs_within : (old set : EdgeSet) → HasAllPairs cell recipes old set → IsWithin (length (resources_of cell)) set.edges.items
+  pub pairs_within : (old set : EdgeSet) → HasAllPairs cell recipes old set → HasEndsBelow (length (resources_of cell)) set.edges.items
   pairs_within old set h = standing_within set.edges.items (λ k e in'. h.standing (get_or set.edges.items k e) (Contains-get_or set.edges.items k e in'))
 
 -- One recipe, binding by binding
@@ -174,7 +174,7 @@ module _ (cell : Cell) (kept : Option (List (Option ℕ))) (recipe : Recipe) (nu
     grown = h.grown;
     standing = h.standing all found;
     covering = λ final later bound tried.
-        bindings_suffice cell (recipe ∷ []) recipe (λ (names : List Name). Follows final None (numbers_of cell names)) (λ k below. h.covering final later k (omega (arith, past))) bound tried;
+        bindings_suffice cell (recipe ∷ []) recipe (λ (names : List Name). Follows final None (numbers_of_resources cell names)) (λ k below. h.covering final later k (omega (arith, past))) bound tried;
     pairing = λ whole final later bound tried.
-        bindings_suffice cell (recipe ∷ []) recipe (λ (names : List Name). ArePaired final (numbers_of cell names)) (λ k below. h.pairing whole final later k (omega (arith, past))) bound tried;
+        bindings_suffice cell (recipe ∷ []) recipe (λ (names : List Name). ArePaired final (numbers_of_resources cell names)) (λ k below. h.pairing whole final later k (omega (arith, past))) bound tried;
   }

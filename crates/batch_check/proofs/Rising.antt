@@ -23,7 +23,7 @@ use Rattle.batch_model.proofs.Parts.{parts-nodes}
 use Rattle.batch_check.specs.declared.edge.Edge.{Edge}
 use Rattle.batch_check.specs.ByName.{name_in}
 use Rattle.batch_verify.specs.Refusals.{rank_in}
-use Rattle.batch_check.specs.Edges.{has_pair, OfNodes, Stands, Covers, CoversRecipes, AreEdgesOf, numbers_of, number_of, Follows}
+use Rattle.batch_check.specs.Edges.{has_pair, OfNodes, Stands, Covers, CoversRecipes, AreEdgesOf, numbers_of_resources, number_of_resource, Follows}
 use Rattle.batch_check.specs.LeastRanking.{IsLeastRanking}
 use Rattle.batch_check.specs.Clearing.{NeedResources, RiseAlongPaths, RiseLeast, StandsAsCircle}
 use Rattle.batch_check.proofs.Names.{name_in-found, rank_in-name}
@@ -97,16 +97,16 @@ module _ (c : Cell) (edges : List Edge) (ranks : List ℕ) (rising : All (λ e. 
   pub rank_of_found : (name : Name) (f : IsFound c name) → rank_in c ranks name ≡ get_or ranks f.number 0
   rank_of_found name f = ap (rank_in c ranks) (sym f.named) ∙ rank_in-name c ranks f.number f.below
 
-  rise_after : (x : Name) (asked : List Name) → K x → Each K asked → Follows edges (number_of c x) (numbers_of c asked) → RiseStrictly (rank_in c ranks) (x ∷ asked)
+  rise_after : (x : Name) (asked : List Name) → K x → Each K asked → Follows edges (number_of_resource c x) (numbers_of_resources c asked) → RiseStrictly (rank_in c ranks) (x ∷ asked)
   rise_after x [] k ks h = tt
   rise_after x (y ∷ ys) k ks h =
       let f = found c x k in
       let g = found c y ks.0 in
-      let joined = subst (λ o. Follows edges o (numbers_of c (y ∷ ys))) f.numbered h in
-      let pair : IsTrue (has_pair edges f.number g.number) = (subst (λ o. Follows edges (Some f.number) (o ∷ numbers_of c ys)) g.numbered joined).0 in
+      let joined = subst (λ o. Follows edges o (numbers_of_resources c (y ∷ ys))) f.numbered h in
+      let pair : IsTrue (has_pair edges f.number g.number) = (subst (λ o. Follows edges (Some f.number) (o ∷ numbers_of_resources c ys)) g.numbered joined).0 in
       (rw (rank_of_found x f, rank_of_found y g) (pair_rises f.number g.number pair), rise_after y ys ks.0 ks.1 h.1)
 
-  pub covered_rises : (asked : List Name) → Each K asked → Follows edges None (numbers_of c asked) → RiseStrictly (rank_in c ranks) asked
+  pub covered_rises : (asked : List Name) → Each K asked → Follows edges None (numbers_of_resources c asked) → RiseStrictly (rank_in c ranks) asked
   covered_rises [] ks h = tt
   covered_rises (x ∷ xs) ks h = rise_after x xs ks.0 ks.1 h.1
 

@@ -4,7 +4,7 @@ use Rattle.std.proofs.lemmas.Bool.{cases_eq, cases_lt, false≢true}
 use Rattle.std.proofs.lemmas.List.{get_or_default}
 use Rattle.std.proofs.lemmas.List.Elements.{All-get_or, Contains-get_or}
 use Rattle.batch_check.specs.declared.edge.Edge.{Edge}
-use Rattle.batch_check.specs.LeastRanking.{IsWithin}
+use Rattle.batch_check.specs.LeastRanking.{HasEndsBelow}
 use Rattle.batch_check.specs.Spreading.{HasReached, IsSpread, LeadsBack, LeadsOn}
 use Rattle.batch_check.proofs.Raises.{no_edge}
 
@@ -98,7 +98,7 @@ module _ (edges : List Edge) (start level : ℕ) (levels : List ℕ) (causes : L
   ]
 
 module _ (edges : List Edge) (start level : ℕ) (first levels : List ℕ) (causes : List (Option Edge)) (further : Bool) (index : ℕ)
-    (within : IsWithin (length first) edges)
+    (within : HasEndsBelow (length first) edges)
     (positive : 0 < level)
     (before : KeepsSpreading edges start level first levels causes further index)
     (in_edges : index < length edges) where

@@ -14,7 +14,7 @@ use Rattle.batch_cell.specs.declared.cell.Cell.{Cell}
 use Rattle.batch_recipe.specs.Conditions.{Name}
 use Rattle.batch_check.specs.declared.edge.Edge.{Edge}
 use Rattle.batch_check.specs.ByName.{name_in, IsBelow, BeginsWithLeastName}
-use Rattle.batch_check.specs.LeastRanking.{IsCircle, Leads}
+use Rattle.batch_check.specs.LeastRanking.{IsEdgeCircle, LeadsAlong}
 use Rattle.batch_check.proofs.Raises.{no_edge}
 use Rattle.batch_check.proofs.Walks.{laters_distinct}
 
@@ -57,14 +57,14 @@ module _ (c : Cell) (edges : List Edge) where
 
 -- Turns
 
-Leads-split : (first last : ℕ) (xs ys : List Edge) → Leads first (xs ++ ys) last → (middle : ℕ) × Leads first xs middle × Leads middle ys last
+Leads-split : (first last : ℕ) (xs ys : List Edge) → LeadsAlong first (xs ++ ys) last → (middle : ℕ) × LeadsAlong first xs middle × LeadsAlong middle ys last
 Leads-split first last [] ys h = (first, refl, h)
 Leads-split first last (e ∷ es) ys h =
     let rest = Leads-split e.later last es ys h.1 in
     (rest.0, (h.0, rest.1), rest.2)
 
-Leads-join : (first middle last : ℕ) (xs ys : List Edge) → Leads first xs middle → Leads middle ys last → Leads first (xs ++ ys) last
-Leads-join first middle last [] ys g h = subst (λ n. Leads n ys last) (sym g) h
+Leads-join : (first middle last : ℕ) (xs ys : List Edge) → LeadsAlong first xs middle → LeadsAlong middle ys last → LeadsAlong first (xs ++ ys) last
+Leads-join first middle last [] ys g h = subst (λ n. LeadsAlong n ys last) (sym g) h
 Leads-join first middle last (e ∷ es) ys g h = (g.0, Leads-join e.later middle last es ys g.1 h)
 
 -- edges into different resources stay so in another order
@@ -78,7 +78,7 @@ apart_permuted xs ys apart =
     (get_or-map f (ys ++ xs) i d 0 (omega arith) ∙ (same ∙ sym (get_or-map f (ys ++ xs) j d 0 j_in)))
 
 -- a circle is one from each of its places
-IsCircle-swapped : (edges xs ys : List Edge) → IsCircle edges (xs ++ ys) → IsCircle edges (ys ++ xs)
+IsCircle-swapped : (edges xs ys : List Edge) → IsEdgeCircle edges (xs ++ ys) → IsEdgeCircle edges (ys ++ xs)
 IsCircle-swapped edges xs ys h =
     let parts = Leads-split h.start h.start xs ys h.closed in
     record {
@@ -89,8 +89,8 @@ IsCircle-swapped edges xs ys h =
       standing = All-permutation (Contains edges) (xs ++ ys) (ys ++ xs) (IsPermutation-append_comm xs ys) h.standing;
     }
 
-pub IsCircle-turned : (edges circle : List Edge) (place : ℕ) → IsCircle edges circle → IsCircle edges (drop place circle ++ take place circle)
-IsCircle-turned edges circle place h = IsCircle-swapped edges (take place circle) (drop place circle) (subst (IsCircle edges) (sym (take-append-drop place circle)) h)
+pub IsCircle-turned : (edges circle : List Edge) (place : ℕ) → IsEdgeCircle edges circle → IsEdgeCircle edges (drop place circle ++ take place circle)
+IsCircle-turned edges circle place h = IsCircle-swapped edges (take place circle) (drop place circle) (subst (IsEdgeCircle edges) (sym (take-append-drop place circle)) h)
 
 pub length-turned : (circle : List Edge) (place : ℕ) → length (drop place circle ++ take place circle) ≡ length circle
 length-turned circle place =

@@ -24,7 +24,7 @@ use Rattle.batch_verify.specs.declared.rule.Rule.TheVariants.{UnknownResource, S
 use Rattle.batch_verify.specs.declared.rule.Broken.{Broken}
 use Rattle.batch_check.specs.declared.fault.CheckFault.{CheckFault}
 use Rattle.batch_check.specs.declared.fault.CheckFault.TheVariants.{Recipes, Recipe as in_recipe, Circle, Memory}
-use Rattle.batch_check.specs.Checking.{IsSoundRecipe}
+use Rattle.batch_check.specs.Checking.{IsSoundMaster}
 use Rattle.batch_check.specs.Finding.{IsRecipeFault, IsCircleFault, AreLeastRanks}
 use Rattle.batch_check.specs.Clearing.{NeedResources, RiseAlongPaths, IsLeastClearance}
 use Rattle.batch_check.proofs.Rising.{Each-get, nodes-Each, parts_hold, cleared_rises, circle_leaves_none}
@@ -78,7 +78,7 @@ tried_with d e same m bound h = go m.roles h
     go [] h = tt
     go (role ∷ roles) h = ((λ named. tried_for d e same role.candidates (bound role.name) (h.0 named)), go roles h.1)
 
-pub needs_known : (c : equipment.Cell) (all recipes : List document.Recipe) → Each (IsSoundRecipe (setup_of c all)) (map (master_of c) recipes) → NeedResources c recipes
+pub needs_known : (c : equipment.Cell) (all recipes : List document.Recipe) → Each (IsSoundMaster (setup_of c all)) (map (master_of c) recipes) → NeedResources c recipes
 needs_known c all [] h = tt
 needs_known c all (r ∷ rs) h = (
   λ bound tried.
@@ -88,7 +88,7 @@ needs_known c all (r ∷ rs) h = (
   needs_known c all rs h.1,
 )
 
-pub candidates_known : (c : equipment.Cell) (all recipes : List document.Recipe) → Each (IsSoundRecipe (setup_of c all)) (map (master_of c) recipes)
+pub candidates_known : (c : equipment.Cell) (all recipes : List document.Recipe) → Each (IsSoundMaster (setup_of c all)) (map (master_of c) recipes)
     → Each HasCandidates (map (master_of c) recipes)
 candidates_known c all [] h = tt
 candidates_known c all (r ∷ rs) h = (has_candidates c all r r.kinds r.own_roles None h.0, candidates_known c all rs h.1)
@@ -98,7 +98,7 @@ sound_rises setup rank [] h g = tt
 sound_rises setup rank (x ∷ xs) h g =
     (record { known = h.0.known; on_unit = h.0.on_unit; within = h.0.within; offered = h.0.offered; apart = h.0.apart; turning = h.0.turning; rising = g.0 }, sound_rises setup rank xs h.1 g.1)
 
-rising_clears : (c : equipment.Cell) (all : List document.Recipe) (rank : Ranking) (recipes : List document.Recipe) → Each (IsSoundRecipe (setup_of c all)) (map (master_of c) recipes)
+rising_clears : (c : equipment.Cell) (all : List document.Recipe) (rank : Ranking) (recipes : List document.Recipe) → Each (IsSoundMaster (setup_of c all)) (map (master_of c) recipes)
     → RiseAlongPaths c rank recipes → Each (IsClearedRecipe (setup_of c all) rank) (map (master_of c) recipes)
 rising_clears c all rank [] h g = tt
 rising_clears c all rank (r ∷ rs) h g =
@@ -116,7 +116,7 @@ rising_clears c all rank (r ∷ rs) h g =
       rising_clears c all rank rs h.1 g.1,
     )
 
-pub least_clearance : (c : equipment.Cell) (recipes : List document.Recipe) (ranks : List ℕ) → IsRecipeSet (map (master_of c) recipes) → Each (IsSoundRecipe (setup_of c recipes)) (map (master_of c) recipes)
+pub least_clearance : (c : equipment.Cell) (recipes : List document.Recipe) (ranks : List ℕ) → IsRecipeSet (map (master_of c) recipes) → Each (IsSoundMaster (setup_of c recipes)) (map (master_of c) recipes)
     → AreLeastRanks c recipes ranks → IsLeastClearance c recipes (rank_in c ranks)
 least_clearance c recipes ranks set sound least =
     let rise = least.rising (needs_known c recipes recipes sound) in
@@ -141,7 +141,7 @@ pub recipe_at : (c : equipment.Cell) (recipes : List document.Recipe) (k : ℕ) 
 recipe_at c recipes k recipe in' is = slice_get-map (master_of c) recipes k ∙ ap (option_map (master_of c)) (slice_get_read recipes (length recipes) k recipe refl in' is)
 
 pub sound_more : (c : equipment.Cell) (d : Setup) (recipes : List document.Recipe) (k : ℕ) (recipe : document.Recipe) → k < length recipes → recipe ≡ get_or recipes k recipe
-    → Each (IsSoundRecipe d) (take k (map (master_of c) recipes)) → IsSoundRecipe d (master_of c recipe) → Each (IsSoundRecipe d) (take (k + 1) (map (master_of c) recipes))
+    → Each (IsSoundMaster d) (take k (map (master_of c) recipes)) → IsSoundMaster d (master_of c recipe) → Each (IsSoundMaster d) (take (k + 1) (map (master_of c) recipes))
 sound_more c d recipes k recipe in' is before here =
     let masters : List Master = map (master_of c) recipes in
     let master : Master = master_of c recipe in
@@ -149,4 +149,4 @@ sound_more c d recipes k recipe in' is before here =
     let next : take (k + 1) masters ≡ take k masters ++ master ∷ [] =
     take_more masters k master within
     ∙ ap (λ (r : Master). take k masters ++ r ∷ []) (get_or_from_slice_get masters k master master (recipe_at c recipes k recipe in' is)) in
-    subst (λ (rs : List Master). Each (IsSoundRecipe d) rs) (sym next) (Each-append (IsSoundRecipe d) (take k masters) (master ∷ []) before (here, tt))
+    subst (λ (rs : List Master). Each (IsSoundMaster d) rs) (sym next) (Each-append (IsSoundMaster d) (take k masters) (master ∷ []) before (here, tt))

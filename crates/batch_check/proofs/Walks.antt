@@ -8,7 +8,7 @@ use Rattle.std.proofs.lemmas.List.Kept.{AllPairs-cons}
 use Rattle.std.proofs.lemmas.Map.Keys.{IsDistinct-from_apart}
 use Rattle.std.proofs.lemmas.Map.Steps.{length-le_from_distinct_below}
 use Rattle.batch_check.specs.declared.edge.Edge.{Edge}
-use Rattle.batch_check.specs.LeastRanking.{IsWithin, IsCircle, Leads}
+use Rattle.batch_check.specs.LeastRanking.{HasEndsBelow, IsEdgeCircle, LeadsAlong}
 use Rattle.batch_check.specs.Raising.{IsProgress, IsCaused, Overruns}
 use Rattle.batch_check.proofs.Raises.{no_edge}
 
@@ -37,7 +37,7 @@ length-le_from_apart n walk apart within =
     subst (λ m. m ≤ n) (length-map walk f) (length-le_from_distinct_below (map f walk) n (laters_distinct walk apart) (below_any n (map f walk) below))
 
 -- the front of a walk ends where its last edge leads
-pub Leads-take : (first last i : ℕ) (walk : List Edge) → i < length walk → Leads first walk last → Leads first (take (suc i) walk) (get_or walk i no_edge).later
+pub Leads-take : (first last i : ℕ) (walk : List Edge) → i < length walk → LeadsAlong first walk last → LeadsAlong first (take (suc i) walk) (get_or walk i no_edge).later
 Leads-take first last i [] h w = absurd (omega arith)
 Leads-take first last zero (e ∷ es) h w = (w.0, refl)
 Leads-take first last (suc i) (e ∷ es) h w = (w.0, Leads-take e.later last i es (omega arith) w.1)
@@ -52,14 +52,14 @@ AllPairs-take n walk h = λ i j d ij j_in.
 -- what the walk keeps
 pub record Walks (edges : List Edge) (ranks : List ℕ) (walk : List Edge) (at : ℕ) : Type 0 where
   pub last : ℕ
-  pub leads : Leads at walk last
+  pub leads : LeadsAlong at walk last
   pub apart : AllPairs (λ e f. e.later ≢ f.later) walk
   pub standing : All (Contains edges) walk
   pub high : length ranks + 1 ≤ get_or ranks at 0 + length walk
   pub within : at < length ranks
 
 module _ (edges : List Edge) (ranks : List ℕ) (causes : List (Option Edge))
-    (in_range : IsWithin (length ranks) edges)
+    (in_range : HasEndsBelow (length ranks) edges)
     (progress : IsProgress edges ranks causes) where
   laters : (walk : List Edge) → All (Contains edges) walk → All (λ e. e.later < length ranks) walk
   laters walk h = All-weaker (Contains edges) (λ e. e.later < length ranks) (λ e stands. (All-contains (λ f. (f.earlier < length ranks) × (f.later < length ranks)) edges e in_range stands).1) walk h
@@ -99,18 +99,18 @@ module _ (edges : List Edge) (ranks : List ℕ) (causes : List (Option Edge))
       let into : cause.later ≡ at = sym (ap (λ (e : Edge). e.later) same) ∙ caused.into in
       record {
         last = h.last;
-        leads = (refl, subst (λ n. Leads n walk h.last) (sym into) h.leads);
+        leads = (refl, subst (λ n. LeadsAlong n walk h.last) (sym into) h.leads);
         apart = AllPairs-cons (λ e f. e.later ≢ f.later) cause walk (λ k d in' eq. absent k d in' (sym eq ∙ into)) h.apart;
         standing = All-cons (Contains edges) cause walk stands h.standing;
         high = omega (arith, h.high, caused.one_above, ap (λ (e : Edge). get_or ranks e.earlier 0) same);
         within = (All-contains (λ f. (f.earlier < length ranks) × (f.later < length ranks)) edges cause in_range stands).0;
       }
 
-  pub IsCircle-take : (walk : List Edge) (at i : ℕ) → Walks edges ranks walk at → i < length walk → (get_or walk i no_edge).later ≡ at → IsCircle edges (take (i + 1) walk)
+  pub IsCircle-take : (walk : List Edge) (at i : ℕ) → Walks edges ranks walk at → i < length walk → (get_or walk i no_edge).later ≡ at → IsEdgeCircle edges (take (i + 1) walk)
   IsCircle-take walk at i h in' is = record {
     start = at;
     nonempty = omega (arith, length-take (i + 1) walk);
-    closed = rw add-one (subst (λ n. Leads at (take (suc i) walk) n) is (Leads-take at h.last i walk in' h.leads));
+    closed = rw add-one (subst (λ n. LeadsAlong at (take (suc i) walk) n) is (Leads-take at h.last i walk in' h.leads));
     apart = AllPairs-take (i + 1) walk h.apart;
     standing = All-take (Contains edges) (i + 1) walk h.standing;
   }

@@ -10,7 +10,7 @@ use Rattle.batch_cell.specs.declared.cell.Cell.{Cell}
 use Rattle.batch_recipe.specs.Conditions.{Name}
 use Rattle.batch_verify.specs.Refusals.{rank_in}
 use Rattle.batch_check.specs.declared.edge.Edge.{Edge}
-use Rattle.batch_check.specs.LeastRanking.{IsWithin}
+use Rattle.batch_check.specs.LeastRanking.{HasEndsBelow}
 
 -- the name of the resource with this number
 abbrev pub name_in : Cell → ℕ → Name
@@ -37,6 +37,6 @@ RanksByName = (c : Cell) (ranks : List ℕ) (resource : ℕ) → resource < leng
 
 -- along edges between resources, ranks rise by name just where they rise by number
 abbrev pub RanksRiseByName : Type 0
-RanksRiseByName = (c : Cell) (ranks : List ℕ) (edges : List Edge) → IsWithin (length (resources_of c)) edges
+RanksRiseByName = (c : Cell) (ranks : List ℕ) (edges : List Edge) → HasEndsBelow (length (resources_of c)) edges
     → (All (λ e. slice_index ranks e.earlier < slice_index ranks e.later) edges
     ↔ All (λ e. rank_in c ranks (name_in c e.earlier) < rank_in c ranks (name_in c e.later)) edges)

@@ -15,14 +15,14 @@ use Rattle.batch_check.specs.Clearing.{StandsAsCircle}
 use Rattle.batch_check.specs.Shortest.{IsShortest}
 
 -- all nodes of the recipe meet the rules that don't speak of ranks, whatever units are tried for its roles
-abbrev pub IsSoundRecipe : Setup → Master → Type 0
-IsSoundRecipe setup master = IsVerdictOn setup None master None
+abbrev pub IsSoundMaster : Setup → Master → Type 0
+IsSoundMaster setup master = IsVerdictOn setup None master None
 
 -- recipe k is the first with a node that breaks such a rule, and this is the first that does
 pub record IsFirstUnsound (setup : Setup) (recipes : List Master) (k : ℕ) (broken : Broken) : Type 0 where
   pub recipe : Master
   pub found : slice_get recipes k ≡ Some recipe
-  pub before : Each (IsSoundRecipe setup) (take k recipes)
+  pub before : Each (IsSoundMaster setup) (take k recipes)
   pub first : IsFirstBrokenBy setup None recipe broken
 
 -- the fault stands, and nothing does that is looked for before it: names and number of the recipes, then the recipes one
@@ -32,7 +32,7 @@ IsFault c recipes Recipes = ¬ (IsRecipeSet (setup_of c recipes).recipes)
 IsFault c recipes (in_recipe k broken) =
     IsRecipeSet (setup_of c recipes).recipes × IsFirstUnsound (setup_of c recipes) (setup_of c recipes).recipes k broken
 IsFault c recipes (Circle circle) =
-    IsRecipeSet (setup_of c recipes).recipes × Each (IsSoundRecipe (setup_of c recipes)) (setup_of c recipes).recipes
+    IsRecipeSet (setup_of c recipes).recipes × Each (IsSoundMaster (setup_of c recipes)) (setup_of c recipes).recipes
     × StandsAsCircle c recipes circle.items × BeginsWithLeastName c circle.items × IsShortest c recipes circle.items
 IsFault c recipes Memory = ⊤
 

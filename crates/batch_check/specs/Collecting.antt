@@ -16,7 +16,7 @@ use Rattle.batch_check.specs.declared.path.Path.{Path}
 use Rattle.batch_check.specs.declared.path.Reach.{Reach}
 use Rattle.batch_check.specs.declared.path.Reach.TheVariants.{Next, Whole}
 use Rattle.batch_check.specs.declared.path.Site.{Site}
-use Rattle.batch_check.specs.Edges.{AsksByNumber, CoversRecipes, OfNodes, Stands, has_pair, numbers_of, Follows, Covers}
+use Rattle.batch_check.specs.Edges.{AsksByNumber, CoversRecipes, OfNodes, Stands, has_pair, numbers_of_resources, Follows, Covers}
 use Rattle.batch_check.specs.Joining.{AreBelow, Grows, items_in, needs_in}
 use Rattle.batch_check.specs.Pairs.{ArePaired, Keeps}
 
@@ -61,12 +61,12 @@ last_number last (need ∷ needs) = last_number need needs
 
 -- the needs above end in this one
 abbrev pub EndsIn : Cell → List Name → Option ℕ → Type 0
-EndsIn cell above last = last_number None (numbers_of cell above) ≡ last
+EndsIn cell above last = last_number None (numbers_of_resources cell above) ≡ last
 
 -- the path is that of the needs above: it ends in the last one, and where it keeps needs, it keeps these
 pub record IsPathOf (cell : Cell) (above : List Name) (path : Path) : Type 0 where
   pub ends : EndsIn cell above path.last
-  pub kept : (needs : List (Option ℕ)) → kept_by path ≡ Some needs → needs ≡ numbers_of cell above
+  pub kept : (needs : List (Option ℕ)) → kept_by path ≡ Some needs → needs ≡ numbers_of_resources cell above
 
 -- the edge leads to one of the own needs, which are asked for after those above
 pub record IsAmong (cell : Cell) (above own : List Name) (edge : Edge) : Type 0 where
@@ -85,11 +85,11 @@ pub record IsAmong (cell : Cell) (above own : List Name) (edge : Edge) : Type 0 
 pub record GoesOn (cell : Cell) (path : Path) (own : List Name) (edges : EdgeSet) (next : Path) : Type 0 where
   pub ready : IsReady cell next edges
   pub same_recipe : next.recipe ≡ path.recipe
-  pub ends : next.last ≡ last_number path.last (numbers_of cell own)
-  pub extended : kept_by next ≡ option_map (λ needs. needs ++ numbers_of cell own) (kept_by path)
-  pub covering : Follows edges.edges.items path.last (numbers_of cell own)
+  pub ends : next.last ≡ last_number path.last (numbers_of_resources cell own)
+  pub extended : kept_by next ≡ option_map (λ needs. needs ++ numbers_of_resources cell own) (kept_by path)
+  pub covering : Follows edges.edges.items path.last (numbers_of_resources cell own)
   pub pairing : (needs : List (Option ℕ)) → kept_by path ≡ Some needs → (final : List Edge) → Keeps edges.edges.items final
-      → ArePaired final needs → ArePaired final (needs ++ numbers_of cell own)
+      → ArePaired final needs → ArePaired final (needs ++ numbers_of_resources cell own)
 
 -- the act at the node number has asked for its own needs, and the path goes on by them
 pub record HasAsked (cell : Cell) (path : Path) (node : ℕ) (own : List Name) (old new : EdgeSet) (next : Path) : Type 0 where
@@ -109,7 +109,7 @@ pub record StandsAmong (cell : Cell) (recipe : ℕ) (nodes : List Node) (edge : 
 
 -- each two resources on the node's path are an edge
 abbrev pub PairsAll : Cell → List Edge → Node → Type 0
-PairsAll cell edges node = ArePaired edges (numbers_of cell node.asked)
+PairsAll cell edges node = ArePaired edges (numbers_of_resources cell node.asked)
 
 -- the edges of these nodes were collected: each new edge stands at one of them, and whatever edges come later, the nodes are
 -- covered, and their needs paired where needs are kept

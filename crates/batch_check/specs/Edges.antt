@@ -50,11 +50,11 @@ pub record Stands (cell : Cell) (recipes : List Recipe) (edge : Edge) : Type 0 w
 -- Edges that cover
 
 -- the number of the resource with this name
-abbrev pub number_of : Cell → Name → Option ℕ
-number_of cell name = position (same_name name) (resources_of cell)
+abbrev pub number_of_resource : Cell → Name → Option ℕ
+number_of_resource cell name = position (same_name name) (resources_of cell)
 
-abbrev pub numbers_of : Cell → List Name → List (Option ℕ)
-numbers_of cell names = map (number_of cell) names
+abbrev pub numbers_of_resources : Cell → List Name → List (Option ℕ)
+numbers_of_resources cell names = map (number_of_resource cell) names
 
 -- some edge leads from the one resource to the other
 abbrev pub has_pair : List Edge → ℕ → ℕ → Bool
@@ -73,7 +73,7 @@ Follows edges last (need ∷ needs) = Joins edges last need × Follows edges nee
 
 -- each two resources that follow one another on the node's path are an edge
 abbrev pub Covers : Cell → List Edge → Node → Type 0
-Covers cell edges node = Follows edges None (numbers_of cell node.asked)
+Covers cell edges node = Follows edges None (numbers_of_resources cell node.asked)
 
 -- the word is so of all nodes of the recipe, whatever units take its roles
 abbrev pub OfNodes : Cell → (Node → Type 0) → Recipe → Type 0

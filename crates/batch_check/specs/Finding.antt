@@ -16,14 +16,14 @@ use Rattle.batch_check.specs.declared.ranking.Ranking.TheVariants.{Ranks, Circle
 use Rattle.batch_check.specs.ByName.{BeginsWithLeastName}
 use Rattle.batch_check.specs.Checking.{IsFirstUnsound}
 use Rattle.batch_check.specs.Clearing.{StandsAsCircle, NeedResources, RiseLeast}
-use Rattle.batch_check.specs.LeastRanking.{IsCircle, IsLeastRanking}
+use Rattle.batch_check.specs.LeastRanking.{IsEdgeCircle, IsLeastRanking}
 use Rattle.batch_check.specs.Shortest.{IsShortest}
 use Rattle.batch_check.specs.TightRanks.{RanksTightly}
 
 -- the least ranking, or a circle
 abbrev pub IsRankingOf : ℕ → List Edge → Ranking → Type 0
 IsRankingOf count edges (Ranks ranks) = IsLeastRanking count edges ranks.items
-IsRankingOf count edges (Circle circle) = IsCircle edges circle.items
+IsRankingOf count edges (Circle circle) = IsEdgeCircle edges circle.items
 
 -- a fault of a recipe, where recipes alone were looked at
 abbrev pub IsRecipeFault : Setup → CheckFault → Type 0

@@ -4,8 +4,8 @@ use Rattle.std.specs.List.{All, AllPairs, Contains}
 use Rattle.batch_check.specs.declared.edge.Edge.{Edge}
 
 -- both resources of each edge are below count
-abbrev pub IsWithin : ℕ → List Edge → Type 0
-IsWithin count edges = All (λ e. (e.earlier < count) × (e.later < count)) edges
+abbrev pub HasEndsBelow : ℕ → List Edge → Type 0
+HasEndsBelow count edges = All (λ e. (e.earlier < count) × (e.later < count)) edges
 
 -- Rankings
 
@@ -35,17 +35,17 @@ pub record IsLeastRanking (count : ℕ) (edges : List Edge) (ranks : List ℕ) :
 -- Circles
 
 -- the edges lead from the first resource to the last: the later of each edge is the earlier of the next
-abbrev pub Leads : ℕ → List Edge → ℕ → Type 0
-Leads first [] last = first ≡ last
-Leads first (e ∷ es) last = (e.earlier ≡ first) × Leads e.later es last
+abbrev pub LeadsAlong : ℕ → List Edge → ℕ → Type 0
+LeadsAlong first [] last = first ≡ last
+LeadsAlong first (e ∷ es) last = (e.earlier ≡ first) × LeadsAlong e.later es last
 
 -- edges out of these that lead from a resource back to it, and no resource comes twice
-pub record IsCircle (edges : List Edge) (circle : List Edge) : Type 0 where
+pub record IsEdgeCircle (edges : List Edge) (circle : List Edge) : Type 0 where
   pub start : ℕ
   pub nonempty : 0 < length circle
-  pub closed : Leads start circle start
+  pub closed : LeadsAlong start circle start
   pub apart : AllPairs (λ e f. e.later ≢ f.later) circle
   pub standing : All (Contains edges) circle
 
 abbrev pub CirclesLeaveNoRanking : Type 0
-CirclesLeaveNoRanking = (count : ℕ) (edges circle : List Edge) (rank : ℕ → ℕ) → IsCircle edges circle → IsRanking count edges rank → ⊥
+CirclesLeaveNoRanking = (count : ℕ) (edges circle : List Edge) (rank : ℕ → ℕ) → IsEdgeCircle edges circle → IsRanking count edges rank → ⊥

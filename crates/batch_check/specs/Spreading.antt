@@ -6,7 +6,7 @@ use Rattle.batch_check.specs.declared.edge.Edge.{Edge}
 use Rattle.batch_check.specs.declared.spreading.Spread.{Spread}
 use Rattle.batch_check.specs.declared.spreading.Spread.TheVariants.{Still, Further, Back}
 use Rattle.batch_check.specs.Edges.{has_pair}
-use Rattle.batch_check.specs.LeastRanking.{IsCircle, Leads}
+use Rattle.batch_check.specs.LeastRanking.{IsEdgeCircle, LeadsAlong}
 
 -- Levels, which count from 1, that of the start; 0 is that of what isn't reached
 
@@ -59,19 +59,19 @@ AreJoined edges walk = Each (λ e. IsTrue (has_pair edges e.earlier e.later)) wa
 
 -- joined resources lead from the start back to it by no fewer edges than these
 abbrev pub NoneBelow : List Edge → ℕ → ℕ → Type 0
-NoneBelow edges start most = (walk : List Edge) → Leads start walk start → 0 < length walk → AreJoined edges walk → most ≤ length walk
+NoneBelow edges start most = (walk : List Edge) → LeadsAlong start walk start → 0 < length walk → AreJoined edges walk → most ≤ length walk
 
 -- a circle of so many edges
 pub record IsClosedAt (edges : List Edge) (start level : ℕ) (circle : List Edge) : Type 0 where
-  pub is_circle : IsCircle edges circle
+  pub is_circle : IsEdgeCircle edges circle
   pub sized : length circle ≡ level
 
 -- a circle with fewer than so many edges, and no other through the start has fewer
 pub record IsFewest (edges : List Edge) (start most : ℕ) (circle : List Edge) : Type 0 where
-  pub is_circle : IsCircle edges circle
+  pub is_circle : IsEdgeCircle edges circle
   pub fewer : length circle < most
   pub none : NoneBelow edges start (length circle)
 
 -- no circle of joined resources has fewer edges
 abbrev pub HasFewest : List Edge → List Edge → Type 0
-HasFewest edges circle = (other : List Edge) → IsCircle other other → AreJoined edges other → length circle ≤ length other
+HasFewest edges circle = (other : List Edge) → IsEdgeCircle other other → AreJoined edges other → length circle ≤ length other

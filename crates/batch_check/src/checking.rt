@@ -5,9 +5,9 @@ ghost use Rattle.batch_model.specs.Lists.{Each};
 ghost use Rattle.batch_model.specs.Cleared.{CanBeCleared, IsCleared};
 ghost use Rattle.batch_model.specs.Setups.{master_of, setup_of};
 ghost use Rattle.batch_model.specs.declared.limits.TheConstants.{MAX_RECIPES};
-ghost use Rattle.batch_verify.specs.CertificateText.{AreInOrder};
+ghost use Rattle.batch_verify.specs.CertificateText.{AreInOrderOfName};
 ghost use Rattle.batch_verify.specs.Ranked.{rank_of, RanksAll};
-ghost use Rattle.batch_check.specs.Checking.{IsFault, IsSoundRecipe};
+ghost use Rattle.batch_check.specs.Checking.{IsFault, IsSoundMaster};
 ghost use Rattle.batch_check.specs.Clearing.{IsLeastClearance};
 ghost use Rattle.batch_check.specs.Finding.{AreLeastRanks, IsCircleFault, IsRecipeFault};
 ghost use Rattle.batch_check.specs.TightRanks.{RanksTightly};
@@ -32,7 +32,7 @@ pub fn check(alloc: Global, cell: &Cell, recipes: &[Recipe]) -> Result<Certifica
     ensures least { IfOk result (λ certificate. IsLeastClearance cell.now recipes.now (rank_of certificate.ranks.items)) }
     // A resource's rank is one more than the greatest among those asked for before it on some path, and 1 where there are none.
     ensures tight { IfOk result (λ certificate. RanksTightly cell.now recipes.now (rank_of certificate.ranks.items)) }
-    ensures in_order { IfOk result (λ certificate. AreInOrder certificate.ranks.items) }
+    ensures in_order { IfOk result (λ certificate. AreInOrderOfName certificate.ranks.items) }
 
     ensures first { IfErr result (IsFault cell.now recipes.now) }
     // What a caller needs of it: but for memory, no ranking clears the recipes.
@@ -51,7 +51,7 @@ pub fn check(alloc: Global, cell: &Cell, recipes: &[Recipe]) -> Result<Certifica
 fn check_each(alloc: Global, cell: &Cell, recipes: &[Recipe]) -> Result<(), CheckFault>
     requires { length recipes.now ≤ MAX_RECIPES }
     ensures sound { OnOk result
-        (Each (IsSoundRecipe (setup_of cell.now recipes.now)) (map (master_of cell.now) recipes.now)) }
+        (Each (IsSoundMaster (setup_of cell.now recipes.now)) (map (master_of cell.now) recipes.now)) }
     ensures fault { IfErr result (IsRecipeFault (setup_of cell.now recipes.now)) }
 {
     for (number, recipe) in recipes.iter().enumerate() {

@@ -1,7 +1,7 @@
 //! Circles of edges.
 ghost use Rattle.std.specs.Prelude.{◌≡◌, ◌≢◌, ℕ, ◌<◌, length, IfOk, IfSome, IfNone};
 ghost use Rattle.std.specs.List.{All, HoldsAt};
-ghost use Rattle.batch_check.specs.LeastRanking.{IsWithin, IsCircle};
+ghost use Rattle.batch_check.specs.LeastRanking.{HasEndsBelow, IsEdgeCircle};
 ghost use Rattle.batch_check.specs.Raising.{IsProgress, Overruns};
 
 use crate::edge::Edge;
@@ -15,10 +15,10 @@ pub(crate) fn circle_through(
     ranks: &[u32],
     causes: &[Option<Edge>],
 ) -> Result<Vec<Edge>, AllocError>
-    requires within { IsWithin (length ranks.now) edges.now }
+    requires within { HasEndsBelow (length ranks.now) edges.now }
     requires progress { IsProgress edges.now ranks.now causes.now }
     requires overruns { Overruns edges.now ranks.now edge }
-    ensures { IfOk result (λ circle. IsCircle edges.now circle.items) }
+    ensures { IfOk result (λ circle. IsEdgeCircle edges.now circle.items) }
 {
     let mut walk = vec![in alloc; edge]?;
     let mut at = edge.earlier;

@@ -4,7 +4,7 @@ ghost use Rattle.batch_cell.specs.LookUps.{resources_of};
 ghost use Rattle.batch_recipe.specs.declared.recipe.Recipe.{Recipe};
 ghost use Rattle.batch_check.specs.Collecting.{AreAdded, HasAllPairs, IsAdded, kept_at_top};
 ghost use Rattle.batch_check.specs.Edges.{AreEdgesOf};
-ghost use Rattle.batch_check.specs.LeastRanking.{IsWithin};
+ghost use Rattle.batch_check.specs.LeastRanking.{HasEndsBelow};
 ghost use Rattle.batch_model.specs.declared.limits.TheConstants.{MAX_RECIPES};
 
 use crate::collecting::collect;
@@ -25,7 +25,7 @@ pub(crate) fn edges_of(
     requires { length recipes.now ≤ MAX_RECIPES }
     ensures sized { IfOk result (λ set. set.count ≡ length (resources_of cell.now)) }
     ensures edges { IfOk result (λ set. AreEdgesOf cell.now recipes.now set.edges.items) }
-    ensures within { IfOk result (λ set. IsWithin (length (resources_of cell.now)) set.edges.items) }
+    ensures within { IfOk result (λ set. HasEndsBelow (length (resources_of cell.now)) set.edges.items) }
 {
     let mut set = EdgeSet::new(alloc, cell.resources())?;
     add_all(alloc, cell, recipes, Reach::Next, &mut set)?;
@@ -43,7 +43,7 @@ pub(crate) fn add_pairs(
     requires sized { set.old.count ≡ length (resources_of cell.now) }
     requires edges { AreEdgesOf cell.now recipes.now set.old.edges.items }
     ensures pairs { OnOk result (HasAllPairs cell.now recipes.now set.old set.new) }
-    ensures within { OnOk result (IsWithin (length (resources_of cell.now)) set.new.edges.items) }
+    ensures within { OnOk result (HasEndsBelow (length (resources_of cell.now)) set.new.edges.items) }
 {
     add_all(alloc, cell, recipes, Reach::Whole, set)
 }

@@ -3,7 +3,7 @@ ghost use Rattle.std.specs.Prelude.{IfOk, IfErr, OnOk};
 ghost use Rattle.batch_check.specs.Checking.{IsSetFault};
 ghost use Rattle.batch_check.specs.Edges.{AreEdgesOf};
 ghost use Rattle.batch_check.specs.Joining.{HasTaken};
-ghost use Rattle.batch_check.specs.LeastRanking.{IsWithin};
+ghost use Rattle.batch_check.specs.LeastRanking.{HasEndsBelow};
 
 use crate::checking::ranks_of;
 use crate::edge::Edge;
@@ -39,7 +39,7 @@ pub fn graph_of(alloc: Global, cell: &Cell, recipes: &[Recipe]) -> Result<Vec<Ed
 
 /// Adds these edges, where none leads from the one resource to the other yet.
 fn take(edges: &[Edge], set: &mut EdgeSet) -> Result<(), AllocError>
-    requires { IsWithin set.old.count edges.now }
+    requires { HasEndsBelow set.old.count edges.now }
     ensures { OnOk result (HasTaken edges.now set.old set.new) }
 {
     for edge in edges {

@@ -6,7 +6,7 @@ ghost use Rattle.batch_recipe.specs.Conditions.{Name};
 ghost use Rattle.batch_recipe.specs.Expanding.{asked_by, unit_chosen, unit_with};
 ghost use Rattle.batch_recipe.specs.Needs.{resources_of};
 ghost use Rattle.batch_check.specs.Collecting.{HasAsked, IsCopy, IsReady, bound_on, kept_at_top, kept_by};
-ghost use Rattle.batch_check.specs.Edges.{number_of};
+ghost use Rattle.batch_check.specs.Edges.{number_of_resource};
 
 use crate::edge_set::EdgeSet;
 use crate::joining::{join, keep};
@@ -101,7 +101,7 @@ pub(crate) fn ask_all(
 
 /// The number of the unit that is chosen.
 fn unit_chosen(site: &Site, choice: &UnitChoice) -> Option<u16>
-    ensures { result ≡ number_of site.now.cell.now (unit_chosen (bound_on site.now) choice.now) }
+    ensures { result ≡ number_of_resource site.now.cell.now (unit_chosen (bound_on site.now) choice.now) }
 {
     match choice {
         UnitChoice::Unit(unit) => site.cell.resource_of(unit),
@@ -124,7 +124,7 @@ fn ask(
 ) -> Result<Path, AllocError>
     requires ready { IsReady cell.now path edges.old }
     requires known { ForSome number (λ resource. resource < length (cell_resources cell.now)) }
-    ensures { IfOk result (λ next. (need : Name) → number_of cell.now need ≡ number
+    ensures { IfOk result (λ next. (need : Name) → number_of_resource cell.now need ≡ number
         → HasAsked cell.now path node (need ∷ []) edges.old edges.new next) }
 {
     let recipe = path.recipe;

@@ -1,6 +1,6 @@
 //! Rounds that raise ranks.
 ghost use Rattle.std.specs.Prelude.{ℕ, ◌<◌, length};
-ghost use Rattle.batch_check.specs.LeastRanking.{IsWithin};
+ghost use Rattle.batch_check.specs.LeastRanking.{HasEndsBelow};
 ghost use Rattle.batch_check.specs.Raising.{IsProgress, IsRound};
 
 use crate::edge::Edge;
@@ -20,7 +20,7 @@ pub(crate) enum Round {
 /// No rank goes above the number of resources: at an edge that asks for one, the round stops.
 pub(crate) fn raise_all(edges: &[Edge], ranks: &mut [u32], causes: &mut [Option<Edge>]) -> Round
     requires small { length ranks.old < 65536 }
-    requires within { IsWithin (length ranks.old) edges.now }
+    requires within { HasEndsBelow (length ranks.old) edges.now }
     requires progress { IsProgress edges.now ranks.old causes.old }
     ensures progress { IsProgress edges.now ranks.new causes.new }
     ensures round { IsRound edges.now ranks.old ranks.new result }

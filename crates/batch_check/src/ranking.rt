@@ -1,7 +1,7 @@
 //! The least ranking.
 ghost use Rattle.std.specs.Prelude.{ℕ, IfOk};
 ghost use Rattle.batch_check.specs.Finding.{IsRankingOf};
-ghost use Rattle.batch_check.specs.LeastRanking.{IsWithin};
+ghost use Rattle.batch_check.specs.LeastRanking.{HasEndsBelow};
 
 use crate::circle::circle_through;
 use crate::edge::Edge;
@@ -19,7 +19,7 @@ pub(crate) enum Ranking {
 
 /// The least ranking of the resources below `count` that rises along all edges, or a circle where there is no ranking.
 pub(crate) fn least_ranks(alloc: Global, count: u16, edges: &[Edge]) -> Result<Ranking, AllocError>
-    requires { IsWithin count edges.now }
+    requires { HasEndsBelow count edges.now }
     ensures { IfOk result (IsRankingOf count edges.now) }
 {
     let mut ranks = vec![in alloc; 1u32; usize::from(count)]?;

@@ -1,6 +1,6 @@
 //! Circles with the fewest edges.
 ghost use Rattle.std.specs.Prelude.{◌≡◌, ◌<◌, length, IfOk, MatchOption};
-ghost use Rattle.batch_check.specs.LeastRanking.{IsCircle, IsWithin};
+ghost use Rattle.batch_check.specs.LeastRanking.{IsEdgeCircle, HasEndsBelow};
 ghost use Rattle.batch_check.specs.Spreading.{HasFewest, IsClosedAt, IsFewest, LeadsBack, NoneBelow};
 
 use crate::edge::Edge;
@@ -14,9 +14,9 @@ pub(crate) fn shortest_circle(
     edges: &[Edge],
     circle: Vec<Edge>,
 ) -> Result<Vec<Edge>, AllocError>
-    requires within { IsWithin count edges.now }
-    requires circle { IsCircle edges.now circle.items }
-    ensures circle { IfOk result (λ shortest. IsCircle edges.now shortest.items) }
+    requires within { HasEndsBelow count edges.now }
+    requires circle { IsEdgeCircle edges.now circle.items }
+    ensures circle { IfOk result (λ shortest. IsEdgeCircle edges.now shortest.items) }
     ensures fewest { IfOk result (λ shortest. HasFewest edges.now shortest.items) }
 {
     let mut shortest = circle;
@@ -37,7 +37,7 @@ fn shorter_through(
     most: usize,
 ) -> Result<Option<Vec<Edge>>, AllocError>
     requires start { start < count }
-    requires within { IsWithin count edges.now }
+    requires within { HasEndsBelow count edges.now }
     ensures { IfOk result (λ shorter. MatchOption shorter (NoneBelow edges.now start most)
         (λ circle. IsFewest edges.now start most circle.items)) }
 {
@@ -67,7 +67,7 @@ fn circle_behind(
     levels: &[usize],
     causes: &[Option<Edge>],
 ) -> Result<Vec<Edge>, AllocError>
-    requires within { IsWithin (length levels.now) edges.now }
+    requires within { HasEndsBelow (length levels.now) edges.now }
     requires back { LeadsBack edges.now start level levels.now causes.now last }
     ensures { IfOk result (λ circle. IsClosedAt edges.now start level circle.items) }
 {

@@ -1,6 +1,6 @@
 //! Rounds that reach further resources.
 ghost use Rattle.std.specs.Prelude.{◌<◌, length};
-ghost use Rattle.batch_check.specs.LeastRanking.{IsWithin};
+ghost use Rattle.batch_check.specs.LeastRanking.{HasEndsBelow};
 ghost use Rattle.batch_check.specs.Spreading.{IsSpread, IsSpreadOn};
 
 use crate::edge::Edge;
@@ -27,7 +27,7 @@ pub(crate) fn spread_on(
 ) -> Spread
     requires room { level < usize.MAX }
     requires inside { start < length levels.old }
-    requires within { IsWithin (length levels.old) edges.now }
+    requires within { HasEndsBelow (length levels.old) edges.now }
     requires spread { IsSpread edges.now start level levels.old causes.old }
     ensures { IsSpreadOn edges.now start level levels.new causes.new result }
 {

@@ -3,7 +3,7 @@ ghost use Rattle.std.specs.Prelude.{◌≡◌, ◌<◌, List, length, slice_inde
 ghost use Rattle.std.specs.List.{All, HoldsAt};
 ghost use Rattle.batch_cell.specs.LookUps.{resources_of};
 ghost use Rattle.batch_check.specs.ByName.{name_in, IsBelow, BeginsWithLeastName};
-ghost use Rattle.batch_check.specs.LeastRanking.{IsWithin, IsCircle};
+ghost use Rattle.batch_check.specs.LeastRanking.{HasEndsBelow, IsEdgeCircle};
 ghost use Rattle.batch_check.specs.declared.edge.Edge.{Edge};
 
 use crate::edge::Edge;
@@ -12,8 +12,8 @@ use batch_cell::Cell;
 /// The same circle, from the edge whose `earlier` has the least name.
 pub(crate) fn turned(cell: &Cell, mut circle: Vec<Edge>) -> Vec<Edge>
     requires some { 0 < length circle.items }
-    requires within { IsWithin (length (resources_of cell.now)) circle.items }
-    ensures circle { (edges : List Edge) → IsCircle edges circle.items → IsCircle edges result.items }
+    requires within { HasEndsBelow (length (resources_of cell.now)) circle.items }
+    ensures circle { (edges : List Edge) → IsEdgeCircle edges circle.items → IsEdgeCircle edges result.items }
     ensures first { BeginsWithLeastName cell.now result.items }
     ensures sized { length result.items ≡ length circle.items }
 {
@@ -25,7 +25,7 @@ pub(crate) fn turned(cell: &Cell, mut circle: Vec<Edge>) -> Vec<Edge>
 /// A place of the edges whose `earlier` has the least name.
 fn place_of_least_name(cell: &Cell, edges: &[Edge]) -> usize
     requires some { 0 < length edges.now }
-    requires within { IsWithin (length (resources_of cell.now)) edges.now }
+    requires within { HasEndsBelow (length (resources_of cell.now)) edges.now }
     ensures place { result < length edges.now }
     ensures least { HoldsAt (λ least. All (λ e. ¬ (IsBelow (name_in cell.now e.earlier) (name_in cell.now least.earlier))) edges.now) edges.now result }
 {

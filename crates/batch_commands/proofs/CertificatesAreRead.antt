@@ -29,7 +29,7 @@ use Rattle.batch_recipe.specs.WellFormed.{is_among}
 use Rattle.batch_recipe.specs.declared.recipe.Recipe.{Recipe}
 use Rattle.batch_model.specs.Lists.{Each}
 use Rattle.batch_reader.proofs.DistinctNames.{IsDistinct-from_are_distinct}
-use Rattle.batch_verify.specs.CertificateText.{Rank, words, is_rank, rank_of_words, rank_of_line, AreInOrder, IsCertificateText}
+use Rattle.batch_verify.specs.CertificateText.{Rank, words, is_rank, rank_of_words, rank_of_line, AreInOrderOfName, IsCertificateText}
 use Rattle.batch_verify.specs.Ranked.{names_in, rank_of, AreAmong, RanksAll}
 use Rattle.batch_verify.specs.declared.certificate.TheConstants.{MAX_LINES, MAX_RANK}
 use Rattle.batch_verify.proofs.Cuts.{lines_first}
@@ -152,7 +152,7 @@ lines_said (r ∷ rs) h =
     ∙ (ap (map rank_of_line) (first_of_lines (rank_line r) (certificate_text rs) (line_bytes r h.0) (omega arith))
     ∙ (ap (λ o. o ∷ map rank_of_line (lines (certificate_text rs))) (line_said r h.0) ∙ ap (λ os. Some r ∷ os) (lines_said rs h.1)))
 
-reads_back : (ranks : List Rank) → Each IsWritable ranks → length ranks ≤ MAX_LINES → AreInOrder ranks → IsCertificateText (certificate_text ranks) ranks
+reads_back : (ranks : List Rank) → Each IsWritable ranks → length ranks ≤ MAX_LINES → AreInOrderOfName ranks → IsCertificateText (certificate_text ranks) ranks
 reads_back ranks writable few in_order =
     let said = lines_said ranks writable in
     let count : length (lines (certificate_text ranks)) ≡ length ranks =
@@ -206,5 +206,5 @@ module _ (c : Cell) (rs : List Recipe) (ranks : List Rank) (names : All (λ (r :
   pub certificate_is_short : length (certificate_text ranks) ≤ MAX_CERTIFICATE_LEN
   certificate_is_short = omega (arith, text_short ranks (each_from_places IsWritable ranks writable), ranks_fit)
 
-  pub certificate_is_read : AreInOrder ranks → IsCertificateText (certificate_text ranks) ranks
+  pub certificate_is_read : AreInOrderOfName ranks → IsCertificateText (certificate_text ranks) ranks
   certificate_is_read in_order = reads_back ranks (each_from_places IsWritable ranks writable) ranks_fit in_order

@@ -6,11 +6,11 @@ use Rattle.batch_verify.specs.ClearedSet.{ClearedSet}
 use Rattle.batch_commands.specs.Halting.{HaltsCheck, HaltsClearing}
 use Rattle.batch_commands.specs.Judging.{IsHalt}
 use Rattle.batch_commands.specs.Reading.{AreCleared, ChecksDocuments, DrawsDocuments, Gives, VerifiesDocuments}
-use Rattle.batch_commands.specs.Requests.{check, draw, verify, run, is_quiet, request_of, demo_gives, HaltsDemo, IsServed, HaltsSet}
+use Rattle.batch_commands.specs.Requests.{check, draw, verify, run, wants_quiet, request_of, demo_gives, HaltsDemo, IsRequestedSet, HaltsSet}
 use Rattle.batch_commands.specs.declared.demo.TheConstants.{CELL_PATH, CERTIFICATE_PATH, RECIPE_PATH}
 use Rattle.batch_commands.specs.Running.{IsDone, IsOutcome, IsPlanned, IsTaken, Stream, serves, halts, plants}
-use Rattle.batch_words.specs.declared.command.Command.{Command}
-use Rattle.batch_words.specs.declared.command.Command.TheVariants.{Plant}
+use Rattle.batch_words.specs.declared.command.Subcommand.{Subcommand}
+use Rattle.batch_words.specs.declared.command.Subcommand.TheVariants.{Plant}
 use Rattle.batch_words.specs.declared.plant_options.PlantOptions.{PlantOptions}
 use Rattle.batch_commands.specs.declared.course.Course.{Course}
 use Rattle.batch_commands.specs.declared.course.Course.TheVariants.{Ends, Serves, Plants}
@@ -45,9 +45,9 @@ outcome_of_verify gives cell certificate recipes path ranked paths (Ok verdict) 
 outcome_of_verify gives cell certificate recipes path ranked paths (Err h) at by all judged halted ends = (rw (← at, ← by, ← all) halted, ends)
 
 -- the set of a command is served, or it is told why there is none
-pub taken : (gives : Gives) (output errors : Stream) (command : Command) (set : Result ClearedSet Halt) (course : Course)
-    → IfOk set (IsServed gives (request_of command)) → IfErr set (HaltsSet gives (request_of command)) → IfErr set IsHalt
-    → IsTaken (is_quiet command) output errors set course → IsDone gives command output errors course
+pub taken : (gives : Gives) (output errors : Stream) (command : Subcommand) (set : Result ClearedSet Halt) (course : Course)
+    → IfOk set (IsRequestedSet gives (request_of command)) → IfErr set (HaltsSet gives (request_of command)) → IfErr set IsHalt
+    → IsTaken (wants_quiet command) output errors set course → IsDone gives command output errors course
 taken gives output errors command (Ok set) course served halted ends took = rw took.2 (serves set served took.0 took.1)
 taken gives output errors command (Err h) (Ends status) served halted is told = halts h status halted is told
 taken gives output errors command (Err h) (Serves set) served halted is told = absurd told
@@ -65,7 +65,7 @@ planned gives output errors options (Plants set c own) (kept, silent, same, clea
 pub served_by_run : (gives : Gives) (cell certificate : String Global) (recipes : Vec (String Global) Global) (path ranked : List ℕ)
     (paths : List (String Global)) (set : Result ClearedSet Halt)
     → path ≡ string_bytes cell → ranked ≡ string_bytes certificate → paths ≡ recipes.items
-    → IfOk set (AreCleared gives path ranked (map string_bytes paths)) → IfOk set (IsServed gives (run (string_bytes cell) (string_bytes certificate) (map string_bytes recipes.items)))
+    → IfOk set (AreCleared gives path ranked (map string_bytes paths)) → IfOk set (IsRequestedSet gives (run (string_bytes cell) (string_bytes certificate) (map string_bytes recipes.items)))
 served_by_run gives cell certificate recipes path ranked paths (Ok set) at by all cleared = rw (← at, ← by, ← all) cleared
 served_by_run gives cell certificate recipes path ranked paths (Err h) at by all cleared = tt
 

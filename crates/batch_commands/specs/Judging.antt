@@ -17,13 +17,13 @@ use Rattle.batch_reader.specs.declared.fault.EntryFault.{EntryFault}
 use Rattle.batch_reader.specs.declared.fault.EntryFault.TheVariants.{OutOfLimit}
 use Rattle.batch_reader.specs.declared.fault.Spot.{Spot}
 use Rattle.batch_reader.specs.declared.fault.TableKind.TheVariants as table
-use Rattle.batch_verify.specs.CertificateText.{Rank, AreInOrder, IsCertificateText, IsFirstFault}
+use Rattle.batch_verify.specs.CertificateText.{Rank, AreInOrderOfName, IsCertificateText, IsFirstFault}
 use Rattle.batch_verify.specs.Ranked.{rank_of, RanksAll}
 use Rattle.batch_verify.specs.Verifying.{IsFirstRefusal}
 use Rattle.batch_verify.specs.declared.certificate.CertFault.{CertFault}
 use Rattle.batch_verify.specs.declared.certificate.CertFault.TheVariants as certificate
-use Rattle.batch_verify.specs.declared.refusal.Refusal.{Refusal}
-use Rattle.batch_verify.specs.declared.refusal.Refusal.TheVariants as set
+use Rattle.batch_verify.specs.declared.refusal.SetRefusal.{SetRefusal}
+use Rattle.batch_verify.specs.declared.refusal.SetRefusal.TheVariants as set
 use Rattle.batch_check.specs.Checking.{IsFault}
 use Rattle.batch_check.specs.Clearing.{IsLeastClearance}
 use Rattle.batch_check.specs.declared.fault.CheckFault.{CheckFault}
@@ -107,7 +107,7 @@ IsClearedBy c rs ranks = RanksAll (resources_of c) ranks × IsCleared (setup_of 
 abbrev pub IsSetRefused : Cell → List Recipe → List Rank → List ℕ → Ending → Type 0
 IsSetRefused c rs ranks text Accepted = ⊥
 IsSetRefused c rs ranks text Refused =
-    (refusal : Refusal) × (refusal ≢ set.Memory) × IsFirstRefusal (setup_of c rs) ranks refusal
+    (refusal : SetRefusal) × (refusal ≢ set.Memory) × IsFirstRefusal (setup_of c rs) ranks refusal
     × (text ≡ refusal_text c rs ranks refusal)
 IsSetRefused c rs ranks text OutOfMemory = text ≡ refusal_text c rs ranks set.Memory
 
@@ -121,7 +121,7 @@ RefusesSet c rs ranks halt.Memory = ⊤
 -- or why there are none
 abbrev pub IsChecked : Cell → List Recipe → List ℕ → Ending → Type 0
 IsChecked c rs text Accepted =
-    (ranks : List Rank) × RanksAll (resources_of c) ranks × IsLeastClearance c rs (rank_of ranks) × AreInOrder ranks
+    (ranks : List Rank) × RanksAll (resources_of c) ranks × IsLeastClearance c rs (rank_of ranks) × AreInOrderOfName ranks
     × (text ≡ certificate_text ranks) × IsCertificateText text ranks × (length text ≤ MAX_CERTIFICATE_LEN)
 IsChecked c rs text Refused = (fault : CheckFault) × (fault ≢ check.Memory) × IsFault c rs fault × (text ≡ fault_text c rs fault)
 IsChecked c rs text OutOfMemory = text ≡ fault_text c rs check.Memory

@@ -2,8 +2,8 @@
 use Rattle.std.specs.Prelude.{◌≡◌, ℕ, Bool, false, List, [], ◌∷◌, map, string_bytes}
 use Rattle.batch_cell.specs.declared.cell.Cell.{Cell}
 use Rattle.batch_verify.specs.ClearedSet.{ClearedSet}
-use Rattle.batch_words.specs.declared.command.Command.{Command}
-use Rattle.batch_words.specs.declared.command.Command.TheVariants.{Serve, Check, Draw, Verify, Run, Plant, Explain}
+use Rattle.batch_words.specs.declared.command.Subcommand.{Subcommand}
+use Rattle.batch_words.specs.declared.command.Subcommand.TheVariants.{Serve, Check, Draw, Verify, Run, Plant, Explain}
 use Rattle.batch_commands.specs.DemoDocuments.{demo_text}
 use Rattle.batch_commands.specs.Halting.{HaltsClearing}
 use Rattle.batch_commands.specs.Reading.{AreCleared, Gives, ReadsCell}
@@ -24,7 +24,7 @@ pub data Request : Type 0 where
   -- to say what a code means
   explain : (code : List ℕ) → Request
 
-abbrev pub request_of : Command → Request
+abbrev pub request_of : Subcommand → Request
 request_of Serve = serve
 request_of (Check cell recipes quiet) = check (string_bytes cell) (map string_bytes recipes.items)
 request_of (Draw cell recipes quiet) = draw (string_bytes cell) (map string_bytes recipes.items)
@@ -34,14 +34,14 @@ request_of (Plant options) = plant options.batches options.ticks options.ring
 request_of (Explain code) = explain (string_bytes code)
 
 -- nothing is to be said in words of a refusal
-abbrev pub is_quiet : Command → Bool
-is_quiet Serve = false
-is_quiet (Check cell recipes quiet) = quiet
-is_quiet (Draw cell recipes quiet) = quiet
-is_quiet (Verify cell certificate recipes quiet) = quiet
-is_quiet (Run cell certificate recipes quiet) = quiet
-is_quiet (Plant options) = false
-is_quiet (Explain code) = false
+abbrev pub wants_quiet : Subcommand → Bool
+wants_quiet Serve = false
+wants_quiet (Check cell recipes quiet) = quiet
+wants_quiet (Draw cell recipes quiet) = quiet
+wants_quiet (Verify cell certificate recipes quiet) = quiet
+wants_quiet (Run cell certificate recipes quiet) = quiet
+wants_quiet (Plant options) = false
+wants_quiet (Explain code) = false
 
 -- what is read of the demo
 abbrev pub demo_gives : Gives
@@ -60,14 +60,14 @@ abbrev pub HaltsDemo : Halt → Type 0
 HaltsDemo h = HaltsClearing demo_gives CELL_PATH.now CERTIFICATE_PATH.now (RECIPE_PATH.now ∷ []) h
 
 -- the set that is to be served: that of the documents, cleared by their certificate
-abbrev pub IsServed : Gives → Request → ClearedSet → Type 0
-IsServed gives serve set = IsDemoSet set
-IsServed gives (check cell recipes) set = ⊥
-IsServed gives (draw cell recipes) set = ⊥
-IsServed gives (verify cell certificate recipes) set = ⊥
-IsServed gives (run cell certificate recipes) set = AreCleared gives cell certificate recipes set
-IsServed gives (plant batches ticks ring) set = ⊥
-IsServed gives (explain code) set = ⊥
+abbrev pub IsRequestedSet : Gives → Request → ClearedSet → Type 0
+IsRequestedSet gives serve set = IsDemoSet set
+IsRequestedSet gives (check cell recipes) set = ⊥
+IsRequestedSet gives (draw cell recipes) set = ⊥
+IsRequestedSet gives (verify cell certificate recipes) set = ⊥
+IsRequestedSet gives (run cell certificate recipes) set = AreCleared gives cell certificate recipes set
+IsRequestedSet gives (plant batches ticks ring) set = ⊥
+IsRequestedSet gives (explain code) set = ⊥
 
 -- why there is no set to be served, or none whose plant is run
 abbrev pub HaltsSet : Gives → Request → Halt → Type 0

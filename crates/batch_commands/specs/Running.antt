@@ -11,11 +11,11 @@ use Rattle.batch_words.specs.CommandLine.{IsCommandOf, IsShown, program_app}
 use Rattle.batch_commands.specs.Halting.{HaltsCheck, HaltsClearing}
 use Rattle.batch_commands.specs.Judging.{IsHalt, status_of}
 use Rattle.batch_commands.specs.Reading.{ChecksDocuments, DrawsDocuments, Gives, VerifiesDocuments}
-use Rattle.batch_commands.specs.Requests.{Request, serve, check, draw, verify, run, plant, explain, is_quiet, request_of, IsDemoCell, IsDemoSet, IsServed, HaltsDemo, HaltsSet}
+use Rattle.batch_commands.specs.Requests.{Request, serve, check, draw, verify, run, plant, explain, wants_quiet, request_of, IsDemoCell, IsDemoSet, IsRequestedSet, HaltsDemo, HaltsSet}
 use Rattle.batch_commands.specs.Saying.{IsSaid}
 use Rattle.batch_cell.specs.declared.cell.Cell.{Cell}
 use Rattle.batch_verify.specs.ClearedSet.{ClearedSet}
-use Rattle.batch_words.specs.declared.command.Command.{Command}
+use Rattle.batch_words.specs.declared.command.Subcommand.{Subcommand}
 use Rattle.batch_words.specs.declared.plant_options.PlantOptions.{PlantOptions}
 use Rattle.batch_commands.specs.declared.course.Course.{Course}
 use Rattle.batch_commands.specs.declared.course.Course.TheVariants.{Ends, Serves, Plants}
@@ -47,14 +47,14 @@ pub record Stream : Type 0 where
   pub after : Option (List ℕ)
 
 -- nothing was written
-abbrev pub IsUntouched : Stream → Type 0
-IsUntouched s = Keeps s.before s.after
+abbrev pub IsUnwritten : Stream → Type 0
+IsUnwritten s = Keeps s.before s.after
 
 -- the text was written whole to the output, nothing to the errors, and the program ends with the wanted status; or it ends
 -- with the status of a fault, and then nothing is known of the streams
 abbrev pub IsPrinted : Stream → Stream → List ℕ → ℕ → ℕ → Type 0
 IsPrinted output errors text wanted status =
-    (Appends output.before output.after text × IsUntouched errors × (status ≡ wanted)) ⊎ (status ≡ fault_status)
+    (Appends output.before output.after text × IsUnwritten errors × (status ≡ wanted)) ⊎ (status ≡ fault_status)
 
 -- the verdict was written whole to the output, what a refusal means was said on the errors, and the program ends with the
 -- verdict's status; or it ends with the status of a fault, and then nothing is known of the streams
@@ -67,7 +67,7 @@ IsPronounced quiet output errors verdict status =
 -- Commands
 
 -- the words are this command, and have no fault
-abbrev pub IsNamed : List Text → Command → Type 0
+abbrev pub IsNamed : List Text → Subcommand → Type 0
 IsNamed words command = (fault_of program_app words ≡ []) × IsCommandOf (subcommand_of program_app words) command
 
 -- help or the version is asked for
@@ -94,57 +94,57 @@ IsOutcome gives (explain code) outcome = ⊥
 
 -- verdicts and refusals are printed; a file that can't be read and want of memory leave the output as it was, and are told on
 -- the errors in a free text
-abbrev pub IsTold : Bool → Stream → Stream → Result Verdict Halt → ℕ → Type 0
-IsTold quiet output errors (Ok verdict) status = IsPronounced quiet output errors verdict status
-IsTold quiet output errors (Err (halt.Refused verdict)) status = IsPronounced quiet output errors verdict status
-IsTold quiet output errors (Err (halt.Unread message)) status = IsUntouched output × (status ≡ fault_status)
-IsTold quiet output errors (Err halt.Memory) status = IsUntouched output × (status ≡ memory_status)
+abbrev pub IsAnnounced : Bool → Stream → Stream → Result Verdict Halt → ℕ → Type 0
+IsAnnounced quiet output errors (Ok verdict) status = IsPronounced quiet output errors verdict status
+IsAnnounced quiet output errors (Err (halt.Refused verdict)) status = IsPronounced quiet output errors verdict status
+IsAnnounced quiet output errors (Err (halt.Unread message)) status = IsUnwritten output × (status ≡ fault_status)
+IsAnnounced quiet output errors (Err halt.Memory) status = IsUnwritten output × (status ≡ memory_status)
 
 -- the set is to be served, and nothing is written; or it is told why there is none
 abbrev pub IsTaken : Bool → Stream → Stream → Result ClearedSet Halt → Course → Type 0
-IsTaken quiet output errors (Ok set) course = IsUntouched output × IsUntouched errors × (course ≡ Serves set)
-IsTaken quiet output errors (Err h) (Ends status) = IsTold quiet output errors (Err h) status
+IsTaken quiet output errors (Ok set) course = IsUnwritten output × IsUnwritten errors × (course ≡ Serves set)
+IsTaken quiet output errors (Err h) (Ends status) = IsAnnounced quiet output errors (Err h) status
 IsTaken quiet output errors (Err h) (Serves set) = ⊥
 IsTaken quiet output errors (Err h) (Plants set c options) = ⊥
 
 -- the plant of the demo is to be run, and nothing is written; or it is told why there is none
 abbrev pub IsPlanned : PlantOptions → Stream → Stream → Course → Type 0
-IsPlanned options output errors (Ends status) = (h : Halt) × HaltsDemo h × IsHalt h × IsTold false output errors (Err h) status
+IsPlanned options output errors (Ends status) = (h : Halt) × HaltsDemo h × IsHalt h × IsAnnounced false output errors (Err h) status
 IsPlanned options output errors (Serves set) = ⊥
 IsPlanned options output errors (Plants set c own) =
-    IsUntouched output × IsUntouched errors × (own ≡ options) × IsDemoSet set × IsDemoCell c
+    IsUnwritten output × IsUnwritten errors × (own ≡ options) × IsDemoSet set × IsDemoCell c
 
 -- what the code means is told, or that it has no explanation, or memory was wanting
 abbrev pub IsExplained : List ℕ → Stream → Stream → ℕ → Type 0
 IsExplained code output errors status =
     ((explanation : Explanation) × (explanation.code.now ≡ code) × IsPrinted output errors (told explanation) help_status status)
-    ⊎ (IsUntouched output × ((status ≡ usage_status) ⊎ (status ≡ memory_status)))
+    ⊎ (IsUnwritten output × ((status ≡ usage_status) ⊎ (status ≡ memory_status)))
 
 -- Runs
 
 -- what comes of a command: the exit status, or the set that the program is to serve or whose plant it is to run
-pub data IsDone (gives : Gives) (command : Command) (output errors : Stream) : Course → Type 0 where
+pub data IsDone (gives : Gives) (command : Subcommand) (output errors : Stream) : Course → Type 0 where
   serves : (set : ClearedSet)
-      → IsServed gives (request_of command) set → IsUntouched output → IsUntouched errors → IsDone gives command output errors (Serves set)
+      → IsRequestedSet gives (request_of command) set → IsUnwritten output → IsUnwritten errors → IsDone gives command output errors (Serves set)
   plants : (set : ClearedSet) (c : Cell) (options : PlantOptions)
-      → request_of command ≡ plant options.batches options.ticks options.ring → IsDemoSet set → IsDemoCell c → IsUntouched output → IsUntouched errors
+      → request_of command ≡ plant options.batches options.ticks options.ring → IsDemoSet set → IsDemoCell c → IsUnwritten output → IsUnwritten errors
       → IsDone gives command output errors (Plants set c options)
   -- there is no set to be served
   halts : (h : Halt) (status : ℕ)
-      → HaltsSet gives (request_of command) h → IsHalt h → IsTold (is_quiet command) output errors (Err h) status
+      → HaltsSet gives (request_of command) h → IsHalt h → IsAnnounced (wants_quiet command) output errors (Err h) status
       → IsDone gives command output errors (Ends status)
   judges : (outcome : Result Verdict Halt) (status : ℕ)
-      → IsOutcome gives (request_of command) outcome → IsTold (is_quiet command) output errors outcome status
+      → IsOutcome gives (request_of command) outcome → IsAnnounced (wants_quiet command) output errors outcome status
       → IsDone gives command output errors (Ends status)
   explains : (code : List ℕ) (status : ℕ)
       → request_of command ≡ explain code → IsExplained code output errors status → IsDone gives command output errors (Ends status)
 
 -- what comes of the words
 pub data IsRun (gives : Gives) (words : List Text) (output errors : Stream) : Course → Type 0 where
-  commands : (command : Command) (course : Course)
+  commands : (command : Subcommand) (course : Course)
       → IsNamed words command → IsDone gives command output errors course → IsRun gives words output errors course
   helps : (text : List ℕ) (status : ℕ)
       → AskToShow words → IsPrinted output errors text help_status status → IsRun gives words output errors (Ends status)
-  misuses : AreMisused words → IsUntouched output → IsRun gives words output errors (Ends usage_status)
+  misuses : AreMisused words → IsUnwritten output → IsRun gives words output errors (Ends usage_status)
   -- there was no memory to read the words
-  starves : IsUntouched output → IsRun gives words output errors (Ends memory_status)
+  starves : IsUnwritten output → IsRun gives words output errors (Ends memory_status)

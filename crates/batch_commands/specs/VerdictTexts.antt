@@ -16,8 +16,8 @@ use Rattle.batch_sentences.specs.Shown.{shown}
 use Rattle.batch_verify.specs.CertificateText.{Rank}
 use Rattle.batch_verify.specs.declared.certificate.CertFault.{CertFault}
 use Rattle.batch_verify.specs.declared.certificate.CertFault.TheVariants as certificate
-use Rattle.batch_verify.specs.declared.refusal.Refusal.{Refusal}
-use Rattle.batch_verify.specs.declared.refusal.Refusal.TheVariants as set
+use Rattle.batch_verify.specs.declared.refusal.SetRefusal.{SetRefusal}
+use Rattle.batch_verify.specs.declared.refusal.SetRefusal.TheVariants as set
 use Rattle.batch_verify.specs.declared.rule.Rule.{Rule}
 use Rattle.batch_verify.specs.declared.rule.Rule.TheVariants.{UnknownResource, PhaseNotOffered, SamePhaseInParallel, LoopWithoutPhase, ShareAboveCapacity, RankNotRising}
 use Rattle.batch_check.specs.declared.edge.Edge.{Edge}
@@ -98,7 +98,7 @@ abbrev pub accepted_text : List ℕ
 accepted_text = line_text (codes "accepted" ∷ [])
 
 -- the refusal of the recipes by the small checker; a certificate's entries are its lines
-abbrev pub refusal_text : Cell → List Recipe → List Rank → Refusal → List ℕ
+abbrev pub refusal_text : Cell → List Recipe → List Rank → SetRefusal → List ℕ
 refusal_text c rs ranks (set.Unranked resource) = refused (codes "V1" ∷ resource_name c resource ∷ [])
 refusal_text c rs ranks (set.RankedTwice entry) = refused (codes "V2" ∷ entry_name ranks entry ∷ [])
 refusal_text c rs ranks (set.UnknownEntry entry) = refused (codes "V3" ∷ codes "line" ∷ decimal (entry + 1) ∷ [])

@@ -17,7 +17,7 @@ use batch_recipe::Recipe;
 use batch_sentences::{
     Asked, Sentence, certificate_sentence, document_sentence, fault_sentence, refusal_sentence,
 };
-use batch_verify::{CertFault, Certificate, Cleared, Refusal, read_certificate, verify};
+use batch_verify::{CertFault, Certificate, Cleared, SetRefusal, read_certificate, verify};
 use std::alloc::{AllocError, Global};
 
 /// The longest file of a certificate, in bytes.
@@ -170,7 +170,7 @@ pub fn clear_recipes(
                 rejected.fault,
             )?,
             ending: match rejected.fault {
-                Refusal::Memory => Ending::OutOfMemory,
+                SetRefusal::Memory => Ending::OutOfMemory,
                 _ => Ending::Refused,
             },
             sentence: Some(refusal_sentence(

@@ -3,7 +3,7 @@ ghost use Rattle.std.specs.Prelude.{◌≡◌, IfErr, IfOk, OnOk, map, string_by
 ghost use Rattle.std.specs.Io.KnownBytes.{Appends};
 ghost use Rattle.batch_commands.specs.Judging.{IsHalt};
 ghost use Rattle.batch_commands.specs.Requests.{HaltsDemo, IsDemoCell, IsDemoSet};
-ghost use Rattle.batch_commands.specs.Running.{IsDone, IsExplained, IsPlanned, IsPrinted, IsPronounced, IsRun, IsTaken, IsTold, fault_status};
+ghost use Rattle.batch_commands.specs.Running.{IsDone, IsExplained, IsPlanned, IsPrinted, IsPronounced, IsRun, IsTaken, IsAnnounced, fault_status};
 
 use crate::course::Course;
 use crate::demo::{CELL_PATH, CERTIFICATE_PATH, Demo, RECIPE_PATH};
@@ -15,7 +15,7 @@ use crate::verdict::{Halt, Verdict};
 use batch_cell::Cell;
 use batch_explain::{explanation_of, explanation_text};
 use batch_verify::Cleared;
-use batch_words::{Command, CommandFault, PlantOptions, parse};
+use batch_words::{CommandFault, PlantOptions, Subcommand, parse};
 use std::alloc::Global;
 use std::fmt::Display;
 use std::io;
@@ -69,7 +69,7 @@ pub fn run_words<D: Documents, O: Write, E: Write>(
 
 fn run_command<D: Documents, O: Write, E: Write>(
     alloc: Global,
-    command: Command,
+    command: Subcommand,
     documents: &D,
     output: &mut O,
     errors: &mut E,
@@ -78,8 +78,8 @@ fn run_command<D: Documents, O: Write, E: Write>(
         (record { before = E.contents errors.old; after = E.contents errors.new }) result }
 {
     match command {
-        Command::Serve => take(alloc, false, clear_demo(alloc), output, errors),
-        Command::Run {
+        Subcommand::Serve => take(alloc, false, clear_demo(alloc), output, errors),
+        Subcommand::Run {
             cell,
             certificate,
             recipes,
@@ -88,7 +88,7 @@ fn run_command<D: Documents, O: Write, E: Write>(
             let set = clear_documents(alloc, documents, &cell, &certificate, &recipes);
             take(alloc, quiet, set, output, errors)
         }
-        Command::Check {
+        Subcommand::Check {
             cell,
             recipes,
             quiet,
@@ -96,7 +96,7 @@ fn run_command<D: Documents, O: Write, E: Write>(
             let outcome = check_documents(alloc, documents, &cell, &recipes);
             Course::Ends(tell(alloc, quiet, &outcome, output, errors))
         }
-        Command::Draw {
+        Subcommand::Draw {
             cell,
             recipes,
             quiet,
@@ -104,7 +104,7 @@ fn run_command<D: Documents, O: Write, E: Write>(
             let outcome = draw_documents(alloc, documents, &cell, &recipes);
             Course::Ends(tell(alloc, quiet, &outcome, output, errors))
         }
-        Command::Verify {
+        Subcommand::Verify {
             cell,
             certificate,
             recipes,
@@ -113,8 +113,8 @@ fn run_command<D: Documents, O: Write, E: Write>(
             let outcome = verify_documents(alloc, documents, &cell, &certificate, &recipes);
             Course::Ends(tell(alloc, quiet, &outcome, output, errors))
         }
-        Command::Plant(options) => plan(alloc, options, output, errors),
-        Command::Explain { code } => Course::Ends(explain(alloc, &code, output, errors)),
+        Subcommand::Plant(options) => plan(alloc, options, output, errors),
+        Subcommand::Explain { code } => Course::Ends(explain(alloc, &code, output, errors)),
     }
 }
 
@@ -181,7 +181,7 @@ fn tell<O: Write, E: Write>(
     output: &mut O,
     errors: &mut E,
 ) -> u8
-    ensures { IsTold quiet (record { before = O.contents output.old; after = O.contents output.new })
+    ensures { IsAnnounced quiet (record { before = O.contents output.old; after = O.contents output.new })
         (record { before = E.contents errors.old; after = E.contents errors.new }) outcome.now result }
 {
     match outcome {

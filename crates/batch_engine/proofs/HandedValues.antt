@@ -18,8 +18,8 @@ use Rattle.batch_recipe.specs.declared.act.TheConstants.{MAX_VALUES}
 use Rattle.batch_recipe.specs.declared.act.Work.{Work}
 use Rattle.batch_recipe.specs.declared.act.Work.TheVariants.{Follows, Runs}
 use Rattle.batch_recipe.specs.declared.acts.Acts.{Acts}
-use Rattle.batch_recipe.specs.declared.acts.Level.{Level}
-use Rattle.batch_recipe.specs.declared.acts.Level.TheVariants.{UnitProcedures, Operations, Phases}
+use Rattle.batch_recipe.specs.declared.acts.LabelTable.{LabelTable}
+use Rattle.batch_recipe.specs.declared.acts.LabelTable.TheVariants.{UnitProcedures, Operations, Phases}
 use Rattle.batch_recipe.specs.declared.chart.TheConstants.{MAX_DEPTH}
 use Rattle.batch_recipe.specs.declared.recipe.Recipe.{Recipe}
 use Rattle.batch_recipe.proofs.NodeActs.{procedure_acts_are}
@@ -143,7 +143,7 @@ works vs acts w =
     let third = and_parts (of_operations vs acts) (of_phases vs acts) second.1 in
     record { procedure = first.0; unit_procedures = second.0; operations = third.0; phases = third.1 }
 
-named-work : (vs : List Name) (acts : Acts) (table : Level) (name : Name) (a : Act) → AreWorks vs acts → act_named (table_at acts table) name ≡ Some a → IsSomeWork vs a
+named-work : (vs : List Name) (acts : Acts) (table : LabelTable) (name : Name) (a : Act) → AreWorks vs acts → act_named (table_at acts table) name ≡ Some a → IsSomeWork vs a
 named-work vs acts UnitProcedures name a w f = (
   act_names acts.operations.items,
   (and_parts (is_work (act_names acts.operations.items) vs a) (follows_no_par a)
@@ -155,11 +155,11 @@ named-work vs acts Operations name a w f = (
 )
 named-work vs acts Phases name a w f = ([], find-all (λ z. same_name z.name name) (is_work [] vs) acts.phases.items a f w.phases)
 
-stood-work : (vs : List Name) (acts : Acts) (a : Act) (below : Option Level) → AreWorks vs acts → StandsIn acts a below → IsSomeWork vs a
+stood-work : (vs : List Name) (acts : Acts) (a : Act) (below : Option LabelTable) → AreWorks vs acts → StandsIn acts a below → IsSomeWork vs a
 stood-work vs acts a below w (inl h) = (act_names acts.unit_procedures.items, ap (is_work (act_names acts.unit_procedures.items) vs) h.0 ∙ w.procedure)
 stood-work vs acts a below w (inr h) = named-work vs acts h.0 h.1.0 a w h.1.1.0
 
-acts-stand : (acts : Acts) (list : ActList) (ns : List Node) (k : ℕ) (a : Act) → AreActsAt unbound acts list ns → slice_get list k ≡ Some (Some a) → (below : Option Level) × StandsIn acts a below
+acts-stand : (acts : Acts) (list : ActList) (ns : List Node) (k : ℕ) (a : Act) → AreActsAt unbound acts list ns → slice_get list k ≡ Some (Some a) → (below : Option LabelTable) × StandsIn acts a below
 acts-stand acts [] [] k a h e = absurd cc
 acts-stand acts [] (at ∷ ns) k a h e = absurd h
 acts-stand acts (b ∷ list) [] k a h e = absurd h

@@ -7,7 +7,7 @@ use Rattle.batch_chart.specs.NodesOf.{node_at, place_at, step_at, need_at, phase
 use Rattle.batch_cell.specs.LookUps.{units_of}
 use Rattle.batch_recipe.specs.Conditions.{Name, same_name}
 use Rattle.batch_recipe.specs.Nodes.{node_count}
-use Rattle.batch_chart.specs.Charts.{CanMake, IsWaiting, AsksAt, remains, StandsFor}
+use Rattle.batch_chart.specs.Charts.{CanMake, IsWaitingAt, AsksAt, remains, StandsFor}
 use Rattle.batch_chart.specs.Seen.{move_of}
 use Rattle.batch_chart.specs.declared.compiled.Compiled.{Compiled}
 use Rattle.batch_chart.specs.declared.chart_move.Move.{Move}
@@ -40,7 +40,7 @@ pub record IsGrantStep (v : EngineView) (told : Model.Move → Type 0) (i node r
   pub batch : Batch
   pub chart : Compiled
   pub here : BatchAt v i batch chart
-  pub waits : IsWaiting chart batch.running node
+  pub waits : IsWaitingAt chart batch.running node
   pub need : ℕ
   pub asks : AsksAt (tree_of v.cleared batch) (remains (tree_of v.cleared batch) batch.running) node need
   pub number : number_of v.cleared (need_at (tree_of v.cleared batch) node need).resource ≡ Some resource

@@ -13,7 +13,7 @@ use Rattle.batch_recipe.specs.Diagram.{Diagram, diagrams_of, cases_of}
 use Rattle.batch_recipe.specs.Diagram as chart
 use Rattle.batch_grammar.specs.declared.firsts.Firsts.{Firsts}
 use Rattle.batch_grammar.specs.declared.word.Word.TheVariants as word
-use Rattle.batch_grammar.specs.ChartGrammar.{is_space, Offsets, opens_par, IsWideChart}
+use Rattle.batch_grammar.specs.ChartGrammar.{is_chart_space, Offsets, opens_par, IsWideChart}
 use Rattle.batch_grammar.specs.ChartMachine.{Frame, in_seq, in_par, in_case, in_else, in_loop, Test, of_sel, of_loop, Want, a_chart, open_seq, open_par, open_sel, open_loop, a_turns, after_turns, a_name, an_operator, an_operand, after_condition, after_else, after_chart, State, Lexeme, nothing, letters, digits, less, more, slash, in_token, takes_word, takes_number, takes_operator, begin, step, finish, end_number, condition_of, noted, number_offsets, word_of, take_operator, take_sign, starts, go_on, continues, end_token, steps, start}
 use Rattle.batch_grammar.proofs.ChartTokens.{runs}
 use Rattle.batch_grammar.proofs.ChartSound.{word_cases, Leads, if_leads, sound}
@@ -182,7 +182,7 @@ starts_fit false l st h = tt
 begin_fit : (place b : ℕ) (st : State) → Leads (begin place b st) Fits
 unfolding begin
 begin_fit place b st =
-    if_leads (is_space b) _ _ Fits (λ _. tt) (λ _.
+    if_leads (is_chart_space b) _ _ Fits (λ _. tt) (λ _.
     if_leads (is_ascii_alphabetic b) _ _ Fits (λ _. starts_fit (takes_word st.want) (letters (b ∷ [])) st (λ e. e)) (λ _.
     if_leads (is_ascii_digit b) _ _ Fits (λ _. starts_fit (takes_number st.want) (digits (b ∷ [])) st (λ e. e)) (λ _.
     if_leads (takes_operator st.want) _ _ Fits

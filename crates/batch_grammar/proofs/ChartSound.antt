@@ -20,7 +20,7 @@ use Rattle.batch_recipe.specs.Diagram as chart
 use Rattle.batch_grammar.specs.declared.word.Word.{Word}
 use Rattle.batch_grammar.specs.declared.word.Word.TheVariants as word
 use Rattle.batch_grammar.specs.declared.firsts.Firsts.{Firsts}
-use Rattle.batch_grammar.specs.ChartGrammar.{is_space, Offsets, no_offsets, joined, opens_par, ranged, IsLabel, Skips, here, space, ReadsOp, ReadsTerm, ReadsCond, Reads, ReadsBranches, ReadsCases, IsWideChart}
+use Rattle.batch_grammar.specs.ChartGrammar.{is_chart_space, Offsets, no_offsets, joined, opens_par, ranged, IsLabel, Skips, here, space, ReadsOp, ReadsTerm, ReadsCond, Reads, ReadsBranches, ReadsCases, IsWideChart}
 use Rattle.batch_grammar.specs.ChartGrammar as spec
 use Rattle.batch_grammar.specs.ChartMachine.{Frame, in_seq, in_par, in_case, in_else, in_loop, Test, of_sel, of_loop, Lexeme, IsGood, nothing, letters, digits, less, more, slash, begin, end_token, end_number, continues, go_on, step, finish, result_of, starts, takes_word, takes_number, takes_operator, in_token, start, Want, a_chart, open_seq, open_par, open_sel, open_loop, a_turns, after_turns, a_name, an_operator, an_operand, after_condition, after_else, after_chart, State, no_firsts, noted, number_offsets, sign_offsets, word_of, take_word, take_chart_word, take_name_word, take_operand_word, take_number, take_operator, take_sign, take_comma, take_close, take_else, condition_of, deeper, After, when_is}
 use Rattle.batch_grammar.proofs.ChartTexts.{name_more, name_of_letter, number_more, number_of_digit}
@@ -330,7 +330,7 @@ module _ (total : ℕ) (whole : Diagram) where
 
   -- ---- spaces
 
-  operator_space : {b : ℕ} {s t : List ℕ} {op : Op} → is_space b ≡ true → ReadsOp s t op → ReadsOp (b ∷ s) t op
+  operator_space : {b : ℕ} {s t : List ℕ} {op : Op} → is_chart_space b ≡ true → ReadsOp s t op → ReadsOp (b ∷ s) t op
   operator_space e (spec.less skips) = spec.less (space e skips)
   operator_space e (spec.at_most skips) = spec.at_most (space e skips)
   operator_space e (spec.equal skips) = spec.equal (space e skips)
@@ -338,11 +338,11 @@ module _ (total : ℕ) (whole : Diagram) where
   operator_space e (spec.at_least skips) = spec.at_least (space e skips)
   operator_space e (spec.greater skips) = spec.greater (space e skips)
 
-  operand_space : {b : ℕ} {s t : List ℕ} {f : Offsets} {x : Term} → is_space b ≡ true → ReadsTerm total s t x f → ReadsTerm total (b ∷ s) t x f
+  operand_space : {b : ℕ} {s t : List ℕ} {f : Offsets} {x : Term} → is_chart_space b ≡ true → ReadsTerm total s t x f → ReadsTerm total (b ∷ s) t x f
   operand_space e (spec.named skips label) = spec.named (space e skips) label
   operand_space e (spec.number bytes skips number) = spec.number bytes (space e skips) number
 
-  chart_space : {b depth : ℕ} {s t : List ℕ} {f : Offsets} {c : Diagram} → is_space b ≡ true → Reads total depth s t c f → Reads total depth (b ∷ s) t c f
+  chart_space : {b depth : ℕ} {s t : List ℕ} {f : Offsets} {c : Diagram} → is_chart_space b ≡ true → Reads total depth s t c f → Reads total depth (b ∷ s) t c f
   chart_space e (spec.label skips label) = spec.label (space e skips) label
   chart_space e (spec.skip skips) = spec.skip (space e skips)
   chart_space e (spec.seq skips opens branches) = spec.seq (space e skips) opens branches
@@ -351,7 +351,7 @@ module _ (total : ℕ) (whole : Diagram) where
   chart_space e (spec.loop bytes skips opens number_skips number comma tests comma2 reads closes) =
       spec.loop bytes (space e skips) opens number_skips number comma tests comma2 reads closes
 
-  completes_space : {b : ℕ} {frames : List Frame} {t : Diagram} {s : List ℕ} {out : Offsets} → is_space b ≡ true → Completes frames t s out → Completes frames t (b ∷ s) out
+  completes_space : {b : ℕ} {frames : List Frame} {t : Diagram} {s : List ℕ} {out : Offsets} → is_chart_space b ≡ true → Completes frames t s out → Completes frames t (b ∷ s) out
   completes_space e (ends skips) = ends (space e skips)
   completes_space e (closes_seq skips rest) = closes_seq (space e skips) rest
   completes_space e (goes_on_seq skips branches rest) = goes_on_seq (space e skips) branches rest
@@ -361,7 +361,7 @@ module _ (total : ℕ) (whole : Diagram) where
   completes_space e (closes_else skips rest) = closes_else (space e skips) rest
   completes_space e (closes_loop skips rest) = closes_loop (space e skips) rest
 
-  from_space : {b : ℕ} {w : Want} {frames : List Frame} {s : List ℕ} {out : Offsets} → is_space b ≡ true → From w frames s out → From w frames (b ∷ s) out
+  from_space : {b : ℕ} {w : Want} {frames : List Frame} {s : List ℕ} {out : Offsets} → is_chart_space b ≡ true → From w frames s out → From w frames (b ∷ s) out
   from_space e (from_chart reads rest) = from_chart (chart_space e reads) rest
   from_space e (from_after_chart rest) = from_after_chart (completes_space e rest)
   from_space e (from_open_seq skips h) = from_open_seq (space e skips) h
@@ -442,7 +442,7 @@ module _ (total : ℕ) (whole : Diagram) where
   unfolding begin
   begin_back b st s =
       let Q : State → Type 0 = Back [] st.want st.stack st.firsts (b ∷ s) s in
-      if_leads (is_space b) _ _ Q (λ e. (tt, λ k r. (r.0, from_space e r.1, r.2))) (λ _.
+      if_leads (is_chart_space b) _ _ Q (λ e. (tt, λ k r. (r.0, from_space e r.1, r.2))) (λ _.
       if_leads (is_ascii_alphabetic b) _ _ Q (λ e. start_back (takes_word st.want) (letters (b ∷ [])) st (b ∷ s) s (name_of_letter b e) refl) (λ _.
       if_leads (is_ascii_digit b) _ _ Q (λ e. start_back (takes_number st.want) (digits (b ∷ [])) st (b ∷ s) s (number_of_digit b e) refl) (λ _.
       if_leads (takes_operator st.want) _ _ Q

@@ -13,7 +13,7 @@ use Rattle.batch_recipe.specs.declared.condition.Op.{Op}
 use Rattle.batch_recipe.specs.declared.condition.Op.TheVariants.{Less, Greater}
 use Rattle.batch_recipe.specs.Diagram.{Diagram}
 use Rattle.batch_grammar.specs.declared.firsts.Firsts.{Firsts}
-use Rattle.batch_grammar.specs.ChartGrammar.{is_space, Skips, here, space, ReadsOp}
+use Rattle.batch_grammar.specs.ChartGrammar.{is_chart_space, Skips, here, space, ReadsOp}
 use Rattle.batch_grammar.specs.ChartGrammar as spec
 use Rattle.batch_grammar.specs.ChartMachine.{Frame, Test, Want, an_operator, an_operand, Lexeme, letters, digits, less, more, State, between, in_token, begin, end_token, continues, step, finish, with_want, takes_word, takes_number, take_word, take_number, end_number, noted, number_offsets, sign_offsets}
 use Rattle.batch_grammar.proofs.ChartBytes.{letter-no_space, digit-no_space, digit-no_letter, space-no_name_byte, no_name_byte-no_digit, space-not_equals}

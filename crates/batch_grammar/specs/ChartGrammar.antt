@@ -17,13 +17,13 @@ use Rattle.batch_grammar.specs.Ascii as ascii
 -- ---- tokens
 
 -- a space, a tab, a line feed or a carriage return
-abbrev pub is_space : ℕ → Bool
-is_space b = b == ascii.space || b == ascii.tab || b == ascii.line_feed || b == ascii.carriage_return
+abbrev pub is_chart_space : ℕ → Bool
+is_chart_space b = b == ascii.space || b == ascii.tab || b == ascii.line_feed || b == ascii.carriage_return
 
 -- s is spaces, and then t
 pub data Skips : List ℕ → List ℕ → Type 0 where
   here : {s : List ℕ} → Skips s s
-  space : {b : ℕ} {s t : List ℕ} → IsTrue (is_space b) → Skips s t → Skips (b ∷ s) t
+  space : {b : ℕ} {s t : List ℕ} → IsTrue (is_chart_space b) → Skips s t → Skips (b ∷ s) t
 
 -- a name that is none of the six words
 pub record IsLabel (bytes : List ℕ) : Type 0 where

@@ -16,7 +16,7 @@ use Rattle.batch_recipe.specs.declared.scaling.TheConstants.{MAX_VALUE}
 use Rattle.batch_recipe.specs.Diagram.{Diagram, Diagrams, Cases, diagrams_of, cases_of}
 use Rattle.batch_recipe.specs.Diagram as chart
 use Rattle.batch_grammar.specs.Ascii as ascii
-use Rattle.batch_grammar.specs.ChartGrammar.{is_space, Offsets, no_offsets, opens_par, ranged}
+use Rattle.batch_grammar.specs.ChartGrammar.{is_chart_space, Offsets, no_offsets, opens_par, ranged}
 use Rattle.batch_grammar.specs.declared.word.Word.{Word}
 use Rattle.batch_grammar.specs.declared.word.Word.TheVariants as word
 use Rattle.batch_grammar.specs.declared.firsts.Firsts.{Firsts}
@@ -249,7 +249,7 @@ begin_operator b st =
 -- a byte that no token goes on with
 unfoldable pub begin : ℕ → ℕ → State → Option State
 begin place b st =
-    if is_space b then Some (record st { lexeme = nothing }) else
+    if is_chart_space b then Some (record st { lexeme = nothing }) else
     if is_ascii_alphabetic b then starts (takes_word st.want) (letters (b ∷ [])) st else
     if is_ascii_digit b then starts (takes_number st.want) (digits (b ∷ [])) st else
     if takes_operator st.want then begin_operator b st else

@@ -1,6 +1,6 @@
 //! One byte after another.
 ghost use Rattle.std.specs.Prelude.{◌≡◌, ◌+◌, ◌<◌, ℕ, List, length, slice_index, true, false, MatchResult};
-ghost use Rattle.batch_grammar.specs.ChartGrammar.{is_space};
+ghost use Rattle.batch_grammar.specs.ChartGrammar.{is_chart_space};
 ghost use Rattle.batch_grammar.specs.ChartMachine.{begin, begin_operator, finish, step, take_sign, with_after, IsGood};
 ghost use Rattle.batch_grammar.specs.ChartView.{Gives, found_view, frames_view, lexeme_view, state_view, want_view};
 
@@ -52,8 +52,8 @@ fn begin_sign(alloc: Global, state: &mut State, place: usize, byte: u8) -> Resul
 }
 
 /// A space, a tab, a line feed or a carriage return.
-fn is_space(byte: u8) -> bool
-    ensures { result ≡ is_space byte }
+fn is_chart_space(byte: u8) -> bool
+    ensures { result ≡ is_chart_space byte }
 {
     byte == b' ' || byte == b'\t' || byte == b'\n' || byte == b'\r'
 }
@@ -66,7 +66,7 @@ fn begin(alloc: Global, text: &[u8], state: &mut State, place: usize) -> Result<
         (begin place (slice_index text.now place) (state_view text.now place state.old)) }
 {
     let byte = text[place];
-    if is_space(byte) {
+    if is_chart_space(byte) {
         return starts(state, true, Lexeme::Nothing);
     }
     if byte.is_ascii_alphabetic() {

@@ -12,7 +12,7 @@ use Rattle.batch_recipe.specs.declared.act.Act.{Act}
 use Rattle.batch_recipe.specs.declared.act.Work.{Work}
 use Rattle.batch_recipe.specs.declared.act.Work.TheVariants.{Follows, Runs}
 use Rattle.batch_recipe.specs.declared.acts.Acts.{Acts}
-use Rattle.batch_recipe.specs.declared.acts.Level.TheVariants.{UnitProcedures}
+use Rattle.batch_recipe.specs.declared.acts.LabelTable.TheVariants.{UnitProcedures}
 use Rattle.batch_model.specs.Lists.{Each}
 use Rattle.batch_model.specs.Plant.{Setup}
 use Rattle.batch_model.specs.Standing.{HasPlacedTrees}

@@ -10,11 +10,11 @@ use Rattle.batch_wire.specs.Transcript.{lines_of, whole_lines}
 use Rattle.batch_wire.specs.Written.{AppendsBeginning}
 use Rattle.batch_serve.specs.Safe.{BeginsSafely, WritesSafely, WritesWholeSafely}
 use Rattle.batch_cell.specs.declared.cell.Cell.{Cell}
-use Rattle.batch_words.specs.declared.command.Command.{Command}
+use Rattle.batch_words.specs.declared.command.Subcommand.{Subcommand}
 use Rattle.batch_words.specs.declared.plant_options.PlantOptions.{PlantOptions}
 use Rattle.batch_commands.specs.Reading.{Gives}
-use Rattle.batch_commands.specs.Requests.{Request, IsDemoSet, IsServed, is_quiet, request_of, serve, check, draw, verify, run, plant, explain}
-use Rattle.batch_commands.specs.Running.{IsDone, IsExplained, IsNamed, IsPrinted, IsPronounced, IsRun, IsTold, IsUntouched, Stream, help_status, usage_status, memory_status}
+use Rattle.batch_commands.specs.Requests.{Request, IsDemoSet, IsRequestedSet, wants_quiet, request_of, serve, check, draw, verify, run, plant, explain}
+use Rattle.batch_commands.specs.Running.{IsDone, IsExplained, IsNamed, IsPrinted, IsPronounced, IsRun, IsAnnounced, IsUnwritten, Stream, help_status, usage_status, memory_status}
 use Rattle.batch_commands.specs.Statuses.{IsSuccess}
 use Rattle.batch_commands.proofs.Successes.{same_request, success_is_told}
 use Rattle.batch_commands.specs.Judging.{status_of}
@@ -98,12 +98,12 @@ served_kept set n (Err Memory) unread left before mid after kept (unread_kept, m
 
 -- The set
 
-done_to_serve : (gives : Gives) (output errors : Stream) (command : Command) (course : Course) (set : ClearedSet)
+done_to_serve : (gives : Gives) (output errors : Stream) (command : Subcommand) (course : Course) (set : ClearedSet)
     → IsDone gives command output errors course → course ≡ course_of.Serves set
-    → IsServed gives (request_of command) set × Keeps output.before output.after
+    → IsRequestedSet gives (request_of command) set × Keeps output.before output.after
 done_to_serve gives output errors command _ set (running.serves other served kept _) is =
     let same : other ≡ set = cc in
-    (subst (λ s. IsServed gives (request_of command) s) same served, kept)
+    (subst (λ s. IsRequestedSet gives (request_of command) s) same served, kept)
 done_to_serve gives output errors command _ set (running.plants _ _ _ _ _ _ _ _) is = absurd cc
 done_to_serve gives output errors command _ set (running.halts _ _ _ _ _) is = absurd cc
 done_to_serve gives output errors command _ set (running.judges _ _ _ _) is = absurd cc
@@ -112,7 +112,7 @@ done_to_serve gives output errors command _ set (running.explains _ _ _ _) is = 
 -- what is to be served is the set of the documents that the words name, and nothing was written
 pub set_to_serve : (gives : Gives) (words : List Text) (output errors : Stream) (course : Course) (set : ClearedSet)
     → IsRun gives words output errors course → course ≡ course_of.Serves set
-    → (command : Command) × IsNamed words command × IsServed gives (request_of command) set × Keeps output.before output.after
+    → (command : Subcommand) × IsNamed words command × IsRequestedSet gives (request_of command) set × Keeps output.before output.after
 set_to_serve gives words output errors _ set (running.commands command course named came) is =
     let (served, kept) = done_to_serve gives output errors command course set came is in
     (command, named, served, kept)
@@ -122,9 +122,9 @@ set_to_serve gives words output errors _ set (running.starves _) is = absurd cc
 
 -- The plant
 
-done_to_plant : (gives : Gives) (output errors : Stream) (command : Command) (course : Course) (set : ClearedSet) (c : Cell) (options : PlantOptions)
+done_to_plant : (gives : Gives) (output errors : Stream) (command : Subcommand) (course : Course) (set : ClearedSet) (c : Cell) (options : PlantOptions)
     → IsDone gives command output errors course → course ≡ course_of.Plants set c options
-    → (request_of command ≡ plant options.batches options.ticks options.ring) × IsDemoSet set × IsUntouched output × IsUntouched errors
+    → (request_of command ≡ plant options.batches options.ticks options.ring) × IsDemoSet set × IsUnwritten output × IsUnwritten errors
 done_to_plant gives output errors command _ set c options (running.plants other d own asked cleared read kept silent) is =
     let same : other ≡ set = cc in
     let chosen : own ≡ options = cc in
@@ -137,8 +137,8 @@ done_to_plant gives output errors command _ set c options (running.explains _ _ 
 -- the plant that is to be run is the demo's, with the options that the words have, and nothing was written
 pub plant_to_run : (gives : Gives) (words : List Text) (output errors : Stream) (course : Course) (set : ClearedSet) (c : Cell) (options : PlantOptions)
     → IsRun gives words output errors course → course ≡ course_of.Plants set c options
-    → (command : Command) × IsNamed words command × (request_of command ≡ plant options.batches options.ticks options.ring) × IsDemoSet set
-    × IsUntouched output × IsUntouched errors
+    → (command : Subcommand) × IsNamed words command × (request_of command ≡ plant options.batches options.ticks options.ring) × IsDemoSet set
+    × IsUnwritten output × IsUnwritten errors
 plant_to_run gives words output errors _ set c options (running.commands command course named came) is =
     let (asked, cleared, kept, silent) = done_to_plant gives output errors command course set c options came is in
     (command, named, asked, cleared, kept, silent)
@@ -186,14 +186,14 @@ ran_to_the_end set (Ok done) ends all is = all
 ran_to_the_end set (Err Memory) ends all is = absurd cc
 ran_to_the_end set (Err (Stopped fault)) ends all is = absurd cc
 
-safe_at : (gives : Gives) (words : List Text) (ends : serving.Ends) (errors : Stream) (command : Command) (status : ℕ)
+safe_at : (gives : Gives) (words : List Text) (ends : serving.Ends) (errors : Stream) (command : Subcommand) (status : ℕ)
     → IsNamed words command → IsToServe (request_of command) → IsProgramRun gives words ends errors status → status ≡ 0
-    → (set : ClearedSet) × IsServed gives (request_of command) set × AnswersAll set ends
+    → (set : ClearedSet) × IsRequestedSet gives (request_of command) set × AnswersAll set ends
 safe_at gives words ends errors command _ named asked (tells status came _) is =
     let success = success_is_told gives words (output_of ends) errors command named (subst (λ k. IsRun gives words (output_of ends) errors (Ends k)) is came) in
     absurd (nothing_served gives (request_of command) (output_of ends) asked success)
 safe_at gives words ends errors command _ named asked (serves other set served named2 is_served all) is =
-    (set, subst (λ r. IsServed gives r set) (same_request words other command named2 named) is_served, ran_to_the_end set served ends all is)
+    (set, subst (λ r. IsRequestedSet gives r set) (same_request words other command named2 named) is_served, ran_to_the_end set served ends all is)
 safe_at gives words ends errors command status named asked (plants other set options end _ named2 planted _ _ _ _) is =
     absurd (subst IsToServe (sym (same_request words other command named2 named) ∙ planted) asked)
 
@@ -214,7 +214,7 @@ pronounced_in_range : (quiet : Bool) (output errors : Stream) (verdict : Verdict
 pronounced_in_range quiet output errors verdict status (inl (_, _, same)) = rw same (ending_in_range verdict.ending)
 pronounced_in_range quiet output errors verdict status (inr fault) = rw fault (omega arith)
 
-told_in_range : (quiet : Bool) (output errors : Stream) (outcome : Result Verdict Halt) (status : ℕ) → IsTold quiet output errors outcome status → status ≤ 4
+told_in_range : (quiet : Bool) (output errors : Stream) (outcome : Result Verdict Halt) (status : ℕ) → IsAnnounced quiet output errors outcome status → status ≤ 4
 told_in_range quiet output errors (Ok verdict) status told = pronounced_in_range quiet output errors verdict status told
 told_in_range quiet output errors (Err (halt.Refused verdict)) status told = pronounced_in_range quiet output errors verdict status told
 told_in_range quiet output errors (Err (halt.Unread message)) status (_, fault) = rw fault (omega arith)
@@ -225,14 +225,14 @@ explained_in_range code output errors status (inl (_, _, printed)) = printed_in_
 explained_in_range code output errors status (inr (_, inl usage)) = rw usage (omega arith)
 explained_in_range code output errors status (inr (_, inr memory)) = rw memory (omega arith)
 
-done_in_range : (gives : Gives) (output errors : Stream) (command : Command) (course : Course) (status : ℕ)
+done_in_range : (gives : Gives) (output errors : Stream) (command : Subcommand) (course : Course) (status : ℕ)
     → IsDone gives command output errors course → course ≡ Ends status → status ≤ 4
 done_in_range gives output errors command _ status (running.serves _ _ _ _) is = absurd cc
 done_in_range gives output errors command _ status (running.plants _ _ _ _ _ _ _ _) is = absurd cc
 done_in_range gives output errors command _ status (running.halts h told _ _ at) is =
-    let same : told ≡ status = cc in rw (← same) (told_in_range (is_quiet command) output errors (Err h) told at)
+    let same : told ≡ status = cc in rw (← same) (told_in_range (wants_quiet command) output errors (Err h) told at)
 done_in_range gives output errors command _ status (running.judges outcome told _ at) is =
-    let same : told ≡ status = cc in rw (← same) (told_in_range (is_quiet command) output errors outcome told at)
+    let same : told ≡ status = cc in rw (← same) (told_in_range (wants_quiet command) output errors outcome told at)
 done_in_range gives output errors command _ status (running.explains code told _ at) is =
     let same : told ≡ status = cc in rw (← same) (explained_in_range code output errors told at)
 
@@ -283,13 +283,13 @@ complete_at output errors set batches (Err plant_fault.Thread) status ran (_, me
 no_plant_told : (gives : Gives) (request : Request) (output : Stream) (batches ticks ring : ℕ) → request ≡ plant batches ticks ring → IsSuccess gives request output → ⊥
 no_plant_told gives request output batches ticks ring is success = rw is at success
 
-not_served : (gives : Gives) (request : Request) (set : ClearedSet) (batches ticks ring : ℕ) → request ≡ plant batches ticks ring → IsServed gives request set → ⊥
+not_served : (gives : Gives) (request : Request) (set : ClearedSet) (batches ticks ring : ℕ) → request ≡ plant batches ticks ring → IsRequestedSet gives request set → ⊥
 not_served gives request set batches ticks ring is served = rw is at served
 
 same_batches : (a b ticks more ring places : ℕ) → plant a ticks ring ≡ plant b more places → a ≡ b
 same_batches a b ticks more ring places is = cc
 
-told_plant : (gives : Gives) (words : List Text) (ends : serving.Ends) (errors : Stream) (command : Command) (batches ticks ring status : ℕ)
+told_plant : (gives : Gives) (words : List Text) (ends : serving.Ends) (errors : Stream) (command : Subcommand) (batches ticks ring status : ℕ)
     → IsNamed words command → request_of command ≡ plant batches ticks ring → IsProgramRun gives words ends errors status → status ≡ 0
     → (set : ClearedSet) × (handled : ℕ) × IsDemoSet set × HasRun set batches handled × Appends ends.before ends.after (plant_text batches handled)
 told_plant gives words ends errors command batches ticks ring _ named asked (tells status came _) is =

@@ -3,7 +3,7 @@ use Rattle.std.specs.Prelude.{◌≡◌, ◌⊎◌, ◌++◌, ℕ, List, Result,
 use Rattle.batch_verify.specs.ClearedSet.{ClearedSet}
 use Rattle.batch_desk.specs.HubDone.{AreComplete}
 use Rattle.batch_desk.specs.HubState.{HubState, IsHub}
-use Rattle.batch_commands.specs.Running.{IsPrinted, IsUntouched, Stream, memory_status}
+use Rattle.batch_commands.specs.Running.{IsPrinted, IsUnwritten, Stream, memory_status}
 use Rattle.batch_plant.specs.declared.plant_fault.PlantFault.{PlantFault}
 use Rattle.batch_plant.specs.declared.plant_fault.PlantFault.TheVariants.{Memory, Thread, TurnsOut}
 
@@ -33,7 +33,7 @@ HasRun set batches handled =
 -- on the errors in a free text
 abbrev pub IsPlantTold : Stream → Stream → ℕ → Result ℕ PlantFault → ℕ → Type 0
 IsPlantTold output errors batches (Ok handled) status =
-    IsPrinted output errors (plant_text batches handled) 0 status ⊎ (IsUntouched output × (status ≡ memory_status))
+    IsPrinted output errors (plant_text batches handled) 0 status ⊎ (IsUnwritten output × (status ≡ memory_status))
 IsPlantTold output errors batches (Err TurnsOut) status = IsPrinted output errors turns_text refused_status status
-IsPlantTold output errors batches (Err Memory) status = IsUntouched output × (status ≡ memory_status)
-IsPlantTold output errors batches (Err Thread) status = IsUntouched output × (status ≡ memory_status)
+IsPlantTold output errors batches (Err Memory) status = IsUnwritten output × (status ≡ memory_status)
+IsPlantTold output errors batches (Err Thread) status = IsUnwritten output × (status ≡ memory_status)

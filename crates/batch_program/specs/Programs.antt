@@ -5,10 +5,10 @@ use Rattle.std.specs.Process.{exit_status}
 use Rattle.std.specs.declared.process.ExitCode.{ExitCode}
 use Rattle.clap.specs.Walk.{Text}
 use Rattle.batch_verify.specs.ClearedSet.{ClearedSet}
-use Rattle.batch_words.specs.declared.command.Command.{Command}
+use Rattle.batch_words.specs.declared.command.Subcommand.{Subcommand}
 use Rattle.batch_words.specs.declared.plant_options.PlantOptions.{PlantOptions}
 use Rattle.batch_commands.specs.Reading.{Gives}
-use Rattle.batch_commands.specs.Requests.{Request, serve, check, draw, verify, run, plant, explain, IsDemoSet, IsServed, request_of}
+use Rattle.batch_commands.specs.Requests.{Request, serve, check, draw, verify, run, plant, explain, IsDemoSet, IsRequestedSet, request_of}
 use Rattle.batch_commands.specs.Running.{IsNamed, IsRun, Stream, fault_status, memory_status}
 use Rattle.batch_commands.specs.declared.course.Course.TheVariants.{Ends}
 use Rattle.batch_serve.specs.Serves as serving
@@ -38,11 +38,11 @@ pub data IsProgramRun (gives : Gives) (words : List Text) (ends : serving.Ends) 
   tells : (status : ℕ) → IsRun gives words (output_of ends) errors (Ends status) → Keeps ends.unread ends.left
       → IsProgramRun gives words ends errors status
   -- the set that the words name is served, by the engine that is made from it
-  serves : (command : Command) (set : ClearedSet) (served : Result (Unit {0}) SetFault)
-      → IsNamed words command → IsServed gives (request_of command) set → Serves set MAX_READS served ends
+  serves : (command : Subcommand) (set : ClearedSet) (served : Result (Unit {0}) SetFault)
+      → IsNamed words command → IsRequestedSet gives (request_of command) set → Serves set MAX_READS served ends
       → IsProgramRun gives words ends errors (status_of_serving served)
   -- the plant of the demo is run with the options that the words have, its end is told, and the input isn't read
-  plants : (command : Command) (set : ClearedSet) (options : PlantOptions) (end : Result ℕ PlantFault) (status : ℕ)
+  plants : (command : Subcommand) (set : ClearedSet) (options : PlantOptions) (end : Result ℕ PlantFault) (status : ℕ)
       → IsNamed words command → request_of command ≡ plant options.batches options.ticks options.ring → IsDemoSet set
       → IfOk end (HasRun set options.batches) → IsPlantTold (output_of ends) errors options.batches end status → Keeps ends.unread ends.left
       → IsProgramRun gives words ends errors status
@@ -63,14 +63,14 @@ IsToServe (explain code) = ⊥
 -- make, cleared by their certificate; AnswersAll says that what it wrote is a safe record
 abbrev pub ServingIsSafe : Gives → Type 0
 ServingIsSafe gives =
-    (words : List Text) (ends : serving.Ends) (errors : Stream) (command : Command)
+    (words : List Text) (ends : serving.Ends) (errors : Stream) (command : Subcommand)
     → IsNamed words command → IsToServe (request_of command) → IsProgramRun gives words ends errors 0
-    → (set : ClearedSet) × IsServed gives (request_of command) set × AnswersAll set ends
+    → (set : ClearedSet) × IsRequestedSet gives (request_of command) set × AnswersAll set ends
 
 -- a run of `plant` that ends with status 0 has written its three lines, and a hub over the demo's set has come to where the batches
 -- that were asked for are complete, with so many events as the third line says
 abbrev pub PlantsAreComplete : Gives → Type 0
 PlantsAreComplete gives =
-    (words : List Text) (ends : serving.Ends) (errors : Stream) (command : Command) (batches ticks ring : ℕ)
+    (words : List Text) (ends : serving.Ends) (errors : Stream) (command : Subcommand) (batches ticks ring : ℕ)
     → IsNamed words command → request_of command ≡ plant batches ticks ring → IsProgramRun gives words ends errors 0
     → (set : ClearedSet) × (handled : ℕ) × IsDemoSet set × HasRun set batches handled × Appends ends.before ends.after (plant_text batches handled)

@@ -10,35 +10,35 @@ use Rattle.batch_reader.specs.declared.fault.TableKind.{TableKind}
 use Rattle.batch_reader.specs.declared.fault.TableKind.TheVariants.{Cell, Unit, Module, Shared, Recipe, Input, Parameter, Output, Role, Procedure, UnitProcedure, Operation, Phase}
 
 -- what the value at a key has to be
-pub data Form : Type 0 where
-  a_name : Form
+pub data ValueForm : Type 0 where
+  a_name : ValueForm
   -- a name that is none of the words of charts
-  a_free_name : Form
+  a_free_name : ValueForm
   -- of at most so many bytes
-  a_text : ℕ → Form
+  a_text : ℕ → ValueForm
   -- from the first number to the second
-  a_number : ℕ → ℕ → Form
+  a_number : ℕ → ℕ → ValueForm
   -- a number up to this one, and not above that at the key
-  a_least : ℕ → List ℕ → Form
-  a_truth : Form
+  a_least : ℕ → List ℕ → ValueForm
+  a_truth : ValueForm
   -- at least and at most so many names
-  some_names : ℕ → ℕ → Form
+  some_names : ℕ → ℕ → ValueForm
   -- at most so many needs
-  some_needs : ℕ → Form
-  a_chart : Form
-  a_chart_without_par : Form
+  some_needs : ℕ → ValueForm
+  a_chart : ValueForm
+  a_chart_without_par : ValueForm
   -- one table or more, each of which is looked at by itself
-  some_tables : Form
+  some_tables : ValueForm
 
 pub record Key : Type 0 where
   pub word : List ℕ
-  pub form : Form
+  pub form : ValueForm
   pub is_needed : Bool
 
-abbrev pub needed : List ℕ → Form → Key
+abbrev pub needed : List ℕ → ValueForm → Key
 needed word form = record { word = word; form = form; is_needed = true }
 
-abbrev pub optional : List ℕ → Form → Key
+abbrev pub optional : List ℕ → ValueForm → Key
 optional word form = record { word = word; form = form; is_needed = false }
 
 -- of an input or a parameter

@@ -10,7 +10,7 @@ use Rattle.batch_grammar.specs.ChartAnswer.{HasFaultAt, IsOutsideAt, IsRead}
 use Rattle.batch_grammar.specs.ChartGrammar.{IsLabel}
 use Rattle.batch_grammar.specs.declared.reading.TheConstants.{MAX_CHART_LEN}
 use Rattle.batch_reader.specs.Entries.{AllItems, IsNameItem, has_only_keys, items_at}
-use Rattle.batch_reader.specs.Keys.{Form, a_name, a_free_name, a_text, a_number, a_least, a_truth, some_names, some_needs, a_chart, a_chart_without_par, some_tables, Key, keys_of}
+use Rattle.batch_reader.specs.Keys.{ValueForm, a_name, a_free_name, a_text, a_number, a_least, a_truth, some_names, some_needs, a_chart, a_chart_without_par, some_tables, Key, keys_of}
 use Rattle.batch_reader.specs.NeedText.{is_star}
 use Rattle.batch_reader.specs.RightTables.{IsRightTable}
 use Rattle.batch_reader.specs.Words.{table_word}
@@ -65,7 +65,7 @@ abbrev pub AreNoNames : Items → Type 0
 AreNoNames items = (names : List (List ℕ)) → ¬ (AllItems IsNameItem items names)
 
 -- the value is none of the form, whatever the limits
-abbrev pub IsOfWrongKind : Form → Data → Type 0
+abbrev pub IsOfWrongKind : ValueForm → Data → Type 0
 IsOfWrongKind a_name d = (name : List ℕ) → ¬ (IsNameItem d name)
 IsOfWrongKind a_free_name d = (name : List ℕ) → as_str d ≡ Some name → ¬ (IsLabel name)
 IsOfWrongKind (a_text most) d = as_str d ≡ None
@@ -103,7 +103,7 @@ abbrev pub IsChartOutOfLimits : List ℕ → Type 0
 IsChartOutOfLimits text = (MAX_CHART_LEN < length text) ⊎ ((offset : ℕ) × IsOutsideAt text offset)
 
 -- the value in this table is of the form but for its limits
-abbrev pub IsOutOfLimits : Form → Members → Data → Type 0
+abbrev pub IsOutOfLimits : ValueForm → Members → Data → Type 0
 IsOutOfLimits a_name table d = ⊥
 IsOutOfLimits a_free_name table d = ⊥
 IsOutOfLimits (a_text most) table d = IsTextThat (λ text. most < length text) d
@@ -125,7 +125,7 @@ abbrev pub OpensParAt : ℕ → List ℕ → Type 0
 OpensParAt offset text = (chart : Diagram) × IsRead text chart (Some offset)
 
 -- the text at the key is refused for what stands at the offset
-abbrev pub HasChartFaultAt : Form → ℕ → Data → Type 0
+abbrev pub HasChartFaultAt : ValueForm → ℕ → Data → Type 0
 HasChartFaultAt a_chart offset d = IsTextThat (IsNoChartAt offset) d
 HasChartFaultAt a_chart_without_par offset d = IsTextThat (λ text. IsNoChartAt offset text ⊎ OpensParAt offset text) d
 HasChartFaultAt _ offset d = ⊥

@@ -11,8 +11,8 @@ use Rattle.batch_recipe.specs.Procedure.{table_at, level_below}
 use Rattle.batch_recipe.specs.Growing.{entry, topped, bare, grown, grown_cases, grown_act, grown_named, levels_from, number_in, branch_entries, chart_entries, act_entries, HasBegun, HasEnded, HasGrown}
 use Rattle.batch_recipe.specs.declared.act.Act.{Act}
 use Rattle.batch_recipe.specs.declared.acts.Acts.{Acts}
-use Rattle.batch_recipe.specs.declared.acts.Level.{Level}
-use Rattle.batch_recipe.specs.declared.acts.Level.TheVariants.{UnitProcedures, Operations, Phases}
+use Rattle.batch_recipe.specs.declared.acts.LabelTable.{LabelTable}
+use Rattle.batch_recipe.specs.declared.acts.LabelTable.TheVariants.{UnitProcedures, Operations, Phases}
 use Rattle.batch_recipe.specs.declared.chart.Chart.{Chart}
 use Rattle.batch_recipe.specs.declared.chart.Chart.TheVariants.{Label}
 use Rattle.batch_recipe.specs.declared.condition.Cond.{Cond}
@@ -59,17 +59,17 @@ module _ (before begun grown_to ended : List Entry) (k : Kind) (n u i : ℕ) (be
   node_failed TooMany h = omega (arith, h, ap length shifted, ap length b.1, length-append before (entry k (n + 1) u i ∷ []))
   node_failed Memory h = tt
 
-levels_cons : (level : Level) → levels_from (Some level) ≡ level ∷ levels_from (level_below level)
+levels_cons : (level : LabelTable) → levels_from (Some level) ≡ level ∷ levels_from (level_below level)
 levels_cons UnitProcedures = refl
 levels_cons Operations = refl
 levels_cons Phases = refl
 
 -- a label
-module _ (acts : Acts) (chart : Chart) (level : Option Level) (name : Name) (is : chart ≡ Label name) (n u i : ℕ) where
+module _ (acts : Acts) (chart : Chart) (level : Option LabelTable) (name : Name) (is : chart ≡ Label name) (n u i : ℕ) where
   pub no_level : level ≡ None → chart_entries acts level n u i (diagram_of chart) ≡ bare n u i
   no_level at = rw (is, diagram_of-label name, at) refl
 
-  module _ (table : Level) (at : level ≡ Some table) where
+  module _ (table : LabelTable) (at : level ≡ Some table) where
     pub no_number : number_in (table_at acts table) name ≡ None → chart_entries acts level n u i (diagram_of chart) ≡ bare n u i
     no_number e = rw (is, diagram_of-label name, at, levels_cons table, grown_named, e) refl
 
@@ -77,7 +77,7 @@ module _ (acts : Acts) (chart : Chart) (level : Option Level) (name : Name) (is 
       pub no_act : slice_get (table_at acts table) k ≡ None → chart_entries acts level n u i (diagram_of chart) ≡ bare n u i
       no_act f = rw (is, diagram_of-label name, at, levels_cons table, grown_named, e, f) refl
 
-      pub some_act : (a : Act) (below : Option Level) → below ≡ level_below table → slice_get (table_at acts table) k ≡ Some a
+      pub some_act : (a : Act) (below : Option LabelTable) → below ≡ level_below table → slice_get (table_at acts table) k ≡ Some a
           → chart_entries acts level n u i (diagram_of chart) ≡ act_entries acts below (kind.Act table k) n u i a
       some_act a below b f = rw (is, diagram_of-label name, at, levels_cons table, grown_named, e, f, b) refl
 
@@ -93,12 +93,12 @@ some_grown named some n u i (chart.par ds) = omega arith
 some_grown named some n u i (chart.sel cs) = omega arith
 some_grown named some n u i (chart.loop turns c d) = omega arith
 
-named_found : (acts : Acts) (levels : List Level) (level : Level) (k : ℕ) (found : Option Act) (n u i : ℕ)
+named_found : (acts : Acts) (levels : List LabelTable) (level : LabelTable) (k : ℕ) (found : Option Act) (n u i : ℕ)
     → 0 < length {A = Entry} (elim found [ None ↦ bare n u i | Some a ↦ grown_act (grown_named acts levels) (kind.Act level k) n u i a ])
 named_found acts levels level k None n u i = omega arith
 named_found acts levels level k (Some a) n u i = omega arith
 
-named_number : (acts : Acts) (levels : List Level) (level : Level) (number : Option ℕ) (n u i : ℕ)
+named_number : (acts : Acts) (levels : List LabelTable) (level : LabelTable) (number : Option ℕ) (n u i : ℕ)
     → 0 < length {A = Entry} (elim number [
       | None ↦ bare n u i
       | Some k ↦ elim (slice_get (table_at acts level) k) [ None ↦ bare n u i | Some a ↦ grown_act (grown_named acts levels) (kind.Act level k) n u i a ]
@@ -106,11 +106,11 @@ named_number : (acts : Acts) (levels : List Level) (level : Level) (number : Opt
 named_number acts levels level None n u i = omega arith
 named_number acts levels level (Some k) n u i = named_found acts levels level k (slice_get (table_at acts level) k) n u i
 
-pub some_named : (acts : Acts) (levels : List Level) (name : Name) (n u i : ℕ) → 0 < length (grown_named acts levels name n u i)
+pub some_named : (acts : Acts) (levels : List LabelTable) (name : Name) (n u i : ℕ) → 0 < length (grown_named acts levels name n u i)
 some_named acts [] name n u i = omega arith
 some_named acts (level ∷ levels) name n u i = named_number acts levels level (number_in (table_at acts level) name) n u i
 
-module _ (acts : Acts) (level : Option Level) (u : ℕ) where
+module _ (acts : Acts) (level : Option LabelTable) (u : ℕ) where
   abbrev each : ℕ → ℕ → List Chart → List Entry
   each n i parts = branch_entries acts level n u i (map diagram_of parts)
 

@@ -15,7 +15,7 @@ use Rattle.batch_recipe.specs.declared.act.Act.{Act}
 use Rattle.batch_recipe.specs.declared.act.Work.{Work}
 use Rattle.batch_recipe.specs.declared.act.Work.TheVariants.{Follows, Runs}
 use Rattle.batch_recipe.specs.declared.acts.Acts.{Acts}
-use Rattle.batch_recipe.specs.declared.acts.Level.TheVariants.{UnitProcedures}
+use Rattle.batch_recipe.specs.declared.acts.LabelTable.TheVariants.{UnitProcedures}
 
 abbrev Labelling : Type 0
 Labelling = Place → Option Name

@@ -15,8 +15,8 @@ use Rattle.batch_recipe.specs.declared.act.Act.{Act}
 use Rattle.batch_recipe.specs.declared.act.Work.{Work}
 use Rattle.batch_recipe.specs.declared.act.Work.TheVariants.{Follows, Runs}
 use Rattle.batch_recipe.specs.declared.acts.Acts.{Acts}
-use Rattle.batch_recipe.specs.declared.acts.Level.{Level}
-use Rattle.batch_recipe.specs.declared.acts.Level.TheVariants.{UnitProcedures, Operations, Phases}
+use Rattle.batch_recipe.specs.declared.acts.LabelTable.{LabelTable}
+use Rattle.batch_recipe.specs.declared.acts.LabelTable.TheVariants.{UnitProcedures, Operations, Phases}
 use Rattle.batch_recipe.specs.declared.entry.Entry.{Entry}
 use Rattle.batch_recipe.specs.declared.entry.Kind.{Kind}
 use Rattle.batch_recipe.specs.declared.entry.Kind.TheVariants as kind
@@ -128,10 +128,10 @@ module _ (bound : Binding) (acts : Acts) where
             (chart_matches (n + 1) n 0 (child p 0) (diagram_of c)) (shapes_counted (n + 1) n 0 t) in
             (h.0 ∙ ap (λ g. record { form = g; end = n + (1 + node_count t); parent = u; child = i } ∷ shapes (n + 1) n 0 t) f, h.1 ∙ ap (λ x. x ∷ acts_along list (diagram_of c)) is)
 
-  abbrev LabelsFrom : Option Level → Type 0
+  abbrev LabelsFrom : Option LabelTable → Type 0
   LabelsFrom level = (unit : Name) → AreLabels (named_tree_with bound (tables_from acts level) unit) (grown_named acts (levels_from level)) (acts_named (tables_from acts level))
 
-  module _ (table : Level) (labels : LabelsFrom (level_below table)) (name : Name) where
+  module _ (table : LabelTable) (labels : LabelsFrom (level_below table)) (name : Name) where
     abbrev trees_below : Name → Name → Place → Tree
     trees_below = named_tree_with bound (tables_from acts (level_below table))
 

@@ -7,8 +7,8 @@ use Rattle.batch_recipe.specs.declared.act.Act.{Act}
 use Rattle.batch_recipe.specs.declared.act.Work.{Work}
 use Rattle.batch_recipe.specs.declared.act.Work.TheVariants.{Follows, Runs}
 use Rattle.batch_recipe.specs.declared.acts.Acts.{Acts}
-use Rattle.batch_recipe.specs.declared.acts.Level.{Level}
-use Rattle.batch_recipe.specs.declared.acts.Level.TheVariants.{UnitProcedures, Operations, Phases}
+use Rattle.batch_recipe.specs.declared.acts.LabelTable.{LabelTable}
+use Rattle.batch_recipe.specs.declared.acts.LabelTable.TheVariants.{UnitProcedures, Operations, Phases}
 use Rattle.batch_recipe.specs.declared.chart.Chart.{Chart}
 use Rattle.batch_recipe.specs.declared.condition.Cond.{Cond}
 use Rattle.batch_recipe.specs.declared.entry.Entry.{Entry}
@@ -56,7 +56,7 @@ grown_work named n (Runs phase values) = []
 abbrev pub grown_act : Labels → Kind → ℕ → ℕ → ℕ → Act → List Entry
 grown_act named k n u i a = topped k n u i (grown_work named n a.work)
 
-abbrev pub levels_from : Option Level → List Level
+abbrev pub levels_from : Option LabelTable → List LabelTable
 levels_from None = []
 levels_from (Some UnitProcedures) = UnitProcedures ∷ Operations ∷ Phases ∷ []
 levels_from (Some Operations) = Operations ∷ Phases ∷ []
@@ -66,31 +66,31 @@ levels_from (Some Phases) = Phases ∷ []
 abbrev pub number_in : List Act → Name → Option ℕ
 number_in table name = position (λ a. same_name a.name name) table
 
-abbrev pub grown_named : Acts → List Level → Labels
+abbrev pub grown_named : Acts → List LabelTable → Labels
 grown_named acts [] name n u i = bare n u i
 grown_named acts (level ∷ levels) name n u i = elim (number_in (table_at acts level) name) [
   | None ↦ bare n u i
   | Some k ↦ elim (slice_get (table_at acts level) k) [ None ↦ bare n u i | Some a ↦ grown_act (grown_named acts levels) (kind.Act level k) n u i a ]
 ]
 
-abbrev pub act_entries : Acts → Option Level → Kind → ℕ → ℕ → ℕ → Act → List Entry
+abbrev pub act_entries : Acts → Option LabelTable → Kind → ℕ → ℕ → ℕ → Act → List Entry
 act_entries acts level k n u i a = grown_act (grown_named acts (levels_from level)) k n u i a
 
-abbrev pub chart_entries : Acts → Option Level → ℕ → ℕ → ℕ → Diagram → List Entry
+abbrev pub chart_entries : Acts → Option LabelTable → ℕ → ℕ → ℕ → Diagram → List Entry
 chart_entries acts level n u i d = grown (grown_named acts (levels_from level)) n u i d
 
-abbrev pub branch_entries : Acts → Option Level → ℕ → ℕ → ℕ → List Diagram → List Entry
+abbrev pub branch_entries : Acts → Option LabelTable → ℕ → ℕ → ℕ → List Diagram → List Entry
 branch_entries acts level n u i ds = grown_each (grown_named acts (levels_from level)) n u i (diagrams_of ds)
 
 -- a node and its branches
-abbrev pub parts_entries : Acts → Option Level → Kind → ℕ → ℕ → ℕ → List Diagram → List Entry
+abbrev pub parts_entries : Acts → Option LabelTable → Kind → ℕ → ℕ → ℕ → List Diagram → List Entry
 parts_entries acts level k n u i ds = topped k n u i (branch_entries acts level (n + 1) n 0 ds)
 
 -- the cases of a selection
 abbrev pub choice_cases : List (Cond × Chart) → Chart → Cases
 choice_cases choices last = cases_of (map (λ choice. (choice.0, diagram_of choice.1)) choices) (diagram_of last)
 
-abbrev pub choice_entries : Acts → Option Level → ℕ → ℕ → ℕ → List (Cond × Chart) → Chart → List Entry
+abbrev pub choice_entries : Acts → Option LabelTable → ℕ → ℕ → ℕ → List (Cond × Chart) → Chart → List Entry
 choice_entries acts level n u i choices last = grown_cases (grown_named acts (levels_from level)) n u i (choice_cases choices last)
 
 -- the entries of a recipe's outline

@@ -3,7 +3,7 @@ ghost use Rattle.std.specs.Prelude.{◌≡◌, option_copied};
 ghost use Rattle.batch_recipe.specs.Outlines.{act_of};
 
 use crate::act::Act;
-use crate::acts::{Acts, Level};
+use crate::acts::{Acts, LabelTable};
 
 /// What stands at a node.
 #[derive(Clone, Copy, Debug, PartialEq, Eq)]
@@ -12,7 +12,7 @@ pub enum Kind {
     /// The recipe's procedure.
     Procedure,
     /// The act with this number in the table.
-    Act(Level, usize),
+    Act(LabelTable, usize),
     Seq,
     Par,
     Sel,

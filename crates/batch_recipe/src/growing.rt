@@ -6,7 +6,7 @@ ghost use Rattle.batch_recipe.specs.Growing.{HasBegun, HasEnded, HasGrown, act_e
 ghost use Rattle.batch_recipe.specs.declared.recipe.TheConstants.{MAX_NODES};
 
 use crate::act::{Act, Work};
-use crate::acts::{Acts, Level};
+use crate::acts::{Acts, LabelTable};
 use crate::chart::Chart;
 use crate::condition::Cond;
 use crate::entry::{Entry, Kind};
@@ -56,7 +56,7 @@ pub fn grow_act(
     acts: &Acts,
     act: &Act,
     kind: Kind,
-    level: Option<Level>,
+    level: Option<LabelTable>,
     parent: u16,
     child: u16,
 ) -> Result<(), OutlineFault>
@@ -89,7 +89,7 @@ fn grow(
     nodes: &mut Vec<Entry>,
     acts: &Acts,
     chart: &Chart,
-    level: Option<Level>,
+    level: Option<LabelTable>,
     parent: u16,
     child: u16,
 ) -> Result<(), OutlineFault>
@@ -140,7 +140,7 @@ fn grow_parts(
     acts: &Acts,
     kind: Kind,
     parts: &[Chart],
-    level: Option<Level>,
+    level: Option<LabelTable>,
     parent: u16,
     child: u16,
 ) -> Result<(), OutlineFault>
@@ -159,7 +159,7 @@ fn grow_each(
     nodes: &mut Vec<Entry>,
     acts: &Acts,
     parts: &[Chart],
-    level: Option<Level>,
+    level: Option<LabelTable>,
     parent: u16,
 ) -> Result<(), OutlineFault>
     requires { length nodes.old.items ≤ MAX_NODES }
@@ -180,7 +180,7 @@ fn grow_choices(
     acts: &Acts,
     choices: &[(Cond, Chart)],
     last: &Chart,
-    level: Option<Level>,
+    level: Option<LabelTable>,
     parent: u16,
 ) -> Result<(), OutlineFault>
     requires { length nodes.old.items ≤ MAX_NODES }

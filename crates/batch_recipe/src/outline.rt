@@ -5,7 +5,7 @@ ghost use Rattle.batch_recipe.specs.Procedure.{procedure_nodes};
 ghost use Rattle.batch_recipe.specs.declared.outline_fault.OutlineFault.TheVariants.{TooMany};
 ghost use Rattle.batch_recipe.specs.declared.recipe.TheConstants.{MAX_NODES};
 
-use crate::acts::{Acts, Level};
+use crate::acts::{Acts, LabelTable};
 use crate::entry::{Entry, Kind};
 use crate::growing::grow_act;
 use crate::outline_fault::OutlineFault;
@@ -27,7 +27,7 @@ impl Outline {
         ensures many { IsErrOf result OutlineFault.TooMany → MAX_NODES < length (procedure_nodes acts.now) }
     {
         let mut entries = Vec::new(alloc);
-        let level = Some(Level::UnitProcedures);
+        let level = Some(LabelTable::UnitProcedures);
         grow_act(
             &mut entries,
             acts,

@@ -8,7 +8,7 @@ use crate::sentence::Sentence;
 use batch_cell::Cell;
 use batch_check::{CheckFault, Edge};
 use batch_recipe::Recipe;
-use batch_verify::{Broken, Certificate, Refusal};
+use batch_verify::{Broken, Certificate, SetRefusal};
 use std::alloc::{AllocError, Global};
 
 const TWO_OF_A_NAME: &str = "two of the recipes have one name, or there are more than 256";
@@ -21,17 +21,17 @@ pub fn refusal_sentence(
     cell: &Cell,
     recipes: &[Recipe],
     certificate: &Certificate,
-    refusal: Refusal,
+    refusal: SetRefusal,
 ) -> Result<Sentence, AllocError> {
     let said = match refusal {
-        Refusal::Unranked(resource) => unranked_said(alloc, cell, resource),
-        Refusal::RankedTwice(entry) => ranked_twice_said(alloc, certificate, entry),
-        Refusal::UnknownEntry(entry) => unknown_entry_said(alloc, cell, certificate, entry),
-        Refusal::Recipe { recipe, broken } => {
+        SetRefusal::Unranked(resource) => unranked_said(alloc, cell, resource),
+        SetRefusal::RankedTwice(entry) => ranked_twice_said(alloc, certificate, entry),
+        SetRefusal::UnknownEntry(entry) => unknown_entry_said(alloc, cell, certificate, entry),
+        SetRefusal::Recipe { recipe, broken } => {
             recipe_said(alloc, cell, recipes, recipe, Some(certificate), broken)
         }
-        Refusal::Memory => String::from_str(alloc, NO_MEMORY),
-        Refusal::Recipes => String::from_str(alloc, TWO_OF_A_NAME),
+        SetRefusal::Memory => String::from_str(alloc, NO_MEMORY),
+        SetRefusal::Recipes => String::from_str(alloc, TWO_OF_A_NAME),
     };
     Sentence::of(alloc, said?.as_str())
 }

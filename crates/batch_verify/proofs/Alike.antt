@@ -12,7 +12,7 @@ use Rattle.batch_recipe.specs.declared.act.Act.{Act}
 use Rattle.batch_recipe.specs.declared.act.Work.{Work}
 use Rattle.batch_recipe.specs.declared.act.Work.TheVariants.{Follows, Runs}
 use Rattle.batch_recipe.specs.declared.acts.Acts.{Acts}
-use Rattle.batch_recipe.specs.declared.acts.Level.TheVariants.{UnitProcedures}
+use Rattle.batch_recipe.specs.declared.acts.LabelTable.TheVariants.{UnitProcedures}
 use Rattle.batch_model.specs.Lists.{Each}
 use Rattle.batch_model.specs.Cleared.{Level, is_procedure, in_procedure, in_unit_procedure, in_operation, below, Part, parts, parts_within, parts_of_each, parts_of_choices, IsApart, TurnsRun, phases, phases_within, phases_of_each, phases_of_choices, RunApart, BranchesRunApart, surely_runs, task_surely_runs, some_surely_runs, each_surely_runs}
 use Rattle.batch_verify.specs.Walking.{phase_names}

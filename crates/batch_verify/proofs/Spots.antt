@@ -8,7 +8,7 @@ use Rattle.batch_recipe.specs.Nodes.{node_count, count_within, count_of_each, co
 use Rattle.batch_recipe.specs.Outlines.{IsOutline, Shape, shape_of, shapes, shapes_within, shapes_of_each, shapes_of_choices}
 use Rattle.batch_recipe.specs.Tree.{Tree, act, skip, seq, par, sel, loop, Step, Task, runs, follows, Trees, no_trees, tree, Choices, otherwise, choice}
 use Rattle.batch_recipe.specs.Procedure.{tables_from}
-use Rattle.batch_recipe.specs.declared.acts.Level.TheVariants.{UnitProcedures}
+use Rattle.batch_recipe.specs.declared.acts.LabelTable.TheVariants.{UnitProcedures}
 use Rattle.batch_recipe.specs.declared.entry.Entry.{Entry}
 use Rattle.batch_recipe.specs.declared.recipe.Recipe.{Recipe}
 use Rattle.batch_recipe.proofs.Slices.{slice_get-left, slice_get-right}

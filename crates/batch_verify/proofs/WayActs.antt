@@ -15,8 +15,8 @@ use Rattle.batch_recipe.specs.declared.act.UnitChoice.{UnitChoice}
 use Rattle.batch_recipe.specs.declared.act.Work.{Work}
 use Rattle.batch_recipe.specs.declared.act.Work.TheVariants.{Follows, Runs}
 use Rattle.batch_recipe.specs.declared.acts.Acts.{Acts}
-use Rattle.batch_recipe.specs.declared.acts.Level as table
-use Rattle.batch_recipe.specs.declared.acts.Level.TheVariants.{UnitProcedures, Operations, Phases}
+use Rattle.batch_recipe.specs.declared.acts.LabelTable as table
+use Rattle.batch_recipe.specs.declared.acts.LabelTable.TheVariants.{UnitProcedures, Operations, Phases}
 use Rattle.std.proofs.Common.{false, not}
 use Rattle.std.proofs.lemmas.Bool.{and_parts}
 use Rattle.batch_model.specs.Cleared.{Level, is_procedure, in_procedure, in_unit_procedure, in_operation, below, Part, part, parts, parts_within, parts_of_each, parts_of_choices}

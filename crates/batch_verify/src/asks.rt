@@ -15,7 +15,7 @@ ghost use Rattle.batch_verify.specs.Walking.{RisesAfter, last_of};
 use crate::rising::{are_resources, are_within_capacity, rank_of, rise, rise_through};
 use crate::rule::Rule;
 use batch_cell::Cell;
-use batch_recipe::{Act, Acts, Kind, Level, Need};
+use batch_recipe::{Act, Acts, Kind, LabelTable, Need};
 use std::alloc::{AllocError, Global};
 
 /// What the needs of an act come to.
@@ -134,14 +134,14 @@ impl ActAsks {
     }
 
     /// What the needs of the acts of the table come to.
-    fn table(&self, level: Level) -> &[Asks]
+    fn table(&self, level: LabelTable) -> &[Asks]
         ensures { (cell : equipment.Cell) (ranking : Option Ranking) (acts : tables.Acts) → AreAsksOf cell ranking acts self.now
             → result.now ≡ map (asks_of cell ranking) (table_at acts level) }
     {
         match level {
-            Level::UnitProcedures => &self.unit_procedures,
-            Level::Operations => &self.operations,
-            Level::Phases => &self.phases,
+            LabelTable::UnitProcedures => &self.unit_procedures,
+            LabelTable::Operations => &self.operations,
+            LabelTable::Phases => &self.phases,
         }
     }
 

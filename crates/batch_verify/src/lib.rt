@@ -31,7 +31,7 @@ pub use judgement::verify;
 pub use laws::{a_text_says_one_ranking, certificate_limits_are_fixed, numbered_bindings_suffice};
 pub use reading::read_certificate;
 pub use recipes::is_recipe_set;
-pub use refusal::Refusal;
+pub use refusal::SetRefusal;
 pub use rejected::Rejected;
 pub use rule::{Broken, Rule};
 pub use walk::first_broken;

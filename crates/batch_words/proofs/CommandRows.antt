@@ -1,4 +1,4 @@
--- Command lines that are written out, computed in the definitions.
+-- Subcommand lines that are written out, computed in the definitions.
 use Rattle.std.proofs.Common.{◌≡◌, ℕ, Bool, true, false, List, [], ◌∷◌, Option, Some, None, codes, refl, option_map}
 use Rattle.clap.specs.Faults.{fault_of}
 use Rattle.clap.specs.Simple.{subcommand_of}

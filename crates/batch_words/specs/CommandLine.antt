@@ -11,10 +11,10 @@ use Rattle.clap.specs.declared.builder.action.ArgAction.TheVariants.{Set, Append
 use Rattle.clap.specs.declared.builder.value_parser.ValueParser.TheVariants.{Unsigned}
 use Rattle.clap.specs.declared.error.kind.ErrorKind.{ErrorKind}
 use Rattle.clap.specs.declared.error.kind.ErrorKind.TheVariants.{DisplayHelp, DisplayVersion, OutOfMemory}
-use Rattle.batch_words.specs.declared.command.Command.{Command}
-use Rattle.batch_words.specs.declared.command.Command.TheVariants.{Serve, Check, Draw, Verify, Run, Plant, Explain}
-use Rattle.batch_words.specs.declared.command.CommandFault.{CommandFault}
-use Rattle.batch_words.specs.declared.command.CommandFault.TheVariants.{Help, Usage, Memory}
+use Rattle.batch_words.specs.declared.command.Subcommand.{Subcommand}
+use Rattle.batch_words.specs.declared.command.Subcommand.TheVariants.{Serve, Check, Draw, Verify, Run, Plant, Explain}
+use Rattle.batch_words.specs.declared.command.SubcommandFault.{CommandFault}
+use Rattle.batch_words.specs.declared.command.SubcommandFault.TheVariants.{Help, Usage, Memory}
 use Rattle.batch_words.specs.declared.plant_options.PlantOptions.{PlantOptions}
 
 -- a word that has to be there
@@ -78,25 +78,25 @@ abbrev pub is_given : Text → List Row → Bool
 is_given name rows = bytes_eq (word_of name rows) (codes "true")
 
 -- the number that was given for an option, or the usual one where none was. A word that says no number of the range is refused
-abbrev pub number_of : ℕ → ℕ → ℕ → Option Text → ℕ
-number_of least most usual None = usual
-number_of least most usual (Some text) =
+abbrev pub number_given : ℕ → ℕ → ℕ → Option Text → ℕ
+number_given least most usual None = usual
+number_given least most usual (Some text) =
     if is_unsigned_in least most text then digits_value 10 (without_leading_plus text) else usual
 
 abbrev pub batches_of : List Row → ℕ
-batches_of rows = number_of 1 100 3 (first_of (codes "batches") rows)
+batches_of rows = number_given 1 100 3 (first_of (codes "batches") rows)
 
 abbrev pub ticks_of : List Row → ℕ
-ticks_of rows = number_of 0 1000 5 (first_of (codes "ticks") rows)
+ticks_of rows = number_given 0 1000 5 (first_of (codes "ticks") rows)
 
 abbrev pub ring_of : List Row → ℕ
-ring_of rows = number_of 1 64 1 (first_of (codes "ring") rows)
+ring_of rows = number_given 1 64 1 (first_of (codes "ring") rows)
 
 abbrev pub HasOptionsOf : List Row → PlantOptions → Type 0
 HasOptionsOf rows options = (options.batches ≡ batches_of rows) × (options.ticks ≡ ticks_of rows) × (options.ring ≡ ring_of rows)
 
 -- the command of the word by which it was entered, and of the words behind that
-abbrev pub IsCommandOf : Option (Text × List Row) → Command → Type 0
+abbrev pub IsCommandOf : Option (Text × List Row) → Subcommand → Type 0
 IsCommandOf entered Serve = entered ≡ None
 IsCommandOf entered (Check cell recipes quiet) = (rows : List Row) × (entered ≡ Some (codes "check", rows))
     × (is_given (codes "dot") rows ≡ false)

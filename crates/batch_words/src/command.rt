@@ -1,6 +1,6 @@
 //! What the program is asked to do.
 ghost use Rattle.std.specs.Prelude.{◌≡◌};
-ghost use Rattle.batch_words.specs.declared.command.CommandFault.TheVariants.{Memory};
+ghost use Rattle.batch_words.specs.declared.command.SubcommandFault.TheVariants.{Memory};
 
 use crate::plant_options::PlantOptions;
 use std::alloc::{AllocError, AllocFailed};
@@ -8,7 +8,7 @@ use thiserror::Error;
 
 /// A command of the program, with the paths of its documents.
 #[derive(Debug, Drop)]
-pub enum Command {
+pub enum Subcommand {
     /// To serve event lines from standard input over the built-in documents.
     Serve,
     /// To find a certificate for the recipes.

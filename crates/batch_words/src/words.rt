@@ -2,9 +2,9 @@
 ghost use Rattle.std.specs.Prelude.{◌≡◌, ◌≤◌, ◌⊎◌, IfOk, IfErr, MatchOption, Some, map, string_bytes, codes, []};
 ghost use Rattle.std.specs.Str.Parse.{digits_value, without_leading_plus};
 ghost use Rattle.clap.specs.Words.{FailsBy, IsUnsignedIn, fault_of, first_of, found_of, kind_of, rows_of, subcommand_of, subcommand_rows_of};
-ghost use Rattle.batch_words.specs.CommandLine.{HasOptionsOf, IsCommandOf, IsEntry, IsFaultOf, IsFaultOfKind, is_given, number_of, program_app, word_of, words_of};
+ghost use Rattle.batch_words.specs.CommandLine.{HasOptionsOf, IsCommandOf, IsEntry, IsFaultOf, IsFaultOfKind, is_given, number_given, program_app, word_of, words_of};
 
-use crate::command::{Command, CommandFault};
+use crate::command::{CommandFault, Subcommand};
 use crate::line::program;
 use crate::plant_options::PlantOptions;
 use clap::error::ErrorKind;
@@ -15,7 +15,7 @@ use std::alloc::{AllocError, Global};
 ///
 /// The error is [`CommandFault::Help`] where the fault that clap gives is that help or the version is asked for, [`CommandFault::Usage`] at any
 /// other, and [`CommandFault::Memory`] where memory ran out, be it for the text of one of these.
-pub fn parse(alloc: Global, words: &[String]) -> Result<Command, CommandFault>
+pub fn parse(alloc: Global, words: &[String]) -> Result<Subcommand, CommandFault>
     ensures command { IfOk result (IsCommandOf (subcommand_of program_app (map string_bytes words.now))) }
     ensures taken { IfOk result (λ _. fault_of program_app (map string_bytes words.now) ≡ []) }
     ensures fault { IfErr result (IsFaultOf (fault_of program_app (map string_bytes words.now))) }
@@ -33,19 +33,19 @@ fn matches_of<'a>(alloc: Global, words: &'a [String]) -> Result<ArgMatches<'a>, 
     program(alloc)?.try_get_matches_from(words)
 }
 
-fn command_of(alloc: Global, matches: &ArgMatches<'_>) -> Result<Command, AllocError>
+fn command_of(alloc: Global, matches: &ArgMatches<'_>) -> Result<Subcommand, AllocError>
     requires { IsEntry (subcommand_rows_of matches.now) }
     ensures { IfOk result (IsCommandOf (subcommand_rows_of matches.now)) }
 {
     let Some((name, words)) = matches.subcommand() else {
-        return Ok(Command::Serve);
+        return Ok(Subcommand::Serve);
     };
     if name == "explain" {
         let code = word(alloc, words, "CODE")?;
-        return Ok(Command::Explain { code });
+        return Ok(Subcommand::Explain { code });
     }
     if name == "plant" {
-        return Ok(Command::Plant(plant_options(words)));
+        return Ok(Subcommand::Plant(plant_options(words)));
     }
     if name == "check" {
         return check_command(alloc, words);
@@ -54,20 +54,20 @@ fn command_of(alloc: Global, matches: &ArgMatches<'_>) -> Result<Command, AllocE
 }
 
 /// `check`, with a drawing or without one.
-fn check_command(alloc: Global, words: &ArgMatches<'_>) -> Result<Command, AllocError>
+fn check_command(alloc: Global, words: &ArgMatches<'_>) -> Result<Subcommand, AllocError>
     ensures { IfOk result (IsCommandOf (Some (codes "check", rows_of (found_of words.now)))) }
 {
     let cell = word(alloc, words, "CELL")?;
     let recipes = recipe_words(alloc, words)?;
     let quiet = flag(words, "quiet");
     Ok(if flag(words, "dot") {
-        Command::Draw {
+        Subcommand::Draw {
             cell,
             recipes,
             quiet,
         }
     } else {
-        Command::Check {
+        Subcommand::Check {
             cell,
             recipes,
             quiet,
@@ -80,7 +80,7 @@ fn certified_command(
     alloc: Global,
     name: &str,
     words: &ArgMatches<'_>,
-) -> Result<Command, AllocError>
+) -> Result<Subcommand, AllocError>
     requires { (name.now ≡ codes "verify") ⊎ (name.now ≡ codes "run") }
     ensures { IfOk result (IsCommandOf (Some (name.now, rows_of (found_of words.now)))) }
 {
@@ -89,14 +89,14 @@ fn certified_command(
     let recipes = recipe_words(alloc, words)?;
     let quiet = flag(words, "quiet");
     Ok(if name == "verify" {
-        Command::Verify {
+        Subcommand::Verify {
             cell,
             certificate,
             recipes,
             quiet,
         }
     } else {
-        Command::Run {
+        Subcommand::Run {
             cell,
             certificate,
             recipes,
@@ -118,7 +118,7 @@ fn plant_options(words: &ArgMatches<'_>) -> PlantOptions
 /// The number of this range that was given, or the usual one. clap refuses words that say none in the range.
 fn number(words: &ArgMatches<'_>, name: &str, least: u64, most: u64, usual: u64) -> u64
     requires { (least ≤ usual) × (usual ≤ most) }
-    ensures number { result ≡ number_of least most usual (first_of name.now (rows_of (found_of words.now))) }
+    ensures number { result ≡ number_given least most usual (first_of name.now (rows_of (found_of words.now))) }
     ensures within { (least ≤ result) × (result ≤ most) }
 {
     match words.get_str(name) {
@@ -130,7 +130,7 @@ fn number(words: &ArgMatches<'_>, name: &str, least: u64, most: u64, usual: u64)
 /// The number that the text says, or the usual one where it says none in the range.
 fn number_or(text: &str, least: u64, most: u64, usual: u64) -> u64
     requires { (least ≤ usual) × (usual ≤ most) }
-    ensures number { result ≡ number_of least most usual (Some text.now) }
+    ensures number { result ≡ number_given least most usual (Some text.now) }
     ensures within { (least ≤ result) × (result ≤ most) }
 {
     match number_in(text, least, most) {

@@ -1,12 +1,12 @@
 //! The command line.
 use crate::expected::assert_told;
 use crate::shelf::owned;
-use batch_words::{Command, CommandFault, PlantOptions, parse};
+use batch_words::{CommandFault, PlantOptions, Subcommand, parse};
 use std::alloc::{AllocError, Global};
 use std::process::Abort;
 use std::test::Fail;
 
-fn parsed(alloc: Global, words: &[&str]) -> Result<Result<Command, CommandFault>, Fail> {
+fn parsed(alloc: Global, words: &[&str]) -> Result<Result<Subcommand, CommandFault>, Fail> {
     let words = owned(alloc, words)?;
     Ok(parse(alloc, words.as_slice()))
 }
@@ -41,33 +41,33 @@ fn plant_told(alloc: Global, options: &PlantOptions) -> Result<String, AllocErro
     format!(in alloc; "plant {batches} {ticks} {ring}")
 }
 
-fn told(alloc: Global, command: &Command) -> Result<String, AllocError> {
+fn told(alloc: Global, command: &Subcommand) -> Result<String, AllocError> {
     match command {
-        Command::Serve => String::from_str(alloc, "serve"),
-        Command::Check {
+        Subcommand::Serve => String::from_str(alloc, "serve"),
+        Subcommand::Check {
             cell,
             recipes,
             quiet,
         } => check_told(alloc, "check", cell, recipes, *quiet),
-        Command::Draw {
+        Subcommand::Draw {
             cell,
             recipes,
             quiet,
         } => check_told(alloc, "draw", cell, recipes, *quiet),
-        Command::Verify {
+        Subcommand::Verify {
             cell,
             certificate,
             recipes,
             quiet,
         } => verify_told(alloc, "verify", [cell, certificate], recipes, *quiet),
-        Command::Run {
+        Subcommand::Run {
             cell,
             certificate,
             recipes,
             quiet,
         } => verify_told(alloc, "run", [cell, certificate], recipes, *quiet),
-        Command::Plant(options) => plant_told(alloc, options),
-        Command::Explain { code } => format!(in alloc; "explain {code}"),
+        Subcommand::Plant(options) => plant_told(alloc, options),
+        Subcommand::Explain { code } => format!(in alloc; "explain {code}"),
     }
 }
 
@@ -157,7 +157,7 @@ fn help_of(alloc: Global, words: &[&str]) -> Result<String, Fail> {
     Ok(String::from_str(alloc, help_text(&parsed))?)
 }
 
-fn help_text(parsed: &Result<Command, CommandFault>) -> &str {
+fn help_text(parsed: &Result<Subcommand, CommandFault>) -> &str {
     match parsed {
         Err(CommandFault::Help(text)) => text.as_str(),
         _ => "no help",

@@ -8,7 +8,7 @@ use batch_commands::{
     certificate_refused, certificate_text, document_text, fault_text, refusal_text,
 };
 use batch_reader::{DocFault, EntryFault, Spot, TableKind};
-use batch_verify::{Broken, CertFault, Certificate, Refusal, Rule};
+use batch_verify::{Broken, CertFault, Certificate, Rule, SetRefusal};
 use std::alloc::Global;
 use std::process::Abort;
 use std::test::Fail;
@@ -108,12 +108,16 @@ fn certificates(rt: HostRuntime) -> Result<(), Fail> {
 }
 
 /// The text of a refusal of recipe N and a certificate of two lines.
-fn refused(alloc: Global, refusal: Refusal) -> Result<String, Fail> {
+fn refused(alloc: Global, refusal: SetRefusal) -> Result<String, Fail> {
     let certificate = certificate_of(alloc, "rank HDR 2\nrank R1 1\n")?;
     refused_by(alloc, &certificate, refusal)
 }
 
-fn refused_by(alloc: Global, certificate: &Certificate, refusal: Refusal) -> Result<String, Fail> {
+fn refused_by(
+    alloc: Global,
+    certificate: &Certificate,
+    refusal: SetRefusal,
+) -> Result<String, Fail> {
     let cell = cell_of(alloc, CELL1)?;
     refused_in(alloc, &cell, certificate, refusal)
 }
@@ -122,21 +126,25 @@ fn refused_in(
     alloc: Global,
     cell: &Cell,
     certificate: &Certificate,
-    refusal: Refusal,
+    refusal: SetRefusal,
 ) -> Result<String, Fail> {
     let recipes = recipes_of(alloc, &[N])?;
     Ok(refusal_text(alloc, cell, &recipes, certificate, refusal)?)
 }
 
 /// The refusal for this rule at this node of the first recipe.
-fn at(node: u16, rule: Rule) -> Refusal {
-    Refusal::Recipe {
+fn at(node: u16, rule: Rule) -> SetRefusal {
+    SetRefusal::Recipe {
         recipe: 0,
         broken: Broken { node, rule },
     }
 }
 
-fn assert_refusals(rt: &impl Abort, alloc: Global, rows: &[(Refusal, &str)]) -> Result<(), Fail> {
+fn assert_refusals(
+    rt: &impl Abort,
+    alloc: Global,
+    rows: &[(SetRefusal, &str)],
+) -> Result<(), Fail> {
     for (refusal, want) in rows {
         assert_told(rt, refused(alloc, *refusal), want)?;
     }
@@ -146,17 +154,17 @@ fn assert_refusals(rt: &impl Abort, alloc: Global, rows: &[(Refusal, &str)]) -> 
 #[test]
 fn refusals_of_sets(rt: HostRuntime) -> Result<(), Fail> {
     let rows = [
-        (Refusal::Unranked(3), "refused V1 STEAM\n"),
-        (Refusal::RankedTwice(1), "refused V2 R1\n"),
-        (Refusal::UnknownEntry(1), "refused V3 line 2\n"),
+        (SetRefusal::Unranked(3), "refused V1 STEAM\n"),
+        (SetRefusal::RankedTwice(1), "refused V2 R1\n"),
+        (SetRefusal::UnknownEntry(1), "refused V3 line 2\n"),
         (at(0, Rule::UnknownResource), "refused V3 N 0\n"),
         (at(3, Rule::RankNotRising), "refused V4 N 0.0.0.0\n"),
         (at(1, Rule::PhaseNotOffered), "refused V5 N 0.0\n"),
         (at(2, Rule::SamePhaseInParallel), "refused V6 N 0.0.0\n"),
         (at(2, Rule::LoopWithoutPhase), "refused V7 N 0.0.0\n"),
         (at(3, Rule::ShareAboveCapacity), "refused V9 N 0.0.0.0\n"),
-        (Refusal::Memory, "refused V8\n"),
-        (Refusal::Recipes, "refused V10\n"),
+        (SetRefusal::Memory, "refused V8\n"),
+        (SetRefusal::Recipes, "refused V10\n"),
     ];
     assert_refusals(&rt, rt.alloc(), &rows)
 }

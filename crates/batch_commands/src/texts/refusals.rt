@@ -6,7 +6,7 @@ use crate::texts::nodes::{node_text, resource_name, rule_code};
 use batch_cell::Cell;
 use batch_check::{CheckFault, Edge};
 use batch_recipe::Recipe;
-use batch_verify::{Broken, Certificate, Refusal};
+use batch_verify::{Broken, Certificate, SetRefusal};
 use std::alloc::{AllocError, Global};
 
 /// The line that refuses recipes by a certificate.
@@ -15,26 +15,26 @@ pub fn refusal_text(
     cell: &Cell,
     recipes: &[Recipe],
     certificate: &Certificate,
-    refusal: Refusal,
+    refusal: SetRefusal,
 ) -> Result<String, AllocError>
     ensures { IfOk result (λ text. string_bytes text ≡ refusal_text cell.now recipes.now certificate.now.ranks.items refusal) }
 {
     match refusal {
-        Refusal::Unranked(resource) => {
+        SetRefusal::Unranked(resource) => {
             let name = resource_name(cell, resource);
             format!(in alloc; "refused V1 {name}\n")
         }
-        Refusal::RankedTwice(entry) => {
+        SetRefusal::RankedTwice(entry) => {
             let name = entry_name(certificate, entry);
             format!(in alloc; "refused V2 {name}\n")
         }
-        Refusal::UnknownEntry(entry) => {
+        SetRefusal::UnknownEntry(entry) => {
             let line = entry as u128 + 1;
             format!(in alloc; "refused V3 line {line}\n")
         }
-        Refusal::Recipe { recipe, broken } => broken_text(alloc, recipes, recipe, broken),
-        Refusal::Memory => String::from_str(alloc, "refused V8\n"),
-        Refusal::Recipes => String::from_str(alloc, "refused V10\n"),
+        SetRefusal::Recipe { recipe, broken } => broken_text(alloc, recipes, recipe, broken),
+        SetRefusal::Memory => String::from_str(alloc, "refused V8\n"),
+        SetRefusal::Recipes => String::from_str(alloc, "refused V10\n"),
     }
 }
 

@@ -1,16 +1,19 @@
 //! Example acts, and the nodes that they expand to.
 use super::parts::{above_zero, act, label, labels, step, table};
 use crate::expected::assert_told;
-use batch_recipe::{Act, Acts, Chart, Level, Outline, OutlineFault, UnitChoice, act_named};
+use batch_recipe::{Act, Acts, Chart, LabelTable, Outline, OutlineFault, UnitChoice, act_named};
 use batch_text::Name;
 use std::alloc::{AllocError, Global};
 use std::test::Fail;
 
 #[test]
 fn levels_lie_below_one_another(rt: HostRuntime) {
-    assert_eq!(rt; Level::UnitProcedures.below(), Some(Level::Operations));
-    assert_eq!(rt; Level::Operations.below(), Some(Level::Phases));
-    assert_eq!(rt; Level::Phases.below(), None);
+    assert_eq!(rt;
+        LabelTable::UnitProcedures.below(),
+        Some(LabelTable::Operations)
+    );
+    assert_eq!(rt; LabelTable::Operations.below(), Some(LabelTable::Phases));
+    assert_eq!(rt; LabelTable::Phases.below(), None);
 }
 
 #[test]
@@ -36,9 +39,9 @@ fn tell_tables(alloc: Global, acts: &Acts) -> Result<String, Fail> {
 
 fn rows<'a>(acts: &'a Acts, name: &Name) -> [(Option<&'a str>, bool); 3] {
     [
-        row(acts.table(Level::UnitProcedures), name),
-        row(acts.table(Level::Operations), name),
-        row(acts.table(Level::Phases), name),
+        row(acts.table(LabelTable::UnitProcedures), name),
+        row(acts.table(LabelTable::Operations), name),
+        row(acts.table(LabelTable::Phases), name),
     ]
 }
 

@@ -1,8 +1,8 @@
 use Rattle.std.proofs.Common.{take, map}
 use Rattle.batch_model.specs.Lists.{Each}
 use Rattle.batch_model.specs.Setups.{master_of, setup_of}
-use Rattle.batch_check.specs.Checking.{IsSoundRecipe}
+use Rattle.batch_check.specs.Checking.{IsSoundMaster}
 use Rattle.batch_check.proofs.checking.check_each.Given as goal
 
 abbrev pub invariant-loop-number : goal.invariant-loop-number
-invariant-loop-number l = Each (IsSoundRecipe (setup_of l.cell l.recipes)) (take l.number (map (master_of l.cell) l.recipes))
+invariant-loop-number l = Each (IsSoundMaster (setup_of l.cell l.recipes)) (take l.number (map (master_of l.cell) l.recipes))

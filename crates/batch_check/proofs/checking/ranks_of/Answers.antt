@@ -1,6 +1,6 @@
 use Rattle.std.proofs.Common.{length}
 use Rattle.batch_cell.specs.LookUps.{resources_of}
-use Rattle.batch_check.specs.LeastRanking.{IsCircle, IsLeastRanking}
+use Rattle.batch_check.specs.LeastRanking.{IsEdgeCircle, IsLeastRanking}
 use Rattle.batch_check.specs.Spreading.{HasFewest}
 use Rattle.batch_check.proofs.Circles.{circle_stays, circle_within, is_shortest, stands_as_circle}
 use Rattle.batch_check.proofs.Rising.{least_ranks_rise}
@@ -20,14 +20,14 @@ returns-in-Ranks-clause-least c =
 pub shortest_circle-requires-clause-circle : goal.shortest_circle-requires-clause-circle
 shortest_circle-requires-clause-circle c =
     let old = c.in_ok-set.set.edges.items in
-    let circle : IsCircle old c.in-Circle.circle.items = rw (c.in-Circle.is, c.deref.ensures.value) at c.in_ok-ranks.ensures in
+    let circle : IsEdgeCircle old c.in-Circle.circle.items = rw (c.in-Circle.is, c.deref.ensures.value) at c.in_ok-ranks.ensures in
     rw c.deref-in-Circle.ensures.value (circle_stays old c.in-Circle.circle.items circle c.add_pairs.new.set.edges.items c.in_ok-add_pairs-in-Circle.ensures.pairs.grown.stays)
 
 pub turned-requires-clause-within : goal.turned-requires-clause-within
 turned-requires-clause-within c =
     let edges = c.add_pairs.new.set.edges.items in
     let shortest = c.in_ok-shortest-in-Circle.shortest.items in
-    let circle : IsCircle edges shortest = rw c.deref-in-Circle.ensures.value at c.in_ok-shortest-in-Circle.ensures.circle in
+    let circle : IsEdgeCircle edges shortest = rw c.deref-in-Circle.ensures.value at c.in_ok-shortest-in-Circle.ensures.circle in
     circle_within edges shortest circle (length (resources_of c.args.cell.now)) c.in_ok-add_pairs-in-Circle.ensures.within
 
 pub returns-clause-fault : goal.returns-clause-fault
@@ -38,7 +38,7 @@ returns-clause-fault c =
     let set = c.add_pairs.new.set in
     let pairs = c.in_ok-add_pairs-in-Circle.ensures.pairs in
     let shortest = c.in_ok-shortest-in-Circle.shortest.items in
-    let circle : IsCircle set.edges.items shortest = rw c.deref-in-Circle.ensures.value at c.in_ok-shortest-in-Circle.ensures.circle in
+    let circle : IsEdgeCircle set.edges.items shortest = rw c.deref-in-Circle.ensures.value at c.in_ok-shortest-in-Circle.ensures.circle in
     let fewest : HasFewest set.edges.items shortest = rw c.deref-in-Circle.ensures.value at c.in_ok-shortest-in-Circle.ensures.fewest in (
       stands_as_circle cell recipes old set pairs c.turned.result.items (c.turned.ensures.circle set.edges.items circle),
       c.turned.ensures.first,

@@ -1,7 +1,7 @@
 use Rattle.std.proofs.Common.{Some, [], length}
 use Rattle.batch_cell.specs.LookUps.{resources_of}
 use Rattle.batch_check.specs.Collecting.{AreAdded, HasAllPairs}
-use Rattle.batch_check.specs.LeastRanking.{IsWithin}
+use Rattle.batch_check.specs.LeastRanking.{HasEndsBelow}
 use Rattle.std.proofs.lemmas.Result.{IfOk-weaker}
 use Rattle.batch_check.proofs.Recipes.{pairs_of_all, pairs_within}
 use Rattle.batch_check.proofs.edges.add_pairs.Goals as goal
@@ -21,5 +21,5 @@ returns-clause-within c =
     let recipes = c.args.recipes.now in
     let old = c.args.set.now in
     let new = c.add_all.new.set in
-    IfOk-weaker c.add_all.result (λ _. AreAdded cell (Some []) recipes recipes old new) (λ _. IsWithin (length (resources_of cell)) new.edges.items)
+    IfOk-weaker c.add_all.result (λ _. AreAdded cell (Some []) recipes recipes old new) (λ _. HasEndsBelow (length (resources_of cell)) new.edges.items)
     (λ done h. pairs_within cell recipes old new (pairs_of_all cell recipes old new c.requires.edges h)) c.add_all.ensures

@@ -1,7 +1,7 @@
 use Rattle.std.proofs.Common.{All, length}
 use Rattle.batch_cell.specs.LookUps.{resources_of}
 use Rattle.batch_check.specs.Edges.{Stands}
-use Rattle.batch_check.specs.LeastRanking.{IsWithin}
+use Rattle.batch_check.specs.LeastRanking.{HasEndsBelow}
 use Rattle.batch_check.proofs.Recipes.{edges_with, standing_within}
 use Rattle.batch_check.proofs.Verdicts.{few_recipes}
 use Rattle.batch_check.proofs.graph.graph_of.Goals as goal
@@ -15,7 +15,7 @@ ranks_of-requires c = few_recipes c.args.cell.now c.args.recipes.now ((c.is_reci
 pub take-requires : goal.take-requires
 take-requires c =
     let fault = rw c.in-Err-Circle.field-0-is at c.in-Err-Circle.ensures.fault in
-    let within : IsWithin (length (resources_of c.args.cell.now)) c.in-Err-Circle.circle.items = standing_within c.args.cell.now c.args.recipes.now c.in-Err-Circle.circle.items fault.0.standing in
+    let within : HasEndsBelow (length (resources_of c.args.cell.now)) c.in-Err-Circle.circle.items = standing_within c.args.cell.now c.args.recipes.now c.in-Err-Circle.circle.items fault.0.standing in
     rw (c.deref.ensures.value, c.in_ok-set.ensures.sized) within
 
 pub returns-in_ok-take-in-Err-Circle-clause-edges : goal.returns-in_ok-take-in-Err-Circle-clause-edges

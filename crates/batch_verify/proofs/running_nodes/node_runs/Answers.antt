@@ -1,7 +1,7 @@
 use Rattle.std.proofs.Common.{◌≡◌, ◌⊎◌, ℕ, ◌+◌, Bool, get_or, slice_get, Some, false, eqb, eq-eqb, ap, refl, inl, inr, arith}
 use Rattle.batch_recipe.specs.Nodes.{Node}
 use Rattle.batch_recipe.specs.Outlines.{Form, an_act, a_skip, a_seq, a_par, a_sel, a_loop, form_of}
-use Rattle.batch_recipe.specs.declared.acts.Level.{Level}
+use Rattle.batch_recipe.specs.declared.acts.LabelTable.{LabelTable}
 use Rattle.batch_recipe.specs.declared.entry.Kind.{Kind}
 use Rattle.batch_recipe.specs.declared.entry.Kind.TheVariants as kind
 use Rattle.batch_recipe.proofs.Climbing.{ns, as_many}
@@ -21,7 +21,7 @@ told_here : (c : After-index-entry) (f : Form) → form_of c.index-entry.result.
 told_here c = told c.args.recipe.now c.args.node c.index-entry.result.now (was_read c) c.args.runs.now c.requires.known
 
 -- a node of either of these kinds is an act
-act_form : (k : Kind) → (k ≡ kind.Procedure) ⊎ ((level : Level) × (number : ℕ) × (k ≡ kind.Act level number)) → form_of k ≡ an_act
+act_form : (k : Kind) → (k ≡ kind.Procedure) ⊎ ((level : LabelTable) × (number : ℕ) × (k ≡ kind.Act level number)) → form_of k ≡ an_act
 act_form k (inl is) = ap form_of is
 act_form k (inr h) = ap form_of h.2
 

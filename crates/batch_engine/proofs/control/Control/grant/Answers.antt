@@ -4,7 +4,7 @@ use Rattle.std.proofs.lemmas.Option.{slice_get_within}
 use Rattle.batch_model.specs.Moves as Moves
 use Rattle.batch_arbiter.specs.Allocation.{Allocation, granted, next_grant, batch_node}
 use Rattle.batch_chart.specs.NodesOf.{need_at, place_at}
-use Rattle.batch_chart.specs.Charts.{IsWaiting, AsksAt, remains}
+use Rattle.batch_chart.specs.Charts.{IsWaitingAt, AsksAt, remains}
 use Rattle.batch_chart.specs.declared.compiled.Compiled.{Compiled}
 use Rattle.batch_engine.specs.declared.batch.Batch.{Batch}
 use Rattle.batch_engine.specs.View.{EngineView, number_of, tree_of}
@@ -57,7 +57,7 @@ grant-requires-clause-waits c =
     let x : Compiled = c.index-chart.result.now in
     let compiled : slice_get v.charts b.recipe ≡ Some x = got-chart v _ c.from.result b.recipe x c.self.view_is c.from.ensures (in-charts v kept c.args.index b at) c.index-chart.ensures in
     let chart : slice_get v.charts b.recipe ≡ Some g.chart = subst (λ (z : Batch). slice_get v.charts z.recipe ≡ Some g.chart) same g.here.compiled in
-    subst (λ (z : Compiled). IsWaiting z b.running c.args.node) (same-at v.charts b.recipe g.chart x chart compiled) (subst (λ (z : Batch). IsWaiting g.chart z.running c.args.node) same g.waits)
+    subst (λ (z : Compiled). IsWaitingAt z b.running c.args.node) (same-at v.charts b.recipe g.chart x chart compiled) (subst (λ (z : Batch). IsWaitingAt g.chart z.running c.args.node) same g.waits)
 
 pub invariant_of-self : goal.invariant_of-self
 invariant_of-self c =
