@@ -124,13 +124,13 @@ module _ (bound : Binding) (acts : Acts) (kinds : are_kinds acts ≡ true) where
     work_on unit name p above (Runs phase values) = tt
 
   -- where labels that are looked up from a level on stand
-  abbrev spot_from : Option table.Level → Name → Spot
+  abbrev spot_from : Option table.LabelTable → Name → Spot
   spot_from level unit = record { level = level_of level; unit = unit }
 
-  abbrev LabelsFrom : Option table.Level → Type 0
+  abbrev LabelsFrom : Option table.LabelTable → Type 0
   LabelsFrom level = (unit : Name) → Labels (spot_from level unit) (named_tree_with bound (tables_from acts level) unit) (acts_named (tables_from acts level))
 
-  module _ (l : Level) (level : Option table.Level) (under : below l ≡ level_of level) (labels : LabelsFrom level) (a : Act) (kind : is_of_level l a ≡ true) (unit : Name) (p : Place) (above : List Name) where
+  module _ (l : Level) (level : Option table.LabelTable) (under : below l ≡ level_of level) (labels : LabelsFrom level) (a : Act) (kind : is_of_level l a ≡ true) (unit : Name) (p : Place) (above : List Name) where
     abbrev trees : Name → Name → Place → Tree
     trees = named_tree_with bound (tables_from acts level)
 
@@ -158,7 +158,7 @@ module _ (bound : Binding) (acts : Acts) (kinds : are_kinds acts ≡ true) where
     )
 
   -- the act that a table has under a name, or none
-  found_on : (t : table.Level) → LabelsFrom (level_below t) → (name : Name) (found : Option Act) → act_named (table_at acts t) name ≡ found → (unit : Name) (p : Place) (above : List Name)
+  found_on : (t : table.LabelTable) → LabelsFrom (level_below t) → (name : Name) (found : Option Act) → act_named (table_at acts t) name ≡ found → (unit : Name) (p : Place) (above : List Name)
       → AreOn bound (ways (spot_from (Some t) unit) (elim found [ None ↦ tree.skip | Some a ↦ act_tree_with bound (named_tree_with bound (tables_from acts (level_below t))) unit a p ]))
       (parts (level_of (Some t)) p above (elim found [ None ↦ tree.skip | Some a ↦ act_tree_with bound (named_tree_with bound (tables_from acts (level_below t))) unit a p ]))
       (elim found [ None ↦ None ∷ [] | Some a ↦ acts_from (acts_named (tables_from acts (level_below t))) a ])

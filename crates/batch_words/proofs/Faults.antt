@@ -6,8 +6,8 @@ use Rattle.clap.specs.declared.error.Error.{Error}
 use Rattle.clap.specs.declared.error.kind.ErrorKind.{ErrorKind}
 use Rattle.clap.specs.declared.error.kind.ErrorKind.TheVariants.{OutOfMemory}
 use Rattle.batch_words.specs.CommandLine.{IsFaultOf, IsFaultOfKind, IsShown}
-use Rattle.batch_words.specs.declared.command.SubcommandFault.{CommandFault}
-use Rattle.batch_words.specs.declared.command.SubcommandFault.TheVariants.{Help, Usage, Memory}
+use Rattle.batch_words.specs.declared.command.CommandFault.{CommandFault}
+use Rattle.batch_words.specs.declared.command.CommandFault.TheVariants.{Help, Usage, Memory}
 
 -- a kind that isn't want of memory is one that the words give
 kind_is_among : (kinds : Kinds) (kind : ErrorKind) → (kind ≡ OutOfMemory) ⊎ IsAmong kind kinds → kind ≢ OutOfMemory → IsAmong kind kinds

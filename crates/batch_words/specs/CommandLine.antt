@@ -13,8 +13,8 @@ use Rattle.clap.specs.declared.error.kind.ErrorKind.{ErrorKind}
 use Rattle.clap.specs.declared.error.kind.ErrorKind.TheVariants.{DisplayHelp, DisplayVersion, OutOfMemory}
 use Rattle.batch_words.specs.declared.command.Subcommand.{Subcommand}
 use Rattle.batch_words.specs.declared.command.Subcommand.TheVariants.{Serve, Check, Draw, Verify, Run, Plant, Explain}
-use Rattle.batch_words.specs.declared.command.SubcommandFault.{CommandFault}
-use Rattle.batch_words.specs.declared.command.SubcommandFault.TheVariants.{Help, Usage, Memory}
+use Rattle.batch_words.specs.declared.command.CommandFault.{CommandFault}
+use Rattle.batch_words.specs.declared.command.CommandFault.TheVariants.{Help, Usage, Memory}
 use Rattle.batch_words.specs.declared.plant_options.PlantOptions.{PlantOptions}
 
 -- a word that has to be there

@@ -1,6 +1,6 @@
 //! What the program is asked to do.
 ghost use Rattle.std.specs.Prelude.{◌≡◌};
-ghost use Rattle.batch_words.specs.declared.command.SubcommandFault.TheVariants.{Memory};
+ghost use Rattle.batch_words.specs.declared.command.CommandFault.TheVariants.{Memory};
 
 use crate::plant_options::PlantOptions;
 use std::alloc::{AllocError, AllocFailed};

@@ -4,7 +4,7 @@ use Rattle.batch_words.specs.CommandLine.{IsFaultOf, program_app}
 use Rattle.clap.specs.Words.{fault_of}
 use Rattle.batch_commands.specs.Running.{IsNamed, commands, helps, misuses, starves}
 use Rattle.batch_words.specs.declared.command.Subcommand.{Subcommand}
-use Rattle.batch_words.specs.declared.command.SubcommandFault.{CommandFault}
+use Rattle.batch_words.specs.declared.command.CommandFault.{CommandFault}
 use Rattle.batch_commands.proofs.running.run_words.Goals as goal
 
 pub returns-in-Ok : goal.returns-in-Ok
