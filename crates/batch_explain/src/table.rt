@@ -8,10 +8,12 @@ use crate::explanation::Explanation;
 pub fn explanations() -> [Explanation; 44]
     ensures { map (λ explanation. explanation.code.now) result ≡ refusal_codes }
 {
-    EXPLANATIONS
+    // By a reference, so that the proof holds one place and not each of its texts.
+    let table = &EXPLANATIONS;
+    *table
 }
 
-const EXPLANATIONS: [Explanation; 44] = [
+static EXPLANATIONS: [Explanation; 44] = [
     Explanation {
         code: "C1",
         meaning: "the recipes can bring batches into a circle of waiting",

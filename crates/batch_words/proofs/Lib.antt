@@ -1,3 +1,4 @@
+pub mod Arguments
 pub mod Faults
 pub mod CommandRows
 pub mod Numbers

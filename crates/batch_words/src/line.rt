@@ -1,7 +1,7 @@
 //! The command line that the program takes, as `clap` is told it.
-ghost use Rattle.std.specs.Prelude.{◌≡◌, IfOk, codes, false};
+ghost use Rattle.std.specs.Prelude.{◌≡◌, IfOk, IsOkAnd, codes, false};
 ghost use Rattle.clap.specs.Words.{app_of, rule_of};
-ghost use Rattle.clap.specs.Simple.{App, with_subcommand};
+ghost use Rattle.clap.specs.Words.{AddsSubcommand};
 ghost use Rattle.clap.specs.declared.builder.command.Command.TheViews.{out-Command};
 ghost use Rattle.batch_words.specs.CommandLine.{bare_app, certified_app, check_app, explain_app, flag_rule, number_rule, plant_app, program_app, recipes_rule, word_rule};
 
@@ -63,9 +63,7 @@ fn with_command<'a>(
     program: Command<'a>,
     command: Result<Command<'a>, AllocError>,
 ) -> Result<Command<'a>, AllocError>
-    ensures { IfOk result (λ wider. (app : App)
-        → IfOk command.entry (λ added. (app_of added ≡ app) × ((out-Command added).has_globals ≡ false))
-        → app_of wider ≡ with_subcommand (app_of program.entry) app.top) }
+    ensures { IfOk result (λ wider. IsOkAnd command.entry (λ added. AddsSubcommand program.entry added wider)) }
 {
     program.subcommand(command?)
 }
