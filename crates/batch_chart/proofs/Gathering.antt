@@ -66,30 +66,55 @@ nothing-shown m = ap (λ z. not (nat_eq z 0)) (none-shown m)
 
 -- where a sign isn't among all, no node shows it
 
-pub none-of-all : (signs blocks : List ℕ) (all wanted from : ℕ) → AreGathered signs blocks all → bit_and all wanted ≡ 0 → NoneShows signs wanted from (length signs)
-none-of-all signs blocks all wanted from g e k a b =
-    let parts = div-add-mod' k 64 in
-    let rest = mod_below k 64 (omega arith) in
-    let within : k / 64 < 0 + length blocks = omega (arith, parts, rest, b, g.count) in
-    g.gather (k / 64) k wanted (omega (arith, parts)) (omega (arith, parts, rest)) (g.whole (k / 64) wanted (omega arith) within e)
+pub none-of-all : (signs blocks groups : List ℕ) (all wanted from : ℕ) → AreGathered signs blocks groups all → bit_and all wanted ≡ 0 → NoneShows signs wanted from (length signs)
+none-of-all signs blocks groups all wanted from g e k a b =
+    let parts = div-add-mod' k 16 in
+    let rest = mod_below k 16 (omega arith) in
+    let above = div-add-mod' (k / 16) 16 in
+    let left = mod_below (k / 16) 16 (omega arith) in
+    let known : k / 16 < length blocks = omega (arith, parts, rest, b, g.count) in
+    let within : k / 16 / 16 < 0 + length groups = omega (arith, above, left, known, g.groups_count) in
+    g.gather (k / 16) k wanted (omega (arith, parts)) (omega (arith, parts, rest))
+    (g.group_gather (k / 16 / 16) (k / 16) wanted (omega (arith, above)) (omega (arith, above, left)) (g.whole (k / 16 / 16) wanted (omega arith) within e))
 
 -- where it isn't among those of a block, none of the block's nodes does
 
-pub none-of-block : (signs blocks : List ℕ) (all wanted from at next d : ℕ) → AreGathered signs blocks all → at % 64 ≡ 0 → at < length signs → bit_and (get_or blocks (at / 64) d) wanted ≡ 0
-    → next ≤ at + 64 → NoneShows signs wanted from at → NoneShows signs wanted from next
-none-of-block signs blocks all wanted from at next d g whole lt e short before k a b = go (cases_lt k at)
+pub none-of-block : (signs blocks groups : List ℕ) (all wanted from at next d : ℕ) → AreGathered signs blocks groups all → at % 16 ≡ 0 → at < length signs → bit_and (get_or blocks (at / 16) d) wanted ≡ 0
+    → next ≤ at + 16 → NoneShows signs wanted from at → NoneShows signs wanted from next
+none-of-block signs blocks groups all wanted from at next d g whole lt e short before k a b = go (cases_lt k at)
   where
-    starts : at / 64 * 64 ≡ at
-    starts = let parts = div-add-mod' at 64 in omega (arith, parts, whole)
+    starts : at / 16 * 16 ≡ at
+    starts = let parts = div-add-mod' at 16 in omega (arith, parts, whole)
 
-    within : at / 64 < length blocks
+    within : at / 16 < length blocks
     within = omega (arith, starts, lt, g.count)
 
     go : (k < at) ⊎ (at ≤ k) → bit_and (sign_at signs k) wanted ≡ 0
     go (inl q) = before k a q
     go (inr q) =
-        g.gather (at / 64) k wanted (omega (arith, starts, q)) (omega (arith, starts, short, b))
-        (ap (λ z. bit_and z wanted) (sym (get_or_default_zero blocks (at / 64) d within)) ∙ e)
+        g.gather (at / 16) k wanted (omega (arith, starts, q)) (omega (arith, starts, short, b))
+        (ap (λ z. bit_and z wanted) (sym (get_or_default_zero blocks (at / 16) d within)) ∙ e)
+
+-- the same of a group
+
+pub none-of-group : (signs blocks groups : List ℕ) (all wanted from at next d : ℕ) → AreGathered signs blocks groups all → at % 256 ≡ 0 → at < length signs → bit_and (get_or groups (at / 256) d) wanted ≡ 0
+    → next ≤ at + 256 → NoneShows signs wanted from at → NoneShows signs wanted from next
+none-of-group signs blocks groups all wanted from at next d g whole lt e short before k a b = go (cases_lt k at)
+  where
+    starts : at / 256 * 256 ≡ at
+    starts = let parts = div-add-mod' at 256 in omega (arith, parts, whole)
+
+    within : at / 256 < length groups
+    within = omega (arith, starts, lt, g.count, g.groups_count)
+
+    go : (k < at) ⊎ (at ≤ k) → bit_and (sign_at signs k) wanted ≡ 0
+    go (inl q) = before k a q
+    go (inr q) =
+        let parts = div-add-mod' k 16 in
+        let rest = mod_below k 16 (omega arith) in
+        g.gather (k / 16) k wanted (omega (arith, parts)) (omega (arith, parts, rest))
+        (g.group_gather (at / 256) (k / 16) wanted (omega (arith, parts, rest, starts, q)) (omega (arith, parts, starts, short, b))
+        (ap (λ z. bit_and z wanted) (sym (get_or_default_zero groups (at / 256) d within)) ∙ e))
 
 -- what the next node that shows one of the signs says of those from n to m
 

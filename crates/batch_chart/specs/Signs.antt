@@ -14,11 +14,13 @@ sign_at signs k = slice_index signs k
 abbrev pub covers : List ℕ → ℕ → ℕ → ℕ → Type 0
 covers signs from count all = (k wanted : ℕ) → from ≤ k → k < from + count → bit_and all wanted ≡ 0 → bit_and (sign_at signs k) wanted ≡ 0
 
--- the signs of nodes, those of blocks of them, and all signs
-pub record AreGathered (signs blocks : List ℕ) (all : ℕ) : Type 0 where
-  pub count : length signs ≤ 64 * length blocks
-  pub gather : (block : ℕ) → covers signs (block * 64) 64 (slice_index blocks block)
-  pub whole : covers blocks 0 (length blocks) all
+-- the signs of nodes, those of blocks of them, those of groups of blocks, and all signs
+pub record AreGathered (signs blocks groups : List ℕ) (all : ℕ) : Type 0 where
+  pub count : length signs ≤ 16 * length blocks
+  pub gather : (block : ℕ) → covers signs (block * 16) 16 (slice_index blocks block)
+  pub groups_count : length blocks ≤ 16 * length groups
+  pub group_gather : (group : ℕ) → covers blocks (group * 16) 16 (slice_index groups group)
+  pub whole : covers groups 0 (length groups) all
 
 abbrev pub NoneShows : List ℕ → ℕ → ℕ → ℕ → Type 0
 NoneShows signs wanted from end = (k : ℕ) → from ≤ k → k < end → bit_and (sign_at signs k) wanted ≡ 0

@@ -171,6 +171,7 @@ fn accepting(command: Command) -> u32
 }
 
 /// The signs of which an act that is wanted shows one, and the node from which on it stands. None where signs don't tell.
+#[inline(always)]
 pub fn sought(wanted: Wanted<'_>) -> Option<(u32, usize)>
     ensures { result ≡ sought wanted.entry }
 {

@@ -5,16 +5,20 @@ ghost use Rattle.batch_chart.specs.Signs.{IsNextShown, TellsNone, covers, replac
 use std::alloc::{AllocError, Global};
 use std::marker::Model;
 
-/// How many nodes stand in a block.
-const BLOCK: usize = 64;
+/// How many nodes stand in a block, and blocks in a group.
+const BLOCK: usize = 16;
 
-/// For each node a set of signs, as the bits of a word, and for each block of nodes, and for the whole, the signs of all of them.
-/// So it is told at once that no node has a sign, and the next one that has it is found in as many steps as there are blocks, and
-/// twice the nodes of one.
+/// How many nodes stand in a group.
+const GROUP: usize = 256;
+
+/// For each node a set of signs, as the bits of a word, and for each block of nodes, each group of blocks, and for the whole, the
+/// signs of all of them. So it is told at once that no node has a sign, and the next one that has it is found in as many steps as
+/// there are groups, and twice the blocks of one and the nodes of one.
 #[derive(Debug, Drop)]
 pub struct Signs {
     nodes: Vec<u32>,
     blocks: Vec<u32>,
+    groups: Vec<u32>,
     all: u32,
 }
 
@@ -26,7 +30,7 @@ impl Model for Signs {
 
     ghost view = { λ signs. signs.nodes.items };
 
-    ghost invariant = { λ signs. AreGathered signs.nodes.items signs.blocks.items signs.all };
+    ghost invariant = { λ signs. AreGathered signs.nodes.items signs.blocks.items signs.groups.items signs.all };
 }
 
 impl Signs {
@@ -34,9 +38,11 @@ impl Signs {
     pub fn new(alloc: Global, count: usize) -> Result<Signs, AllocError>
         ensures { IfOk result (λ signs. signs ≡ replicate count 0) }
     {
+        let blocks = count.div_ceil(BLOCK);
         Ok(Signs {
             nodes: vec![in alloc; 0; count]?,
-            blocks: vec![in alloc; 0; count.div_ceil(BLOCK)]?,
+            blocks: vec![in alloc; 0; blocks]?,
+            groups: vec![in alloc; 0; blocks.div_ceil(BLOCK)]?,
             all: 0,
         })
     }
@@ -56,7 +62,9 @@ impl Signs {
         self.nodes[node] = signs;
         let block = node / BLOCK;
         self.blocks[block] = gathered(&self.nodes, block * BLOCK, BLOCK);
-        self.all = gathered(&self.blocks, 0, self.blocks.len());
+        let group = block / BLOCK;
+        self.groups[group] = gathered(&self.blocks, group * BLOCK, BLOCK);
+        self.all = gathered(&self.groups, 0, self.groups.len());
     }
 
     /// The node shows these signs instead, where it shows any.
@@ -74,6 +82,7 @@ impl Signs {
     {
         self.nodes.fill(0);
         self.blocks.fill(0);
+        self.groups.fill(0);
         self.all = 0;
     }
 
@@ -88,16 +97,26 @@ impl Signs {
     }
 
     /// The first node from this one on that shows one of the signs.
+    #[inline(always)]
     pub fn next(&self, wanted: u32, from: usize) -> Option<usize>
         ensures { IsNextShown self.now wanted from result }
     {
         if self.all & wanted == 0 {
             return None;
         }
+        self.search(wanted, from)
+    }
+
+    /// The same, where it has to be looked for.
+    fn search(&self, wanted: u32, from: usize) -> Option<usize>
+        ensures { IsNextShown self.now wanted from result }
+    {
         let count = self.nodes.len();
         let mut at = from;
         while at < count {
-            if at % BLOCK == 0 && self.blocks[at / BLOCK] & wanted == 0 {
+            if at % GROUP == 0 && self.groups[at / GROUP] & wanted == 0 {
+                at = count.min(at + GROUP);
+            } else if at % BLOCK == 0 && self.blocks[at / BLOCK] & wanted == 0 {
                 at = count.min(at + BLOCK);
             } else if self.nodes[at] & wanted != 0 {
                 return Some(at);

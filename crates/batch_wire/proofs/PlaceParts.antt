@@ -1,5 +1,5 @@
 -- The place of a node, from that of the node above it.
-use Rattle.std.proofs.Common.{◌≡◌, ◌≢◌, ◌⊎◌, inl, inr, ◌<◌, ◌≤◌, ◌+◌, ℕ, zero, suc, None, List, [], ◌∷◌, ◌++◌, length, true, false, nat_lt, Some, get_or, slice_get, codes, decimal, refl, sym, ◌∙◌, ap, arith, append_assoc, length-append}
+use Rattle.std.proofs.Common.{◌≡◌, ◌≢◌, ◌⊎◌, inl, inr, ◌<◌, ◌≤◌, ℕ, zero, suc, None, List, [], ◌∷◌, ◌++◌, length, true, false, nat_lt, Some, get_or, slice_get, codes, decimal, refl, sym, ◌∙◌, ap, arith, append_assoc, length-append}
 use Rattle.std.proofs.lemmas.Option.{slice_get_within, slice_get-get_or}
 use Rattle.std.proofs.lemmas.Bool.Decides.{nat_tests}
 use Rattle.batch_recipe.specs.Links.{IsEntryOf, IsFirst, Hangs}
@@ -53,6 +53,10 @@ module _ (r : Recipe) where
 
   pub past-entries : (k from : ℕ) (xs : List Entry) → from ≡ k → xs ≡ r.outline.entries.items → false ≡ nat_lt from (length xs) → length r.outline.entries.items ≤ k
   past-entries k from xs at items past = let le : length xs ≤ from = grind (arith, nat_tests, past) in omega (arith, le, at, ap length items)
+
+  -- an entry that stands there
+  pub entry-at : (k from : ℕ) (e : Entry) → from ≡ k → k < length r.outline.entries.items → e ≡ get_or r.outline.entries.items from e → slice_get r.outline.entries.items k ≡ Some e
+  entry-at k from e at within is = read r k e (omega (arith, within, as_many r)) (is ∙ ap (λ n. get_or r.outline.entries.items n e) at)
 
   -- the root's place has its number alone
   pub root-text : (k : ℕ) (e : Entry) → slice_get r.outline.entries.items k ≡ Some e → k ≡ 0 → text_of_place r k ≡ decimal e.child

@@ -7,6 +7,7 @@ mod fault;
 mod names;
 mod pairs;
 mod places;
+mod putting;
 mod record_line;
 mod report_line;
 mod rows;

@@ -1,5 +1,5 @@
 //! Writing a line of the record.
-ghost use Rattle.std.specs.Prelude.{◌≡◌, ◌∷◌, [], ◌++◌, map, codes, decimal};
+ghost use Rattle.std.specs.Prelude.{◌≡◌, ◌≤◌, ◌∷◌, [], ◌++◌, IfSome, map, codes, decimal, drop, length};
 ghost use Rattle.std.specs.List.{zip};
 ghost use Rattle.batch_recipe.specs.Texts.{line_text, place_text};
 ghost use Rattle.batch_engine.specs.Names.{handed_at, name_at, phase_name, place_at, recipe_name, resource_name, roles_of, roles_told};
@@ -12,7 +12,8 @@ ghost use Rattle.batch_wire.specs.Written.{Writes};
 
 use crate::fault::WriteFault;
 use crate::names::{act_name, handed_names, phase_name, recipe_name, resource_name, value_name};
-use crate::places::write_place;
+use crate::places::{put_place, write_place};
+use crate::putting::put_pieces;
 use crate::writing::{write_all, write_pieces};
 use batch_engine::{Line, Out, Refusal, Reply};
 use batch_matrix::{Command, Report, State};
@@ -21,6 +22,9 @@ use batch_text::Name;
 use batch_verify::Cleared;
 use itoa::Buffer;
 use std::io::Write;
+
+/// How long a line can be that is put together before it is written. Few are longer.
+const ROOM: usize = 384;
 
 /// Writes the line of the record that tells the out. It takes no memory.
 pub fn write_out<W: Write>(out: &Out, cleared: &Cleared, writer: &mut W) -> Result<(), WriteFault>
@@ -56,9 +60,14 @@ fn write_reply<W: Write>(reply: Reply, cleared: &Cleared, writer: &mut W) -> Res
             recipe,
             node,
             state,
-        } => write_reported(
-            unit, phase, word, batch, cleared, recipe, node, state, writer,
-        ),
+        } => {
+            let phase = phase_name(cleared, unit, phase);
+            let unit = resource_name(cleared, unit);
+            let word = report_text(word);
+            write_reported(
+                unit, phase, word, batch, cleared, recipe, node, state, writer,
+            )
+        }
         Reply::Refused(refusal) => write_refusal(refusal, cleared, writer),
     }
 }
@@ -181,10 +190,10 @@ fn write_removed<W: Write>(batch: u64, writer: &mut W) -> Result<(), WriteFault>
     )
 }
 
-fn write_reported<W: Write>(
-    unit: u16,
-    phase: u16,
-    word: Report,
+fn write_reported<'a, W: Write>(
+    unit: &'a [u8],
+    phase: &'a [u8],
+    word: &'a [u8],
     batch: u64,
     cleared: &Cleared,
     recipe: u16,
@@ -193,22 +202,17 @@ fn write_reported<W: Write>(
     writer: &mut W,
 ) -> Result<(), WriteFault>
     ensures { Writes (W.contents writer.old) (W.contents writer.new) result
-        (line_text (reply_words (reply_of cleared.now (replies.Reported unit phase word batch recipe node state)))) }
+        (line_text (codes "ok" ∷ codes "report" ∷ unit.now ∷ phase.now ∷ word.now ∷ decimal batch ∷ place_text (place_at cleared.now recipe node) ∷ state_text state ∷ [])) }
 {
     let mut digits = Buffer::new();
-    write_pieces(
-        writer,
-        &[
-            b"ok report ",
-            resource_name(cleared, unit),
-            b" ",
-            phase_name(cleared, unit, phase),
-            b" ",
-        ],
-    )?;
     write_placed(
         &[
-            report_text(word),
+            b"ok report ",
+            unit,
+            b" ",
+            phase,
+            b" ",
+            word,
             b" ",
             digits.format(batch).as_bytes(),
             b" ",
@@ -511,6 +515,42 @@ fn write_phase_front<W: Write>(
 
 /// Writes pieces, the place of a node, and pieces behind it.
 fn write_placed<W: Write>(
+    head: &[&[u8]],
+    cleared: &Cleared,
+    recipe: u16,
+    node: u16,
+    tail: &[&[u8]],
+    writer: &mut W,
+) -> Result<(), WriteFault>
+    ensures { Writes (W.contents writer.old) (W.contents writer.new) result
+        (before head.now (place_text (place_at cleared.now recipe node) ++ before tail.now [])) }
+{
+    let mut text = [0; ROOM];
+    match put_placed(head, cleared, recipe, node, tail, &mut text) {
+        Some(start) => write_all(writer, &text[start..]),
+        None => write_apart(head, cleared, recipe, node, tail, writer),
+    }
+}
+
+/// Puts pieces, the place of a node, and pieces behind it to the end of a text, and tells where they begin. None where there is
+/// no room for them.
+fn put_placed(
+    head: &[&[u8]],
+    cleared: &Cleared,
+    recipe: u16,
+    node: u16,
+    tail: &[&[u8]],
+    text: &mut [u8],
+) -> Option<usize>
+    ensures { IfSome result (λ start. (start ≤ length text.new) × (drop start text.new ≡ before head.now (place_text (place_at cleared.now recipe node) ++ before tail.now []))) }
+{
+    let end = put_pieces(text, text.len(), tail)?;
+    let place = put_place(cleared, recipe, node, text, end)?;
+    put_pieces(text, place, head)
+}
+
+/// Writes the same one after the other, however long it is.
+fn write_apart<W: Write>(
     head: &[&[u8]],
     cleared: &Cleared,
     recipe: u16,

@@ -1,6 +1,6 @@
 use Rattle.std.proofs.Common.{◌-◌, ◌≤◌}
 use Rattle.batch_chart.specs.Signs.{NoneShows}
-use Rattle.batch_chart.proofs.signs.Signs.next.Given as goal
+use Rattle.batch_chart.proofs.signs.Signs.search.Given as goal
 
 abbrev pub invariant-loop-at : goal.invariant-loop-at
 invariant-loop-at l = (l.fn.from ≤ l.at) × NoneShows l.self l.wanted l.fn.from l.at
