@@ -1,5 +1,7 @@
 -- The document that ends a command.
-use Rattle.std.proofs.Common.{◌≡◌, ℕ, ◌<◌, List, [], ◌∷◌, Result, Ok, Err, IfErr, inl, inr, length, map, take, get_or, suc, zero, refl, subst, ap, arith}
+use Rattle.std.proofs.Common.{◌≡◌, ℕ, ◌<◌, List, [], ◌∷◌, Some, None, Result, Ok, Err, IfOk, IfErr, inl, inr, length, map, take, get_or, suc, zero, refl, subst, ap, arith}
+use Rattle.std.specs.Result.{result_err}
+use Rattle.std.proofs.lemmas.Option.{same_Some}
 use Rattle.batch_cell.specs.declared.cell.Cell.{Cell}
 use Rattle.batch_recipe.specs.declared.recipe.Recipe.{Recipe}
 use Rattle.batch_verify.specs.CertificateText.{Rank}
@@ -32,3 +34,13 @@ pub clearing_halts : {A : Type 0} (gives : Gives) (cell certificate : List ℕ) 
     → IfErr r (HaltsClearing gives cell certificate paths)
 clearing_halts gives cell certificate paths c ranks rs (Ok x) read k = tt
 clearing_halts gives cell certificate paths c ranks rs (Err h) read k = inr (c, ranks, rs, read, k)
+
+-- what ended a command, if anything did
+
+pub none_ended : {A E : Type 0} {P : A → Type 0} (r : Result A E) → result_err r ≡ None → IfOk r P → (x : A) × P x
+none_ended (Ok x) none is = (x, is)
+none_ended (Err e) none is = let bad : Some e ≡ None = none in absurd cc
+
+pub ended_by : {A E : Type 0} (Q : E → Type 0) (r : Result A E) (h : E) → result_err r ≡ Some h → IfErr r Q → Q h
+ended_by Q (Ok x) h some is = let bad : None ≡ Some h = some in absurd cc
+ended_by Q (Err e) h some is = subst Q (same_Some e h some) is

@@ -7,3 +7,5 @@ pub mod Outcomes
 pub mod Successes
 mod Fronts
 pub mod Drawn
+pub mod SetsRefused
+pub mod NodesTold

@@ -74,12 +74,14 @@ pub fn verify_documents<D: Documents>(
     ensures halts { IfErr result IsHalt }
     ensures halted { IfErr result (HaltsClearing (D.gives documents.now) cell.now certificate.now (map string_bytes recipes.now)) }
 {
-    let _cleared = clear_documents(alloc, documents, cell, certificate, recipes)?;
-    Ok(Verdict {
-        text: String::from_str(alloc, "accepted\n")?,
-        ending: Ending::Accepted,
-        sentence: None,
-    })
+    match clear_documents(alloc, documents, cell, certificate, recipes).err() {
+        Some(halt) => Err(halt),
+        None => Ok(Verdict {
+            text: String::from_str(alloc, "accepted\n")?,
+            ending: Ending::Accepted,
+            sentence: None,
+        }),
+    }
 }
 
 /// The set that the documents at these paths make, cleared by the certificate among them: the one way from documents to a set

@@ -2,7 +2,9 @@
 ghost use Rattle.std.specs.Prelude.{◌≡◌, ◌≢◌, ◌≤◌, ◌<◌, ℕ, List, length, IfOk, IfErr, OnOk, string_bytes};
 ghost use Rattle.batch_reader.specs.CellDocument.{IsCellDocument};
 ghost use Rattle.batch_reader.specs.RecipeDocument.{IsRecipeDocument};
+ghost use Rattle.batch_model.specs.Setups.{setup_of};
 ghost use Rattle.batch_verify.specs.CertificateText.{IsCertificateText};
+ghost use Rattle.batch_verify.specs.Verifying.{IsFirstRefusal};
 ghost use Rattle.batch_commands.specs.VerdictTexts.{certificate_refused, document_text};
 ghost use Rattle.batch_commands.specs.Judging.{HaltsWith, IsChecked, IsClearedBy, IsHalt, RefusesCell, RefusesCertificate, RefusesRecipe, RefusesSet, certificate_ending, document_ending, fault_ending};
 
@@ -17,7 +19,9 @@ use batch_recipe::Recipe;
 use batch_sentences::{
     Asked, Sentence, certificate_sentence, document_sentence, fault_sentence, refusal_sentence,
 };
-use batch_verify::{CertFault, Certificate, Cleared, SetRefusal, read_certificate, verify};
+use batch_verify::{
+    CertFault, Certificate, Cleared, Rejected, SetRefusal, read_certificate, verify,
+};
 use std::alloc::{AllocError, Global};
 
 /// The longest file of a certificate, in bytes.
@@ -161,25 +165,29 @@ pub fn clear_recipes(
 {
     match verify(alloc, cell, recipes, certificate) {
         Ok(cleared) => Ok(cleared),
-        Err(rejected) => Err(Halt::Refused(Verdict {
-            text: refusal_text(
-                alloc,
-                &rejected.cell,
-                &rejected.recipes,
-                certificate,
-                rejected.fault,
-            )?,
-            ending: match rejected.fault {
-                SetRefusal::Memory => Ending::OutOfMemory,
-                _ => Ending::Refused,
-            },
-            sentence: Some(refusal_sentence(
-                alloc,
-                &rejected.cell,
-                &rejected.recipes,
-                certificate,
-                rejected.fault,
-            )?),
-        })),
+        Err(rejected) => Err(set_halt(alloc, certificate, &rejected)),
+    }
+}
+
+fn set_halt(alloc: Global, certificate: &Certificate, rejected: &Rejected) -> Halt
+    requires { IsFirstRefusal (setup_of rejected.now.cell rejected.now.recipes.items) certificate.now.ranks.items rejected.now.fault }
+    ensures refused { RefusesSet rejected.now.cell rejected.now.recipes.items certificate.now.ranks.items result }
+    ensures halts { IsHalt result }
+{
+    let ending = set_ending(rejected.fault);
+    let (cell, recipes) = (&rejected.cell, &rejected.recipes);
+    let text = refusal_text(alloc, cell, recipes, certificate, rejected.fault);
+    let sentence = refusal_sentence(alloc, cell, recipes, certificate, rejected.fault);
+    refused(text, ending, sentence)
+}
+
+/// How the program ends where the set isn't cleared.
+fn set_ending(refusal: SetRefusal) -> Ending
+    ensures memory { refusal ≡ SetRefusal.Memory → result ≡ Ending.OutOfMemory }
+    ensures other { refusal ≢ SetRefusal.Memory → result ≡ Ending.Refused }
+{
+    match refusal {
+        SetRefusal::Memory => Ending::OutOfMemory,
+        _ => Ending::Refused,
     }
 }

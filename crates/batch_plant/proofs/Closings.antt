@@ -1,7 +1,7 @@
 -- What is known of the ports of a plant, and of their desks.
-use Rattle.std.proofs.Common.{◌≡◌, ℕ, zero, suc, ◌+◌, List, [], ◌∷◌, ◌++◌, length, map, Option, Some, None, IfSome, IsSome, option_map, slice_get, unwrap_or, refl, sym, ap, ◌∙◌, subst, arith, add-one}
+use Rattle.std.proofs.Common.{◌≡◌, ℕ, zero, suc, ◌+◌, List, [], ◌∷◌, ◌++◌, length, map, Option, Some, None, IfSome, IsSome, option_map, slice_get, unwrap_or, refl, sym, ap, ◌∙◌, subst, add-one}
 use Rattle.std.specs.List.{All, slice_set}
-use Rattle.std.proofs.lemmas.List.{length-append, length-map}
+use Rattle.std.proofs.lemmas.List.{length-map}
 use Rattle.std.proofs.lemmas.Option.{same_Some, slice_get-map, IfSome_then}
 use Rattle.std.proofs.lemmas.List.Elements.{All-nil, All-cons, All-append, All-head, All-tail}
 use Rattle.batch_matrix.specs.declared.report.Report.{Report as Word}
@@ -48,12 +48,6 @@ place_after f (y ∷ ys) (suc k) x = place_after f ys k x
 pub next_place : {X Y : Type 0} (f : X → Y) (xs : List X) (k : ℕ) (x : X) → slice_get (map f (slice_set xs k x)) (k + 1) ≡ slice_get (map f xs) (k + 1)
 next_place f xs k x = rw add-one (place_after f xs k x)
 
--- two desks, the last of which was taken first
-pub two_left : {X : Type 0} (xs ys zs : List X) (x y : X) → length xs ≡ 2 → xs ≡ ys ++ y ∷ [] → ys ≡ zs ++ x ∷ [] → xs ≡ x ∷ y ∷ []
-two_left xs ys [] x y two is was = is ∙ ap (λ l. l ++ y ∷ []) was
-two_left xs ys (z ∷ zs) x y two is was =
-    absurd (omega (arith, two, ap length is, ap length was, length-append ys (y ∷ []), length-append (z ∷ zs) (x ∷ [])))
-
 -- Reports
 
 abbrev pub IsReportEvent : Events.Event → Type 0
@@ -98,12 +92,14 @@ link_ran command_gives tick_gives cell d e old new h = record {
   each = sent_alone h.links.more h.kept (reports_made cell h.links.deeds) h.links.reports (reports_alone cell h.links.deeds);
 }
 
+-- a new hub has one desk for each plan
+pub two_made : (plan : PortPlan) (h : HubState) (desks : List DeskState) → AreOfPlans (plan ∷ plan ∷ []) h.ports desks → length desks ≡ 2
+two_made plan h desks made = sym (length-map desks places_free) ∙ ap length made.places
+
 -- the parts of a new plant
-pub parts_made : (plan : PortPlan) (h : HubState) (desks ys zs : List DeskState) (c l : DeskState) → AreOfPlans (plan ∷ plan ∷ []) h.ports desks
-    → desks ≡ ys ++ l ∷ [] → ys ≡ zs ++ c ∷ [] → AreParts h c l × (c.sent ≡ []) × (l.sent ≡ [])
-parts_made plan h desks ys zs c l made is was =
-    let two : length desks ≡ 2 = sym (length-map desks places_free) ∙ ap length made.places in
-    let both : desks ≡ c ∷ l ∷ [] = two_left desks ys zs c l two is was in
+pub parts_made : (plan : PortPlan) (h : HubState) (desks : List DeskState) (c l : DeskState) → AreOfPlans (plan ∷ plan ∷ []) h.ports desks
+    → desks ≡ c ∷ l ∷ [] → AreParts h c l × (c.sent ≡ []) × (l.sent ≡ [])
+parts_made plan h desks c l made both =
     let rings : map port_rings h.ports ≡ desk_rings c ∷ desk_rings l ∷ [] = made.rings ∙ ap (map desk_rings) both in
     let new : All IsNewDesk (c ∷ l ∷ []) = subst (All IsNewDesk) both made.desks_new in (
       record { of_console = ap (λ xs. slice_get xs 0) rings; of_link = ap (λ xs. slice_get xs 1) rings },

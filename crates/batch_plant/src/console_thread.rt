@@ -2,6 +2,7 @@
 ghost use Rattle.std.specs.Prelude.{◌≡◌, IfOk, IfSome, IsSomeAnd};
 ghost use Rattle.batch_desk.specs.Consoles.{IsConsole};
 
+use crate::ending::ended;
 use crate::plant_fault::PlantFault;
 use crate::plant_task::PlantTask;
 use batch_desk::{Desk, Gate, LoopEnd, console_loop};
@@ -70,8 +71,6 @@ pub(crate) fn join_console<R: Threads>(
     let Some(child) = child else {
         return Err(PlantFault::Thread);
     };
-    match child.join(rt) {
-        (desk, LoopEnd::Done) => Ok(desk),
-        (_, LoopEnd::TurnsOut) => Err(PlantFault::TurnsOut),
-    }
+    let (desk, end) = child.join(rt);
+    ended(desk, end)
 }

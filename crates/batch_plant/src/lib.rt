@@ -4,6 +4,7 @@
 mod answer;
 mod closing;
 mod console_thread;
+mod ending;
 mod hub_running;
 mod link;
 mod link_thread;

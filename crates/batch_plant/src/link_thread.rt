@@ -2,6 +2,7 @@
 ghost use Rattle.std.specs.Prelude.{◌≡◌, IfOk, IfSome, IsSomeAnd};
 ghost use Rattle.batch_plant.specs.Parts.{LinkRan};
 
+use crate::ending::ended;
 use crate::linking::link_loop;
 use crate::plant_fault::PlantFault;
 use batch_cell::Cell;
@@ -80,8 +81,6 @@ pub(crate) fn join_link<R: Threads>(rt: &R, child: Option<LinkHandle>) -> Result
     let Some(child) = child else {
         return Err(PlantFault::Thread);
     };
-    match child.join(rt) {
-        (desk, LoopEnd::Done) => Ok(desk),
-        (_, LoopEnd::TurnsOut) => Err(PlantFault::TurnsOut),
-    }
+    let (desk, end) = child.join(rt);
+    ended(desk, end)
 }

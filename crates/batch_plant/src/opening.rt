@@ -1,5 +1,5 @@
 //! Making the parts of a plant.
-ghost use Rattle.std.specs.Prelude.{◌≡◌, ◌++◌, ◌∷◌, [], IfOk};
+ghost use Rattle.std.specs.Prelude.{◌≡◌, ◌∷◌, [], length, IfOk};
 ghost use Rattle.batch_engine.specs.View.{plant_of};
 ghost use Rattle.batch_model.specs.Plant.{opening};
 ghost use Rattle.batch_plant.specs.Parts.{AreParts};
@@ -35,21 +35,22 @@ fn open_hub(alloc: Global, engine: Engine, ring: usize) -> Result<Parts, PlantFa
         event_places: ring,
         out_places: ring,
     };
-    let Ok((hub, desks)) = Hub::new(alloc, engine, &[plan, plan]) else {
-        return Err(PlantFault::Memory);
-    };
-    let mut desks = desks;
-    let link = take_last(&mut desks)?;
-    let console = take_last(&mut desks)?;
-    Ok(Parts { hub, console, link })
+    match Hub::new(alloc, engine, &[plan, plan]) {
+        Ok((hub, desks)) => {
+            let (console, link) = console_and_link(desks);
+            Ok(Parts { hub, console, link })
+        }
+        Err(_) => Err(PlantFault::Memory),
+    }
 }
 
-/// Takes the last of the desks. A hub has one for each plan, so that there is one.
-fn take_last(desks: &mut Vec<Desk>) -> Result<Desk, PlantFault>
-    ensures { IfOk result (λ desk. desks.old.items ≡ desks.new.items ++ desk ∷ []) }
+/// The two desks of a hub.
+fn console_and_link(desks: Vec<Desk>) -> (Desk, Desk)
+    requires { length desks.items ≡ 2 }
+    ensures { desks.items ≡ result.0 ∷ result.1 ∷ [] }
 {
-    match desks.pop() {
-        Some(desk) => Ok(desk),
-        None => Err(PlantFault::Memory),
-    }
+    let mut desks = desks;
+    let link = desks.pop().unwrap();
+    let console = desks.pop().unwrap();
+    (console, link)
 }

@@ -20,7 +20,7 @@ use crate::plant_gates::PlantGates;
 use crate::plant_rests::PlantRests;
 use crate::plant_task::PlantTask;
 use batch_cell::Cell;
-use batch_desk::{Desk, Gate, Hub};
+use batch_desk::{Gate, Hub};
 use batch_sim::{Simulator, UnitDriver};
 use batch_verify::Cleared;
 use std::alloc::Global;
@@ -86,21 +86,22 @@ fn run_three<
     let hub = run_hub(hub, batches, gates.hub, limit);
     let console = join_console(rt, first);
     let link = join_link(rt, second);
-    gather(hub, console, link)
+    let (hub, console, link) = gather(hub, console, link)?;
+    Ok(Parts { hub, console, link })
 }
 
-/// The parts that ran, or the first fault.
-fn gather(
-    hub: Result<Hub, PlantFault>,
-    console: Result<Desk, PlantFault>,
-    link: Result<Desk, PlantFault>,
-) -> Result<Parts, PlantFault>
-    ensures hub { IfOk result (λ parts. hub ≡ Ok parts.hub) }
-    ensures console { IfOk result (λ parts. console ≡ Ok parts.console) }
-    ensures link { IfOk result (λ parts. link ≡ Ok parts.link) }
+/// What all three came to, or the first fault.
+fn gather<H: Drop, D: Drop>(
+    hub: Result<H, PlantFault>,
+    console: Result<D, PlantFault>,
+    link: Result<D, PlantFault>,
+) -> Result<(H, D, D), PlantFault>
+    ensures hub { IfOk result (λ all. hub ≡ Ok all.0) }
+    ensures console { IfOk result (λ all. console ≡ Ok all.1) }
+    ensures link { IfOk result (λ all. link ≡ Ok all.2) }
 {
     match (hub, console, link) {
-        (Ok(hub), Ok(console), Ok(link)) => Ok(Parts { hub, console, link }),
+        (Ok(hub), Ok(console), Ok(link)) => Ok((hub, console, link)),
         (Err(PlantFault::Thread), _, _) => Err(PlantFault::Thread),
         (_, Err(PlantFault::Thread), _) => Err(PlantFault::Thread),
         (_, _, Err(PlantFault::Thread)) => Err(PlantFault::Thread),

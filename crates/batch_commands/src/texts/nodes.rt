@@ -1,6 +1,6 @@
 //! What a cell and recipes call the things that a verdict names by number.
-ghost use Rattle.std.specs.Prelude.{◌≡◌, IfOk, string_bytes};
-ghost use Rattle.batch_commands.specs.VerdictTexts.{node_text, resource_name, rule_code};
+ghost use Rattle.std.specs.Prelude.{◌≡◌, ◌++◌, IfOk, codes, string_bytes};
+ghost use Rattle.batch_commands.specs.VerdictTexts.{node_text, place_of, resource_name, rule_code};
 
 use crate::texts::places::place_text;
 use batch_cell::Cell;
@@ -18,13 +18,18 @@ pub(crate) fn node_text(
     ensures { IfOk result (λ text. string_bytes text ≡ node_text recipes.now recipe node) }
 {
     match recipes.get(usize::from(recipe)) {
-        Some(recipe) => {
-            let name = &recipe.acts.procedure.name;
-            let place = place_text(alloc, recipe, node)?;
-            format!(in alloc; "{name} {place}")
-        }
+        Some(recipe) => node_of_text(alloc, recipe, node),
         None => Ok(String::new(alloc)),
     }
+}
+
+/// The name of the recipe and the place of its node.
+fn node_of_text(alloc: Global, recipe: &Recipe, node: u16) -> Result<String, AllocError>
+    ensures { IfOk result (λ text. string_bytes text ≡ recipe.now.acts.procedure.name ++ (codes " " ++ place_of recipe.now node)) }
+{
+    let name = &recipe.acts.procedure.name;
+    let place = place_text(alloc, recipe, node)?;
+    format!(in alloc; "{name} {place}")
 }
 
 /// The name of the resource with this number.

@@ -1,6 +1,6 @@
 use Rattle.std.proofs.Common.{refl}
 use Rattle.batch_commands.specs.Running.{judges, explains}
-use Rattle.batch_words.specs.declared.command.Subcommand.TheVariants.{Serve, Check, Draw, Verify, Run, Plant, Explain}
+use Rattle.batch_words.specs.declared.command.Subcommand.TheVariants.{Serve, Run}
 use Rattle.batch_commands.proofs.Outcomes.{outcome_of_check, outcome_of_draw, outcome_of_verify, served_by_run, halted_by_run, planned, taken}
 use Rattle.batch_commands.proofs.running.run_command.Goals as goal
 

@@ -2,8 +2,7 @@ use Rattle.std.proofs.Common.{subst, map, string_bytes}
 use Rattle.std.proofs.KnownBytes.{Keeps-refl}
 use Rattle.batch_words.specs.CommandLine.{IsFaultOf, program_app}
 use Rattle.clap.specs.Words.{fault_of}
-use Rattle.batch_commands.specs.Running.{IsNamed, commands, helps, misuses, starves}
-use Rattle.batch_words.specs.declared.command.Subcommand.{Subcommand}
+use Rattle.batch_commands.specs.Running.{commands, helps, misuses, starves}
 use Rattle.batch_words.specs.declared.command.CommandFault.{CommandFault}
 use Rattle.batch_commands.proofs.running.run_words.Goals as goal
 
