@@ -16,7 +16,6 @@ use std::test::Fail;
 /// A hub, what is left of the desk of its first port, and the desks of the others. The token is there until the port is closed.
 #[derive(Drop)]
 pub(crate) struct Left {
-    pub(crate) cleared: Cleared,
     pub(crate) hub: Hub,
     pub(crate) token: Option<Finished<Event>>,
     pub(crate) inbox: Inbox,
@@ -86,20 +85,25 @@ impl Left {
     }
 
     /// The line of an out that is left.
-    fn taken(&mut self, alloc: Global) -> Result<String, Fail> {
+    fn taken(&mut self, alloc: Global, cleared: &Cleared) -> Result<String, Fail> {
         let out = self.take();
-        text_of(alloc, &self.cleared, out)
+        text_of(alloc, cleared, out)
     }
 
     /// What is told of a line of a script.
     #[tactic(auto, using(crate::proofs::Seating::left_stays))]
-    pub(crate) fn answer(&mut self, alloc: Global, line: &str) -> Result<String, Fail> {
+    pub(crate) fn answer(
+        &mut self,
+        alloc: Global,
+        cleared: &Cleared,
+        line: &str,
+    ) -> Result<String, Fail> {
         let (word, words) = line.split_once(' ').ok_or("no port")?;
         match (word, words) {
             ("close", "0") => self.closed(alloc),
             ("seal", "0") => self.sealed(alloc),
-            ("take", "0") => self.taken(alloc),
-            ("send" | "take", _) => at_desk(alloc, &self.cleared, &mut self.others, 1, words),
+            ("take", "0") => self.taken(alloc, cleared),
+            ("send" | "take", _) => at_desk(alloc, cleared, &mut self.others, 1, words),
             _ => at_hub(alloc, &mut self.hub, word, words),
         }
     }

@@ -8,13 +8,19 @@ mod ending;
 #[cfg(test)]
 mod ends;
 #[cfg(test)]
+mod expected;
+#[cfg(test)]
 mod gates;
+#[cfg(test)]
+mod hubs;
 #[cfg(test)]
 mod left;
 #[cfg(test)]
 mod limits;
 #[cfg(test)]
 mod lines;
+#[cfg(test)]
+mod looping;
 #[cfg(test)]
 mod loops;
 #[cfg(test)]

@@ -4,21 +4,37 @@ ghost use Rattle.batch_model.specs.Plant.{opening};
 ghost use Rattle.batch_engine.specs.View.{plant_of};
 
 use crate::documents::CELL1;
+use batch_cell::Cell;
 use batch_check::check;
 use batch_engine::{Engine, Event, Out};
 use batch_reader::{read_cell, read_recipe};
+use batch_recipe::Recipe;
 use batch_verify::{Cleared, verify};
 use batch_wire::{read_event, write_out};
 use std::alloc::Global;
 use std::test::Fail;
 
+pub(crate) fn cell_of(alloc: Global, document: &str) -> Result<Cell, Fail> {
+    Ok(read_cell(alloc, document.as_bytes())?)
+}
+
+fn recipe_of(alloc: Global, document: &str) -> Result<Recipe, Fail> {
+    Ok(read_recipe(alloc, document.as_bytes())?)
+}
+
+/// The recipe alone.
+fn recipes_of(alloc: Global, document: &str) -> Result<Vec<Recipe>, Fail> {
+    let mut recipes = Vec::new(alloc);
+    recipes.push(recipe_of(alloc, document)?)?;
+    Ok(recipes)
+}
+
 /// The recipe, cleared for the demo cell by the certificate that `check` gives.
 pub(crate) fn cleared_of(alloc: Global, recipe: &str) -> Result<Cleared, Fail> {
-    let cell = read_cell(alloc, CELL1.as_bytes())?;
-    let mut recipes = Vec::new(alloc);
-    recipes.push(read_recipe(alloc, recipe.as_bytes())?)?;
+    let cell = cell_of(alloc, CELL1)?;
+    let recipes = recipes_of(alloc, recipe)?;
     let certificate = check(alloc, &cell, &recipes)?;
-    Ok(verify(alloc, cell, recipes, &certificate).map_err(|_| "not cleared")?)
+    verify(alloc, cell, recipes, &certificate).map_err(|_| Fail::from("not cleared"))
 }
 
 /// An engine of the recipe in which nothing has happened.
@@ -26,10 +42,7 @@ pub(crate) fn engine_of(alloc: Global, recipe: &str) -> Result<Engine, Fail>
     ensures { IfOk result (λ engine. plant_of engine ≡ opening) }
 {
     let cleared = cleared_of(alloc, recipe)?;
-    match Engine::new(alloc, cleared) {
-        Ok(engine) => Ok(engine),
-        Err(_) => Err(Fail::from("no engine")),
-    }
+    Engine::new(alloc, cleared).map_err(|_| Fail::from("no engine"))
 }
 
 /// The event of a line.

@@ -1,31 +1,33 @@
 //! Plants over the demo cell, and what is told of their end.
 use crate::documents::{A, CELL1};
-use crate::lines::cleared_of;
+use crate::lines::{cell_of, cleared_of};
 use batch_cell::Cell;
-use batch_desk::Gate;
+use batch_desk::{Gate, Hub};
 use batch_engine::{Line, Out};
 use batch_matrix::State;
 use batch_plant::{PlantEnd, PlantFault, PlantGates, PlantTask, plant_run};
-use batch_reader::read_cell;
 use batch_sim::{Simulator, SteadyUnit, UnitDriver};
 use batch_text::Name;
+use batch_verify::Cleared;
 use std::alloc::Global;
 use std::test::Fail;
 use std::thread::Threads;
 
-/// The demo cell.
-fn demo_cell(alloc: Global) -> Result<Cell, Fail> {
-    Ok(read_cell(alloc, CELL1.as_bytes())?)
+/// Recipe A, cleared for the demo cell, that cell, and the recipe's name.
+#[derive(Drop)]
+struct DemoSet {
+    cleared: Cleared,
+    cell: Cell,
+    recipe: Name,
 }
 
-/// As many batches of the demo recipe, over rings of one place.
-fn task(alloc: Global, batches: u64, limit: u64) -> Result<PlantTask, Fail> {
-    Ok(PlantTask {
-        recipe: Name::read(alloc, b"A")?,
-        size: 1000,
-        batches,
-        ring: 1,
-        limit,
+fn demo_set(alloc: Global) -> Result<DemoSet, Fail> {
+    let recipe = Name::read(alloc, b"A")?;
+    let cell = cell_of(alloc, CELL1)?;
+    Ok(DemoSet {
+        cleared: cleared_of(alloc, A)?,
+        cell,
+        recipe,
     })
 }
 
@@ -37,9 +39,10 @@ pub(crate) fn steady_units(alloc: Global, ticks: u64) -> Result<Simulator<Steady
     Ok(Simulator::new(drivers))
 }
 
-/// How many of the outs make a batch complete.
-fn completed(outs: &[Out]) -> usize {
-    outs.iter()
+/// How many outs of the record make a batch complete.
+fn completed(hub: &Hub) -> usize {
+    hub.record()
+        .iter()
         .filter(|out| {
             matches!(
                 out,
@@ -52,20 +55,26 @@ fn completed(outs: &[Out]) -> usize {
         .count()
 }
 
+/// How many events were taken.
+fn handled(hub: &Hub) -> usize {
+    hub.history().len()
+}
+
+/// What is told of a plant that ran to its end.
+fn end_text(alloc: Global, end: &PlantEnd) -> Result<String, Fail> {
+    let (completed, handled) = (completed(&end.hub), handled(&end.hub));
+    Ok(format!(in alloc; "complete {completed}, handled {handled}, {:?}", end.rests)?)
+}
+
 /// What is told of the end of a plant.
-fn text_of(alloc: Global, end: Result<PlantEnd, PlantFault>) -> Result<String, Fail> {
+fn text_of(alloc: Global, end: &Result<PlantEnd, PlantFault>) -> Result<String, Fail> {
     match end {
-        Ok(end) => Ok(format!(in alloc;
-            "complete {}, handled {}, {:?}",
-            completed(end.hub.record()),
-            end.hub.history().len(),
-            end.rests
-        )?),
+        Ok(end) => end_text(alloc, end),
         Err(fault) => Ok(format!(in alloc; "{fault}")?),
     }
 }
 
-/// Runs a plant over these units, and tells its end.
+/// Runs a plant of as many batches over these units, with rings of one place, and tells its end.
 pub(crate) fn run<
     R: Threads,
     D: UnitDriver + Send + 'static,
@@ -80,14 +89,14 @@ pub(crate) fn run<
     limit: u64,
     gates: PlantGates<H, C, L>,
 ) -> Result<String, Fail> {
-    let cleared = cleared_of(alloc, A)?;
-    let cell = demo_cell(alloc)?;
-    let task = task(alloc, batches, limit)?;
-    if task.ring < 1 || task.ring > 64 {
-        return Err(Fail::from("no such rings"));
-    }
-    text_of(
-        alloc,
-        plant_run(rt, alloc, cleared, cell, units, task, gates),
-    )
+    let demo = demo_set(alloc)?;
+    let task = PlantTask {
+        recipe: demo.recipe,
+        size: 1000,
+        batches,
+        ring: 1,
+        limit,
+    };
+    let end = plant_run(rt, alloc, demo.cleared, demo.cell, units, task, gates);
+    text_of(alloc, &end)
 }

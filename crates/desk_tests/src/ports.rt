@@ -4,7 +4,7 @@ ghost use Rattle.batch_desk.specs.DeskState.{desk_rings};
 ghost use Rattle.batch_desk.specs.HubState.{rings};
 
 use crate::lines::{event_of, text_of};
-use batch_desk::{Desk, Hub, PortPlan, Scope};
+use batch_desk::{Desk, Full, Hub, HubFault, PortPlan, Scope, Turned};
 use batch_verify::Cleared;
 use std::alloc::Global;
 use std::test::Fail;
@@ -27,15 +27,20 @@ pub(crate) fn link(unit: u16, places: usize) -> PortPlan {
     }
 }
 
+/// Which event came back, if one did.
+fn told_back(alloc: Global, sent: &Result<(), Full>) -> Result<String, Fail> {
+    match sent {
+        Ok(()) => Ok(String::new(alloc)),
+        Err(full) => Ok(format!(in alloc; "full: {:?}\n", full.0)?),
+    }
+}
+
 /// Sends the event of a line, and tells which came back.
 pub(crate) fn send(alloc: Global, desk: &mut Desk, line: &str) -> Result<String, Fail>
     ensures { desk_rings desk.new ≡ desk_rings desk.old }
 {
-    let event = event_of(alloc, line)?;
-    match desk.send(event) {
-        Ok(()) => Ok(String::new(alloc)),
-        Err(full) => Ok(format!(in alloc; "full: {:?}\n", full.0)?),
-    }
+    let sent = desk.send(event_of(alloc, line)?);
+    told_back(alloc, &sent)
 }
 
 /// Takes an out at a desk, and tells its line.
@@ -66,10 +71,17 @@ pub(crate) fn at_desk(
     }
 }
 
+/// One turn. All that is said of it here is that the rings stay.
+fn make_turn(hub: &mut Hub, port: usize) -> Result<Turned, HubFault>
+    ensures { rings hub.new ≡ rings hub.old }
+{
+    hub.turn(port)
+}
+
 fn turn(alloc: Global, hub: &mut Hub, port: &str) -> Result<String, Fail>
     ensures { rings hub.new ≡ rings hub.old }
 {
-    let turned = hub.turn(port.parse()?);
+    let turned = make_turn(hub, port.parse()?);
     Ok(format!(in alloc; "turn: {turned:?}\n")?)
 }
 
@@ -91,12 +103,23 @@ pub(crate) fn at_hub(alloc: Global, hub: &mut Hub, word: &str, port: &str) -> Re
     }
 }
 
-/// What is asked of a hub: how many outs wait for a port, how many events were taken, how many outs the record has.
+/// How many outs wait for a port.
+fn waiting(alloc: Global, hub: &Hub, port: &str) -> Result<String, Fail> {
+    let waiting = hub.waiting(port.parse()?);
+    Ok(format!(in alloc; "waiting: {waiting:?}\n")?)
+}
+
+/// How many events were taken, or how many outs the record has.
+fn counted(alloc: Global, word: &str, count: usize) -> Result<String, Fail> {
+    Ok(format!(in alloc; "{word}: {count}\n")?)
+}
+
+/// What is asked of a hub.
 fn asked(alloc: Global, hub: &Hub, word: &str, port: &str) -> Result<String, Fail> {
     match word {
-        "waiting" => Ok(format!(in alloc; "waiting: {:?}\n", hub.waiting(port.parse()?))?),
-        "history" => Ok(format!(in alloc; "history: {}\n", hub.history().len())?),
-        "record" => Ok(format!(in alloc; "record: {}\n", hub.record().len())?),
-        _ => Err("no such word")?,
+        "waiting" => waiting(alloc, hub, port),
+        "history" => counted(alloc, word, hub.history().len()),
+        "record" => counted(alloc, word, hub.record().len()),
+        _ => Err(Fail::from("no such word")),
     }
 }

@@ -1,6 +1,10 @@
 //! A hub and the desks of its ports, of which the first is apart.
+ghost use Rattle.std.specs.Prelude.{◌≡◌, map};
+ghost use Rattle.batch_desk.specs.DeskState.{desk_rings};
+ghost use Rattle.batch_desk.specs.HubState.{rings};
+
+use crate::hubs::hub_of;
 use crate::left::Left;
-use crate::lines::{cleared_of, engine_of};
 use crate::ports::{at_desk, at_hub, send, take};
 use batch_desk::{Desk, Hub, PortPlan};
 use batch_verify::Cleared;
@@ -11,7 +15,6 @@ use std::test::Fail;
 /// A hub, the desk of its first port, and those of the others.
 #[derive(Drop)]
 pub(crate) struct Seats {
-    cleared: Cleared,
     hub: Hub,
     first: Desk,
     others: Vec<Desk>,
@@ -29,34 +32,38 @@ impl Model for Seats {
 }
 
 impl Seats {
-    #[tactic(auto, using(crate::proofs::Seating::first_seated))]
     pub(crate) fn new(alloc: Global, recipe: &str, plans: &[PortPlan]) -> Result<Seats, Fail> {
-        let cleared = cleared_of(alloc, recipe)?;
-        let engine = engine_of(alloc, recipe)?;
-        let Ok((hub, mut others)) = Hub::new(alloc, engine, plans) else {
-            return Err(Fail::from("no hub"));
-        };
+        let (hub, desks) = hub_of(alloc, recipe, plans)?;
+        Seats::of(hub, desks)
+    }
+
+    /// The first of the desks is set apart.
+    #[tactic(auto, using(crate::proofs::Seating::first_seated))]
+    fn of(hub: Hub, desks: Vec<Desk>) -> Result<Seats, Fail>
+        requires { rings hub ≡ map desk_rings desks.items }
+    {
+        let mut others = desks;
         if others.is_empty() {
             return Err(Fail::from("no desk"));
         }
         let first = others.remove(0);
-        Ok(Seats {
-            cleared,
-            hub,
-            first,
-            others,
-        })
+        Ok(Seats { hub, first, others })
     }
 
     /// What is told of a line of a script.
     #[tactic(auto, using(crate::proofs::Seating::seated_stays))]
-    pub(crate) fn answer(&mut self, alloc: Global, line: &str) -> Result<String, Fail> {
+    pub(crate) fn answer(
+        &mut self,
+        alloc: Global,
+        cleared: &Cleared,
+        line: &str,
+    ) -> Result<String, Fail> {
         let (word, words) = line.split_once(' ').ok_or("no port")?;
         let (port, event) = words.split_once(' ').unwrap_or((words, ""));
         match (word, port) {
             ("send", "0") => send(alloc, &mut self.first, event),
-            ("take", "0") => take(alloc, &self.cleared, &mut self.first),
-            ("send" | "take", _) => at_desk(alloc, &self.cleared, &mut self.others, 1, words),
+            ("take", "0") => take(alloc, cleared, &mut self.first),
+            ("send" | "take", _) => at_desk(alloc, cleared, &mut self.others, 1, words),
             _ => at_hub(alloc, &mut self.hub, word, words),
         }
     }
@@ -64,15 +71,9 @@ impl Seats {
     /// The first desk finishes.
     #[tactic(auto, using(crate::proofs::Seating::left_seated))]
     pub(crate) fn finish(self) -> Left {
-        let Seats {
-            cleared,
-            hub,
-            first,
-            others,
-        } = self;
+        let Seats { hub, first, others } = self;
         let (token, inbox) = first.finish();
         Left {
-            cleared,
             hub,
             token,
             inbox,

@@ -1,5 +1,6 @@
 //! A hub, and the desks of its ports.
-use crate::lines::{cleared_of, engine_of};
+use crate::hubs::hub_of;
+use crate::looping::{console_told, hub_told};
 use crate::ports::{at_desk, at_hub};
 use batch_desk::{Desk, Hub, PortPlan};
 use batch_verify::Cleared;
@@ -9,23 +10,14 @@ use std::test::Fail;
 /// A hub, and the desks of its ports.
 #[derive(Drop)]
 pub(crate) struct Stage {
-    cleared: Cleared,
     hub: Hub,
     desks: Vec<Desk>,
 }
 
 impl Stage {
     pub(crate) fn new(alloc: Global, recipe: &str, plans: &[PortPlan]) -> Result<Stage, Fail> {
-        let cleared = cleared_of(alloc, recipe)?;
-        let engine = engine_of(alloc, recipe)?;
-        match Hub::new(alloc, engine, plans) {
-            Ok((hub, desks)) => Ok(Stage {
-                cleared,
-                hub,
-                desks,
-            }),
-            Err(_) => Err(Fail::from("no hub")),
-        }
+        let (hub, desks) = hub_of(alloc, recipe, plans)?;
+        Ok(Stage { hub, desks })
     }
 
     /// Seals a port, and tells whether there is a token.
@@ -36,10 +28,17 @@ impl Stage {
     }
 
     /// What is told of a line of a script.
-    pub(crate) fn answer(&mut self, alloc: Global, line: &str) -> Result<String, Fail> {
+    pub(crate) fn answer(
+        &mut self,
+        alloc: Global,
+        cleared: &Cleared,
+        line: &str,
+    ) -> Result<String, Fail> {
         let (word, words) = line.split_once(' ').ok_or("no port")?;
         match word {
-            "send" | "take" => at_desk(alloc, &self.cleared, &mut self.desks, 0, words),
+            "send" | "take" => at_desk(alloc, cleared, &mut self.desks, 0, words),
+            "hub" => hub_told(alloc, &mut self.hub, words),
+            "console" => console_told(alloc, &mut self.desks, words),
             "seal" => self.seal(alloc, words),
             "lose" => {
                 self.desks.clear();

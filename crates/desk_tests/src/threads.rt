@@ -1,4 +1,5 @@
 //! Plants in threads.
+use crate::expected::assert_text;
 use crate::gates::{Meeting, Open};
 use crate::plants::{run, steady_units};
 use crate::silent::Silent;
@@ -22,30 +23,30 @@ fn open_gates() -> PlantGates<Open, Open, Open> {
 #[test]
 fn plant_of_three(rt: HostRuntime) -> Result<(), Fail> {
     let alloc = rt.alloc();
-    let told = run(
+    let units = steady_units(alloc, 5)?;
+    assert_text(
         &rt,
-        alloc,
-        steady_units(alloc, 5)?,
-        3,
-        10_000_000,
-        open_gates(),
-    )?;
-    assert_eq!(&rt;
-        told.as_str(),
-        "complete 3, handled 9, PlantRests { console: Some(0), link: Some(0) }"
-    );
-    Ok(())
+        run(&rt, alloc, units, 3, 10_000_000, open_gates()),
+        "complete 3, handled 9, PlantRests { console: Some(0), link: Some(0) }",
+    )
+}
+
+fn silent_units(alloc: Global) -> Result<Simulator<Silent>, Fail> {
+    let mut drivers = Vec::new(alloc);
+    drivers.push(Silent)?;
+    drivers.push(Silent)?;
+    Ok(Simulator::new(drivers))
 }
 
 #[test]
 fn silent_units_let_the_turns_run_out(rt: HostRuntime) -> Result<(), Fail> {
     let alloc = rt.alloc();
-    let mut drivers = Vec::new(alloc);
-    drivers.push(Silent)?;
-    drivers.push(Silent)?;
-    let told = run(&rt, alloc, Simulator::new(drivers), 1, 10_000, open_gates())?;
-    assert_eq!(&rt; told.as_str(), "the turns ran out");
-    Ok(())
+    let units = silent_units(alloc)?;
+    assert_text(
+        &rt,
+        run(&rt, alloc, units, 1, 10_000, open_gates()),
+        "the turns ran out",
+    )
 }
 
 /// How many of the gates of console and link saw that the other's loop runs.

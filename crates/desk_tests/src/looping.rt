@@ -1,0 +1,50 @@
+//! Loops of a hub and of a console: so many turns at a gate, and how they end.
+use batch_desk::{Desk, Gate, Hub, LoopEnd, console_loop, hub_loop};
+use batch_text::Name;
+use std::alloc::Global;
+use std::test::Fail;
+
+/// A gate that lets every turn pass, or none.
+#[derive(Drop)]
+struct Open(bool);
+
+impl Gate for Open {
+    fn pass(&mut self, _turn: u64) -> bool {
+        self.0
+    }
+}
+
+/// How many batches, how many turns, and a gate that is `open` or `shut`.
+fn loop_words(words: &str) -> Result<(u64, u64, Open), Fail> {
+    let (batches, words) = words.split_once(' ').ok_or("no batches")?;
+    let (limit, gate) = words.split_once(' ').ok_or("no limit")?;
+    Ok((batches.parse()?, limit.parse()?, Open(gate == "open")))
+}
+
+/// How a loop of the first desk's console ended, which makes A in size 1000.
+fn console_end(alloc: Global, desks: &mut Vec<Desk>, words: &str) -> Result<LoopEnd, Fail> {
+    let (batches, limit, mut gate) = loop_words(words)?;
+    let recipe = Name::read(alloc, b"A")?;
+    if desks.is_empty() {
+        return Err(Fail::from("no desk"));
+    }
+    let desk = &mut desks[0];
+    Ok(console_loop(alloc, desk, &recipe, 1000, batches, &mut gate, limit))
+}
+
+/// How a loop of the hub ended.
+pub(crate) fn hub_told(alloc: Global, hub: &mut Hub, words: &str) -> Result<String, Fail> {
+    let (batches, limit, mut gate) = loop_words(words)?;
+    let end = hub_loop(hub, batches, &mut gate, limit);
+    Ok(format!(in alloc; "hub: {end:?}\n")?)
+}
+
+/// How a loop of the first desk's console ended.
+pub(crate) fn console_told(
+    alloc: Global,
+    desks: &mut Vec<Desk>,
+    words: &str,
+) -> Result<String, Fail> {
+    let end = console_end(alloc, desks, words)?;
+    Ok(format!(in alloc; "console: {end:?}\n")?)
+}
