@@ -4,6 +4,7 @@
 mod create_line;
 mod event_line;
 mod fault;
+mod known_places;
 mod names;
 mod pairs;
 mod places;
@@ -11,12 +12,14 @@ mod putting;
 mod record_line;
 mod report_line;
 mod rows;
+mod steps;
 mod words;
 mod writing;
 
 pub use event_line::{MAX_LINE_LEN, read_event};
 pub use fault::{WireFault, WriteFault};
-pub use record_line::write_out;
+pub use known_places::KnownPlaces;
+pub use record_line::{write_out, write_out_knowing};
 pub use report_line::MAX_PAIRS;
 pub use rows::{create_lines, limits, record_lines};
 pub use writing::write_all;

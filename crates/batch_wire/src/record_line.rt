@@ -2,18 +2,22 @@
 ghost use Rattle.std.specs.Prelude.{◌≡◌, ◌≤◌, ◌∷◌, [], ◌++◌, IfSome, map, codes, decimal, drop, length};
 ghost use Rattle.std.specs.List.{zip};
 ghost use Rattle.batch_recipe.specs.Texts.{line_text, place_text};
+ghost use Rattle.batch_model.specs.Moves.{place_of_move};
 ghost use Rattle.batch_engine.specs.Names.{handed_at, name_at, phase_name, place_at, recipe_name, resource_name, roles_of, roles_told};
 ghost use Rattle.batch_engine.specs.Surface.{out_of, reply_of, move_of, refusal_of};
 ghost use Rattle.batch_engine.specs.declared.line.Line.TheVariants as lines;
 ghost use Rattle.batch_engine.specs.declared.reply.Reply.TheVariants as replies;
-ghost use Rattle.batch_wire.specs.Pieces.{TellsOfClaim, before, created_front, phase_front, roles_text, values_text};
-ghost use Rattle.batch_wire.specs.RecordText.{out_text, reply_words, refusal_words, move_words, state_text, command_text, report_text, role_text, value_text, need_text};
+ghost use Rattle.batch_verify.specs.ClearedSet.{ClearedSet};
+ghost use Rattle.batch_wire.specs.Known.{AreKnown};
+ghost use Rattle.batch_wire.specs.Pieces.{TellsOfClaim, before, created_front, phase_front, place_of_out, place_of_reply, place_of_site, roles_text, told_text, values_text};
+ghost use Rattle.batch_wire.specs.RecordText.{out_text, reply_words, refusal_words, move_words, state_text, command_text, report_text, role_text, value_text, need_text, value_texts};
 ghost use Rattle.batch_wire.specs.Written.{Writes};
 
 use crate::fault::WriteFault;
+use crate::known_places::KnownPlaces;
 use crate::names::{act_name, handed_names, phase_name, recipe_name, resource_name, value_name};
-use crate::places::{put_place, write_place};
-use crate::putting::put_pieces;
+use crate::places::{ToldPlace, write_place};
+use crate::putting::{put_piece, put_pieces};
 use crate::writing::{write_all, write_pieces};
 use batch_engine::{Line, Out, Refusal, Reply};
 use batch_matrix::{Command, Report, State};
@@ -26,17 +30,86 @@ use std::io::Write;
 /// How long a line can be that is put together before it is written. Few are longer.
 const ROOM: usize = 384;
 
+/// A node of a recipe, by the numbers of both.
+#[derive(Clone, Copy)]
+struct Site {
+    recipe: u16,
+    node: u16,
+}
+
 /// Writes the line of the record that tells the out. It takes no memory.
 pub fn write_out<W: Write>(out: &Out, cleared: &Cleared, writer: &mut W) -> Result<(), WriteFault>
     ensures { Writes (W.contents writer.old) (W.contents writer.new) result (out_text (out_of cleared.now out.now)) }
 {
+    write_out_knowing(out, cleared, &mut KnownPlaces::new(), writer)
+}
+
+/// Writes the same line. The text of the place that it tells is put together from that of the last one, and is known from then
+/// on: of many lines of a batch each costs what its place differs from the one before.
+pub fn write_out_knowing<W: Write>(
+    out: &Out,
+    cleared: &Cleared,
+    places: &mut KnownPlaces,
+    writer: &mut W,
+) -> Result<(), WriteFault>
+    requires { AreKnown cleared.now places.old }
+    ensures known { AreKnown cleared.now places.new }
+    ensures written { Writes (W.contents writer.old) (W.contents writer.new) result (out_text (out_of cleared.now out.now)) }
+{
+    let Some(Site { recipe, node }) = site_of(out) else {
+        return write_telling(out, cleared, &ToldPlace::Known(b""), writer);
+    };
+    let place = match places.find(cleared, recipe, node) {
+        Some(end) => ToldPlace::Known(places.text(end)),
+        None => ToldPlace::Long {
+            cleared,
+            recipe,
+            node,
+        },
+    };
+    write_telling(out, cleared, &place, writer)
+}
+
+/// The node whose place the out tells. None where it tells none.
+fn site_of(out: &Out) -> Option<Site>
+    ensures { (cleared : ClearedSet) → place_of_site cleared result ≡ place_of_out (out_of cleared out.now) }
+{
     match *out {
-        Out::Reply(reply) => write_reply(reply, cleared, writer),
-        Out::Move(line) => write_move(line, cleared, writer),
+        Out::Reply(Reply::Reported { recipe, node, .. })
+        | Out::Move(Line::Send { recipe, node, .. })
+        | Out::Move(Line::Release { recipe, node, .. })
+        | Out::Move(Line::Begin { recipe, node, .. })
+        | Out::Move(Line::Start { recipe, node, .. })
+        | Out::Move(Line::End { recipe, node, .. })
+        | Out::Move(Line::Ask { recipe, node, .. })
+        | Out::Move(Line::Grant { recipe, node, .. }) => Some(Site { recipe, node }),
+        _ => None,
     }
 }
 
-fn write_reply<W: Write>(reply: Reply, cleared: &Cleared, writer: &mut W) -> Result<(), WriteFault>
+/// Writes the line of an out that tells this place.
+fn write_telling<W: Write>(
+    out: &Out,
+    cleared: &Cleared,
+    place: &ToldPlace<'_>,
+    writer: &mut W,
+) -> Result<(), WriteFault>
+    requires { told_text place.now ≡ place_text (place_of_out (out_of cleared.now out.now)) }
+    ensures { Writes (W.contents writer.old) (W.contents writer.new) result (out_text (out_of cleared.now out.now)) }
+{
+    match *out {
+        Out::Reply(reply) => write_reply(reply, cleared, place, writer),
+        Out::Move(line) => write_move(line, cleared, place, writer),
+    }
+}
+
+fn write_reply<W: Write>(
+    reply: Reply,
+    cleared: &Cleared,
+    place: &ToldPlace<'_>,
+    writer: &mut W,
+) -> Result<(), WriteFault>
+    requires { told_text place.now ≡ place_text (place_of_reply (reply_of cleared.now reply)) }
     ensures { Writes (W.contents writer.old) (W.contents writer.new) result (line_text (reply_words (reply_of cleared.now reply))) }
 {
     match reply {
@@ -57,16 +130,13 @@ fn write_reply<W: Write>(reply: Reply, cleared: &Cleared, writer: &mut W) -> Res
             phase,
             word,
             batch,
-            recipe,
-            node,
             state,
+            ..
         } => {
             let phase = phase_name(cleared, unit, phase);
             let unit = resource_name(cleared, unit);
             let word = report_text(word);
-            write_reported(
-                unit, phase, word, batch, cleared, recipe, node, state, writer,
-            )
+            write_reported(unit, phase, word, batch, place, state, writer)
         }
         Reply::Refused(refusal) => write_refusal(refusal, cleared, writer),
     }
@@ -195,14 +265,12 @@ fn write_reported<'a, W: Write>(
     phase: &'a [u8],
     word: &'a [u8],
     batch: u64,
-    cleared: &Cleared,
-    recipe: u16,
-    node: u16,
+    place: &ToldPlace<'_>,
     state: State,
     writer: &mut W,
 ) -> Result<(), WriteFault>
     ensures { Writes (W.contents writer.old) (W.contents writer.new) result
-        (line_text (codes "ok" ∷ codes "report" ∷ unit.now ∷ phase.now ∷ word.now ∷ decimal batch ∷ place_text (place_at cleared.now recipe node) ∷ state_text state ∷ [])) }
+        (line_text (codes "ok" ∷ codes "report" ∷ unit.now ∷ phase.now ∷ word.now ∷ decimal batch ∷ told_text place.now ∷ state_text state ∷ [])) }
 {
     let mut digits = Buffer::new();
     write_placed(
@@ -217,9 +285,7 @@ fn write_reported<'a, W: Write>(
             digits.format(batch).as_bytes(),
             b" ",
         ],
-        cleared,
-        recipe,
-        node,
+        place,
         &[b" ", state_text(state), b"\n"],
         writer,
     )
@@ -259,24 +325,29 @@ fn write_refusal<W: Write>(
     }
 }
 
-fn write_move<W: Write>(line: Line, cleared: &Cleared, writer: &mut W) -> Result<(), WriteFault>
+fn write_move<W: Write>(
+    line: Line,
+    cleared: &Cleared,
+    place: &ToldPlace<'_>,
+    writer: &mut W,
+) -> Result<(), WriteFault>
+    requires { told_text place.now ≡ place_text (place_of_move (move_of cleared.now line)) }
     ensures { Writes (W.contents writer.old) (W.contents writer.new) result (line_text (move_words (move_of cleared.now line))) }
 {
     match line {
         Line::Send {
             batch,
-            recipe,
-            node,
             unit,
             phase,
             command,
-        } => write_send(batch, cleared, recipe, node, unit, phase, command, writer),
+            ..
+        } => write_send(batch, place, cleared, unit, phase, command, writer),
         Line::State { batch, state } => write_state(batch, state, writer),
         Line::Begin {
             batch,
             recipe,
             node,
-        } => write_begin(batch, cleared, recipe, node, writer),
+        } => write_begin(batch, place, cleared, recipe, node, writer),
         Line::Start {
             batch,
             recipe,
@@ -284,53 +355,56 @@ fn write_move<W: Write>(line: Line, cleared: &Cleared, writer: &mut W) -> Result
             unit,
             phase,
             values,
-        } => write_start(batch, cleared, recipe, node, unit, phase, values, writer),
-        Line::End {
-            batch,
-            recipe,
-            node,
-        } => write_end(batch, cleared, recipe, node, writer),
-        _ => write_claim(line, cleared, writer),
+        } => {
+            let unit_name = resource_name(cleared, unit);
+            let phase_name = phase_name(cleared, unit, phase);
+            write_start(
+                batch, place, unit_name, phase_name, cleared, recipe, node, values, writer,
+            )
+        }
+        Line::End { batch, .. } => write_end(batch, place, writer),
+        _ => write_claim(line, cleared, place, writer),
     }
 }
 
 /// Writes a line that tells of a claim on a resource: it is asked for, granted or given back.
-fn write_claim<W: Write>(line: Line, cleared: &Cleared, writer: &mut W) -> Result<(), WriteFault>
-    requires { TellsOfClaim line }
+fn write_claim<W: Write>(
+    line: Line,
+    cleared: &Cleared,
+    place: &ToldPlace<'_>,
+    writer: &mut W,
+) -> Result<(), WriteFault>
+    requires claim { TellsOfClaim line }
+    requires place { told_text place.now ≡ place_text (place_of_move (move_of cleared.now line)) }
     ensures { Writes (W.contents writer.old) (W.contents writer.new) result (line_text (move_words (move_of cleared.now line))) }
 {
     match line {
         Line::Release {
             batch,
-            recipe,
-            node,
             resource,
             units,
+            ..
         } => {
             let name = resource_name(cleared, resource);
-            write_need(
-                b"release", batch, cleared, recipe, node, name, units, writer,
-            )
+            write_need(b"release", batch, place, name, units, writer)
         }
         Line::Ask {
             batch,
-            recipe,
-            node,
             resource,
             units,
+            ..
         } => {
             let name = resource_name(cleared, resource);
-            write_need(b"ask", batch, cleared, recipe, node, name, units, writer)
+            write_need(b"ask", batch, place, name, units, writer)
         }
         Line::Grant {
             batch,
-            recipe,
-            node,
             resource,
             units,
+            ..
         } => {
             let name = resource_name(cleared, resource);
-            write_need(b"grant", batch, cleared, recipe, node, name, units, writer)
+            write_need(b"grant", batch, place, name, units, writer)
         }
         _ => unreachable!(),
     }
@@ -338,32 +412,34 @@ fn write_claim<W: Write>(line: Line, cleared: &Cleared, writer: &mut W) -> Resul
 
 fn write_begin<W: Write>(
     batch: u64,
+    place: &ToldPlace<'_>,
     cleared: &Cleared,
     recipe: u16,
     node: u16,
     writer: &mut W,
 ) -> Result<(), WriteFault>
     ensures { Writes (W.contents writer.old) (W.contents writer.new) result
-        (line_text (codes "begin" ∷ decimal batch ∷ place_text (place_at cleared.now recipe node) ∷ name_at cleared.now recipe node ∷ [])) }
+        (line_text (codes "begin" ∷ decimal batch ∷ told_text place.now ∷ name_at cleared.now recipe node ∷ [])) }
 {
     let name = act_name(cleared, recipe, node);
-    write_step(b"begin", batch, cleared, recipe, node, name, writer)
+    write_step(b"begin", batch, place, name, writer)
 }
 
 fn write_send<W: Write>(
     batch: u64,
+    place: &ToldPlace<'_>,
     cleared: &Cleared,
-    recipe: u16,
-    node: u16,
     unit: u16,
     phase: u16,
     command: Command,
     writer: &mut W,
 ) -> Result<(), WriteFault>
     ensures { Writes (W.contents writer.old) (W.contents writer.new) result
-        (line_text (move_words (move_of cleared.now (lines.Send batch recipe node unit phase command)))) }
+        (line_text (codes "send" ∷ decimal batch ∷ told_text place.now ∷ resource_name cleared.now unit ∷ phase_name cleared.now unit phase ∷ command_text command ∷ [])) }
 {
-    write_phase_front(b"send", batch, cleared, recipe, node, unit, phase, writer)?;
+    let phase_name = phase_name(cleared, unit, phase);
+    let unit_name = resource_name(cleared, unit);
+    write_phase_front(b"send", batch, place, unit_name, phase_name, writer)?;
     write_pieces(writer, &[b" ", command_text(command), b"\n"])
 }
 
@@ -384,22 +460,14 @@ fn write_state<W: Write>(batch: u64, state: State, writer: &mut W) -> Result<(),
     )
 }
 
-fn write_end<W: Write>(
-    batch: u64,
-    cleared: &Cleared,
-    recipe: u16,
-    node: u16,
-    writer: &mut W,
-) -> Result<(), WriteFault>
+fn write_end<W: Write>(batch: u64, place: &ToldPlace<'_>, writer: &mut W) -> Result<(), WriteFault>
     ensures { Writes (W.contents writer.old) (W.contents writer.new) result
-        (line_text (codes "end" ∷ decimal batch ∷ place_text (place_at cleared.now recipe node) ∷ [])) }
+        (line_text (codes "end" ∷ decimal batch ∷ told_text place.now ∷ [])) }
 {
     let mut digits = Buffer::new();
     write_placed(
         &[b"end ", digits.format(batch).as_bytes(), b" "],
-        cleared,
-        recipe,
-        node,
+        place,
         &[b"\n"],
         writer,
     )
@@ -409,21 +477,17 @@ fn write_end<W: Write>(
 fn write_step<W: Write>(
     word: &'static [u8],
     batch: u64,
-    cleared: &Cleared,
-    recipe: u16,
-    node: u16,
+    place: &ToldPlace<'_>,
     name: &[u8],
     writer: &mut W,
 ) -> Result<(), WriteFault>
     ensures { Writes (W.contents writer.old) (W.contents writer.new) result
-        (line_text (word.now ∷ decimal batch ∷ place_text (place_at cleared.now recipe node) ∷ name.now ∷ [])) }
+        (line_text (word.now ∷ decimal batch ∷ told_text place.now ∷ name.now ∷ [])) }
 {
     let mut digits = Buffer::new();
     write_placed(
         &[word, b" ", digits.format(batch).as_bytes(), b" "],
-        cleared,
-        recipe,
-        node,
+        place,
         &[b" ", name, b"\n"],
         writer,
     )
@@ -434,26 +498,22 @@ fn write_step<W: Write>(
 fn write_need<W: Write>(
     word: &'static [u8],
     batch: u64,
-    cleared: &Cleared,
-    recipe: u16,
-    node: u16,
+    place: &ToldPlace<'_>,
     resource: &[u8],
     units: u32,
     writer: &mut W,
 ) -> Result<(), WriteFault>
     ensures { Writes (W.contents writer.old) (W.contents writer.new) result
-        (line_text (word.now ∷ decimal batch ∷ place_text (place_at cleared.now recipe node) ∷ need_text (record { resource = resource.now; units = units }) ∷ [])) }
+        (line_text (word.now ∷ decimal batch ∷ told_text place.now ∷ need_text (record { resource = resource.now; units = units }) ∷ [])) }
 {
     if units <= 1 {
-        return write_step(word, batch, cleared, recipe, node, resource, writer);
+        return write_step(word, batch, place, resource, writer);
     }
     let mut batch_digits = Buffer::new();
     let mut unit_digits = Buffer::new();
     write_placed(
         &[word, b" ", batch_digits.format(batch).as_bytes(), b" "],
-        cleared,
-        recipe,
-        node,
+        place,
         &[
             b" ",
             resource,
@@ -467,18 +527,19 @@ fn write_need<W: Write>(
 
 fn write_start<W: Write>(
     batch: u64,
+    place: &ToldPlace<'_>,
+    unit: &[u8],
+    phase: &[u8],
     cleared: &Cleared,
     recipe: u16,
     node: u16,
-    unit: u16,
-    phase: u16,
     values: [u64; MAX_VALUES],
     writer: &mut W,
 ) -> Result<(), WriteFault>
     ensures { Writes (W.contents writer.old) (W.contents writer.new) result
-        (line_text (move_words (move_of cleared.now (lines.Start batch recipe node unit phase values)))) }
+        (line_text (codes "start" ∷ decimal batch ∷ told_text place.now ∷ unit.now ∷ phase.now ∷ value_texts (zip (handed_at cleared.now recipe node) values))) }
 {
-    write_phase_front(b"start", batch, cleared, recipe, node, unit, phase, writer)?;
+    write_phase_front(b"start", batch, place, unit, phase, writer)?;
     write_handed(cleared, recipe, node, values, writer)?;
     write_all(writer, b"\n")
 }
@@ -487,82 +548,62 @@ fn write_start<W: Write>(
 fn write_phase_front<W: Write>(
     word: &'static [u8],
     batch: u64,
-    cleared: &Cleared,
-    recipe: u16,
-    node: u16,
-    unit: u16,
-    phase: u16,
+    place: &ToldPlace<'_>,
+    unit: &[u8],
+    phase: &[u8],
     writer: &mut W,
 ) -> Result<(), WriteFault>
     ensures { Writes (W.contents writer.old) (W.contents writer.new) result
-        (phase_front word.now batch (place_at cleared.now recipe node) (resource_name cleared.now unit) (phase_name cleared.now unit phase)) }
+        (phase_front word.now batch (told_text place.now) unit.now phase.now) }
 {
     let mut digits = Buffer::new();
     write_placed(
         &[word, b" ", digits.format(batch).as_bytes(), b" "],
-        cleared,
-        recipe,
-        node,
-        &[
-            b" ",
-            resource_name(cleared, unit),
-            b" ",
-            phase_name(cleared, unit, phase),
-        ],
+        place,
+        &[b" ", unit, b" ", phase],
         writer,
     )
 }
 
-/// Writes pieces, the place of a node, and pieces behind it.
+/// Writes pieces, a place, and pieces behind it.
 fn write_placed<W: Write>(
     head: &[&[u8]],
-    cleared: &Cleared,
-    recipe: u16,
-    node: u16,
+    place: &ToldPlace<'_>,
     tail: &[&[u8]],
     writer: &mut W,
 ) -> Result<(), WriteFault>
-    ensures { Writes (W.contents writer.old) (W.contents writer.new) result
-        (before head.now (place_text (place_at cleared.now recipe node) ++ before tail.now [])) }
+    ensures { Writes (W.contents writer.old) (W.contents writer.new) result (before head.now (told_text place.now ++ before tail.now [])) }
 {
-    let mut text = [0; ROOM];
-    match put_placed(head, cleared, recipe, node, tail, &mut text) {
-        Some(start) => write_all(writer, &text[start..]),
-        None => write_apart(head, cleared, recipe, node, tail, writer),
+    if let ToldPlace::Known(known) = *place {
+        let mut text = [0; ROOM];
+        if let Some(start) = put_placed(head, known, tail, &mut text) {
+            return write_all(writer, &text[start..]);
+        }
     }
+    write_apart(head, place, tail, writer)
 }
 
-/// Puts pieces, the place of a node, and pieces behind it to the end of a text, and tells where they begin. None where there is
+/// Puts pieces, the text of a place, and pieces behind it to the end of a text, and tells where they begin. None where there is
 /// no room for them.
-fn put_placed(
-    head: &[&[u8]],
-    cleared: &Cleared,
-    recipe: u16,
-    node: u16,
-    tail: &[&[u8]],
-    text: &mut [u8],
-) -> Option<usize>
-    ensures { IfSome result (λ start. (start ≤ length text.new) × (drop start text.new ≡ before head.now (place_text (place_at cleared.now recipe node) ++ before tail.now []))) }
+fn put_placed(head: &[&[u8]], place: &[u8], tail: &[&[u8]], text: &mut [u8]) -> Option<usize>
+    ensures { IfSome result (λ start. (start ≤ length text.new) × (drop start text.new ≡ before head.now (place.now ++ before tail.now []))) }
 {
     let end = put_pieces(text, text.len(), tail)?;
-    let place = put_place(cleared, recipe, node, text, end)?;
-    put_pieces(text, place, head)
+    let start = put_piece(text, end, place)?;
+    put_pieces(text, start, head)
 }
 
 /// Writes the same one after the other, however long it is.
 fn write_apart<W: Write>(
     head: &[&[u8]],
-    cleared: &Cleared,
-    recipe: u16,
-    node: u16,
+    place: &ToldPlace<'_>,
     tail: &[&[u8]],
     writer: &mut W,
 ) -> Result<(), WriteFault>
-    ensures { Writes (W.contents writer.old) (W.contents writer.new) result
-        (before head.now (place_text (place_at cleared.now recipe node) ++ before tail.now [])) }
+    ensures { Writes (W.contents writer.old) (W.contents writer.new) result (before head.now (told_text place.now ++ before tail.now [])) }
 {
     write_pieces(writer, head)?;
-    write_place(cleared, recipe, node, writer)?;
+    write_place(place, writer)?;
     write_pieces(writer, tail)
 }
 

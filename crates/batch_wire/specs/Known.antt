@@ -1,0 +1,51 @@
+-- surface: places whose texts are kept.
+use Rattle.std.specs.Prelude.{◌≡◌, ℕ, ◌+◌, ◌-◌, ◌≤◌, ◌<◌, ◌⊎◌, List, length, take, get_or, slice_set}
+use Rattle.batch_recipe.specs.Texts.{place_text}
+use Rattle.batch_verify.specs.ClearedSet.{ClearedSet}
+use Rattle.batch_engine.specs.Names.{place_at}
+use Rattle.batch_wire.specs.declared.known_places.Known.{Known}
+use Rattle.batch_wire.specs.declared.known_places.KnownPlaces.{KnownPlaces}
+
+abbrev pub known_at : KnownPlaces → ℕ → Known
+known_at k i = get_or k.path i (record { node = 0; end = 0 })
+
+-- the text that is kept begins with that of each node kept
+pub record AreKnownBy (text_of : ℕ → List ℕ) (k : KnownPlaces) : Type 0 where
+  pub few : k.depth ≤ 192
+  pub rise : (i j : ℕ) → i ≤ j → j < k.depth → (known_at k i).end ≤ (known_at k j).end
+  pub fit : (i : ℕ) → i < k.depth → (known_at k i).end ≤ 384
+  pub told : (i : ℕ) → i < k.depth → take (known_at k i).end k.text ≡ text_of (known_at k i).node
+
+-- the places kept are those of a recipe of the set
+abbrev pub AreKnown : ClearedSet → KnownPlaces → Type 0
+AreKnown c k = AreKnownBy (λ node. place_text (place_at c k.recipe node)) k
+
+-- a text ends there, behind all that are kept
+pub record EndsAt (text : List ℕ) (end : ℕ) (k : KnownPlaces) : Type 0 where
+  pub within : end ≤ 384
+  pub last : (i : ℕ) → i < k.depth → (known_at k i).end ≤ end
+  pub told : take end k.text ≡ text
+
+-- the node is the last one, and the text of its place ends there
+abbrev pub IsLast : ℕ → ℕ → KnownPlaces → Type 0
+IsLast node end k = (1 ≤ k.depth) × ((known_at k (k.depth - 1)).node ≡ node) × ((known_at k (k.depth - 1)).end ≡ end)
+
+-- the last nodes were forgotten, or none
+pub record IsCutBack (old new : KnownPlaces) : Type 0 where
+  pub fewer : new.depth ≤ old.depth
+  pub path : new.path ≡ old.path
+  pub text : new.text ≡ old.text
+  pub recipe : new.recipe ≡ old.recipe
+
+-- a node is kept behind the others
+pub record IsAdded (node end : ℕ) (old new : KnownPlaces) : Type 0 where
+  pub room : old.depth < 192
+  pub all : length old.path ≡ 192
+  pub deeper : new.depth ≡ old.depth + 1
+  pub path : new.path ≡ slice_set old.path old.depth (record { node = node; end = end })
+
+-- the same, or there was no room for it
+pub record IsKept (node end : ℕ) (old new : KnownPlaces) : Type 0 where
+  pub text : new.text ≡ old.text
+  pub recipe : new.recipe ≡ old.recipe
+  pub path : ((new.depth ≡ old.depth) × (new.path ≡ old.path)) ⊎ IsAdded node end old new
