@@ -5,6 +5,7 @@ ghost use Rattle.batch_engine.specs.View.{setup, plant_of};
 ghost use Rattle.batch_serve.specs.Safe.{TranscriptsAreSafe};
 ghost use Rattle.batch_serve.specs.Serving.{Feeds, Finishes};
 ghost use Rattle.batch_serve.specs.Settled.{IsSettledEngine};
+ghost use Rattle.batch_wire.specs.Known.{AreKnown};
 ghost use Rattle.batch_wire.specs.Transcript.{lines_of};
 ghost use Rattle.batch_wire.specs.WrittenTranscript.{BeginsTranscript, WritesTranscript, WritesWholeLines};
 
@@ -13,7 +14,7 @@ use crate::fault::ServeFault;
 use crate::laws::transcripts_are_safe;
 use crate::line_buffer::LineBuffer;
 use batch_engine::Engine;
-use batch_wire::WriteFault;
+use batch_wire::{KnownPlaces, WriteFault};
 use std::alloc::Global;
 use std::io::{ErrorKind, Read, Write};
 
@@ -50,13 +51,21 @@ pub fn serve<R: Read, W: Write>(
     ensures safe { TranscriptsAreSafe engine.old.cleared }
 {
     transcripts_are_safe(engine.cleared());
+    let mut places = KnownPlaces::new();
     let mut line = LineBuffer::new();
     let mut piece = [0u8; PIECE_LEN];
     let mut interrupted = false;
     for _ in 0..max_reads {
         match reader.read(&mut piece) {
-            Ok(0) => return Ok(finish(alloc, engine, &line, writer)?),
-            Ok(count) => feed(alloc, engine, &mut line, &piece[..count], writer)?,
+            Ok(0) => return Ok(finish(alloc, engine, &line, &mut places, writer)?),
+            Ok(count) => feed(
+                alloc,
+                engine,
+                &mut line,
+                &piece[..count],
+                &mut places,
+                writer,
+            )?,
             Err(error) if error.kind() == ErrorKind::Interrupted => interrupted = true,
             Err(_) => return Err(ServeFault::Read),
         }
@@ -74,15 +83,18 @@ fn feed<W: Write>(
     engine: &mut Engine,
     line: &mut LineBuffer,
     piece: &[u8],
+    places: &mut KnownPlaces,
     writer: &mut W,
 ) -> Result<(), WriteFault>
+    requires { AreKnown engine.old.cleared places.old }
+    ensures known { AreKnown engine.new.cleared places.new }
     ensures cleared { engine.new.cleared ≡ engine.old.cleared }
     ensures feeds { Feeds (setup engine.old.cleared) (record { plant = plant_of engine.old; line = line.old; written = W.contents writer.old })
         piece.now result (record { plant = plant_of engine.new; line = line.new; written = W.contents writer.new }) }
 {
     for byte in piece {
         if *byte == b'\n' {
-            answer_line(alloc, engine, line.as_slice(), writer)?;
+            answer_line(alloc, engine, line.as_slice(), places, writer)?;
             line.clear();
         } else {
             line.push(*byte);
@@ -96,13 +108,15 @@ fn finish<W: Write>(
     alloc: Global,
     engine: &mut Engine,
     line: &LineBuffer,
+    places: &mut KnownPlaces,
     writer: &mut W,
 ) -> Result<(), WriteFault>
+    requires { AreKnown engine.old.cleared places.old }
     ensures cleared { engine.new.cleared ≡ engine.old.cleared }
     ensures finishes { Finishes (setup engine.old.cleared) (record { plant = plant_of engine.old; line = line.now; written = W.contents writer.old })
         result (plant_of engine.new) (W.contents writer.new) }
 {
-    answer_line(alloc, engine, line.as_slice(), writer)?;
+    answer_line(alloc, engine, line.as_slice(), places, writer)?;
     flush(writer)
 }
 
