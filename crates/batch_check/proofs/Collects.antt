@@ -4,7 +4,6 @@ use Rattle.std.specs.List.{Contains}
 use Rattle.std.proofs.lemmas.Bool.{cases_lt}
 use Rattle.std.proofs.lemmas.List.{get_or_append_left, get_or-append-add, get_or_past, length-map}
 use Rattle.std.proofs.lemmas.Option.{slice_get_within}
-use Rattle.batch_cell.specs.LookUps.{resources_of as cell_resources}
 use Rattle.batch_cell.specs.declared.cell.Cell.{Cell}
 use Rattle.batch_recipe.specs.Conditions.{Name}
 use Rattle.batch_recipe.specs.Expanding.{Binding}
@@ -25,12 +24,13 @@ use Rattle.batch_check.specs.declared.edge_set.EdgeSet.{EdgeSet}
 use Rattle.batch_check.specs.declared.path.Path.{Path}
 use Rattle.batch_check.specs.declared.path.Reach.{Reach}
 use Rattle.batch_check.specs.declared.path.Reach.TheVariants.{Next, Whole}
-use Rattle.batch_check.specs.Edges.{Covers, Follows, numbers_of_resources}
+use Rattle.batch_check.specs.Edges.{Covers, Follows, number_of_resource, numbers_of_resources}
 use Rattle.batch_check.specs.Joining.{Grows, needs_in}
 use Rattle.batch_check.specs.Collecting.{GoesOn, HasAsked, IsAmong, IsCollected, IsPathOf, IsReady, PairsAll, StandsAmong, kept_at_top, kept_by}
 use Rattle.batch_check.proofs.Asking.{Follows-keeps, GoesOn-append, GoesOn-grown, GoesOn-none, IsPathOf-append}
 use Rattle.batch_check.proofs.Bound.{each_at}
 use Rattle.batch_check.proofs.Joins.{Contains-none, Grows-same, Grows-twice}
+use Rattle.batch_check.proofs.Needs.{IsNamed, number_at, numbers-append}
 
 -- no need was asked for above all nodes
 pub record IsTop (recipe : ℕ) (kept : Option (List (Option ℕ))) (top : Path) : Type 0 where
@@ -50,7 +50,7 @@ top_of recipe reach top recipe_is last_is kept_is = record { recipe_is = recipe_
 pub record KeepsPaths (cell : Cell) (top : Path) (nodes : List Node) (old edges : EdgeSet) (paths : List Path) (count : ℕ) : Type 0 where
   pub as_many : length paths ≡ count
   pub grown : Grows old edges
-  pub along : (k : ℕ) (x : Node) → slice_get nodes k ≡ Some x → k < length paths → GoesOn cell top x.asked edges (get_or paths k top)
+  pub along : (k : ℕ) (x : Node) → slice_get nodes k ≡ Some x → k < length paths → GoesOn top (numbers_of_resources cell x.asked) edges (get_or paths k top)
   pub standing : (edge : Edge) → Contains edges.edges.items edge → Contains old.edges.items edge ⊎ StandsAmong cell top.recipe nodes edge
 
 module _ (cell : Cell) (number : ℕ) (kept : Option (List (Option ℕ))) (top : Path) (is_top : IsTop number kept top) where
@@ -61,12 +61,11 @@ module _ (cell : Cell) (number : ℕ) (kept : Option (List (Option ℕ))) (top :
       go o (inl none) at = let bad : None ≡ Some needs = sym none ∙ at in absurd cc
       go o (inr empty) at = let e : Some needs ≡ Some [] = sym at ∙ empty in cc
 
-  above_all : IsPathOf cell [] top
+  above_all : IsPathOf [] top
   above_all = record { ends = sym is_top.last_is; kept = no_needs }
 
-  top_is_ready : (edges : EdgeSet) → edges.count ≡ length (cell_resources cell) → IsReady cell top edges
-  top_is_ready edges sized = record {
-    sized = sized;
+  top_is_ready : (edges : EdgeSet) → IsReady top edges
+  top_is_ready edges = record {
     within = λ k is. let bad : None ≡ Some k = sym is_top.last_is ∙ is in absurd cc;
     below = λ k among. absurd (Contains-none (Some k) (subst (λ (ns : List (Option ℕ)). Contains ns (Some k)) (none_in (kept_by top) no_needs) among));
   }
@@ -75,7 +74,7 @@ module _ (cell : Cell) (number : ℕ) (kept : Option (List (Option ℕ))) (top :
       none_in None h = refl
       none_in (Some needs) h = h needs refl
 
-  module _ (recipe : Recipe) (bound : Binding) (old : EdgeSet) (sized : old.count ≡ length (cell_resources cell)) where
+  module _ (recipe : Recipe) (bound : Binding) (old : EdgeSet) where
     abbrev ns : List Node
     ns = bound_nodes bound recipe.acts
 
@@ -97,13 +96,17 @@ module _ (cell : Cell) (number : ℕ) (kept : Option (List (Option ℕ))) (top :
         own_is : resources_of (needs_of it.at.here) ≡ own
         own_is = ap resources_of (own_needs recipe bound count e it.at is it.numbered)
 
+        -- the numbers of these
+        abbrev own_numbers : List (Option ℕ)
+        own_numbers = numbers_of_resources cell own
+
         -- the path above it
         abbrev above : Path
         above = get_or paths e.parent top
 
         pub record IsAbove : Type 0 where
           pub asked : List Name
-          pub further : GoesOn cell top asked edges above
+          pub further : GoesOn top (numbers_of_resources cell asked) edges above
           pub asks : it.at.asked ≡ asked ++ own
 
         pub is_above : IsAbove
@@ -112,8 +115,8 @@ module _ (cell : Cell) (number : ℕ) (kept : Option (List (Option ℕ))) (top :
             go : IsFirst count it.at (shape_of e) ⊎ Hangs ns count it.at (shape_of e) → IsAbove
             go (inl first) = record {
               asked = [];
-              further = subst (λ (path : Path). GoesOn cell top [] edges path) (sym (get_or_past paths e.parent top (omega (arith, h.as_many, first.number))))
-                  (GoesOn-none cell top edges (top_is_ready edges (h.grown.same_count ∙ sized)));
+              further = subst (λ (path : Path). GoesOn top [] edges path) (sym (get_or_past paths e.parent top (omega (arith, h.as_many, first.number))))
+                  (GoesOn-none top edges (top_is_ready edges));
               asks = first.asks ∙ own_is;
             }
             go (inr hangs) = record {
@@ -122,13 +125,17 @@ module _ (cell : Cell) (number : ℕ) (kept : Option (List (Option ℕ))) (top :
               asks = hangs.asks ∙ ap (λ (names : List Name). hangs.above.asked ++ names) own_is;
             }
 
-        pub KeepsPaths-more : (next : Path) (new : EdgeSet) → HasAsked cell above count own edges new next
+        -- what is asked for on the path to the node, by number
+        numbers_there : numbers_of_resources cell it.at.asked ≡ numbers_of_resources cell is_above.asked ++ own_numbers
+        numbers_there = ap (numbers_of_resources cell) is_above.asks ∙ numbers-append cell is_above.asked own
+
+        pub KeepsPaths-more : (next : Path) (new : EdgeSet) → HasAsked above count own_numbers edges new next
             → KeepsPaths cell top ns old new (paths ++ next ∷ []) (count + 1)
         KeepsPaths-more next new asked = record {
           as_many = omega (arith, length-append paths (next ∷ []), h.as_many);
           grown = Grows-twice old edges new h.grown asked.grown;
           along = λ k x at below. path_to k x at (cases_lt k count) (omega (arith, below, length-append paths (next ∷ []), h.as_many));
-          standing = λ edge stands. elim (asked.standing is_above.asked (IsPathOf-append cell [] is_above.asked top above edges is_above.further above_all) edge stands) [
+          standing = λ edge stands. elim (asked.standing (numbers_of_resources cell is_above.asked) (IsPathOf-append [] (numbers_of_resources cell is_above.asked) top above edges is_above.further above_all) edge stands) [
             | inl known ↦ h.standing edge known
             | inr here ↦ inr (stands_here edge (here.0 ∙ is_above.further.same_recipe) here.1 here.2)
           ];
@@ -137,39 +144,47 @@ module _ (cell : Cell) (number : ℕ) (kept : Option (List (Option ℕ))) (top :
             node_is : (a b : Node) → Some a ≡ Some b → a ≡ b
             node_is a b same = cc
 
-            path_to : (k : ℕ) (x : Node) → slice_get ns k ≡ Some x → (k < count) ⊎ (count ≤ k) → k ≤ count → GoesOn cell top x.asked new (get_or (paths ++ next ∷ []) k top)
+            path_to : (k : ℕ) (x : Node) → slice_get ns k ≡ Some x → (k < count) ⊎ (count ≤ k) → k ≤ count → GoesOn top (numbers_of_resources cell x.asked) new (get_or (paths ++ next ∷ []) k top)
             path_to k x at (inl before) below =
-                subst (λ (path : Path). GoesOn cell top x.asked new path) (sym (get_or_append_left paths (next ∷ []) top k (omega (arith, h.as_many, before))))
-                (GoesOn-grown cell top x.asked edges new (get_or paths k top) asked.grown (h.along k x at (omega (arith, h.as_many, before))))
+                subst (λ (path : Path). GoesOn top (numbers_of_resources cell x.asked) new path) (sym (get_or_append_left paths (next ∷ []) top k (omega (arith, h.as_many, before))))
+                (GoesOn-grown top (numbers_of_resources cell x.asked) edges new (get_or paths k top) asked.grown (h.along k x at (omega (arith, h.as_many, before))))
             path_to k x at (inr past) below =
                 let last : k ≡ length paths + 0 = omega (arith, past, below, h.as_many) in
                 let same : count ≡ k = omega (arith, past, below) in
                 let found : it.at ≡ x = node_is it.at x (sym it.numbered ∙ (ap (slice_get ns) same ∙ at)) in
                 let is_next : get_or (paths ++ next ∷ []) k top ≡ next = ap (λ i. get_or (paths ++ next ∷ []) i top) last ∙ get_or-append-add paths (next ∷ []) 0 top in
-                subst (λ (path : Path). GoesOn cell top x.asked new path) (sym is_next)
-                (subst (λ (names : List Name). GoesOn cell top names new next) (sym is_above.asks ∙ ap (λ (y : Node). y.asked) found)
-                (GoesOn-append cell top is_above.asked own new above next (GoesOn-grown cell top is_above.asked edges new above asked.grown is_above.further) asked.further))
+                subst (λ (path : Path). GoesOn top (numbers_of_resources cell x.asked) new path) (sym is_next)
+                (subst (λ (needs : List (Option ℕ)). GoesOn top needs new next) (sym numbers_there ∙ ap (λ (y : Node). numbers_of_resources cell y.asked) found)
+                (GoesOn-append top (numbers_of_resources cell is_above.asked) own_numbers new above next
+                (GoesOn-grown top (numbers_of_resources cell is_above.asked) edges new above asked.grown is_above.further) asked.further))
 
-            stands_here : (edge : Edge) → edge.recipe ≡ top.recipe → edge.node ≡ count → IsAmong cell is_above.asked own edge → StandsAmong cell top.recipe ns edge
-            stands_here edge recipe_is node_is among = record {
-              recipe_is = recipe_is;
-              node = it.at;
-              numbered = ap (slice_get ns) node_is ∙ it.numbered;
-              asked = record {
-                earlier_name = among.earlier_name;
-                later_name = among.later_name;
-                earlier_named = among.earlier_named;
-                later_named = among.later_named;
-                asked = record {
-                  before = among.before;
-                  own = among.place;
-                  ordered = among.ordered;
-                  among_own = omega (arith, among.among_own, ap length is_above.asks, length-append is_above.asked own, ap length own_is, length-map (needs_of it.at.here) (λ n. n.resource));
-                  earlier_is = ap (λ (names : List Name). slice_get names among.before) is_above.asks ∙ among.earlier_is;
-                  later_is = ap (λ (names : List Name). slice_get names among.place) is_above.asks ∙ among.later_is;
-                };
-              };
-            }
+            -- what is asked for at a place of the path to the node
+            need_there : (place number : ℕ) → slice_get (numbers_of_resources cell is_above.asked ++ own_numbers) place ≡ Some (Some number) → IsNamed cell it.at.asked place number
+            need_there place number is = number_at cell it.at.asked place number (ap (λ (needs : List (Option ℕ)). slice_get needs place) numbers_there ∙ is)
+
+            stands_here : (edge : Edge) → edge.recipe ≡ top.recipe → edge.node ≡ count → IsAmong (numbers_of_resources cell is_above.asked) own_numbers edge → StandsAmong cell top.recipe ns edge
+            stands_here edge recipe_is node_is among =
+                let earlier = need_there among.before edge.earlier among.earlier_is in
+                let later = need_there among.place edge.later among.later_is in
+                record {
+                  recipe_is = recipe_is;
+                  node = it.at;
+                  numbered = ap (slice_get ns) node_is ∙ it.numbered;
+                  asked = record {
+                    earlier_name = earlier.name;
+                    later_name = later.name;
+                    earlier_named = earlier.named;
+                    later_named = later.named;
+                    asked = record {
+                      before = among.before;
+                      own = among.place;
+                      ordered = among.ordered;
+                      among_own = omega (arith, among.among_own, length-map is_above.asked (number_of_resource cell), ap length is_above.asks, length-append is_above.asked own, ap length own_is, length-map (needs_of it.at.here) (λ n. n.resource));
+                      earlier_is = earlier.name_is;
+                      later_is = later.name_is;
+                    };
+                  };
+                }
 
       -- the edges of all nodes
       pub all_collected : length recipe.outline.entries.items ≤ count → IsCollected cell kept number ns old edges
@@ -184,5 +199,5 @@ module _ (cell : Cell) (number : ℕ) (kept : Option (List (Option ℕ))) (top :
             (λ before place i j ordered at_before at_place. let bad : None ≡ Some (Some i) = at_before in absurd cc));
       }
         where
-          path_of : (k : ℕ) (x : Node) → slice_get ns k ≡ Some x → GoesOn cell top x.asked edges (get_or paths k top)
+          path_of : (k : ℕ) (x : Node) → slice_get ns k ≡ Some x → GoesOn top (numbers_of_resources cell x.asked) edges (get_or paths k top)
           path_of k x at = h.along k x at (omega (arith, slice_get_within ns k x at, past, h.as_many, as_many_nodes))

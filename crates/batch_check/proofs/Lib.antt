@@ -7,6 +7,7 @@ pub mod Entries
 pub mod Told
 pub mod Pairs
 pub mod Joins
+pub mod Needs
 pub mod Asking
 pub mod Collects
 pub mod Known

@@ -1,21 +1,15 @@
 -- private: what is kept while the edges of recipes are collected.
 use Rattle.std.specs.Prelude.{◌≡◌, ℕ, ◌<◌, ◌≤◌, List, [], ◌∷◌, ◌++◌, length, slice_get, Option, Some, None, ◌⊎◌, IsTrue, option_map}
 use Rattle.std.specs.List.{Contains}
-use Rattle.batch_cell.specs.LookUps.{resources_of}
 use Rattle.batch_cell.specs.declared.cell.Cell.{Cell}
-use Rattle.batch_recipe.specs.Conditions.{Name}
-use Rattle.batch_recipe.specs.Expanding.{Binding}
 use Rattle.batch_recipe.specs.Nodes.{Node}
-use Rattle.batch_recipe.specs.Procedure.{bound_nodes}
 use Rattle.batch_model.specs.Lists.{Each}
 use Rattle.batch_recipe.specs.declared.recipe.Recipe.{Recipe}
-use Rattle.batch_verify.specs.Bindings.{numbered}
 use Rattle.batch_check.specs.declared.edge.Edge.{Edge}
 use Rattle.batch_check.specs.declared.edge_set.EdgeSet.{EdgeSet}
 use Rattle.batch_check.specs.declared.path.Path.{Path}
 use Rattle.batch_check.specs.declared.path.Reach.{Reach}
 use Rattle.batch_check.specs.declared.path.Reach.TheVariants.{Next, Whole}
-use Rattle.batch_check.specs.declared.path.Site.{Site}
 use Rattle.batch_check.specs.Edges.{AsksByNumber, CoversRecipes, OfNodes, Stands, has_pair, numbers_of_resources, Follows, Covers}
 use Rattle.batch_check.specs.Joining.{AreBelow, Grows, items_in, needs_in}
 use Rattle.batch_check.specs.Pairs.{ArePaired, Keeps}
@@ -38,65 +32,48 @@ pub record IsCopy (path copy : Path) : Type 0 where
 
 -- Sets of edges
 
--- the set is one for the cell's resources, and the last need on the path is one of these, or none
-pub record IsReady (cell : Cell) (path : Path) (edges : EdgeSet) : Type 0 where
-  pub sized : edges.count ≡ length (resources_of cell)
+-- the set has the resources of the path's needs: of the last one, and of those that are kept
+pub record IsReady (path : Path) (edges : EdgeSet) : Type 0 where
   pub within : (number : ℕ) → path.last ≡ Some number → number < edges.count
   pub below : AreBelow edges.count (needs_in (kept_by path))
 
 -- Paths
-
--- how units take the roles of the site's recipe
-abbrev pub bound_on : Site → Binding
-bound_on site = numbered site.cell.now site.recipe.now.roles.items site.binding
-
--- the nodes of the recipe then
-abbrev pub nodes_on : Site → List Node
-nodes_on site = bound_nodes (bound_on site) site.recipe.now.acts
 
 -- the number of the last need, which is `last` where there are no more
 abbrev pub last_number : Option ℕ → List (Option ℕ) → Option ℕ
 last_number last [] = last
 last_number last (need ∷ needs) = last_number need needs
 
--- the needs above end in this one
-abbrev pub EndsIn : Cell → List Name → Option ℕ → Type 0
-EndsIn cell above last = last_number None (numbers_of_resources cell above) ≡ last
-
 -- the path is that of the needs above: it ends in the last one, and where it keeps needs, it keeps these
-pub record IsPathOf (cell : Cell) (above : List Name) (path : Path) : Type 0 where
-  pub ends : EndsIn cell above path.last
-  pub kept : (needs : List (Option ℕ)) → kept_by path ≡ Some needs → needs ≡ numbers_of_resources cell above
+pub record IsPathOf (above : List (Option ℕ)) (path : Path) : Type 0 where
+  pub ends : last_number None above ≡ path.last
+  pub kept : (needs : List (Option ℕ)) → kept_by path ≡ Some needs → needs ≡ above
 
 -- the edge leads to one of the own needs, which are asked for after those above
-pub record IsAmong (cell : Cell) (above own : List Name) (edge : Edge) : Type 0 where
-  pub earlier_name : Name
-  pub later_name : Name
-  pub earlier_named : slice_get (resources_of cell) edge.earlier ≡ Some earlier_name
-  pub later_named : slice_get (resources_of cell) edge.later ≡ Some later_name
+pub record IsAmong (above own : List (Option ℕ)) (edge : Edge) : Type 0 where
   pub before : ℕ
   pub place : ℕ
   pub ordered : before < place
   pub among_own : length above ≤ place
-  pub earlier_is : slice_get (above ++ own) before ≡ Some earlier_name
-  pub later_is : slice_get (above ++ own) place ≡ Some later_name
+  pub earlier_is : slice_get (above ++ own) before ≡ Some (Some edge.earlier)
+  pub later_is : slice_get (above ++ own) place ≡ Some (Some edge.later)
 
 -- the path goes on by these needs up to `next`: an edge leads to each from the one before it, and where needs are kept, from each one before it
-pub record GoesOn (cell : Cell) (path : Path) (own : List Name) (edges : EdgeSet) (next : Path) : Type 0 where
-  pub ready : IsReady cell next edges
+pub record GoesOn (path : Path) (own : List (Option ℕ)) (edges : EdgeSet) (next : Path) : Type 0 where
+  pub ready : IsReady next edges
   pub same_recipe : next.recipe ≡ path.recipe
-  pub ends : next.last ≡ last_number path.last (numbers_of_resources cell own)
-  pub extended : kept_by next ≡ option_map (λ needs. needs ++ numbers_of_resources cell own) (kept_by path)
-  pub covering : Follows edges.edges.items path.last (numbers_of_resources cell own)
+  pub ends : next.last ≡ last_number path.last own
+  pub extended : kept_by next ≡ option_map (λ needs. needs ++ own) (kept_by path)
+  pub covering : Follows edges.edges.items path.last own
   pub pairing : (needs : List (Option ℕ)) → kept_by path ≡ Some needs → (final : List Edge) → Keeps edges.edges.items final
-      → ArePaired final needs → ArePaired final (needs ++ numbers_of_resources cell own)
+      → ArePaired final needs → ArePaired final (needs ++ own)
 
 -- the act at the node number has asked for its own needs, and the path goes on by them
-pub record HasAsked (cell : Cell) (path : Path) (node : ℕ) (own : List Name) (old new : EdgeSet) (next : Path) : Type 0 where
+pub record HasAsked (path : Path) (node : ℕ) (own : List (Option ℕ)) (old new : EdgeSet) (next : Path) : Type 0 where
   pub grown : Grows old new
-  pub further : GoesOn cell path own new next
-  pub standing : (above : List Name) → IsPathOf cell above path → (edge : Edge) → Contains new.edges.items edge
-      → Contains old.edges.items edge ⊎ ((edge.recipe ≡ path.recipe) × (edge.node ≡ node) × IsAmong cell above own edge)
+  pub further : GoesOn path own new next
+  pub standing : (above : List (Option ℕ)) → IsPathOf above path → (edge : Edge) → Contains new.edges.items edge
+      → Contains old.edges.items edge ⊎ ((edge.recipe ≡ path.recipe) × (edge.node ≡ node) × IsAmong above own edge)
 
 -- Nodes
 

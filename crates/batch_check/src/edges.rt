@@ -9,7 +9,8 @@ ghost use Rattle.batch_model.specs.declared.limits.TheConstants.{MAX_RECIPES};
 
 use crate::collecting::collect;
 use crate::edge_set::EdgeSet;
-use crate::path::{Reach, Site};
+use crate::path::Reach;
+use crate::site::Site;
 use batch_cell::Cell;
 use batch_recipe::Recipe;
 use batch_verify::binding_count;

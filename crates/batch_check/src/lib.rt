@@ -1,6 +1,7 @@
 //! The check of a set of recipes: the least ranking of a cell's resources that clears them, or why there is none.
 #![tactic(auto)]
 
+mod act_needs;
 mod checking;
 mod circle;
 mod collecting;
@@ -16,6 +17,7 @@ mod path;
 mod raising;
 mod ranking;
 mod shortest;
+mod site;
 mod spreading;
 mod turning;
 

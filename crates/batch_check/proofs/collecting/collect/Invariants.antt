@@ -1,4 +1,4 @@
-use Rattle.batch_check.specs.Collecting.{nodes_on}
+use Rattle.batch_check.specs.Sites.{nodes_on}
 use Rattle.batch_check.proofs.Collects.{KeepsPaths}
 use Rattle.batch_check.proofs.collecting.collect.Given as goal
 

@@ -4,10 +4,10 @@ use Rattle.batch_check.proofs.Asking.{HasAsked-one}
 use Rattle.batch_check.proofs.path.ask.Goals as goal
 
 pub returns : goal.returns
-returns c = λ need is.
-    let next : Path = record { recipe = c.args.path.recipe; last = c.args.number; asked = c.in_ok-asked.asked } in
-    HasAsked-one c.args.cell.now c.args.path c.args.node need c.args.number c.args.edges.now c.join.new.edges c.keep.new.edges next is
-    c.requires.ready refl refl c.in_ok-join.ensures c.in_ok-asked.ensures
+returns c =
+    let next : Path = record { recipe = c.args.path.recipe; last = c.args.need; asked = c.in_ok-asked.asked } in
+    HasAsked-one c.args.path c.args.node c.args.need c.args.edges.now c.join.new.edges c.keep.new.edges next
+    c.requires.ready c.requires.need refl refl c.in_ok-join.ensures c.in_ok-asked.ensures
 
 pub keep-requires-clause-asked : goal.keep-requires-clause-asked
 keep-requires-clause-asked c = λ k among. omega (arith, c.requires.ready.below k among, c.in_ok-join.ensures.grown.same_count)

@@ -1,21 +1,24 @@
-use Rattle.std.proofs.Common.{◌≡◌, ◌+◌, List, [], ◌∷◌, ◌++◌, sym, ap, ◌∙◌, subst, take}
-use Rattle.std.proofs.lemmas.List.{take_more, map-append}
-use Rattle.batch_recipe.specs.Conditions.{Name}
+use Rattle.std.proofs.Common.{ℕ, List, [], ◌∷◌, Option, Some, None, ap, ◌∙◌, sym, subst, take, get_or, arith}
+use Rattle.std.proofs.lemmas.List.{take_more}
+use Rattle.std.proofs.lemmas.Option.{slice_get-get_or}
 use Rattle.batch_check.specs.Collecting.{HasAsked}
-use Rattle.batch_check.proofs.Asking.{HasAsked-append}
+use Rattle.batch_check.proofs.Asking.{HasAsked-append, HasAsked-copied}
+use Rattle.batch_check.proofs.Joins.{Contains-at}
 use Rattle.batch_check.proofs.path.ask_each.Goals as goal
-use Rattle.batch_recipe.specs.Needs.{resources_of}
-use Rattle.batch_recipe.specs.declared.need.Need.{Need}
+
+pub loop-need-init : goal.loop-need-init
+loop-need-init c = HasAsked-copied c.args.path.now c.args.node c.in_ok-at.at c.args.edges.now c.requires.ready c.in_ok-at.ensures
+
+pub ask-requires-clause-need : goal.ask-requires-clause-need
+ask-requires-clause-need c = λ number is.
+    let among = Contains-at c.args.needs.now c.loop-need.need-index (Some number)
+    (slice_get-get_or c.args.needs.now c.loop-need.need-index None c.loop-need-test.true ∙ ap (λ (o : Option ℕ). Some o) is) in
+    omega (arith, c.requires.needs number among, c.loop-need.invariant.grown.same_count)
 
 pub loop-need-preserved : goal.loop-need-preserved
 loop-need-preserved c =
-    let cell = c.args.cell.now in
-    let needs : List Need = c.args.needs.now in
-    let need : Need = c.need-item.result in
-    let more : take (c.loop-need.need-index + 1) needs ≡ take c.loop-need.need-index needs ++ need ∷ [] =
-    take_more needs c.loop-need.need-index need c.loop-need-test.true ∙ ap (λ (n : Need). take c.loop-need.need-index needs ++ n ∷ []) (sym c.need-item.is) in
-    let names : resources_of (take (c.loop-need.need-index + 1) needs) ≡ resources_of (take c.loop-need.need-index needs) ++ need.resource ∷ [] =
-    ap resources_of more ∙ map-append (λ (n : Need). n.resource) (take c.loop-need.need-index needs) (need ∷ []) in
-    subst (λ (own : List Name). HasAsked cell c.args.path c.args.node own c.args.edges.now c.ask.new.edges c.in_ok-at.at) (sym names)
-    (HasAsked-append cell c.args.path c.args.node (resources_of (take c.loop-need.need-index needs)) (need.resource ∷ []) c.args.edges.now c.loop-need.edges c.ask.new.edges c.loop-need.at c.in_ok-at.at
-    c.loop-need.invariant (c.in_ok-at.ensures need.resource (sym c.resource_of.ensures)))
+    let needs = c.args.needs.now in
+    let index = c.loop-need.need-index in
+    subst (λ (own : List (Option ℕ)). HasAsked c.args.path.now c.args.node own c.args.edges.now c.ask.new.edges c.in_ok-at-2.at) (sym (take_more needs index None c.loop-need-test.true))
+    (HasAsked-append c.args.path.now c.args.node (take index needs) (get_or needs index None ∷ []) c.args.edges.now c.loop-need.edges c.ask.new.edges c.loop-need.at c.in_ok-at-2.at
+    c.loop-need.invariant c.in_ok-at-2.ensures)

@@ -1,7 +1,6 @@
 use Rattle.std.proofs.Common.{take}
 use Rattle.batch_check.specs.Collecting.{HasAsked}
 use Rattle.batch_check.proofs.path.ask_each.Given as goal
-use Rattle.batch_recipe.specs.Needs.{resources_of}
 
 abbrev pub invariant-loop-need : goal.invariant-loop-need
-invariant-loop-need l = HasAsked l.cell l.fn.path l.node (resources_of (take l.need-index l.needs)) l.fn.edges l.edges l.at
+invariant-loop-need l = HasAsked l.path l.node (take l.need-index l.needs) l.fn.edges l.edges l.at

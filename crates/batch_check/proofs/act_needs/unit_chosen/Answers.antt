@@ -2,7 +2,7 @@ use Rattle.std.proofs.Common.{sym, ap, ◌∙◌}
 use Rattle.batch_cell.specs.LookUps.{resources_of}
 use Rattle.batch_verify.proofs.Taking.{nobody_unknown}
 use Rattle.batch_check.specs.Edges.{number_of_resource}
-use Rattle.batch_check.proofs.path.unit_chosen.Goals as goal
+use Rattle.batch_check.proofs.act_needs.unit_chosen.Goals as goal
 
 pub returns-in-None : goal.returns-in-None
 returns-in-None c =
