@@ -22,6 +22,8 @@ mod event_lines;
 #[cfg(test)]
 mod judge;
 #[cfg(test)]
+mod known_places;
+#[cfg(test)]
 mod limits;
 #[cfg(test)]
 mod paint;

@@ -33,7 +33,7 @@ fn recipes_of(alloc: Global, documents: &[&str]) -> Result<Vec<Recipe>, Fail> {
 }
 
 /// The recipes, cleared for the cell by the certificate that `check` gives.
-fn cleared_of(alloc: Global, cell: &str, recipes: &[&str]) -> Result<Cleared, Fail> {
+pub(crate) fn cleared_of(alloc: Global, cell: &str, recipes: &[&str]) -> Result<Cleared, Fail> {
     let cell = cell_of(alloc, cell)?;
     let recipes = recipes_of(alloc, recipes)?;
     let certificate = check(alloc, &cell, &recipes)?;
