@@ -30,13 +30,16 @@ pub(crate) fn times_declared(document: &Table, name: &str) -> usize {
 
 /// How many tables of the word have this name.
 fn times_among(document: &Table, word: &str, name: &str) -> usize {
-    match document.get(word).and_then(Value::as_array) {
-        Some(tables) => tables
-            .iter()
-            .filter(|table| table.get("name").and_then(Value::as_str) == Some(name))
-            .count(),
-        None => 0,
+    let Some(tables) = document.get(word).and_then(Value::as_array) else {
+        return 0;
+    };
+    let mut times: usize = 0;
+    for table in tables {
+        if table.get("name").and_then(Value::as_str) == Some(name) {
+            times = times.saturating_add(1);
+        }
     }
+    times
 }
 
 /// The role that the table names, where the document doesn't declare it.
@@ -66,19 +69,28 @@ pub(crate) fn undeclared_word<'a>(
 /// The first of the table's values that isn't declared.
 fn undeclared_value<'a>(document: &Table, table: &'a Table) -> Option<&'a str> {
     let values = table.get("values")?.as_array()?;
-    values
-        .iter()
-        .filter_map(Value::as_str)
-        .find(|name| !is_value(document, name))
+    for value in values {
+        if let Some(name) = value.as_str() {
+            if !is_value(document, name) {
+                return Some(name);
+            }
+        }
+    }
+    None
 }
 
 /// The first word of the table's chart that names neither a table of the word below nor a value.
 fn undeclared_part<'a>(document: &Table, table: &'a Table, below: &str) -> Option<&'a str> {
     let chart = table.get("chart")?.as_str()?;
-    chart
-        .split(is_between_names)
-        .filter(|word| is_reference(word))
-        .find(|word| times_among(document, below, word) == 0 && !is_value(document, word))
+    for word in chart.split(is_between_names) {
+        if is_reference(word)
+            && times_among(document, below, word) == 0
+            && !is_value(document, word)
+        {
+            return Some(word);
+        }
+    }
+    None
 }
 
 /// Whether no name has this letter.
@@ -92,7 +104,10 @@ fn is_reference(word: &str) -> bool {
 }
 
 fn is_value(document: &Table, name: &str) -> bool {
-    VALUES
-        .iter()
-        .any(|word| times_among(document, word, name) > 0)
+    for word in VALUES {
+        if times_among(document, word, name) > 0 {
+            return true;
+        }
+    }
+    false
 }

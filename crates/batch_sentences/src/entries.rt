@@ -79,15 +79,17 @@ fn missing(
     table: &Table,
     kind: TableKind,
 ) -> Result<Wrong<'static>, AllocError> {
-    match keys.iter().find(|key| key.1 && !table.contains_key(key.0)) {
-        Some(key) => Wrong::with("", format!(in alloc; "the key `{}` is missing", key.0)),
-        // A unit procedure needs one of these, and a module with a unit its phases.
-        None => match kind {
-            TableKind::UnitProcedure => {
-                Wrong::told(alloc, "", "one of the keys `unit` and `role` is missing")
-            }
-            _ => Wrong::told(alloc, "", "the key `phases` is missing"),
-        },
+    for key in keys {
+        if key.1 && !table.contains_key(key.0) {
+            return Wrong::with("", format!(in alloc; "the key `{}` is missing", key.0));
+        }
+    }
+    // A unit procedure needs one of these, and a module with a unit its phases.
+    match kind {
+        TableKind::UnitProcedure => {
+            Wrong::told(alloc, "", "one of the keys `unit` and `role` is missing")
+        }
+        _ => Wrong::told(alloc, "", "the key `phases` is missing"),
     }
 }
 
@@ -97,15 +99,14 @@ fn unknown<'a>(
     table: &'a Table,
     kind: TableKind,
 ) -> Result<Wrong<'a>, AllocError> {
-    let known = names_said(alloc, keys)?;
-    let name = table
-        .keys()
-        .find(|name| !keys.iter().any(|key| key.0 == name.as_str()));
-    match name {
-        Some(name) => Wrong::with(
-            name.as_str(),
-            format!(in alloc; "the key `{name}` is unknown here; known are {known}"),
-        ),
+    match unknown_key(keys, table) {
+        Some(name) => {
+            let known = names_said(alloc, keys)?;
+            Wrong::with(
+                name,
+                format!(in alloc; "the key `{name}` is unknown here; known are {known}"),
+            )
+        }
         // Some keys of these two kinds suit one another badly.
         None => match kind {
             TableKind::UnitProcedure => Wrong::told(
@@ -116,6 +117,25 @@ fn unknown<'a>(
             _ => Wrong::told(alloc, "phases", "a module without `unit` has no `phases`"),
         },
     }
+}
+
+/// The first key of the table that isn't one of these.
+fn unknown_key<'a>(keys: &[Key], table: &'a Table) -> Option<&'a str> {
+    for name in table.keys() {
+        if !is_known(keys, name.as_str()) {
+            return Some(name.as_str());
+        }
+    }
+    None
+}
+
+fn is_known(keys: &[Key], name: &str) -> bool {
+    for key in keys {
+        if key.0 == name {
+            return true;
+        }
+    }
+    false
 }
 
 /// The names of the keys.
@@ -242,8 +262,12 @@ fn name_of(table: &Table) -> Option<&str> {
 
 /// The first of the keys whose value suits it so.
 fn first_unfit<'a>(keys: &'a [Key], table: &Table, wanted: Fit) -> Option<&'a Key> {
-    keys.iter().find(|key| match table.get(key.0) {
-        Some(value) => suit(key.2, value) == wanted,
-        None => false,
-    })
+    for key in keys {
+        if let Some(value) = table.get(key.0) {
+            if suit(key.2, value) == wanted {
+                return Some(key);
+            }
+        }
+    }
+    None
 }

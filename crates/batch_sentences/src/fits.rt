@@ -25,32 +25,58 @@ impl Fit {
 pub(crate) fn suit(shape: Shape, value: &Value) -> Fit {
     match shape {
         Shape::Name => name_fit(value),
-        Shape::Text(most) => match value.as_str() {
-            Some(text) => Fit::within(text.len() <= most),
-            None => Fit::WrongKind,
-        },
-        Shape::Number(least, most) => match value.as_integer() {
-            Some(number) => Fit::within(least <= number && number <= most),
-            None => Fit::WrongKind,
-        },
-        Shape::Truth => match value.as_bool() {
-            Some(_) => Fit::Good,
-            None => Fit::WrongKind,
-        },
-        Shape::Names(least, most) => match value.as_array() {
-            Some(items) if items.iter().any(|item| name_fit(item) == Fit::WrongKind) => {
-                Fit::WrongKind
-            }
-            Some(items) => Fit::within(least <= items.len() && items.len() <= most),
-            None => Fit::WrongKind,
-        },
-        Shape::Needs(most) => match value.as_array() {
-            Some(items) if items.iter().any(|item| item.as_str().is_none()) => Fit::WrongKind,
-            Some(items) => Fit::within(items.len() <= most),
-            None => Fit::WrongKind,
-        },
+        Shape::Text(most) => text_fit(value, most),
+        Shape::Number(least, most) => number_fit(value, least, most),
+        Shape::Truth => truth_fit(value),
+        Shape::Names(least, most) => names_fit(value, least, most),
+        Shape::Needs(most) => needs_fit(value, most),
         Shape::Tables => Fit::Good,
     }
+}
+
+fn text_fit(value: &Value, most: usize) -> Fit {
+    match value.as_str() {
+        Some(text) => Fit::within(text.len() <= most),
+        None => Fit::WrongKind,
+    }
+}
+
+fn number_fit(value: &Value, least: i64, most: i64) -> Fit {
+    match value.as_integer() {
+        Some(number) => Fit::within(least <= number && number <= most),
+        None => Fit::WrongKind,
+    }
+}
+
+fn truth_fit(value: &Value) -> Fit {
+    match value.as_bool() {
+        Some(_) => Fit::Good,
+        None => Fit::WrongKind,
+    }
+}
+
+fn names_fit(value: &Value, least: usize, most: usize) -> Fit {
+    let Some(items) = value.as_array() else {
+        return Fit::WrongKind;
+    };
+    for item in items {
+        if name_fit(item) == Fit::WrongKind {
+            return Fit::WrongKind;
+        }
+    }
+    Fit::within(least <= items.len() && items.len() <= most)
+}
+
+fn needs_fit(value: &Value, most: usize) -> Fit {
+    let Some(items) = value.as_array() else {
+        return Fit::WrongKind;
+    };
+    for item in items {
+        if item.as_str().is_none() {
+            return Fit::WrongKind;
+        }
+    }
+    Fit::within(items.len() <= most)
 }
 
 fn name_fit(value: &Value) -> Fit {

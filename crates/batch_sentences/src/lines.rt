@@ -8,11 +8,7 @@ use batch_reader::{Spot, TableKind};
 /// Tables are looked for by their headers, each in a line of its own. None where these aren't as many as the document has
 /// tables of the kind, and for the top of a document.
 pub(crate) fn line_of(text: &str, spot: Spot, tables: usize, key: &str) -> Option<usize> {
-    let headers = text
-        .lines()
-        .filter(|line| is_header(line, spot.kind))
-        .count();
-    if word_of(spot.kind).is_some() && headers != tables {
+    if word_of(spot.kind).is_some() && headers_in(text, spot.kind) != tables {
         return None;
     }
     let mut seen: usize = 0;
@@ -34,6 +30,17 @@ pub(crate) fn line_of(text: &str, spot: Spot, tables: usize, key: &str) -> Optio
         }
     }
     header
+}
+
+/// How many lines are the header of a table of this kind.
+fn headers_in(text: &str, kind: TableKind) -> usize {
+    let mut headers: usize = 0;
+    for line in text.lines() {
+        if is_header(line, kind) {
+            headers = headers.saturating_add(1);
+        }
+    }
+    headers
 }
 
 /// Whether the line is the header of a table of this kind.

@@ -1,6 +1,6 @@
 //! What is wrong at a node of a recipe.
 use crate::ranks::rank_said;
-use crate::roles::{class_of, unit_without};
+use crate::roles::{class_of, unit_among, unit_without};
 use batch_cell::Cell;
 use batch_recipe::{Act, MAX_NODES, Recipe, UnitChoice, Work, act_at, node_at, place_at};
 use batch_text::{Name, Place};
@@ -135,19 +135,15 @@ fn unknown_said(
 
 /// The first need of the act that is no resource.
 fn need_said(alloc: Global, cell: &Cell, act: &Act) -> Result<String, AllocError> {
-    let need = act
-        .needs
-        .iter()
-        .find(|need| cell.resource_of(&need.resource).is_none());
-    match need {
-        Some(need) => {
-            format!(in alloc;
+    for need in &act.needs {
+        if cell.resource_of(&need.resource).is_none() {
+            return format!(in alloc;
                 "its need {} is no resource of the cell {}",
                 need.resource, cell.name
-            )
+            );
         }
-        None => String::from_str(alloc, "a need is no resource of the cell"),
     }
+    String::from_str(alloc, "a need is no resource of the cell")
 }
 
 fn share_said(alloc: Global, cell: &Cell, act: &Act) -> Result<String, AllocError> {
@@ -175,7 +171,7 @@ fn phase_said(
     let Work::Runs { phase, .. } = &act.work else {
         return String::from_str(alloc, "its unit doesn't offer its phase");
     };
-    match acts.iter().find_map(|above| above.unit.as_ref()) {
+    match unit_among(acts) {
         Some(UnitChoice::Unit(unit)) => {
             format!(in alloc; "the unit {unit} doesn't offer the phase {phase}")
         }

@@ -86,25 +86,35 @@ pub(crate) fn rank_said<'a>(
     acts: &[&'a Act],
 ) -> Result<String, AllocError> {
     if let Some(role) = role_among(acts) {
-        if let Some(class) = class_of(recipe, role) {
-            for unit in &cell.units {
-                if unit.is_of_class(class) {
-                    let ranks = Ranks::along(certificate, acts, Some(&unit.name));
-                    if let Ranks::Fall(earlier, later) = ranks {
-                        let fall = fall_said(alloc, earlier, later)?;
-                        return format!(in alloc;
-                            "where {} takes the role {role}, {fall}",
-                            unit.name
-                        );
-                    }
-                }
-            }
+        if let Some((unit, earlier, later)) = first_fall(cell, recipe, certificate, acts, role) {
+            let fall = fall_said(alloc, earlier, later)?;
+            return format!(in alloc; "where {unit} takes the role {role}, {fall}");
         }
     }
     match Ranks::along(certificate, acts, None) {
         Ranks::Fall(earlier, later) => fall_said(alloc, earlier, later),
         Ranks::Rise(_) => String::from_str(alloc, "it asks for resources whose ranks don't rise"),
     }
+}
+
+/// The first of the units that may take the role with which the ranks of the acts don't rise, and where they fall.
+fn first_fall<'a>(
+    cell: &'a Cell,
+    recipe: &Recipe,
+    certificate: Option<&Certificate>,
+    acts: &[&'a Act],
+    role: &Name,
+) -> Option<(&'a Name, Asked<'a>, Asked<'a>)> {
+    let class = class_of(recipe, role)?;
+    for unit in &cell.units {
+        if unit.is_of_class(class) {
+            let ranks = Ranks::along(certificate, acts, Some(&unit.name));
+            if let Ranks::Fall(earlier, later) = ranks {
+                return Some((&unit.name, earlier, later));
+            }
+        }
+    }
+    None
 }
 
 fn fall_said(alloc: Global, earlier: Asked<'_>, later: Asked<'_>) -> Result<String, AllocError> {
@@ -118,9 +128,10 @@ fn rank_of(certificate: Option<&Certificate>, name: &Name) -> u32 {
     let Some(certificate) = certificate else {
         return 0;
     };
-    let entry = certificate.ranks.iter().find(|entry| entry.0 == *name);
-    match entry {
-        Some(entry) => entry.1,
-        None => 0,
+    for (ranked, rank) in &certificate.ranks {
+        if *ranked == *name {
+            return *rank;
+        }
     }
+    0
 }

@@ -6,16 +6,30 @@ use batch_text::Name;
 
 /// The class whose units may take the role.
 pub(crate) fn class_of<'a>(recipe: &'a Recipe, role: &Name) -> Option<&'a Name> {
-    let declared = recipe.roles.iter().find(|own| own.name == *role)?;
-    Some(&declared.class)
+    for own in &recipe.roles {
+        if own.name == *role {
+            return Some(&own.class);
+        }
+    }
+    None
 }
 
 /// The role of the unit procedure among the acts.
 pub(crate) fn role_among<'a>(acts: &[&'a Act]) -> Option<&'a Name> {
-    match acts.iter().find_map(|act| act.unit.as_ref()) {
+    match unit_among(acts) {
         Some(UnitChoice::Role(role)) => Some(role),
         _ => None,
     }
+}
+
+/// The unit of the unit procedure among the acts, or its role.
+pub(crate) fn unit_among<'a>(acts: &[&'a Act]) -> Option<&'a UnitChoice> {
+    for act in acts {
+        if let Some(unit) = &act.unit {
+            return Some(unit);
+        }
+    }
+    None
 }
 
 /// The first of the units that may take the role which doesn't offer the phase. Without such a unit the text is empty.
