@@ -8,6 +8,8 @@ use crate::records::cell_of;
 use batch_arbiter::Arbiter;
 use batch_cell::Cell;
 use std::alloc::{AllocError, Global};
+use std::fmt::Debug;
+use std::process::Abort;
 use std::test::Fail;
 
 // Resources of the cell, by number.
@@ -112,38 +114,62 @@ enum Call {
     Holders(u16),
 }
 
-/// What the call gives.
-fn answer(alloc: Global, desk: &mut Desk, call: &Call) -> Result<String, Fail> {
-    Ok(match *call {
-        Call::Reserve(asks) => {
-            desk.arbiter.reserve(asks)?;
-            format!(in alloc; "room {}\n", desk.arbiter.room())?
-        }
-        Call::Room => format!(in alloc; "room {}\n", desk.arbiter.room())?,
-        Call::Ask(resource, units, act) => {
-            format!(in alloc; "ask {}\n", desk.ask(resource, units, act))?
-        }
-        Call::First(resource) => format!(in alloc; "first {:?}\n", desk.first(resource))?,
-        Call::Grant(resource) => format!(in alloc; "grant {:?}\n", desk.grant(resource))?,
-        Call::Release => format!(in alloc; "release {:?}\n", desk.release())?,
-        Call::Withdraw(batch) => {
-            desk.arbiter.withdraw(batch);
-            format!(in alloc; "withdraw {batch}\n")?
-        }
-        Call::Holders(resource) => { format!(in alloc; "holders {:?}\n", desk.holders(resource))? }
-    })
+/// A line of what is told: a word, and what was given.
+fn line<T: Debug + Drop>(alloc: Global, word: &str, given: T) -> Result<String, Fail> {
+    Ok(format!(in alloc; "{word} {given:?}\n")?)
 }
 
-/// What the calls of a new arbiter give.
-fn answers(alloc: Global, calls: &[Call]) -> Result<String, Fail> {
-    let cell = cell_of(alloc, CELL1)?;
-    let mut desk = Desk::new(alloc, &cell)?;
+/// What the call gives.
+fn answer(alloc: Global, desk: &mut Desk, call: Call) -> Result<String, Fail> {
+    match call {
+        Call::Reserve(asks) => {
+            desk.arbiter.reserve(asks)?;
+            line(alloc, "room", desk.arbiter.room())
+        }
+        Call::Room => line(alloc, "room", desk.arbiter.room()),
+        Call::Ask(resource, units, act) => line(alloc, "ask", desk.ask(resource, units, act)),
+        Call::First(resource) => line(alloc, "first", desk.first(resource)),
+        Call::Grant(resource) => line(alloc, "grant", desk.grant(resource)),
+        Call::Release => line(alloc, "release", desk.release()),
+        Call::Withdraw(batch) => {
+            desk.arbiter.withdraw(batch);
+            line(alloc, "withdraw", batch)
+        }
+        Call::Holders(resource) => line(alloc, "holders", desk.holders(resource)),
+    }
+}
+
+/// What the calls give.
+fn answers(alloc: Global, desk: &mut Desk, calls: &[Call]) -> Result<String, Fail> {
     let mut text = String::new(alloc);
     for call in calls {
-        let answer = answer(alloc, &mut desk, call)?;
+        let answer = answer(alloc, desk, *call)?;
         text.push_str(answer.as_str())?;
     }
     Ok(text)
+}
+
+/// A new arbiter of the demo cell.
+fn new_desk(alloc: Global) -> Result<Desk, Fail> {
+    let cell = cell_of(alloc, CELL1)?;
+    Ok(Desk::new(alloc, &cell)?)
+}
+
+/// What the calls of a new arbiter give.
+fn told(alloc: Global, calls: &[Call]) -> Result<String, Fail> {
+    let mut desk = new_desk(alloc)?;
+    answers(alloc, &mut desk, calls)
+}
+
+/// That what the calls of a new arbiter give is the text expected.
+fn assert_calls(
+    rt: &impl Abort,
+    alloc: Global,
+    calls: &[Call],
+    expected: &str,
+) -> Result<(), Fail> {
+    assert_eq!(rt; told(alloc, calls)?.as_str(), expected);
+    Ok(())
 }
 
 /// A large ask waits for all its units, and a small one behind it waits too. A release gives back what one grant gave.
@@ -181,8 +207,10 @@ fn shares_of_several_units(rt: HostRuntime) -> Result<(), Fail> {
         Call::Holders(STEAM),
         Call::Holders(R1),
     ];
-    assert_eq!(rt;
-        answers(rt.alloc(), &calls)?.as_str(),
+    assert_calls(
+        &rt,
+        rt.alloc(),
+        &calls,
         "ask false
 room 4
 ask true
@@ -213,9 +241,8 @@ holders Some(0)
 release Some((3, 6))
 holders Some(0)
 holders Some(1)
-"
-    );
-    Ok(())
+",
+    )
 }
 
 /// A withdrawal makes room of a batch's asks in all lines, and leaves its shares. A release finds the act's own share.
@@ -250,8 +277,10 @@ fn withdrawn_asks_and_shares_between_others(rt: HostRuntime) -> Result<(), Fail>
         Call::Reserve(2),
         Call::Reserve(9),
     ];
-    assert_eq!(rt;
-        answers(rt.alloc(), &calls)?.as_str(),
+    assert_calls(
+        &rt,
+        rt.alloc(),
+        &calls,
         "room 5
 ask true
 ask true
@@ -279,7 +308,6 @@ release Some((5, 2))
 holders Some(1)
 room 4
 room 9
-"
-    );
-    Ok(())
+",
+    )
 }

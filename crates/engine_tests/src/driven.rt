@@ -43,6 +43,16 @@ fn scripted(alloc: Global, answers: &[&'static [Answer]]) -> Result<Vec<Scripted
     Ok(units)
 }
 
+/// What is told of the script once a phase of R1 runs.
+fn told_after_start(
+    alloc: Global,
+    stage: &mut Stage<Scripted>,
+    script: &str,
+) -> Result<String, Fail> {
+    let _ = stage.told(alloc, START)?;
+    stage.told(alloc, script)
+}
+
 /// What is told of the script where the units answer so, and a phase of R1 runs.
 fn scripted_told(
     alloc: Global,
@@ -51,8 +61,7 @@ fn scripted_told(
 ) -> Result<String, Fail> {
     let units = scripted(alloc, answers)?;
     let mut stage = Stage::new(alloc, CELL1, &[A], units)?;
-    let _ = stage.told(alloc, START)?;
-    stage.told(alloc, script)
+    told_after_start(alloc, &mut stage, script)
 }
 
 /// That what is told of the script where the units answer so is the text expected.

@@ -78,17 +78,37 @@ fn filled(alloc: Global, text: &str, piece: &str, times: usize) -> Result<Vec<u8
     Ok(line)
 }
 
-/// What a line gives that begins with the text, and then has so many times the piece, and then the end.
-fn told_of_long(
-    alloc: Global,
-    text: &str,
-    piece: &str,
-    times: usize,
-    end: &str,
-) -> Result<String, Fail> {
+/// A line that begins with the text, and then has so many times the piece, and then the end.
+type LongLine<'a> = (&'a str, &'a str, usize, &'a str);
+
+/// What a long line gives.
+fn told_of_long(alloc: Global, long: LongLine<'_>) -> Result<String, Fail> {
+    let (text, piece, times, end) = long;
     let mut line = filled(alloc, text, piece, times)?;
     line.extend_from_slice(end.as_bytes())?;
     told(alloc, line.as_slice())
+}
+
+/// What each of the long lines gives, a line each.
+fn all_long_told(alloc: Global, lines: &[LongLine<'_>]) -> Result<String, Fail> {
+    let mut text = String::new(alloc);
+    for line in lines {
+        let answer = told_of_long(alloc, *line)?;
+        text.push_str(answer.as_str())?;
+        text.push_str("\n")?;
+    }
+    Ok(text)
+}
+
+/// That what the long lines give is the text expected, a line each.
+fn assert_long_told(
+    rt: &impl Abort,
+    alloc: Global,
+    lines: &[LongLine<'_>],
+    expected: &str,
+) -> Result<(), Fail> {
+    assert_eq!(rt; all_long_told(alloc, lines)?.as_str(), expected);
+    Ok(())
 }
 
 #[test]
@@ -266,16 +286,20 @@ BadArgument
 #[test]
 fn most_pairs(rt: HostRuntime) -> Result<(), Fail> {
     // Sixteen pairs and seventeen, and then a word that is none.
-    let alloc = rt.alloc();
     let report = "report R1 ADD done";
-    let sixteen = told_of_long(alloc, report, " X=1", 16, "")?;
-    let expected = filled(alloc, "R1 ADD Done", " X 1", 16)?;
-    assert!(rt; sixteen.as_bytes() == expected.as_slice());
-    let seventeen = told_of_long(alloc, report, " X=1", 17, "")?;
-    assert_eq!(rt; seventeen.as_str(), "ExtraArgument");
-    let word_behind = told_of_long(alloc, report, " X=1", 17, " x")?;
-    assert_eq!(rt; word_behind.as_str(), "ExtraArgument");
-    Ok(())
+    assert_long_told(
+        &rt,
+        rt.alloc(),
+        &[
+            (report, " X=1", 16, ""),
+            (report, " X=1", 17, ""),
+            (report, " X=1", 17, " x"),
+        ],
+        "R1 ADD Done X 1 X 1 X 1 X 1 X 1 X 1 X 1 X 1 X 1 X 1 X 1 X 1 X 1 X 1 X 1 X 1
+ExtraArgument
+ExtraArgument
+",
+    )
 }
 
 #[test]
@@ -293,24 +317,27 @@ ExtraArgument
     )
 }
 
-/// What lines of 1,024 and of 1,025 bytes give, with and without a carriage return behind them, and a long comment.
-fn long_lines_told(alloc: Global) -> Result<String, Fail> {
-    let longest = told_of_long(alloc, "start 1", " ", 1_017, "")?;
-    let longest_ended = told_of_long(alloc, "start 1", " ", 1_017, "\r")?;
-    let longer = told_of_long(alloc, "start 1", " ", 1_018, "")?;
-    let longer_ended = told_of_long(alloc, "start 1", " ", 1_018, "\r")?;
-    let comment = told_of_long(alloc, "#", "x", 1_024, "")?;
-    Ok(format!(in alloc; "{longest}, {longest_ended}, {longer}, {longer_ended}, {comment}")?)
-}
-
 #[test]
 fn longest_lines(rt: HostRuntime) -> Result<(), Fail> {
     limits();
-    assert_eq!(rt;
-        long_lines_told(rt.alloc())?.as_str(),
-        "Start 1, Start 1, TooLong, TooLong, TooLong"
-    );
-    Ok(())
+    // Lines of 1,024 and of 1,025 bytes, with and without a carriage return behind them, and a long comment.
+    assert_long_told(
+        &rt,
+        rt.alloc(),
+        &[
+            ("start 1", " ", 1_017, ""),
+            ("start 1", " ", 1_017, "\r"),
+            ("start 1", " ", 1_018, ""),
+            ("start 1", " ", 1_018, "\r"),
+            ("#", "x", 1_024, ""),
+        ],
+        "Start 1
+Start 1
+TooLong
+TooLong
+TooLong
+",
+    )
 }
 
 /// The first byte that alone doesn't give what it should.

@@ -101,11 +101,19 @@ rank STEAM 2
 ";
 
 fn cell_of(alloc: Global, document: &str) -> Result<Cell, Fail> {
-    Ok(read_cell(alloc, document.as_bytes()).map_err(|_| "cell")?)
+    read_cell(alloc, document.as_bytes()).map_err(|_| Fail::from("cell"))
 }
 
 fn recipe_of(alloc: Global, document: &str) -> Result<Recipe, Fail> {
-    Ok(read_recipe(alloc, document.as_bytes()).map_err(|_| "recipe")?)
+    read_recipe(alloc, document.as_bytes()).map_err(|_| Fail::from("recipe"))
+}
+
+fn recipes_of(alloc: Global, documents: &[&str]) -> Result<Vec<Recipe>, Fail> {
+    let mut recipes = Vec::new(alloc);
+    for document in documents {
+        recipes.push(recipe_of(alloc, document)?)?;
+    }
+    Ok(recipes)
 }
 
 fn certificate_of(alloc: Global, text: &str) -> Result<Certificate, Fail> {
@@ -113,14 +121,10 @@ fn certificate_of(alloc: Global, text: &str) -> Result<Certificate, Fail> {
 }
 
 fn cleared(alloc: Global) -> Result<Cleared, Fail> {
-    let cell = cell_of(alloc, CELL)?;
-    let recipes = vec![in alloc; recipe_of(alloc, RECIPE)?, recipe_of(alloc, ROLES)?]?;
     let certificate = certificate_of(alloc, CERTIFICATE)?;
-    Ok(
-        verify(alloc, cell, recipes, &certificate)
-            .ok()
-            .ok_or("rejected")?,
-    )
+    let cell = cell_of(alloc, CELL)?;
+    let recipes = recipes_of(alloc, &[RECIPE, ROLES])?;
+    verify(alloc, cell, recipes, &certificate).map_err(|_| Fail::from("rejected"))
 }
 
 /// The line of the record that tells the out.
@@ -131,19 +135,24 @@ fn line_of(alloc: Global, cleared: &Cleared, out: Out) -> Result<String, Fail> {
 }
 
 /// The lines that tell the outs.
-fn lines_of(alloc: Global, outs: &[Out]) -> Result<String, Fail> {
-    let cleared = cleared(alloc)?;
+fn lines_of(alloc: Global, cleared: &Cleared, outs: &[Out]) -> Result<String, Fail> {
     let mut lines = String::new(alloc);
     for out in outs {
-        let line = line_of(alloc, &cleared, *out)?;
+        let line = line_of(alloc, cleared, *out)?;
         lines.push_str(line.as_str())?;
     }
     Ok(lines)
 }
 
+/// The lines that tell the outs of the set.
+fn told(alloc: Global, outs: &[Out]) -> Result<String, Fail> {
+    let cleared = cleared(alloc)?;
+    lines_of(alloc, &cleared, outs)
+}
+
 /// That the lines that tell the outs are the text expected.
 fn assert_lines(rt: &impl Abort, alloc: Global, outs: &[Out], expected: &str) -> Result<(), Fail> {
-    assert_eq!(rt; lines_of(alloc, outs)?.as_str(), expected);
+    assert_eq!(rt; told(alloc, outs)?.as_str(), expected);
     Ok(())
 }
 
@@ -384,29 +393,37 @@ send 1    stop
     )
 }
 
-#[test]
-fn writer_fails(rt: HostRuntime) -> Result<(), Fail> {
-    let alloc = rt.alloc();
-    record_lines();
-    let cleared = cleared(alloc)?;
+/// What is written of the end of a step to writers that fail at these calls, or at none, a line each.
+fn fronts_of(alloc: Global, cleared: &Cleared, calls: &[usize]) -> Result<String, Fail> {
     let out = Out::Move(Line::End {
         batch: 1,
         recipe: 0,
         node: 2,
     });
-    for (fails_at, want) in [
-        (0, Ok("end 1 0.0.0\n")),
-        (1, Err("")),
-        (9, Err("end 1 0.")),
-        (12, Err("end 1 0.0.0")),
-        (13, Ok("end 1 0.0.0\n")),
-    ] {
-        let front = front_of(alloc, &cleared, out, fails_at)?;
-        let told = match &front {
-            Ok(text) => Ok(text.as_str()),
-            Err(text) => Err(text.as_str()),
-        };
-        assert_eq!(rt; told, want, "{fails_at}");
+    let mut told = String::new(alloc);
+    for fails_at in calls {
+        let front = front_of(alloc, cleared, out, *fails_at)?;
+        write!(told, "{fails_at}: {front:?}\n")?;
     }
+    Ok(told)
+}
+
+fn fronts(alloc: Global, calls: &[usize]) -> Result<String, Fail> {
+    let cleared = cleared(alloc)?;
+    fronts_of(alloc, &cleared, calls)
+}
+
+#[test]
+fn writer_fails(rt: HostRuntime) -> Result<(), Fail> {
+    record_lines();
+    assert_eq!(rt;
+        fronts(rt.alloc(), &[0, 1, 9, 12, 13])?.as_str(),
+        "0: Ok(\"end 1 0.0.0\\n\")
+1: Err(\"\")
+9: Err(\"end 1 0.\")
+12: Err(\"end 1 0.0.0\")
+13: Ok(\"end 1 0.0.0\\n\")
+"
+    );
     Ok(())
 }

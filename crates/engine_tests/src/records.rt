@@ -37,14 +37,13 @@ pub(crate) fn cleared_of(alloc: Global, cell: &str, recipes: &[&str]) -> Result<
     let cell = cell_of(alloc, cell)?;
     let recipes = recipes_of(alloc, recipes)?;
     let certificate = check(alloc, &cell, &recipes)?;
-    let cleared = verify(alloc, cell, recipes, &certificate).map_err(|_| "not cleared")?;
-    Ok(cleared)
+    verify(alloc, cell, recipes, &certificate).map_err(|_| Fail::from("not cleared"))
 }
 
 /// An engine in which nothing has happened.
 pub(crate) fn engine_of(alloc: Global, cell: &str, recipes: &[&str]) -> Result<Engine, Fail> {
     let cleared = cleared_of(alloc, cell, recipes)?;
-    Ok(Engine::new(alloc, cleared).map_err(|_| "no engine")?)
+    Engine::new(alloc, cleared).map_err(|_| Fail::from("no engine"))
 }
 
 /// The event of a line.

@@ -1,9 +1,10 @@
 //! Readers that fail, are interrupted or don't end, and writers that fail.
 use crate::ends::{Failure, OneByOne};
-use crate::serving::{INPUT, MANY_READS, RECORD, answered, run, run_into};
+use crate::serving::{INPUT, MANY_READS, RECORD, answered, assert_outcome, run, run_into};
 use batch_serve::{ServeFault, SetFault};
 use std::alloc::Global;
 use std::io::ErrorKind;
+use std::process::Abort;
 use std::test::Fail;
 
 const READ: Result<(), SetFault> = Err(SetFault::Stopped(ServeFault::Read));
@@ -12,21 +13,21 @@ const WRITE: Result<(), SetFault> = Err(SetFault::Stopped(ServeFault::Write));
 
 const TOO_MANY_READS: Result<(), SetFault> = Err(SetFault::Stopped(ServeFault::TooManyReads));
 
-/// Whether a run that asks its reader so often for one byte ends as too many reads, with this record.
-fn is_cut_after(alloc: Global, max_reads: u64, record: &[u8]) -> Result<bool, Fail> {
-    Ok(run(alloc, OneByOne::of(INPUT), max_reads)?.is(TOO_MANY_READS, record))
+/// That a run that asks its reader so often for one byte ends as too many reads, with this record.
+fn assert_cut(rt: &impl Abort, alloc: Global, max_reads: u64, record: &[u8]) -> Result<(), Fail> {
+    let outcome = run(alloc, OneByOne::of(INPUT), max_reads);
+    assert_outcome(rt, outcome, TOO_MANY_READS, record)
 }
 
 #[test]
 fn max_reads(rt: HostRuntime) -> Result<(), Fail> {
     let alloc = rt.alloc();
-    assert!(rt; is_cut_after(alloc, 14, b"created 1 A 1000\n")?);
-    assert!(rt; is_cut_after(alloc, 13, b"")?);
-    assert!(rt; is_cut_after(alloc, 0, b"")?);
+    assert_cut(&rt, alloc, 14, b"created 1 A 1000\n")?;
+    assert_cut(&rt, alloc, 13, b"")?;
+    assert_cut(&rt, alloc, 0, b"")?;
     // The input has 41 bytes, and its end is read too.
-    assert!(rt; is_cut_after(alloc, 41, RECORD)?);
-    assert!(rt; run(alloc, OneByOne::of(INPUT), 42)?.is(Ok(()), RECORD));
-    Ok(())
+    assert_cut(&rt, alloc, 41, RECORD)?;
+    assert_outcome(&rt, run(alloc, OneByOne::of(INPUT), 42), Ok(()), RECORD)
 }
 
 /// The first call of a reader at which a failure isn't answered by the record of the whole lines read.
@@ -46,12 +47,23 @@ fn reader_fails_at_each_call(rt: HostRuntime) -> Result<(), Fail> {
     Ok(())
 }
 
+/// Whether a run whose reader is interrupted at this call, with so many calls at most, ends so, with the whole record.
+fn ends_interrupted(
+    alloc: Global,
+    call: usize,
+    max_reads: u64,
+    ending: Result<(), SetFault>,
+) -> Result<bool, Fail> {
+    let reader = OneByOne::failing(INPUT, call, ErrorKind::Interrupted);
+    Ok(run(alloc, reader, max_reads)?.is(ending, RECORD))
+}
+
 /// The first call of a reader at which an interruption isn't passed over, or isn't counted.
 fn first_wrong_interruption(alloc: Global) -> Result<Option<usize>, Fail> {
     for call in 1..=42 {
-        let reader = OneByOne::failing(INPUT, call, ErrorKind::Interrupted);
-        let again = OneByOne::failing(INPUT, call, ErrorKind::Interrupted);
-        if !run(alloc, reader, 43)?.is(Ok(()), RECORD) || !run(alloc, again, 42)?.is(READ, RECORD) {
+        let passes = ends_interrupted(alloc, call, 43, Ok(()))?;
+        let counts = ends_interrupted(alloc, call, 42, READ)?;
+        if !passes || !counts {
             return Ok(Some(call));
         }
     }

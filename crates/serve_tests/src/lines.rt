@@ -1,5 +1,5 @@
 //! Lines that are refused, and lines that give nothing.
-use crate::serving::{MANY_READS, engine, run};
+use crate::serving::{MANY_READS, assert_outcome, engine, run};
 use batch_engine::Engine;
 use batch_serve::serve;
 use std::alloc::Global;
@@ -32,8 +32,8 @@ refused E2
 refused E3 idle
 refused E1
 ";
-    assert!(rt; run(rt.alloc(), input.as_slice(), MANY_READS)?.is(Ok(()), record));
-    Ok(())
+    let outcome = run(rt.alloc(), input.as_slice(), MANY_READS);
+    assert_outcome(&rt, outcome, Ok(()), record)
 }
 
 /// What is written for a line of this one byte.
@@ -59,9 +59,13 @@ fn first_wrong(alloc: Global, engine: &mut Engine) -> Result<Option<u8>, Fail> {
     Ok(None)
 }
 
+fn first_wrong_byte(alloc: Global) -> Result<Option<u8>, Fail> {
+    let mut engine = engine(alloc)?;
+    first_wrong(alloc, &mut engine)
+}
+
 #[test]
 fn lines_of_one_byte(rt: HostRuntime) -> Result<(), Fail> {
-    let mut engine = engine(rt.alloc())?;
-    assert_eq!(rt; first_wrong(rt.alloc(), &mut engine)?, None);
+    assert_eq!(rt; first_wrong_byte(rt.alloc())?, None);
     Ok(())
 }

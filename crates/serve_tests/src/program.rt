@@ -15,6 +15,7 @@ use batch_verify::Cleared;
 use batch_words::PlantOptions;
 use std::alloc::{AllocError, Global};
 use std::io::{ErrorKind, Read, Write};
+use std::process::Abort;
 use std::test::Fail;
 
 /// The cell, two certificates and recipe A, each under its path.
@@ -95,6 +96,18 @@ impl Ran {
     }
 }
 
+/// That the run wrote this, and ended so. The comparison is proved here, and not anew in each test.
+fn assert_ran(
+    rt: &impl Abort,
+    ran: Result<Ran, AllocError>,
+    output: &[u8],
+    errors: &[u8],
+    status: u8,
+) -> Result<(), Fail> {
+    assert!(rt; ran?.is(output, errors, status));
+    Ok(())
+}
+
 /// Runs over a reader.
 fn run<R: Read + Drop>(alloc: Global, words: &[&str], input: R) -> Result<Ran, AllocError> {
     let mut input = input;
@@ -129,17 +142,15 @@ fn run_into(
 #[test]
 fn set_of_the_documents_is_served(rt: HostRuntime) -> Result<(), Fail> {
     serving_is_safe(&Shelf);
-    let ran = run(rt.alloc(), &["run", "cell", "ranks", "a"], INPUT)?;
-    assert!(rt; ran.is(RECORD, b"", 0));
-    Ok(())
+    let ran = run(rt.alloc(), &["run", "cell", "ranks", "a"], INPUT);
+    assert_ran(&rt, ran, RECORD, b"", 0)
 }
 
 #[test]
 fn turns_of_a_plant_run_out(rt: HostRuntime) -> Result<(), Fail> {
     plants_are_complete(&Shelf);
-    let ran = run(rt.alloc(), &["plant"], INPUT)?;
-    assert!(rt; ran.is(b"refused turns\n", b"", 1));
-    Ok(())
+    let ran = run(rt.alloc(), &["plant"], INPUT);
+    assert_ran(&rt, ran, b"refused turns\n", b"", 1)
 }
 
 #[test]
@@ -151,81 +162,90 @@ fn plant_out_of_range_is_no_command(rt: HostRuntime) -> Result<(), Fail> {
 
 #[test]
 fn demo_is_served_without_words(rt: HostRuntime) -> Result<(), Fail> {
-    let ran = run(rt.alloc(), &[], INPUT)?;
-    assert!(rt; ran.is(RECORD, b"", 0));
-    Ok(())
+    let ran = run(rt.alloc(), &[], INPUT);
+    assert_ran(&rt, ran, RECORD, b"", 0)
 }
 
 #[test]
 fn set_without_recipes_is_served(rt: HostRuntime) -> Result<(), Fail> {
-    let ran = run(rt.alloc(), &["run", "cell", "ranks"], INPUT)?;
-    assert!(rt; ran.is(b"refused E1\nrefused E2\nrefused E4\n", b"", 0));
-    Ok(())
+    let ran = run(rt.alloc(), &["run", "cell", "ranks"], INPUT);
+    assert_ran(&rt, ran, b"refused E1\nrefused E2\nrefused E4\n", b"", 0)
 }
 
 #[test]
 fn set_that_is_not_cleared_is_not_served(rt: HostRuntime) -> Result<(), Fail> {
-    let ran = run(rt.alloc(), &["run", "cell", "short", "a"], INPUT)?;
-    assert!(rt;
-        ran.is(
-            b"refused V1 STEAM\n",
-            b"batchd: the certificate has no line for STEAM, a resource of the cell DEMO\n",
-            1
-        )
-    );
-    let ran = run(rt.alloc(), &["run", "--quiet", "cell", "short", "a"], INPUT)?;
-    assert!(rt; ran.is(b"refused V1 STEAM\n", b"", 1));
-    Ok(())
+    let ran = run(rt.alloc(), &["run", "cell", "short", "a"], INPUT);
+    let errors = b"batchd: the certificate has no line for STEAM, a resource of the cell DEMO\n";
+    assert_ran(&rt, ran, b"refused V1 STEAM\n", errors, 1)?;
+    let ran = run(rt.alloc(), &["run", "--quiet", "cell", "short", "a"], INPUT);
+    assert_ran(&rt, ran, b"refused V1 STEAM\n", b"", 1)
 }
 
 #[test]
 fn missing_document_ends_the_run(rt: HostRuntime) -> Result<(), Fail> {
-    let ran = run(rt.alloc(), &["run", "cell", "ranks", "b"], INPUT)?;
-    assert!(rt; ran.is(b"", b"batchd: nowhere\n", 3));
-    Ok(())
+    let ran = run(rt.alloc(), &["run", "cell", "ranks", "b"], INPUT);
+    assert_ran(&rt, ran, b"", b"batchd: nowhere\n", 3)
 }
 
 #[test]
 fn failed_read_ends_the_run(rt: HostRuntime) -> Result<(), Fail> {
     let reader = OneByOne::failing(INPUT, 15, ErrorKind::Other);
-    let ran = run(rt.alloc(), &[], reader)?;
-    assert!(rt;
-        ran.is(
-            b"created 1 A 1000\n",
-            b"batchd: the input can't be read\n",
-            3
-        )
-    );
-    Ok(())
+    let ran = run(rt.alloc(), &[], reader);
+    assert_ran(
+        &rt,
+        ran,
+        b"created 1 A 1000\n",
+        b"batchd: the input can't be read\n",
+        3,
+    )
 }
 
 #[test]
 fn failed_write_ends_the_run(rt: HostRuntime) -> Result<(), Fail> {
-    let ran = run_into(rt.alloc(), &[], 5, Failure::Refuses)?;
-    assert!(rt; ran.is(b"crea", b"batchd: the output can't be written\n", 3));
-    Ok(())
+    let ran = run_into(rt.alloc(), &[], 5, Failure::Refuses);
+    assert_ran(
+        &rt,
+        ran,
+        b"crea",
+        b"batchd: the output can't be written\n",
+        3,
+    )
 }
 
 /// A verdict that can't be handed on ends as one that can't be written.
 #[test]
 fn verdict_is_handed_on(rt: HostRuntime) -> Result<(), Fail> {
     let words = ["verify", "cell", "ranks", "a"];
-    let ran = run_into(rt.alloc(), &words, 1, Failure::KeepsBack)?;
-    assert!(rt; ran.is(b"accepted\n", b"batchd: the output can't be written\n", 3));
-    Ok(())
+    let ran = run_into(rt.alloc(), &words, 1, Failure::KeepsBack);
+    assert_ran(
+        &rt,
+        ran,
+        b"accepted\n",
+        b"batchd: the output can't be written\n",
+        3,
+    )
+}
+
+/// What serving may come to, and the exit status of each.
+const STATUSES: [(Result<(), SetFault>, u8); 5] = [
+    (Ok(()), 0),
+    (Err(SetFault::Memory), 4),
+    (Err(SetFault::Stopped(ServeFault::Read)), 3),
+    (Err(SetFault::Stopped(ServeFault::Write)), 3),
+    (Err(SetFault::Stopped(ServeFault::TooManyReads)), 3),
+];
+
+/// The first end of serving that has another status.
+fn first_other_status() -> Option<Result<(), SetFault>> {
+    for (ending, status) in STATUSES {
+        if serving_status(ending) != status {
+            return Some(ending);
+        }
+    }
+    None
 }
 
 #[test]
 fn statuses_of_serving(rt: HostRuntime) {
-    assert_eq!(rt; serving_status(Ok(())), 0);
-    assert_eq!(rt; serving_status(Err(SetFault::Memory)), 4);
-    assert_eq!(rt; serving_status(Err(SetFault::Stopped(ServeFault::Read))), 3);
-    assert_eq!(rt;
-        serving_status(Err(SetFault::Stopped(ServeFault::Write))),
-        3
-    );
-    assert_eq!(rt;
-        serving_status(Err(SetFault::Stopped(ServeFault::TooManyReads))),
-        3
-    );
+    assert_eq!(rt; first_other_status(), None);
 }

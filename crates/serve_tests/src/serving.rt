@@ -10,6 +10,7 @@ use batch_serve::{SetFault, serve_set};
 use batch_verify::{Cleared, verify};
 use std::alloc::Global;
 use std::io::Read;
+use std::process::Abort;
 use std::test::Fail;
 
 /// More calls of a reader than any of these runs makes, but where it says another number.
@@ -56,32 +57,39 @@ start 1 0.0.0.0 R1 ADD
 }
 
 fn cell_of(alloc: Global, document: &str) -> Result<Cell, Fail> {
-    Ok(read_cell(alloc, document.as_bytes()).map_err(|_| "no cell")?)
+    read_cell(alloc, document.as_bytes()).map_err(|_| Fail::from("no cell"))
 }
 
 fn recipe_of(alloc: Global, document: &str) -> Result<Recipe, Fail> {
-    Ok(read_recipe(alloc, document.as_bytes()).map_err(|_| "no recipe")?)
+    read_recipe(alloc, document.as_bytes()).map_err(|_| Fail::from("no recipe"))
+}
+
+/// The recipe alone.
+fn recipes_of(alloc: Global, document: &str) -> Result<Vec<Recipe>, Fail> {
+    let mut recipes = Vec::new(alloc);
+    recipes.push(recipe_of(alloc, document)?)?;
+    Ok(recipes)
 }
 
 /// Recipe A, cleared for the demo cell.
 fn cleared(alloc: Global) -> Result<Cleared, Fail> {
     let cell = cell_of(alloc, CELL1)?;
-    let mut recipes = Vec::new(alloc);
-    recipes.push(recipe_of(alloc, A)?)?;
-    let certificate = check(alloc, &cell, &recipes).map_err(|_| "no certificate")?;
-    Ok(verify(alloc, cell, recipes, &certificate).map_err(|_| "not cleared")?)
+    let recipes = recipes_of(alloc, A)?;
+    let certificate = check(alloc, &cell, &recipes)?;
+    verify(alloc, cell, recipes, &certificate).map_err(|_| Fail::from("not cleared"))
 }
 
 /// An engine in which nothing has happened.
 pub(crate) fn engine(alloc: Global) -> Result<Engine, Fail> {
-    Ok(Engine::new(alloc, cleared(alloc)?).map_err(|_| "no engine")?)
+    let cleared = cleared(alloc)?;
+    Engine::new(alloc, cleared).map_err(|_| Fail::from("no engine"))
 }
 
 /// How a run ended, and its record.
 #[derive(Drop)]
 pub(crate) struct Outcome {
-    pub(crate) ending: Result<(), SetFault>,
-    pub(crate) record: Vec<u8>,
+    ending: Result<(), SetFault>,
+    record: Vec<u8>,
 }
 
 impl Outcome {
@@ -89,6 +97,17 @@ impl Outcome {
     pub(crate) fn is(&self, ending: Result<(), SetFault>, record: &[u8]) -> bool {
         self.ending == ending && self.record.as_slice() == record
     }
+}
+
+/// That the run ended so, and its record has these bytes. The comparison is proved here, and not anew in each test.
+pub(crate) fn assert_outcome(
+    rt: &impl Abort,
+    outcome: Result<Outcome, Fail>,
+    ending: Result<(), SetFault>,
+    record: &[u8],
+) -> Result<(), Fail> {
+    assert!(rt; outcome?.is(ending, record));
+    Ok(())
 }
 
 /// Serves what the reader gives.
