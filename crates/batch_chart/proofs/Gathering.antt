@@ -1,15 +1,15 @@
 -- Signs of nodes and of blocks.
-use Rattle.std.proofs.Common.{◌≡◌, ◌<◌, ◌≤◌, ◌+◌, refl, sym, ◌∙◌, ap, ℕ, List, length, Bool, true, false, Some, None, inl, inr, ◌⊎◌, arith, nat_eq, nat_le}
-use Rattle.std.specs.Prelude.{min, max, not, ◌||◌, ◌/◌, ◌*◌, zero, suc, Option, slice_index}
-use Rattle.std.specs.Option.{is_some}
+use Rattle.std.proofs.Common.{◌≡◌, ◌<◌, ◌≤◌, ◌+◌, refl, sym, ◌∙◌, ap, ℕ, List, length, Bool, true, false, Some, None, inl, inr, ◌⊎◌, arith, nat_eq, nat_le, get_or}
+use Rattle.std.specs.Prelude.{min, max, not, ◌||◌, ◌/◌, ◌%◌, ◌*◌, zero, suc}
 use Rattle.std.specs.Int.{bit_at}
 use Rattle.std.specs.Int.Bits.{bit_and, bit_or}
 use Rattle.std.proofs.lemmas.Bool.{cases_lt}
+use Rattle.std.proofs.lemmas.Grind.{get_or_default_zero}
 use Rattle.std.proofs.lemmas.List.{get_or_past}
 use Rattle.std.proofs.lemmas.Bool.Decides.{nat_tests}
 use Rattle.std.proofs.lemmas.Nat.{and_or_apart, div-add-mod', mod_below}
 use Rattle.std.proofs.lemmas.Nat.Bits.{bit_at-zero, bit_at_and, bit_at_or, same_from_bits}
-use Rattle.batch_chart.specs.Signs.{sign_at, shows, covers, AreGathered, NoneShows, IsNextIn, IsNextShown, TellsNone}
+use Rattle.batch_chart.specs.Signs.{sign_at, shows, AreGathered, NoneShows, IsNextShown, TellsNone}
 
 no-bit : (a m : ℕ) → bit_and a m ≡ 0 → (i : ℕ) → min (bit_at a i) (bit_at m i) ≡ 0
 no-bit a m e i = sym (bit_at_and a m i) ∙ ap (λ z. bit_at z i) e ∙ bit_at-zero i
@@ -77,47 +77,44 @@ none-of-all signs blocks groups all wanted from g e k a b =
     g.gather (k / 16) k wanted (omega (arith, parts)) (omega (arith, parts, rest))
     (g.group_gather (k / 16 / 16) (k / 16) wanted (omega (arith, above)) (omega (arith, above, left)) (g.whole (k / 16 / 16) wanted (omega arith) within e))
 
--- where it isn't among those of blocks, none of their nodes does; so of groups and their blocks
+-- where it isn't among those of a block, none of the block's nodes does
 
-pub none-gathered : (parts gathers : List ℕ) (wanted from at next : ℕ) → ((g : ℕ) → covers parts (g * 16) 16 (slice_index gathers g)) → NoneShows gathers wanted at next
-    → NoneShows parts wanted from (at * 16) → NoneShows parts wanted from (next * 16)
-none-gathered parts gathers wanted from at next gather none before k a b = go (cases_lt k (at * 16))
+pub none-of-block : (signs blocks groups : List ℕ) (all wanted from at next d : ℕ) → AreGathered signs blocks groups all → at % 16 ≡ 0 → at < length signs → bit_and (get_or blocks (at / 16) d) wanted ≡ 0
+    → next ≤ at + 16 → NoneShows signs wanted from at → NoneShows signs wanted from next
+none-of-block signs blocks groups all wanted from at next d g whole lt e short before k a b = go (cases_lt k at)
   where
-    go : (k < at * 16) ⊎ (at * 16 ≤ k) → bit_and (sign_at parts k) wanted ≡ 0
+    starts : at / 16 * 16 ≡ at
+    starts = let parts = div-add-mod' at 16 in omega (arith, parts, whole)
+
+    within : at / 16 < length blocks
+    within = omega (arith, starts, lt, g.count)
+
+    go : (k < at) ⊎ (at ≤ k) → bit_and (sign_at signs k) wanted ≡ 0
     go (inl q) = before k a q
     go (inr q) =
-        let parted = div-add-mod' k 16 in
-        let rest = mod_below k 16 (omega arith) in
-        gather (k / 16) k wanted (omega (arith, parted)) (omega (arith, parted, rest)) (none (k / 16) (omega (arith, parted, rest, q)) (omega (arith, parted, rest, b)))
+        g.gather (at / 16) k wanted (omega (arith, starts, q)) (omega (arith, starts, short, b))
+        (ap (λ z. bit_and z wanted) (sym (get_or_default_zero blocks (at / 16) d within)) ∙ e)
 
--- none up to one, and none from there on
-pub none-joined : (parts : List ℕ) (wanted from at next : ℕ) → NoneShows parts wanted from at → NoneShows parts wanted at next → NoneShows parts wanted from next
-none-joined parts wanted from at next before behind k a b = go (cases_lt k at)
+-- the same of a group
+
+pub none-of-group : (signs blocks groups : List ℕ) (all wanted from at next d : ℕ) → AreGathered signs blocks groups all → at % 256 ≡ 0 → at < length signs → bit_and (get_or groups (at / 256) d) wanted ≡ 0
+    → next ≤ at + 256 → NoneShows signs wanted from at → NoneShows signs wanted from next
+none-of-group signs blocks groups all wanted from at next d g whole lt e short before k a b = go (cases_lt k at)
   where
-    go : (k < at) ⊎ (at ≤ k) → bit_and (sign_at parts k) wanted ≡ 0
+    starts : at / 256 * 256 ≡ at
+    starts = let parts = div-add-mod' at 256 in omega (arith, parts, whole)
+
+    within : at / 256 < length groups
+    within = omega (arith, starts, lt, g.count, g.groups_count)
+
+    go : (k < at) ⊎ (at ≤ k) → bit_and (sign_at signs k) wanted ≡ 0
     go (inl q) = before k a q
-    go (inr q) = behind k q b
-
-pub none-short : (parts : List ℕ) (wanted from at next : ℕ) → next ≤ at → NoneShows parts wanted from at → NoneShows parts wanted from next
-none-short parts wanted from at next le h k a b = h k a (omega (arith, le, b))
-
--- past the last there is nothing
-pub none-past : (parts : List ℕ) (wanted from at end : ℕ) → min end (length parts) ≤ at → NoneShows parts wanted from at → NoneShows parts wanted from end
-none-past parts wanted from at end le h k a b = go (cases_lt k (length parts))
-  where
-    go : (k < length parts) ⊎ (length parts ≤ k) → bit_and (sign_at parts k) wanted ≡ 0
-    go (inl q) = h k a (omega (arith, le, b, q))
-    go (inr q) = ap (λ z. bit_and z wanted) (get_or_past {X = ℕ} parts k 0 q) ∙ none-shown wanted
-
--- the first that has one of the signs, where there is none before those that were looked at
-pub shown-in : (parts : List ℕ) (wanted from at end : ℕ) (r : Option ℕ) → from ≤ at → NoneShows parts wanted from at → IsNextIn parts wanted at end r → is_some r ≡ true → IsNextShown parts wanted from r
-shown-in parts wanted from at end None le before h e = absurd (cc)
-shown-in parts wanted from at end (Some n) le before h e = (omega (arith, le, h.0), h.2, h.3, none-joined parts wanted from at n before h.4)
-
--- nothing was found there
-pub none-in : (parts : List ℕ) (wanted at end : ℕ) (r : Option ℕ) → IsNextIn parts wanted at end r → is_some r ≡ false → NoneShows parts wanted at end
-none-in parts wanted at end None h e = h
-none-in parts wanted at end (Some n) h e = absurd (cc)
+    go (inr q) =
+        let parts = div-add-mod' k 16 in
+        let rest = mod_below k 16 (omega arith) in
+        g.gather (k / 16) k wanted (omega (arith, parts)) (omega (arith, parts, rest))
+        (g.group_gather (at / 256) (k / 16) wanted (omega (arith, parts, rest, starts, q)) (omega (arith, parts, starts, short, b))
+        (ap (λ z. bit_and z wanted) (sym (get_or_default_zero groups (at / 256) d within)) ∙ e))
 
 -- what the next node that shows one of the signs says of those from n to m
 

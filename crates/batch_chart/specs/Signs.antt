@@ -14,19 +14,11 @@ sign_at signs k = slice_index signs k
 abbrev pub covers : List ℕ → ℕ → ℕ → ℕ → Type 0
 covers signs from count all = (k wanted : ℕ) → from ≤ k → k < from + count → bit_and all wanted ≡ 0 → bit_and (sign_at signs k) wanted ≡ 0
 
--- what isn't among the signs of a group of blocks isn't among those of its blocks
-pub record AreGrouped (blocks groups : List ℕ) : Type 0 where
-  pub count : length blocks ≤ 16 * length groups
-  pub spare : 16 * length groups ≤ length blocks + 15
-  pub gather : (group : ℕ) → covers blocks (group * 16) 16 (slice_index groups group)
-
 -- the signs of nodes, those of blocks of them, those of groups of blocks, and all signs
 pub record AreGathered (signs blocks groups : List ℕ) (all : ℕ) : Type 0 where
   pub count : length signs ≤ 16 * length blocks
-  pub spare : 16 * length blocks ≤ length signs + 15
   pub gather : (block : ℕ) → covers signs (block * 16) 16 (slice_index blocks block)
   pub groups_count : length blocks ≤ 16 * length groups
-  pub groups_spare : 16 * length groups ≤ length blocks + 15
   pub group_gather : (group : ℕ) → covers blocks (group * 16) 16 (slice_index groups group)
   pub whole : covers groups 0 (length groups) all
 
@@ -36,11 +28,6 @@ NoneShows signs wanted from end = (k : ℕ) → from ≤ k → k < end → bit_a
 abbrev pub IsNextShown : List ℕ → ℕ → ℕ → Option ℕ → Type 0
 IsNextShown signs wanted from None = NoneShows signs wanted from (length signs)
 IsNextShown signs wanted from (Some n) = (from ≤ n) × (n < length signs) × (bit_and (sign_at signs n) wanted ≡ 0 → ⊥) × NoneShows signs wanted from n
-
--- the first of these from one on, up to `end`, that has one of the wanted signs
-abbrev pub IsNextIn : List ℕ → ℕ → ℕ → ℕ → Option ℕ → Type 0
-IsNextIn parts wanted from end None = NoneShows parts wanted from end
-IsNextIn parts wanted from end (Some n) = (from ≤ n) × (n < end) × (n < length parts) × (bit_and (sign_at parts n) wanted ≡ 0 → ⊥) × NoneShows parts wanted from n
 
 -- whether none of the wanted signs is shown from node n up to node m
 abbrev pub TellsNone : List ℕ → ℕ → ℕ → ℕ → Bool → Type 0

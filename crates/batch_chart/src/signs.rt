@@ -1,12 +1,15 @@
 //! What the acts of a chart show, by which they are found.
 ghost use Rattle.std.specs.Prelude.{◌≡◌, ◌<◌, ℕ, length, replicate, slice_set, IfOk};
-ghost use Rattle.batch_chart.specs.Signs.{AreGrouped, IsNextIn, IsNextShown, TellsNone, covers, replaced, sign_at};
+ghost use Rattle.batch_chart.specs.Signs.{IsNextShown, TellsNone, covers, replaced, sign_at};
 
 use std::alloc::{AllocError, Global};
 use std::marker::Model;
 
 /// How many nodes stand in a block, and blocks in a group.
 const BLOCK: usize = 16;
+
+/// How many nodes stand in a group.
+const GROUP: usize = 256;
 
 /// For each node a set of signs, as the bits of a word, and for each block of nodes, each group of blocks, and for the whole, the
 /// signs of all of them. So it is told at once that no node has a sign, and the next one that has it is found in as many steps as
@@ -58,11 +61,7 @@ impl Signs {
     {
         self.nodes[node] = signs;
         let block = node / BLOCK;
-        let shown = gathered(&self.nodes, block * BLOCK, BLOCK);
-        if shown == self.blocks[block] {
-            return;
-        }
-        self.blocks[block] = shown;
+        self.blocks[block] = gathered(&self.nodes, block * BLOCK, BLOCK);
         let group = block / BLOCK;
         self.groups[group] = gathered(&self.blocks, group * BLOCK, BLOCK);
         self.all = gathered(&self.groups, 0, self.groups.len());
@@ -112,62 +111,21 @@ impl Signs {
     fn search(&self, wanted: u32, from: usize) -> Option<usize>
         ensures { IsNextShown self.now wanted from result }
     {
-        if from >= self.nodes.len() {
-            return None;
-        }
-        let first = from / BLOCK;
-        let node = next_in(&self.nodes, wanted, from, first * BLOCK + BLOCK);
-        if node.is_some() {
-            return node;
-        }
-        let mut at = first + 1;
-        while let Some(block) = next_block(&self.blocks, &self.groups, wanted, at) {
-            let start = block * BLOCK;
-            let node = next_in(&self.nodes, wanted, start, start + BLOCK);
-            if node.is_some() {
-                return node;
+        let count = self.nodes.len();
+        let mut at = from;
+        while at < count {
+            if at % GROUP == 0 && self.groups[at / GROUP] & wanted == 0 {
+                at = count.min(at + GROUP);
+            } else if at % BLOCK == 0 && self.blocks[at / BLOCK] & wanted == 0 {
+                at = count.min(at + BLOCK);
+            } else if self.nodes[at] & wanted != 0 {
+                return Some(at);
+            } else {
+                at += 1;
             }
-            at = block + 1;
         }
         None
     }
-}
-
-/// The first block from this one on whose nodes may show one of the signs.
-fn next_block(blocks: &[u32], groups: &[u32], wanted: u32, from: usize) -> Option<usize>
-    requires { AreGrouped blocks.now groups.now }
-    ensures { IsNextShown blocks.now wanted from result }
-{
-    if from >= blocks.len() {
-        return None;
-    }
-    let first = from / BLOCK;
-    let block = next_in(blocks, wanted, from, first * BLOCK + BLOCK);
-    if block.is_some() {
-        return block;
-    }
-    let mut at = first + 1;
-    while let Some(group) = next_in(groups, wanted, at, groups.len()) {
-        let start = group * BLOCK;
-        let block = next_in(blocks, wanted, start, start + BLOCK);
-        if block.is_some() {
-            return block;
-        }
-        at = group + 1;
-    }
-    None
-}
-
-/// The first of these from one on, up to `end`, that has one of the signs.
-fn next_in(parts: &[u32], wanted: u32, from: usize, end: usize) -> Option<usize>
-    ensures { IsNextIn parts.now wanted from end result }
-{
-    for n in from..end.min(parts.len()) {
-        if parts[n] & wanted != 0 {
-            return Some(n);
-        }
-    }
-    None
 }
 
 /// All signs of so many, from this one on.
