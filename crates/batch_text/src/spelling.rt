@@ -1,0 +1,56 @@
+//! Where a name keeps its bytes.
+ghost use Rattle.std.specs.Prelude.{◌≡◌, ◌≤◌, length, IfOk};
+ghost use Rattle.batch_text.specs.Spelling.{letters, IsWithinRoom};
+
+use crate::name::MAX_NAME_LEN;
+use std::alloc::{AllocError, Global};
+
+/// The most bytes that a name keeps inside itself: what its 16 bytes leave beside a tag and a length.
+const MAX_SHORT_LEN: usize = 14;
+
+/// The bytes of a name: inside itself where they are few, and otherwise on the heap. Those past the length mean nothing.
+#[derive(Drop)]
+pub(crate) enum Spelling {
+    Short {
+        len: u8,
+        bytes: [u8; MAX_SHORT_LEN],
+    },
+    Long {
+        len: u8,
+        bytes: Box<[u8; MAX_NAME_LEN]>,
+    },
+}
+
+impl Spelling {
+    /// These bytes. Only a long name takes memory.
+    pub(crate) fn new(alloc: Global, text: &[u8]) -> Result<Spelling, AllocError>
+        requires { length text.now ≤ MAX_NAME_LEN }
+        ensures letters { IfOk result (λ spelling. letters spelling ≡ text.now) }
+        ensures within_room { IfOk result (λ spelling. IsWithinRoom spelling) }
+    {
+        let len = text.len() as u8;
+        if text.len() <= MAX_SHORT_LEN {
+            let mut bytes = [0; MAX_SHORT_LEN];
+            bytes[..text.len()].copy_from_slice(text);
+            Ok(Spelling::Short { len, bytes })
+        } else {
+            let mut bytes = [0; MAX_NAME_LEN];
+            bytes[..text.len()].copy_from_slice(text);
+            Ok(Spelling::Long {
+                len,
+                bytes: Box::new(alloc, bytes)?,
+            })
+        }
+    }
+
+    /// The bytes.
+    pub(crate) fn bytes(&self) -> &[u8]
+        requires { IsWithinRoom self.now }
+        ensures { result.now ≡ letters self.now }
+    {
+        match self {
+            Spelling::Short { len, bytes } => &bytes[..*len as usize],
+            Spelling::Long { len, bytes } => &bytes[..*len as usize],
+        }
+    }
+}
