@@ -47,7 +47,7 @@ fn below_chart<'a>(chart: &'a Chart) -> Below<'a>
         Chart::Seq(charts) => Below::Branches(charts),
         Chart::Par(charts) => Below::Branches(charts),
         Chart::Sel(choices, last) => Below::Choices(choices, last),
-        Chart::Loop(_, _, body) => Below::One(body),
+        Chart::Loop(_, turn) => Below::One(&turn.1),
     }
 }
 

@@ -30,14 +30,15 @@ cases_view_last cases c t =
     let seen : Cond × Chart → Cond × Diagram = λ p. (p.0, diagram_of p.1) in
     map-append seen cases ((c, t) ∷ [])
 
-pub diagram_of_seq : (v : Vec Chart Global) → diagram_of (Made.Seq v) ≡ chart.seq (diagrams_of (diagrams_view v.items))
+pub diagram_of_seq : (v : Box (Vec Chart Global) Global) → diagram_of (Made.Seq v) ≡ chart.seq (diagrams_of (diagrams_view v.value.items))
 diagram_of_seq v = search (rules, the_lemmas)
 
-pub diagram_of_par : (v : Vec Chart Global) → diagram_of (Made.Par v) ≡ chart.par (diagrams_of (diagrams_view v.items))
+pub diagram_of_par : (v : Box (Vec Chart Global) Global) → diagram_of (Made.Par v) ≡ chart.par (diagrams_of (diagrams_view v.value.items))
 diagram_of_par v = search (rules, the_lemmas)
 
-pub diagram_of_sel : (v : Vec (Cond × Chart) Global) (b : Box Chart Global) → diagram_of (Made.Sel v b) ≡ chart.sel (cases_of (cases_view v.items) (diagram_of b.value))
+pub diagram_of_sel : (v : Box (Vec (Cond × Chart) Global) Global) (b : Box Chart Global)
+    → diagram_of (Made.Sel v b) ≡ chart.sel (cases_of (cases_view v.value.items) (diagram_of b.value))
 diagram_of_sel v b = search (rules, the_lemmas)
 
-pub diagram_of_loop : (n : ℕ) (c : Cond) (b : Box Chart Global) → diagram_of (Made.Loop n c b) ≡ chart.loop n c (diagram_of b.value)
-diagram_of_loop n c b = search (rules, the_lemmas)
+pub diagram_of_loop : (n : ℕ) (b : Box (Cond × Chart) Global) → diagram_of (Made.Loop n b) ≡ chart.loop n b.value.0 (diagram_of b.value.1)
+diagram_of_loop n b = search (rules, the_lemmas)

@@ -12,18 +12,26 @@ use crate::want::Want;
 use batch_recipe::{Chart, Cond};
 use std::alloc::{AllocError, Global};
 
+/// The parts of a form as a chart keeps them: in a box, with no room left over.
+fn boxed<T: Drop>(alloc: Global, mut parts: Vec<T>) -> Result<Box<Vec<T>>, AllocError>
+    ensures { IfOk result (λ kept. kept.value.items ≡ parts.items) }
+{
+    parts.shrink_to_fit();
+    Ok(Box::new(alloc, parts)?)
+}
+
 /// The end of a `seq`.
 #[tactic(auto, using(crate::proofs::ChartFrames::diagrams_view_last, crate::proofs::ChartFrames::diagram_of_seq))]
-fn close_seq(mut charts: Vec<Chart>, last: Chart) -> Result<Chart, AllocError>
+fn close_seq(alloc: Global, mut charts: Vec<Chart>, last: Chart) -> Result<Chart, AllocError>
     ensures { IfOk result (λ whole. diagram_of whole ≡ chart.seq (diagrams_of (diagrams_view charts.items ++ diagram_of last ∷ []))) }
 {
     charts.push(last)?;
-    Ok(Chart::Seq(charts))
+    Ok(Chart::Seq(boxed(alloc, charts)?))
 }
 
 /// The end of a `par`, which has two branches or more.
 #[tactic(auto, using(crate::proofs::ChartFrames::diagrams_view_last, crate::proofs::ChartFrames::diagram_of_par))]
-fn close_par(mut charts: Vec<Chart>, last: Chart) -> Result<Chart, Stop>
+fn close_par(alloc: Global, mut charts: Vec<Chart>, last: Chart) -> Result<Chart, Stop>
     ensures { (frames : List Around) → Gives (λ whole. (after_chart (diagram_of whole), frames)) result
         (close_par (diagrams_view charts.items) (diagram_of last) frames) }
 {
@@ -31,7 +39,7 @@ fn close_par(mut charts: Vec<Chart>, last: Chart) -> Result<Chart, Stop>
         return Err(Stop::NotAChart);
     }
     charts.push(last)?;
-    Ok(Chart::Par(charts))
+    Ok(Chart::Par(boxed(alloc, charts)?))
 }
 
 /// The end of a `sel`.
@@ -39,7 +47,8 @@ fn close_par(mut charts: Vec<Chart>, last: Chart) -> Result<Chart, Stop>
 fn close_sel(alloc: Global, cases: Vec<(Cond, Chart)>, last: Chart) -> Result<Chart, AllocError>
     ensures { IfOk result (λ whole. diagram_of whole ≡ chart.sel (cases_of (cases_view cases.items) (diagram_of last))) }
 {
-    Ok(Chart::Sel(cases, Box::new(alloc, last)?))
+    let choices = boxed(alloc, cases)?;
+    Ok(Chart::Sel(choices, Box::new(alloc, last)?))
 }
 
 /// The end of a `loop`.
@@ -47,7 +56,7 @@ fn close_sel(alloc: Global, cases: Vec<(Cond, Chart)>, last: Chart) -> Result<Ch
 fn close_loop(alloc: Global, turns: u64, condition: Cond, body: Chart) -> Result<Chart, AllocError>
     ensures { IfOk result (λ whole. diagram_of whole ≡ chart.loop turns condition (diagram_of body)) }
 {
-    Ok(Chart::Loop(turns, condition, Box::new(alloc, body)?))
+    Ok(Chart::Loop(turns, Box::new(alloc, (condition, body))?))
 }
 
 /// A closing parenthesis after a chart.
@@ -58,8 +67,8 @@ pub fn take_close(alloc: Global, last: Chart, stack: &mut Vec<Frame>) -> Result<
         return Err(Stop::NotAChart);
     };
     match frame {
-        Frame::Seq(charts) => Ok(Want::AfterChart(close_seq(charts, last)?)),
-        Frame::Par(charts) => Ok(Want::AfterChart(close_par(charts, last)?)),
+        Frame::Seq(charts) => Ok(Want::AfterChart(close_seq(alloc, charts, last)?)),
+        Frame::Par(charts) => Ok(Want::AfterChart(close_par(alloc, charts, last)?)),
         Frame::Else(cases) => Ok(Want::AfterChart(close_sel(alloc, cases, last)?)),
         Frame::Loop(turns, condition) => {
             let whole = close_loop(alloc, turns, condition, last)?;

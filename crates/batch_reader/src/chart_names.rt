@@ -23,8 +23,8 @@ pub(crate) fn is_declared(chart: &Chart, labels: &IndexSet<Name>, values: &Index
         Chart::Sel(choices, last) => {
             are_cases_declared(choices, labels, values) && is_declared(last, labels, values)
         }
-        Chart::Loop(_, until, body) => {
-            compares_values(until, values) && is_declared(body, labels, values)
+        Chart::Loop(_, turn) => {
+            compares_values(&turn.0, values) && is_declared(&turn.1, labels, values)
         }
     }
 }

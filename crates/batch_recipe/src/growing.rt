@@ -124,9 +124,9 @@ fn grow(
             finish(nodes, node);
             Ok(())
         }
-        Chart::Loop(_, _, body) => {
+        Chart::Loop(_, turn) => {
             let node = begin(nodes, Kind::Loop, parent, child)?;
-            grow(nodes, acts, body, level, node, 0)?;
+            grow(nodes, acts, &turn.1, level, node, 0)?;
             finish(nodes, node);
             Ok(())
         }

@@ -101,7 +101,8 @@ fn count_of_more(alloc: Global) -> Result<Option<u16>, Fail> {
 
 fn count_with_most(alloc: Global, parts: Vec<Chart>) -> Result<Option<u16>, Fail> {
     let charge = labels(alloc, b"ADD", 175)?;
-    count(alloc, Chart::Seq(parts), Chart::Seq(charge))
+    let procedure = Chart::Seq(Box::new(alloc, parts)?);
+    count(alloc, procedure, Chart::Seq(Box::new(alloc, charge)?))
 }
 
 fn first_name(table: &[Act]) -> Option<&str> {
@@ -137,22 +138,24 @@ fn outlined(alloc: Global, acts: &Acts) -> Result<Outline, OutlineFault> {
 fn turns(alloc: Global) -> Result<Chart, Fail> {
     let until = above_zero(alloc)?;
     let body = label(alloc, b"ADD")?;
-    Ok(Chart::Loop(1000, until, Box::new(alloc, body)?))
+    Ok(Chart::Loop(1000, Box::new(alloc, (until, body))?))
 }
 
 /// ADD beside nothing and then HEAT.
 fn branches(alloc: Global) -> Result<Chart, Fail> {
     let heat = label(alloc, b"HEAT")?;
-    let second = Chart::Seq(vec![in alloc; Chart::Skip, heat]?);
+    let parts = vec![in alloc; Chart::Skip, heat]?;
+    let second = Chart::Seq(Box::new(alloc, parts)?);
     let first = label(alloc, b"ADD")?;
-    Ok(Chart::Par(vec![in alloc; first, second]?))
+    let parts = vec![in alloc; first, second]?;
+    Ok(Chart::Par(Box::new(alloc, parts)?))
 }
 
 /// MAKE, or else MAKE.
 fn selection(alloc: Global) -> Result<Chart, Fail> {
     let condition = above_zero(alloc)?;
     let make = label(alloc, b"MAKE")?;
-    let choices = vec![in alloc; (condition, make)]?;
+    let choices = Box::new(alloc, vec![in alloc; (condition, make)]?)?;
     let last = label(alloc, b"MAKE")?;
     Ok(Chart::Sel(choices, Box::new(alloc, last)?))
 }

@@ -280,6 +280,7 @@ fn cases(
         let (bytes, end) = word(text, place)?;
         if bytes == b"else".as_slice() && !choices.is_empty() {
             let (last, end) = last_case(alloc, text, end, depth, outside)?;
+            let choices = Box::new(alloc, choices)?;
             return Ok((Chart::Sel(choices, Box::new(alloc, last)?), end));
         }
         let (choice, end) = case(alloc, text, place, depth, outside)?;
@@ -300,7 +301,7 @@ fn turns(
 ) -> Result<(Chart, usize), Refusal> {
     let (most, until, end) = bounds(alloc, text, from, outside)?;
     let (body, end) = part(alloc, text, end, depth, b')', outside)?;
-    Ok((Chart::Loop(most, until, Box::new(alloc, body)?), end))
+    Ok((Chart::Loop(most, Box::new(alloc, (until, body))?), end))
 }
 
 /// A chart that nests at most `depth` deep, and where it ends.
@@ -326,11 +327,11 @@ pub fn chart(
     let open = sign(text, end, b'(')?;
     if bytes == b"seq".as_slice() {
         let (charts, end) = branches(alloc, text, open, inner, 1, outside)?;
-        return Ok((Chart::Seq(charts), end));
+        return Ok((Chart::Seq(Box::new(alloc, charts)?), end));
     }
     if bytes == b"par".as_slice() {
         let (charts, end) = branches(alloc, text, open, inner, 2, outside)?;
-        return Ok((Chart::Par(charts), end));
+        return Ok((Chart::Par(Box::new(alloc, charts)?), end));
     }
     if bytes == b"sel".as_slice() {
         return cases(alloc, text, open, inner, outside);

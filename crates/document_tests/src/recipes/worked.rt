@@ -173,7 +173,7 @@ const LOOPING: Example = Example {
     told: r#""1" None None None 1000 [] [] ["X"] []
 procedure L None [] Follows(Label("MAKE"))
 unit_procedure MAKE Some(Unit("R1")) [] Follows(Label("CHARGE"))
-operation CHARGE None [] Follows(Loop(1000, Cond { name: "X", op: Greater, term: Number(0) }, Label("ADD")))
+operation CHARGE None [] Follows(Loop(1000, (Cond { name: "X", op: Greater, term: Number(0) }, Label("ADD"))))
 phase ADD None [] Runs { phase: "ADD", values: [] }
 "#,
 };

@@ -9,5 +9,5 @@ pub returns-in_ok-push_conditions-in-Sel : goal.returns-in_ok-push_conditions-in
 returns-in_ok-push_conditions-in-Sel c =
     rw (c.in-Sel.is, diagram_of-sel c.in-Sel.choices c.in-Sel.field-1) (
       ap Sel (omega (arith, c.len-first.ensures)),
-      (let h = rw (c.deref.ensures.value) at c.in_ok-push_conditions-in-Sel.ensures in h) ∙ ap (λ xs. c.args.details.now.items ++ xs) (conditions-are c.in-Sel.choices.items (diagram_of c.in-Sel.field-1.value)),
+      (let h = rw (c.deref-in-Sel.ensures.value, c.deref.ensures) at c.in_ok-push_conditions-in-Sel.ensures in h) ∙ ap (λ xs. c.args.details.now.items ++ xs) (conditions-are c.in-Sel.choices.value.items (diagram_of c.in-Sel.field-1.value)),
     )

@@ -4,11 +4,11 @@ use Rattle.batch_chart.proofs.Diagrams.{nth-branch, nth-choice}
 use Rattle.batch_chart.proofs.site.below_chart.Goals as goal
 
 pub returns-in-Seq : goal.returns-in-Seq
-returns-in-Seq c = λ number. rw (c.in-Seq.is, diagram_of-seq c.in-Seq.charts, c.deref.ensures.value) (nth-branch c.in-Seq.charts.items number)
+returns-in-Seq c = λ number. rw (c.in-Seq.is, diagram_of-seq c.in-Seq.charts, c.deref-in-Seq.ensures.value, c.deref.ensures) (nth-branch c.in-Seq.charts.value.items number)
 
 pub returns-in-Par : goal.returns-in-Par
-returns-in-Par c = λ number. rw (c.in-Par.is, diagram_of-par c.in-Par.charts, c.deref-in-Par.ensures.value) (nth-branch c.in-Par.charts.items number)
+returns-in-Par c = λ number. rw (c.in-Par.is, diagram_of-par c.in-Par.charts, c.deref-in-Par-2.ensures.value, c.deref-in-Par.ensures) (nth-branch c.in-Par.charts.value.items number)
 
 pub returns-in-Sel : goal.returns-in-Sel
 returns-in-Sel c = λ number.
-    rw (c.in-Sel.is, diagram_of-sel c.in-Sel.choices c.in-Sel.last, c.deref-in-Sel.ensures.value, ← c.deref-in-Sel-2.ensures) (nth-choice c.in-Sel.choices.items (diagram_of c.deref-in-Sel-2.result.now) number)
+    rw (c.in-Sel.is, diagram_of-sel c.in-Sel.choices c.in-Sel.last, c.deref-in-Sel-2.ensures.value, c.deref-in-Sel.ensures, ← c.deref-in-Sel-3.ensures) (nth-choice c.in-Sel.choices.value.items (diagram_of c.deref-in-Sel-3.result.now) number)

@@ -1,4 +1,4 @@
-use Rattle.std.proofs.Common.{◌≡◌, [], map, ◌+◌, List, Some, None, Err, sym, ap, ◌∙◌, arith, refl, subst, slice_get, append-nil, length}
+use Rattle.std.proofs.Common.{◌≡◌, [], map, ◌+◌, List, Some, None, Err, Vec, Global, sym, ap, ◌∙◌, arith, refl, subst, slice_get, append-nil, length}
 use Rattle.std.proofs.lemmas.Grind.{common_steps}
 use Rattle.std.proofs.lemmas.Option.{slice_get_read}
 use Rattle.std.proofs.lemmas.Result.{err_from_is_err_and}
@@ -34,38 +34,38 @@ grow_parts-returns-in_err-grow_each t c =
 pub grow-returns-in-Seq : goal.grow-returns-in-Seq
 grow-returns-in-Seq t c =
     rw (c.in-Seq.is, diagram_of-seq c.in-Seq.parts)
-    (rw c.deref.ensures.value at c.grow_parts.ensures)
+    (rw (c.deref-in-Seq.ensures.value, c.deref.ensures) at c.grow_parts.ensures)
 
 pub grow-returns-in-Par : goal.grow-returns-in-Par
 grow-returns-in-Par t c =
     rw (c.in-Par.is, diagram_of-par c.in-Par.parts)
-    (rw c.deref-in-Par.ensures.value at c.grow_parts-in-Par.ensures)
+    (rw (c.deref-in-Par-2.ensures.value, c.deref-in-Par.ensures) at c.grow_parts-in-Par.ensures)
 
 pub grow-returns-in_ok-grow_choices-in-Sel : goal.grow-returns-in_ok-grow_choices-in-Sel
 grow-returns-in_ok-grow_choices-in-Sel t c =
     rw (c.in-Sel.is, diagram_of-sel c.in-Sel.choices c.in-Sel.last)
     (node_grown c.args.nodes.now.items c.begin.new.nodes.items c.grow_choices.new.nodes.items c.finish.new.nodes.items kind.Sel c.in_ok-node-in-Sel.node c.args.parent c.args.child
-    (λ m n. grown_cases (grown_named c.args.acts.now (levels_from c.args.level)) m n 0 (cases_of (map (λ choice. (choice.0, diagram_of choice.1)) c.in-Sel.choices.items) (diagram_of c.in-Sel.last.value))) c.in_ok-node-in-Sel.ensures (rw (c.deref-in-Sel.ensures.value, c.deref-in-Sel-2.ensures) at c.in_ok-grow_choices-in-Sel.ensures) c.finish.ensures)
+    (λ m n. grown_cases (grown_named c.args.acts.now (levels_from c.args.level)) m n 0 (cases_of (map (λ choice. (choice.0, diagram_of choice.1)) c.in-Sel.choices.value.items) (diagram_of c.in-Sel.last.value))) c.in_ok-node-in-Sel.ensures (rw (c.deref-in-Sel-2.ensures.value, c.deref-in-Sel.ensures, c.deref-in-Sel-3.ensures) at c.in_ok-grow_choices-in-Sel.ensures) c.finish.ensures)
 
 pub grow-returns-in_err-grow_choices-in-Sel : goal.grow-returns-in_err-grow_choices-in-Sel
 grow-returns-in_err-grow_choices-in-Sel t c =
     let p = err_from_is_err_and c.from_residual-in_err-grow_choices-in-Sel.result c.from_residual-in_err-grow_choices-in-Sel.ensures.1 in
     rw (c.in-Sel.is, diagram_of-sel c.in-Sel.choices c.in-Sel.last, p.1, p.2)
     (node_failed c.args.nodes.now.items c.begin.new.nodes.items c.grow_choices.new.nodes.items c.grow_choices.new.nodes.items kind.Sel c.in_ok-node-in-Sel.node c.args.parent c.args.child
-    (λ m n. grown_cases (grown_named c.args.acts.now (levels_from c.args.level)) m n 0 (cases_of (map (λ choice. (choice.0, diagram_of choice.1)) c.in-Sel.choices.items) (diagram_of c.in-Sel.last.value))) c.in_ok-node-in-Sel.ensures c.in_err-grow_choices-in-Sel.field-0.0 (subst (λ (xs : List (Cond × Chart)). HasGrown c.begin.new.nodes.items (choice_entries c.args.acts.now c.args.level (length c.begin.new.nodes.items) c.in_ok-node-in-Sel.node 0 xs c.in-Sel.last.value) c.grow_choices.new.nodes.items (Err c.in_err-grow_choices-in-Sel.field-0.0)) c.deref-in-Sel.ensures.value (subst (λ (l : Chart). HasGrown c.begin.new.nodes.items (choice_entries c.args.acts.now c.args.level (length c.begin.new.nodes.items) c.in_ok-node-in-Sel.node 0 c.deref-in-Sel.result.now l) c.grow_choices.new.nodes.items (Err c.in_err-grow_choices-in-Sel.field-0.0)) c.deref-in-Sel-2.ensures c.in_err-grow_choices-in-Sel.ensures)))
+    (λ m n. grown_cases (grown_named c.args.acts.now (levels_from c.args.level)) m n 0 (cases_of (map (λ choice. (choice.0, diagram_of choice.1)) c.in-Sel.choices.value.items) (diagram_of c.in-Sel.last.value))) c.in_ok-node-in-Sel.ensures c.in_err-grow_choices-in-Sel.field-0.0 (subst (λ (xs : List (Cond × Chart)). HasGrown c.begin.new.nodes.items (choice_entries c.args.acts.now c.args.level (length c.begin.new.nodes.items) c.in_ok-node-in-Sel.node 0 xs c.in-Sel.last.value) c.grow_choices.new.nodes.items (Err c.in_err-grow_choices-in-Sel.field-0.0)) (c.deref-in-Sel-2.ensures.value ∙ ap (λ (choices : Vec (Cond × Chart) Global). choices.items) c.deref-in-Sel.ensures) (subst (λ (l : Chart). HasGrown c.begin.new.nodes.items (choice_entries c.args.acts.now c.args.level (length c.begin.new.nodes.items) c.in_ok-node-in-Sel.node 0 c.deref-in-Sel-2.result.now l) c.grow_choices.new.nodes.items (Err c.in_err-grow_choices-in-Sel.field-0.0)) c.deref-in-Sel-3.ensures c.in_err-grow_choices-in-Sel.ensures)))
 
 pub grow-returns-in_ok-grow-in-Loop : goal.grow-returns-in_ok-grow-in-Loop
 grow-returns-in_ok-grow-in-Loop t c =
-    rw (c.in-Loop.is, diagram_of-loop c.in-Loop.field-0 c.in-Loop.field-1 c.in-Loop.body)
+    rw (c.in-Loop.is, diagram_of-loop c.in-Loop.field-0 c.in-Loop.turn)
     (node_grown c.args.nodes.now.items c.begin-in-Loop.new.nodes.items c.grow.new.nodes.items c.finish-in-Loop.new.nodes.items kind.Loop c.in_ok-node-in-Loop.node c.args.parent c.args.child
-    (λ m n. grown (grown_named c.args.acts.now (levels_from c.args.level)) m n 0 (diagram_of c.in-Loop.body.value)) c.in_ok-node-in-Loop.ensures (rw c.deref-in-Loop.ensures at c.in_ok-grow-in-Loop.ensures) c.finish-in-Loop.ensures)
+    (λ m n. grown (grown_named c.args.acts.now (levels_from c.args.level)) m n 0 (diagram_of c.in-Loop.turn.value.1)) c.in_ok-node-in-Loop.ensures (rw c.deref-in-Loop.ensures at c.in_ok-grow-in-Loop.ensures) c.finish-in-Loop.ensures)
 
 pub grow-returns-in_err-grow-in-Loop : goal.grow-returns-in_err-grow-in-Loop
 grow-returns-in_err-grow-in-Loop t c =
     let p = err_from_is_err_and c.from_residual-in_err-grow-in-Loop.result c.from_residual-in_err-grow-in-Loop.ensures.1 in
-    rw (c.in-Loop.is, diagram_of-loop c.in-Loop.field-0 c.in-Loop.field-1 c.in-Loop.body, p.1, p.2)
+    rw (c.in-Loop.is, diagram_of-loop c.in-Loop.field-0 c.in-Loop.turn, p.1, p.2)
     (node_failed c.args.nodes.now.items c.begin-in-Loop.new.nodes.items c.grow.new.nodes.items c.grow.new.nodes.items kind.Loop c.in_ok-node-in-Loop.node c.args.parent c.args.child
-    (λ m n. grown (grown_named c.args.acts.now (levels_from c.args.level)) m n 0 (diagram_of c.in-Loop.body.value)) c.in_ok-node-in-Loop.ensures c.in_err-grow-in-Loop.field-0.0 (subst (λ (b : Chart). HasGrown c.begin-in-Loop.new.nodes.items (chart_entries c.args.acts.now c.args.level (length c.begin-in-Loop.new.nodes.items) c.in_ok-node-in-Loop.node 0 (diagram_of b)) c.grow.new.nodes.items (Err c.in_err-grow-in-Loop.field-0.0)) c.deref-in-Loop.ensures c.in_err-grow-in-Loop.ensures))
+    (λ m n. grown (grown_named c.args.acts.now (levels_from c.args.level)) m n 0 (diagram_of c.in-Loop.turn.value.1)) c.in_ok-node-in-Loop.ensures c.in_err-grow-in-Loop.field-0.0 (subst (λ (b : Cond × Chart). HasGrown c.begin-in-Loop.new.nodes.items (chart_entries c.args.acts.now c.args.level (length c.begin-in-Loop.new.nodes.items) c.in_ok-node-in-Loop.node 0 (diagram_of b.1)) c.grow.new.nodes.items (Err c.in_err-grow-in-Loop.field-0.0)) c.deref-in-Loop.ensures c.in_err-grow-in-Loop.ensures))
 
 pub grow-grow_act-requires : goal.grow-grow_act-requires
 grow-grow_act-requires t c =
