@@ -48,21 +48,21 @@ module _ (ls : List Node) where
     act-of (act s (runs x)) (open_act u r) a n q above g p h m = absurd h.1
     act-of (act s (follows name c)) (open_act u r) a n q above g p h (inl e) = own s (follows name c) (open_act u r) a n q above g p h e
     act-of (act s (follows name c)) (open_act u r) a n q above g p h (inr m) = act-of c r a (n + 1) (child q 0) (above ++ resources_of s.needs) g.1 p.1 h.1 m
-    act-of (seq cs) (in_seq r ds) a n q above g p h m = branch-of cs r ds a (n + 1) q above 0 g.1 p h m
+    act-of (seq cs) (in_seq r doc) a n q above g p h m = branch-of cs r doc a (n + 1) q above 0 g.1 p h m
     act-of (par cs) (in_par rs) a n q above g p h m = each-of cs rs a (n + 1) q above 0 g.1 p h m
     act-of (sel ch) r a n q above g p h m = chosen-of ch r a (n + 1) q above 0 g.1 p h m
     act-of (loop i c body) (in_loop j d b r) a n q above g p h m = act-of body r a (n + 1) (child q 0) above g.1 p h.3 m
     act-of _ done a n q above g p h m = absurd m
     act-of _ _ a n q above g p h m = absurd h
 
-    branch-of : (ts : Trees) (r : Rest) (ds : Trees) (a : Rest) (n : ℕ) (q : Place) (above : List Name) (i : ℕ) → Sits ls n (nodes_of_each q above i ts) → ArePlaced q i ts → IsBranch ts r ds → Has (acts r) a → IsActOf ls a
-    branch-of no_trees r ds a n q above i g p h m = absurd h
-    branch-of (tree c cs) r ds a n q above i g p (inl h) m =
+    branch-of : (ts : Trees) (r : Rest) (doc : Trees) (a : Rest) (n : ℕ) (q : Place) (above : List Name) (i : ℕ) → Sits ls n (nodes_of_each q above i ts) → ArePlaced q i ts → IsBranch ts r doc → Has (acts r) a → IsActOf ls a
+    branch-of no_trees r doc a n q above i g p h m = absurd h
+    branch-of (tree c cs) r doc a n q above i g p (inl h) m =
         let parts = sits-append ls n (nodes.nodes (child q i) above c) (nodes_of_each q above (i + 1) cs) g in
         act-of c r a n (child q i) above parts.0 p.0 h.0 m
-    branch-of (tree c cs) r ds a n q above i g p (inr h) m =
+    branch-of (tree c cs) r doc a n q above i g p (inr h) m =
         let parts = sits-append ls n (nodes.nodes (child q i) above c) (nodes_of_each q above (i + 1) cs) g in
-        branch-of cs r ds a (n + length (nodes.nodes (child q i) above c)) q above (i + 1) parts.1 p.1 h m
+        branch-of cs r doc a (n + length (nodes.nodes (child q i) above c)) q above (i + 1) parts.1 p.1 h m
 
     each-of : (ts : Trees) (rs : Rests) (a : Rest) (n : ℕ) (q : Place) (above : List Name) (i : ℕ) → Sits ls n (nodes_of_each q above i ts) → ArePlaced q i ts → AreBranches ts rs → Has (acts_of_each rs) a → IsActOf ls a
     each-of no_trees no_rests a n q above i g p h m = absurd m
@@ -118,7 +118,7 @@ act-place s w (asking u v k) r h m = inl (ap (λ (u : Step). u.place) h.0)
 act-place s w (open_act u x) r h m = inl (ap (λ (u : Step). u.place) h.0)
 act-place s w (live u v k) r h m = inl (ap (λ (u : Step). u.place) h.0)
 act-place s w (freeing u k) r h m = inl (ap (λ (u : Step). u.place) h.0)
-act-place s w (in_seq x ds) r h m = absurd h
+act-place s w (in_seq x doc) r h m = absurd h
 act-place s w (in_par rs) r h m = absurd h
 act-place s w (in_loop n c t x) r h m = absurd h
 act-place s w done r h m = inr refl

@@ -1,6 +1,6 @@
 -- What going on from a finished node upwards needs at each kind of node.
 use Rattle.std.proofs.Common.{◌≡◌, ◌≢◌, ◌⊎◌, inl, inr, ◌<◌, ◌≤◌, ℕ, zero, suc, ◌+◌, ◌-◌, List, [], ◌∷◌, length, Bool, true, false, ◌&&◌, Some, None, arith, refl, sym, ◌∙◌, subst, ap, ap₂}
-use Rattle.std.specs.Prelude.{slice_set, slice_get, is_none, not}
+use Rattle.std.specs.Prelude.{slice_set, is_none, not}
 use Rattle.std.proofs.lemmas.Bool.{cases_lt}
 use Rattle.std.proofs.lemmas.Bool.Decides.{eqb_tells}
 use Rattle.batch_recipe.specs.Conditions.{Name, ValueList}
@@ -9,16 +9,16 @@ use Rattle.batch_recipe.specs.Tree.{Step, follows, Tree, act, skip, Trees, no_tr
 use Rattle.batch_model.specs.Rest.{in_seq, rest, is_done, all_done, advance, advance_each}
 use Rattle.batch_model.specs.Settled.{IsAdvanced}
 use Rattle.batch_machine.proofs.Advancing.{advance-advanced}
-use Rattle.batch_chart.specs.declared.node.Node.{Node}
+use Rattle.batch_recipe.specs.declared.entry.Entry.{Entry}
 use Rattle.batch_chart.specs.declared.node.Kind.{Kind}
 use Rattle.batch_chart.specs.declared.node.Kind.TheVariants.{Skip, Act, Seq, Par, Sel, Loop}
 use Rattle.batch_chart.specs.declared.node.Kind.TheVariants as kind
-use Rattle.batch_chart.specs.declared.node.Detail.{Detail}
+use Rattle.batch_recipe.specs.declared.recipe.Recipe.{Recipe}
 use Rattle.batch_chart.specs.declared.stage.Stage.{Stage}
 use Rattle.batch_chart.specs.declared.stage.Stage.TheVariants.{Finished, Ready, Asking, Open, Live, Freeing, Turning}
 use Rattle.batch_chart.specs.Stages.{stage_at, is_finished, is_begun, is_over, is_over_at, turns_of, closed_as, looped_as}
 use Rattle.batch_chart.specs.Meaning.{meaning, meaning_each, act_as, branch, chosen, AgreeOutside, AgreeWithin}
-use Rattle.batch_chart.specs.Compiled.{end_at, kind_at, judged, Stands, AreStanding, AreChoices, IsCompiled, AreCompiled, AreCompiledBranches}
+use Rattle.batch_chart.specs.Compiled.{end_at, kind_at, judged, Stands, AreStanding, AreChoices, IsCompiled, AreCompiled, AreCompiledBranches, condition_at}
 use Rattle.batch_chart.specs.Parents.{IsAbove}
 use Rattle.batch_chart.specs.Told.{TellsWhetherOver, AreTold}
 use Rattle.batch_chart.specs.Reaching.{IsReached, IsFirstReached}
@@ -71,135 +71,135 @@ set-again (x ∷ xs) (suc n) v lt e = ap (λ z. x ∷ z) (set-again xs n v (omeg
 
 -- the branches before n, and those from n on
 
-module _ (ns : List Node) (ds : List Detail) (n : ℕ) where
+module _ (ns : List Entry) (doc : Recipe) (n : ℕ) where
   abbrev EndsBy : ℕ → Type 0
   EndsBy i = (m : ℕ) → i ≤ m → m < n → end_at ns m ≤ n
 
   later-ends : (i j : ℕ) → i ≤ j → EndsBy i → EndsBy j
   later-ends i j le h m a b = h m (omega arith) b
 
-  pub split-row : (ts : Trees) (i j : ℕ) → AreStanding ns ds i j ts → i ≤ n → n < j → EndsBy i → (us : Trees) × (os : Trees) × AreStanding ns ds i n us × AreStanding ns ds n j os
+  pub split-row : (ts : Trees) (i j : ℕ) → AreStanding ns doc i j ts → i ≤ n → n < j → EndsBy i → (us : Trees) × (os : Trees) × AreStanding ns doc i n us × AreStanding ns doc n j os
   split-row no_trees i j h a b ends = absurd (omega (arith, h))
   split-row (tree c ts) i j h a b ends = elim (eqb_tells i n) [
-    | inl q ↦ (no_trees, tree c ts, q.1, subst (λ z. AreStanding ns ds z j (tree c ts)) q.1 h)
+    | inl q ↦ (no_trees, tree c ts, q.1, subst (λ z. AreStanding ns doc z j (tree c ts)) q.1 h)
     | inr q ↦
         let d = q.1 in
-        let e : i + node_count c ≤ n = omega (arith, ends i (omega arith) (omega arith), (stood ns ds i c h.0).end) in
+        let e : i + node_count c ≤ n = omega (arith, ends i (omega arith) (omega arith), (stood ns doc i c h.0).end) in
         let more = split-row ts (i + node_count c) j h.1 e b (later-ends i (i + node_count c) (omega arith) ends) in
         (tree c more.0, more.1, (h.0, more.2), more.3)
   ]
 
-  pub split-choices : (ch : Choices) (k i j : ℕ) → AreChoices ns ds k i j ch → i ≤ n → n < j → EndsBy i → (us : Trees) × (m : ℕ) × (os : Choices) × AreStanding ns ds i n us × AreChoices ns ds m n j os
+  pub split-choices : (ch : Choices) (k i j : ℕ) → AreChoices ns doc k i j ch → i ≤ n → n < j → EndsBy i → (us : Trees) × (m : ℕ) × (os : Choices) × AreStanding ns doc i n us × AreChoices ns doc m n j os
   split-choices (otherwise c) k i j h a b ends = elim (eqb_tells i n) [
-    | inl q ↦ (no_trees, k, otherwise c, q.1, subst (λ z. AreChoices ns ds k z j (otherwise c)) q.1 h)
-    | inr q ↦ let d = q.1 in absurd (omega (arith, h.1, ends i (omega arith) (omega arith), (stood ns ds i c h.0).end))
+    | inl q ↦ (no_trees, k, otherwise c, q.1, subst (λ z. AreChoices ns doc k z j (otherwise c)) q.1 h)
+    | inr q ↦ let d = q.1 in absurd (omega (arith, h.1, ends i (omega arith) (omega arith), (stood ns doc i c h.0).end))
   ]
   split-choices (choice p c ch) k i j h a b ends = elim (eqb_tells i n) [
-    | inl q ↦ (no_trees, k, choice p c ch, q.1, subst (λ z. AreChoices ns ds k z j (choice p c ch)) q.1 h)
+    | inl q ↦ (no_trees, k, choice p c ch, q.1, subst (λ z. AreChoices ns doc k z j (choice p c ch)) q.1 h)
     | inr q ↦
         let d = q.1 in
-        let e : i + node_count c ≤ n = omega (arith, ends i (omega arith) (omega arith), (stood ns ds i c h.1).end) in
+        let e : i + node_count c ≤ n = omega (arith, ends i (omega arith) (omega arith), (stood ns doc i c h.1).end) in
         let more = split-choices ch (k + 1) (i + node_count c) j h.2 e b (later-ends i (i + node_count c) (omega arith) ends) in
         (tree c more.0, more.1, more.2, (h.1, more.3), more.4)
   ]
 
 -- the node at p is above that at n
 
-module _ (ns : List Node) (ds : List Detail) (p n : ℕ) (ys : List Stage) (compiled : IsCompiled ns ds ys p) (above : IsAbove ns p n) where
+module _ (ns : List Entry) (doc : Recipe) (p n : ℕ) (ys : List Stage) (compiled : IsCompiled ns doc ys p) (above : IsAbove ns p n) where
   p-end : end_at ns p ≡ p + node_count compiled.1.0
-  p-end = (stood ns ds p compiled.1.0 compiled.1.1).end
+  p-end = (stood ns doc p compiled.1.0 compiled.1.1).end
 
   p-within : p < length ns
-  p-within = (stood ns ds p compiled.1.0 compiled.1.1).within
+  p-within = (stood ns doc p compiled.1.0 compiled.1.1).within
 
   p-fits : end_at ns p ≤ length ns
-  p-fits = omega (arith, p-end, (stood ns ds p compiled.1.0 compiled.1.1).fits)
+  p-fits = omega (arith, p-end, (stood ns doc p compiled.1.0 compiled.1.1).fits)
 
-  n-stands : (c : Tree) × Stands ns ds n c
-  n-stands = some-stands ns ds n compiled.1.0 p compiled.1.1 (omega (arith, above.before)) (omega (arith, above.past, p-end))
+  n-stands : (c : Tree) × Stands ns doc n c
+  n-stands = some-stands ns doc n compiled.1.0 p compiled.1.1 (omega (arith, above.before)) (omega (arith, above.past, p-end))
 
   n-end : end_at ns n ≤ end_at ns p
-  n-end = let e : end_at ns n ≤ p + node_count compiled.1.0 = nested ns ds n compiled.1.0 p compiled.1.1 (omega (arith, above.before)) (omega (arith, above.past, p-end)) in omega (arith, p-end)
+  n-end = let e : end_at ns n ≤ p + node_count compiled.1.0 = nested ns doc n compiled.1.0 p compiled.1.1 (omega (arith, above.before)) (omega (arith, above.past, p-end)) in omega (arith, p-end)
 
   n-below : n < end_at ns n
-  n-below = omega (arith, (stood ns ds n n-stands.0 n-stands.1).end, count-pos n-stands.0)
+  n-below = omega (arith, (stood ns doc n n-stands.0 n-stands.1).end, count-pos n-stands.0)
 
   -- the only tree below a node is at the next one
-  pub only-child : (d : Tree) → Stands ns ds (p + 1) d → end_at ns p ≡ p + (1 + node_count d) → n ≡ p + 1
+  pub only-child : (d : Tree) → Stands ns doc (p + 1) d → end_at ns p ≡ p + (1 + node_count d) → n ≡ p + 1
   only-child d s e =
       elim (cases_lt (p + 1) n) [
-        | inl lt ↦ absurd (omega (arith, above.between (p + 1) (omega arith) lt, (stood ns ds (p + 1) d s).end, above.past, e))
+        | inl lt ↦ absurd (omega (arith, above.between (p + 1) (omega arith) lt, (stood ns doc (p + 1) d s).end, above.past, e))
         | inr le ↦ omega (arith, above.before)
       ]
 
   pub no-skip : kind_at ns p ≡ Skip → ⊥
-  no-skip e = go compiled.1.0 (skip-at ns ds p e compiled.1.0 compiled.1.1) compiled.1.1
+  no-skip e = go compiled.1.0 (skip-at ns doc p e compiled.1.0 compiled.1.1) compiled.1.1
     where
-      go : (c : Tree) → SkipAt ns ds p c → Stands ns ds p c → ⊥
-      go _ skip_at s = absurd (omega (arith, (stood ns ds p skip s).end, above.before, above.past))
+      go : (c : Tree) → SkipAt ns doc p c → Stands ns doc p c → ⊥
+      go _ skip_at s = absurd (omega (arith, (stood ns doc p skip s).end, above.before, above.past))
 
   pub no-phase : (k i : ℕ) → kind_at ns p ≡ kind.Phase k i → ⊥
-  no-phase k i e = go compiled.1.0 (phase-at ns ds p k i e compiled.1.0 compiled.1.1)
+  no-phase k i e = go compiled.1.0 (phase-at ns doc p k i e compiled.1.0 compiled.1.1)
     where
-      go : (c : Tree) → PhaseAt ns ds p k i c → ⊥
+      go : (c : Tree) → PhaseAt ns doc p k i c → ⊥
       go _ (phase_at s q a f g) = absurd (omega (arith, f, above.before, above.past))
 
-  pub n-compiled : IsCompiled ns ds ys n
+  pub n-compiled : IsCompiled ns doc ys n
   n-compiled = (compiled.0, n-stands)
 
   pub loop-child : (k i : ℕ) → kind_at ns p ≡ Loop k i → (n ≡ p + 1) × (end_at ns n ≡ end_at ns p)
-  loop-child k i e = go compiled.1.0 (loop-at ns ds p k i e compiled.1.0 compiled.1.1)
+  loop-child k i e = go compiled.1.0 (loop-at ns doc p k i e compiled.1.0 compiled.1.1)
     where
-      go : (c : Tree) → LoopAt ns ds p k i c → (n ≡ p + 1) × (end_at ns n ≡ end_at ns p)
+      go : (c : Tree) → LoopAt ns doc p k i c → (n ≡ p + 1) × (end_at ns n ≡ end_at ns p)
       go _ (loop_at q body w s f) =
           let at : n ≡ p + 1 = only-child body s f in
-          (at, ap (end_at ns) at ∙ omega (arith, f, (stood ns ds (p + 1) body s).end))
+          (at, ap (end_at ns) at ∙ omega (arith, f, (stood ns doc (p + 1) body s).end))
 
   ends-by : (m : ℕ) → p + 1 ≤ m → m < n → end_at ns m ≤ n
   ends-by m a b = above.between m (omega arith) b
 
-  seq-split : kind_at ns p ≡ Seq → (us : Trees) × (os : Trees) × AreStanding ns ds (p + 1) n us × AreStanding ns ds n (end_at ns p) os
-  seq-split e = let k = seq-compiled ns ds ys ys p compiled e compiled.0 in split-row ns ds n k.1.0 (p + 1) (end_at ns p) k.1.1 (omega (arith, above.before)) above.past ends-by
+  seq-split : kind_at ns p ≡ Seq → (us : Trees) × (os : Trees) × AreStanding ns doc (p + 1) n us × AreStanding ns doc n (end_at ns p) os
+  seq-split e = let k = seq-compiled ns doc ys ys p compiled e compiled.0 in split-row ns doc n k.1.0 (p + 1) (end_at ns p) k.1.1 (omega (arith, above.before)) above.past ends-by
 
-  sel-split : (i : ℕ) → kind_at ns p ≡ Sel i → (us : Trees) × (m : ℕ) × (os : Choices) × AreStanding ns ds (p + 1) n us × AreChoices ns ds m n (end_at ns p) os
-  sel-split i e = let k = sel-compiled ns ds ys ys p i compiled e compiled.0 in split-choices ns ds n k.1.0 i (p + 1) (end_at ns p) k.1.1 (omega (arith, above.before)) above.past ends-by
+  sel-split : (i : ℕ) → kind_at ns p ≡ Sel i → (us : Trees) × (m : ℕ) × (os : Choices) × AreStanding ns doc (p + 1) n us × AreChoices ns doc m n (end_at ns p) os
+  sel-split i e = let k = sel-compiled ns doc ys ys p i compiled e compiled.0 in split-choices ns doc n k.1.0 i (p + 1) (end_at ns p) k.1.1 (omega (arith, above.before)) above.past ends-by
 
-  pub seq-before : kind_at ns p ≡ Seq → AreCompiled ns ds ys (p + 1) n
+  pub seq-before : kind_at ns p ≡ Seq → AreCompiled ns doc ys (p + 1) n
   seq-before e = let k = seq-split e in (compiled.0, (k.0, k.2))
 
-  pub sel-before : (i : ℕ) → kind_at ns p ≡ Sel i → AreCompiled ns ds ys (p + 1) n
+  pub sel-before : (i : ℕ) → kind_at ns p ≡ Sel i → AreCompiled ns doc ys (p + 1) n
   sel-before i e = let k = sel-split i e in (compiled.0, (k.0, k.3))
 
-  pub seq-rest : kind_at ns p ≡ Seq → AreCompiled ns ds ys (end_at ns n) (end_at ns p)
+  pub seq-rest : kind_at ns p ≡ Seq → AreCompiled ns doc ys (end_at ns n) (end_at ns p)
   seq-rest e =
       let k = seq-split e in
       let ne : n ≢ end_at ns p = λ q. absurd (omega (arith, above.past)) in
-      rest-compiled ns ds ys ys n (end_at ns p) ne (compiled.0, (k.1, k.3)) compiled.0
+      rest-compiled ns doc ys ys n (end_at ns p) ne (compiled.0, (k.1, k.3)) compiled.0
 
   -- the subtrees from p on end at n's end
-  nest-n : (j : ℕ) (c : Tree) → p < j → j < end_at ns n → Stands ns ds j c → j + node_count c ≤ end_at ns n
+  nest-n : (j : ℕ) (c : Tree) → p < j → j < end_at ns n → Stands ns doc j c → j + node_count c ≤ end_at ns n
   nest-n j c a b s = go (cases_lt j n)
     where
       go : (j < n) ⊎ (n ≤ j) → j + node_count c ≤ end_at ns n
-      go (inl u) = omega (arith, above.between j a u, (stood ns ds j c s).end, n-below)
-      go (inr u) = nests ns ds n n-stands.0 n-stands.1 j c u b s
+      go (inl u) = omega (arith, above.between j a u, (stood ns doc j c s).end, n-below)
+      go (inr u) = nests ns doc n n-stands.0 n-stands.1 j c u b s
 
 -- the tree at n, a branch of the node at p, has been finished
 
-module _ (ns : List Node) (ds : List Detail) (vs : ValueList) (p n : ℕ) (ys : List Stage) (compiled : IsCompiled ns ds ys p) (above : IsAbove ns p n) (xs ws : List Stage) (r : IsRisen ns ds vs xs ws n ys) where
+module _ (ns : List Entry) (doc : Recipe) (vs : ValueList) (p n : ℕ) (ys : List Stage) (compiled : IsCompiled ns doc ys p) (above : IsAbove ns p n) (xs ws : List Stage) (r : IsRisen ns doc vs xs ws n ys) where
   fits-p : end_at ns p ≤ length ns
-  fits-p = p-fits ns ds p n ys compiled above
+  fits-p = p-fits ns doc p n ys compiled above
 
   within-p : p < length ns
-  within-p = p-within ns ds p n ys compiled above
+  within-p = p-within ns doc p n ys compiled above
 
   end-n : end_at ns n ≤ end_at ns p
-  end-n = n-end ns ds p n ys compiled above
+  end-n = n-end ns doc p n ys compiled above
 
   below-n : n < end_at ns n
-  below-n = n-below ns ds p n ys compiled above
+  below-n = n-below ns doc p n ys compiled above
 
-  then-compiled : IsCompiled ns ds ws p
+  then-compiled : IsCompiled ns doc ws p
   then-compiled = (r.after, compiled.1)
 
   was-own : stage_at ws p ≡ stage_at xs p
@@ -217,7 +217,7 @@ module _ (ns : List Node) (ds : List Detail) (vs : ValueList) (p n : ℕ) (ys : 
   wide-now k (inr q) = r.advanced.outside k (inr (omega (arith, end-n)))
 
   -- all below p tell
-  pub told-under : AreTold ns ds (p + 1) (end_at ns p) ys
+  pub told-under : AreTold ns doc (p + 1) (end_at ns p) ys
   told-under j c a b s = go (cases_lt j n) (cases_lt j (end_at ns n))
     where
       was : TellsWhetherOver c j xs
@@ -225,44 +225,44 @@ module _ (ns : List Node) (ds : List Detail) (vs : ValueList) (p n : ℕ) (ys : 
 
       go : (j < n) ⊎ (n ≤ j) → (j < end_at ns n) ⊎ (end_at ns n ≤ j) → TellsWhetherOver c j ys
       go (inl u) v =
-          let e : j + node_count c ≤ n = omega (arith, above.between j (omega arith) u, (stood ns ds j c s).end) in
-          told-agree ns ds c j xs ys (λ k f g. r.advanced.outside k (inl (omega arith)) ∙ r.same k (inl (omega arith))) was
+          let e : j + node_count c ≤ n = omega (arith, above.between j (omega arith) u, (stood ns doc j c s).end) in
+          told-agree ns doc c j xs ys (λ k f g. r.advanced.outside k (inl (omega arith)) ∙ r.same k (inl (omega arith))) was
       go (inr u) (inl v) = r.below j c u v s
-      go (inr u) (inr v) = told-agree ns ds c j xs ys (λ k f g. r.advanced.outside k (inr (omega arith)) ∙ r.same k (inr (omega arith))) was
+      go (inr u) (inr v) = told-agree ns doc c j xs ys (λ k f g. r.advanced.outside k (inr (omega arith)) ∙ r.same k (inr (omega arith))) was
 
   -- p's own stage is written last
-  set-under : (zs us : List Stage) (v : Stage) → us ≡ slice_set zs p v → AreTold ns ds (p + 1) (end_at ns p) zs → AreTold ns ds (p + 1) (end_at ns p) us
+  set-under : (zs us : List Stage) (v : Stage) → us ≡ slice_set zs p v → AreTold ns doc (p + 1) (end_at ns p) zs → AreTold ns doc (p + 1) (end_at ns p) us
   set-under zs us v e h =
-      told-same ns ds (p + 1) (end_at ns p) zs us (nests-below ns ds p (p + 1) (end_at ns p) (omega arith) (nests ns ds p compiled.1.0 compiled.1.1))
+      told-same ns doc (p + 1) (end_at ns p) zs us (nests-below ns doc p (p + 1) (end_at ns p) (omega arith) (nests ns doc p compiled.1.0 compiled.1.1))
       (subst (λ l. AgreeWithin (p + 1) (end_at ns p) zs l) (sym e) (within-set zs p (end_at ns p) v)) h
 
-  whole : (zs : List Stage) (b : Bool) → HasAdvanced ns ds vs p ws zs b → AreTold ns ds (p + 1) (end_at ns p) zs → AreTold ns ds p (end_at ns p) zs
+  whole : (zs : List Stage) (b : Bool) → HasAdvanced ns doc vs p ws zs b → AreTold ns doc (p + 1) (end_at ns p) zs → AreTold ns doc p (end_at ns p) zs
   whole zs b a h =
-      told-one ns ds p (end_at ns p) zs
+      told-one ns doc p (end_at ns p) zs
       (λ c s. (let m = a.means c s in record { finished = a.own ∙ m.1 ∙ sym (ap is_done m.0); advanced = subst IsAdvanced (sym m.0) (advance-advanced vs (meaning c p ws)) }))
       h
 
-  passed : (zs : List Stage) (b : Bool) → is_finished (stage_at ws p) ≡ false → HasAdvanced ns ds vs p ws zs b → AreTold ns ds (p + 1) (end_at ns p) zs → HasPassed ns ds vs xs ws p zs b
+  passed : (zs : List Stage) (b : Bool) → is_finished (stage_at ws p) ≡ false → HasAdvanced ns doc vs p ws zs b → AreTold ns doc (p + 1) (end_at ns p) zs → HasPassed ns doc vs xs ws p zs b
   passed zs true l a h = record { before = r.before; after = r.after; told = r.told; same = wide; left = l; advanced = a; below = whole zs true a h }
   passed zs false l a h = record { finished = false; told = r.told; same = wide; stage = was-own; kept = a.own ∙ sym l; advanced = a; below = whole zs false a h }
 
   -- p isn't reached, or has ended
-  pub passed-over : true ≡ is_over_at (kind_at ns p) (stage_at ys p) → HasStopped ns ds vs xs ws p ys
+  pub passed-over : true ≡ is_over_at (kind_at ns p) (stage_at ys p) → HasStopped ns doc vs xs ws p ys
   passed-over o =
       let then : true ≡ is_over_at (kind_at ns p) (stage_at ws p) = o ∙ ap (is_over_at (kind_at ns p)) is-own in
       let before : true ≡ is_over_at (kind_at ns p) (stage_at xs p) = then ∙ ap (is_over_at (kind_at ns p)) was-own in
-      let now = over-at ns ds vs ys p compiled (kind_at ns p) refl o in
-      let was = over-at ns ds vs ws p then-compiled (kind_at ns p) refl then in
-      let first = over-at ns ds vs xs p (r.before, compiled.1) (kind_at ns p) refl before compiled.1.0 compiled.1.1 in
+      let now = over-at ns doc vs ys p compiled (kind_at ns p) refl o in
+      let was = over-at ns doc vs ws p then-compiled (kind_at ns p) refl then in
+      let first = over-at ns doc vs xs p (r.before, compiled.1) (kind_at ns p) refl before compiled.1.0 compiled.1.1 in
       let own : is_finished (stage_at xs p) ≡ true = (r.told p compiled.1.0 (omega arith) within-p compiled.1.1).finished ∙ ap is_done first in
-      let a : HasAdvanced ns ds vs p ws ys true = record {
+      let a : HasAdvanced ns doc vs p ws ys true = record {
         means = λ c s. (now c s ∙ sym (ap (advance vs) (was c s)), sym (ap (λ z. is_done (advance vs z)) (was c s)));
         own = ap is_finished (is-own ∙ was-own) ∙ own;
         outside = wide-now;
       } in
       record { finished = true; told = r.told; same = wide; stage = was-own; kept = ap is_finished is-own; advanced = a; below = whole ys true a told-under }
 
-  pub passed-idle : (k i : ℕ) → kind_at ns p ≡ Loop k i → None ≡ turns_of (stage_at ys p) → HasStopped ns ds vs xs ws p ys
+  pub passed-idle : (k i : ℕ) → kind_at ns p ≡ Loop k i → None ≡ turns_of (stage_at ys p) → HasStopped ns doc vs xs ws p ys
   passed-idle k i e q = passed-over (ap is_none q ∙ sym (ap (λ κ. is_over_at κ (stage_at ys p)) e))
 
   -- p is left
@@ -270,38 +270,38 @@ module _ (ns : List Node) (ds : List Detail) (vs : ValueList) (p n : ℕ) (ys : 
     left-own : is_finished (stage_at ws p) ≡ false
     left-own = unover-left κ (stage_at ws p) (sym (o ∙ ap (is_over_at κ) is-own))
 
-    pub passed-as : (zs : List Stage) (b : Bool) → HasAdvanced ns ds vs p ws zs b → AreTold ns ds (p + 1) (end_at ns p) zs → HasPassed ns ds vs xs ws p zs b
+    pub passed-as : (zs : List Stage) (b : Bool) → HasAdvanced ns doc vs p ws zs b → AreTold ns doc (p + 1) (end_at ns p) zs → HasPassed ns doc vs xs ws p zs b
     passed-as zs b a h = passed zs b left-own a h
 
   -- an act with a chart waits until it is ended
-  pub passed-act : (k : ℕ) → kind_at ns p ≡ Act k → false ≡ is_over (stage_at ys p) → HasStopped ns ds vs xs ws p ys
-  passed-act k e o = go compiled.1.0 (act-at ns ds p k e compiled.1.0 compiled.1.1) (is_begun (stage_at ws p)) refl
+  pub passed-act : (k : ℕ) → kind_at ns p ≡ Act k → false ≡ is_over (stage_at ys p) → HasStopped ns doc vs xs ws p ys
+  passed-act k e o = go compiled.1.0 (act-at ns doc p k e compiled.1.0 compiled.1.1) (is_begun (stage_at ws p)) refl
     where
       still : (s : Step) (m : Name) (d : Tree) → is_begun (stage_at ws p) ≡ false → meaning (act s (follows m d)) p ys ≡ meaning (act s (follows m d)) p ws
       still s m d q = ap (act_as s (follows m d) (meaning d (p + 1) ys)) is-own ∙ unbegun-act s (follows m d) (meaning d (p + 1) ys) (meaning d (p + 1) ws) (stage_at ws p) q
 
-      alone : (c : Tree) → ActAt ns ds p k c → is_begun (stage_at ws p) ≡ false → meaning c p ys ≡ meaning c p ws
+      alone : (c : Tree) → ActAt ns doc p k c → is_begun (stage_at ws p) ≡ false → meaning c p ys ≡ meaning c p ws
       alone _ (act_at s m d a f g) q = still s m d q
 
-      unbegun : is_begun (stage_at ws p) ≡ false → HasAdvanced ns ds vs p ws ys false
+      unbegun : is_begun (stage_at ws p) ≡ false → HasAdvanced ns doc vs p ws ys false
       unbegun q =
-          let a : HasAdvanced ns ds vs p ws ws false = advanced-act_still ns ds vs ws p then-compiled k e (sym q) (o ∙ ap is_over is-own) in
+          let a : HasAdvanced ns doc vs p ws ws false = advanced-act_still ns doc vs ws p then-compiled k e (sym q) (o ∙ ap is_over is-own) in
           record {
-            means = λ c s. (let m = a.means c s in (alone c (act-at ns ds p k e c s) q ∙ m.0, m.1));
+            means = λ c s. (let m = a.means c s in (alone c (act-at ns doc p k e c s) q ∙ m.0, m.1));
             own = ap is_finished is-own ∙ a.own;
             outside = wide-now;
           }
 
-      go : (c : Tree) → ActAt ns ds p k c → (b : Bool) → is_begun (stage_at ws p) ≡ b → HasStopped ns ds vs xs ws p ys
+      go : (c : Tree) → ActAt ns doc p k c → (b : Bool) → is_begun (stage_at ws p) ≡ b → HasStopped ns doc vs xs ws p ys
       go _ (act_at s m d a f g) true q =
-          let at : n ≡ p + 1 = only-child ns ds p n ys compiled above d a f in
-          passed-as (Act k) e o ys false (advanced-act_chart ns ds vs ws p then-compiled ys k true e (sym q) (subst (λ z. HasAdvanced ns ds vs z ws ys true) at r.advanced)) told-under
+          let at : n ≡ p + 1 = only-child ns doc p n ys compiled above d a f in
+          passed-as (Act k) e o ys false (advanced-act_chart ns doc vs ws p then-compiled ys k true e (sym q) (subst (λ z. HasAdvanced ns doc vs z ws ys true) at r.advanced)) told-under
       go _ (act_at s m d a f g) false q = passed-as (Act k) e o ys false (unbegun q) told-under
 
   -- nothing follows of itself after a tree without branches
-  pub passed-still : (kind_at ns p ≡ Skip) ⊎ (((k : ℕ) × (i : ℕ) × (kind_at ns p ≡ kind.Phase k i)) ⊎ ((k : ℕ) × (kind_at ns p ≡ Act k))) → false ≡ is_over_at (kind_at ns p) (stage_at ys p) → HasStopped ns ds vs xs ws p ys
-  passed-still (inl e) o = absurd (no-skip ns ds p n ys compiled above e)
-  passed-still (inr (inl h)) o = absurd (no-phase ns ds p n ys compiled above h.0 h.1 h.2)
+  pub passed-still : (kind_at ns p ≡ Skip) ⊎ (((k : ℕ) × (i : ℕ) × (kind_at ns p ≡ kind.Phase k i)) ⊎ ((k : ℕ) × (kind_at ns p ≡ Act k))) → false ≡ is_over_at (kind_at ns p) (stage_at ys p) → HasStopped ns doc vs xs ws p ys
+  passed-still (inl e) o = absurd (no-skip ns doc p n ys compiled above e)
+  passed-still (inr (inl h)) o = absurd (no-phase ns doc p n ys compiled above h.0 h.1 h.2)
   passed-still (inr (inr h)) o = passed-act h.0 h.1 (o ∙ ap (λ κ. is_over_at κ (stage_at ys p)) h.1)
 
   -- rows
@@ -313,7 +313,7 @@ module _ (ns : List Node) (ds : List Detail) (vs : ValueList) (p n : ℕ) (ys : 
   off-was i q = r.same i q
 
   -- a tree beside the one at n
-  beside : (c : Tree) (i : ℕ) → Stands ns ds i c → (i + node_count c ≤ n) ⊎ (end_at ns n ≤ i) → (meaning c i ys ≡ meaning c i ws) × (meaning c i ws ≡ meaning c i xs) × (stage_at ws i ≡ stage_at xs i) × (stage_at ys i ≡ stage_at ws i)
+  beside : (c : Tree) (i : ℕ) → Stands ns doc i c → (i + node_count c ≤ n) ⊎ (end_at ns n ≤ i) → (meaning c i ys ≡ meaning c i ws) × (meaning c i ws ≡ meaning c i xs) × (stage_at ws i ≡ stage_at xs i) × (stage_at ys i ≡ stage_at ws i)
   beside c i s (inl q) = (
     meaning-agree ws ys c i (λ k a b. off-own k (inl (omega arith))),
     meaning-agree xs ws c i (λ k a b. off-was k (inl (omega arith))),
@@ -328,10 +328,10 @@ module _ (ns : List Node) (ds : List Detail) (vs : ValueList) (p n : ℕ) (ys : 
   )
 
   -- it tells, and stays
-  stays : (c : Tree) (i : ℕ) → Stands ns ds i c → (i + node_count c ≤ n) ⊎ (end_at ns n ≤ i) → IsAdvanced (meaning c i ws) × (is_finished (stage_at ys i) ≡ is_done (meaning c i ws)) × (meaning c i ys ≡ meaning c i ws)
+  stays : (c : Tree) (i : ℕ) → Stands ns doc i c → (i + node_count c ≤ n) ⊎ (end_at ns n ≤ i) → IsAdvanced (meaning c i ws) × (is_finished (stage_at ys i) ≡ is_done (meaning c i ws)) × (meaning c i ys ≡ meaning c i ws)
   stays c i s q =
       let b = beside c i s q in
-      let was = r.told i c (omega arith) (stood ns ds i c s).within s in (
+      let was = r.told i c (omega arith) (stood ns doc i c s).within s in (
         subst IsAdvanced (sym b.1) was.advanced,
         ap is_finished (b.3 ∙ b.2) ∙ was.finished ∙ sym (ap is_done b.1),
         b.0,
@@ -342,11 +342,11 @@ module _ (ns : List Node) (ds : List Detail) (vs : ValueList) (p n : ℕ) (ys : 
   outside-row i j a b k (inr q) = r.advanced.outside k (inr (omega arith))
 
   -- the branch that runs comes before n
-  stuck-row : (i j : ℕ) → i ≢ j → end_at ns i ≤ n → i < n → end_at ns n ≤ j → is_finished (stage_at ys i) ≡ false → HasFirstAdvanced ns ds vs i j ws ys false
+  stuck-row : (i j : ℕ) → i ≢ j → end_at ns i ≤ n → i < n → end_at ns n ≤ j → is_finished (stage_at ys i) ≡ false → HasFirstAdvanced ns doc vs i j ws ys false
   stuck-row i j ne le lt fits u =
-      record { means = λ ts q. go ts (row-at ns ds i j ne ts q); outside = outside-row i j (omega arith) fits }
+      record { means = λ ts q. go ts (row-at ns doc i j ne ts q); outside = outside-row i j (omega arith) fits }
     where
-      go : (ts : Trees) → RowAt ns ds i j ts → (branch ts i ys ≡ advance vs (branch ts i ws)) × (false ≡ is_done (advance vs (branch ts i ws)))
+      go : (ts : Trees) → RowAt ns doc i j ts → (branch ts i ys ≡ advance vs (branch ts i ws)) × (false ≡ is_done (advance vs (branch ts i ws)))
       go _ (row_at c ts s q e f) =
           let k = stays c i s (inl (omega (arith, e))) in
           let unfinished : is_finished (stage_at ws i) ≡ false = ap is_finished (sym (off-own i (inl lt))) ∙ u in
@@ -356,39 +356,39 @@ module _ (ns : List Node) (ds : List Detail) (vs : ValueList) (p n : ℕ) (ys : 
             sym (ap is_done on),
           )
 
-  not-yet : (us : Trees) (i j : ℕ) → AreStanding ns ds i n us → AreCompiled ns ds ws i j → end_at ns n ≤ j → all_finished us i ys ≡ false → HasFirstAdvanced ns ds vs i j ws ys false
+  not-yet : (us : Trees) (i j : ℕ) → AreStanding ns doc i n us → AreCompiled ns doc ws i j → end_at ns n ≤ j → all_finished us i ys ≡ false → HasFirstAdvanced ns doc vs i j ws ys false
   not-yet no_trees i j h k fits f = absurd (cc)
   not-yet (tree c us) i j h k fits f =
-      let e = (stood ns ds i c h.0).end in
-      let l : i + node_count c ≤ n = omega (arith, stood-each ns ds (i + node_count c) n us h.1) in
+      let e = (stood ns doc i c h.0).end in
+      let l : i + node_count c ≤ n = omega (arith, stood-each ns doc (i + node_count c) n us h.1) in
       let lt : i < n = omega (arith, count-pos c) in
       let ne : i ≢ j = λ q. absurd (omega (arith, below-n)) in
       elim (one-false (is_finished (stage_at ys i)) (all_finished us (i + node_count c) ys) f) [
         | inl q ↦
-            moved-later ns ds vs ws i j ne k ys false (sym q.0 ∙ ap is_finished (off-own i (inl lt)))
-            (subst (λ z. HasFirstAdvanced ns ds vs z j ws ys false) (sym e)
-            (not-yet us (i + node_count c) j h.1 (subst (λ z. AreCompiled ns ds ws z j) e (rest-compiled ns ds ws ws i j ne k r.after)) fits q.1))
+            moved-later ns doc vs ws i j ne k ys false (sym q.0 ∙ ap is_finished (off-own i (inl lt)))
+            (subst (λ z. HasFirstAdvanced ns doc vs z j ws ys false) (sym e)
+            (not-yet us (i + node_count c) j h.1 (subst (λ z. AreCompiled ns doc ws z j) e (rest-compiled ns doc ws ws i j ne k r.after)) fits q.1))
         | inr q ↦ stuck-row i j ne (omega (arith, e)) lt fits q
       ]
 
-  went-row : (us : Trees) (i j : ℕ) → AreStanding ns ds i n us → AreCompiled ns ds ws i j → end_at ns n ≤ j → all_finished us i ys ≡ true → (zs : List Stage) (b : Bool) → HasFirstAdvanced ns ds vs n j ws zs b → HasFirstAdvanced ns ds vs i j ws zs b
-  went-row no_trees i j h k fits f zs b a = subst (λ z. HasFirstAdvanced ns ds vs z j ws zs b) (sym h) a
+  went-row : (us : Trees) (i j : ℕ) → AreStanding ns doc i n us → AreCompiled ns doc ws i j → end_at ns n ≤ j → all_finished us i ys ≡ true → (zs : List Stage) (b : Bool) → HasFirstAdvanced ns doc vs n j ws zs b → HasFirstAdvanced ns doc vs i j ws zs b
+  went-row no_trees i j h k fits f zs b a = subst (λ z. HasFirstAdvanced ns doc vs z j ws zs b) (sym h) a
   went-row (tree c us) i j h k fits f zs b a =
-      let e = (stood ns ds i c h.0).end in
-      let lt : i < n = omega (arith, stood-each ns ds (i + node_count c) n us h.1, count-pos c) in
+      let e = (stood ns doc i c h.0).end in
+      let lt : i < n = omega (arith, stood-each ns doc (i + node_count c) n us h.1, count-pos c) in
       let ne : i ≢ j = λ q. absurd (omega (arith, below-n)) in
       let q = both-true (is_finished (stage_at ys i)) (all_finished us (i + node_count c) ys) f in
-      moved-later ns ds vs ws i j ne k zs b (sym q.0 ∙ ap is_finished (off-own i (inl lt)))
-      (subst (λ z. HasFirstAdvanced ns ds vs z j ws zs b) (sym e)
-      (went-row us (i + node_count c) j h.1 (subst (λ z. AreCompiled ns ds ws z j) e (rest-compiled ns ds ws ws i j ne k r.after)) fits q.1 zs b a))
+      moved-later ns doc vs ws i j ne k zs b (sym q.0 ∙ ap is_finished (off-own i (inl lt)))
+      (subst (λ z. HasFirstAdvanced ns doc vs z j ws zs b) (sym e)
+      (went-row us (i + node_count c) j h.1 (subst (λ z. AreCompiled ns doc ws z j) e (rest-compiled ns doc ws ws i j ne k r.after)) fits q.1 zs b a))
 
   -- the same of a selection
 
-  stuck-choice : (i j : ℕ) → end_at ns i ≢ j → end_at ns i ≤ n → i < n → end_at ns n ≤ j → is_finished (stage_at ys i) ≡ false → HasChoiceAdvanced ns ds vs i j ws ys false
+  stuck-choice : (i j : ℕ) → end_at ns i ≢ j → end_at ns i ≤ n → i < n → end_at ns n ≤ j → is_finished (stage_at ys i) ≡ false → HasChoiceAdvanced ns doc vs i j ws ys false
   stuck-choice i j ne le lt fits u =
-      record { means = λ m ch q. go m ch (choice-at ns ds m i j ne ch q); outside = outside-row i j (omega arith) fits }
+      record { means = λ m ch q. go m ch (choice-at ns doc m i j ne ch q); outside = outside-row i j (omega arith) fits }
     where
-      go : (m : ℕ) (ch : Choices) → ChoiceAt ns ds m i j ch → (false ≡ false → chosen ch i ys ≡ advance vs (chosen ch i ws)) × (false ≡ is_done (advance vs (chosen ch i ws)))
+      go : (m : ℕ) (ch : Choices) → ChoiceAt ns doc m i j ch → (false ≡ false → chosen ch i ys ≡ advance vs (chosen ch i ws)) × (false ≡ is_done (advance vs (chosen ch i ws)))
       go m _ (choice_at w c ch q s later e f) =
           let k = stays c i s (inl (omega (arith, e))) in
           let unfinished : is_finished (stage_at ws i) ≡ false = ap is_finished (sym (off-own i (inl lt))) ∙ u in
@@ -398,42 +398,42 @@ module _ (ns : List Node) (ds : List Detail) (vs : ValueList) (p n : ℕ) (ys : 
             sym (ap is_done on ∙ sym k.1 ∙ u),
           )
 
-  not-chosen : (us : Trees) (i j : ℕ) → AreStanding ns ds i n us → AreCompiledBranches ns ds ws i j → end_at ns n ≤ j → all_finished us i ys ≡ false → HasChoiceAdvanced ns ds vs i j ws ys false
+  not-chosen : (us : Trees) (i j : ℕ) → AreStanding ns doc i n us → AreCompiledBranches ns doc ws i j → end_at ns n ≤ j → all_finished us i ys ≡ false → HasChoiceAdvanced ns doc vs i j ws ys false
   not-chosen no_trees i j h k fits f = absurd (cc)
   not-chosen (tree c us) i j h k fits f =
-      let e = (stood ns ds i c h.0).end in
-      let l : i + node_count c ≤ n = omega (arith, stood-each ns ds (i + node_count c) n us h.1) in
+      let e = (stood ns doc i c h.0).end in
+      let l : i + node_count c ≤ n = omega (arith, stood-each ns doc (i + node_count c) n us h.1) in
       let lt : i < n = omega (arith, count-pos c) in
       let ne : end_at ns i ≢ j = λ q. absurd (omega (arith, below-n, e)) in
-      let later : AreCompiledBranches ns ds ws (end_at ns i) j = (k.0 + 1, choices-compiled ns ds ws ws k.0 i j ne k.1 r.after) in
+      let later : AreCompiledBranches ns doc ws (end_at ns i) j = (k.0 + 1, choices-compiled ns doc ws ws k.0 i j ne k.1 r.after) in
       elim (one-false (is_finished (stage_at ys i)) (all_finished us (i + node_count c) ys) f) [
         | inl q ↦
-            chosen-later ns ds vs ws i j k ys false ne (sym q.0 ∙ ap is_finished (off-own i (inl lt)))
-            (subst (λ z. HasChoiceAdvanced ns ds vs z j ws ys false) (sym e)
-            (not-chosen us (i + node_count c) j h.1 (subst (λ z. AreCompiledBranches ns ds ws z j) e later) fits q.1))
+            chosen-later ns doc vs ws i j k ys false ne (sym q.0 ∙ ap is_finished (off-own i (inl lt)))
+            (subst (λ z. HasChoiceAdvanced ns doc vs z j ws ys false) (sym e)
+            (not-chosen us (i + node_count c) j h.1 (subst (λ z. AreCompiledBranches ns doc ws z j) e later) fits q.1))
         | inr q ↦ stuck-choice i j ne (omega (arith, e)) lt fits q
       ]
 
-  went-choices : (us : Trees) (i j : ℕ) → AreStanding ns ds i n us → AreCompiledBranches ns ds ws i j → end_at ns n ≤ j → all_finished us i ys ≡ true → HasChoiceAdvanced ns ds vs n j ws ys true → HasChoiceAdvanced ns ds vs i j ws ys true
-  went-choices no_trees i j h k fits f a = subst (λ z. HasChoiceAdvanced ns ds vs z j ws ys true) (sym h) a
+  went-choices : (us : Trees) (i j : ℕ) → AreStanding ns doc i n us → AreCompiledBranches ns doc ws i j → end_at ns n ≤ j → all_finished us i ys ≡ true → HasChoiceAdvanced ns doc vs n j ws ys true → HasChoiceAdvanced ns doc vs i j ws ys true
+  went-choices no_trees i j h k fits f a = subst (λ z. HasChoiceAdvanced ns doc vs z j ws ys true) (sym h) a
   went-choices (tree c us) i j h k fits f a =
-      let e = (stood ns ds i c h.0).end in
-      let l : i + node_count c ≤ n = omega (arith, stood-each ns ds (i + node_count c) n us h.1) in
+      let e = (stood ns doc i c h.0).end in
+      let l : i + node_count c ≤ n = omega (arith, stood-each ns doc (i + node_count c) n us h.1) in
       let lt : i < n = omega (arith, count-pos c) in
       let ne : end_at ns i ≢ j = λ q. absurd (omega (arith, below-n, e)) in
-      let later : AreCompiledBranches ns ds ws (end_at ns i) j = (k.0 + 1, choices-compiled ns ds ws ws k.0 i j ne k.1 r.after) in
+      let later : AreCompiledBranches ns doc ws (end_at ns i) j = (k.0 + 1, choices-compiled ns doc ws ws k.0 i j ne k.1 r.after) in
       let q = both-true (is_finished (stage_at ys i)) (all_finished us (i + node_count c) ys) f in
-      chosen-later ns ds vs ws i j k ys true ne (sym q.0 ∙ ap is_finished (off-own i (inl lt)))
-      (subst (λ z. HasChoiceAdvanced ns ds vs z j ws ys true) (sym e)
-      (went-choices us (i + node_count c) j h.1 (subst (λ z. AreCompiledBranches ns ds ws z j) e later) fits q.1 a))
+      chosen-later ns doc vs ws i j k ys true ne (sym q.0 ∙ ap is_finished (off-own i (inl lt)))
+      (subst (λ z. HasChoiceAdvanced ns doc vs z j ws ys true) (sym e)
+      (went-choices us (i + node_count c) j h.1 (subst (λ z. AreCompiledBranches ns doc ws z j) e later) fits q.1 a))
 
   -- and of branches side by side
 
-  each-went : (ts : Trees) (i j : ℕ) → AreStanding ns ds i j ts → p < i → (i ≤ n) ⊎ (end_at ns n ≤ i)
+  each-went : (ts : Trees) (i j : ℕ) → AreStanding ns doc i j ts → p < i → (i ≤ n) ⊎ (end_at ns n ≤ i)
       → (meaning_each ts i ys ≡ advance_each vs (meaning_each ts i ws)) × (all_finished ts i ys ≡ all_done (advance_each vs (meaning_each ts i ws)))
   each-went no_trees i j h lt q = (refl, refl)
   each-went (tree c ts) i j h lt q =
-      let e = (stood ns ds i c h.0).end in
+      let e = (stood ns doc i c h.0).end in
       let one : (meaning c i ys ≡ advance vs (meaning c i ws)) × (is_finished (stage_at ys i) ≡ is_done (advance vs (meaning c i ws))) × ((i + node_count c ≤ n) ⊎ (end_at ns n ≤ i + node_count c)) =
       elim (eqb_tells i n) [
         | inl f ↦ at-n c i f.1 h.0
@@ -444,16 +444,16 @@ module _ (ns : List Node) (ds : List Detail) (vs : ValueList) (p n : ℕ) (ys : 
         both-and (is_finished (stage_at ys i)) (is_done (advance vs (meaning c i ws))) (all_finished ts (i + node_count c) ys) (all_done (advance_each vs (meaning_each ts (i + node_count c) ws))) one.1 more.1,
       )
     where
-      at-n : (c : Tree) (i : ℕ) → i ≡ n → Stands ns ds i c → (meaning c i ys ≡ advance vs (meaning c i ws)) × (is_finished (stage_at ys i) ≡ is_done (advance vs (meaning c i ws))) × ((i + node_count c ≤ n) ⊎ (end_at ns n ≤ i + node_count c))
+      at-n : (c : Tree) (i : ℕ) → i ≡ n → Stands ns doc i c → (meaning c i ys ≡ advance vs (meaning c i ws)) × (is_finished (stage_at ys i) ≡ is_done (advance vs (meaning c i ws))) × ((i + node_count c ≤ n) ⊎ (end_at ns n ≤ i + node_count c))
       at-n c i f s =
-          let here : Stands ns ds n c = subst (λ z. Stands ns ds z c) f s in
+          let here : Stands ns doc n c = subst (λ z. Stands ns doc z c) f s in
           let m = r.advanced.means c here in
           subst (λ z. (meaning c z ys ≡ advance vs (meaning c z ws)) × (is_finished (stage_at ys z) ≡ is_done (advance vs (meaning c z ws))) × ((z + node_count c ≤ n) ⊎ (end_at ns n ≤ z + node_count c))) (sym f)
-          (m.0, r.advanced.own ∙ m.1, inr (omega (arith, (stood ns ds n c here).end)))
+          (m.0, r.advanced.own ∙ m.1, inr (omega (arith, (stood ns doc n c here).end)))
 
-      off-n : (c : Tree) (i : ℕ) → i ≢ n → Stands ns ds i c → p < i → (i ≤ n) ⊎ (end_at ns n ≤ i) → (meaning c i ys ≡ advance vs (meaning c i ws)) × (is_finished (stage_at ys i) ≡ is_done (advance vs (meaning c i ws))) × ((i + node_count c ≤ n) ⊎ (end_at ns n ≤ i + node_count c))
+      off-n : (c : Tree) (i : ℕ) → i ≢ n → Stands ns doc i c → p < i → (i ≤ n) ⊎ (end_at ns n ≤ i) → (meaning c i ys ≡ advance vs (meaning c i ws)) × (is_finished (stage_at ys i) ≡ is_done (advance vs (meaning c i ws))) × ((i + node_count c ≤ n) ⊎ (end_at ns n ≤ i + node_count c))
       off-n c i ne s lt (inl le) =
-          let by : i + node_count c ≤ n = omega (arith, above.between i lt (omega arith), (stood ns ds i c s).end) in
+          let by : i + node_count c ≤ n = omega (arith, above.between i lt (omega arith), (stood ns doc i c s).end) in
           let k = stays c i s (inl by) in
           let on = advanced-still vs (meaning c i ws) k.0 in
           (k.2 ∙ sym on, k.1 ∙ sym (ap is_done on), inl by)
@@ -462,7 +462,7 @@ module _ (ns : List Node) (ds : List Detail) (vs : ValueList) (p n : ℕ) (ys : 
           let on = advanced-still vs (meaning c i ws) k.0 in
           (k.2 ∙ sym on, k.1 ∙ sym (ap is_done on), inr (omega arith))
 
-  each-advanced : (b : Bool) → AreFinished ns ds (p + 1) (end_at ns p) ys b → HasEachAdvanced ns ds vs (p + 1) (end_at ns p) true ws ys b
+  each-advanced : (b : Bool) → AreFinished ns doc (p + 1) (end_at ns p) ys b → HasEachAdvanced ns doc vs (p + 1) (end_at ns p) true ws ys b
   each-advanced b f =
       record {
         means = λ ts h. (let w = each-went ts (p + 1) (end_at ns p) h (omega arith) (inl (omega (arith, above.before))) in (w.0, f.means ts h ∙ w.1));
@@ -474,85 +474,85 @@ module _ (ns : List Node) (ds : List Detail) (vs : ValueList) (p n : ℕ) (ys : 
   then-begun : false ≡ not (is_begun (stage_at ys p)) → true ≡ is_begun (stage_at ws p)
   then-begun o = not-false (is_begun (stage_at ys p)) o ∙ ap is_begun is-own
 
-  pub passed-par : (zs : List Stage) (b t : Bool) → p < length ys → (t ≡ b) × (zs ≡ slice_set ys p (closed_as b)) → kind_at ns p ≡ Par → false ≡ is_over_at Par (stage_at ys p) → AreFinished ns ds (p + 1) (end_at ns p) ys b
-      → HasPassed ns ds vs xs ws p zs t
+  pub passed-par : (zs : List Stage) (b t : Bool) → p < length ys → (t ≡ b) × (zs ≡ slice_set ys p (closed_as b)) → kind_at ns p ≡ Par → false ≡ is_over_at Par (stage_at ys p) → AreFinished ns doc (p + 1) (end_at ns p) ys b
+      → HasPassed ns doc vs xs ws p zs t
   passed-par zs b t lt closes e o f =
-      passed-as Par e o zs t (advanced-par ns ds vs ws p then-compiled ys zs b t (then-begun o) lt closes e (each-advanced b f)) (set-under ys zs (closed_as b) closes.1 told-under)
+      passed-as Par e o zs t (advanced-par ns doc vs ws p then-compiled ys zs b t (then-begun o) lt closes e (each-advanced b f)) (set-under ys zs (closed_as b) closes.1 told-under)
 
-  sel-advanced : (i : ℕ) → kind_at ns p ≡ Sel i → (b : Bool) → AreFinished ns ds (p + 1) n ys b → HasChoiceAdvanced ns ds vs (p + 1) (end_at ns p) ws ys b
+  sel-advanced : (i : ℕ) → kind_at ns p ≡ Sel i → (b : Bool) → AreFinished ns doc (p + 1) n ys b → HasChoiceAdvanced ns doc vs (p + 1) (end_at ns p) ws ys b
   sel-advanced i e b f = go b (f.means k.0 k.3)
     where
-      k : (us : Trees) × (m : ℕ) × (os : Choices) × AreStanding ns ds (p + 1) n us × AreChoices ns ds m n (end_at ns p) os
-      k = sel-split ns ds p n ys compiled above i e
+      k : (us : Trees) × (m : ℕ) × (os : Choices) × AreStanding ns doc (p + 1) n us × AreChoices ns doc m n (end_at ns p) os
+      k = sel-split ns doc p n ys compiled above i e
 
-      all : AreCompiledBranches ns ds ws (p + 1) (end_at ns p)
-      all = (i, sel-compiled ns ds ws ws p i then-compiled e r.after)
+      all : AreCompiledBranches ns doc ws (p + 1) (end_at ns p)
+      all = (i, sel-compiled ns doc ws ws p i then-compiled e r.after)
 
-      own : AreCompiledBranches ns ds ws n (end_at ns p)
+      own : AreCompiledBranches ns doc ws n (end_at ns p)
       own = (k.1, (r.after, (k.2, k.4)))
 
-      base : HasChoiceAdvanced ns ds vs n (end_at ns p) ws ys true
+      base : HasChoiceAdvanced ns doc vs n (end_at ns p) ws ys true
       base = elim (eqb_tells (end_at ns n) (end_at ns p)) [
-        | inl q ↦ chosen-last ns ds vs ws n (end_at ns p) own ys true q.1 r.advanced
-        | inr q ↦ chosen-here ns ds vs ws n (end_at ns p) own ys true q.1 (sym r.left) r.advanced
+        | inl q ↦ chosen-last ns doc vs ws n (end_at ns p) own ys true q.1 r.advanced
+        | inr q ↦ chosen-here ns doc vs ws n (end_at ns p) own ys true q.1 (sym r.left) r.advanced
       ]
 
-      go : (b : Bool) → b ≡ all_finished k.0 (p + 1) ys → HasChoiceAdvanced ns ds vs (p + 1) (end_at ns p) ws ys b
+      go : (b : Bool) → b ≡ all_finished k.0 (p + 1) ys → HasChoiceAdvanced ns doc vs (p + 1) (end_at ns p) ws ys b
       go true q = went-choices k.0 (p + 1) (end_at ns p) k.3 all end-n (sym q) base
       go false q = not-chosen k.0 (p + 1) (end_at ns p) k.3 all end-n (sym q)
 
-  pub passed-sel : (i : ℕ) (zs : List Stage) (b t : Bool) → p < length ys → (t ≡ b) × (zs ≡ slice_set ys p (closed_as b)) → kind_at ns p ≡ Sel i → false ≡ is_over_at (Sel i) (stage_at ys p) → AreFinished ns ds (p + 1) n ys b
-      → HasPassed ns ds vs xs ws p zs t
+  pub passed-sel : (i : ℕ) (zs : List Stage) (b t : Bool) → p < length ys → (t ≡ b) × (zs ≡ slice_set ys p (closed_as b)) → kind_at ns p ≡ Sel i → false ≡ is_over_at (Sel i) (stage_at ys p) → AreFinished ns doc (p + 1) n ys b
+      → HasPassed ns doc vs xs ws p zs t
   passed-sel i zs b t lt closes e o f =
-      passed-as (Sel i) e o zs t (advanced-sel ns ds vs ws p then-compiled ys zs b t (then-begun o) lt closes i e (sel-advanced i e b f)) (set-under ys zs (closed_as b) closes.1 told-under)
+      passed-as (Sel i) e o zs t (advanced-sel ns doc vs ws p then-compiled ys zs b t (then-begun o) lt closes i e (sel-advanced i e b f)) (set-under ys zs (closed_as b) closes.1 told-under)
 
   module _ (e : kind_at ns p ≡ Seq) (o : false ≡ is_over_at Seq (stage_at ys p)) where
-    parts : (us : Trees) × (os : Trees) × AreStanding ns ds (p + 1) n us × AreStanding ns ds n (end_at ns p) os
-    parts = seq-split ns ds p n ys compiled above e
+    parts : (us : Trees) × (os : Trees) × AreStanding ns doc (p + 1) n us × AreStanding ns doc n (end_at ns p) os
+    parts = seq-split ns doc p n ys compiled above e
 
-    row : AreCompiled ns ds ws (p + 1) (end_at ns p)
-    row = seq-compiled ns ds ws ws p then-compiled e r.after
+    row : AreCompiled ns doc ws (p + 1) (end_at ns p)
+    row = seq-compiled ns doc ws ws p then-compiled e r.after
 
     -- the next one is reached
-    pub passed-on : (f : Bool) → f ≡ true → AreFinished ns ds (p + 1) n ys f → (zs us : List Stage) (b t : Bool) → p < length zs → IsFirstReached ns ds vs (end_at ns n) (end_at ns p) ys zs b
-        → (t ≡ b) × (us ≡ slice_set zs p (closed_as b)) → HasPassed ns ds vs xs ws p us t
+    pub passed-on : (f : Bool) → f ≡ true → AreFinished ns doc (p + 1) n ys f → (zs us : List Stage) (b t : Bool) → p < length zs → IsFirstReached ns doc vs (end_at ns n) (end_at ns p) ys zs b
+        → (t ≡ b) × (us ≡ slice_set zs p (closed_as b)) → HasPassed ns doc vs xs ws p us t
     passed-on f over a zs us b t lt reached closes =
         let ne : n ≢ end_at ns p = λ q. absurd (omega (arith, above.past)) in
-        let on = moved-on ns ds vs ws n (end_at ns p) ne (r.after, (parts.1, parts.3)) ys zs b (sym r.left) r.advanced reached in
+        let on = moved-on ns doc vs ws n (end_at ns p) ne (r.after, (parts.1, parts.3)) ys zs b (sym r.left) r.advanced reached in
         passed-as Seq e o us t
-        (advanced-seq ns ds vs ws p then-compiled zs us b t (then-begun o) lt closes e
+        (advanced-seq ns doc vs ws p then-compiled zs us b t (then-begun o) lt closes e
         (went-row parts.0 (p + 1) (end_at ns p) parts.2 row end-n (sym (a.means parts.0 parts.2) ∙ over) zs b on))
         (set-under zs us (closed_as b) closes.1 later)
       where
-        later : AreTold ns ds (p + 1) (end_at ns p) zs
+        later : AreTold ns doc (p + 1) (end_at ns p) zs
         later j c u v s = elim (cases_lt j (end_at ns n)) [
-          | inl w ↦ told-agree ns ds c j ys zs (λ k g h. reached.outside k (inl (let q = nest-n ns ds p n ys compiled above j c (omega arith) w s in omega arith))) (told-under j c u v s)
-          | inr w ↦ reached.told (told-part ns ds (p + 1) (end_at ns p) (end_at ns n) (end_at ns p) ys (omega (arith, below-n, above.before)) (omega arith) told-under) j c w v s
+          | inl w ↦ told-agree ns doc c j ys zs (λ k g h. reached.outside k (inl (let q = nest-n ns doc p n ys compiled above j c (omega arith) w s in omega arith))) (told-under j c u v s)
+          | inr w ↦ reached.told (told-part ns doc (p + 1) (end_at ns p) (end_at ns n) (end_at ns p) ys (omega (arith, below-n, above.before)) (omega arith) told-under) j c w v s
         ]
 
   module _ (k i left : ℕ) (e : kind_at ns p ≡ Loop k i) (runs_on : Some left ≡ turns_of (stage_at ys p)) where
     child : (n ≡ p + 1) × (end_at ns n ≡ end_at ns p)
-    child = loop-child ns ds p n ys compiled above k i e
+    child = loop-child ns doc p n ys compiled above k i e
 
     unover : false ≡ is_over_at (Loop k i) (stage_at ys p)
     unover = ap is_none runs_on
 
-    body-over : HasAdvanced ns ds vs (p + 1) ws ys true
-    body-over = subst (λ z. HasAdvanced ns ds vs z ws ys true) child.0 r.advanced
+    body-over : HasAdvanced ns doc vs (p + 1) ws ys true
+    body-over = subst (λ z. HasAdvanced ns doc vs z ws ys true) child.0 r.advanced
 
     then-runs : Some left ≡ turns_of (stage_at ws p)
     then-runs = runs_on ∙ ap turns_of is-own
 
-    pub passed-last : p < length ys → (left ≡ 0) ⊎ (true ≡ judged (slice_get ds i) vs) → IsRisen ns ds vs xs ws p (slice_set ys p Finished)
+    pub passed-last : p < length ys → (left ≡ 0) ⊎ (true ≡ judged (condition_at doc i) vs) → IsRisen ns doc vs xs ws p (slice_set ys p Finished)
     passed-last lt last =
-        passed-as (Loop k i) e unover (slice_set ys p Finished) true (advanced-loop_over ns ds vs ws p then-compiled ys k i left e then-runs lt last body-over)
+        passed-as (Loop k i) e unover (slice_set ys p Finished) true (advanced-loop_over ns doc vs ws p then-compiled ys k i left e then-runs lt last body-over)
         (set-under ys (slice_set ys p Finished) Finished refl told-under)
 
-    pub passed-round : left ≢ 0 → false ≡ judged (slice_get ds i) vs → (zs us : List Stage) (b t : Bool) → p < length zs → IsReached ns ds vs n ys zs b → (t ≡ b) × (us ≡ slice_set zs p (looped_as b (left - 1)))
-        → HasPassed ns ds vs xs ws p us t
+    pub passed-round : left ≢ 0 → false ≡ judged (condition_at doc i) vs → (zs us : List Stage) (b t : Bool) → p < length zs → IsReached ns doc vs n ys zs b → (t ≡ b) × (us ≡ slice_set zs p (looped_as b (left - 1)))
+        → HasPassed ns doc vs xs ws p us t
     passed-round more goes_on zs us b t lt reached closes =
         passed-as (Loop k i) e unover us t
-        (advanced-loop_anew ns ds vs ws p then-compiled ys k i left e then-runs zs more goes_on body-over compiled.0 lt us b t (subst (λ z. IsReached ns ds vs z ys zs b) child.0 reached) closes)
+        (advanced-loop_anew ns doc vs ws p then-compiled ys k i left e then-runs zs more goes_on body-over compiled.0 lt us b t (subst (λ z. IsReached ns doc vs z ys zs b) child.0 reached) closes)
         (set-under zs us (looped_as b (left - 1)) closes.1
-        (told-part ns ds n (end_at ns n) (p + 1) (end_at ns p) zs (omega (arith, child.0)) (omega (arith, child.1))
-        (reached.told (told-part ns ds (p + 1) (end_at ns p) (n + 1) (end_at ns n) ys (omega (arith, child.0)) (omega (arith, child.1)) told-under))))
+        (told-part ns doc n (end_at ns n) (p + 1) (end_at ns p) zs (omega (arith, child.0)) (omega (arith, child.1))
+        (reached.told (told-part ns doc (p + 1) (end_at ns p) (n + 1) (end_at ns n) ys (omega (arith, child.0)) (omega (arith, child.1)) told-under))))

@@ -14,7 +14,7 @@ use Rattle.batch_model.specs.Rest.{Rest, ready, asking, open_act, live, freeing,
 use Rattle.batch_model.specs.Settled.{IsAdvanced}
 use Rattle.batch_model.specs.Moves as machine
 use Rattle.batch_model.specs.Moves.{freed, kind_of, handed_values, passed_on, is_running, is_stopping, is_stopped, is_empty, is_quiet, when, entering, giving_back}
-use Rattle.batch_chart.specs.declared.node.Node.{Node}
+use Rattle.batch_recipe.specs.declared.entry.Entry.{Entry}
 use Rattle.batch_chart.specs.declared.node.Kind.{Kind}
 use Rattle.batch_chart.specs.declared.node.Kind.TheVariants.{Skip, Act, Seq, Par, Sel, Loop}
 use Rattle.batch_chart.specs.declared.node.Kind.TheVariants as kind
@@ -335,7 +335,7 @@ pos-step : (n : ℕ) → nat_lt 0 n ≡ true → n ≡ (n - 1) + 1
 pos-step n e = grind (arith, nat_tests)
 
 -- an act of the kind, at its stage
-module _ (b : Batch) (ns : List Node) (xs : List Stage) (k : ℕ) (lt : k < length ns) where
+module _ (b : Batch) (ns : List Entry) (xs : List Stage) (k : ℕ) (lt : k < length ns) where
   -- the move is the act's, and the stages allow it
   abbrev pub Suits : (ℕ → Kind → Stage → Move) → Step → Task → Rest → Kind → Stage → Type 0
   Suits f s w r κ x = (own_move b (act_as s w r x) ≡ Some (seen_at s.place s w b (f k κ x))) × Allows ns xs (f k κ x)

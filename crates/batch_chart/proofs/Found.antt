@@ -2,7 +2,7 @@
 use Rattle.std.proofs.Common.{rules, ◌≡◌, ◌≢◌, ℕ, zero, suc, ◌+◌, List, [], ◌∷◌, ◌++◌, length, take, Bool, true, false, ◌&&◌, Some, None, refl, sym, ◌∙◌, ap, nat_lt}
 use Rattle.std.specs.Option.{is_some}
 use Rattle.std.specs.Bool.{then_some}
-use Rattle.std.specs.Prelude.{slice_get, Option, is_none, map, flat_map, not, ⊤}
+use Rattle.std.specs.Prelude.{Option, is_none, map, flat_map, not, ⊤}
 use Rattle.batch_recipe.specs.Conditions.{Name}
 use Rattle.batch_recipe.specs.declared.need.Need.{Need}
 use Rattle.batch_recipe.specs.Nodes.{node_count}
@@ -10,18 +10,18 @@ use Rattle.batch_recipe.specs.Tree.{Step, Phase, Task, runs, follows, Tree, act,
 use Rattle.batch_model.specs.Rest.{Rest, ready, asking, open_act, live, freeing, in_seq, in_par, in_loop, done, Rests, no_rests, rest, acts, acts_of_each}
 use Rattle.batch_model.specs.Plant.{held_by, held_in}
 use Rattle.batch_model.specs.Moves.{freed, is_empty}
-use Rattle.batch_chart.specs.declared.node.Node.{Node}
+use Rattle.batch_recipe.specs.declared.entry.Entry.{Entry}
 use Rattle.batch_chart.specs.declared.node.Kind.{Kind}
 use Rattle.batch_chart.specs.declared.node.Kind.TheVariants.{Skip, Act, Seq, Par, Sel, Loop}
 use Rattle.batch_chart.specs.declared.node.Kind.TheVariants as kind
-use Rattle.batch_chart.specs.declared.node.Detail.{Detail}
+use Rattle.batch_recipe.specs.declared.recipe.Recipe.{Recipe}
 use Rattle.batch_chart.specs.declared.stage.Stage.{Stage}
 use Rattle.batch_chart.specs.declared.stage.Stage.TheVariants.{Finished, Ready, Asking, Open, Live, Freeing, Turning}
 use Rattle.batch_chart.specs.declared.wanted.Wanted.{Wanted}
 use Rattle.batch_chart.specs.declared.wanted.Wanted.TheVariants as wanted
 use Rattle.batch_chart.specs.Stages.{stage_at, is_finished, is_begun, is_over, is_phase_over, is_over_at, turns_of}
 use Rattle.batch_chart.specs.Meaning.{meaning, meaning_below, meaning_each, act_as, loop_as, branch, chosen}
-use Rattle.batch_chart.specs.Compiled.{end_at, kind_at, IsPhase}
+use Rattle.batch_chart.specs.Compiled.{end_at, kind_at, IsPhase, phase_name}
 use Rattle.batch_chart.specs.Finding.{wants_ready, wants_asking, wants_freeing, wants_live, wants_open, wants, still_wants, live_wants, phase_wants, first_of, IsFirst, IsFirstInBranch, IsFirstOfEach, IsFirstInChoice, IsOpenWanted}
 use Rattle.batch_chart.specs.Numbered.{entries, entries_in, numbered, numbered_below, numbered_each, numbered_branch, numbered_chosen}
 use Rattle.batch_chart.proofs.Standing.{SkipAt, skip_at, skip-at, PhaseAt, phase_at, phase-at, ActAt, act_at, act-at, SeqAt, seq_at, seq-at, ParAt, par_at, par-at, SelAt, sel_at, sel-at, LoopAt, loop_at, loop-at, RowAt, row_at, row-at, row-end, LastAt, last_at, last-at, ChoiceAt, choice_at, choice-at}
@@ -67,17 +67,17 @@ still-act w n s name c r below (Live x) e = refl
 still-act w n s name c r below (Freeing k) e = ap (first_of (wants w)) (freed-entries n s k below []) ∙ first-freed w n s k
 still-act w n s name c r below (Turning k) e = refl
 
-phase-act : (ds : List Detail) (i : ℕ) (w : Wanted) (n : ℕ) (s : Step) (p : Phase) (x : Stage) → IsPhase None ds i p
-    → first_of (wants w) (entries n (act_as s (runs p) done x) []) ≡ then_some (phase_wants (slice_get ds i) w n (length s.needs) x) n
-phase-act ds i w n s p Finished h = refl
-phase-act ds i w n s p (Ready k) h = one-choice (wants_ready w n (length s.needs) k) n
-phase-act ds i w n s p (Asking k) h = one-choice (wants_asking w n (length s.needs) k) n
-phase-act ds i w n s p Open h = refl
-phase-act ds i w n s p (Live x) h =
+phase-act : (doc : Recipe) (i : ℕ) (w : Wanted) (n : ℕ) (s : Step) (p : Phase) (x : Stage) → IsPhase doc i p
+    → first_of (wants w) (entries n (act_as s (runs p) done x) []) ≡ then_some (phase_wants (phase_name doc i) w n (length s.needs) x) n
+phase-act doc i w n s p Finished h = refl
+phase-act doc i w n s p (Ready k) h = one-choice (wants_ready w n (length s.needs) k) n
+phase-act doc i w n s p (Asking k) h = one-choice (wants_asking w n (length s.needs) k) n
+phase-act doc i w n s p Open h = refl
+phase-act doc i w n s p (Live x) h =
     one-choice (wants_live w n (length s.needs) p.name x) n
-    ∙ ap (λ d. then_some (live_wants d w n (length s.needs) x) n) (sym h.1)
-phase-act ds i w n s p (Freeing k) h = first-freed w n s k
-phase-act ds i w n s p (Turning k) h = refl
+    ∙ ap (λ d. then_some (live_wants d w n (length s.needs) x) n) (sym h)
+phase-act doc i w n s p (Freeing k) h = first-freed w n s k
+phase-act doc i w n s p (Turning k) h = refl
 
 -- The numbered acts are the acts
 
@@ -217,7 +217,7 @@ nothing-holds c n xs = holding-nothing (numbered c n xs) ∙ ap (λ l. is_empty 
 
 -- an act of which nothing is left isn't wanted
 
-over-phase_wants : (d : Option Detail) (w : Wanted) (n needs : ℕ) (x : Stage) → true ≡ is_phase_over x → false ≡ phase_wants d w n needs x
+over-phase_wants : (d : Option Name) (w : Wanted) (n needs : ℕ) (x : Stage) → true ≡ is_phase_over x → false ≡ phase_wants d w n needs x
 over-phase_wants d w n needs Finished o = refl
 over-phase_wants d w n needs (Ready k) o = absurd (cc)
 over-phase_wants d w n needs (Asking k) o = absurd (cc)
@@ -252,25 +252,25 @@ entries-turning (Some k) l e = refl
 
 -- Nodes
 
-module _ (ns : List Node) (ds : List Detail) (xs : List Stage) (v : Wanted) (n : ℕ) where
-  pub first-skip : kind_at ns n ≡ Skip → IsFirst ns ds n xs v None
-  first-skip e = record { means = λ c h. go c (skip-at ns ds n e c h) }
+module _ (ns : List Entry) (doc : Recipe) (xs : List Stage) (v : Wanted) (n : ℕ) where
+  pub first-skip : kind_at ns n ≡ Skip → IsFirst ns doc n xs v None
+  first-skip e = record { means = λ c h. go c (skip-at ns doc n e c h) }
     where
-      go : (c : Tree) → SkipAt ns ds n c → None ≡ first_of (wants v) (numbered c n xs)
+      go : (c : Tree) → SkipAt ns doc n c → None ≡ first_of (wants v) (numbered c n xs)
       go _ skip_at = refl
 
-  pub first-phase : (k i : ℕ) (b : Bool) → kind_at ns n ≡ kind.Phase k i → b ≡ phase_wants (slice_get ds i) v n k (stage_at xs n) → IsFirst ns ds n xs v (then_some b n)
-  first-phase k i b e w = record { means = λ c h. go c (phase-at ns ds n k i e c h) }
+  pub first-phase : (k i : ℕ) (b : Bool) → kind_at ns n ≡ kind.Phase k i → b ≡ phase_wants (phase_name doc i) v n k (stage_at xs n) → IsFirst ns doc n xs v (then_some b n)
+  first-phase k i b e w = record { means = λ c h. go c (phase-at ns doc n k i e c h) }
     where
-      go : (c : Tree) → PhaseAt ns ds n k i c → then_some b n ≡ first_of (wants v) (numbered c n xs)
+      go : (c : Tree) → PhaseAt ns doc n k i c → then_some b n ≡ first_of (wants v) (numbered c n xs)
       go _ (phase_at s p q f count) =
-          ap (λ z. then_some z n) (w ∙ ap (λ j. phase_wants (slice_get ds i) v n j (stage_at xs n)) (sym count))
-          ∙ sym (phase-act ds i v n s p (stage_at xs n) q)
+          ap (λ z. then_some z n) (w ∙ ap (λ j. phase_wants (phase_name doc i) v n j (stage_at xs n)) (sym count))
+          ∙ sym (phase-act doc i v n s p (stage_at xs n) q)
 
-  pub first-still : (k : ℕ) (b : Bool) → kind_at ns n ≡ Act k → false ≡ is_begun (stage_at xs n) → b ≡ still_wants v n k (stage_at xs n) → IsFirst ns ds n xs v (then_some b n)
-  first-still k b e u w = record { means = λ c h. go c (act-at ns ds n k e c h) }
+  pub first-still : (k : ℕ) (b : Bool) → kind_at ns n ≡ Act k → false ≡ is_begun (stage_at xs n) → b ≡ still_wants v n k (stage_at xs n) → IsFirst ns doc n xs v (then_some b n)
+  first-still k b e u w = record { means = λ c h. go c (act-at ns doc n k e c h) }
     where
-      go : (c : Tree) → ActAt ns ds n k c → then_some b n ≡ first_of (wants v) (numbered c n xs)
+      go : (c : Tree) → ActAt ns doc n k c → then_some b n ≡ first_of (wants v) (numbered c n xs)
       go _ (act_at s name c a f count) =
           ap (λ z. then_some z n) (w ∙ ap (λ j. still_wants v n j (stage_at xs n)) (sym count))
           ∙ sym (still-act v n s name c (meaning c (n + 1) xs) (numbered c (n + 1) xs) (stage_at xs n) (sym u))
@@ -278,70 +278,70 @@ module _ (ns : List Node) (ds : List Detail) (xs : List Stage) (v : Wanted) (n :
   open-entries : (s : Step) (name : Name) (c : Tree) → true ≡ is_begun (stage_at xs n) → numbered (act s (follows name c)) n xs ≡ (n, open_act s (meaning c (n + 1) xs)) ∷ numbered c (n + 1) xs
   open-entries s name c t = ap (λ x. entries n (act_as s (follows name c) (meaning c (n + 1) xs) x) (numbered c (n + 1) xs)) (begun-open (stage_at xs n) (sym t))
 
-  pub first-open : (k : ℕ) → kind_at ns n ≡ Act k → true ≡ is_begun (stage_at xs n) → IsOpenWanted ns ds n k xs v true → IsFirst ns ds n xs v (Some n)
-  first-open k e t w = record { means = λ c h. go c (act-at ns ds n k e c h) }
+  pub first-open : (k : ℕ) → kind_at ns n ≡ Act k → true ≡ is_begun (stage_at xs n) → IsOpenWanted ns doc n k xs v true → IsFirst ns doc n xs v (Some n)
+  first-open k e t w = record { means = λ c h. go c (act-at ns doc n k e c h) }
     where
-      go : (c : Tree) → ActAt ns ds n k c → Some n ≡ first_of (wants v) (numbered c n xs)
+      go : (c : Tree) → ActAt ns doc n k c → Some n ≡ first_of (wants v) (numbered c n xs)
       go _ (act_at s name c a f count) =
           sym (ap (first_of (wants v)) (open-entries s name c t)
           ∙ chosen-true (wants_open v n (length s.needs) (meaning c (n + 1) xs)) (Some n) (first_of (wants v) (numbered c (n + 1) xs))
           (ap (λ j. wants_open v n j (meaning c (n + 1) xs)) count ∙ sym (w.means c a)))
 
-  pub first-below : (k : ℕ) (found : Option ℕ) → kind_at ns n ≡ Act k → true ≡ is_begun (stage_at xs n) → IsOpenWanted ns ds n k xs v false → IsFirst ns ds (n + 1) xs v found → IsFirst ns ds n xs v found
-  first-below k found e t w r = record { means = λ c h. go c (act-at ns ds n k e c h) }
+  pub first-below : (k : ℕ) (found : Option ℕ) → kind_at ns n ≡ Act k → true ≡ is_begun (stage_at xs n) → IsOpenWanted ns doc n k xs v false → IsFirst ns doc (n + 1) xs v found → IsFirst ns doc n xs v found
+  first-below k found e t w r = record { means = λ c h. go c (act-at ns doc n k e c h) }
     where
-      go : (c : Tree) → ActAt ns ds n k c → found ≡ first_of (wants v) (numbered c n xs)
+      go : (c : Tree) → ActAt ns doc n k c → found ≡ first_of (wants v) (numbered c n xs)
       go _ (act_at s name c a f count) =
           r.means c a
           ∙ sym (ap (first_of (wants v)) (open-entries s name c t)
           ∙ chosen-false (wants_open v n (length s.needs) (meaning c (n + 1) xs)) (Some n) (first_of (wants v) (numbered c (n + 1) xs))
           (ap (λ j. wants_open v n j (meaning c (n + 1) xs)) count ∙ sym (w.means c a)))
 
-  pub first-seq : (found : Option ℕ) → kind_at ns n ≡ Seq → true ≡ is_begun (stage_at xs n) → IsFirstInBranch ns ds (n + 1) (end_at ns n) xs v found → IsFirst ns ds n xs v found
-  first-seq found e u r = record { means = λ c h. go c (seq-at ns ds n e c h) }
+  pub first-seq : (found : Option ℕ) → kind_at ns n ≡ Seq → true ≡ is_begun (stage_at xs n) → IsFirstInBranch ns doc (n + 1) (end_at ns n) xs v found → IsFirst ns doc n xs v found
+  first-seq found e u r = record { means = λ c h. go c (seq-at ns doc n e c h) }
     where
-      go : (c : Tree) → SeqAt ns ds n c → found ≡ first_of (wants v) (numbered c n xs)
+      go : (c : Tree) → SeqAt ns doc n c → found ≡ first_of (wants v) (numbered c n xs)
       go _ (seq_at ts a) = r.means ts a ∙ sym (ap (first_of (wants v)) (chosen-true (is_begun (stage_at xs n)) (numbered_branch ts (n + 1) xs) [] (sym u)))
 
-  first-no_seq : kind_at ns n ≡ Seq → false ≡ is_begun (stage_at xs n) → IsFirst ns ds n xs v None
-  first-no_seq e u = record { means = λ c h. go c (seq-at ns ds n e c h) }
+  first-no_seq : kind_at ns n ≡ Seq → false ≡ is_begun (stage_at xs n) → IsFirst ns doc n xs v None
+  first-no_seq e u = record { means = λ c h. go c (seq-at ns doc n e c h) }
     where
-      go : (c : Tree) → SeqAt ns ds n c → None ≡ first_of (wants v) (numbered c n xs)
+      go : (c : Tree) → SeqAt ns doc n c → None ≡ first_of (wants v) (numbered c n xs)
       go _ (seq_at ts a) = sym (ap (first_of (wants v)) (chosen-false (is_begun (stage_at xs n)) (numbered_branch ts (n + 1) xs) [] (sym u)))
 
-  pub first-par : (found : Option ℕ) → kind_at ns n ≡ Par → true ≡ is_begun (stage_at xs n) → IsFirstOfEach ns ds (n + 1) (end_at ns n) xs v found → IsFirst ns ds n xs v found
-  first-par found e u r = record { means = λ c h. go c (par-at ns ds n e c h) }
+  pub first-par : (found : Option ℕ) → kind_at ns n ≡ Par → true ≡ is_begun (stage_at xs n) → IsFirstOfEach ns doc (n + 1) (end_at ns n) xs v found → IsFirst ns doc n xs v found
+  first-par found e u r = record { means = λ c h. go c (par-at ns doc n e c h) }
     where
-      go : (c : Tree) → ParAt ns ds n c → found ≡ first_of (wants v) (numbered c n xs)
+      go : (c : Tree) → ParAt ns doc n c → found ≡ first_of (wants v) (numbered c n xs)
       go _ (par_at ts a) = r.means ts a ∙ sym (ap (first_of (wants v)) (chosen-true (is_begun (stage_at xs n)) (numbered_each ts (n + 1) xs) [] (sym u)))
 
-  first-no_par : kind_at ns n ≡ Par → false ≡ is_begun (stage_at xs n) → IsFirst ns ds n xs v None
-  first-no_par e u = record { means = λ c h. go c (par-at ns ds n e c h) }
+  first-no_par : kind_at ns n ≡ Par → false ≡ is_begun (stage_at xs n) → IsFirst ns doc n xs v None
+  first-no_par e u = record { means = λ c h. go c (par-at ns doc n e c h) }
     where
-      go : (c : Tree) → ParAt ns ds n c → None ≡ first_of (wants v) (numbered c n xs)
+      go : (c : Tree) → ParAt ns doc n c → None ≡ first_of (wants v) (numbered c n xs)
       go _ (par_at ts a) = sym (ap (first_of (wants v)) (chosen-false (is_begun (stage_at xs n)) (numbered_each ts (n + 1) xs) [] (sym u)))
 
-  pub first-sel : (i : ℕ) (found : Option ℕ) → kind_at ns n ≡ Sel i → true ≡ is_begun (stage_at xs n) → IsFirstInChoice ns ds (n + 1) (end_at ns n) xs v found → IsFirst ns ds n xs v found
-  first-sel i found e u r = record { means = λ c h. go c (sel-at ns ds n i e c h) }
+  pub first-sel : (i : ℕ) (found : Option ℕ) → kind_at ns n ≡ Sel i → true ≡ is_begun (stage_at xs n) → IsFirstInChoice ns doc (n + 1) (end_at ns n) xs v found → IsFirst ns doc n xs v found
+  first-sel i found e u r = record { means = λ c h. go c (sel-at ns doc n i e c h) }
     where
-      go : (c : Tree) → SelAt ns ds n i c → found ≡ first_of (wants v) (numbered c n xs)
+      go : (c : Tree) → SelAt ns doc n i c → found ≡ first_of (wants v) (numbered c n xs)
       go _ (sel_at ch a) = r.means i ch a ∙ sym (ap (first_of (wants v)) (chosen-true (is_begun (stage_at xs n)) (numbered_chosen ch (n + 1) xs) [] (sym u)))
 
-  first-no_sel : (i : ℕ) → kind_at ns n ≡ Sel i → false ≡ is_begun (stage_at xs n) → IsFirst ns ds n xs v None
-  first-no_sel i e u = record { means = λ c h. go c (sel-at ns ds n i e c h) }
+  first-no_sel : (i : ℕ) → kind_at ns n ≡ Sel i → false ≡ is_begun (stage_at xs n) → IsFirst ns doc n xs v None
+  first-no_sel i e u = record { means = λ c h. go c (sel-at ns doc n i e c h) }
     where
-      go : (c : Tree) → SelAt ns ds n i c → None ≡ first_of (wants v) (numbered c n xs)
+      go : (c : Tree) → SelAt ns doc n i c → None ≡ first_of (wants v) (numbered c n xs)
       go _ (sel_at ch a) = sym (ap (first_of (wants v)) (chosen-false (is_begun (stage_at xs n)) (numbered_chosen ch (n + 1) xs) [] (sym u)))
 
-  first-no_loop : (k i : ℕ) → kind_at ns n ≡ Loop k i → None ≡ turns_of (stage_at xs n) → IsFirst ns ds n xs v None
-  first-no_loop k i e u = record { means = λ c h. go c (loop-at ns ds n k i e c h) }
+  first-no_loop : (k i : ℕ) → kind_at ns n ≡ Loop k i → None ≡ turns_of (stage_at xs n) → IsFirst ns doc n xs v None
+  first-no_loop k i e u = record { means = λ c h. go c (loop-at ns doc n k i e c h) }
     where
-      go : (c : Tree) → LoopAt ns ds n k i c → None ≡ first_of (wants v) (numbered c n xs)
+      go : (c : Tree) → LoopAt ns doc n k i c → None ≡ first_of (wants v) (numbered c n xs)
       go _ (loop_at p body z a b) = ap (λ o. first_of (wants v) (entries_in o (numbered body (n + 1) xs))) u
 
-  first-over : (k : Kind) → kind_at ns n ≡ k → true ≡ is_over_at k (stage_at xs n) → IsFirst ns ds n xs v None
+  first-over : (k : Kind) → kind_at ns n ≡ k → true ≡ is_over_at k (stage_at xs n) → IsFirst ns doc n xs v None
   first-over Skip e o = first-skip e
-  first-over (kind.Phase j i) e o = first-phase j i false e (over-phase_wants (slice_get ds i) v n j (stage_at xs n) o)
+  first-over (kind.Phase j i) e o = first-phase j i false e (over-phase_wants (phase_name doc i) v n j (stage_at xs n) o)
   first-over (Act j) e o = first-still j false e (over-unbegun (stage_at xs n) o) (over-still_wants v n j (stage_at xs n) o)
   first-over Seq e o = first-no_seq e (not-true (is_begun (stage_at xs n)) o)
   first-over Par e o = first-no_par e (not-true (is_begun (stage_at xs n)) o)
@@ -349,50 +349,50 @@ module _ (ns : List Node) (ds : List Detail) (xs : List Stage) (v : Wanted) (n :
   first-over (Loop j i) e o = first-no_loop j i e (none-true (turns_of (stage_at xs n)) o)
 
   -- nothing is left of the node
-  pub first-none : true ≡ is_over_at (kind_at ns n) (stage_at xs n) → IsFirst ns ds n xs v None
+  pub first-none : true ≡ is_over_at (kind_at ns n) (stage_at xs n) → IsFirst ns doc n xs v None
   first-none o = first-over (kind_at ns n) refl o
 
-  pub first-loop : (k i : ℕ) (found : Option ℕ) → kind_at ns n ≡ Loop k i → false ≡ is_none (turns_of (stage_at xs n)) → IsFirst ns ds (n + 1) xs v found → IsFirst ns ds n xs v found
-  first-loop k i found e u r = record { means = λ c h. go c (loop-at ns ds n k i e c h) }
+  pub first-loop : (k i : ℕ) (found : Option ℕ) → kind_at ns n ≡ Loop k i → false ≡ is_none (turns_of (stage_at xs n)) → IsFirst ns doc (n + 1) xs v found → IsFirst ns doc n xs v found
+  first-loop k i found e u r = record { means = λ c h. go c (loop-at ns doc n k i e c h) }
     where
-      go : (c : Tree) → LoopAt ns ds n k i c → found ≡ first_of (wants v) (numbered c n xs)
+      go : (c : Tree) → LoopAt ns doc n k i c → found ≡ first_of (wants v) (numbered c n xs)
       go _ (loop_at p body z a b) = r.means body a ∙ sym (ap (first_of (wants v)) (entries-turning (turns_of (stage_at xs n)) (numbered body (n + 1) xs) u))
 
   -- the branches of a row
 
-  pub branch-none : (m : ℕ) → n ≡ m → IsFirstInBranch ns ds n m xs v None
-  branch-none m e = record { means = λ ts h. rw (row-end ns ds n m e ts h) refl }
+  pub branch-none : (m : ℕ) → n ≡ m → IsFirstInBranch ns doc n m xs v None
+  branch-none m e = record { means = λ ts h. rw (row-end ns doc n m e ts h) refl }
 
-  pub branch-later : (m : ℕ) (found : Option ℕ) → n ≢ m → true ≡ is_finished (stage_at xs n) → IsFirstInBranch ns ds (end_at ns n) m xs v found → IsFirstInBranch ns ds n m xs v found
-  branch-later m found ne u r = record { means = λ ts h. go ts (row-at ns ds n m ne ts h) }
+  pub branch-later : (m : ℕ) (found : Option ℕ) → n ≢ m → true ≡ is_finished (stage_at xs n) → IsFirstInBranch ns doc (end_at ns n) m xs v found → IsFirstInBranch ns doc n m xs v found
+  branch-later m found ne u r = record { means = λ ts h. go ts (row-at ns doc n m ne ts h) }
     where
-      go : (ts : Trees) → RowAt ns ds n m ts → found ≡ first_of (wants v) (numbered_branch ts n xs)
+      go : (ts : Trees) → RowAt ns doc n m ts → found ≡ first_of (wants v) (numbered_branch ts n xs)
       go _ (row_at c ts p q e le) =
           r.means ts q ∙ ap (λ i. first_of (wants v) (numbered_branch ts i xs)) e
           ∙ sym (ap (first_of (wants v)) (chosen-true (is_finished (stage_at xs n)) (numbered_branch ts (n + node_count c) xs) (numbered c n xs) (sym u)))
 
-  pub branch-here : (m : ℕ) (found : Option ℕ) → n ≢ m → false ≡ is_finished (stage_at xs n) → IsFirst ns ds n xs v found → IsFirstInBranch ns ds n m xs v found
-  branch-here m found ne u r = record { means = λ ts h. go ts (row-at ns ds n m ne ts h) }
+  pub branch-here : (m : ℕ) (found : Option ℕ) → n ≢ m → false ≡ is_finished (stage_at xs n) → IsFirst ns doc n xs v found → IsFirstInBranch ns doc n m xs v found
+  branch-here m found ne u r = record { means = λ ts h. go ts (row-at ns doc n m ne ts h) }
     where
-      go : (ts : Trees) → RowAt ns ds n m ts → found ≡ first_of (wants v) (numbered_branch ts n xs)
+      go : (ts : Trees) → RowAt ns doc n m ts → found ≡ first_of (wants v) (numbered_branch ts n xs)
       go _ (row_at c ts p q e le) =
           r.means c p ∙ sym (ap (first_of (wants v)) (chosen-false (is_finished (stage_at xs n)) (numbered_branch ts (n + node_count c) xs) (numbered c n xs) (sym u)))
 
-  pub each-none : (m : ℕ) → n ≡ m → IsFirstOfEach ns ds n m xs v None
-  each-none m e = record { means = λ ts h. rw (row-end ns ds n m e ts h) refl }
+  pub each-none : (m : ℕ) → n ≡ m → IsFirstOfEach ns doc n m xs v None
+  each-none m e = record { means = λ ts h. rw (row-end ns doc n m e ts h) refl }
 
-  pub each-here : (m k : ℕ) → n ≢ m → IsFirst ns ds n xs v (Some k) → IsFirstOfEach ns ds n m xs v (Some k)
-  each-here m k ne r = record { means = λ ts h. go ts (row-at ns ds n m ne ts h) }
+  pub each-here : (m k : ℕ) → n ≢ m → IsFirst ns doc n xs v (Some k) → IsFirstOfEach ns doc n m xs v (Some k)
+  each-here m k ne r = record { means = λ ts h. go ts (row-at ns doc n m ne ts h) }
     where
-      go : (ts : Trees) → RowAt ns ds n m ts → Some k ≡ first_of (wants v) (numbered_each ts n xs)
+      go : (ts : Trees) → RowAt ns doc n m ts → Some k ≡ first_of (wants v) (numbered_each ts n xs)
       go _ (row_at c ts p q e le) =
           ap (λ x. or_else x (first_of (wants v) (numbered_each ts (n + node_count c) xs))) (r.means c p)
           ∙ sym (first-append (wants v) (numbered c n xs) (numbered_each ts (n + node_count c) xs))
 
-  pub each-later : (m : ℕ) (found : Option ℕ) → n ≢ m → IsFirst ns ds n xs v None → IsFirstOfEach ns ds (end_at ns n) m xs v found → IsFirstOfEach ns ds n m xs v found
-  each-later m found ne r rs = record { means = λ ts h. go ts (row-at ns ds n m ne ts h) }
+  pub each-later : (m : ℕ) (found : Option ℕ) → n ≢ m → IsFirst ns doc n xs v None → IsFirstOfEach ns doc (end_at ns n) m xs v found → IsFirstOfEach ns doc n m xs v found
+  each-later m found ne r rs = record { means = λ ts h. go ts (row-at ns doc n m ne ts h) }
     where
-      go : (ts : Trees) → RowAt ns ds n m ts → found ≡ first_of (wants v) (numbered_each ts n xs)
+      go : (ts : Trees) → RowAt ns doc n m ts → found ≡ first_of (wants v) (numbered_each ts n xs)
       go _ (row_at c ts p q e le) =
           rs.means ts q ∙ ap (λ i. first_of (wants v) (numbered_each ts i xs)) e
           ∙ ap (λ x. or_else x (first_of (wants v) (numbered_each ts (n + node_count c) xs))) (r.means c p)
@@ -400,24 +400,24 @@ module _ (ns : List Node) (ds : List Detail) (xs : List Stage) (v : Wanted) (n :
 
   -- the branches of a selection
 
-  pub choice-last : (m : ℕ) (found : Option ℕ) → end_at ns n ≡ m → IsFirst ns ds n xs v found → IsFirstInChoice ns ds n m xs v found
-  choice-last m found e r = record { means = λ i ch h. go ch (last-at ns ds i n m e ch h) }
+  pub choice-last : (m : ℕ) (found : Option ℕ) → end_at ns n ≡ m → IsFirst ns doc n xs v found → IsFirstInChoice ns doc n m xs v found
+  choice-last m found e r = record { means = λ i ch h. go ch (last-at ns doc i n m e ch h) }
     where
-      go : (ch : Choices) → LastAt ns ds n m ch → found ≡ first_of (wants v) (numbered_chosen ch n xs)
+      go : (ch : Choices) → LastAt ns doc n m ch → found ≡ first_of (wants v) (numbered_chosen ch n xs)
       go _ (last_at c a) = r.means c a
 
-  pub choice-later : (m : ℕ) (found : Option ℕ) → end_at ns n ≢ m → true ≡ is_finished (stage_at xs n) → IsFirstInChoice ns ds (end_at ns n) m xs v found → IsFirstInChoice ns ds n m xs v found
-  choice-later m found ne u r = record { means = λ i ch h. go i ch (choice-at ns ds i n m ne ch h) }
+  pub choice-later : (m : ℕ) (found : Option ℕ) → end_at ns n ≢ m → true ≡ is_finished (stage_at xs n) → IsFirstInChoice ns doc (end_at ns n) m xs v found → IsFirstInChoice ns doc n m xs v found
+  choice-later m found ne u r = record { means = λ i ch h. go i ch (choice-at ns doc i n m ne ch h) }
     where
-      go : (i : ℕ) (ch : Choices) → ChoiceAt ns ds i n m ch → found ≡ first_of (wants v) (numbered_chosen ch n xs)
+      go : (i : ℕ) (ch : Choices) → ChoiceAt ns doc i n m ch → found ≡ first_of (wants v) (numbered_chosen ch n xs)
       go i _ (choice_at p c ch q a later e lt) =
           r.means (i + 1) ch later ∙ ap (λ i. first_of (wants v) (numbered_chosen ch i xs)) e
           ∙ sym (ap (first_of (wants v)) (chosen-true (is_finished (stage_at xs n)) (numbered_chosen ch (n + node_count c) xs) (numbered c n xs) (sym u)))
 
-  pub choice-here : (m : ℕ) (found : Option ℕ) → end_at ns n ≢ m → false ≡ is_finished (stage_at xs n) → IsFirst ns ds n xs v found → IsFirstInChoice ns ds n m xs v found
-  choice-here m found ne u r = record { means = λ i ch h. go i ch (choice-at ns ds i n m ne ch h) }
+  pub choice-here : (m : ℕ) (found : Option ℕ) → end_at ns n ≢ m → false ≡ is_finished (stage_at xs n) → IsFirst ns doc n xs v found → IsFirstInChoice ns doc n m xs v found
+  choice-here m found ne u r = record { means = λ i ch h. go i ch (choice-at ns doc i n m ne ch h) }
     where
-      go : (i : ℕ) (ch : Choices) → ChoiceAt ns ds i n m ch → found ≡ first_of (wants v) (numbered_chosen ch n xs)
+      go : (i : ℕ) (ch : Choices) → ChoiceAt ns doc i n m ch → found ≡ first_of (wants v) (numbered_chosen ch n xs)
       go i _ (choice_at p c ch q a later e lt) =
           r.means c a ∙ sym (ap (first_of (wants v)) (chosen-false (is_finished (stage_at xs n)) (numbered_chosen ch (n + node_count c) xs) (numbered c n xs) (sym u)))
 
@@ -433,14 +433,14 @@ more-than-none : (k : ℕ) → k ≢ 0 → nat_lt 0 k ≡ true
 more-than-none zero ne = absurd (ne refl)
 more-than-none (suc k) ne = search rules
 
-module _ (ns : List Node) (ds : List Detail) (xs : List Stage) (m k : ℕ) (o : Option ℕ) (b : Bool) (v : Wanted) (e : is_some o ≡ not b) where
-  pub open-ending : v ≡ wanted.Ending → IsFirst ns ds (m + 1) xs wanted.Any o → IsOpenWanted ns ds m k xs v b
+module _ (ns : List Entry) (doc : Recipe) (xs : List Stage) (m k : ℕ) (o : Option ℕ) (b : Bool) (v : Wanted) (e : is_some o ≡ not b) where
+  pub open-ending : v ≡ wanted.Ending → IsFirst ns doc (m + 1) xs wanted.Any o → IsOpenWanted ns doc m k xs v b
   open-ending f r = rw f record { means = λ c a. told o b e ∙ ap nothing (r.means c a) ∙ nothing-any c (m + 1) xs }
 
-  pub open-entering : v ≡ wanted.Entering → IsFirst ns ds (m + 1) xs wanted.Any o → IsOpenWanted ns ds m k xs v b
+  pub open-entering : v ≡ wanted.Entering → IsFirst ns doc (m + 1) xs wanted.Any o → IsOpenWanted ns doc m k xs v b
   open-entering f r = rw f record { means = λ c a. told o b e ∙ ap nothing (r.means c a) ∙ nothing-any c (m + 1) xs }
 
-  pub open-releasing : v ≡ wanted.Releasing → k ≢ 0 → IsFirst ns ds (m + 1) xs wanted.Holding o → IsOpenWanted ns ds m k xs v b
+  pub open-releasing : v ≡ wanted.Releasing → k ≢ 0 → IsFirst ns doc (m + 1) xs wanted.Holding o → IsOpenWanted ns doc m k xs v b
   open-releasing f ne r = rw f record {
     means = λ c a.
         told o b e ∙ ap nothing (r.means c a) ∙ nothing-holds c (m + 1) xs

@@ -8,8 +8,8 @@ use Rattle.std.proofs.lemmas.Bool.Decides.{eqb_tells}
 use Rattle.batch_recipe.specs.Conditions.{ValueList}
 use Rattle.batch_recipe.specs.Nodes.{node_count}
 use Rattle.batch_recipe.specs.Tree.{Step, Task, Tree, runs, follows, act, skip, seq, par, sel, loop}
-use Rattle.batch_chart.specs.declared.node.Node.{Node}
-use Rattle.batch_chart.specs.declared.node.Detail.{Detail}
+use Rattle.batch_recipe.specs.declared.entry.Entry.{Entry}
+use Rattle.batch_recipe.specs.declared.recipe.Recipe.{Recipe}
 use Rattle.batch_chart.specs.declared.stage.Stage.{Stage}
 use Rattle.batch_chart.specs.declared.stage.Stage.TheVariants.{Finished, Freeing}
 use Rattle.batch_chart.specs.Climbing.{IsRisen, IsNeatlyRisen, IsNeatlyLeft, HasRisen}
@@ -33,16 +33,16 @@ use Rattle.batch_chart.proofs.Upkept.{plain-neat}
 
 -- where going on upwards has stopped, or has come to the root
 
-module _ (ns : List Node) (ds : List Detail) (t : Tree) (laid : IsLaid ns ds t) where
-  pub left-neat : (p : ℕ) → p < length ns → (xs ys : List Stage) (ms new : List ℕ) → IsNeatlyLeft ns ds xs ms p ys new → AreNeat ns ds 0 (length ns) ys new
-  left-neat p lt xs ys ms new r = neat-after ns ds t laid p lt xs ys ms new r.same r.signs r.was r.now r.before r.neat
+module _ (ns : List Entry) (doc : Recipe) (t : Tree) (laid : IsLaid ns doc t) where
+  pub left-neat : (p : ℕ) → p < length ns → (xs ys : List Stage) (ms new : List ℕ) → IsNeatlyLeft ns doc xs ms p ys new → AreNeat ns doc 0 (length ns) ys new
+  left-neat p lt xs ys ms new r = neat-after ns doc t laid p lt xs ys ms new r.same r.signs r.was r.now r.before r.neat
 
   root-end : end_at ns 0 ≡ length ns
-  root-end = omega (arith, (stood ns ds 0 t laid.stands).end, laid.count)
+  root-end = omega (arith, (stood ns doc 0 t laid.stands).end, laid.count)
 
-  pub risen-neat : (n : ℕ) → n ≡ 0 → (xs ys : List Stage) (ms new : List ℕ) → IsNeatlyRisen ns ds xs ms n ys new → AreNeat ns ds 0 (length ns) ys new
+  pub risen-neat : (n : ℕ) → n ≡ 0 → (xs ys : List Stage) (ms new : List ℕ) → IsNeatlyRisen ns doc xs ms n ys new → AreNeat ns doc 0 (length ns) ys new
   risen-neat n e xs ys ms new r =
-      blank-neat ns ds 0 (length ns) ys new (subst (λ z. (j : ℕ) (c : Tree) → 0 ≤ j → j < z → Stands ns ds j c → j + node_count c ≤ z) root-end (nests ns ds 0 t laid.stands))
+      blank-neat ns doc 0 (length ns) ys new (subst (λ z. (j : ℕ) (c : Tree) → 0 ≤ j → j < z → Stands ns doc j c → j + node_count c ≤ z) root-end (nests ns doc 0 t laid.stands))
       (subst (λ z. AreBlank 0 z ys new) root-end (subst (λ z. AreBlank z (end_at ns z) ys new) e r.blank))
 
 -- clearing, node by node
@@ -94,23 +94,23 @@ cleared-next first n xs ys old new le lt h = record {
 pub cleared-end : (first n m : ℕ) (xs ys : List Stage) (old new : List ℕ) → (m ≤ n) × (n ≤ m) → HasCleared first n xs ys old new → HasCleared first m xs ys old new
 cleared-end first n m xs ys old new e h = subst (λ z. HasCleared first z xs ys old new) (omega (arith, e.0, e.1)) h
 
-pub act-ends : (ns : List Node) (ds : List Detail) (xs : List Stage) → SomeLives ns ds xs → (k : ℕ) → k < length ns → end_at ns k ≤ length ns
-act-ends ns ds xs lives k lt =
-    let at = some-stands ns ds k lives.0 0 lives.1.stands (omega arith) (omega (arith, lives.1.count)) in
-    omega (arith, (stood ns ds k at.0 at.1).end, (stood ns ds k at.0 at.1).fits)
+pub act-ends : (ns : List Entry) (doc : Recipe) (xs : List Stage) → SomeLives ns doc xs → (k : ℕ) → k < length ns → end_at ns k ≤ length ns
+act-ends ns doc xs lives k lt =
+    let at = some-stands ns doc k lives.0 0 lives.1.stands (omega arith) (omega (arith, lives.1.count)) in
+    omega (arith, (stood ns doc k at.0 at.1).end, (stood ns doc k at.0 at.1).fits)
 
 -- what stood below the act has been given up
 
-module _ (ns : List Node) (ds : List Detail) (vs : ValueList) (xs : List Stage) (lives : SomeLives ns ds xs) (k : ℕ) (lt : k < length ns) (acting : is_act_kind (kind_at ns k) ≡ true) (left : is_finished (stage_at xs k) ≡ false)
-    (ms : List ℕ) (count : length ms ≡ length ns) (neat : AreNeat ns ds 0 (length ns) xs ms) (mid : List Stage) (sg : List ℕ) (fits : length mid ≡ length xs) (given : HasGivenUp ns k xs mid ms sg) where
+module _ (ns : List Entry) (doc : Recipe) (vs : ValueList) (xs : List Stage) (lives : SomeLives ns doc xs) (k : ℕ) (lt : k < length ns) (acting : is_act_kind (kind_at ns k) ≡ true) (left : is_finished (stage_at xs k) ≡ false)
+    (ms : List ℕ) (count : length ms ≡ length ns) (neat : AreNeat ns doc 0 (length ns) xs ms) (mid : List Stage) (sg : List ℕ) (fits : length mid ≡ length xs) (given : HasGivenUp ns k xs mid ms sg) where
   as-long : length xs ≡ length ns
   as-long = lives.2.fits ∙ sym lives.1.count
 
-  at-k : (c : Tree) × Stands ns ds k c
-  at-k = some-stands ns ds k lives.0 0 lives.1.stands (omega arith) (omega (arith, lives.1.count))
+  at-k : (c : Tree) × Stands ns doc k c
+  at-k = some-stands ns doc k lives.0 0 lives.1.stands (omega arith) (omega (arith, lives.1.count))
 
   k-below : k < end_at ns k
-  k-below = omega (arith, (stood ns ds k at-k.0 at-k.1).end, count-pos at-k.0)
+  k-below = omega (arith, (stood ns doc k at-k.0 at-k.1).end, count-pos at-k.0)
 
   pub given-count : length sg ≡ length ms
   given-count = elim given [ inl h ↦ h.count | inr h ↦ ap length h.1 ]
@@ -123,14 +123,14 @@ module _ (ns : List Node) (ds : List Detail) (vs : ValueList) (xs : List Stage) 
 
   -- nothing stands below a chart that is over
   over-blank : (k + 1 < end_at ns k → is_finished (stage_at xs (k + 1)) ≡ true) → AreBlank (k + 1) (end_at ns k) xs ms
-  over-blank u = go at-k.0 at-k.1 (act-here ns ds k at-k.0 acting at-k.1).is
+  over-blank u = go at-k.0 at-k.1 (act-here ns doc k at-k.0 acting at-k.1).is
     where
-      go : (c : Tree) → Stands ns ds k c → {s : Step} {w : Task} → c ≡ act s w → AreBlank (k + 1) (end_at ns k) xs ms
+      go : (c : Tree) → Stands ns doc k c → {s : Step} {w : Task} → c ≡ act s w → AreBlank (k + 1) (end_at ns k) xs ms
       go (act s (runs p)) h e = λ j a b. absurd (omega (arith, h.1.2, a, b))
       go (act s (follows name d)) h e = λ j a b. (
           let same : end_at ns k ≡ k + 1 + node_count d = omega (arith, h.0.2) in
-          neat-blank ns ds (k + 1) d xs ms h.1 (λ i f g. some-stands ns ds i d (k + 1) h.1 f g)
-          (λ i c f g s. neat i c (omega arith) (omega (arith, g, (stood ns ds (k + 1) d h.1).fits)) s)
+          neat-blank ns doc (k + 1) d xs ms h.1 (λ i f g. some-stands ns doc i d (k + 1) h.1 f g)
+          (λ i c f g s. neat i c (omega arith) (omega (arith, g, (stood ns doc (k + 1) d h.1).fits)) s)
           (finished-stage (stage_at xs (k + 1)) (u (omega (arith, same, count-pos d)))) j a (omega (arith, b, same)))
       go skip h e = absurd (cc)
       go (seq ts) h e = absurd (cc)
@@ -162,20 +162,20 @@ module _ (ns : List Node) (ds : List Detail) (vs : ValueList) (xs : List Stage) 
   signs-out v j q = get_or-set_other sg k j v 0 (apart j q) ∙ given-signs j (wider j q)
 
   -- it holds needs still
-  pub frees-held : (held : ℕ) (ys : List Stage) → held ≢ 0 → ys ≡ slice_set mid k (Freeing held) → IsFreed ns ds vs k held xs ys
+  pub frees-held : (held : ℕ) (ys : List Stage) → held ≢ 0 → ys ≡ slice_set mid k (Freeing held) → IsFreed ns doc vs k held xs ys
   frees-held held ys ne e = record { mid = mid; fits = fits; outside = given-out; below = below-gone; held_or_not = inl (ne, e) }
 
-  pub neat-held : (held : ℕ) (ys : List Stage) (new : List ℕ) → HasCome ns k (Freeing held) mid ys sg new → AreNeat ns ds 0 (length ns) ys new
+  pub neat-held : (held : ℕ) (ys : List Stage) (new : List ℕ) → HasCome ns k (Freeing held) mid ys sg new → AreNeat ns doc 0 (length ns) ys new
   neat-held held ys new come =
-      subst (λ z. AreNeat ns ds 0 (length ns) z new) (sym come.stages)
-      (subst (λ z. AreNeat ns ds 0 (length ns) (slice_set mid k (Freeing held)) z) (sym come.signs)
-      (neat-after ns ds lives.0 lives.1 k lt xs (slice_set mid k (Freeing held)) ms (slice_set sg k (stage_signs (needs_of (kind_at ns k)) (Freeing held)))
-      (set-out ns ds vs xs mid lives k lt fits given-out below-gone (Freeing held)) (signs-out (stage_signs (needs_of (kind_at ns k)) (Freeing held))) left (ap is_finished own) neat
-      (neat-one ns ds k (end_at ns k) (slice_set mid k (Freeing held)) (slice_set sg k (stage_signs (needs_of (kind_at ns k)) (Freeing held)))
-      (plain-neat ns ds lives.0 lives.1 k lt acting (slice_set mid k (Freeing held)) (slice_set sg k (stage_signs (needs_of (kind_at ns k)) (Freeing held))) (Freeing held) tt own
+      subst (λ z. AreNeat ns doc 0 (length ns) z new) (sym come.stages)
+      (subst (λ z. AreNeat ns doc 0 (length ns) (slice_set mid k (Freeing held)) z) (sym come.signs)
+      (neat-after ns doc lives.0 lives.1 k lt xs (slice_set mid k (Freeing held)) ms (slice_set sg k (stage_signs (needs_of (kind_at ns k)) (Freeing held)))
+      (set-out ns doc vs xs mid lives k lt fits given-out below-gone (Freeing held)) (signs-out (stage_signs (needs_of (kind_at ns k)) (Freeing held))) left (ap is_finished own) neat
+      (neat-one ns doc k (end_at ns k) (slice_set mid k (Freeing held)) (slice_set sg k (stage_signs (needs_of (kind_at ns k)) (Freeing held)))
+      (plain-neat ns doc lives.0 lives.1 k lt acting (slice_set mid k (Freeing held)) (slice_set sg k (stage_signs (needs_of (kind_at ns k)) (Freeing held))) (Freeing held) tt own
       (get_or-set_same sg k (stage_signs (needs_of (kind_at ns k)) (Freeing held)) 0 (omega (arith, lt, count, given-count))) (λ j a b. (still j a b).0))
-      (blank-neat ns ds (k + 1) (end_at ns k) (slice_set mid k (Freeing held)) (slice_set sg k (stage_signs (needs_of (kind_at ns k)) (Freeing held)))
-      (nests-below ns ds k (k + 1) (end_at ns k) (omega arith) (nests ns ds k at-k.0 at-k.1)) still))))
+      (blank-neat ns doc (k + 1) (end_at ns k) (slice_set mid k (Freeing held)) (slice_set sg k (stage_signs (needs_of (kind_at ns k)) (Freeing held)))
+      (nests-below ns doc k (k + 1) (end_at ns k) (omega arith) (nests ns doc k at-k.0 at-k.1)) still))))
     where
       own : stage_at (slice_set mid k (Freeing held)) k ≡ Freeing held
       own = stage-set_same mid k (Freeing held) inside
@@ -188,14 +188,14 @@ module _ (ns : List Node) (ds : List Detail) (vs : ValueList) (xs : List Stage) 
 
   -- or it is finished
 
-  over-risen : IsNeatlyRisen ns ds xs ms k (slice_set mid k Finished) (slice_set sg k 0)
+  over-risen : IsNeatlyRisen ns doc xs ms k (slice_set mid k Finished) (slice_set sg k 0)
   over-risen = record {
     count = length-set sg k 0 ∙ given-count;
     before = neat;
     was = left;
-    same = set-out ns ds vs xs mid lives k lt fits given-out below-gone Finished;
+    same = set-out ns doc vs xs mid lives k lt fits given-out below-gone Finished;
     signs = signs-out 0;
-    blank = λ j a b. (all-gone ns ds vs xs mid lives k lt fits given-out below-gone j a b, gone j a b);
+    blank = λ j a b. (all-gone ns doc vs xs mid lives k lt fits given-out below-gone j a b, gone j a b);
   }
     where
       gone : (j : ℕ) → k ≤ j → j < end_at ns k → sign_at (slice_set sg k 0) j ≡ 0
@@ -205,21 +205,21 @@ module _ (ns : List Node) (ds : List Detail) (vs : ValueList) (xs : List Stage) 
       ]
 
   module _ (ys : List Stage) (new : List ℕ) (long : length ys ≡ length mid)
-      (rises : (us ws : List Stage) (qs : List ℕ) → IsRisen ns ds vs us ws k (slice_set mid k Finished) → IsNeatlyRisen ns ds us qs k (slice_set mid k Finished) (slice_set sg k 0)
-      → HasRisen ns ds vs ws ys × (length new ≡ length qs) × AreNeat ns ds 0 (length ns) ys new) where
-    rose : HasRisen ns ds vs (slice_set mid k (Freeing 0)) ys × (length new ≡ length ms) × AreNeat ns ds 0 (length ns) ys new
-    rose = rises xs (slice_set mid k (Freeing 0)) ms (risen ns ds vs xs mid lives k lt fits given-out below-gone) over-risen
+      (rises : (us ws : List Stage) (qs : List ℕ) → IsRisen ns doc vs us ws k (slice_set mid k Finished) → IsNeatlyRisen ns doc us qs k (slice_set mid k Finished) (slice_set sg k 0)
+      → HasRisen ns doc vs ws ys × (length new ≡ length qs) × AreNeat ns doc 0 (length ns) ys new) where
+    rose : HasRisen ns doc vs (slice_set mid k (Freeing 0)) ys × (length new ≡ length ms) × AreNeat ns doc 0 (length ns) ys new
+    rose = rises xs (slice_set mid k (Freeing 0)) ms (risen ns doc vs xs mid lives k lt fits given-out below-gone) over-risen
 
-    pub frees-over : (held : ℕ) → held ≡ 0 → IsFreed ns ds vs k held xs ys
+    pub frees-over : (held : ℕ) → held ≡ 0 → IsFreed ns doc vs k held xs ys
     frees-over held e = record {
       mid = mid;
       fits = fits;
       outside = given-out;
       below = below-gone;
-      held_or_not = inr (e, finishes ns ds vs xs mid lives k lt fits given-out below-gone ys long rose.0);
+      held_or_not = inr (e, finishes ns doc vs xs mid lives k lt fits given-out below-gone ys long rose.0);
     }
 
-    pub neat-over : AreNeat ns ds 0 (length ns) ys new
+    pub neat-over : AreNeat ns doc 0 (length ns) ys new
     neat-over = rose.2
 
     pub count-over : length new ≡ length ms

@@ -11,8 +11,8 @@ use Rattle.batch_model.specs.Lists.{Has}
 use Rattle.batch_model.specs.Moves.{is_empty}
 use Rattle.batch_model.specs.Plant.{held_in}
 use Rattle.batch_model.specs.Rest.{Rest, ready, asking, open_act, live, freeing, in_seq, in_par, in_loop, done}
-use Rattle.batch_chart.specs.declared.node.Node.{Node}
-use Rattle.batch_chart.specs.declared.node.Detail.{Detail}
+use Rattle.batch_recipe.specs.declared.entry.Entry.{Entry}
+use Rattle.batch_recipe.specs.declared.recipe.Recipe.{Recipe}
 use Rattle.batch_chart.specs.declared.sign.TheConstants.{HOLDS}
 use Rattle.batch_chart.specs.declared.stage.Stage.{Stage}
 use Rattle.batch_chart.specs.declared.stage.Stage.TheVariants.{Finished, Ready, Asking, Open, Live, Freeing, Turning}
@@ -43,7 +43,7 @@ use Rattle.batch_chart.proofs.Upkept.{fits-count}
 
 -- the search, step by step
 
-module _ (ns : List Node) (xs : List Stage) (signs : List ℕ) where
+module _ (ns : List Entry) (xs : List Stage) (signs : List ℕ) where
   pub gives-first : GivesNone ns xs signs 0
   gives-first k lt u = absurd (omega arith)
 
@@ -137,13 +137,13 @@ in-range [] n m h e i = absurd i
 in-range (a ∷ l) n m h e (inl q) = subst (λ (z : ℕ × Rest). (n ≤ z.0) × (z.0 < m)) q (h.0, h.1)
 in-range (a ∷ l) n m h e (inr q) = let b = in-range l (a.0 + 1) m h.2 e q in (omega (arith, h.0, b.0), b.1)
 
-module _ (ns : List Node) (ds : List Detail) (xs : List Stage) (signs : List ℕ) (told : AreTold ns ds 0 (length ns) xs) (neat : AreNeat ns ds 0 (length ns) xs signs) where
+module _ (ns : List Entry) (doc : Recipe) (xs : List Stage) (signs : List ℕ) (told : AreTold ns doc 0 (length ns) xs) (neat : AreNeat ns doc 0 (length ns) xs signs) where
   -- whether anything is held below a node is told by the signs there
-  held-told : (c : Tree) (n : ℕ) → Stands ns ds n c → (b : Bool) → TellsNone signs HOLDS n (n + node_count c) b → is_empty (held_in (meaning c n xs)) ≡ b
+  held-told : (c : Tree) (n : ℕ) → Stands ns doc n c → (b : Bool) → TellsNone signs HOLDS n (n + node_count c) b → is_empty (held_in (meaning c n xs)) ≡ b
   held-told c n s b h = sym (nothing-holds c n xs) ∙ go b h
     where
       fits : n + node_count c ≤ length ns
-      fits = (stood ns ds n c s).fits
+      fits = (stood ns doc n c s).fits
 
       l : List (ℕ × Rest)
       l = numbered c n xs
@@ -152,7 +152,7 @@ module _ (ns : List Node) (ds : List Detail) (xs : List Stage) (signs : List ℕ
       rises = rise xs c n
 
       links : (k : ℕ) → n ≤ k → k < n + node_count c → sign_in k l 0 ≡ sign_at signs k
-      links = link ns ds xs signs c n (n + node_count c) refl s (neat-part ns ds 0 (length ns) n (n + node_count c) xs signs (omega arith) fits neat) (told-part ns ds 0 (length ns) n (n + node_count c) xs (omega arith) fits told)
+      links = link ns doc xs signs c n (n + node_count c) refl s (neat-part ns doc 0 (length ns) n (n + node_count c) xs signs (omega arith) fits neat) (told-part ns doc 0 (length ns) n (n + node_count c) xs (omega arith) fits told)
 
       own : (e : ℕ × Rest) → Has l e → sign_at signs e.0 ≡ signs_of e.1
       own e i = let r = in-range l n (n + node_count c) rises e i in sym (links e.0 r.0 r.1) ∙ sign-entry l n (n + node_count c) rises e i
@@ -170,7 +170,7 @@ module _ (ns : List Node) (ds : List Detail) (xs : List Stage) (signs : List ℕ
           shown true r e f g = e
           shown false r e f g = absurd (some.3 (ap (λ z. bit_and z HOLDS) f ∙ shown-so HOLDS (signs_of r) (sym g ∙ e)))
 
-  module _ (t : Tree) (laid : IsLaid ns ds t) (noted : (k : ℕ) → sign_at signs k ≡ sign_in k (numbered t 0 xs) 0) where
+  module _ (t : Tree) (laid : IsLaid ns doc t) (noted : (k : ℕ) → sign_at signs k ≡ sign_in k (numbered t 0 xs) 0) where
     abbrev l-all : List (ℕ × Rest)
     l-all = numbered t 0 xs
 
@@ -180,7 +180,7 @@ module _ (ns : List Node) (ds : List Detail) (xs : List Stage) (signs : List ℕ
     own-all : (e : ℕ × Rest) → Has l-all e → sign_at signs e.0 ≡ signs_of e.1
     own-all e i = noted e.0 ∙ sign-entry l-all 0 (0 + node_count t) rises-all e i
 
-    gives-as : (k : ℕ) (s : Step) (w : Task) (x : Stage) (b : Bool) → Stands ns ds k (act s w) → Fits (kind_at ns k) s w → GivesAs ns signs k x b → (wants wanted.Holding k (act_as s w (meaning_below w (k + 1) xs) x) ≡ true) → wants wanted.Releasing k (act_as s w (meaning_below w (k + 1) xs) x) ≡ b
+    gives-as : (k : ℕ) (s : Step) (w : Task) (x : Stage) (b : Bool) → Stands ns doc k (act s w) → Fits (kind_at ns k) s w → GivesAs ns signs k x b → (wants wanted.Holding k (act_as s w (meaning_below w (k + 1) xs) x) ≡ true) → wants wanted.Releasing k (act_as s w (meaning_below w (k + 1) xs) x) ≡ b
     gives-as k s w Finished b st f g h = sym g
     gives-as k s w (Ready i) b st f g h = ap (λ z. gives z i) (fits-count (kind_at ns k) s w f) ∙ sym g
     gives-as k s w (Asking i) b st f g h = sym g
@@ -194,14 +194,14 @@ module _ (ns : List Node) (ds : List Detail) (xs : List Stage) (signs : List ℕ
         let e : end_at ns k ≡ k + 1 + node_count c = omega (arith, st.0.2) in
         ap (λ z. z && is_empty (held_in (meaning c (k + 1) xs))) h ∙ held-told c (k + 1) st.1 b (subst (λ z. TellsNone signs HOLDS (k + 1) z b) e g)
 
-    act-fits : (k : ℕ) (s : Step) (w : Task) → Stands ns ds k (act s w) → Fits (kind_at ns k) s w
+    act-fits : (k : ℕ) (s : Step) (w : Task) → Stands ns doc k (act s w) → Fits (kind_at ns k) s w
     act-fits k s (runs p) st = subst (λ v. Fits v s (runs p)) (sym st.1.1) refl
     act-fits k s (follows name c) st = subst (λ v. Fits v s (follows name c)) (sym st.0.1) refl
 
     -- an entry's act gives back just as the signs and its stage say
     told-entry : (e : ℕ × Rest) → Has l-all e → (b : Bool) → ((bit_and (sign_at signs e.0) HOLDS ≡ 0 → ⊥) → GivesAs ns signs e.0 (stage_at xs e.0) b) → wants wanted.Holding e.0 e.1 ≡ true → wants wanted.Releasing e.0 e.1 ≡ b
     told-entry e i b g h =
-        let z = entry-at ns ds t laid xs e i in
+        let z = entry-at ns doc t laid xs e i in
         let shown : bit_and (sign_at signs e.0) HOLDS ≡ 0 → ⊥ = λ y. (let u : ◌≡◌ {A = Bool} false true = sym (said-holding e.0 e.1 ∙ shown-not HOLDS (signs_of e.1) (ap (λ v. bit_and v HOLDS) (sym (own-all e i)) ∙ y)) ∙ h in absurd (cc)) in
         ap (wants wanted.Releasing e.0) z.is ∙ gives-as e.0 z.step z.task (stage_at xs e.0) b z.stands (act-fits e.0 z.step z.task z.stands) (g shown) (ap (wants wanted.Holding e.0) (sym z.is) ∙ h)
 
@@ -231,5 +231,5 @@ module _ (ns : List Node) (ds : List Detail) (xs : List Stage) (signs : List ℕ
         holding r i true e = e
         holding r i false e = absurd (h.1 (ap (λ z. bit_and z HOLDS) (own-all (j, r) i) ∙ shown-so HOLDS (signs_of r) (sym (said-holding j r) ∙ e)))
 
-pub found-giving : (ns : List Node) (ds : List Detail) (xs : List Stage) (signs : List ℕ) → SomeNoted ns ds xs signs → (o : Option ℕ) → IsFirstGiving ns xs signs o → IsFoundFirst ns ds xs wanted.Releasing o
-found-giving ns ds xs signs some o h = record { means = λ t laid. giving-first ns ds xs signs some.3 some.4 t laid (noted-alike ns ds xs signs some.0 t some.1 laid some.2) o h }
+pub found-giving : (ns : List Entry) (doc : Recipe) (xs : List Stage) (signs : List ℕ) → SomeNoted ns doc xs signs → (o : Option ℕ) → IsFirstGiving ns xs signs o → IsFoundFirst ns doc xs wanted.Releasing o
+found-giving ns doc xs signs some o h = record { means = λ t laid. giving-first ns doc xs signs some.3 some.4 t laid (noted-alike ns doc xs signs some.0 t some.1 laid some.2) o h }

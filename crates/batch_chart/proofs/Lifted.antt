@@ -9,8 +9,8 @@ use Rattle.batch_recipe.specs.Tree.{Step, runs, follows, Tree, act, skip, seq, p
 use Rattle.batch_model.specs.Rest.{Rest, open_act, in_seq, in_par, done, Rests, rest, is_done, all_done, joined, continued, turned, reach_first, advance, advance_each}
 use Rattle.batch_model.specs.Moves.{freed}
 use Rattle.batch_model.specs.Settled.{IsAdvanced, AreAdvanced}
-use Rattle.batch_chart.specs.declared.node.Node.{Node}
-use Rattle.batch_chart.specs.declared.node.Detail.{Detail}
+use Rattle.batch_recipe.specs.declared.entry.Entry.{Entry}
+use Rattle.batch_recipe.specs.declared.recipe.Recipe.{Recipe}
 use Rattle.batch_chart.specs.declared.stage.Stage.{Stage}
 use Rattle.batch_chart.specs.declared.stage.Stage.TheVariants.{Finished, Ready, Asking, Open, Live, Freeing, Turning}
 use Rattle.batch_chart.specs.Stages.{stage_at, is_finished, is_begun, turns_of}
@@ -61,63 +61,63 @@ module _ (vs : ValueList) where
       go (Freeing k) h = went-freed s k
       go (Turning k) h = refl
 
-module _ (ns : List Node) (ds : List Detail) (vs : ValueList) (p : ℕ) (xs ys : List Stage) (outside : AgreeOutside p (end_at ns p) xs ys) (kept : is_finished (stage_at ys p) ≡ is_finished (stage_at xs p))
-    (here : (c : Tree) → Stands ns ds p c → meaning c p ys ≡ advance vs (meaning c p xs)) where
-  at-node : (n : ℕ) (c : Tree) → n ≡ p → Stands ns ds n c → meaning c n ys ≡ advance vs (meaning c n xs)
-  at-node n c e h = subst (λ i. meaning c i ys ≡ advance vs (meaning c i xs)) (sym e) (here c (subst (λ i. Stands ns ds i c) e h))
+module _ (ns : List Entry) (doc : Recipe) (vs : ValueList) (p : ℕ) (xs ys : List Stage) (outside : AgreeOutside p (end_at ns p) xs ys) (kept : is_finished (stage_at ys p) ≡ is_finished (stage_at xs p))
+    (here : (c : Tree) → Stands ns doc p c → meaning c p ys ≡ advance vs (meaning c p xs)) where
+  at-node : (n : ℕ) (c : Tree) → n ≡ p → Stands ns doc n c → meaning c n ys ≡ advance vs (meaning c n xs)
+  at-node n c e h = subst (λ i. meaning c i ys ≡ advance vs (meaning c i xs)) (sym e) (here c (subst (λ i. Stands ns doc i c) e h))
 
   mutual
-    pub lifted : (c : Tree) (n : ℕ) → Stands ns ds n c → Apart ns ds p n → Went vs (meaning c n ys) (meaning c n xs)
+    pub lifted : (c : Tree) (n : ℕ) → Stands ns doc n c → Apart ns doc p n → Went vs (meaning c n ys) (meaning c n xs)
     lifted (act s (runs q)) n h a = elim (eqb_tells n p) [
       | inl e ↦ λ w. at-node n (act s (runs q)) e.1 h
-      | inr e ↦ λ w. ap (act_as s (runs q) done) (same-stage ns ds p xs ys outside kept n e.1 a) ∙ sym (advance-phase vs s q done (stage_at xs n))
+      | inr e ↦ λ w. ap (act_as s (runs q) done) (same-stage ns doc p xs ys outside kept n e.1 a) ∙ sym (advance-phase vs s q done (stage_at xs n))
     ]
     lifted (act s (follows m c)) n h a = elim (eqb_tells n p) [
       | inl e ↦ λ w. at-node n (act s (follows m c)) e.1 h
       | inr e ↦
-          went-act vs s m c (meaning c (n + 1) ys) (meaning c (n + 1) xs) (stage_at xs n) (stage_at ys n) (same-stage ns ds p xs ys outside kept n e.1 a)
-          (lifted c (n + 1) h.1 (next-apart ns ds p n e.1 a))
+          went-act vs s m c (meaning c (n + 1) ys) (meaning c (n + 1) xs) (stage_at xs n) (stage_at ys n) (same-stage ns doc p xs ys outside kept n e.1 a)
+          (lifted c (n + 1) h.1 (next-apart ns doc p n e.1 a))
     ]
     lifted skip n h a = λ w. refl
     lifted (seq ts) n h a = elim (eqb_tells n p) [
       | inl e ↦ λ w. at-node n (seq ts) e.1 h
       | inr e ↦
-          went-if vs (is_begun (stage_at xs n)) (is_begun (stage_at ys n)) (branch ts (n + 1) ys) done (branch ts (n + 1) xs) done (ap is_begun (same-stage ns ds p xs ys outside kept n e.1 a))
-          (lifted-branch ts (n + 1) (n + (1 + count_of_each ts)) h.1 (next-apart ns ds p n e.1 a)) (λ w. refl)
+          went-if vs (is_begun (stage_at xs n)) (is_begun (stage_at ys n)) (branch ts (n + 1) ys) done (branch ts (n + 1) xs) done (ap is_begun (same-stage ns doc p xs ys outside kept n e.1 a))
+          (lifted-branch ts (n + 1) (n + (1 + count_of_each ts)) h.1 (next-apart ns doc p n e.1 a)) (λ w. refl)
     ]
     lifted (par ts) n h a = elim (eqb_tells n p) [
       | inl e ↦ λ w. at-node n (par ts) e.1 h
       | inr e ↦
-          went-if vs (is_begun (stage_at xs n)) (is_begun (stage_at ys n)) (in_par (meaning_each ts (n + 1) ys)) done (in_par (meaning_each ts (n + 1) xs)) done (ap is_begun (same-stage ns ds p xs ys outside kept n e.1 a))
-          (went-par vs (meaning_each ts (n + 1) ys) (meaning_each ts (n + 1) xs) (lifted-each ts (n + 1) (n + (1 + count_of_each ts)) h.1 (next-apart ns ds p n e.1 a))) (λ w. refl)
+          went-if vs (is_begun (stage_at xs n)) (is_begun (stage_at ys n)) (in_par (meaning_each ts (n + 1) ys)) done (in_par (meaning_each ts (n + 1) xs)) done (ap is_begun (same-stage ns doc p xs ys outside kept n e.1 a))
+          (went-par vs (meaning_each ts (n + 1) ys) (meaning_each ts (n + 1) xs) (lifted-each ts (n + 1) (n + (1 + count_of_each ts)) h.1 (next-apart ns doc p n e.1 a))) (λ w. refl)
     ]
     lifted (sel ch) n h a = elim (eqb_tells n p) [
       | inl e ↦ λ w. at-node n (sel ch) e.1 h
       | inr e ↦
-          went-if vs (is_begun (stage_at xs n)) (is_begun (stage_at ys n)) (chosen ch (n + 1) ys) done (chosen ch (n + 1) xs) done (ap is_begun (same-stage ns ds p xs ys outside kept n e.1 a))
-          (lifted-chosen ch h.0 (n + 1) (n + (1 + count_of_choices ch)) h.2 (next-apart ns ds p n e.1 a)) (λ w. refl)
+          went-if vs (is_begun (stage_at xs n)) (is_begun (stage_at ys n)) (chosen ch (n + 1) ys) done (chosen ch (n + 1) xs) done (ap is_begun (same-stage ns doc p xs ys outside kept n e.1 a))
+          (lifted-chosen ch h.0 (n + 1) (n + (1 + count_of_choices ch)) h.2 (next-apart ns doc p n e.1 a)) (λ w. refl)
     ]
     lifted (loop j q body) n h a = elim (eqb_tells n p) [
       | inl e ↦ λ w. at-node n (loop j q body) e.1 h
       | inr e ↦
-          went-loop vs (turns_of (stage_at xs n)) (turns_of (stage_at ys n)) q body (meaning body (n + 1) ys) (meaning body (n + 1) xs) (ap turns_of (same-stage ns ds p xs ys outside kept n e.1 a))
-          (lifted body (n + 1) h.3 (next-apart ns ds p n e.1 a))
+          went-loop vs (turns_of (stage_at xs n)) (turns_of (stage_at ys n)) q body (meaning body (n + 1) ys) (meaning body (n + 1) xs) (ap turns_of (same-stage ns doc p xs ys outside kept n e.1 a))
+          (lifted body (n + 1) h.3 (next-apart ns doc p n e.1 a))
     ]
 
-    lifted-each : (ts : Trees) (n m : ℕ) → AreStanding ns ds n m ts → Apart ns ds p n → AreAdvanced (meaning_each ts n ys) → meaning_each ts n ys ≡ advance_each vs (meaning_each ts n xs)
+    lifted-each : (ts : Trees) (n m : ℕ) → AreStanding ns doc n m ts → Apart ns doc p n → AreAdvanced (meaning_each ts n ys) → meaning_each ts n ys ≡ advance_each vs (meaning_each ts n xs)
     lifted-each no_trees n m h a w = refl
-    lifted-each (tree c ts) n m h a w = ap₂ rest (lifted c n h.0 a w.0) (lifted-each ts (n + node_count c) m h.1 (after-apart ns ds p n c h.0 a) w.1)
+    lifted-each (tree c ts) n m h a w = ap₂ rest (lifted c n h.0 a w.0) (lifted-each ts (n + node_count c) m h.1 (after-apart ns doc p n c h.0 a) w.1)
 
-    lifted-branch : (ts : Trees) (n m : ℕ) → AreStanding ns ds n m ts → Apart ns ds p n → Went vs (branch ts n ys) (branch ts n xs)
+    lifted-branch : (ts : Trees) (n m : ℕ) → AreStanding ns doc n m ts → Apart ns doc p n → Went vs (branch ts n ys) (branch ts n xs)
     lifted-branch no_trees n m h a = λ w. refl
     lifted-branch (tree c ts) n m h a =
         went-if vs (is_finished (stage_at xs n)) (is_finished (stage_at ys n)) (branch ts (n + node_count c) ys) (in_seq (meaning c n ys) ts) (branch ts (n + node_count c) xs) (in_seq (meaning c n xs) ts)
-        (same-status ns ds p xs ys outside kept n a)
-        (lifted-branch ts (n + node_count c) m h.1 (after-apart ns ds p n c h.0 a)) (went-seq vs (meaning c n ys) (meaning c n xs) ts (lifted c n h.0 a))
+        (same-status ns doc p xs ys outside kept n a)
+        (lifted-branch ts (n + node_count c) m h.1 (after-apart ns doc p n c h.0 a)) (went-seq vs (meaning c n ys) (meaning c n xs) ts (lifted c n h.0 a))
 
-    lifted-chosen : (ch : Choices) (i n m : ℕ) → AreChoices ns ds i n m ch → Apart ns ds p n → Went vs (chosen ch n ys) (chosen ch n xs)
+    lifted-chosen : (ch : Choices) (i n m : ℕ) → AreChoices ns doc i n m ch → Apart ns doc p n → Went vs (chosen ch n ys) (chosen ch n xs)
     lifted-chosen (otherwise c) i n m h a = lifted c n h.0 a
     lifted-chosen (choice q c ch) i n m h a =
         went-if vs (is_finished (stage_at xs n)) (is_finished (stage_at ys n)) (chosen ch (n + node_count c) ys) (meaning c n ys) (chosen ch (n + node_count c) xs) (meaning c n xs)
-        (same-status ns ds p xs ys outside kept n a)
-        (lifted-chosen ch (i + 1) (n + node_count c) m h.2 (after-apart ns ds p n c h.1 a)) (lifted c n h.1 a)
+        (same-status ns doc p xs ys outside kept n a)
+        (lifted-chosen ch (i + 1) (n + node_count c) m h.2 (after-apart ns doc p n c h.1 a)) (lifted c n h.1 a)

@@ -10,8 +10,8 @@ use Rattle.batch_recipe.specs.Nodes.{node_count}
 use Rattle.batch_recipe.specs.Tree.{Step, Phase, Task, runs, follows, Tree, act}
 use Rattle.batch_model.specs.Lists.{Has}
 use Rattle.batch_model.specs.Rest.{Rest, ready, asking, open_act, live, freeing, in_seq, in_par, in_loop, done}
-use Rattle.batch_chart.specs.declared.node.Node.{Node}
-use Rattle.batch_chart.specs.declared.node.Detail.{Detail}
+use Rattle.batch_recipe.specs.declared.entry.Entry.{Entry}
+use Rattle.batch_recipe.specs.declared.recipe.Recipe.{Recipe}
 use Rattle.batch_chart.specs.declared.sign.TheConstants.{LIVES}
 use Rattle.batch_chart.specs.declared.stage.Stage.{Stage}
 use Rattle.batch_chart.specs.declared.wanted.Wanted.{Wanted}
@@ -19,7 +19,7 @@ use Rattle.batch_chart.specs.declared.wanted.Wanted.TheVariants as wanted
 use Rattle.batch_chart.specs.Compiled.{kind_at, Stands}
 use Rattle.batch_chart.specs.Finding.{wants, first_of}
 use Rattle.batch_chart.specs.Meaning.{meaning_below}
-use Rattle.batch_chart.specs.Nexts.{IsFoundFirst, detail_named, is_named, names_at, IsFirstNamed}
+use Rattle.batch_chart.specs.Nexts.{IsFoundFirst, has_name, is_named, names_at, IsFirstNamed}
 use Rattle.batch_chart.specs.Noting.{signs_of, sign_in, AreNoted}
 use Rattle.batch_chart.specs.Numbered.{numbered}
 use Rattle.batch_chart.specs.Running.{IsLaid}
@@ -77,29 +77,29 @@ and-not : (a b : Bool) → false ≡ (a && (false && b))
 and-not true b = refl
 and-not false b = refl
 
-module _ (ns : List Node) (ds : List Detail) (xs : List Stage) (signs : List ℕ) (t : Tree) (laid : IsLaid ns ds t) (noted : (k : ℕ) → sign_at signs k ≡ sign_in k (numbered t 0 xs) 0) (from : ℕ) (phase : Name) where
+module _ (ns : List Entry) (doc : Recipe) (xs : List Stage) (signs : List ℕ) (t : Tree) (laid : IsLaid ns doc t) (noted : (k : ℕ) → sign_at signs k ≡ sign_in k (numbered t 0 xs) 0) (from : ℕ) (phase : Name) where
   own-sign : (e : ℕ × Rest) → Has (numbered t 0 xs) e → sign_at signs e.0 ≡ signs_of e.1
   own-sign e h = noted e.0 ∙ sign-entry (numbered t 0 xs) 0 (0 + node_count t) (rise xs t 0) e h
 
   -- a live phase's node names it
-  phase-named : (k : ℕ) (s : Step) (w : Task) (p : Phase) → Stands ns ds k (act s w) → w ≡ runs p → is_named (kind_at ns k) ds phase ≡ same_name p.name phase
+  phase-named : (k : ℕ) (s : Step) (w : Task) (p : Phase) → Stands ns doc k (act s w) → w ≡ runs p → is_named (kind_at ns k) doc phase ≡ same_name p.name phase
   phase-named k s (runs q) p h e =
       let same : q ≡ p = cc in
-      ap (λ z. is_named z ds phase) h.1.1 ∙ ap (λ z. detail_named z phase) h.2.1 ∙ ap (λ (z : Phase). same_name z.name phase) same
+      ap (λ z. is_named z doc phase) h.1.1 ∙ ap (λ z. has_name z phase) h.2 ∙ ap (λ (z : Phase). same_name z.name phase) same
   phase-named k s (follows name c) p h e = absurd (cc)
 
-  other-told : (e : ℕ × Rest) → Has (numbered t 0 xs) e → wants wanted.Live 0 e.1 ≡ false → false ≡ names_at ns ds signs from phase e.0
+  other-told : (e : ℕ × Rest) → Has (numbered t 0 xs) e → wants wanted.Live 0 e.1 ≡ false → false ≡ names_at ns doc signs from phase e.0
   other-told e h f =
-      and-not (nat_le from e.0) (is_named (kind_at ns e.0) ds phase)
-      ∙ ap (λ z. nat_le from e.0 && (z && is_named (kind_at ns e.0) ds phase)) (sym (ap (shows LIVES) (own-sign e h) ∙ sym (said-live 0 e.1) ∙ f))
+      and-not (nat_le from e.0) (is_named (kind_at ns e.0) doc phase)
+      ∙ ap (λ z. nat_le from e.0 && (z && is_named (kind_at ns e.0) doc phase)) (sym (ap (shows LIVES) (own-sign e h) ∙ sym (said-live 0 e.1) ∙ f))
 
-  told : (e : ℕ × Rest) → Has (numbered t 0 xs) e → (r : Rest) → e.1 ≡ r → looks from phase e.0 r ≡ names_at ns ds signs from phase e.0
+  told : (e : ℕ × Rest) → Has (numbered t 0 xs) e → (r : Rest) → e.1 ≡ r → looks from phase e.0 r ≡ names_at ns doc signs from phase e.0
   told e h (live s p x) q =
-      let g = entry-at ns ds t laid xs e h in
+      let g = entry-at ns doc t laid xs e h in
       let known = live-known (stage_at xs e.0) g.step g.task (meaning_below g.task (e.0 + 1) xs) s p x (sym g.is ∙ q) in
       let name = phase-named e.0 g.step g.task p g.stands known.1 in
       let shown : shows LIVES (sign_at signs e.0) ≡ true = ap (shows LIVES) (own-sign e h ∙ ap signs_of q) ∙ sym (said-live 0 (live s p x)) in
-      sym (ap (λ z. nat_le from e.0 && (z && is_named (kind_at ns e.0) ds phase)) shown ∙ ap (λ z. nat_le from e.0 && z) name)
+      sym (ap (λ z. nat_le from e.0 && (z && is_named (kind_at ns e.0) doc phase)) shown ∙ ap (λ z. nat_le from e.0 && z) name)
   told e h (ready s w i) q = other-told e h (ap (wants wanted.Live 0) q)
   told e h (asking s w i) q = other-told e h (ap (wants wanted.Live 0) q)
   told e h (open_act s r) q = other-told e h (ap (wants wanted.Live 0) q)
@@ -110,39 +110,39 @@ module _ (ns : List Node) (ds : List Detail) (xs : List Stage) (signs : List ℕ
   told e h done q = other-told e h (ap (wants wanted.Live 0) q)
 
   -- nothing is named where no sign is
-  unsigned : (k : ℕ) → sign_at signs k ≡ 0 → names_at ns ds signs from phase k ≡ false
+  unsigned : (k : ℕ) → sign_at signs k ≡ 0 → names_at ns doc signs from phase k ≡ false
   unsigned k e =
-      ap (λ z. nat_le from k && (z && is_named (kind_at ns k) ds phase)) (ap (shows LIVES) e ∙ nothing-shown LIVES) ∙ sym (and-not (nat_le from k) (is_named (kind_at ns k) ds phase))
+      ap (λ z. nat_le from k && (z && is_named (kind_at ns k) doc phase)) (ap (shows LIVES) e ∙ nothing-shown LIVES) ∙ sym (and-not (nat_le from k) (is_named (kind_at ns k) doc phase))
 
-  looks-first : (o : Option ℕ) → IsFirstNamed ns ds signs from phase o → o ≡ first_of (looks from phase) (numbered t 0 xs)
-  looks-first None h = first-none (looks from phase) (names_at ns ds signs from phase) (numbered t 0 xs) (λ e i. told e i e.1 refl) h
+  looks-first : (o : Option ℕ) → IsFirstNamed ns doc signs from phase o → o ≡ first_of (looks from phase) (numbered t 0 xs)
+  looks-first None h = first-none (looks from phase) (names_at ns doc signs from phase) (numbered t 0 xs) (λ e i. told e i e.1 refl) h
   looks-first (Some j) h = elim (entry-or-not (numbered t 0 xs) j) [
-    | inl q ↦ first-some (looks from phase) (names_at ns ds signs from phase) (numbered t 0 xs) 0 (0 + node_count t) (rise xs t 0) (λ e i. told e i e.1 refl) j h.1 h.2 q.0 q.1
+    | inl q ↦ first-some (looks from phase) (names_at ns doc signs from phase) (numbered t 0 xs) 0 (0 + node_count t) (rise xs t 0) (λ e i. told e i e.1 refl) j h.1 h.2 q.0 q.1
     | inr q ↦ absurd (let z : ◌≡◌ {A = Bool} true false = sym h.1 ∙ unsigned j (noted j ∙ q) in cc)
   ]
 
-pub found-named : (ns : List Node) (ds : List Detail) (xs : List Stage) (signs : List ℕ) → (t : Tree) × IsLaid ns ds t × AreNoted t xs signs → (w : Wanted) (from : ℕ) (phase : Name) → IsNamed w phase from → (o : Option ℕ) → IsFirstNamed ns ds signs from phase o
-    → IsFoundFirst ns ds xs w o
-found-named ns ds xs signs some w from phase named o h = record {
+pub found-named : (ns : List Entry) (doc : Recipe) (xs : List Stage) (signs : List ℕ) → (t : Tree) × IsLaid ns doc t × AreNoted t xs signs → (w : Wanted) (from : ℕ) (phase : Name) → IsNamed w phase from → (o : Option ℕ) → IsFirstNamed ns doc signs from phase o
+    → IsFoundFirst ns doc xs w o
+found-named ns doc xs signs some w from phase named o h = record {
   means = λ t laid.
-      looks-first ns ds xs signs t laid (noted-alike ns ds xs signs some.0 t some.1 laid some.2) from phase o h
+      looks-first ns doc xs signs t laid (noted-alike ns doc xs signs some.0 t some.1 laid some.2) from phase o h
       ∙ sym (first-same (wants w) (looks from phase) (looks-same w phase from named) (numbered t 0 xs));
 }
 
 -- the search, step by step
 
-abbrev pub NoneNamed : List Node → List Detail → List ℕ → ℕ → Name → ℕ → Type 0
-NoneNamed ns ds signs from phase at = (k : ℕ) → k < at → names_at ns ds signs from phase k ≡ false
+abbrev pub NoneNamed : List Entry → Recipe → List ℕ → ℕ → Name → ℕ → Type 0
+NoneNamed ns doc signs from phase at = (k : ℕ) → k < at → names_at ns doc signs from phase k ≡ false
 
-module _ (ns : List Node) (ds : List Detail) (signs : List ℕ) (from : ℕ) (phase : Name) where
-  pub none-at_first : NoneNamed ns ds signs from phase from
-  none-at_first k lt = (let f : nat_le from k ≡ false = grind (arith, nat_tests) in ap (λ z. z && (shows LIVES (sign_at signs k) && is_named (kind_at ns k) ds phase)) f)
+module _ (ns : List Entry) (doc : Recipe) (signs : List ℕ) (from : ℕ) (phase : Name) where
+  pub none-at_first : NoneNamed ns doc signs from phase from
+  none-at_first k lt = (let f : nat_le from k ≡ false = grind (arith, nat_tests) in ap (λ z. z && (shows LIVES (sign_at signs k) && is_named (kind_at ns k) doc phase)) f)
 
-  hidden : (k : ℕ) → bit_and (sign_at signs k) LIVES ≡ 0 → names_at ns ds signs from phase k ≡ false
+  hidden : (k : ℕ) → bit_and (sign_at signs k) LIVES ≡ 0 → names_at ns doc signs from phase k ≡ false
   hidden k e =
-      ap (λ z. nat_le from k && (z && is_named (kind_at ns k) ds phase)) (shown-not LIVES (sign_at signs k) e) ∙ sym (and-not (nat_le from k) (is_named (kind_at ns k) ds phase))
+      ap (λ z. nat_le from k && (z && is_named (kind_at ns k) doc phase)) (shown-not LIVES (sign_at signs k) e) ∙ sym (and-not (nat_le from k) (is_named (kind_at ns k) doc phase))
 
-  pub none-named : (at : ℕ) → NoneNamed ns ds signs from phase at → IsNextShown signs LIVES at None → IsFirstNamed ns ds signs from phase None
+  pub none-named : (at : ℕ) → NoneNamed ns doc signs from phase at → IsNextShown signs LIVES at None → IsFirstNamed ns doc signs from phase None
   none-named at h n k = elim (cases_lt k at) [
     | inl q ↦ h k q
     | inr q ↦ elim (cases_lt k (length signs)) [
@@ -151,10 +151,10 @@ module _ (ns : List Node) (ds : List Detail) (signs : List ℕ) (from : ℕ) (ph
     ]
   ]
 
-  before-next : (at j : ℕ) → NoneNamed ns ds signs from phase at → IsNextShown signs LIVES at (Some j) → NoneNamed ns ds signs from phase j
+  before-next : (at j : ℕ) → NoneNamed ns doc signs from phase at → IsNextShown signs LIVES at (Some j) → NoneNamed ns doc signs from phase j
   before-next at j h n k lt = elim (cases_lt k at) [ inl q ↦ h k q | inr q ↦ hidden k (n.3 k q lt) ]
 
-  pub next-named : (at j : ℕ) → from ≤ at → NoneNamed ns ds signs from phase at → IsNextShown signs LIVES at (Some j) → true ≡ is_named (kind_at ns j) ds phase → IsFirstNamed ns ds signs from phase (Some j)
+  pub next-named : (at j : ℕ) → from ≤ at → NoneNamed ns doc signs from phase at → IsNextShown signs LIVES at (Some j) → true ≡ is_named (kind_at ns j) doc phase → IsFirstNamed ns doc signs from phase (Some j)
   next-named at j le h n u = (n.1, there, before-next at j h n)
     where
       seen : shows LIVES (sign_at signs j) ≡ true
@@ -164,17 +164,17 @@ module _ (ns : List Node) (ds : List Detail) (signs : List ℕ) (from : ℕ) (ph
           go true e = e
           go false e = absurd (n.2 (shown-so LIVES (sign_at signs j) e))
 
-      there : names_at ns ds signs from phase j ≡ true
+      there : names_at ns doc signs from phase j ≡ true
       there = (let f : nat_le from j ≡ true = (let g : from ≤ j = omega (arith, le, n.0) in grind (arith, nat_tests)) in
-          ap (λ z. z && (shows LIVES (sign_at signs j) && is_named (kind_at ns j) ds phase)) f ∙ ap (λ z. z && is_named (kind_at ns j) ds phase) seen ∙ sym u)
+          ap (λ z. z && (shows LIVES (sign_at signs j) && is_named (kind_at ns j) doc phase)) f ∙ ap (λ z. z && is_named (kind_at ns j) doc phase) seen ∙ sym u)
 
-  pub passed-named : (at j : ℕ) → NoneNamed ns ds signs from phase at → IsNextShown signs LIVES at (Some j) → false ≡ is_named (kind_at ns j) ds phase → NoneNamed ns ds signs from phase (j + 1)
+  pub passed-named : (at j : ℕ) → NoneNamed ns doc signs from phase at → IsNextShown signs LIVES at (Some j) → false ≡ is_named (kind_at ns j) doc phase → NoneNamed ns doc signs from phase (j + 1)
   passed-named at j h n u k lt = elim (eqb_tells k j) [
-    | inl q ↦ subst (λ z. names_at ns ds signs from phase z ≡ false) (sym q.1) (not-there (nat_le from j) (shows LIVES (sign_at signs j)) ∙ refl)
+    | inl q ↦ subst (λ z. names_at ns doc signs from phase z ≡ false) (sym q.1) (not-there (nat_le from j) (shows LIVES (sign_at signs j)) ∙ refl)
     | inr q ↦ let ne = q.1 in before-next at j h n k (omega arith)
   ]
     where
-      not-there : (a b : Bool) → (a && (b && is_named (kind_at ns j) ds phase)) ≡ false
+      not-there : (a b : Bool) → (a && (b && is_named (kind_at ns j) doc phase)) ≡ false
       not-there true true = sym u
       not-there true false = refl
       not-there false b = refl

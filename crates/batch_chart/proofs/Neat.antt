@@ -4,8 +4,8 @@ use Rattle.std.proofs.lemmas.Bool.{cases_lt}
 use Rattle.std.proofs.lemmas.Bool.Decides.{eqb_tells}
 use Rattle.batch_recipe.specs.Nodes.{node_count}
 use Rattle.batch_recipe.specs.Tree.{runs, follows, Tree, act, skip, seq, par, sel, loop}
-use Rattle.batch_chart.specs.declared.node.Node.{Node}
-use Rattle.batch_chart.specs.declared.node.Detail.{Detail}
+use Rattle.batch_recipe.specs.declared.entry.Entry.{Entry}
+use Rattle.batch_recipe.specs.declared.recipe.Recipe.{Recipe}
 use Rattle.batch_chart.specs.declared.stage.Stage.{Stage}
 use Rattle.batch_chart.specs.declared.stage.Stage.TheVariants.{Finished, Ready, Asking, Open, Live, Freeing, Turning}
 use Rattle.batch_chart.specs.Compiled.{end_at, Stands}
@@ -66,16 +66,16 @@ blank-same n m xs ys old new same h k p q = let s = same k p q in let b = h k p 
 unfinished-not : (x : Stage) → x ≡ Finished → is_finished x ≡ false → ⊥
 unfinished-not x e u = let f : ◌≡◌ {A = Bool} true false = sym (ap is_finished e) ∙ u in absurd (cc)
 
-module _ (ns : List Node) (ds : List Detail) where
-  pub neat-part : (n m i j : ℕ) (xs : List Stage) (signs : List ℕ) → n ≤ i → j ≤ m → AreNeat ns ds n m xs signs → AreNeat ns ds i j xs signs
+module _ (ns : List Entry) (doc : Recipe) where
+  pub neat-part : (n m i j : ℕ) (xs : List Stage) (signs : List ℕ) → n ≤ i → j ≤ m → AreNeat ns doc n m xs signs → AreNeat ns doc i j xs signs
   neat-part n m i j xs signs a b h k c p q s = h k c (omega arith) (omega arith) s
 
-  pub neat-join : (n i m : ℕ) (xs : List Stage) (signs : List ℕ) → AreNeat ns ds n i xs signs → AreNeat ns ds i m xs signs → AreNeat ns ds n m xs signs
+  pub neat-join : (n i m : ℕ) (xs : List Stage) (signs : List ℕ) → AreNeat ns doc n i xs signs → AreNeat ns doc i m xs signs → AreNeat ns doc n m xs signs
   neat-join n i m xs signs f g k c p q s = elim (cases_lt k i) [ inl lt ↦ f k c p lt s | inr le ↦ g k c le q s ]
 
-  pub neat-one : (n m : ℕ) (xs : List Stage) (signs : List ℕ) → ((c : Tree) → Stands ns ds n c → IsNeat ns c n xs signs) → AreNeat ns ds (n + 1) m xs signs → AreNeat ns ds n m xs signs
+  pub neat-one : (n m : ℕ) (xs : List Stage) (signs : List ℕ) → ((c : Tree) → Stands ns doc n c → IsNeat ns c n xs signs) → AreNeat ns doc (n + 1) m xs signs → AreNeat ns doc n m xs signs
   neat-one n m xs signs own h k c p q s = elim (eqb_tells k n) [
-    | inl e ↦ subst (λ z. IsNeat ns c z xs signs) (sym e.1) (own c (subst (λ z. Stands ns ds z c) e.1 s))
+    | inl e ↦ subst (λ z. IsNeat ns c z xs signs) (sym e.1) (own c (subst (λ z. Stands ns doc z c) e.1 s))
     | inr e ↦ let d = e.1 in h k c (omega arith) q s
   ]
 
@@ -90,13 +90,13 @@ module _ (ns : List Node) (ds : List Detail) where
             ∙ ap (λ x. shown_of c x (is_finished (stage_at ys (j + 1)))) (sym own);
       }
 
-  pub neat-same : (n m : ℕ) (xs ys : List Stage) (old new : List ℕ) → AreNested ns ds n m → AgreeWithin n m xs ys → ((k : ℕ) → n ≤ k → k < m → sign_at new k ≡ sign_at old k) → AreNeat ns ds n m xs old → AreNeat ns ds n m ys new
+  pub neat-same : (n m : ℕ) (xs ys : List Stage) (old new : List ℕ) → AreNested ns doc n m → AgreeWithin n m xs ys → ((k : ℕ) → n ≤ k → k < m → sign_at new k ≡ sign_at old k) → AreNeat ns doc n m xs old → AreNeat ns doc n m ys new
   neat-same n m xs ys old new nest same signs h j c a b s =
       let inner = nest j c a b s in
       neat-agree c j xs ys old new (λ k p q. same k (omega arith) (omega arith)) (signs j a b) (h j c a b s)
 
   -- where nothing stands and nothing is shown
-  pub blank-neat : (n m : ℕ) (xs : List Stage) (signs : List ℕ) → AreNested ns ds n m → AreBlank n m xs signs → AreNeat ns ds n m xs signs
+  pub blank-neat : (n m : ℕ) (xs : List Stage) (signs : List ℕ) → AreNested ns doc n m → AreBlank n m xs signs → AreNeat ns doc n m xs signs
   blank-neat n m xs signs nest h j c a b s =
       let inner = nest j c a b s in
       record {
@@ -106,13 +106,13 @@ module _ (ns : List Node) (ds : List Detail) where
       }
 
   -- nothing stands below a finished node, and nothing is shown
-  pub neat-finished : (n : ℕ) (c : Tree) (xs : List Stage) (signs : List ℕ) → Stands ns ds n c → IsNeat ns c n xs signs → stage_at xs n ≡ Finished → AllFinished n (n + node_count c) xs
+  pub neat-finished : (n : ℕ) (c : Tree) (xs : List Stage) (signs : List ℕ) → Stands ns doc n c → IsNeat ns c n xs signs → stage_at xs n ≡ Finished → AllFinished n (n + node_count c) xs
   neat-finished n c xs signs s h e k a b = elim (eqb_tells k n) [
     | inl q ↦ ap (stage_at xs) q.1 ∙ e
     | inr q ↦ let d = q.1 in h.shut (ap (runs_below c) e ∙ finished-stops c) k (omega arith) b
   ]
 
-  pub neat-blank : (n : ℕ) (c : Tree) (xs : List Stage) (signs : List ℕ) → Stands ns ds n c → (sit : (k : ℕ) → n ≤ k → k < n + node_count c → (d : Tree) × Stands ns ds k d) → AreNeat ns ds n (n + node_count c) xs signs → stage_at xs n ≡ Finished
+  pub neat-blank : (n : ℕ) (c : Tree) (xs : List Stage) (signs : List ℕ) → Stands ns doc n c → (sit : (k : ℕ) → n ≤ k → k < n + node_count c → (d : Tree) × Stands ns doc k d) → AreNeat ns doc n (n + node_count c) xs signs → stage_at xs n ≡ Finished
       → AreBlank n (n + node_count c) xs signs
   neat-blank n c xs signs s sit h e k a b =
       let all = neat-finished n c xs signs s (h n c (omega arith) (omega (arith, count-pos c)) s) e in
@@ -124,7 +124,7 @@ module _ (ns : List Node) (ds : List Detail) where
   module _ (p e : ℕ) (xs ys : List Stage) (old new : List ℕ) (p_ends : end_at ns p ≡ e) (below : p < e) (inner : (i : ℕ) → i ≤ p → p < end_at ns i → e ≤ end_at ns i) (outside : AgreeOutside p e xs ys) (signs : SignsOutside p e old new)
       (was : is_finished (stage_at xs p) ≡ false) (now : is_finished (stage_at ys p) ≡ false) where
     -- a node around it
-    around : (c : Tree) (j : ℕ) → Stands ns ds j c → j < p → (p < j + node_count c → e ≤ j + node_count c) → IsNeat ns c j xs old → IsNeat ns c j ys new
+    around : (c : Tree) (j : ℕ) → Stands ns doc j c → j < p → (p < j + node_count c → e ≤ j + node_count c) → IsNeat ns c j xs old → IsNeat ns c j ys new
     around c j s lt nest h =
         let own : stage_at ys j ≡ stage_at xs j = outside j (inl lt) in
         record {
@@ -191,25 +191,25 @@ pub signs-same : (n m : ℕ) (old : List ℕ) → SignsOutside n m old old
 signs-same n m old k h = refl
 
 -- the part at p has come to other stages in a whole chart, and p is finished neither before nor after
-pub neat-after : (ns : List Node) (ds : List Detail) (t : Tree) → IsLaid ns ds t → (p : ℕ) → p < length ns → (xs ys : List Stage) (old new : List ℕ) → AgreeOutside p (end_at ns p) xs ys → SignsOutside p (end_at ns p) old new
-    → is_finished (stage_at xs p) ≡ false → is_finished (stage_at ys p) ≡ false → AreNeat ns ds 0 (length ns) xs old → AreNeat ns ds p (end_at ns p) ys new → AreNeat ns ds 0 (length ns) ys new
-neat-after ns ds t laid p lt xs ys old new outside signs was now before own j c a b s = go (cases_lt j p) (cases_lt j (end_at ns p))
+pub neat-after : (ns : List Entry) (doc : Recipe) (t : Tree) → IsLaid ns doc t → (p : ℕ) → p < length ns → (xs ys : List Stage) (old new : List ℕ) → AgreeOutside p (end_at ns p) xs ys → SignsOutside p (end_at ns p) old new
+    → is_finished (stage_at xs p) ≡ false → is_finished (stage_at ys p) ≡ false → AreNeat ns doc 0 (length ns) xs old → AreNeat ns doc p (end_at ns p) ys new → AreNeat ns doc 0 (length ns) ys new
+neat-after ns doc t laid p lt xs ys old new outside signs was now before own j c a b s = go (cases_lt j p) (cases_lt j (end_at ns p))
   where
-    at : (i : ℕ) → i < length ns → (d : Tree) × Stands ns ds i d
-    at i l = some-stands ns ds i t 0 laid.stands (omega arith) (omega (arith, laid.count))
+    at : (i : ℕ) → i < length ns → (d : Tree) × Stands ns doc i d
+    at i l = some-stands ns doc i t 0 laid.stands (omega arith) (omega (arith, laid.count))
 
     below : p < end_at ns p
-    below = (let h = at p lt in omega (arith, (stood ns ds p h.0 h.1).end, count-pos h.0))
+    below = (let h = at p lt in omega (arith, (stood ns doc p h.0 h.1).end, count-pos h.0))
 
     inner : (i : ℕ) → i ≤ p → p < end_at ns i → end_at ns p ≤ end_at ns i
-    inner i le l = (let h = at i (omega arith) in let e = (stood ns ds i h.0 h.1).end in let f = nested ns ds p h.0 i h.1 le (omega (arith, e, l)) in omega (arith, e, f))
+    inner i le l = (let h = at i (omega arith) in let e = (stood ns doc i h.0 h.1).end in let f = nested ns doc p h.0 i h.1 le (omega (arith, e, l)) in omega (arith, e, f))
 
     clear : (j + node_count c ≤ p) ⊎ (end_at ns p ≤ j) → IsNeat ns c j ys new
-    clear (inl q) = neat-agree ns ds c j xs ys old new (λ k f g. outside k (inl (omega arith))) (signs j (inl (omega (arith, count-pos c)))) (before j c a b s)
-    clear (inr q) = neat-agree ns ds c j xs ys old new (λ k f g. outside k (inr (omega arith))) (signs j (inr q)) (before j c a b s)
+    clear (inl q) = neat-agree ns doc c j xs ys old new (λ k f g. outside k (inl (omega arith))) (signs j (inl (omega (arith, count-pos c)))) (before j c a b s)
+    clear (inr q) = neat-agree ns doc c j xs ys old new (λ k f g. outside k (inr (omega arith))) (signs j (inr q)) (before j c a b s)
 
     go : (j < p) ⊎ (p ≤ j) → (j < end_at ns p) ⊎ (end_at ns p ≤ j) → IsNeat ns c j ys new
     go (inr u) (inl v) = own j c u v s
     go (inr u) (inr v) = clear (inr v)
     go (inl u) v =
-        around ns ds p (end_at ns p) xs ys old new refl below inner outside signs was now c j s u (λ l. nested ns ds p c j s (omega arith) l) (before j c a b s)
+        around ns doc p (end_at ns p) xs ys old new refl below inner outside signs was now c j s u (λ l. nested ns doc p c j s (omega arith) l) (before j c a b s)

@@ -9,11 +9,12 @@ use Rattle.batch_recipe.specs.Nodes as nodes
 use Rattle.batch_recipe.specs.Nodes.{node_count, count_of_each, count_of_choices, nodes_within, nodes_of_each, nodes_of_choices, child}
 use Rattle.batch_recipe.specs.Tree.{Place, Step, Task, runs, follows, Tree, act, skip, seq, par, sel, loop, Trees, no_trees, tree, Choices, otherwise, choice}
 use Rattle.batch_recipe.proofs.Order.{counted_nodes}
-use Rattle.batch_chart.specs.declared.node.Node.{Node}
+use Rattle.batch_recipe.specs.declared.entry.Entry.{Entry}
+use Rattle.batch_recipe.specs.declared.entry.Kind.TheVariants as entry
 use Rattle.batch_chart.specs.declared.node.Kind.{Kind}
 use Rattle.batch_chart.specs.declared.node.Kind.TheVariants as kind
-use Rattle.batch_chart.specs.declared.node.Detail.{Detail}
-use Rattle.batch_chart.specs.Compiled.{kind_at, StandsOn, StandsActOn, AreStandingOn, AreChoicesOn, Stands, AreStanding, AreChoices, names_in}
+use Rattle.batch_recipe.specs.declared.recipe.Recipe.{Recipe}
+use Rattle.batch_chart.specs.Compiled.{entry_at, kind_at, kind_of, unit_under, names_by, phase_name, StandsOn, StandsActOn, AreStandingOn, AreChoicesOn, Stands, AreStanding, AreChoices, names_in}
 use Rattle.batch_chart.specs.Needs.{needs_of, needs_to}
 use Rattle.batch_chart.specs.NodesOf.{nodes_of, node_at, step_of, needs_in, needs_of_each, needs_of_choices, phase_named}
 use Rattle.batch_chart.specs.Running.{IsLaid}
@@ -23,11 +24,11 @@ get-or [] k d h = absurd (omega arith)
 get-or (x ∷ l) zero d h = refl
 get-or (x ∷ l) (suc k) d h = get-or l k d (omega arith)
 
-pub node-got : (ns : List Node) (ds : List Detail) (t : Tree) → IsLaid ns ds t → (k : ℕ) → k < length ns → slice_get (nodes_of t) k ≡ Some (node_at t k)
-node-got ns ds t laid k lt = get-or (nodes_of t) k (record { place = []; asked = []; here = skip }) (omega (arith, laid.count, counted_nodes (0 ∷ []) [] t))
+pub node-got : (ns : List Entry) (doc : Recipe) (t : Tree) → IsLaid ns doc t → (k : ℕ) → k < length ns → slice_get (nodes_of t) k ≡ Some (node_at t k)
+node-got ns doc t laid k lt = get-or (nodes_of t) k (record { place = []; asked = []; here = skip }) (omega (arith, laid.count, counted_nodes (0 ∷ []) [] t))
 
-abbrev no_entry : Node
-no_entry = record { kind = kind.Skip; end = 0; parent = 0 }
+abbrev no_entry : Entry
+no_entry = record { kind = entry.Skip; end = 0; parent = 0; child = 0; needs = 0; detail = 0 }
 
 abbrev no_node : nodes.Node
 no_node = record { place = []; asked = []; here = skip }
@@ -37,17 +38,17 @@ past-end [] k d h = refl
 past-end (x ∷ l) zero d h = absurd (omega arith)
 past-end (x ∷ l) (suc k) d h = past-end l k d (omega arith)
 
-module _ (some : Option Binding) (ns : List Node) (ds : List Detail) where
+module _ (some : Option Binding) (ns : List Entry) (doc : Recipe) where
   abbrev AllStand : ℕ → List nodes.Node → Type 0
   AllStand n [] = ⊤
-  AllStand n (m ∷ l) = StandsOn some ns ds n m.here × AllStand (n + 1) l
+  AllStand n (m ∷ l) = StandsOn some ns doc n m.here × AllStand (n + 1) l
 
   append : (n : ℕ) (l r : List nodes.Node) → AllStand n l → AllStand (n + length l) r → AllStand n (l ++ r)
   append n [] r g h = (let e : n + 0 ≡ n = omega arith in subst (λ z. AllStand z r) e h)
   append n (m ∷ l) r g h = (let e : n + length (m ∷ l) ≡ n + 1 + length l = omega arith in (g.0, append (n + 1) l r g.1 (subst (λ z. AllStand z r) e h)))
 
   mutual
-    all-stand : (c : Tree) (n : ℕ) (q : Place) (above : List Name) → StandsOn some ns ds n c → AllStand n (nodes.nodes q above c)
+    all-stand : (c : Tree) (n : ℕ) (q : Place) (above : List Name) → StandsOn some ns doc n c → AllStand n (nodes.nodes q above c)
     all-stand (act s w) n q above h = (h, below-stand s w n q (above ++ resources_of s.needs) h)
     all-stand skip n q above h = (h, tt)
     all-stand (seq ts) n q above h = (h, each-stand ts (n + 1) (n + node_count (seq ts)) q above 0 h.1)
@@ -55,41 +56,41 @@ module _ (some : Option Binding) (ns : List Node) (ds : List Detail) where
     all-stand (sel ch) n q above h = (h, choices-stand ch h.0 (n + 1) (n + node_count (sel ch)) q above 0 h.2)
     all-stand (loop i p body) n q above h = (h, all-stand body (n + 1) (child q 0) above h.3)
 
-    below-stand : (s : Step) (w : Task) (n : ℕ) (q : Place) (above : List Name) → StandsActOn some ns ds n s w → AllStand (n + 1) (nodes_within q above w)
+    below-stand : (s : Step) (w : Task) (n : ℕ) (q : Place) (above : List Name) → StandsActOn some ns doc n s w → AllStand (n + 1) (nodes_within q above w)
     below-stand s (runs p) n q above h = tt
     below-stand s (follows name c) n q above h = all-stand c (n + 1) (child q 0) above h.1
 
-    each-stand : (ts : Trees) (n m : ℕ) (q : Place) (above : List Name) (i : ℕ) → AreStandingOn some ns ds n m ts → AllStand n (nodes_of_each q above i ts)
+    each-stand : (ts : Trees) (n m : ℕ) (q : Place) (above : List Name) (i : ℕ) → AreStandingOn some ns doc n m ts → AllStand n (nodes_of_each q above i ts)
     each-stand no_trees n m q above i h = tt
     each-stand (tree c ts) n m q above i h =
         append n (nodes.nodes (child q i) above c) (nodes_of_each q above (i + 1) ts) (all-stand c n (child q i) above h.0)
         (subst (λ z. AllStand (n + z) (nodes_of_each q above (i + 1) ts)) (sym (counted_nodes (child q i) above c)) (each-stand ts (n + node_count c) m q above (i + 1) h.1))
 
-    choices-stand : (ch : Choices) (d n m : ℕ) (q : Place) (above : List Name) (i : ℕ) → AreChoicesOn some ns ds d n m ch → AllStand n (nodes_of_choices q above i ch)
+    choices-stand : (ch : Choices) (d n m : ℕ) (q : Place) (above : List Name) (i : ℕ) → AreChoicesOn some ns doc d n m ch → AllStand n (nodes_of_choices q above i ch)
     choices-stand (otherwise c) d n m q above i h = all-stand c n (child q i) above h.0
     choices-stand (choice p c ch) d n m q above i h =
         append n (nodes.nodes (child q i) above c) (nodes_of_choices q above (i + 1) ch) (all-stand c n (child q i) above h.1)
         (subst (λ z. AllStand (n + z) (nodes_of_choices q above (i + 1) ch)) (sym (counted_nodes (child q i) above c)) (choices-stand ch (d + 1) (n + node_count c) m q above (i + 1) h.2))
 
-  got : (l : List nodes.Node) (n k : ℕ) (m : nodes.Node) → AllStand n l → slice_get l k ≡ Some m → StandsOn some ns ds (n + k) m.here
+  got : (l : List nodes.Node) (n k : ℕ) (m : nodes.Node) → AllStand n l → slice_get l k ≡ Some m → StandsOn some ns doc (n + k) m.here
   got [] n k m g e = absurd (cc)
-  got (x ∷ l) n zero m g e = (let same : x ≡ m = cc in let z : n ≡ n + 0 = omega arith in subst (λ i. StandsOn some ns ds i m.here) z (subst (λ (y : nodes.Node). StandsOn some ns ds n y.here) same g.0))
-  got (x ∷ l) n (suc k) m g e = (let z : n + 1 + k ≡ n + suc k = omega arith in subst (λ i. StandsOn some ns ds i m.here) z (got l (n + 1) k m g.1 e))
+  got (x ∷ l) n zero m g e = (let same : x ≡ m = cc in let z : n ≡ n + 0 = omega arith in subst (λ i. StandsOn some ns doc i m.here) z (subst (λ (y : nodes.Node). StandsOn some ns doc n y.here) same g.0))
+  got (x ∷ l) n (suc k) m g e = (let z : n + 1 + k ≡ n + suc k = omega arith in subst (λ i. StandsOn some ns doc i m.here) z (got l (n + 1) k m g.1 e))
 
-  pub stands-at : (t : Tree) → IsLaid ns ds t → StandsOn some ns ds 0 t → (k : ℕ) → k < length ns → StandsOn some ns ds k (node_at t k).here
+  pub stands-at : (t : Tree) → IsLaid ns doc t → StandsOn some ns doc 0 t → (k : ℕ) → k < length ns → StandsOn some ns doc k (node_at t k).here
   stands-at t laid h k lt =
       let z : 0 + k ≡ k = omega arith in
-      subst (λ i. StandsOn some ns ds i (node_at t k).here) z (got (nodes_of t) 0 k (node_at t k) (all-stand t 0 (0 ∷ []) [] h) (node-got ns ds t laid k lt))
+      subst (λ i. StandsOn some ns doc i (node_at t k).here) z (got (nodes_of t) 0 k (node_at t k) (all-stand t 0 (0 ∷ []) [] h) (node-got ns doc t laid k lt))
 
-module _ (ns : List Node) (ds : List Detail) where
-  no-node : (t : Tree) → IsLaid ns ds t → (k : ℕ) → length ns ≤ k → length (nodes_of t) ≤ k
+module _ (ns : List Entry) (doc : Recipe) where
+  no-node : (t : Tree) → IsLaid ns doc t → (k : ℕ) → length ns ≤ k → length (nodes_of t) ≤ k
   no-node t laid k le = omega (arith, le, laid.count, counted_nodes (0 ∷ []) [] t)
 
-  pub node-stands : (t : Tree) → IsLaid ns ds t → (k : ℕ) → k < length ns → Stands ns ds k (node_at t k).here
-  node-stands t laid k lt = stands-at None ns ds t laid laid.stands k lt
+  pub node-stands : (t : Tree) → IsLaid ns doc t → (k : ℕ) → k < length ns → Stands ns doc k (node_at t k).here
+  node-stands t laid k lt = stands-at None ns doc t laid laid.stands k lt
 
   -- how many needs an act at a node has
-  needs-here : (k : ℕ) (c : Tree) → Stands ns ds k c → needs_of (kind_at ns k) ≡ length (step_of c).needs
+  needs-here : (k : ℕ) (c : Tree) → Stands ns doc k c → needs_of (kind_at ns k) ≡ length (step_of c).needs
   needs-here k (act s (runs p)) h = ap needs_of h.1.1
   needs-here k (act s (follows name c)) h = ap needs_of h.0.1
   needs-here k skip h = ap needs_of h.1
@@ -98,10 +99,10 @@ module _ (ns : List Node) (ds : List Detail) where
   needs-here k (sel ch) h = ap needs_of h.1.1
   needs-here k (loop i p body) h = ap needs_of h.1.1
 
-  pub needs-known : (t : Tree) → IsLaid ns ds t → (k : ℕ) → needs_of (kind_at ns k) ≡ length (step_of (node_at t k).here).needs
+  pub needs-known : (t : Tree) → IsLaid ns doc t → (k : ℕ) → needs_of (kind_at ns k) ≡ length (step_of (node_at t k).here).needs
   needs-known t laid k = elim (cases_lt k (length ns)) [
     | inl lt ↦ needs-here k (node_at t k).here (node-stands t laid k lt)
-    | inr le ↦ ap (λ (z : Node). needs_of z.kind) (past-end ns k no_entry le) ∙ sym (ap (λ (z : nodes.Node). length (step_of z.here).needs) (past-end (nodes_of t) k no_node (no-node t laid k le)))
+    | inr le ↦ ap (λ (z : Entry). needs_of (kind_of z)) (past-end ns k no_entry le) ∙ sym (ap (λ (z : nodes.Node). length (step_of z.here).needs) (past-end (nodes_of t) k no_node (no-node t laid k le)))
   ]
 
   -- the needs of all
@@ -119,7 +120,7 @@ module _ (ns : List Node) (ds : List Detail) where
   at-end i j e = ap (needs_to ns) e
 
   mutual
-    sum-of : (c : Tree) (n : ℕ) → Stands ns ds n c → needs_to ns (n + node_count c) ≡ needs_to ns n + needs_in c
+    sum-of : (c : Tree) (n : ℕ) → Stands ns doc n c → needs_to ns (n + node_count c) ≡ needs_to ns n + needs_in c
     sum-of (act s (runs p)) n h = head n (n + (1 + 0)) (length s.needs) 0 (ap needs_of h.1.1) (omega (arith, at-end (n + (1 + 0)) (n + 1) (omega arith)))
     sum-of (act s (follows name c)) n h =
         head n (n + (1 + node_count c)) (length s.needs) (needs_in c) (ap needs_of h.0.1)
@@ -132,52 +133,58 @@ module _ (ns : List Node) (ds : List Detail) where
         above n (n + (1 + node_count body)) (needs_in body) (ap needs_of h.1.1)
         (at-end (n + (1 + node_count body)) (n + 1 + node_count body) (omega arith) ∙ sum-of body (n + 1) h.3)
 
-    sum-each : (ts : Trees) (n m : ℕ) → AreStanding ns ds n m ts → needs_to ns m ≡ needs_to ns n + needs_of_each ts
+    sum-each : (ts : Trees) (n m : ℕ) → AreStanding ns doc n m ts → needs_to ns m ≡ needs_to ns n + needs_of_each ts
     sum-each no_trees n m h = omega (arith, at-end n m h)
     sum-each (tree c ts) n m h = omega (arith, sum-of c n h.0, sum-each ts (n + node_count c) m h.1)
 
-    sum-choices : (ch : Choices) (d n m : ℕ) → AreChoices ns ds d n m ch → needs_to ns m ≡ needs_to ns n + needs_of_choices ch
+    sum-choices : (ch : Choices) (d n m : ℕ) → AreChoices ns doc d n m ch → needs_to ns m ≡ needs_to ns n + needs_of_choices ch
     sum-choices (otherwise c) d n m h = omega (arith, sum-of c n h.0, at-end (n + node_count c) m h.1)
     sum-choices (choice p c ch) d n m h = omega (arith, sum-of c n h.1, sum-choices ch (d + 1) (n + node_count c) m h.2)
 
   nothing-yet : needs_to ns 0 ≡ 0
   nothing-yet = refl
 
-  pub all-needs : (t : Tree) → IsLaid ns ds t → needs_to ns (length ns) ≡ needs_in t
+  pub all-needs : (t : Tree) → IsLaid ns doc t → needs_to ns (length ns) ≡ needs_in t
   all-needs t laid = omega (arith, at-end (length ns) (0 + node_count t) (omega (arith, laid.count)), sum-of t 0 laid.stands, nothing-yet)
 
-module _ (bound : Binding) (ns : List Node) (ds : List Detail) where
-  -- which phase an act at a node runs, where the roles are bound so
-  abbrev phase_kind : Kind → Option (Name × Name)
-  phase_kind (kind.Phase j i) = names_in bound (slice_get ds i)
-  phase_kind _ = None
+module _ (bound : Binding) (ns : List Entry) (doc : Recipe) where
+  -- which phase an act at a node of this kind runs, under this unit procedure, where the roles are bound so
+  abbrev phase_kind : Kind → ℕ → Option (Name × Name)
+  phase_kind (kind.Phase j i) o = names_in bound doc o i
+  phase_kind _ o = None
 
-  phase-here : (k : ℕ) (c : Tree) → StandsOn (Some bound) ns ds k c → phase_kind (kind_at ns k) ≡ phase_named c
-  phase-here k (act s (runs p)) h = ap phase_kind h.1.1 ∙ ap (names_in bound) h.2.1 ∙ ap (λ z. Some (z, p.name)) h.2.2
-  phase-here k (act s (follows name c)) h = ap phase_kind h.0.1
-  phase-here k skip h = ap phase_kind h.1
-  phase-here k (seq ts) h = ap phase_kind h.0.1
-  phase-here k (par ts) h = ap phase_kind h.0.1
-  phase-here k (sel ch) h = ap phase_kind h.1.1
-  phase-here k (loop n p body) h = ap phase_kind h.1.1
+  abbrev phase_of : Entry → Option (Name × Name)
+  phase_of e = phase_kind (kind_of e) e.detail
 
-  phase-known : (t : Tree) → IsLaid ns ds t → StandsOn (Some bound) ns ds 0 t → (k : ℕ) → phase_kind (kind_at ns k) ≡ phase_named (node_at t k).here
+  phase-here : (k : ℕ) (c : Tree) → StandsOn (Some bound) ns doc k c → phase_of (entry_at ns k) ≡ phase_named c
+  phase-here k (act s (runs p)) h =
+      ap (λ κ. phase_kind κ (unit_under ns k)) h.1.1 ∙ (ap (λ o. names_by o (phase_name doc h.0)) h.3 ∙ ap (λ o. names_by (Some p.unit) o) h.2)
+  phase-here k (act s (follows name c)) h = ap (λ κ. phase_kind κ (unit_under ns k)) h.0.1
+  phase-here k skip h = ap (λ κ. phase_kind κ (unit_under ns k)) h.1
+  phase-here k (seq ts) h = ap (λ κ. phase_kind κ (unit_under ns k)) h.0.1
+  phase-here k (par ts) h = ap (λ κ. phase_kind κ (unit_under ns k)) h.0.1
+  phase-here k (sel ch) h = ap (λ κ. phase_kind κ (unit_under ns k)) h.1.1
+  phase-here k (loop n p body) h = ap (λ κ. phase_kind κ (unit_under ns k)) h.1.1
+
+  pub phase-known : (t : Tree) → IsLaid ns doc t → StandsOn (Some bound) ns doc 0 t → (k : ℕ) → phase_of (entry_at ns k) ≡ phase_named (node_at t k).here
   phase-known t laid h k = elim (cases_lt k (length ns)) [
-    | inl lt ↦ phase-here k (node_at t k).here (stands-at (Some bound) ns ds t laid h k lt)
-    | inr le ↦ ap (λ (z : Node). phase_kind z.kind) (past-end ns k no_entry le) ∙ sym (ap (λ (z : nodes.Node). phase_named z.here) (past-end (nodes_of t) k no_node (no-node ns ds t laid k le)))
+    | inl lt ↦ phase-here k (node_at t k).here (stands-at (Some bound) ns doc t laid h k lt)
+    | inr le ↦ ap phase_of (past-end ns k no_entry le) ∙ sym (ap (λ (z : nodes.Node). phase_named z.here) (past-end (nodes_of t) k no_node (no-node ns doc t laid k le)))
   ]
 
-  pub runs-phase : (t : Tree) → IsLaid ns ds t → StandsOn (Some bound) ns ds 0 t → (j i k : ℕ) (o : Option (Name × Name)) → kind_at ns k ≡ kind.Phase j i → o ≡ names_in bound (slice_get ds i) → o ≡ phase_named (node_at t k).here
-  runs-phase t laid h j i k o e f = f ∙ sym (ap phase_kind e) ∙ phase-known t laid h k
+  pub runs-phase : (t : Tree) → IsLaid ns doc t → StandsOn (Some bound) ns doc 0 t → (j i k o : ℕ) (found : Option (Name × Name)) → kind_at ns k ≡ kind.Phase j i → o ≡ unit_under ns k → found ≡ names_in bound doc o i
+      → found ≡ phase_named (node_at t k).here
+  runs-phase t laid h j i k o found e u f =
+      f ∙ (ap (λ z. names_in bound doc z i) u ∙ (sym (ap (λ κ. phase_kind κ (unit_under ns k)) e) ∙ phase-known t laid h k))
 
-  pub runs-none : (t : Tree) → IsLaid ns ds t → StandsOn (Some bound) ns ds 0 t → (k : ℕ) (κ : Kind) → κ ≡ kind_at ns k → ((j i : ℕ) → κ ≡ kind.Phase j i → ⊥) → None ≡ phase_named (node_at t k).here
-  runs-none t laid h k κ e other = sym (none κ other) ∙ ap phase_kind e ∙ phase-known t laid h k
+  pub runs-none : (t : Tree) → IsLaid ns doc t → StandsOn (Some bound) ns doc 0 t → (k : ℕ) (κ : Kind) → κ ≡ kind_at ns k → ((j i : ℕ) → κ ≡ kind.Phase j i → ⊥) → None ≡ phase_named (node_at t k).here
+  runs-none t laid h k κ e other = sym (none κ (unit_under ns k) other) ∙ (ap (λ z. phase_kind z (unit_under ns k)) e ∙ phase-known t laid h k)
     where
-      none : (κ : Kind) → ((j i : ℕ) → κ ≡ kind.Phase j i → ⊥) → phase_kind κ ≡ None
-      none (kind.Phase j i) other = absurd (other j i refl)
-      none (kind.Act j) other = refl
-      none kind.Skip other = refl
-      none kind.Seq other = refl
-      none kind.Par other = refl
-      none (kind.Sel i) other = refl
-      none (kind.Loop j i) other = refl
+      none : (κ : Kind) (o : ℕ) → ((j i : ℕ) → κ ≡ kind.Phase j i → ⊥) → phase_kind κ o ≡ None
+      none (kind.Phase j i) o other = absurd (other j i refl)
+      none (kind.Act j) o other = refl
+      none kind.Skip o other = refl
+      none kind.Seq o other = refl
+      none kind.Par o other = refl
+      none (kind.Sel i) o other = refl
+      none (kind.Loop j i) o other = refl

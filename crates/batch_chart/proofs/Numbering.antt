@@ -18,8 +18,8 @@ use Rattle.batch_model.specs.Moves.{freed}
 use Rattle.batch_model.proofs.Members.{Has-split}
 use Rattle.batch_machine.proofs.Ordering.{before-irrefl}
 use Rattle.batch_machine.proofs.Changing.{to_same_place}
-use Rattle.batch_chart.specs.declared.node.Node as chart
-use Rattle.batch_chart.specs.declared.node.Detail.{Detail}
+use Rattle.batch_recipe.specs.declared.entry.Entry.{Entry}
+use Rattle.batch_recipe.specs.declared.recipe.Recipe.{Recipe}
 use Rattle.batch_chart.specs.Compiled.{Stands, StandsAct, AreStanding, AreChoices}
 use Rattle.batch_chart.specs.declared.stage.Stage.{Stage}
 use Rattle.batch_chart.specs.declared.stage.Stage.TheVariants as stage
@@ -152,7 +152,7 @@ module _ (ls : List Node) (rises : AreInOrder ls) (k : ℕ) (at : Node) (is_at :
 
 -- A numbered act is that of its node
 
-pub record IsEntryOf (ls : List Node) (ns : List chart.Node) (ds : List Detail) (xs : List Stage) (n m : ℕ) (e : ℕ × Rest) : Type 0 where
+pub record IsEntryOf (ls : List Node) (ns : List Entry) (doc : Recipe) (xs : List Stage) (n m : ℕ) (e : ℕ × Rest) : Type 0 where
   pub at : Node
   pub step : Step
   pub task : Task
@@ -162,10 +162,10 @@ pub record IsEntryOf (ls : List Node) (ns : List chart.Node) (ds : List Detail) 
   pub here : at.here ≡ act step task
   pub placed : step.place ≡ at.place
   pub is : e.1 ≡ meaning (act step task) e.0 xs
-  pub stands : Stands ns ds e.0 (act step task)
+  pub stands : Stands ns doc e.0 (act step task)
 
-module _ (ls : List Node) (ns : List chart.Node) (ds : List Detail) (xs : List Stage) where
-  widened : (n m i j : ℕ) (e : ℕ × Rest) → i ≤ n → m ≤ j → IsEntryOf ls ns ds xs n m e → IsEntryOf ls ns ds xs i j e
+module _ (ls : List Node) (ns : List Entry) (doc : Recipe) (xs : List Stage) where
+  widened : (n m i j : ℕ) (e : ℕ × Rest) → i ≤ n → m ≤ j → IsEntryOf ls ns doc xs n m e → IsEntryOf ls ns doc xs i j e
   widened n m i j e a b h =
       record { at = h.at; step = h.step; task = h.task; from = omega (arith, h.from); to = omega (arith, h.to); is_at = h.is_at; here = h.here; placed = h.placed; is = h.is; stands = h.stands }
 
@@ -204,9 +204,9 @@ module _ (ls : List Node) (ns : List chart.Node) (ds : List Detail) (xs : List S
   if-turning (Some k) l e h = h
 
   mutual
-    pub entry-of : (c : Tree) (n : ℕ) (q : Place) (above : List Name) (e : ℕ × Rest) → Stands ns ds n c → Sits ls n (nodes q above c) → IsPlaced q c → Has (numbered c n xs) e → IsEntryOf ls ns ds xs n (n + node_count c) e
+    pub entry-of : (c : Tree) (n : ℕ) (q : Place) (above : List Name) (e : ℕ × Rest) → Stands ns doc n c → Sits ls n (nodes q above c) → IsPlaced q c → Has (numbered c n xs) e → IsEntryOf ls ns doc xs n (n + node_count c) e
     entry-of (act s w) n q above e g h p m = elim (has-entry n s w (meaning_below w (n + 1) xs) (stage_at xs n) (numbered_below w (n + 1) xs) e m) [
-      | inl f ↦ subst (λ z. IsEntryOf ls ns ds xs n (n + (1 + count_within w)) z) (sym f)
+      | inl f ↦ subst (λ z. IsEntryOf ls ns doc xs n (n + (1 + count_within w)) z) (sym f)
           record { at = node q above (act s w); step = s; task = w; from = omega arith; to = omega arith; is_at = h.0; here = refl; placed = p.0; is = refl; stands = g }
       | inr f ↦ widened (n + 1) (n + 1 + count_within w) n (n + (1 + count_within w)) e (omega arith) (omega arith) (entry-of_below s w n q (above ++ resources_of s.needs) e g h.1 p.1 f)
     ]
@@ -224,11 +224,11 @@ module _ (ls : List Node) (ns : List chart.Node) (ds : List Detail) (xs : List S
         widened (n + 1) (n + 1 + node_count body) n (n + (1 + node_count body)) e (omega arith) (omega arith)
         (entry-of body (n + 1) (child q 0) above e g.3 h.1 p (if-turning (turns_of (stage_at xs n)) (numbered body (n + 1) xs) e m))
 
-    entry-of_below : (s : Step) (w : Task) (n : ℕ) (q : Place) (above : List Name) (e : ℕ × Rest) → StandsAct ns ds n s w → Sits ls (n + 1) (nodes_within q above w) → IsPlacedBelow q w → Has (numbered_below w (n + 1) xs) e → IsEntryOf ls ns ds xs (n + 1) (n + 1 + count_within w) e
+    entry-of_below : (s : Step) (w : Task) (n : ℕ) (q : Place) (above : List Name) (e : ℕ × Rest) → StandsAct ns doc n s w → Sits ls (n + 1) (nodes_within q above w) → IsPlacedBelow q w → Has (numbered_below w (n + 1) xs) e → IsEntryOf ls ns doc xs (n + 1) (n + 1 + count_within w) e
     entry-of_below s (runs x) n q above e g h p m = absurd m
     entry-of_below s (follows name c) n q above e g h p m = entry-of c (n + 1) (child q 0) above e g.1 h p m
 
-    entry-of_each : (ts : Trees) (n j : ℕ) (q : Place) (above : List Name) (i : ℕ) (e : ℕ × Rest) → AreStanding ns ds n j ts → Sits ls n (nodes_of_each q above i ts) → ArePlaced q i ts → Has (numbered_each ts n xs) e → IsEntryOf ls ns ds xs n (n + count_of_each ts) e
+    entry-of_each : (ts : Trees) (n j : ℕ) (q : Place) (above : List Name) (i : ℕ) (e : ℕ × Rest) → AreStanding ns doc n j ts → Sits ls n (nodes_of_each q above i ts) → ArePlaced q i ts → Has (numbered_each ts n xs) e → IsEntryOf ls ns doc xs n (n + count_of_each ts) e
     entry-of_each no_trees n j q above i e g h p m = absurd m
     entry-of_each (tree c ts) n j q above i e g h p m =
         let parts : Sits ls n (nodes (child q i) above c) × Sits ls (n + length (nodes (child q i) above c)) (nodes_of_each q above (i + 1) ts) = sits-append ls n (nodes (child q i) above c) (nodes_of_each q above (i + 1) ts) h in
@@ -239,7 +239,7 @@ module _ (ls : List Node) (ns : List chart.Node) (ds : List Detail) (xs : List S
               (entry-of_each ts (n + node_count c) j q above (i + 1) e g.1 (subst (λ z. Sits ls (n + z) (nodes_of_each q above (i + 1) ts)) (counted_nodes (child q i) above c) parts.1) p.1 f)
         ]
 
-    entry-of_branch : (ts : Trees) (n j : ℕ) (q : Place) (above : List Name) (i : ℕ) (e : ℕ × Rest) → AreStanding ns ds n j ts → Sits ls n (nodes_of_each q above i ts) → ArePlaced q i ts → Has (numbered_branch ts n xs) e → IsEntryOf ls ns ds xs n (n + count_of_each ts) e
+    entry-of_branch : (ts : Trees) (n j : ℕ) (q : Place) (above : List Name) (i : ℕ) (e : ℕ × Rest) → AreStanding ns doc n j ts → Sits ls n (nodes_of_each q above i ts) → ArePlaced q i ts → Has (numbered_branch ts n xs) e → IsEntryOf ls ns doc xs n (n + count_of_each ts) e
     entry-of_branch no_trees n j q above i e g h p m = absurd m
     entry-of_branch (tree c ts) n j q above i e g h p m =
         let parts : Sits ls n (nodes (child q i) above c) × Sits ls (n + length (nodes (child q i) above c)) (nodes_of_each q above (i + 1) ts) = sits-append ls n (nodes (child q i) above c) (nodes_of_each q above (i + 1) ts) h in
@@ -250,7 +250,7 @@ module _ (ls : List Node) (ns : List chart.Node) (ds : List Detail) (xs : List S
               (entry-of_branch ts (n + node_count c) j q above (i + 1) e g.1 (subst (λ z. Sits ls (n + z) (nodes_of_each q above (i + 1) ts)) (counted_nodes (child q i) above c) parts.1) p.1 f)
         ]
 
-    entry-of_chosen : (ch : Choices) (d n j : ℕ) (q : Place) (above : List Name) (i : ℕ) (e : ℕ × Rest) → AreChoices ns ds d n j ch → Sits ls n (nodes_of_choices q above i ch) → IsChoicePlaced q i ch → Has (numbered_chosen ch n xs) e → IsEntryOf ls ns ds xs n (n + count_of_choices ch) e
+    entry-of_chosen : (ch : Choices) (d n j : ℕ) (q : Place) (above : List Name) (i : ℕ) (e : ℕ × Rest) → AreChoices ns doc d n j ch → Sits ls n (nodes_of_choices q above i ch) → IsChoicePlaced q i ch → Has (numbered_chosen ch n xs) e → IsEntryOf ls ns doc xs n (n + count_of_choices ch) e
     entry-of_chosen (otherwise c) d n j q above i e g h p m = entry-of c n (child q i) above e g.0 h p m
     entry-of_chosen (choice x c ch) d n j q above i e g h p m =
         let parts : Sits ls n (nodes (child q i) above c) × Sits ls (n + length (nodes (child q i) above c)) (nodes_of_choices q above (i + 1) ch) = sits-append ls n (nodes (child q i) above c) (nodes_of_choices q above (i + 1) ch) h in

@@ -8,8 +8,8 @@ use Rattle.std.proofs.lemmas.Bool.Decides.{eqb_tells, nat_tests}
 use Rattle.batch_recipe.specs.Nodes.{node_count, count_of_each, count_of_choices, count_within}
 use Rattle.batch_recipe.specs.Tree.{Task, runs, follows, Tree, act, skip, seq, par, sel, loop, Trees, no_trees, tree, Choices, otherwise, choice}
 use Rattle.batch_model.specs.Rest.{Rest, ready, asking, open_act, live, freeing, in_seq, in_par, in_loop, done}
-use Rattle.batch_chart.specs.declared.node.Node.{Node}
-use Rattle.batch_chart.specs.declared.node.Detail.{Detail}
+use Rattle.batch_recipe.specs.declared.entry.Entry.{Entry}
+use Rattle.batch_recipe.specs.declared.recipe.Recipe.{Recipe}
 use Rattle.batch_chart.specs.declared.stage.Stage.{Stage}
 use Rattle.batch_chart.specs.declared.wanted.Wanted.{Wanted}
 use Rattle.batch_chart.specs.Stages.{stage_at, is_finished, is_begun, turns_of}
@@ -199,10 +199,10 @@ first-same p q h [] = refl
 first-same p q h (e ∷ l) =
     ap (λ z. elim z as (λ _. Option ℕ) [ true ↦ Some e.0 | false ↦ first_of p l ]) (h e.0 e.1) ∙ ap (λ z. elim (q e.0 e.1) as (λ _. Option ℕ) [ true ↦ Some e.0 | false ↦ z ]) (first-same p q h l)
 
-module _ (ns : List Node) (ds : List Detail) (xs : List Stage) (ms : List ℕ) where
+module _ (ns : List Entry) (doc : Recipe) (xs : List Stage) (ms : List ℕ) where
   -- noted for one tree at these nodes, they are noted for any
-  pub noted-alike : (t u : Tree) → IsLaid ns ds t → IsLaid ns ds u → AreNoted t xs ms → (k : ℕ) → sign_at ms k ≡ sign_in k (numbered u 0 xs) 0
-  noted-alike t u laid other h k = h.shown k ∙ same-signs k (numbered t 0 xs) (numbered u 0 xs) 0 (alike ns ds xs t 0 laid.stands u other.stands)
+  pub noted-alike : (t u : Tree) → IsLaid ns doc t → IsLaid ns doc u → AreNoted t xs ms → (k : ℕ) → sign_at ms k ≡ sign_in k (numbered u 0 xs) 0
+  noted-alike t u laid other h k = h.shown k ∙ same-signs k (numbered t 0 xs) (numbered u 0 xs) 0 (alike ns doc xs t 0 laid.stands u other.stands)
 
   past : (k : ℕ) → length ms ≤ k → (m : ℕ) → bit_and (sign_at ms k) m ≡ 0
   past k le m = ap (λ z. bit_and z m) (get_or_past {X = ℕ} ms k 0 le) ∙ none-shown m
@@ -211,7 +211,7 @@ module _ (ns : List Node) (ds : List Detail) (xs : List Stage) (ms : List ℕ) w
   in-all m from None f same h = λ k le. ap (λ z. bit_and z m) (sym (same k)) ∙ elim (cases_lt k (length ms)) [ inl q ↦ h k le q | inr q ↦ past k q m ]
   in-all m from (Some j) f same h = (h.0, λ z. h.2 (ap (λ y. bit_and y m) (same j) ∙ z), λ k le lt. ap (λ z. bit_and z m) (sym (same k)) ∙ h.3 k le lt)
 
-  pub found-sought : (w : Wanted) (m from : ℕ) (o : Option ℕ) → (t : Tree) × IsLaid ns ds t × AreNoted t xs ms → sought w ≡ Some (m, from) → IsNextShown ms m from o → IsFoundFirst ns ds xs w o
+  pub found-sought : (w : Wanted) (m from : ℕ) (o : Option ℕ) → (t : Tree) × IsLaid ns doc t × AreNoted t xs ms → sought w ≡ Some (m, from) → IsNextShown ms m from o → IsFoundFirst ns doc xs w o
   found-sought w m from o some e h =
       record {
         means = λ t laid.

@@ -5,8 +5,8 @@ use Rattle.std.proofs.lemmas.Bool.Decides.{eqb_tells}
 use Rattle.batch_recipe.specs.Conditions.{ValueList}
 use Rattle.batch_recipe.specs.Tree.{Tree, act, skip, seq, par, sel, loop}
 use Rattle.batch_model.specs.Rest.{in_par, done, is_done, advance}
-use Rattle.batch_chart.specs.declared.node.Node.{Node}
-use Rattle.batch_chart.specs.declared.node.Detail.{Detail}
+use Rattle.batch_recipe.specs.declared.entry.Entry.{Entry}
+use Rattle.batch_recipe.specs.declared.recipe.Recipe.{Recipe}
 use Rattle.batch_chart.specs.declared.stage.Stage.{Stage}
 use Rattle.batch_chart.specs.declared.stage.Stage.TheVariants.{Finished, Freeing}
 use Rattle.batch_chart.specs.Advancing.{HasAdvanced}
@@ -27,36 +27,36 @@ use Rattle.batch_chart.proofs.Standing.{count-pos, some-stands, stood}
 use Rattle.batch_chart.proofs.Stepping.{all-told}
 use Rattle.batch_chart.proofs.Telling.{finished-means, told-finished}
 
-module _ (ns : List Node) (ds : List Detail) (t : Tree) (laid : IsLaid ns ds t) where
+module _ (ns : List Entry) (doc : Recipe) (t : Tree) (laid : IsLaid ns doc t) where
   root-end : end_at ns 0 ≡ length ns
-  root-end = omega (arith, (stood ns ds 0 t laid.stands).end, laid.count)
+  root-end = omega (arith, (stood ns doc 0 t laid.stands).end, laid.count)
 
   pub above-each : (n : ℕ) → 0 < n → n < length ns → IsAbove ns (parent_at ns n) n
   above-each n a b = laid.parents n a b
 
-  pub some-at : (ys : List Stage) (n : ℕ) → length ys ≡ length ns → n < length ns → IsCompiled ns ds ys n
-  some-at ys n l lt = (l, some-stands ns ds n t 0 laid.stands (omega arith) (omega (arith, laid.count)))
+  pub some-at : (ys : List Stage) (n : ℕ) → length ys ≡ length ns → n < length ns → IsCompiled ns doc ys n
+  some-at ys n l lt = (l, some-stands ns doc n t 0 laid.stands (omega arith) (omega (arith, laid.count)))
 
   module _ (vs : ValueList) (xs ws : List Stage) where
     -- nothing is left of the whole chart
-    pub risen-top : (n : ℕ) (ys : List Stage) → n ≡ 0 → IsRisen ns ds vs xs ws n ys → HasRisen ns ds vs ws ys
+    pub risen-top : (n : ℕ) (ys : List Stage) → n ≡ 0 → IsRisen ns doc vs xs ws n ys → HasRisen ns doc vs ws ys
     risen-top n ys e r =
-        let a : HasAdvanced ns ds vs 0 ws ys true = subst (λ z. HasAdvanced ns ds vs z ws ys true) e r.advanced in
-        let b : AreTold ns ds 0 (end_at ns 0) ys = subst (λ z. AreTold ns ds z (end_at ns z) ys) e r.below in
-        record { finished = true; advanced = a; told = subst (λ z. AreTold ns ds 0 z ys) root-end b }
+        let a : HasAdvanced ns doc vs 0 ws ys true = subst (λ z. HasAdvanced ns doc vs z ws ys true) e r.advanced in
+        let b : AreTold ns doc 0 (end_at ns 0) ys = subst (λ z. AreTold ns doc z (end_at ns z) ys) e r.below in
+        record { finished = true; advanced = a; told = subst (λ z. AreTold ns doc 0 z ys) root-end b }
 
     -- something is left of it
-    pub risen-stop : (p : ℕ) (ys : List Stage) → p < length ns → HasStopped ns ds vs xs ws p ys → HasRisen ns ds vs ws ys
+    pub risen-stop : (p : ℕ) (ys : List Stage) → p < length ns → HasStopped ns doc vs xs ws p ys → HasRisen ns doc vs ws ys
     risen-stop p ys lt r =
-        let at = some-stands ns ds p t 0 laid.stands (omega arith) (omega (arith, laid.count)) in
-        let end = (stood ns ds p at.0 at.1).end in
+        let at = some-stands ns doc p t 0 laid.stands (omega arith) (omega (arith, laid.count)) in
+        let end = (stood ns doc p at.0 at.1).end in
         let below : p < end_at ns p = omega (arith, end, count-pos at.0) in
-        let fits : end_at ns p ≤ length ns = omega (arith, end, (stood ns ds p at.0 at.1).fits) in
+        let fits : end_at ns p ≤ length ns = omega (arith, end, (stood ns doc p at.0 at.1).fits) in
         let kept : is_finished (stage_at ys p) ≡ is_finished (stage_at xs p) = r.kept ∙ ap is_finished r.stage in
-        let told : AreTold ns ds 0 (length ns) ys = told-after ns ds p (length ns) xs ys both kept below fits r.told r.below in
+        let told : AreTold ns doc 0 (length ns) ys = told-after ns doc p (length ns) xs ys both kept below fits r.told r.below in
         let root : 0 < length ns = omega arith in
-        let went : (c : Tree) → Stands ns ds 0 c → meaning c 0 ys ≡ advance vs (meaning c 0 ws) =
-        λ c s. lifted ns ds vs p ws ys r.advanced.outside r.kept (λ d q. (r.advanced.means d q).0) c 0 s (inl (omega arith)) (told 0 c (omega arith) root s).advanced in
+        let went : (c : Tree) → Stands ns doc 0 c → meaning c 0 ys ≡ advance vs (meaning c 0 ws) =
+        λ c s. lifted ns doc vs p ws ys r.advanced.outside r.kept (λ d q. (r.advanced.means d q).0) c 0 s (inl (omega arith)) (told 0 c (omega arith) root s).advanced in
         record {
           finished = is_finished (stage_at ys 0);
           advanced = record {
@@ -84,15 +84,15 @@ freed-means (par ts) n xs e = chosen-false (is_begun (stage_at xs n)) (in_par (m
 freed-means (sel ch) n xs e = chosen-false (is_begun (stage_at xs n)) (chosen ch (n + 1) xs) done (ap is_begun e)
 freed-means (loop k p body) n xs e = ap (λ x. loop_as (turns_of x) p body (meaning body (n + 1) xs)) e
 
-module _ (ns : List Node) (ds : List Detail) (vs : ValueList) (xs mid : List Stage) (lives : SomeLives ns ds xs) (k : ℕ) (lt : k < length ns) (fits : length mid ≡ length xs) (off : AgreeOutside (k + 1) (end_at ns k) xs mid) (gone : AllFinished (k + 1) (end_at ns k) mid) where
+module _ (ns : List Entry) (doc : Recipe) (vs : ValueList) (xs mid : List Stage) (lives : SomeLives ns doc xs) (k : ℕ) (lt : k < length ns) (fits : length mid ≡ length xs) (off : AgreeOutside (k + 1) (end_at ns k) xs mid) (gone : AllFinished (k + 1) (end_at ns k) mid) where
   pub as-many : length xs ≡ length ns
   as-many = lives.2.fits ∙ sym lives.1.count
 
-  at-k : (c : Tree) × Stands ns ds k c
-  at-k = some-stands ns ds k lives.0 0 lives.1.stands (omega arith) (omega (arith, lives.1.count))
+  at-k : (c : Tree) × Stands ns doc k c
+  at-k = some-stands ns doc k lives.0 0 lives.1.stands (omega arith) (omega (arith, lives.1.count))
 
   pub below-k : k < end_at ns k
-  below-k = omega (arith, (stood ns ds k at-k.0 at-k.1).end, count-pos at-k.0)
+  below-k = omega (arith, (stood ns doc k at-k.0 at-k.1).end, count-pos at-k.0)
 
   inside : k < length mid
   inside = omega (arith, as-many, fits)
@@ -115,14 +115,14 @@ module _ (ns : List Node) (ds : List Detail) (vs : ValueList) (xs mid : List Sta
     | inr q ↦ let ne = q.1 in stage-set_other mid k j Finished q.1 ∙ gone j (omega arith) b
   ]
 
-  pub risen : IsRisen ns ds vs xs (slice_set mid k (Freeing 0)) k (slice_set mid k Finished)
+  pub risen : IsRisen ns doc vs xs (slice_set mid k (Freeing 0)) k (slice_set mid k Finished)
   risen =
       let is : stage_at (slice_set mid k Finished) k ≡ Finished = stage-set_same mid k Finished inside in
       let was : stage_at (slice_set mid k (Freeing 0)) k ≡ Freeing 0 = stage-set_same mid k (Freeing 0) inside in
       record {
         before = as-many;
         after = length-set mid k (Freeing 0) ∙ fits ∙ as-many;
-        told = all-told ns ds lives.0 lives.1 xs lives.2;
+        told = all-told ns doc lives.0 lives.1 xs lives.2;
         same = set-out (Freeing 0);
         left = ap is_finished was;
         advanced = record {
@@ -136,5 +136,5 @@ module _ (ns : List Node) (ds : List Detail) (vs : ValueList) (xs mid : List Sta
         below = λ j c a b s. told-finished c j (slice_set mid k Finished) (all-gone j a b);
       }
 
-  pub finishes : (ys : List Stage) → length ys ≡ length mid → HasRisen ns ds vs (slice_set mid k (Freeing 0)) ys → HasFinished ns ds vs k mid ys
+  pub finishes : (ys : List Stage) → length ys ≡ length mid → HasRisen ns doc vs (slice_set mid k (Freeing 0)) ys → HasFinished ns doc vs k mid ys
   finishes ys l r = record { fits = l; finished = r.finished; advanced = r.advanced; told = r.told }

@@ -4,10 +4,10 @@ use Rattle.std.specs.Prelude.{slice_set, not, is_none}
 use Rattle.std.proofs.lemmas.Bool.{cases_lt}
 use Rattle.batch_recipe.specs.Nodes.{node_count}
 use Rattle.batch_recipe.specs.Tree.{runs, follows, Tree, act, skip, seq, par, sel, loop, Trees, no_trees, tree}
-use Rattle.batch_chart.specs.declared.node.Node.{Node}
+use Rattle.batch_recipe.specs.declared.entry.Entry.{Entry}
 use Rattle.batch_chart.specs.declared.node.Kind.{Kind}
 use Rattle.batch_chart.specs.declared.node.Kind.TheVariants.{Act, Seq, Par, Sel, Loop}
-use Rattle.batch_chart.specs.declared.node.Detail.{Detail}
+use Rattle.batch_recipe.specs.declared.recipe.Recipe.{Recipe}
 use Rattle.batch_chart.specs.declared.stage.Stage.{Stage}
 use Rattle.batch_chart.specs.declared.stage.Stage.TheVariants.{Finished, Ready, Asking, Open, Live, Freeing, Turning}
 use Rattle.batch_chart.specs.Climbing.{all_finished, AreFinished, IsNeatlyRisen, HasPassedNeatly}
@@ -45,51 +45,51 @@ pub loop-runs : (κ : Kind) (x : Stage) (i : ℕ) {k : ℕ} → κ ≡ Loop k i 
 loop-runs κ x i {k} e u t = let q : ◌≡◌ {A = Bool} true false = ap is_none t ∙ sym (ap (λ z. is_over_at z x) e) ∙ u in absurd (cc)
 
 -- a row of which all is finished
-pub finished-row : (ns : List Node) (ds : List Detail) (n m : ℕ) (xs : List Stage) → AllFinished n m xs → AreFinished ns ds n m xs true
-finished-row ns ds n m xs h = record { means = λ ts s. go ts n s h }
+pub finished-row : (ns : List Entry) (doc : Recipe) (n m : ℕ) (xs : List Stage) → AllFinished n m xs → AreFinished ns doc n m xs true
+finished-row ns doc n m xs h = record { means = λ ts s. go ts n s h }
   where
-    go : (ts : Trees) (i : ℕ) → AreStanding ns ds i m ts → AllFinished i m xs → true ≡ all_finished ts i xs
+    go : (ts : Trees) (i : ℕ) → AreStanding ns doc i m ts → AllFinished i m xs → true ≡ all_finished ts i xs
     go no_trees i s f = refl
     go (tree c ts) i s f =
-        let lt : i < m = omega (arith, stood-each ns ds (i + node_count c) m ts s.1, count-pos c) in
+        let lt : i < m = omega (arith, stood-each ns doc (i + node_count c) m ts s.1, count-pos c) in
         go ts (i + node_count c) s.1 (λ k a b. f k (omega arith) b)
         ∙ sym (chosen-true (is_finished (stage_at xs i)) (all_finished ts (i + node_count c) xs) false (ap is_finished (f i (omega arith) lt)))
 
-module _ (ns : List Node) (ds : List Detail) (p n : ℕ) (ys : List Stage) (compiled : IsCompiled ns ds ys p) (above : IsAbove ns p n) (xs : List Stage) (ms cur : List ℕ) (r : IsNeatlyRisen ns ds xs ms n ys cur) where
-  at-p : (c : Tree) × Stands ns ds p c
+module _ (ns : List Entry) (doc : Recipe) (p n : ℕ) (ys : List Stage) (compiled : IsCompiled ns doc ys p) (above : IsAbove ns p n) (xs : List Stage) (ms cur : List ℕ) (r : IsNeatlyRisen ns doc xs ms n ys cur) where
+  at-p : (c : Tree) × Stands ns doc p c
   at-p = compiled.1
 
   p-end : end_at ns p ≡ p + node_count compiled.1.0
-  p-end = (stood ns ds p compiled.1.0 compiled.1.1).end
+  p-end = (stood ns doc p compiled.1.0 compiled.1.1).end
 
   p-within : p < length ns
-  p-within = (stood ns ds p compiled.1.0 compiled.1.1).within
+  p-within = (stood ns doc p compiled.1.0 compiled.1.1).within
 
   p-fits : end_at ns p ≤ length ns
-  p-fits = omega (arith, p-end, (stood ns ds p compiled.1.0 compiled.1.1).fits)
+  p-fits = omega (arith, p-end, (stood ns doc p compiled.1.0 compiled.1.1).fits)
 
-  sits : (k : ℕ) → p ≤ k → k < end_at ns p → (d : Tree) × Stands ns ds k d
-  sits k a b = some-stands ns ds k compiled.1.0 p compiled.1.1 a (omega (arith, b, p-end))
+  sits : (k : ℕ) → p ≤ k → k < end_at ns p → (d : Tree) × Stands ns doc k d
+  sits k a b = some-stands ns doc k compiled.1.0 p compiled.1.1 a (omega (arith, b, p-end))
 
-  n-at : (c : Tree) × Stands ns ds n c
+  n-at : (c : Tree) × Stands ns doc n c
   n-at = sits n (omega (arith, above.before)) above.past
 
   n-below : n < end_at ns n
-  n-below = omega (arith, (stood ns ds n n-at.0 n-at.1).end, count-pos n-at.0)
+  n-below = omega (arith, (stood ns doc n n-at.0 n-at.1).end, count-pos n-at.0)
 
   n-fits : end_at ns n ≤ end_at ns p
-  n-fits = let e = nested ns ds n compiled.1.0 p compiled.1.1 (omega (arith, above.before)) (omega (arith, above.past, p-end)) in omega (arith, e, p-end)
+  n-fits = let e = nested ns doc n compiled.1.0 p compiled.1.1 (omega (arith, above.before)) (omega (arith, above.past, p-end)) in omega (arith, e, p-end)
 
-  nest-n : AreNested ns ds n (end_at ns n)
-  nest-n = nests ns ds n n-at.0 n-at.1
+  nest-n : AreNested ns doc n (end_at ns n)
+  nest-n = nests ns doc n n-at.0 n-at.1
 
-  nest-p : AreNested ns ds p (end_at ns p)
-  nest-p = nests ns ds p compiled.1.0 compiled.1.1
+  nest-p : AreNested ns doc p (end_at ns p)
+  nest-p = nests ns doc p compiled.1.0 compiled.1.1
 
-  nest-under : AreNested ns ds (p + 1) (end_at ns p)
-  nest-under = nests-below ns ds p (p + 1) (end_at ns p) (omega arith) nest-p
+  nest-under : AreNested ns doc (p + 1) (end_at ns p)
+  nest-under = nests-below ns doc p (p + 1) (end_at ns p) (omega arith) nest-p
 
-  old-at : (c : Tree) → Stands ns ds p c → IsNeat ns c p xs ms
+  old-at : (c : Tree) → Stands ns doc p c → IsNeat ns c p xs ms
   old-at c s = r.before p c (omega arith) p-within s
 
   own : stage_at ys p ≡ stage_at xs p
@@ -99,38 +99,38 @@ module _ (ns : List Node) (ds : List Detail) (p n : ℕ) (ys : List Stage) (comp
   own-sign = r.signs p (inl above.before)
 
   -- p runs, since a branch of it did
-  then-runs : (c : Tree) → Stands ns ds p c → runs_below c (stage_at xs p) ≡ true
+  then-runs : (c : Tree) → Stands ns doc p c → runs_below c (stage_at xs p) ≡ true
   then-runs c s = go (runs_below c (stage_at xs p)) refl
     where
       go : (b : Bool) → runs_below c (stage_at xs p) ≡ b → runs_below c (stage_at xs p) ≡ true
       go true e = e
-      go false e = absurd (unfinished-not (stage_at xs n) ((old-at c s).shut e n (omega (arith, above.before)) (omega (arith, above.past, (stood ns ds p c s).end))) r.was)
+      go false e = absurd (unfinished-not (stage_at xs n) ((old-at c s).shut e n (omega (arith, above.before)) (omega (arith, above.past, (stood ns doc p c s).end))) r.was)
 
-  pub still-runs : (c : Tree) → Stands ns ds p c → runs_below c (stage_at ys p) ≡ true
+  pub still-runs : (c : Tree) → Stands ns doc p c → runs_below c (stage_at ys p) ≡ true
   still-runs c s = ap (runs_below c) own ∙ then-runs c s
 
   then-left : is_finished (stage_at xs p) ≡ false
   then-left = runs-unfinished compiled.1.0 (stage_at xs p) (then-runs compiled.1.0 compiled.1.1)
 
   -- what stands below p beside n stays as it was
-  beside : (j : ℕ) (c : Tree) → p < j → j < end_at ns p → Stands ns ds j c → (j < n) ⊎ (end_at ns n ≤ j) → IsNeat ns c j ys cur
+  beside : (j : ℕ) (c : Tree) → p < j → j < end_at ns p → Stands ns doc j c → (j < n) ⊎ (end_at ns n ≤ j) → IsNeat ns c j ys cur
   beside j c a b s (inl q) =
-      let e : j + node_count c ≤ n = omega (arith, above.between j a q, (stood ns ds j c s).end) in
-      neat-agree ns ds c j xs ys ms cur (λ k f g. r.same k (inl (omega arith))) (r.signs j (inl q)) (r.before j c (omega arith) (omega (arith, p-fits)) s)
+      let e : j + node_count c ≤ n = omega (arith, above.between j a q, (stood ns doc j c s).end) in
+      neat-agree ns doc c j xs ys ms cur (λ k f g. r.same k (inl (omega arith))) (r.signs j (inl q)) (r.before j c (omega arith) (omega (arith, p-fits)) s)
   beside j c a b s (inr q) =
-      neat-agree ns ds c j xs ys ms cur (λ k f g. r.same k (inr (omega arith))) (r.signs j (inr q)) (r.before j c (omega arith) (omega (arith, p-fits)) s)
+      neat-agree ns doc c j xs ys ms cur (λ k f g. r.same k (inr (omega arith))) (r.signs j (inr q)) (r.before j c (omega arith) (omega (arith, p-fits)) s)
 
-  pub neat-under : AreNeat ns ds (p + 1) (end_at ns p) ys cur
+  pub neat-under : AreNeat ns doc (p + 1) (end_at ns p) ys cur
   neat-under j c a b s = elim (cases_lt j n) [
     | inl q ↦ beside j c (omega arith) b s (inl q)
     | inr q ↦ elim (cases_lt j (end_at ns n)) [
-      | inl f ↦ blank-neat ns ds n (end_at ns n) ys cur nest-n r.blank j c q f s
+      | inl f ↦ blank-neat ns doc n (end_at ns n) ys cur nest-n r.blank j c q f s
       | inr f ↦ beside j c (omega arith) b s (inr f)
     ]
   ]
 
   -- where a branch of p alone can run, all is finished below it now
-  pub alone : (c : Tree) → Stands ns ds p c → is_single c ≡ true → AreBlank (p + 1) (end_at ns p) ys cur
+  pub alone : (c : Tree) → Stands ns doc p c → is_single c ≡ true → AreBlank (p + 1) (end_at ns p) ys cur
   alone c s one k a b = elim (cases_lt k n) [
     | inl q ↦ gone (inl q)
     | inr q ↦ elim (cases_lt k (end_at ns n)) [
@@ -141,7 +141,7 @@ module _ (ns : List Node) (ds : List Detail) (p n : ℕ) (ys : List Stage) (comp
     where
       gone : (k < n) ⊎ (end_at ns n ≤ k) → (stage_at ys k ≡ Finished) × (sign_at cur k ≡ 0)
       gone out =
-          let e = (stood ns ds p c s).end in
+          let e = (stood ns doc p c s).end in
           let was : stage_at xs k ≡ Finished =
           (old-at c s).lone one n (omega (arith, above.before)) (omega (arith, above.past, e)) (λ q u v. above.between q (omega arith) v) r.was k a (omega (arith, b, e)) out in
           let d = sits k (omega arith) b in
@@ -151,15 +151,15 @@ module _ (ns : List Node) (ds : List Detail) (p n : ℕ) (ys : List Stage) (comp
           )
 
   -- what p comes to, once all below it shows what it is
-  pub passes : (us : List Stage) (new : List ℕ) (t : Bool) → length new ≡ length cur → AgreeOutside p (end_at ns p) ys us → SignsOutside p (end_at ns p) cur new → AreNeat ns ds p (end_at ns p) us new → is_finished (stage_at us p) ≡ t
-      → HasPassedNeatly ns ds xs ms p us new t
+  pub passes : (us : List Stage) (new : List ℕ) (t : Bool) → length new ≡ length cur → AgreeOutside p (end_at ns p) ys us → SignsOutside p (end_at ns p) cur new → AreNeat ns doc p (end_at ns p) us new → is_finished (stage_at us p) ≡ t
+      → HasPassedNeatly ns doc xs ms p us new t
   passes us new true count outside signs neat u = record {
     count = count ∙ r.count;
     before = r.before;
     was = then-left;
     same = λ k q. outside k q ∙ wide k q;
     signs = λ k q. signs k q ∙ wide-signs k q;
-    blank = λ k a b. neat-blank ns ds p compiled.1.0 us new compiled.1.1 (λ j f g. sits j f (omega (arith, g, p-end))) (subst (λ z. AreNeat ns ds p z us new) p-end neat) (finished-stage (stage_at us p) u) k a (omega (arith, b, p-end));
+    blank = λ k a b. neat-blank ns doc p compiled.1.0 us new compiled.1.1 (λ j f g. sits j f (omega (arith, g, p-end))) (subst (λ z. AreNeat ns doc p z us new) p-end neat) (finished-stage (stage_at us p) u) k a (omega (arith, b, p-end));
   }
     where
       wide : AgreeOutside p (end_at ns p) xs ys
@@ -187,7 +187,7 @@ module _ (ns : List Node) (ds : List Detail) (p n : ℕ) (ys : List Stage) (comp
       wide-signs k (inl q) = r.signs k (inl (omega (arith, above.before)))
       wide-signs k (inr q) = r.signs k (inr (omega (arith, n-fits)))
 
-  no-sign : (c : Tree) → Stands ns ds p c → ((x : Stage) (d : Bool) → shown_of c x d ≡ 0) → sign_at cur p ≡ 0
+  no-sign : (c : Tree) → Stands ns doc p c → ((x : Stage) (d : Bool) → shown_of c x d ≡ 0) → sign_at cur p ≡ 0
   no-sign c s none = own-sign ∙ (old-at c s).shown ∙ none (stage_at xs p) (is_finished (stage_at xs (p + 1)))
 
   pub not-over : true ≡ is_over_at (kind_at ns p) (stage_at ys p) → ⊥
@@ -207,7 +207,7 @@ module _ (ns : List Node) (ds : List Detail) (p n : ℕ) (ys : List Stage) (comp
       at-kind : (κ : Kind) → kind_at ns p ≡ κ → true ≡ is_over_at κ (stage_at ys p)
       at-kind κ e = o ∙ ap (λ z. is_over_at z (stage_at ys p)) e
 
-      go : (c : Tree) → Stands ns ds p c → runs_below c (stage_at ys p) ≡ true → ⊥
+      go : (c : Tree) → Stands ns doc p c → runs_below c (stage_at ys p) ≡ true → ⊥
       go (act s (runs q)) h e = absurd (omega (arith, h.1.2, above.before, above.past))
       go (act s (follows name d)) h e = open-over (stage_at ys p) e (at-kind (Act (length s.needs)) h.0.1)
       go skip h e = absurd (cc)
@@ -220,59 +220,59 @@ module _ (ns : List Node) (ds : List Detail) (p n : ℕ) (ys : List Stage) (comp
   own-out v = outside-set ys ys p (end_at ns p) v (omega (arith, above.before, above.past)) (λ k q. refl)
 
   -- nothing is reached, and p's own stage alone is written
-  written : (v : Stage) (us : List Stage) (t : Bool) → p < length ys → us ≡ slice_set ys p v → is_finished v ≡ t → ((c : Tree) → Stands ns ds p c → IsNeat ns c p (slice_set ys p v) cur) → HasPassedNeatly ns ds xs ms p us cur t
+  written : (v : Stage) (us : List Stage) (t : Bool) → p < length ys → us ≡ slice_set ys p v → is_finished v ≡ t → ((c : Tree) → Stands ns doc p c → IsNeat ns c p (slice_set ys p v) cur) → HasPassedNeatly ns doc xs ms p us cur t
   written v us t lt is u own =
-      subst (λ z. HasPassedNeatly ns ds xs ms p z cur t) (sym is)
+      subst (λ z. HasPassedNeatly ns doc xs ms p z cur t) (sym is)
       (passes (slice_set ys p v) cur t refl (own-out v) (signs-same p (end_at ns p) cur)
-      (neat-one ns ds p (end_at ns p) (slice_set ys p v) cur own (neat-same ns ds (p + 1) (end_at ns p) ys (slice_set ys p v) cur cur nest-under (within-set ys p (end_at ns p) v) (λ k a b. refl) neat-under))
+      (neat-one ns doc p (end_at ns p) (slice_set ys p v) cur own (neat-same ns doc (p + 1) (end_at ns p) ys (slice_set ys p v) cur cur nest-under (within-set ys p (end_at ns p) v) (λ k a b. refl) neat-under))
       (ap is_finished (stage-set_same ys p v lt) ∙ u))
 
-  pub neatly-par : kind_at ns p ≡ Par → (us : List Stage) (b t : Bool) → p < length ys → (t ≡ b) × (us ≡ slice_set ys p (closed_as b)) → (b ≡ true → AllFinished (p + 1) (end_at ns p) ys) → HasPassedNeatly ns ds xs ms p us cur t
+  pub neatly-par : kind_at ns p ≡ Par → (us : List Stage) (b t : Bool) → p < length ys → (t ≡ b) × (us ≡ slice_set ys p (closed_as b)) → (b ≡ true → AllFinished (p + 1) (end_at ns p) ys) → HasPassedNeatly ns doc xs ms p us cur t
   neatly-par e us b t lt closes all =
-      written (closed_as b) us t lt closes.1 (finished-closed b ∙ sym closes.0) (λ c s. go c (par-at ns ds p e c s) s)
+      written (closed_as b) us t lt closes.1 (finished-closed b ∙ sym closes.0) (λ c s. go c (par-at ns doc p e c s) s)
     where
-      go : (c : Tree) → ParAt ns ds p c → Stands ns ds p c → IsNeat ns c p (slice_set ys p (closed_as b)) cur
+      go : (c : Tree) → ParAt ns doc p c → Stands ns doc p c → IsNeat ns c p (slice_set ys p (closed_as b)) cur
       go _ (par_at ts a) s =
-          over-own ns ds ys p compiled ys (closed_as b) cur cur lt (signs-same (p + 1) (end_at ns p) cur) (par ts) s (no-sign (par ts) s (λ x d. refl)) (λ x d. refl)
-          (shut-by ns ds ys p compiled ys us b t cur cur lt closes (par ts) refl all) (λ one. absurd (cc))
+          over-own ns doc ys p compiled ys (closed_as b) cur cur lt (signs-same (p + 1) (end_at ns p) cur) (par ts) s (no-sign (par ts) s (λ x d. refl)) (λ x d. refl)
+          (shut-by ns doc ys p compiled ys us b t cur cur lt closes (par ts) refl all) (λ one. absurd (cc))
 
-  pub neatly-sel : (i : ℕ) → kind_at ns p ≡ Sel i → (us : List Stage) (t : Bool) → p < length ys → (t ≡ true) × (us ≡ slice_set ys p Finished) → HasPassedNeatly ns ds xs ms p us cur t
-  neatly-sel i e us t lt closes = written Finished us t lt closes.1 (sym closes.0) (λ c s. go c (sel-at ns ds p i e c s) s)
+  pub neatly-sel : (i : ℕ) → kind_at ns p ≡ Sel i → (us : List Stage) (t : Bool) → p < length ys → (t ≡ true) × (us ≡ slice_set ys p Finished) → HasPassedNeatly ns doc xs ms p us cur t
+  neatly-sel i e us t lt closes = written Finished us t lt closes.1 (sym closes.0) (λ c s. go c (sel-at ns doc p i e c s) s)
     where
-      go : (c : Tree) → SelAt ns ds p i c → Stands ns ds p c → IsNeat ns c p (slice_set ys p Finished) cur
+      go : (c : Tree) → SelAt ns doc p i c → Stands ns doc p c → IsNeat ns c p (slice_set ys p Finished) cur
       go _ (sel_at ch a) s =
           let all = alone (sel ch) s refl in
-          over-own ns ds ys p compiled ys Finished cur cur lt (signs-same (p + 1) (end_at ns p) cur) (sel ch) s (no-sign (sel ch) s (λ x d. refl)) (λ x d. refl)
+          over-own ns doc ys p compiled ys Finished cur cur lt (signs-same (p + 1) (end_at ns p) cur) (sel ch) s (no-sign (sel ch) s (λ x d. refl)) (λ x d. refl)
           (λ u k f g. (all k f g).0) (λ one j f g root u k v w out. (all k v w).0)
 
   -- the others of a selection are finished
   pub sel-others : (i : ℕ) → kind_at ns p ≡ Sel i → AllFinished (p + 1) n ys
-  sel-others i e = go compiled.1.0 (sel-at ns ds p i e compiled.1.0 compiled.1.1) compiled.1.1
+  sel-others i e = go compiled.1.0 (sel-at ns doc p i e compiled.1.0 compiled.1.1) compiled.1.1
     where
-      go : (c : Tree) → SelAt ns ds p i c → Stands ns ds p c → AllFinished (p + 1) n ys
+      go : (c : Tree) → SelAt ns doc p i c → Stands ns doc p c → AllFinished (p + 1) n ys
       go _ (sel_at ch a) s k f g = (alone (sel ch) s refl k f (omega (arith, above.past))).0
 
   module _ (k i : ℕ) (e : kind_at ns p ≡ Loop k i) where
     child : (n ≡ p + 1) × (end_at ns n ≡ end_at ns p)
-    child = loop-child ns ds p n ys compiled above k i e
+    child = loop-child ns doc p n ys compiled above k i e
 
-    pub neatly-last : p < length ys → IsNeatlyRisen ns ds xs ms p (slice_set ys p Finished) cur
-    neatly-last lt = written Finished (slice_set ys p Finished) true lt refl refl (λ c s. go c (loop-at ns ds p k i e c s) s)
+    pub neatly-last : p < length ys → IsNeatlyRisen ns doc xs ms p (slice_set ys p Finished) cur
+    neatly-last lt = written Finished (slice_set ys p Finished) true lt refl refl (λ c s. go c (loop-at ns doc p k i e c s) s)
       where
-        go : (c : Tree) → LoopAt ns ds p k i c → Stands ns ds p c → IsNeat ns c p (slice_set ys p Finished) cur
+        go : (c : Tree) → LoopAt ns doc p k i c → Stands ns doc p c → IsNeat ns c p (slice_set ys p Finished) cur
         go _ (loop_at q body w a f) s =
-            over-own ns ds ys p compiled ys Finished cur cur lt (signs-same (p + 1) (end_at ns p) cur) (loop k q body) s (no-sign (loop k q body) s (λ x d. refl)) (λ x d. refl)
+            over-own ns doc ys p compiled ys Finished cur cur lt (signs-same (p + 1) (end_at ns p) cur) (loop k q body) s (no-sign (loop k q body) s (λ x d. refl)) (λ x d. refl)
             (λ u j f g. (r.blank j (omega (arith, child.0, f)) (omega (arith, child.1, g))).0) (λ one. absurd (cc))
 
-    pub neatly-round : (zs us : List Stage) (new : List ℕ) (b t : Bool) (j : ℕ) → p < length zs → AgreeOutside n (end_at ns n) ys zs → is_finished (stage_at zs n) ≡ b → IsReachedNeatly ns ds n ys zs cur new
-        → (t ≡ b) × (us ≡ slice_set zs p (looped_as b j)) → HasPassedNeatly ns ds xs ms p us new t
+    pub neatly-round : (zs us : List Stage) (new : List ℕ) (b t : Bool) (j : ℕ) → p < length zs → AgreeOutside n (end_at ns n) ys zs → is_finished (stage_at zs n) ≡ b → IsReachedNeatly ns doc n ys zs cur new
+        → (t ≡ b) × (us ≡ slice_set zs p (looped_as b j)) → HasPassedNeatly ns doc xs ms p us new t
     neatly-round zs us new b t j lt outside own reached closes =
-        subst (λ z. HasPassedNeatly ns ds xs ms p z new t) (sym closes.1)
+        subst (λ z. HasPassedNeatly ns doc xs ms p z new t) (sym closes.1)
         (passes (slice_set zs p (looped_as b j)) new t reached.count
         (outside-set ys zs p (end_at ns p) (looped_as b j) (omega (arith, above.before, above.past)) off)
         (signs-wider (p + 1) (end_at ns p) p (end_at ns p) cur new (omega arith) (omega arith) signs)
-        (neat-one ns ds p (end_at ns p) (slice_set zs p (looped_as b j)) new (λ c s. go c (loop-at ns ds p k i e c s) s)
-        (neat-same ns ds (p + 1) (end_at ns p) zs (slice_set zs p (looped_as b j)) new new nest-under (within-set zs p (end_at ns p) (looped_as b j)) (λ h f g. refl) neat))
+        (neat-one ns doc p (end_at ns p) (slice_set zs p (looped_as b j)) new (λ c s. go c (loop-at ns doc p k i e c s) s)
+        (neat-same ns doc (p + 1) (end_at ns p) zs (slice_set zs p (looped_as b j)) new new nest-under (within-set zs p (end_at ns p) (looped_as b j)) (λ h f g. refl) neat))
         (ap is_finished (stage-set_same zs p (looped_as b j) lt) ∙ looped b ∙ sym closes.0))
       where
         off : AgreeOutside (p + 1) (end_at ns p) ys zs
@@ -283,7 +283,7 @@ module _ (ns : List Node) (ds : List Detail) (p n : ℕ) (ys : List Stage) (comp
         signs h (inl q) = reached.outside h (inl (omega (arith, q, child.0)))
         signs h (inr q) = reached.outside h (inr (omega (arith, q, child.1)))
 
-        neat : AreNeat ns ds (p + 1) (end_at ns p) zs new
+        neat : AreNeat ns doc (p + 1) (end_at ns p) zs new
         neat h d f g s = reached.neat r.blank h d (omega (arith, f, child.0)) (omega (arith, g, child.1)) s
 
         looped : (d : Bool) → is_finished (looped_as d j) ≡ d
@@ -294,29 +294,29 @@ module _ (ns : List Node) (ds : List Detail) (p n : ℕ) (ys : List Stage) (comp
         ended true q u = ap (stage_at zs) (sym child.0) ∙ finished-stage (stage_at zs n) (own ∙ q)
         ended false q u = let f : ◌≡◌ {A = Bool} true false = ap (λ z. not (is_none (turns_of (looped_as z j)))) (sym q) ∙ u in absurd (cc)
 
-        go : (c : Tree) → LoopAt ns ds p k i c → Stands ns ds p c → IsNeat ns c p (slice_set zs p (looped_as b j)) new
+        go : (c : Tree) → LoopAt ns doc p k i c → Stands ns doc p c → IsNeat ns c p (slice_set zs p (looped_as b j)) new
         go _ (loop_at q body w a f) s =
-            over-own ns ds ys p compiled zs (looped_as b j) cur new lt signs (loop k q body) s (no-sign (loop k q body) s (λ x d. refl)) (λ x d. refl)
-            (λ u h v g. neat-finished ns ds (p + 1) body zs new a (neat (p + 1) body (omega arith) (omega (arith, f, count-pos body)) a) (ended b refl u) h v (omega (arith, g, f)))
+            over-own ns doc ys p compiled zs (looped_as b j) cur new lt signs (loop k q body) s (no-sign (loop k q body) s (λ x d. refl)) (λ x d. refl)
+            (λ u h v g. neat-finished ns doc (p + 1) body zs new a (neat (p + 1) body (omega arith) (omega (arith, f, count-pos body)) a) (ended b refl u) h v (omega (arith, g, f)))
             (λ one. absurd (cc))
 
   -- an act of whose chart nothing is left shows that
-  pub neatly-act : (k v : ℕ) → kind_at ns p ≡ Act k → p < length cur → v ≡ open_signs k true → HasPassedNeatly ns ds xs ms p ys (slice_set cur p v) false
+  pub neatly-act : (k v : ℕ) → kind_at ns p ≡ Act k → p < length cur → v ≡ open_signs k true → HasPassedNeatly ns doc xs ms p ys (slice_set cur p v) false
   neatly-act k v e inside is =
       passes ys (slice_set cur p v) false (length-set cur p v) (λ j q. refl) out
-      (neat-one ns ds p (end_at ns p) ys (slice_set cur p v) (λ c s. go c (act-at ns ds p k e c s) s)
-      (neat-same ns ds (p + 1) (end_at ns p) ys ys cur (slice_set cur p v) nest-under (λ j f g. refl) (λ j f g. get_or-set_other cur p j v 0 (λ q. absurd (omega (arith, q)))) neat-under))
+      (neat-one ns doc p (end_at ns p) ys (slice_set cur p v) (λ c s. go c (act-at ns doc p k e c s) s)
+      (neat-same ns doc (p + 1) (end_at ns p) ys ys cur (slice_set cur p v) nest-under (λ j f g. refl) (λ j f g. get_or-set_other cur p j v 0 (λ q. absurd (omega (arith, q)))) neat-under))
       (ap is_finished own ∙ then-left)
     where
       out : SignsOutside p (end_at ns p) cur (slice_set cur p v)
       out j (inl q) = get_or-set_other cur p j v 0 (λ z. absurd (omega (arith, q, z)))
       out j (inr q) = get_or-set_other cur p j v 0 (λ z. absurd (omega (arith, q, z, above.before, above.past)))
 
-      go : (c : Tree) → ActAt ns ds p k c → Stands ns ds p c → IsNeat ns c p ys (slice_set cur p v)
+      go : (c : Tree) → ActAt ns doc p k c → Stands ns doc p c → IsNeat ns c p ys (slice_set cur p v)
       go _ (act_at s name d a f count) h =
           let begun = still-runs (act s (follows name d)) h in
           let opened : stage_at ys p ≡ Open = begun-open (stage_at ys p) begun in
-          let at : n ≡ p + 1 = only-child ns ds p n ys compiled above d a f in
+          let at : n ≡ p + 1 = only-child ns doc p n ys compiled above d a f in
           let over : is_finished (stage_at ys (p + 1)) ≡ true = ap (λ z. is_finished (stage_at ys z)) (sym at) ∙ ap is_finished (r.blank n (omega arith) n-below).0 in
           record {
             shut = λ u. let q : ◌≡◌ {A = Bool} true false = sym begun ∙ u in absurd (cc);
@@ -327,23 +327,23 @@ module _ (ns : List Node) (ds : List Detail) (p n : ℕ) (ys : List Stage) (comp
 
   module _ (e : kind_at ns p ≡ Seq) where
     blank-seq : AreBlank (p + 1) (end_at ns p) ys cur
-    blank-seq = go compiled.1.0 (seq-at ns ds p e compiled.1.0 compiled.1.1) compiled.1.1
+    blank-seq = go compiled.1.0 (seq-at ns doc p e compiled.1.0 compiled.1.1) compiled.1.1
       where
-        go : (c : Tree) → SeqAt ns ds p c → Stands ns ds p c → AreBlank (p + 1) (end_at ns p) ys cur
+        go : (c : Tree) → SeqAt ns doc p c → Stands ns doc p c → AreBlank (p + 1) (end_at ns p) ys cur
         go _ (seq_at ts a) s = alone (seq ts) s refl
 
     pub seq-others : AllFinished (p + 1) n ys
     seq-others k f g = (blank-seq k f (omega (arith, above.past))).0
 
-    pub neatly-on : (zs us : List Stage) (new : List ℕ) (b t : Bool) → p < length zs → AgreeOutside (end_at ns n) (end_at ns p) ys zs → IsRowNeat ns ds (end_at ns n) (end_at ns p) true true ys zs cur new b
-        → (t ≡ b) × (us ≡ slice_set zs p (closed_as b)) → HasPassedNeatly ns ds xs ms p us new t
+    pub neatly-on : (zs us : List Stage) (new : List ℕ) (b t : Bool) → p < length zs → AgreeOutside (end_at ns n) (end_at ns p) ys zs → IsRowNeat ns doc (end_at ns n) (end_at ns p) true true ys zs cur new b
+        → (t ≡ b) × (us ≡ slice_set zs p (closed_as b)) → HasPassedNeatly ns doc xs ms p us new t
     neatly-on zs us new b t lt beyond rs closes =
-        subst (λ z. HasPassedNeatly ns ds xs ms p z new t) (sym closes.1)
+        subst (λ z. HasPassedNeatly ns doc xs ms p z new t) (sym closes.1)
         (passes (slice_set zs p (closed_as b)) new t row.count
         (outside-set ys zs p (end_at ns p) (closed_as b) (omega (arith, above.before, above.past)) off)
         (signs-wider (p + 1) (end_at ns p) p (end_at ns p) cur new (omega arith) (omega arith) row.outside)
-        (neat-one ns ds p (end_at ns p) (slice_set zs p (closed_as b)) new (λ c s. go c (seq-at ns ds p e c s) s)
-        (neat-same ns ds (p + 1) (end_at ns p) zs (slice_set zs p (closed_as b)) new new nest-under (within-set zs p (end_at ns p) (closed_as b)) (λ h f g. refl) (row.neat blank-seq)))
+        (neat-one ns doc p (end_at ns p) (slice_set zs p (closed_as b)) new (λ c s. go c (seq-at ns doc p e c s) s)
+        (neat-same ns doc (p + 1) (end_at ns p) zs (slice_set zs p (closed_as b)) new new nest-under (within-set zs p (end_at ns p) (closed_as b)) (λ h f g. refl) (row.neat blank-seq)))
         (ap is_finished (stage-set_same zs p (closed_as b) lt) ∙ finished-closed b ∙ sym closes.0))
       where
         later : AreBlank (end_at ns n) (end_at ns p) ys cur
@@ -356,17 +356,17 @@ module _ (ns : List Node) (ds : List Detail) (p n : ℕ) (ys : List Stage) (comp
         off h (inl q) = beyond h (inl (omega (arith, q, n-below, above.before)))
         off h (inr q) = beyond h (inr q)
 
-        nest-front : AreNested ns ds (p + 1) (end_at ns n)
+        nest-front : AreNested ns doc (p + 1) (end_at ns n)
         nest-front j c f g s = elim (cases_lt j n) [
-          | inl q ↦ (let y = above.between j (omega arith) q in omega (arith, y, (stood ns ds j c s).end, n-below))
+          | inl q ↦ (let y = above.between j (omega arith) q in omega (arith, y, (stood ns doc j c s).end, n-below))
           | inr q ↦ nest-n j c q g s
         ]
 
-        row : IsRowNeat ns ds (p + 1) (end_at ns p) true true ys zs cur new b
+        row : IsRowNeat ns doc (p + 1) (end_at ns p) true true ys zs cur new b
         row = record {
           count = rs.count;
           outside = signs-wider (end_at ns n) (end_at ns p) (p + 1) (end_at ns p) cur new (omega (arith, n-below, above.before)) (omega arith) rs.outside;
-          neat = λ h. neat-join ns ds (p + 1) (end_at ns n) (end_at ns p) zs new (blank-neat ns ds (p + 1) (end_at ns n) zs new nest-front front) (rs.neat later);
+          neat = λ h. neat-join ns doc (p + 1) (end_at ns n) (end_at ns p) zs new (blank-neat ns doc (p + 1) (end_at ns n) zs new nest-front front) (rs.neat later);
           over = λ h o. (refl, λ k f g. elim (cases_lt k (end_at ns n)) [ inl q ↦ (front k f q).0 | inr q ↦ (rs.over later o).1 k q g ]);
           lone = λ one h i f g root u k v w out. elim (cases_lt i (end_at ns n)) [
             | inl q ↦ absurd (unfinished-not (stage_at zs i) (front i f q).0 u)
@@ -377,6 +377,6 @@ module _ (ns : List Node) (ds : List Detail) (p n : ℕ) (ys : List Stage) (comp
           ];
         }
 
-        go : (c : Tree) → SeqAt ns ds p c → Stands ns ds p c → IsNeat ns c p (slice_set zs p (closed_as b)) new
+        go : (c : Tree) → SeqAt ns doc p c → Stands ns doc p c → IsNeat ns c p (slice_set zs p (closed_as b)) new
         go _ (seq_at ts a) s =
-            closed-own ns ds ys p compiled zs (slice_set zs p (closed_as b)) b b cur new lt (refl, refl) true row blank-seq (no-sign (seq ts) s (λ x d. refl)) (seq ts) s (refl, (λ x d. refl), (λ one. refl))
+            closed-own ns doc ys p compiled zs (slice_set zs p (closed_as b)) b b cur new lt (refl, refl) true row blank-seq (no-sign (seq ts) s (λ x d. refl)) (seq ts) s (refl, (λ x d. refl), (λ one. refl))

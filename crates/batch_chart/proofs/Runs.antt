@@ -5,9 +5,8 @@ use Rattle.batch_recipe.specs.Nodes.{node_count}
 use Rattle.batch_recipe.specs.Conditions.{Name}
 use Rattle.batch_recipe.specs.declared.condition.Cond.{Cond}
 use Rattle.batch_recipe.specs.Tree.{Step, Phase, Trees, Choices, Tree, runs, follows, act, skip, seq, par, sel, loop}
-use Rattle.batch_chart.specs.declared.compiled.Compiled.{Compiled}
-use Rattle.batch_chart.specs.declared.node.Node.{Node}
-use Rattle.batch_chart.specs.declared.node.Detail.{Detail}
+use Rattle.batch_recipe.specs.declared.entry.Entry.{Entry}
+use Rattle.batch_recipe.specs.declared.recipe.Recipe.{Recipe}
 use Rattle.batch_chart.specs.declared.running.Running.{Running}
 use Rattle.batch_chart.specs.declared.stage.Stage.{Stage}
 use Rattle.batch_recipe.specs.Conditions.{ValueList}
@@ -35,49 +34,49 @@ record AreLike (c d : Tree) : Type 0 where
   pub single : is_single c ≡ is_single d
   pub shows : (x : Stage) (b : Bool) → shown_of c x b ≡ shown_of d x b
 
-module _ (ns : List Node) (ds : List Detail) (n : ℕ) where
-  like-phase : (s : Step) (p : Phase) (i : ℕ) (d : Tree) → PhaseAt ns ds n (length s.needs) i d → AreLike (act s (runs p)) d
+module _ (ns : List Entry) (doc : Recipe) (n : ℕ) where
+  like-phase : (s : Step) (p : Phase) (i : ℕ) (d : Tree) → PhaseAt ns doc n (length s.needs) i d → AreLike (act s (runs p)) d
   like-phase s p i _ (phase_at u q a f count) = record { below = λ x. refl; single = refl; shows = λ x b. ap (λ k. stage_signs k x) (sym count) }
 
-  like-act : (s : Step) (name : Name) (c d : Tree) → ActAt ns ds n (length s.needs) d → AreLike (act s (follows name c)) d
+  like-act : (s : Step) (name : Name) (c d : Tree) → ActAt ns doc n (length s.needs) d → AreLike (act s (follows name c)) d
   like-act s name c _ (act_at u other e a f count) = record { below = λ x. refl; single = refl; shows = λ x b. ap (λ k. act_shows k x b) (sym count) }
 
-  like-skip : (d : Tree) → SkipAt ns ds n d → AreLike skip d
+  like-skip : (d : Tree) → SkipAt ns doc n d → AreLike skip d
   like-skip _ skip_at = record { below = λ x. refl; single = refl; shows = λ x b. refl }
 
-  like-seq : (ts : Trees) (d : Tree) → SeqAt ns ds n d → AreLike (seq ts) d
+  like-seq : (ts : Trees) (d : Tree) → SeqAt ns doc n d → AreLike (seq ts) d
   like-seq ts _ (seq_at us a) = record { below = λ x. refl; single = refl; shows = λ x b. refl }
 
-  like-par : (ts : Trees) (d : Tree) → ParAt ns ds n d → AreLike (par ts) d
+  like-par : (ts : Trees) (d : Tree) → ParAt ns doc n d → AreLike (par ts) d
   like-par ts _ (par_at us a) = record { below = λ x. refl; single = refl; shows = λ x b. refl }
 
-  like-sel : (ch : Choices) (i : ℕ) (d : Tree) → SelAt ns ds n i d → AreLike (sel ch) d
+  like-sel : (ch : Choices) (i : ℕ) (d : Tree) → SelAt ns doc n i d → AreLike (sel ch) d
   like-sel ch i _ (sel_at dh a) = record { below = λ x. refl; single = refl; shows = λ x b. refl }
 
-  like-loop : (k i : ℕ) (p : Cond) (body d : Tree) → LoopAt ns ds n k i d → AreLike (loop k p body) d
+  like-loop : (k i : ℕ) (p : Cond) (body d : Tree) → LoopAt ns doc n k i d → AreLike (loop k p body) d
   like-loop k i p body _ (loop_at q other a b e) = record { below = λ x. refl; single = refl; shows = λ x b. refl }
 
-  like : (c d : Tree) → Stands ns ds n c → Stands ns ds n d → AreLike c d
-  like (act s (runs p)) d h k = like-phase s p h.0 d (phase-at ns ds n (length s.needs) h.0 h.1.1 d k)
-  like (act s (follows name c)) d h k = like-act s name c d (act-at ns ds n (length s.needs) h.0.1 d k)
-  like skip d h k = like-skip d (skip-at ns ds n h.1 d k)
-  like (seq ts) d h k = like-seq ts d (seq-at ns ds n h.0.1 d k)
-  like (par ts) d h k = like-par ts d (par-at ns ds n h.0.1 d k)
-  like (sel ch) d h k = like-sel ch h.0 d (sel-at ns ds n h.0 h.1.1 d k)
-  like (loop i p body) d h k = like-loop i h.0 p body d (loop-at ns ds n i h.0 h.1.1 d k)
+  like : (c d : Tree) → Stands ns doc n c → Stands ns doc n d → AreLike c d
+  like (act s (runs p)) d h k = like-phase s p h.0 d (phase-at ns doc n (length s.needs) h.0 h.1.1 d k)
+  like (act s (follows name c)) d h k = like-act s name c d (act-at ns doc n (length s.needs) h.0.1 d k)
+  like skip d h k = like-skip d (skip-at ns doc n h.1 d k)
+  like (seq ts) d h k = like-seq ts d (seq-at ns doc n h.0.1 d k)
+  like (par ts) d h k = like-par ts d (par-at ns doc n h.0.1 d k)
+  like (sel ch) d h k = like-sel ch h.0 d (sel-at ns doc n h.0 h.1.1 d k)
+  like (loop i p body) d h k = like-loop i h.0 p body d (loop-at ns doc n i h.0 h.1.1 d k)
 
 -- what one compiled chart of a tree says of its nodes, any other does
 
-module _ (t : Tree) (ns ms : List Node) (ds es : List Detail) (laid : IsLaid ns ds t) (other : IsLaid ms es t) where
+module _ (t : Tree) (ns ms : List Entry) (doc es : Recipe) (laid : IsLaid ns doc t) (other : IsLaid ms es t) where
   same-end : (i : ℕ) → i < node_count t → end_at ms i ≡ end_at ns i
   same-end i lt =
       (stood ms es i (node_at t i).here (node-stands ms es t other i (omega (arith, lt, other.count)))).end
-      ∙ sym (stood ns ds i (node_at t i).here (node-stands ns ds t laid i (omega (arith, lt, laid.count)))).end
+      ∙ sym (stood ns doc i (node_at t i).here (node-stands ns doc t laid i (omega (arith, lt, laid.count)))).end
 
-  pub neat-anywhere : (xs : List Stage) (signs : List ℕ) → AreNeat ns ds 0 (length ns) xs signs → AreNeat ms es 0 (length ms) xs signs
+  pub neat-anywhere : (xs : List Stage) (signs : List ℕ) → AreNeat ns doc 0 (length ns) xs signs → AreNeat ms es 0 (length ms) xs signs
   neat-anywhere xs signs h j c a b s =
       let lt : j < node_count t = omega (arith, b, other.count) in
-      let here = node-stands ns ds t laid j (omega (arith, lt, laid.count)) in
+      let here = node-stands ns doc t laid j (omega (arith, lt, laid.count)) in
       let there = node-stands ms es t other j b in
       let l = like ms es j c (node_at t j).here s there in
       let own = h j (node_at t j).here (omega arith) (omega (arith, lt, laid.count)) here in
@@ -93,45 +92,45 @@ module _ (t : Tree) (ns ms : List Node) (ds es : List Detail) (laid : IsLaid ns 
       }
 
 -- the signs of a running chart are those of its acts
-pub runs-noted : (chart : Compiled) (running : Running) → IsRunning chart running → SomeNoted chart.nodes.items chart.details.items running.stages.items running.signs
+pub runs-noted : (chart : Recipe) (running : Running) → IsRunning chart running → SomeNoted chart.outline.entries.items chart running.stages.items running.signs
 runs-noted chart running h = (
   h.0,
   h.1,
-  noted chart.nodes.items chart.details.items running.stages.items running.signs h.0 h.1 h.2.alive h.2.count (h.2.neat chart.nodes.items chart.details.items h.1),
-  all-told chart.nodes.items chart.details.items h.0 h.1 running.stages.items h.2.alive,
-  h.2.neat chart.nodes.items chart.details.items h.1,
+  noted chart.outline.entries.items chart running.stages.items running.signs h.0 h.1 h.2.alive h.2.count (h.2.neat chart.outline.entries.items chart h.1),
+  all-told chart.outline.entries.items chart h.0 h.1 running.stages.items h.2.alive,
+  h.2.neat chart.outline.entries.items chart h.1,
 )
 
-pub runs-lives : (chart : Compiled) (running : Running) → IsRunning chart running → SomeLives chart.nodes.items chart.details.items running.stages.items
+pub runs-lives : (chart : Recipe) (running : Running) → IsRunning chart running → SomeLives chart.outline.entries.items chart running.stages.items
 runs-lives chart running h = (h.0, h.1, h.2.alive)
 
-pub runs-neat : (chart : Compiled) (running : Running) → IsRunning chart running → AreNeat chart.nodes.items chart.details.items 0 (length chart.nodes.items) running.stages.items running.signs
-runs-neat chart running h = h.2.neat chart.nodes.items chart.details.items h.1
+pub runs-neat : (chart : Recipe) (running : Running) → IsRunning chart running → AreNeat chart.outline.entries.items chart 0 (length chart.outline.entries.items) running.stages.items running.signs
+runs-neat chart running h = h.2.neat chart.outline.entries.items chart h.1
 
-pub runs-long : (chart : Compiled) (running : Running) → IsRunning chart running → length running.signs ≡ length chart.nodes.items
+pub runs-long : (chart : Recipe) (running : Running) → IsRunning chart running → length running.signs ≡ length chart.outline.entries.items
 runs-long chart running h = h.2.count ∙ sym h.1.count
 
 -- it runs, where its stages live and its signs go by them
-pub runs-by : (chart : Compiled) (running : Running) (t : Tree) → IsChartOf t chart → IsAlive t running.stages.items → length running.signs ≡ length chart.nodes.items
-    → AreNeat chart.nodes.items chart.details.items 0 (length chart.nodes.items) running.stages.items running.signs → IsRunningOf t running
+pub runs-by : (chart : Recipe) (running : Running) (t : Tree) → IsChartOf t chart → IsAlive t running.stages.items → length running.signs ≡ length chart.outline.entries.items
+    → AreNeat chart.outline.entries.items chart 0 (length chart.outline.entries.items) running.stages.items running.signs → IsRunningOf t running
 runs-by chart running t laid alive count neat = record {
   alive = alive;
   count = count ∙ laid.count;
-  neat = λ ms es other. neat-anywhere t chart.nodes.items ms chart.details.items es laid other running.stages.items running.signs neat;
+  neat = λ ms es other. neat-anywhere t chart.outline.entries.items ms chart es laid other running.stages.items running.signs neat;
 }
 
 -- a call has changed the stages, and the signs with them
-pub went-on : (chart : Compiled) (old new : Running) (ys : List Stage) → new.stages.items ≡ ys → IsKeptUp chart.nodes.items chart.details.items old.stages.items ys old.signs new.signs → (t : Tree) → IsChartOf t chart → IsRunningOf t old → IsAlive t ys
+pub went-on : (chart : Recipe) (old new : Running) (ys : List Stage) → new.stages.items ≡ ys → IsKeptUp chart.outline.entries.items chart old.stages.items ys old.signs new.signs → (t : Tree) → IsChartOf t chart → IsRunningOf t old → IsAlive t ys
     → IsRunningOf t new
 went-on chart old new ys is up t laid ran alive =
     runs-by chart new t laid (subst (IsAlive t) (sym is) alive) (up.count ∙ ran.count ∙ sym laid.count)
-    (subst (λ z. AreNeat chart.nodes.items chart.details.items 0 (length chart.nodes.items) z new.signs) (sym is) (up.keeps (ran.neat chart.nodes.items chart.details.items laid)))
+    (subst (λ z. AreNeat chart.outline.entries.items chart 0 (length chart.outline.entries.items) z new.signs) (sym is) (up.keeps (ran.neat chart.outline.entries.items chart laid)))
 
-pub started-runs : (chart : Compiled) (running : Running) (ys : List Stage) → running.stages.items ≡ ys → HasStarted (length chart.nodes.items) ys → AreStarted chart.nodes.items ys running.signs → (t : Tree) (vs : ValueList) → IsChartOf t chart
+pub started-runs : (chart : Recipe) (running : Running) (ys : List Stage) → running.stages.items ≡ ys → HasStarted (length chart.outline.entries.items) ys → AreStarted chart.outline.entries.items ys running.signs → (t : Tree) (vs : ValueList) → IsChartOf t chart
     → IsRunningOf t running × (remains t running ≡ reach vs t)
 started-runs chart running ys is started shown t vs laid =
     let h = started.means t vs laid.root laid.count in (
-      runs-by chart running t laid (subst (IsAlive t) (sym is) h.0) shown.0 (subst (λ z. AreNeat chart.nodes.items chart.details.items 0 (length chart.nodes.items) z running.signs) (sym is) (shown.1 chart.details.items t laid)),
+      runs-by chart running t laid (subst (IsAlive t) (sym is) h.0) shown.0 (subst (λ z. AreNeat chart.outline.entries.items chart 0 (length chart.outline.entries.items) z running.signs) (sym is) (shown.1 chart t laid)),
       ap (meaning t 0) is ∙ h.1,
     )
 
@@ -141,8 +140,8 @@ stopped-runs old new ys is stopped shown t ran =
       record {
         alive = subst (IsAlive t) (sym is) h.0;
         count = shown.0 ∙ ran.count;
-        neat = λ ns ds laid.
-            subst (λ z. AreNeat ns ds 0 (length ns) z new.signs) (sym is) (withdrawn-neat ns ds old.stages.items ys old.signs new.signs shown.1 shown.2 0 (length ns) (ran.neat ns ds laid));
+        neat = λ ns doc laid.
+            subst (λ z. AreNeat ns doc 0 (length ns) z new.signs) (sym is) (withdrawn-neat ns doc old.stages.items ys old.signs new.signs shown.1 shown.2 0 (length ns) (ran.neat ns doc laid));
       },
       ap (meaning t 0) is ∙ h.1,
     )

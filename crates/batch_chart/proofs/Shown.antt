@@ -9,8 +9,8 @@ use Rattle.batch_recipe.specs.Nodes.{node_count}
 use Rattle.batch_recipe.specs.Tree.{Step, Phase, Task, runs, follows, Tree, act, skip, seq, par, sel, loop, Trees, no_trees, tree, Choices, otherwise, choice}
 use Rattle.batch_model.specs.Rest.{Rest, open_act, done, is_done, acts}
 use Rattle.batch_model.specs.Moves.{is_empty}
-use Rattle.batch_chart.specs.declared.node.Node.{Node}
-use Rattle.batch_chart.specs.declared.node.Detail.{Detail}
+use Rattle.batch_recipe.specs.declared.entry.Entry.{Entry}
+use Rattle.batch_recipe.specs.declared.recipe.Recipe.{Recipe}
 use Rattle.batch_chart.specs.declared.stage.Stage.{Stage}
 use Rattle.batch_chart.specs.declared.stage.Stage.TheVariants.{Finished, Ready, Asking, Open, Live, Freeing, Turning}
 use Rattle.batch_chart.specs.Compiled.{Stands, StandsAct, AreStanding, AreChoices}
@@ -43,12 +43,12 @@ sign-append k (a ∷ l) r none = sign-append k l r (elim (nat_eq a.0 k) [ true �
 untold : (x : Stage) (r : Rest) → is_finished x ≡ false → r ≡ done → is_finished x ≡ is_done r → ⊥
 untold x r u e t = let f : ◌≡◌ {A = Bool} false true = sym u ∙ t ∙ ap is_done e in absurd (cc)
 
-module _ (ns : List Node) (ds : List Detail) (xs : List Stage) (signs : List ℕ) where
+module _ (ns : List Entry) (doc : Recipe) (xs : List Stage) (signs : List ℕ) where
   abbrev Shows : ℕ → ℕ → List (ℕ × Rest) → Type 0
   Shows n m l = (k : ℕ) → n ≤ k → k < m → sign_in k l 0 ≡ sign_at signs k
 
   -- nothing is shown where all is finished
-  nothing : (n m : ℕ) → ((k : ℕ) → n ≤ k → k < m → (d : Tree) × Stands ns ds k d) → AreNeat ns ds n m xs signs → AllFinished n m xs → (k : ℕ) → n ≤ k → k < m → sign_at signs k ≡ 0
+  nothing : (n m : ℕ) → ((k : ℕ) → n ≤ k → k < m → (d : Tree) × Stands ns doc k d) → AreNeat ns doc n m xs signs → AllFinished n m xs → (k : ℕ) → n ≤ k → k < m → sign_at signs k ≡ 0
   nothing n m sit h f k a b =
       let at = sit k a b in
       (h k at.0 a b at.1).shown ∙ ap (λ x. shown_of at.0 x (is_finished (stage_at xs (k + 1)))) (f k a b) ∙ finished-shows at.0 (is_finished (stage_at xs (k + 1)))
@@ -130,77 +130,77 @@ module _ (ns : List Node) (ds : List Detail) (xs : List Stage) (signs : List ℕ
   ]
 
   -- the first tree of a row, and what follows it
-  module _ (n m : ℕ) (c : Tree) (s : Stands ns ds n c) (le : n + node_count c ≤ m) (neat : AreNeat ns ds n m xs signs) where
+  module _ (n m : ℕ) (c : Tree) (s : Stands ns doc n c) (le : n + node_count c ≤ m) (neat : AreNeat ns doc n m xs signs) where
     pub own-neat : IsNeat ns c n xs signs
     own-neat = neat n c (omega arith) (omega (arith, le, count-pos c)) s
 
-    pub first-neat : AreNeat ns ds n (n + node_count c) xs signs
-    first-neat = neat-part ns ds n m n (n + node_count c) xs signs (omega arith) le neat
+    pub first-neat : AreNeat ns doc n (n + node_count c) xs signs
+    first-neat = neat-part ns doc n m n (n + node_count c) xs signs (omega arith) le neat
 
-    sit : (k : ℕ) → n ≤ k → k < n + node_count c → (d : Tree) × Stands ns ds k d
-    sit k a b = some-stands ns ds k c n s a b
+    sit : (k : ℕ) → n ≤ k → k < n + node_count c → (d : Tree) × Stands ns doc k d
+    sit k a b = some-stands ns doc k c n s a b
 
     zeros : is_finished (stage_at xs n) ≡ true → (k : ℕ) → n ≤ k → k < n + node_count c → sign_at signs k ≡ 0
-    zeros u = nothing n (n + node_count c) sit first-neat (neat-finished ns ds n c xs signs s own-neat (finished-stage (stage_at xs n) u))
+    zeros u = nothing n (n + node_count c) sit first-neat (neat-finished ns doc n c xs signs s own-neat (finished-stage (stage_at xs n) u))
 
     lone-later : IsLone ns n m xs → IsLone ns (n + node_count c) m xs
     lone-later h i a b root u k p q out =
         h i (omega arith) b
         (λ j v w. elim (cases_lt j (n + node_count c)) [
-          | inl lt ↦ (let y = nested ns ds j c n s v lt in omega arith)
+          | inl lt ↦ (let y = nested ns doc j c n s v lt in omega arith)
           | inr ge ↦ root j ge w
         ])
         u k (omega arith) q out
 
     lone-first : IsLone ns n m xs → is_finished (stage_at xs n) ≡ false → AllFinished (n + node_count c) m xs
     lone-first h u k a b =
-        h n (omega arith) (omega (arith, le, count-pos c)) (λ q v w. absurd (omega arith)) u k (omega arith) b (inr (omega (arith, a, (stood ns ds n c s).end)))
+        h n (omega arith) (omega (arith, le, count-pos c)) (λ q v w. absurd (omega arith)) u k (omega arith) b (inr (omega (arith, a, (stood ns doc n c s).end)))
 
-  zeros-below : (n m : ℕ) (c : Tree) → Stands ns ds n c → n + node_count c ≡ m → AreNeat ns ds n m xs signs → runs_below c (stage_at xs n) ≡ false → (k : ℕ) → n + 1 ≤ k → k < m → sign_at signs k ≡ 0
+  zeros-below : (n m : ℕ) (c : Tree) → Stands ns doc n c → n + node_count c ≡ m → AreNeat ns doc n m xs signs → runs_below c (stage_at xs n) ≡ false → (k : ℕ) → n + 1 ≤ k → k < m → sign_at signs k ≡ 0
   zeros-below n m c s e neat u =
-      nothing (n + 1) m (λ k a b. some-stands ns ds k c n s (omega arith) (omega (arith, e, b))) (neat-part ns ds n m (n + 1) m xs signs (omega arith) (omega arith) neat)
+      nothing (n + 1) m (λ k a b. some-stands ns doc k c n s (omega arith) (omega (arith, e, b))) (neat-part ns doc n m (n + 1) m xs signs (omega arith) (omega arith) neat)
       (λ k a b. (neat n c (omega arith) (omega (arith, e, count-pos c)) s).shut u k a (omega (arith, e, b)))
 
-  closed : (n m : ℕ) (c : Tree) → Stands ns ds n c → n + node_count c ≡ m → AreNeat ns ds n m xs signs → sign_at signs n ≡ 0 → runs_below c (stage_at xs n) ≡ false → Shows n m []
+  closed : (n m : ℕ) (c : Tree) → Stands ns doc n c → n + node_count c ≡ m → AreNeat ns doc n m xs signs → sign_at signs n ≡ 0 → runs_below c (stage_at xs n) ≡ false → Shows n m []
   closed n m c s e neat own u = empty n m (λ k a b. elim (eqb_tells n k) [
     | inl q ↦ ap (sign_at signs) (sym q.1) ∙ own
     | inr q ↦ let ne = q.1 in zeros-below n m c s e neat u k (omega arith) b
   ])
 
-  rise-in_each : (ts : Trees) (n m : ℕ) → AreStanding ns ds n m ts → RiseIn n m (numbered_each ts n xs)
-  rise-in_each ts n m h = subst (λ z. RiseIn n z (numbered_each ts n xs)) (sym (stood-each ns ds n m ts h)) (rise-each xs ts n)
+  rise-in_each : (ts : Trees) (n m : ℕ) → AreStanding ns doc n m ts → RiseIn n m (numbered_each ts n xs)
+  rise-in_each ts n m h = subst (λ z. RiseIn n z (numbered_each ts n xs)) (sym (stood-each ns doc n m ts h)) (rise-each xs ts n)
 
-  rise-in_branch : (ts : Trees) (n m : ℕ) → AreStanding ns ds n m ts → RiseIn n m (numbered_branch ts n xs)
-  rise-in_branch ts n m h = subst (λ z. RiseIn n z (numbered_branch ts n xs)) (sym (stood-each ns ds n m ts h)) (rise-branch xs ts n)
+  rise-in_branch : (ts : Trees) (n m : ℕ) → AreStanding ns doc n m ts → RiseIn n m (numbered_branch ts n xs)
+  rise-in_branch ts n m h = subst (λ z. RiseIn n z (numbered_branch ts n xs)) (sym (stood-each ns doc n m ts h)) (rise-branch xs ts n)
 
-  rise-in_chosen : (ch : Choices) (i n m : ℕ) → AreChoices ns ds i n m ch → RiseIn n m (numbered_chosen ch n xs)
-  rise-in_chosen ch i n m h = subst (λ z. RiseIn n z (numbered_chosen ch n xs)) (sym (stood-choices ns ds i n m ch h)) (rise-chosen xs ch n)
+  rise-in_chosen : (ch : Choices) (i n m : ℕ) → AreChoices ns doc i n m ch → RiseIn n m (numbered_chosen ch n xs)
+  rise-in_chosen ch i n m h = subst (λ z. RiseIn n z (numbered_chosen ch n xs)) (sym (stood-choices ns doc i n m ch h)) (rise-chosen xs ch n)
 
   mutual
-    pub link : (c : Tree) (n m : ℕ) → n + node_count c ≡ m → Stands ns ds n c → AreNeat ns ds n m xs signs → AreTold ns ds n m xs → Shows n m (numbered c n xs)
+    pub link : (c : Tree) (n m : ℕ) → n + node_count c ≡ m → Stands ns doc n c → AreNeat ns doc n m xs signs → AreTold ns doc n m xs → Shows n m (numbered c n xs)
     link (act s w) n m e h neat told = link-step s w n m e h neat told
     link skip n m e h neat told = closed n m skip h e neat (neat n skip (omega arith) (omega (arith, e)) h).shown refl
     link (seq ts) n m e h neat told =
         (let own = neat n (seq ts) (omega arith) (omega (arith, e)) h in
-        let row : AreStanding ns ds (n + 1) m ts = subst (λ z. AreStanding ns ds (n + 1) z ts) e h.1 in
+        let row : AreStanding ns doc (n + 1) m ts = subst (λ z. AreStanding ns doc (n + 1) z ts) e h.1 in
         shows-if n m (is_begun (stage_at xs n)) (numbered_branch ts (n + 1) xs) []
         (λ u. above n m (numbered_branch ts (n + 1) xs) (rise-in_branch ts (n + 1) m row) own.shown
-        (link-branch ts (n + 1) m row (neat-part ns ds n m (n + 1) m xs signs (omega arith) (omega arith) neat) (told-part ns ds n m (n + 1) m xs (omega arith) (omega arith) told)
+        (link-branch ts (n + 1) m row (neat-part ns doc n m (n + 1) m xs signs (omega arith) (omega arith) neat) (told-part ns doc n m (n + 1) m xs (omega arith) (omega arith) told)
         (subst (λ z. IsLone ns (n + 1) z xs) e (own.lone refl))))
         (closed n m (seq ts) h e neat own.shown))
     link (par ts) n m e h neat told =
         (let own = neat n (par ts) (omega arith) (omega (arith, e)) h in
-        let row : AreStanding ns ds (n + 1) m ts = subst (λ z. AreStanding ns ds (n + 1) z ts) e h.1 in
+        let row : AreStanding ns doc (n + 1) m ts = subst (λ z. AreStanding ns doc (n + 1) z ts) e h.1 in
         shows-if n m (is_begun (stage_at xs n)) (numbered_each ts (n + 1) xs) []
         (λ u. above n m (numbered_each ts (n + 1) xs) (rise-in_each ts (n + 1) m row) own.shown
-        (link-each ts (n + 1) m row (neat-part ns ds n m (n + 1) m xs signs (omega arith) (omega arith) neat) (told-part ns ds n m (n + 1) m xs (omega arith) (omega arith) told)))
+        (link-each ts (n + 1) m row (neat-part ns doc n m (n + 1) m xs signs (omega arith) (omega arith) neat) (told-part ns doc n m (n + 1) m xs (omega arith) (omega arith) told)))
         (closed n m (par ts) h e neat own.shown))
     link (sel ch) n m e h neat told =
         (let own = neat n (sel ch) (omega arith) (omega (arith, e)) h in
-        let row : AreChoices ns ds h.0 (n + 1) m ch = subst (λ z. AreChoices ns ds h.0 (n + 1) z ch) e h.2 in
+        let row : AreChoices ns doc h.0 (n + 1) m ch = subst (λ z. AreChoices ns doc h.0 (n + 1) z ch) e h.2 in
         shows-if n m (is_begun (stage_at xs n)) (numbered_chosen ch (n + 1) xs) []
         (λ u. above n m (numbered_chosen ch (n + 1) xs) (rise-in_chosen ch h.0 (n + 1) m row) own.shown
-        (link-chosen ch h.0 (n + 1) m row (neat-part ns ds n m (n + 1) m xs signs (omega arith) (omega arith) neat) (told-part ns ds n m (n + 1) m xs (omega arith) (omega arith) told)
+        (link-chosen ch h.0 (n + 1) m row (neat-part ns doc n m (n + 1) m xs signs (omega arith) (omega arith) neat) (told-part ns doc n m (n + 1) m xs (omega arith) (omega arith) told)
         (subst (λ z. IsLone ns (n + 1) z xs) e (own.lone refl))))
         (closed n m (sel ch) h e neat own.shown))
     link (loop i p body) n m e h neat told =
@@ -208,10 +208,10 @@ module _ (ns : List Node) (ds : List Detail) (xs : List Stage) (signs : List ℕ
         let f : n + 1 + node_count body ≡ m = omega (arith, e) in
         shows-in n m (turns_of (stage_at xs n)) (numbered body (n + 1) xs)
         (λ u. above n m (numbered body (n + 1) xs) (subst (λ z. RiseIn (n + 1) z (numbered body (n + 1) xs)) f (rise xs body (n + 1))) own.shown
-        (link body (n + 1) m f h.3 (neat-part ns ds n m (n + 1) m xs signs (omega arith) (omega arith) neat) (told-part ns ds n m (n + 1) m xs (omega arith) (omega arith) told)))
+        (link body (n + 1) m f h.3 (neat-part ns doc n m (n + 1) m xs signs (omega arith) (omega arith) neat) (told-part ns doc n m (n + 1) m xs (omega arith) (omega arith) told)))
         (closed n m (loop i p body) h e neat own.shown))
 
-    link-step : (s : Step) (w : Task) (n m : ℕ) → n + node_count (act s w) ≡ m → StandsAct ns ds n s w → AreNeat ns ds n m xs signs → AreTold ns ds n m xs → Shows n m (numbered (act s w) n xs)
+    link-step : (s : Step) (w : Task) (n m : ℕ) → n + node_count (act s w) ≡ m → StandsAct ns doc n s w → AreNeat ns doc n m xs signs → AreTold ns doc n m xs → Shows n m (numbered (act s w) n xs)
     link-step s (runs p) n m e h neat told =
         (let own = neat n (act s (runs p)) (omega arith) (omega (arith, e)) h in
         let t = told n (act s (runs p)) (omega arith) (omega (arith, e)) h in
@@ -226,49 +226,49 @@ module _ (ns : List Node) (ds : List Detail) (xs : List Stage) (signs : List ℕ
         (λ u. zeros-below n m (act s (follows name c)) h e neat u)
         (b.finished ∙ empty-done (meaning c (n + 1) xs) b.advanced)
         (subst (λ z. RiseIn (n + 1) z (numbered c (n + 1) xs)) f (rise xs c (n + 1)))
-        (link c (n + 1) m f h.1 (neat-part ns ds n m (n + 1) m xs signs (omega arith) (omega arith) neat) (told-part ns ds n m (n + 1) m xs (omega arith) (omega arith) told)))
+        (link c (n + 1) m f h.1 (neat-part ns doc n m (n + 1) m xs signs (omega arith) (omega arith) neat) (told-part ns doc n m (n + 1) m xs (omega arith) (omega arith) told)))
 
-    link-each : (ts : Trees) (n m : ℕ) → AreStanding ns ds n m ts → AreNeat ns ds n m xs signs → AreTold ns ds n m xs → Shows n m (numbered_each ts n xs)
+    link-each : (ts : Trees) (n m : ℕ) → AreStanding ns doc n m ts → AreNeat ns doc n m xs signs → AreTold ns doc n m xs → Shows n m (numbered_each ts n xs)
     link-each no_trees n m h neat told = λ k a b. absurd (omega (arith, h))
     link-each (tree c ts) n m h neat told =
-        (let le : n + node_count c ≤ m = omega (arith, stood-each ns ds (n + node_count c) m ts h.1) in
+        (let le : n + node_count c ≤ m = omega (arith, stood-each ns doc (n + node_count c) m ts h.1) in
         beside n (n + node_count c) m (numbered c n xs) (numbered_each ts (n + node_count c) xs) (omega arith) le (rise xs c n) (rise-in_each ts (n + node_count c) m h.1)
-        (link c n (n + node_count c) refl h.0 (neat-part ns ds n m n (n + node_count c) xs signs (omega arith) le neat) (told-part ns ds n m n (n + node_count c) xs (omega arith) le told))
-        (link-each ts (n + node_count c) m h.1 (neat-part ns ds n m (n + node_count c) m xs signs (omega arith) (omega arith) neat) (told-part ns ds n m (n + node_count c) m xs (omega arith) (omega arith) told)))
+        (link c n (n + node_count c) refl h.0 (neat-part ns doc n m n (n + node_count c) xs signs (omega arith) le neat) (told-part ns doc n m n (n + node_count c) xs (omega arith) le told))
+        (link-each ts (n + node_count c) m h.1 (neat-part ns doc n m (n + node_count c) m xs signs (omega arith) (omega arith) neat) (told-part ns doc n m (n + node_count c) m xs (omega arith) (omega arith) told)))
 
-    link-branch : (ts : Trees) (n m : ℕ) → AreStanding ns ds n m ts → AreNeat ns ds n m xs signs → AreTold ns ds n m xs → IsLone ns n m xs → Shows n m (numbered_branch ts n xs)
+    link-branch : (ts : Trees) (n m : ℕ) → AreStanding ns doc n m ts → AreNeat ns doc n m xs signs → AreTold ns doc n m xs → IsLone ns n m xs → Shows n m (numbered_branch ts n xs)
     link-branch no_trees n m h neat told lone = λ k a b. absurd (omega (arith, h))
     link-branch (tree c ts) n m h neat told lone =
-        (let le : n + node_count c ≤ m = omega (arith, stood-each ns ds (n + node_count c) m ts h.1) in
+        (let le : n + node_count c ≤ m = omega (arith, stood-each ns doc (n + node_count c) m ts h.1) in
         shows-if n m (is_finished (stage_at xs n)) (numbered_branch ts (n + node_count c) xs) (numbered c n xs)
         (λ u. after n (n + node_count c) m (numbered_branch ts (n + node_count c) xs) (zeros n m c h.0 le neat u) (rise-in_branch ts (n + node_count c) m h.1)
-        (link-branch ts (n + node_count c) m h.1 (neat-part ns ds n m (n + node_count c) m xs signs (omega arith) (omega arith) neat) (told-part ns ds n m (n + node_count c) m xs (omega arith) (omega arith) told)
+        (link-branch ts (n + node_count c) m h.1 (neat-part ns doc n m (n + node_count c) m xs signs (omega arith) (omega arith) neat) (told-part ns doc n m (n + node_count c) m xs (omega arith) (omega arith) told)
         (lone-later n m c h.0 le neat lone)))
         (λ u. before n (n + node_count c) m (numbered c n xs)
-        (nothing (n + node_count c) m (λ k a b. some-each ns ds k ts (n + node_count c) m h.1 a b) (neat-part ns ds n m (n + node_count c) m xs signs (omega arith) (omega arith) neat) (lone-first n m c h.0 le neat lone u))
+        (nothing (n + node_count c) m (λ k a b. some-each ns doc k ts (n + node_count c) m h.1 a b) (neat-part ns doc n m (n + node_count c) m xs signs (omega arith) (omega arith) neat) (lone-first n m c h.0 le neat lone u))
         (rise xs c n)
-        (link c n (n + node_count c) refl h.0 (neat-part ns ds n m n (n + node_count c) xs signs (omega arith) le neat) (told-part ns ds n m n (n + node_count c) xs (omega arith) le told))))
+        (link c n (n + node_count c) refl h.0 (neat-part ns doc n m n (n + node_count c) xs signs (omega arith) le neat) (told-part ns doc n m n (n + node_count c) xs (omega arith) le told))))
 
-    link-chosen : (ch : Choices) (i n m : ℕ) → AreChoices ns ds i n m ch → AreNeat ns ds n m xs signs → AreTold ns ds n m xs → IsLone ns n m xs → Shows n m (numbered_chosen ch n xs)
+    link-chosen : (ch : Choices) (i n m : ℕ) → AreChoices ns doc i n m ch → AreNeat ns doc n m xs signs → AreTold ns doc n m xs → IsLone ns n m xs → Shows n m (numbered_chosen ch n xs)
     link-chosen (otherwise c) i n m h neat told lone = link c n m h.1 h.0 neat told
     link-chosen (choice p c ch) i n m h neat told lone =
-        (let le : n + node_count c ≤ m = omega (arith, stood-choices ns ds (i + 1) (n + node_count c) m ch h.2) in
+        (let le : n + node_count c ≤ m = omega (arith, stood-choices ns doc (i + 1) (n + node_count c) m ch h.2) in
         shows-if n m (is_finished (stage_at xs n)) (numbered_chosen ch (n + node_count c) xs) (numbered c n xs)
         (λ u. after n (n + node_count c) m (numbered_chosen ch (n + node_count c) xs) (zeros n m c h.1 le neat u) (rise-in_chosen ch (i + 1) (n + node_count c) m h.2)
-        (link-chosen ch (i + 1) (n + node_count c) m h.2 (neat-part ns ds n m (n + node_count c) m xs signs (omega arith) (omega arith) neat) (told-part ns ds n m (n + node_count c) m xs (omega arith) (omega arith) told)
+        (link-chosen ch (i + 1) (n + node_count c) m h.2 (neat-part ns doc n m (n + node_count c) m xs signs (omega arith) (omega arith) neat) (told-part ns doc n m (n + node_count c) m xs (omega arith) (omega arith) told)
         (lone-later n m c h.1 le neat lone)))
         (λ u. before n (n + node_count c) m (numbered c n xs)
-        (nothing (n + node_count c) m (λ k a b. some-choices ns ds k ch (i + 1) (n + node_count c) m h.2 a b) (neat-part ns ds n m (n + node_count c) m xs signs (omega arith) (omega arith) neat) (lone-first n m c h.1 le neat lone u))
+        (nothing (n + node_count c) m (λ k a b. some-choices ns doc k ch (i + 1) (n + node_count c) m h.2 a b) (neat-part ns doc n m (n + node_count c) m xs signs (omega arith) (omega arith) neat) (lone-first n m c h.1 le neat lone u))
         (rise xs c n)
-        (link c n (n + node_count c) refl h.1 (neat-part ns ds n m n (n + node_count c) xs signs (omega arith) le neat) (told-part ns ds n m n (n + node_count c) xs (omega arith) le told))))
+        (link c n (n + node_count c) refl h.1 (neat-part ns doc n m n (n + node_count c) xs signs (omega arith) le neat) (told-part ns doc n m n (n + node_count c) xs (omega arith) le told))))
 
   -- the signs of a chart that lives are those of its acts
-  pub noted : (t : Tree) → IsLaid ns ds t → IsAlive t xs → length signs ≡ node_count t → AreNeat ns ds 0 (length ns) xs signs → AreNoted t xs signs
+  pub noted : (t : Tree) → IsLaid ns doc t → IsAlive t xs → length signs ≡ node_count t → AreNeat ns doc 0 (length ns) xs signs → AreNoted t xs signs
   noted t laid alive count neat =
       record {
         count = count;
         shown = λ k. elim (cases_lt k (length ns)) [
-          | inl lt ↦ sym (link t 0 (length ns) (omega (arith, laid.count)) laid.stands neat (all-told ns ds t laid xs alive) k (omega arith) lt)
+          | inl lt ↦ sym (link t 0 (length ns) (omega (arith, laid.count)) laid.stands neat (all-told ns doc t laid xs alive) k (omega arith) lt)
           | inr le ↦ get_or_past {X = ℕ} signs k 0 (omega (arith, laid.count, count)) ∙ sym (sign-after k 0 (0 + node_count t) (numbered t 0 xs) 0 (rise xs t 0) (omega (arith, laid.count)))
         ];
       }

@@ -16,10 +16,10 @@ use Rattle.batch_model.specs.Moves.{is_empty}
 use Rattle.batch_model.proofs.Members.{Has-split}
 use Rattle.batch_model.specs.Plant.{Batch, phase_states}
 use Rattle.batch_model.specs.Rest.{same_place, Rest, ready, asking, open_act, live, freeing, in_seq, in_par, in_loop, done, acts, is_done, place_of}
-use Rattle.batch_chart.specs.declared.node.Node.{Node}
+use Rattle.batch_recipe.specs.declared.entry.Entry.{Entry}
 use Rattle.batch_chart.specs.declared.node.Kind.{Kind}
 use Rattle.batch_chart.specs.declared.node.Kind.TheVariants as kind
-use Rattle.batch_chart.specs.declared.node.Detail.{Detail}
+use Rattle.batch_recipe.specs.declared.recipe.Recipe.{Recipe}
 use Rattle.batch_chart.specs.declared.stage.Stage.{Stage}
 use Rattle.batch_chart.specs.declared.stage.Stage.TheVariants as stage
 use Rattle.batch_chart.specs.declared.wanted.Wanted.TheVariants as wanted
@@ -108,48 +108,48 @@ unfit kind.Par s w e h = h
 unfit (kind.Sel i) s w e h = h
 unfit (kind.Loop i j) s w e h = h
 
-module _ (ns : List Node) (ds : List Detail) (xs : List Stage) where
+module _ (ns : List Entry) (doc : Recipe) (xs : List Stage) where
   -- a numbered act is as the stage of its node says
   abbrev IsStaged : ℕ × Rest → Type 0
   IsStaged e = (e.0 < length ns) × ((s : Step) × (w : Task) × (r : Rest) × (e.1 ≡ act_as s w r (stage_at xs e.0)))
 
-  within : (n : ℕ) (s : Step) (w : Task) → StandsAct ns ds n s w → n < length ns
+  within : (n : ℕ) (s : Step) (w : Task) → StandsAct ns doc n s w → n < length ns
   within n s (runs p) h = h.1.0
   within n s (follows name c) h = h.0.0
 
   mutual
-    staged : (c : Tree) (n : ℕ) (e : ℕ × Rest) → Stands ns ds n c → Has (numbered c n xs) e → IsStaged e
-    staged (act s w) n e g h = elim (has-entry [] ns ds xs n s w (meaning_below w (n + 1) xs) (stage_at xs n) (numbered_below w (n + 1) xs) e h) [
+    staged : (c : Tree) (n : ℕ) (e : ℕ × Rest) → Stands ns doc n c → Has (numbered c n xs) e → IsStaged e
+    staged (act s w) n e g h = elim (has-entry [] ns doc xs n s w (meaning_below w (n + 1) xs) (stage_at xs n) (numbered_below w (n + 1) xs) e h) [
       | inl f ↦ subst IsStaged (sym f) (within n s w g, (s, w, meaning_below w (n + 1) xs, refl))
       | inr f ↦ staged_below s w n e g f
     ]
     staged skip n e g h = absurd h
-    staged (seq ts) n e g h = staged_branch ts (n + 1) (n + node_count (seq ts)) e g.1 (if-begun [] ns ds xs (is_begun (stage_at xs n)) (numbered_branch ts (n + 1) xs) e h)
-    staged (par ts) n e g h = staged_each ts (n + 1) (n + node_count (par ts)) e g.1 (if-begun [] ns ds xs (is_begun (stage_at xs n)) (numbered_each ts (n + 1) xs) e h)
-    staged (sel ch) n e g h = staged_chosen ch g.0 (n + 1) (n + node_count (sel ch)) e g.2 (if-begun [] ns ds xs (is_begun (stage_at xs n)) (numbered_chosen ch (n + 1) xs) e h)
-    staged (loop i p body) n e g h = staged body (n + 1) e g.3 (if-turning [] ns ds xs (turns_of (stage_at xs n)) (numbered body (n + 1) xs) e h)
+    staged (seq ts) n e g h = staged_branch ts (n + 1) (n + node_count (seq ts)) e g.1 (if-begun [] ns doc xs (is_begun (stage_at xs n)) (numbered_branch ts (n + 1) xs) e h)
+    staged (par ts) n e g h = staged_each ts (n + 1) (n + node_count (par ts)) e g.1 (if-begun [] ns doc xs (is_begun (stage_at xs n)) (numbered_each ts (n + 1) xs) e h)
+    staged (sel ch) n e g h = staged_chosen ch g.0 (n + 1) (n + node_count (sel ch)) e g.2 (if-begun [] ns doc xs (is_begun (stage_at xs n)) (numbered_chosen ch (n + 1) xs) e h)
+    staged (loop i p body) n e g h = staged body (n + 1) e g.3 (if-turning [] ns doc xs (turns_of (stage_at xs n)) (numbered body (n + 1) xs) e h)
 
-    staged_below : (s : Step) (w : Task) (n : ℕ) (e : ℕ × Rest) → StandsAct ns ds n s w → Has (numbered_below w (n + 1) xs) e → IsStaged e
+    staged_below : (s : Step) (w : Task) (n : ℕ) (e : ℕ × Rest) → StandsAct ns doc n s w → Has (numbered_below w (n + 1) xs) e → IsStaged e
     staged_below s (runs p) n e g h = absurd h
     staged_below s (follows name c) n e g h = staged c (n + 1) e g.1 h
 
-    staged_each : (ts : Trees) (n m : ℕ) (e : ℕ × Rest) → AreStanding ns ds n m ts → Has (numbered_each ts n xs) e → IsStaged e
+    staged_each : (ts : Trees) (n m : ℕ) (e : ℕ × Rest) → AreStanding ns doc n m ts → Has (numbered_each ts n xs) e → IsStaged e
     staged_each no_trees n m e g h = absurd h
     staged_each (tree c ts) n m e g h = elim (Has-split (numbered c n xs) (numbered_each ts (n + node_count c) xs) e h) [
       | inl f ↦ staged c n e g.0 f
       | inr f ↦ staged_each ts (n + node_count c) m e g.1 f
     ]
 
-    staged_branch : (ts : Trees) (n m : ℕ) (e : ℕ × Rest) → AreStanding ns ds n m ts → Has (numbered_branch ts n xs) e → IsStaged e
+    staged_branch : (ts : Trees) (n m : ℕ) (e : ℕ × Rest) → AreStanding ns doc n m ts → Has (numbered_branch ts n xs) e → IsStaged e
     staged_branch no_trees n m e g h = absurd h
-    staged_branch (tree c ts) n m e g h = elim (either [] ns ds xs (is_finished (stage_at xs n)) (numbered_branch ts (n + node_count c) xs) (numbered c n xs) e h) [
+    staged_branch (tree c ts) n m e g h = elim (either [] ns doc xs (is_finished (stage_at xs n)) (numbered_branch ts (n + node_count c) xs) (numbered c n xs) e h) [
       | inl f ↦ staged_branch ts (n + node_count c) m e g.1 f
       | inr f ↦ staged c n e g.0 f
     ]
 
-    staged_chosen : (ch : Choices) (d n m : ℕ) (e : ℕ × Rest) → AreChoices ns ds d n m ch → Has (numbered_chosen ch n xs) e → IsStaged e
+    staged_chosen : (ch : Choices) (d n m : ℕ) (e : ℕ × Rest) → AreChoices ns doc d n m ch → Has (numbered_chosen ch n xs) e → IsStaged e
     staged_chosen (otherwise c) d n m e g h = staged c n e g.0 h
-    staged_chosen (choice p c ch) d n m e g h = elim (either [] ns ds xs (is_finished (stage_at xs n)) (numbered_chosen ch (n + node_count c) xs) (numbered c n xs) e h) [
+    staged_chosen (choice p c ch) d n m e g h = elim (either [] ns doc xs (is_finished (stage_at xs n)) (numbered_chosen ch (n + node_count c) xs) (numbered c n xs) e h) [
       | inl f ↦ staged_chosen ch (d + 1) (n + node_count c) m e g.2 f
       | inr f ↦ staged c n e g.1 f
     ]
@@ -194,28 +194,28 @@ module _ (ns : List Node) (ds : List Detail) (xs : List Stage) where
     mapped-states c = ap phase_states (numbered-acts xs c n)
 
     -- whether a state is among them is told by finding it
-    found-among : (y : State) (o : Option ℕ) (c : Tree) → IsFirst ns ds n xs (wanted.In y) o → Stands ns ds n c → is_among (states_in c) y ≡ is_some o
+    found-among : (y : State) (o : Option ℕ) (c : Tree) → IsFirst ns doc n xs (wanted.In y) o → Stands ns doc n c → is_among (states_in c) y ≡ is_some o
     found-among y o c found h =
         not-not (is_among (states_in c) y) (is_some o)
         (sym (ap (λ l. not (is_among l y)) (mapped-states c)) ∙ sym (in-live y (numbered c n xs)) ∙ ap nothing (sym (found.means c h)) ∙ some-nothing o)
 
-    pub shown-none : IsFirstShown ns ds n xs [] None
+    pub shown-none : IsFirstShown ns doc n xs [] None
     shown-none = record { means = λ c h. refl }
 
-    pub shown-here : (y : State) (later : List State) (o : Option ℕ) → is_some o ≡ true → IsFirst ns ds n xs (wanted.In y) o → IsFirstShown ns ds n xs (y ∷ later) (Some y)
+    pub shown-here : (y : State) (later : List State) (o : Option ℕ) → is_some o ≡ true → IsFirst ns doc n xs (wanted.In y) o → IsFirstShown ns doc n xs (y ∷ later) (Some y)
     shown-here y later o e found = record { means = λ c h. sym (ap (λ b. cond b (Some y) (find (is_among (states_in c)) later)) (found-among y o c found h ∙ e)) }
 
-    pub shown-later : (y : State) (later : List State) (o : Option ℕ) (result : Option State) → is_some o ≡ false → IsFirst ns ds n xs (wanted.In y) o → IsFirstShown ns ds n xs later result
-        → IsFirstShown ns ds n xs (y ∷ later) result
+    pub shown-later : (y : State) (later : List State) (o : Option ℕ) (result : Option State) → is_some o ≡ false → IsFirst ns doc n xs (wanted.In y) o → IsFirstShown ns doc n xs later result
+        → IsFirstShown ns doc n xs (y ∷ later) result
     shown-later y later o result e found rest =
         record { means = λ c h. rest.means c h ∙ sym (ap (λ b. cond b (Some y) (find (is_among (states_in c)) later)) (found-among y o c found h ∙ e)) }
 
-    pub here-first : (y : State) (later states : List State) (o : Option ℕ) → states ≡ y ∷ later → true ≡ is_some o → IsFirst ns ds n xs (wanted.In y) o → IsFirstShown ns ds n xs states (Some y)
-    here-first y later states o is e found = subst (λ l. IsFirstShown ns ds n xs l (Some y)) (sym is) (shown-here y later o (sym e) found)
+    pub here-first : (y : State) (later states : List State) (o : Option ℕ) → states ≡ y ∷ later → true ≡ is_some o → IsFirst ns doc n xs (wanted.In y) o → IsFirstShown ns doc n xs states (Some y)
+    here-first y later states o is e found = subst (λ l. IsFirstShown ns doc n xs l (Some y)) (sym is) (shown-here y later o (sym e) found)
 
-    pub later-first : (y : State) (later states : List State) (o : Option ℕ) (result : Option State) → states ≡ y ∷ later → false ≡ is_some o → IsFirst ns ds n xs (wanted.In y) o
-        → IsFirstShown ns ds n xs later result → IsFirstShown ns ds n xs states result
-    later-first y later states o result is e found rest = subst (λ l. IsFirstShown ns ds n xs l result) (sym is) (shown-later y later o result (sym e) found rest)
+    pub later-first : (y : State) (later states : List State) (o : Option ℕ) (result : Option State) → states ≡ y ∷ later → false ≡ is_some o → IsFirst ns doc n xs (wanted.In y) o
+        → IsFirstShown ns doc n xs later result → IsFirstShown ns doc n xs states result
+    later-first y later states o result is e found rest = subst (λ l. IsFirstShown ns doc n xs l result) (sym is) (shown-later y later o result (sym e) found rest)
 
     -- nothing is live
 
@@ -223,16 +223,16 @@ module _ (ns : List Node) (ds : List Detail) (xs : List Stage) where
     no-states [] e = refl
     no-states (x ∷ l) e = absurd (cc)
 
-    pub shows-batch : (x : State) → IsFirst ns ds n xs wanted.Live None → IsShown ns ds n xs x x
+    pub shows-batch : (x : State) → IsFirst ns doc n xs wanted.Live None → IsShown ns doc n xs x x
     shows-batch x found = record {
       means = λ c h.
           sym (ap (shown_by x) (no-states (states_in c) (ap nothing (found.means c h) ∙ no-live (numbered c n xs) ∙ ap is_empty (mapped-states c))));
     }
 
-    live-at : (k : ℕ) → IsFirst ns ds n xs wanted.Live (Some k) → (c : Tree) → Stands ns ds n c → IsFirstLive (numbered c n xs) k
+    live-at : (k : ℕ) → IsFirst ns doc n xs wanted.Live (Some k) → (c : Tree) → Stands ns doc n c → IsFirstLive (numbered c n xs) k
     live-at k found c h = first-live (numbered c n xs) (λ e m. staged c n e h m) k (found.means c h)
 
-    gravest-of : (x : State) (k : ℕ) (o : Option State) (c : Tree) → Stands ns ds n c → IsFirstShown ns ds n xs gravest_states o → (h : IsFirstLive (numbered c n xs) k)
+    gravest-of : (x : State) (k : ℕ) (o : Option State) (c : Tree) → Stands ns doc n c → IsFirstShown ns doc n xs gravest_states o → (h : IsFirstLive (numbered c n xs) k)
         → shown_by x (states_in c) ≡ elim o as (λ _. State) [ Some w ↦ w | None ↦ h.own ]
     gravest-of x k o c s first h =
         let e : states_in c ≡ h.own ∷ h.others = sym (mapped-states c) ∙ h.states in
@@ -240,18 +240,18 @@ module _ (ns : List Node) (ds : List Detail) (xs : List Stage) where
         ∙ ap (λ l. elim (find (is_among l) gravest_states) as (λ _. State) [ Some w ↦ w | None ↦ h.own ]) (sym e)
         ∙ ap (λ z. elim z as (λ _. State) [ Some w ↦ w | None ↦ h.own ]) (sym (first.means c s))
 
-    pub shows-grave : (x y : State) (k : ℕ) → IsFirst ns ds n xs wanted.Live (Some k) → IsFirstShown ns ds n xs gravest_states (Some y) → IsShown ns ds n xs x y
+    pub shows-grave : (x y : State) (k : ℕ) → IsFirst ns doc n xs wanted.Live (Some k) → IsFirstShown ns doc n xs gravest_states (Some y) → IsShown ns doc n xs x y
     shows-grave x y k found first = record { means = λ c h. sym (gravest-of x k (Some y) c h first (live-at k found c h)) }
 
     live-own : (x y : State) → stage.Live x ≡ stage.Live y → x ≡ y
     live-own x y e = cc
 
-    pub shows-own : (x y : State) (k : ℕ) → IsFirst ns ds n xs wanted.Live (Some k) → IsFirstShown ns ds n xs gravest_states None → stage_at xs k ≡ stage.Live y → IsShown ns ds n xs x y
+    pub shows-own : (x y : State) (k : ℕ) → IsFirst ns doc n xs wanted.Live (Some k) → IsFirstShown ns doc n xs gravest_states None → stage_at xs k ≡ stage.Live y → IsShown ns doc n xs x y
     shows-own x y k found first e = record {
       means = λ c h. (let l = live-at k found c h in live-own y l.own (sym e ∙ l.staged) ∙ sym (gravest-of x k None c h first l));
     }
 
-    pub live-is : (k : ℕ) → IsCompiled ns ds xs n → IsFirst ns ds n xs wanted.Live (Some k) → (k < length xs) × ((y : State) × (stage_at xs k ≡ stage.Live y))
+    pub live-is : (k : ℕ) → IsCompiled ns doc xs n → IsFirst ns doc n xs wanted.Live (Some k) → (k < length xs) × ((y : State) × (stage_at xs k ≡ stage.Live y))
     live-is k compiled found = (let l = live-at k found compiled.1.0 compiled.1.1 in (subst (λ z. k < z) (sym compiled.0) l.within, (l.own, l.staged)))
 
   -- The act at a node
@@ -272,9 +272,9 @@ module _ (ns : List Node) (ds : List Detail) (xs : List Stage) where
   some-node (sel ch) = omega arith
   some-node (loop i p body) = omega arith
 
-  module _ (t : Tree) (laid : IsLaid ns ds t) where
+  module _ (t : Tree) (laid : IsLaid ns doc t) where
     same-number : (j k : ℕ) → j < length ns → k < length ns → same_place (place_at t j) (place_at t k) ≡ nat_eq j k
-    same-number j k l m = told (nodes_of t) (in_order (0 ∷ []) [] t).1 k (node_at t k) (node-got ns ds t laid k m) j (node_at t j) (node-got ns ds t laid j l)
+    same-number j k l m = told (nodes_of t) (in_order (0 ∷ []) [] t).1 k (node_at t k) (node-got ns doc t laid k m) j (node_at t j) (node-got ns doc t laid j l)
 
     is-root : (k : ℕ) → k < length ns → same_place (place_at t k) root ≡ nat_eq k 0
     is-root k lt = sym (ap (same_place (place_at t k)) (root-place t laid.root)) ∙ same-number k 0 lt (omega (arith, laid.count, some-node t))
@@ -316,9 +316,9 @@ module _ (ns : List Node) (ds : List Detail) (xs : List Stage) where
 
     numbered-there : (k : ℕ) → k < length ns → (e : ℕ × Rest) → Has (numbered t 0 xs) e → (there (place_at t k) e.1 ≡ nat_eq e.0 k) × (wants (wanted.At k) e.0 e.1 ≡ nat_eq e.0 k)
     numbered-there k lt e h =
-        let g = known ns ds xs t laid e h in
+        let g = known ns doc xs t laid e h in
         let any : wants wanted.Any e.0 e.1 ≡ true = all-has (acts (meaning t 0 xs)) e.1 (acts-all (meaning t 0 xs)) g.among e.0 in
-        let un : is_done (act_as g.step g.task (meaning_below g.task (e.0 + 1) xs) (stage_at xs e.0)) ≡ false = ap is_done (sym g.is) ∙ entry-undone ns ds t laid xs e g.among in
+        let un : is_done (act_as g.step g.task (meaning_below g.task (e.0 + 1) xs) (stage_at xs e.0)) ≡ false = ap is_done (sym g.is) ∙ entry-undone ns doc t laid xs e g.among in
         let placed : place_of e.1 ≡ place_at t e.0 = ap place_of g.is ∙ act-place g.step g.task (meaning_below g.task (e.0 + 1) xs) (stage_at xs e.0) un ∙ sym g.place in
         (ap (λ q. same_place q (place_at t k)) placed ∙ same-number e.0 k g.within lt, wants-at e.1 e.0 k any)
 
@@ -326,9 +326,9 @@ module _ (ns : List Node) (ds : List Detail) (xs : List Stage) where
     step-at : (k : ℕ) → k < length ns → unreached (find (λ (s : Step). same_place s.place (place_at t k)) (steps t)) ≡ unreached (step_in (node_at t k))
     step-at k lt =
         ap (λ l. unreached (find (λ (s : Step). same_place s.place (place_at t k)) l)) (steps-of t (0 ∷ []) [])
-        ∙ step-found (nodes_of t) k (node_at t k) (in_order (0 ∷ []) [] t).1 (carries t (0 ∷ []) [] laid.placed) (node-got ns ds t laid k lt)
+        ∙ step-found (nodes_of t) k (node_at t k) (in_order (0 ∷ []) [] t).1 (carries t (0 ∷ []) [] laid.placed) (node-got ns doc t laid k lt)
 
-    shown-kind : (k : ℕ) (c : Tree) → Stands ns ds k c → unreached (own_step c) ≡ elim (is_act_kind (kind_at ns k)) as (λ _. Option State) [ true ↦ Some Idle | false ↦ None ]
+    shown-kind : (k : ℕ) (c : Tree) → Stands ns doc k c → unreached (own_step c) ≡ elim (is_act_kind (kind_at ns k)) as (λ _. Option State) [ true ↦ Some Idle | false ↦ None ]
     shown-kind k (act s (runs p)) h = sym (ap (λ z. elim (is_act_kind z) as (λ _. Option State) [ true ↦ Some Idle | false ↦ None ]) h.1.1)
     shown-kind k (act s (follows name c)) h = sym (ap (λ z. elim (is_act_kind z) as (λ _. Option State) [ true ↦ Some Idle | false ↦ None ]) h.0.1)
     shown-kind k skip h = sym (ap (λ z. elim (is_act_kind z) as (λ _. Option State) [ true ↦ Some Idle | false ↦ None ]) h.1)
@@ -375,17 +375,17 @@ module _ (ns : List Node) (ds : List Detail) (xs : List Stage) where
         where
           go : Looked k (numbered t 0 xs) → seen_by (find (there (place_at t k)) (map (λ (z : ℕ × Rest). z.1) (numbered t 0 xs))) ≡ None
           go (inl h) =
-              ap seen_by h.1 ∙ shown-kind k (node_at t k).here (node-stands ns ds t laid k lt)
+              ap seen_by h.1 ∙ shown-kind k (node_at t k).here (node-stands ns doc t laid k lt)
               ∙ ap (λ q. elim q as (λ _. Option State) [ true ↦ Some Idle | false ↦ None ]) f
-          go (inr h) = (let g = known ns ds xs t laid (k, h.0) h.1 in absurd (unfit (kind_at ns k) g.step g.task f g.fits))
+          go (inr h) = (let g = known ns doc xs t laid (k, h.0) h.1 in absurd (unfit (kind_at ns k) g.step g.task f g.fits))
 
       -- the act isn't reached, or is finished
-      pub not-reached : k ≢ 0 → is_act_kind (kind_at ns k) ≡ true → IsFoundFirst ns ds xs (wanted.At k) None → state_in b (place_at t k) ≡ Some Idle
+      pub not-reached : k ≢ 0 → is_act_kind (kind_at ns k) ≡ true → IsFoundFirst ns doc xs (wanted.At k) None → state_in b (place_at t k) ≡ Some Idle
       not-reached ne f found = below-root ne ∙ go now-looked
         where
           go : Looked k (numbered t 0 xs) → seen_by (find (there (place_at t k)) (map (λ (z : ℕ × Rest). z.1) (numbered t 0 xs))) ≡ Some Idle
           go (inl h) =
-              ap seen_by h.1 ∙ shown-kind k (node_at t k).here (node-stands ns ds t laid k lt)
+              ap seen_by h.1 ∙ shown-kind k (node_at t k).here (node-stands ns doc t laid k lt)
               ∙ ap (λ q. elim q as (λ _. Option State) [ true ↦ Some Idle | false ↦ None ]) f
           go (inr h) = absurd (let q : None ≡ Some k = found.means t laid ∙ h.2 in cc)
 
@@ -393,23 +393,23 @@ module _ (ns : List Node) (ds : List Detail) (xs : List Stage) where
       pub record IsReachedAct : Type 0 where
         pub step : Step
         pub task : Task
-        pub stands : Stands ns ds k (act step task)
+        pub stands : Stands ns doc k (act step task)
         pub some : is_done (act_as step task (meaning_below task (k + 1) xs) (stage_at xs k)) ≡ false
         pub seen : k ≢ 0 → state_in b (place_at t k) ≡ Some (act_state b.state (act_as step task (meaning_below task (k + 1) xs) (stage_at xs k)))
 
-      pub reached : (j : ℕ) → IsFoundFirst ns ds xs (wanted.At k) (Some j) → IsReachedAct
+      pub reached : (j : ℕ) → IsFoundFirst ns doc xs (wanted.At k) (Some j) → IsReachedAct
       reached j found = go now-looked
         where
           go : Looked k (numbered t 0 xs) → IsReachedAct
           go (inl h) = absurd (let q : Some j ≡ None = found.means t laid ∙ h.0 in cc)
           go (inr h) =
-              let g = entry-at ns ds t laid xs (k, h.0) h.1 in
-              let f = known ns ds xs t laid (k, h.0) h.1 in
+              let g = entry-at ns doc t laid xs (k, h.0) h.1 in
+              let f = known ns doc xs t laid (k, h.0) h.1 in
               record {
                 step = g.step;
                 task = g.task;
                 stands = g.stands;
-                some = ap is_done (sym g.is) ∙ entry-undone ns ds t laid xs (k, h.0) f.among;
+                some = ap is_done (sym g.is) ∙ entry-undone ns doc t laid xs (k, h.0) f.among;
                 seen = λ ne. below-root ne ∙ ap seen_by h.3 ∙ ap (λ a. Some (act_state b.state a)) g.is;
               }
 
@@ -430,19 +430,19 @@ module _ (ns : List Node) (ds : List Detail) (xs : List Stage) where
   shows-idle s w r (stage.Turning h) z e f g = absurd (cc)
 
   module _ (k : ℕ) where
-    shows-open : (s : Step) (w : Task) (z : State) → Stands ns ds k (act s w) → is_done (act_as s w (meaning_below w (k + 1) xs) stage.Open) ≡ false
-        → (y : State) → IsShown ns ds (k + 1) xs z y → act_state z (act_as s w (meaning_below w (k + 1) xs) stage.Open) ≡ y
+    shows-open : (s : Step) (w : Task) (z : State) → Stands ns doc k (act s w) → is_done (act_as s w (meaning_below w (k + 1) xs) stage.Open) ≡ false
+        → (y : State) → IsShown ns doc (k + 1) xs z y → act_state z (act_as s w (meaning_below w (k + 1) xs) stage.Open) ≡ y
     shows-open s (runs p) z g e y h = absurd (cc)
     shows-open s (follows name c) z g e y h = sym (h.means c g.1)
 
-    below-stands : (s : Step) (w : Task) → Stands ns ds k (act s w) → is_done (act_as s w (meaning_below w (k + 1) xs) stage.Open) ≡ false → (c : Tree) × Stands ns ds (k + 1) c
+    below-stands : (s : Step) (w : Task) → Stands ns doc k (act s w) → is_done (act_as s w (meaning_below w (k + 1) xs) stage.Open) ≡ false → (c : Tree) × Stands ns doc (k + 1) c
     below-stands s (runs p) g e = absurd (cc)
     below-stands s (follows name c) g e = (c, g.1)
 
     abbrev At : Stage → Type 0
     At x = stage_at xs k ≡ x
 
-    pub below-compiled : (o : Option ℕ) → SomeLives ns ds xs → k < length ns → is_some o ≡ true → IsFoundFirst ns ds xs (wanted.At k) o → At stage.Open → IsCompiled ns ds xs (k + 1)
+    pub below-compiled : (o : Option ℕ) → SomeLives ns doc xs → k < length ns → is_some o ≡ true → IsFoundFirst ns doc xs (wanted.At k) o → At stage.Open → IsCompiled ns doc xs (k + 1)
     below-compiled None lives lt e found began = absurd (cc)
     below-compiled (Some j) lives lt e found began =
         let r = reached lives.0 lives.1 (some_batch lives.0 Idle (meaning lives.0 0 xs)) k lt refl refl j found in (
@@ -452,10 +452,10 @@ module _ (ns : List Node) (ds : List Detail) (xs : List Stage) where
 
     -- the whole answer, at the root and below it
     module _ (x : State) where
-      only-within : (result : Option State) → k < length ns → (t : Tree) → IsLaid ns ds t → node_count t ≤ k → result ≡ None
+      only-within : (result : Option State) → k < length ns → (t : Tree) → IsLaid ns doc t → node_count t ≤ k → result ≡ None
       only-within result lt t laid le = absurd (omega (arith, lt, le, laid.count))
 
-      pub state-root : k ≡ 0 → SomeLives ns ds xs → IsStateAt ns ds xs k x (Some x)
+      pub state-root : k ≡ 0 → SomeLives ns doc xs → IsStateAt ns doc xs k x (Some x)
       state-root e lives =
           let lt : k < length ns = omega (arith, e, lives.1.count, some-node lives.0) in
           record {
@@ -463,21 +463,21 @@ module _ (ns : List Node) (ds : List Detail) (xs : List Stage) where
             past = only-within (Some x) lt;
           }
 
-      pub state-past : length ns ≤ k → IsStateAt ns ds xs k x None
+      pub state-past : length ns ≤ k → IsStateAt ns doc xs k x None
       state-past le = record { means = λ t b laid alive m f g r. absurd (omega (arith, le, m, laid.count)); past = λ t laid m. refl }
 
       module _ (ne : k ≢ 0) (lt : k < length ns) where
-        pub state-none : false ≡ is_act_kind (kind_at ns k) → IsStateAt ns ds xs k x None
+        pub state-none : false ≡ is_act_kind (kind_at ns k) → IsStateAt ns doc xs k x None
         state-none e = record { means = λ t b laid alive m f g r. sym (no-act t laid b k lt f r ne (sym e)); past = λ t laid m. refl }
 
-        pub state-idle : (o : Option ℕ) → is_some o ≡ false → true ≡ is_act_kind (kind_at ns k) → IsFoundFirst ns ds xs (wanted.At k) o → IsStateAt ns ds xs k x (Some Idle)
+        pub state-idle : (o : Option ℕ) → is_some o ≡ false → true ≡ is_act_kind (kind_at ns k) → IsFoundFirst ns doc xs (wanted.At k) o → IsStateAt ns doc xs k x (Some Idle)
         state-idle (Some j) e f found = absurd (cc)
         state-idle None e f found = record {
           means = λ t b laid alive m h g r. sym (not-reached t laid b k lt h r ne (sym f) found);
           past = only-within (Some Idle) lt;
         }
 
-        pub state-live : (o : Option ℕ) (y : State) → is_some o ≡ true → IsFoundFirst ns ds xs (wanted.At k) o → At (stage.Live y) → IsStateAt ns ds xs k x (Some y)
+        pub state-live : (o : Option ℕ) (y : State) → is_some o ≡ true → IsFoundFirst ns doc xs (wanted.At k) o → At (stage.Live y) → IsStateAt ns doc xs k x (Some y)
         state-live None y e found stays = absurd (cc)
         state-live (Some j) y e found stays = record {
           means = λ t b laid alive m f g r.
@@ -487,7 +487,7 @@ module _ (ns : List Node) (ds : List Detail) (xs : List Stage) where
           past = only-within (Some y) lt;
         }
 
-        pub state-open : (o : Option ℕ) (y : State) → is_some o ≡ true → IsFoundFirst ns ds xs (wanted.At k) o → At stage.Open → IsShown ns ds (k + 1) xs x y → IsStateAt ns ds xs k x (Some y)
+        pub state-open : (o : Option ℕ) (y : State) → is_some o ≡ true → IsFoundFirst ns doc xs (wanted.At k) o → At stage.Open → IsShown ns doc (k + 1) xs x y → IsStateAt ns doc xs k x (Some y)
         state-open None y e found began shown = absurd (cc)
         state-open (Some j) y e found began shown = record {
           means = λ t b laid alive m f g r.
@@ -497,7 +497,7 @@ module _ (ns : List Node) (ds : List Detail) (xs : List Stage) where
           past = only-within (Some y) lt;
         }
 
-        pub state-else : (o : Option ℕ) → is_some o ≡ true → IsFoundFirst ns ds xs (wanted.At k) o → (At stage.Open → ⊥) → ((y : State) → At (stage.Live y) → ⊥) → IsStateAt ns ds xs k x (Some Idle)
+        pub state-else : (o : Option ℕ) → is_some o ≡ true → IsFoundFirst ns doc xs (wanted.At k) o → (At stage.Open → ⊥) → ((y : State) → At (stage.Live y) → ⊥) → IsStateAt ns doc xs k x (Some Idle)
         state-else None e found began other = absurd (cc)
         state-else (Some j) e found began other = record {
           means = λ t b laid alive m f g r.
@@ -507,5 +507,5 @@ module _ (ns : List Node) (ds : List Detail) (xs : List Stage) where
         }
 
   -- of what is live, the states
-  pub shows-never : (n j : ℕ) (y : State) → IsCompiled ns ds xs n → IsFirst ns ds n xs wanted.Live (Some j) → ((y : State) → stage_at xs j ≡ stage.Live y → ⊥) → IsShown ns ds n xs y y
+  pub shows-never : (n j : ℕ) (y : State) → IsCompiled ns doc xs n → IsFirst ns doc n xs wanted.Live (Some j) → ((y : State) → stage_at xs j ≡ stage.Live y → ⊥) → IsShown ns doc n xs y y
   shows-never n j y compiled found never = (let h = live-is n j compiled found in absurd (never h.1.0 h.1.1))

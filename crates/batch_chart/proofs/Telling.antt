@@ -8,8 +8,8 @@ use Rattle.batch_recipe.specs.Tree.{Tree, act, skip, seq, par, sel, loop, Trees,
 use Rattle.batch_model.specs.Rest.{in_par, done, is_done, reach}
 use Rattle.batch_model.specs.Settled.{IsAdvanced}
 use Rattle.batch_machine.proofs.Advancing.{reach-advanced}
-use Rattle.batch_chart.specs.declared.node.Node.{Node}
-use Rattle.batch_chart.specs.declared.node.Detail.{Detail}
+use Rattle.batch_recipe.specs.declared.entry.Entry.{Entry}
+use Rattle.batch_recipe.specs.declared.recipe.Recipe.{Recipe}
 use Rattle.batch_chart.specs.declared.stage.Stage.{Stage}
 use Rattle.batch_chart.specs.declared.stage.Stage.TheVariants.{Finished}
 use Rattle.batch_chart.specs.Stages.{stage_at, is_finished, is_begun, turns_of}
@@ -37,33 +37,33 @@ pub told-reached : (vs : ValueList) (c : Tree) (n : ℕ) (xs : List Stage) (b : 
 told-reached vs c n xs b m own = record { finished = own ∙ m.1 ∙ sym (ap is_done m.0); advanced = subst IsAdvanced (sym m.0) (reach-advanced vs c) }
 
 -- the subtrees of the nodes from n to m end there
-abbrev pub AreNested : List Node → List Detail → ℕ → ℕ → Type 0
-AreNested ns ds n m = (j : ℕ) (c : Tree) → n ≤ j → j < m → Stands ns ds j c → j + node_count c ≤ m
+abbrev pub AreNested : List Entry → Recipe → ℕ → ℕ → Type 0
+AreNested ns doc n m = (j : ℕ) (c : Tree) → n ≤ j → j < m → Stands ns doc j c → j + node_count c ≤ m
 
-module _ (ns : List Node) (ds : List Detail) where
-  pub nests : (n : ℕ) (c : Tree) → Stands ns ds n c → AreNested ns ds n (end_at ns n)
+module _ (ns : List Entry) (doc : Recipe) where
+  pub nests : (n : ℕ) (c : Tree) → Stands ns doc n c → AreNested ns doc n (end_at ns n)
   nests n c h j d a b k =
-      let e = (stood ns ds n c h).end in
-      let inner : end_at ns j ≤ n + node_count c = nested ns ds j c n h a (omega (arith, e)) in omega (arith, e, (stood ns ds j d k).end)
+      let e = (stood ns doc n c h).end in
+      let inner : end_at ns j ≤ n + node_count c = nested ns doc j c n h a (omega (arith, e)) in omega (arith, e, (stood ns doc j d k).end)
 
-  pub nests-each : (n m : ℕ) (ts : Trees) → AreStanding ns ds n m ts → AreNested ns ds n m
-  nests-each n m ts h j d a b k = let inner : end_at ns j ≤ m = nested-each ns ds j ts n m h a b in omega (arith, (stood ns ds j d k).end)
+  pub nests-each : (n m : ℕ) (ts : Trees) → AreStanding ns doc n m ts → AreNested ns doc n m
+  nests-each n m ts h j d a b k = let inner : end_at ns j ≤ m = nested-each ns doc j ts n m h a b in omega (arith, (stood ns doc j d k).end)
 
-  pub nests-choices : (i n m : ℕ) (ch : Choices) → AreChoices ns ds i n m ch → AreNested ns ds n m
-  nests-choices i n m ch h j d a b k = let inner : end_at ns j ≤ m = nested-choices ns ds j ch i n m h a b in omega (arith, (stood ns ds j d k).end)
+  pub nests-choices : (i n m : ℕ) (ch : Choices) → AreChoices ns doc i n m ch → AreNested ns doc n m
+  nests-choices i n m ch h j d a b k = let inner : end_at ns j ≤ m = nested-choices ns doc j ch i n m h a b in omega (arith, (stood ns doc j d k).end)
 
-  pub nests-below : (n i m : ℕ) → n ≤ i → AreNested ns ds n m → AreNested ns ds i m
+  pub nests-below : (n i m : ℕ) → n ≤ i → AreNested ns doc n m → AreNested ns doc i m
   nests-below n i m le h j d a b k = h j d (omega arith) b k
 
-  pub told-part : (n m i j : ℕ) (xs : List Stage) → n ≤ i → j ≤ m → AreTold ns ds n m xs → AreTold ns ds i j xs
+  pub told-part : (n m i j : ℕ) (xs : List Stage) → n ≤ i → j ≤ m → AreTold ns doc n m xs → AreTold ns doc i j xs
   told-part n m i j xs a b h k c p q s = h k c (omega arith) (omega arith) s
 
-  pub told-join : (n i m : ℕ) (xs : List Stage) → AreTold ns ds n i xs → AreTold ns ds i m xs → AreTold ns ds n m xs
+  pub told-join : (n i m : ℕ) (xs : List Stage) → AreTold ns doc n i xs → AreTold ns doc i m xs → AreTold ns doc n m xs
   told-join n i m xs f g k c p q s = elim (cases_lt k i) [ inl lt ↦ f k c p lt s | inr le ↦ g k c le q s ]
 
-  pub told-one : (n m : ℕ) (xs : List Stage) → ((c : Tree) → Stands ns ds n c → TellsWhetherOver c n xs) → AreTold ns ds (n + 1) m xs → AreTold ns ds n m xs
+  pub told-one : (n m : ℕ) (xs : List Stage) → ((c : Tree) → Stands ns doc n c → TellsWhetherOver c n xs) → AreTold ns doc (n + 1) m xs → AreTold ns doc n m xs
   told-one n m xs own h k c p q s = elim (eqb_tells k n) [
-    | inl e ↦ subst (λ z. TellsWhetherOver c z xs) (sym e.1) (own c (subst (λ z. Stands ns ds z c) e.1 s))
+    | inl e ↦ subst (λ z. TellsWhetherOver c z xs) (sym e.1) (own c (subst (λ z. Stands ns doc z c) e.1 s))
     | inr e ↦ let d = e.1 in h k c (omega arith) q s
   ]
 
@@ -73,12 +73,12 @@ module _ (ns : List Node) (ds : List Detail) where
       record { finished = ap is_finished (h j (omega arith) (omega (arith, count-pos c))) ∙ t.finished ∙ sym (ap is_done m); advanced = subst IsAdvanced (sym m) t.advanced }
 
   -- where the stages stay, they go on telling
-  pub told-same : (n m : ℕ) (xs ys : List Stage) → AreNested ns ds n m → AgreeWithin n m xs ys → AreTold ns ds n m xs → AreTold ns ds n m ys
+  pub told-same : (n m : ℕ) (xs ys : List Stage) → AreNested ns doc n m → AgreeWithin n m xs ys → AreTold ns doc n m xs → AreTold ns doc n m ys
   told-same n m xs ys nest same h j c a b s = told-agree c j xs ys (agree-part n m j (j + node_count c) xs ys a (nest j c a b s) same) (h j c a b s)
 
   -- the first part has gone on, and then the second
-  pub told-row : (n e m : ℕ) (xs ys zs : List Stage) → n < e → e ≤ m → AreNested ns ds n e → AreNested ns ds e m → AgreeWithin e m xs ys → AgreeWithin n e ys zs
-      → (AreTold ns ds (n + 1) e xs → AreTold ns ds n e ys) → (AreTold ns ds e m ys → AreTold ns ds e m zs) → AreTold ns ds n m xs → AreTold ns ds n m zs
+  pub told-row : (n e m : ℕ) (xs ys zs : List Stage) → n < e → e ≤ m → AreNested ns doc n e → AreNested ns doc e m → AgreeWithin e m xs ys → AgreeWithin n e ys zs
+      → (AreTold ns doc (n + 1) e xs → AreTold ns doc n e ys) → (AreTold ns doc e m ys → AreTold ns doc e m zs) → AreTold ns doc n m xs → AreTold ns doc n m zs
   told-row n e m xs ys zs lt le first later before after f g h =
       told-join n e m zs
       (told-same n e ys zs first after (f (told-part n m (n + 1) e xs (omega arith) le h)))

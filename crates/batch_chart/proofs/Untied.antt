@@ -3,13 +3,13 @@ use Rattle.std.proofs.Common.{ℕ, ◌+◌, List, Some}
 use Rattle.batch_recipe.specs.Expanding.{Binding}
 use Rattle.batch_recipe.specs.Nodes.{node_count}
 use Rattle.batch_recipe.specs.Tree.{Step, Task, runs, follows, Tree, act, skip, seq, par, sel, loop, Trees, no_trees, tree, Choices, otherwise, choice}
-use Rattle.batch_chart.specs.declared.node.Node.{Node}
-use Rattle.batch_chart.specs.declared.node.Detail.{Detail}
+use Rattle.batch_recipe.specs.declared.entry.Entry.{Entry}
+use Rattle.batch_recipe.specs.declared.recipe.Recipe.{Recipe}
 use Rattle.batch_chart.specs.Compiled.{StandsOn, StandsActOn, AreStandingOn, AreChoicesOn, Stands, StandsAct, AreStanding, AreChoices}
 
-module _ (bound : Binding) (ns : List Node) (ds : List Detail) where
+module _ (bound : Binding) (ns : List Entry) (doc : Recipe) where
   mutual
-    pub untied : (c : Tree) (n : ℕ) → StandsOn (Some bound) ns ds n c → Stands ns ds n c
+    pub untied : (c : Tree) (n : ℕ) → StandsOn (Some bound) ns doc n c → Stands ns doc n c
     untied (act s w) n h = untied-act s w n h
     untied skip n h = h
     untied (seq ts) n h = (h.0, untied-each ts (n + 1) (n + node_count (seq ts)) h.1)
@@ -17,14 +17,14 @@ module _ (bound : Binding) (ns : List Node) (ds : List Detail) where
     untied (sel ch) n h = (h.0, h.1, untied-choices ch h.0 (n + 1) (n + node_count (sel ch)) h.2)
     untied (loop k p body) n h = (h.0, h.1, h.2, untied body (n + 1) h.3)
 
-    untied-act : (s : Step) (w : Task) (n : ℕ) → StandsActOn (Some bound) ns ds n s w → StandsAct ns ds n s w
-    untied-act s (runs p) n h = (h.0, h.1, (h.2.0, h.2.1, tt))
+    untied-act : (s : Step) (w : Task) (n : ℕ) → StandsActOn (Some bound) ns doc n s w → StandsAct ns doc n s w
+    untied-act s (runs p) n h = (h.0, h.1, h.2, tt)
     untied-act s (follows name c) n h = (h.0, untied c (n + 1) h.1)
 
-    pub untied-each : (ts : Trees) (n m : ℕ) → AreStandingOn (Some bound) ns ds n m ts → AreStanding ns ds n m ts
+    pub untied-each : (ts : Trees) (n m : ℕ) → AreStandingOn (Some bound) ns doc n m ts → AreStanding ns doc n m ts
     untied-each no_trees n m h = h
     untied-each (tree c ts) n m h = (untied c n h.0, untied-each ts (n + node_count c) m h.1)
 
-    pub untied-choices : (ch : Choices) (i n m : ℕ) → AreChoicesOn (Some bound) ns ds i n m ch → AreChoices ns ds i n m ch
+    pub untied-choices : (ch : Choices) (i n m : ℕ) → AreChoicesOn (Some bound) ns doc i n m ch → AreChoices ns doc i n m ch
     untied-choices (otherwise c) i n m h = (untied c n h.0, h.1)
     untied-choices (choice p c ch) i n m h = (h.0, untied c n h.1, untied-choices ch (i + 1) (n + node_count c) m h.2)

@@ -14,8 +14,8 @@ use Rattle.batch_model.specs.Rest.{Rest, asking, acts, is_done, place_of}
 use Rattle.batch_model.proofs.Members.{Each-Has}
 use Rattle.batch_machine.proofs.Ordering.{before-asym}
 use Rattle.batch_machine.proofs.Rising.{acts-rise}
-use Rattle.batch_chart.specs.declared.node.Node.{Node}
-use Rattle.batch_chart.specs.declared.node.Detail.{Detail}
+use Rattle.batch_recipe.specs.declared.entry.Entry.{Entry}
+use Rattle.batch_recipe.specs.declared.recipe.Recipe.{Recipe}
 use Rattle.batch_chart.specs.declared.stage.Stage.{Stage}
 use Rattle.batch_chart.specs.declared.stage.Stage.TheVariants as stage
 use Rattle.batch_chart.specs.declared.wanted.Wanted.TheVariants as wanted
@@ -109,13 +109,13 @@ none-passes p (a ∷ l) f e h t = go (p a.0 a.1) refl h (λ g i. none-passes p l
 wants-it : (from k i n : ℕ) → from ≤ k → i < n → (nat_le from k && nat_lt i n) ≡ true
 wants-it from k i n f l = grind (arith, nat_tests)
 
-module _ (ns : List Node) (ds : List Detail) (xs : List Stage) (t : Tree) (laid : IsLaid ns ds t) (alive : IsAlive t xs) where
+module _ (ns : List Entry) (doc : Recipe) (xs : List Stage) (t : Tree) (laid : IsLaid ns doc t) (alive : IsAlive t xs) where
   -- the step of an act with needs carries the place of its node
   own-place : (k i : ℕ) → k < node_count t → i < length (step_at t k).needs → (step_at t k).place ≡ place_at t k
   own-place k i lt l = place (node_at t k).here refl l
     where
       place : (c : Tree) → (node_at t k).here ≡ c → i < length (step_at t k).needs → (step_at t k).place ≡ place_at t k
-      place (act s w) e l = ap (λ (z : Step). z.place) (ap step_of e) ∙ Each-Has CarriesPlace (nodes_of t) (node_at t k) (carries t (0 ∷ []) [] laid.placed) (get-has (nodes_of t) k (node_at t k) (node-got ns ds t laid k (omega (arith, laid.count, lt)))) s w e
+      place (act s w) e l = ap (λ (z : Step). z.place) (ap step_of e) ∙ Each-Has CarriesPlace (nodes_of t) (node_at t k) (carries t (0 ∷ []) [] laid.placed) (get-has (nodes_of t) k (node_at t k) (node-got ns doc t laid k (omega (arith, laid.count, lt)))) s w e
       place skip e l = absurd (let q : i < 0 = subst (λ z. i < length (step_of z).needs) e l in omega (arith, q))
       place (seq ts) e l = absurd (let q : i < 0 = subst (λ z. i < length (step_of z).needs) e l in omega (arith, q))
       place (par ts) e l = absurd (let q : i < 0 = subst (λ z. i < length (step_of z).needs) e l in omega (arith, q))
@@ -124,9 +124,9 @@ module _ (ns : List Node) (ds : List Detail) (xs : List Stage) (t : Tree) (laid 
 
   -- an act of the tree in line is a numbered one
   asks-here : (k i : ℕ) → AsksAt t (meaning t 0 xs) k i → Has (numbered t 0 xs) (k, asking (step_at t k) (task_at t k) i)
-  asks-here k i h = number-at-place ns ds t laid xs k (asking (step_at t k) (task_at t k) i) (omega (arith, laid.count, h.0)) h.2 (own-place k i h.0 h.1)
+  asks-here k i h = number-at-place ns doc t laid xs k (asking (step_at t k) (task_at t k) i) (omega (arith, laid.count, h.0)) h.2 (own-place k i h.0 h.1)
 
-  before-none : (from k : ℕ) → IsFoundFirst ns ds xs (wanted.Waiting from) (Some k) → (j i : ℕ) → from ≤ j → j < k → AsksAt t (meaning t 0 xs) j i → ⊥
+  before-none : (from k : ℕ) → IsFoundFirst ns doc xs (wanted.Waiting from) (Some k) → (j i : ℕ) → from ≤ j → j < k → AsksAt t (meaning t 0 xs) j i → ⊥
   before-none from k found j i f l h =
       let entry : ℕ × Rest = (j, asking (step_at t j) (task_at t j) i) in
       let m = passes-first (wants (wanted.Waiting from)) (numbered t 0 xs) k
@@ -139,16 +139,16 @@ module _ (ns : List Node) (ds : List Detail) (xs : List Stage) (t : Tree) (laid 
     where
       apart : (x : ℕ × Rest) → Has (numbered t 0 xs) x → x.0 ≡ k → is_before (place_of x.1) (place_at t j) ≡ true → ⊥
       apart x hx e s =
-          let g = known ns ds xs t laid x hx in
+          let g = known ns doc xs t laid x hx in
           let lt : k < length ns = omega (arith, g.within, e) in
           let placed : place_of x.1 ≡ place_at t k =
-          ap place_of g.is ∙ act-place g.step g.task (meaning_below g.task (x.0 + 1) xs) (stage_at xs x.0) (ap is_done (sym g.is) ∙ entry-undone ns ds t laid xs x g.among) ∙ sym g.place ∙ ap (place_at t) e in
+          ap place_of g.is ∙ act-place g.step g.task (meaning_below g.task (x.0 + 1) xs) (stage_at xs x.0) (ap is_done (sym g.is) ∙ entry-undone ns doc t laid xs x g.among) ∙ sym g.place ∙ ap (place_at t) e in
           let order : is_before (place_at t j) (place_at t k) ≡ true =
-          order-at (nodes_of t) (in_order (0 ∷ []) [] t).1 j k (node_at t j) (node_at t k) l (node-got ns ds t laid j (omega (arith, lt, l))) (node-got ns ds t laid k lt) in
+          order-at (nodes_of t) (in_order (0 ∷ []) [] t).1 j k (node_at t j) (node_at t k) l (node-got ns doc t laid j (omega (arith, lt, l))) (node-got ns doc t laid k lt) in
           let d : true ≡ false = sym (subst (λ q. is_before q (place_at t j) ≡ true) placed s) ∙ before-asym (place_at t j) (place_at t k) order in
           cc
 
-  after-none : (from : ℕ) → IsFoundFirst ns ds xs (wanted.Waiting from) None → (j i : ℕ) → from ≤ j → AsksAt t (meaning t 0 xs) j i → ⊥
+  after-none : (from : ℕ) → IsFoundFirst ns doc xs (wanted.Waiting from) None → (j i : ℕ) → from ≤ j → AsksAt t (meaning t 0 xs) j i → ⊥
   after-none from found j i f h =
       none-passes (wants (wanted.Waiting from)) (numbered t 0 xs) (found.means t laid) (j, asking (step_at t j) (task_at t j) i) (asks-here j i h) (wants-it from j i (length (step_at t j).needs) f h.1)
 
@@ -188,14 +188,14 @@ module _ (ns : List Node) (ds : List Detail) (xs : List Stage) (t : Tree) (laid 
     pub asks : AsksAt t (meaning t 0 xs) k need
     pub waits : IsAskingAt ns xs k
 
-  found-at : (from k : ℕ) → IsFoundFirst ns ds xs (wanted.Waiting from) (Some k) → Found from k
+  found-at : (from k : ℕ) → IsFoundFirst ns doc xs (wanted.Waiting from) (Some k) → Found from k
   found-at from k found =
       let m = first-has (wants (wanted.Waiting from)) (numbered t 0 xs) k (found.means t laid) in
       go m.0 m.1 m.2 m.3
     where
       go : (x : ℕ × Rest) → Has (numbered t 0 xs) x → x.0 ≡ k → wants (wanted.Waiting from) x.0 x.1 ≡ true → Found from k
       go x hx e test =
-          let g = known ns ds xs t laid x hx in
+          let g = known ns doc xs t laid x hx in
           let v = sees from x.0 g.step g.task (meaning_below g.task (x.0 + 1) xs) (stage_at xs x.0) (ap (wants (wanted.Waiting from) x.0) (sym g.is) ∙ test) in
           let f = fits-act (kind_at ns x.0) g.step g.task g.fits in
           let a : x.1 ≡ asking g.step g.task v.0 = g.is ∙ ap (act_as g.step g.task (meaning_below g.task (x.0 + 1) xs)) v.1 in
@@ -211,27 +211,27 @@ module _ (ns : List Node) (ds : List Detail) (xs : List Stage) (t : Tree) (laid 
             waits = (v.0, g.within, f.0, omega (arith, v.3, f.1), v.1);
           }
 
-module _ (ns : List Node) (ds : List Detail) (xs : List Stage) (from : ℕ) (lives : SomeLives ns ds xs) where
-  pub waiting-some : (k n i : ℕ) → IsFoundFirst ns ds xs (wanted.Waiting from) (Some k) → n ≡ k → stage_at xs n ≡ stage.Asking i → IsFirstWaiting ns ds xs from (Some (k, i))
+module _ (ns : List Entry) (doc : Recipe) (xs : List Stage) (from : ℕ) (lives : SomeLives ns doc xs) where
+  pub waiting-some : (k n i : ℕ) → IsFoundFirst ns doc xs (wanted.Waiting from) (Some k) → n ≡ k → stage_at xs n ≡ stage.Asking i → IsFirstWaiting ns doc xs from (Some (k, i))
   waiting-some k n i found same was =
-      let f = found-at ns ds xs lives.0 lives.1 lives.2 from k found in
+      let f = found-at ns doc xs lives.0 lives.1 lives.2 from k found in
       record {
         some = (
           f.onwards,
-          λ t laid alive. (let g = found-at ns ds xs t laid alive from k found in
+          λ t laid alive. (let g = found-at ns doc xs t laid alive from k found in
               let e : stage.Asking g.need ≡ stage.Asking i = sym g.is ∙ ap (stage_at xs) (sym same) ∙ was in
               let q : g.need ≡ i = cc in
               subst (AsksAt t (meaning t 0 xs) k) q g.asks),
         );
-        before = λ t laid alive j h a l s. before-none ns ds xs t laid alive from k found j h a l s;
+        before = λ t laid alive j h a l s. before-none ns doc xs t laid alive from k found j h a l s;
         none = λ e. absurd (cc);
         waits = f.waits;
         small = omega (arith, f.asks.0, lives.1.small);
       }
 
-  pub waiting-none : IsFoundFirst ns ds xs (wanted.Waiting from) None → IsFirstWaiting ns ds xs from None
+  pub waiting-none : IsFoundFirst ns doc xs (wanted.Waiting from) None → IsFirstWaiting ns doc xs from None
   waiting-none found =
-      record { some = tt; before = tt; none = λ e t laid alive j i a h. after-none ns ds xs t laid alive from found j i a h; waits = tt; small = tt }
+      record { some = tt; before = tt; none = λ e t laid alive j i a h. after-none ns doc xs t laid alive from found j i a h; waits = tt; small = tt }
 
-  pub waiting-never : (k n : ℕ) → IsFoundFirst ns ds xs (wanted.Waiting from) (Some k) → n ≡ k → ((i : ℕ) → stage_at xs n ≡ stage.Asking i → ⊥) → ⊥
-  waiting-never k n found same never = (let f = found-at ns ds xs lives.0 lives.1 lives.2 from k found in never f.need (ap (stage_at xs) same ∙ f.is))
+  pub waiting-never : (k n : ℕ) → IsFoundFirst ns doc xs (wanted.Waiting from) (Some k) → n ≡ k → ((i : ℕ) → stage_at xs n ≡ stage.Asking i → ⊥) → ⊥
+  waiting-never k n found same never = (let f = found-at ns doc xs lives.0 lives.1 lives.2 from k found in never f.need (ap (stage_at xs) same ∙ f.is))

@@ -6,8 +6,8 @@ use Rattle.std.proofs.lemmas.Bool.{cases_lt}
 use Rattle.std.proofs.lemmas.Bool.Decides.{eqb_tells, nat_tests}
 use Rattle.std.proofs.lemmas.List.{get_or_past}
 use Rattle.batch_recipe.specs.Tree.{runs, follows, Tree, act, skip, seq, par, sel, loop}
-use Rattle.batch_chart.specs.declared.node.Node.{Node}
-use Rattle.batch_chart.specs.declared.node.Detail.{Detail}
+use Rattle.batch_recipe.specs.declared.entry.Entry.{Entry}
+use Rattle.batch_recipe.specs.declared.recipe.Recipe.{Recipe}
 use Rattle.batch_chart.specs.declared.sign.TheConstants.{LACKS, FITS, WAITS, HOLDS, IS_ACT}
 use Rattle.batch_chart.specs.declared.stage.Stage.{Stage}
 use Rattle.batch_chart.specs.declared.stage.Stage.TheVariants.{Finished, Ready, Asking, Open, Live, Freeing, Turning}
@@ -68,14 +68,14 @@ runs-again (par ts) x = begun-again x
 runs-again (sel ch) x = begun-again x
 runs-again (loop i p body) x = ap (λ o. not (is_none o)) (turns-again x)
 
-module _ (ns : List Node) (ds : List Detail) (xs zs : List Stage) (old new : List ℕ) (stages : (k : ℕ) → stage_at zs k ≡ again (stage_at xs k)) (signs : (k : ℕ) → sign_at new k ≡ withdrawn_sign (stage_at xs k) (sign_at old k)) where
+module _ (ns : List Entry) (doc : Recipe) (xs zs : List Stage) (old new : List ℕ) (stages : (k : ℕ) → stage_at zs k ≡ again (stage_at xs k)) (signs : (k : ℕ) → sign_at new k ≡ withdrawn_sign (stage_at xs k) (sign_at old k)) where
   status : (k : ℕ) → is_finished (stage_at zs k) ≡ is_finished (stage_at xs k)
   status k = ap is_finished (stages k) ∙ finished-again (stage_at xs k)
 
   still : (k : ℕ) → stage_at xs k ≡ Finished → stage_at zs k ≡ Finished
   still k e = stages k ∙ ap again e
 
-  pub withdrawn-neat : (n m : ℕ) → AreNeat ns ds n m xs old → AreNeat ns ds n m zs new
+  pub withdrawn-neat : (n m : ℕ) → AreNeat ns doc n m xs old → AreNeat ns doc n m zs new
   withdrawn-neat n m h j c a b s =
       let own = h j c a b s in
       record {

@@ -2,8 +2,8 @@
 use Rattle.std.specs.Prelude.{◌≡◌, ◌⊎◌, ◌<◌, ◌≤◌, ℕ, ◌+◌, List, length, Bool, true, false, is_none, not}
 use Rattle.batch_recipe.specs.Nodes.{node_count}
 use Rattle.batch_recipe.specs.Tree.{Task, runs, follows, Tree, act, skip, seq, par, sel, loop}
-use Rattle.batch_chart.specs.declared.node.Node.{Node}
-use Rattle.batch_chart.specs.declared.node.Detail.{Detail}
+use Rattle.batch_recipe.specs.declared.entry.Entry.{Entry}
+use Rattle.batch_recipe.specs.declared.recipe.Recipe.{Recipe}
 use Rattle.batch_chart.specs.declared.stage.Stage.{Stage}
 use Rattle.batch_chart.specs.declared.stage.Stage.TheVariants.{Finished, Open}
 use Rattle.batch_chart.specs.Compiled.{end_at, Stands}
@@ -30,7 +30,7 @@ abbrev pub AllFinished : ℕ → ℕ → List Stage → Type 0
 AllFinished n m xs = (k : ℕ) → n ≤ k → k < m → stage_at xs k ≡ Finished
 
 -- where a branch of the row from n to m isn't finished, all others are
-abbrev pub IsLone : List Node → ℕ → ℕ → List Stage → Type 0
+abbrev pub IsLone : List Entry → ℕ → ℕ → List Stage → Type 0
 IsLone ns n m xs = (i : ℕ) → n ≤ i → i < m → ((q : ℕ) → n ≤ q → q < i → end_at ns q ≤ i) → is_finished (stage_at xs i) ≡ false
     → (k : ℕ) → n ≤ k → k < m → (k < i) ⊎ (end_at ns i ≤ k) → stage_at xs k ≡ Finished
 
@@ -49,14 +49,14 @@ shown_of (act s w) x over = step_shows (length s.needs) w x over
 shown_of _ x over = 0
 
 -- the node of the tree at n shows what it is, and nothing below it stands where it doesn't run
-pub record IsNeat (ns : List Node) (c : Tree) (n : ℕ) (xs : List Stage) (signs : List ℕ) : Type 0 where
+pub record IsNeat (ns : List Entry) (c : Tree) (n : ℕ) (xs : List Stage) (signs : List ℕ) : Type 0 where
   pub shut : runs_below c (stage_at xs n) ≡ false → AllFinished (n + 1) (n + node_count c) xs
   pub lone : is_single c ≡ true → IsLone ns (n + 1) (n + node_count c) xs
   pub shown : sign_at signs n ≡ shown_of c (stage_at xs n) (is_finished (stage_at xs (n + 1)))
 
 -- so are all nodes from n to m
-abbrev pub AreNeat : List Node → List Detail → ℕ → ℕ → List Stage → List ℕ → Type 0
-AreNeat ns ds n m xs signs = (j : ℕ) (c : Tree) → n ≤ j → j < m → Stands ns ds j c → IsNeat ns c j xs signs
+abbrev pub AreNeat : List Entry → Recipe → ℕ → ℕ → List Stage → List ℕ → Type 0
+AreNeat ns doc n m xs signs = (j : ℕ) (c : Tree) → n ≤ j → j < m → Stands ns doc j c → IsNeat ns c j xs signs
 
 -- nothing stands from n to m, and nothing is shown
 abbrev pub AreBlank : ℕ → ℕ → List Stage → List ℕ → Type 0
@@ -67,15 +67,15 @@ abbrev pub SignsOutside : ℕ → ℕ → List ℕ → List ℕ → Type 0
 SignsOutside n m old new = (k : ℕ) → (k < n) ⊎ (m ≤ k) → sign_at new k ≡ sign_at old k
 
 -- the tree at n has been reached, and shows what it is, where nothing stood there
-pub record IsReachedNeatly (ns : List Node) (ds : List Detail) (n : ℕ) (xs ys : List Stage) (old new : List ℕ) : Type 0 where
+pub record IsReachedNeatly (ns : List Entry) (doc : Recipe) (n : ℕ) (xs ys : List Stage) (old new : List ℕ) : Type 0 where
   pub count : length new ≡ length old
   pub outside : SignsOutside n (end_at ns n) old new
-  pub neat : AreBlank n (end_at ns n) xs old → AreNeat ns ds n (end_at ns n) ys new
+  pub neat : AreBlank n (end_at ns n) xs old → AreNeat ns doc n (end_at ns n) ys new
 
 -- so have branches from n to m, where `before` tells whether nothing is left of those before them, and one alone runs where the node above is single
-pub record IsRowNeat (ns : List Node) (ds : List Detail) (n m : ℕ) (single before : Bool) (xs ys : List Stage) (old new : List ℕ) (finished : Bool) : Type 0 where
+pub record IsRowNeat (ns : List Entry) (doc : Recipe) (n m : ℕ) (single before : Bool) (xs ys : List Stage) (old new : List ℕ) (finished : Bool) : Type 0 where
   pub count : length new ≡ length old
   pub outside : SignsOutside n m old new
-  pub neat : AreBlank n m xs old → AreNeat ns ds n m ys new
+  pub neat : AreBlank n m xs old → AreNeat ns doc n m ys new
   pub over : AreBlank n m xs old → finished ≡ true → (before ≡ true) × AllFinished n m ys
   pub lone : single ≡ true → AreBlank n m xs old → IsLone ns n m ys

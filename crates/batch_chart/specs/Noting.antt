@@ -9,7 +9,7 @@ use Rattle.batch_recipe.specs.Nodes.{node_count}
 use Rattle.batch_recipe.specs.Tree.{Tree}
 use Rattle.batch_model.specs.Rest.{Rest, ready, asking, open_act, live, freeing, acts}
 use Rattle.batch_model.specs.Moves.{is_empty}
-use Rattle.batch_chart.specs.declared.node.Node.{Node}
+use Rattle.batch_recipe.specs.declared.entry.Entry.{Entry}
 use Rattle.batch_chart.specs.declared.stage.Stage.{Stage}
 use Rattle.batch_chart.specs.declared.stage.Stage.TheVariants as stage
 use Rattle.batch_chart.specs.declared.wanted.Wanted.{Wanted}
@@ -112,6 +112,6 @@ pub record AreNoted (t : Tree) (xs : List Stage) (signs : List ℕ) : Type 0 whe
   pub shown : (k : ℕ) → sign_at signs k ≡ sign_in k (numbered t 0 xs) 0
 
 -- the act at node k has come to another stage, and shows it
-pub record HasCome (ns : List Node) (k : ℕ) (x : Stage) (xs ys : List Stage) (old new : List ℕ) : Type 0 where
+pub record HasCome (ns : List Entry) (k : ℕ) (x : Stage) (xs ys : List Stage) (old new : List ℕ) : Type 0 where
   pub stages : ys ≡ slice_set xs k x
   pub signs : new ≡ slice_set old k (stage_signs (needs_of (kind_at ns k)) x)

@@ -8,8 +8,8 @@ use Rattle.batch_recipe.specs.Tree.{Tree}
 use Rattle.batch_model.specs.Plant.{Batch, phase_states}
 use Rattle.batch_model.specs.Rest.{acts}
 use Rattle.batch_model.specs.ActStates.{gravest, state_in}
-use Rattle.batch_chart.specs.declared.node.Node.{Node}
-use Rattle.batch_chart.specs.declared.node.Detail.{Detail}
+use Rattle.batch_recipe.specs.declared.entry.Entry.{Entry}
+use Rattle.batch_recipe.specs.declared.recipe.Recipe.{Recipe}
 use Rattle.batch_chart.specs.declared.stage.Stage.{Stage}
 use Rattle.batch_chart.specs.Compiled.{Stands}
 use Rattle.batch_chart.specs.Meaning.{meaning}
@@ -25,14 +25,14 @@ abbrev pub is_among : List State → State → Bool
 is_among states x = list_any (λ y. same_state y x) states
 
 -- the first of the wanted states that a live phase of the chart at n has
-pub record IsFirstShown (ns : List Node) (ds : List Detail) (n : ℕ) (xs : List Stage) (wanted : List State) (result : Option State) : Type 0 where
-  pub means : (c : Tree) → Stands ns ds n c → result ≡ find (is_among (phase_states (acts (meaning c n xs)))) wanted
+pub record IsFirstShown (ns : List Entry) (doc : Recipe) (n : ℕ) (xs : List Stage) (wanted : List State) (result : Option State) : Type 0 where
+  pub means : (c : Tree) → Stands ns doc n c → result ≡ find (is_among (phase_states (acts (meaning c n xs)))) wanted
 
 -- an open act above the chart at n shows this state
-pub record IsShown (ns : List Node) (ds : List Detail) (n : ℕ) (xs : List Stage) (batch x : State) : Type 0 where
-  pub means : (c : Tree) → Stands ns ds n c → x ≡ shown_by batch (phase_states (acts (meaning c n xs)))
+pub record IsShown (ns : List Entry) (doc : Recipe) (n : ℕ) (xs : List Stage) (batch x : State) : Type 0 where
+  pub means : (c : Tree) → Stands ns doc n c → x ≡ shown_by batch (phase_states (acts (meaning c n xs)))
 
 -- the act at node k shows this state, in a batch of the state; None where no act is there
-pub record IsStateAt (ns : List Node) (ds : List Detail) (xs : List Stage) (k : ℕ) (batch : State) (result : Option State) : Type 0 where
-  pub means : (t : Tree) (b : Batch) → IsLaid ns ds t → IsAlive t xs → k < node_count t → b.recipe.procedure ≡ t → b.state ≡ batch → b.rest ≡ meaning t 0 xs → result ≡ state_in b (place_at t k)
-  pub past : (t : Tree) → IsLaid ns ds t → node_count t ≤ k → result ≡ None
+pub record IsStateAt (ns : List Entry) (doc : Recipe) (xs : List Stage) (k : ℕ) (batch : State) (result : Option State) : Type 0 where
+  pub means : (t : Tree) (b : Batch) → IsLaid ns doc t → IsAlive t xs → k < node_count t → b.recipe.procedure ≡ t → b.state ≡ batch → b.rest ≡ meaning t 0 xs → result ≡ state_in b (place_at t k)
+  pub past : (t : Tree) → IsLaid ns doc t → node_count t ≤ k → result ≡ None

@@ -3,8 +3,8 @@ use Rattle.std.specs.Prelude.{◌≡◌, ◌<◌, ◌≤◌, ℕ, List}
 use Rattle.batch_recipe.specs.Tree.{Tree}
 use Rattle.batch_model.specs.Rest.{is_done}
 use Rattle.batch_model.specs.Settled.{IsAdvanced}
-use Rattle.batch_chart.specs.declared.node.Node.{Node}
-use Rattle.batch_chart.specs.declared.node.Detail.{Detail}
+use Rattle.batch_recipe.specs.declared.entry.Entry.{Entry}
+use Rattle.batch_recipe.specs.declared.recipe.Recipe.{Recipe}
 use Rattle.batch_chart.specs.declared.stage.Stage.{Stage}
 use Rattle.batch_chart.specs.Compiled.{Stands}
 use Rattle.batch_chart.specs.Meaning.{meaning}
@@ -16,5 +16,5 @@ pub record TellsWhetherOver (c : Tree) (n : ℕ) (xs : List Stage) : Type 0 wher
   pub advanced : IsAdvanced (meaning c n xs)
 
 -- the stages of all nodes from n to m do, whether they are reached or not
-abbrev pub AreTold : List Node → List Detail → ℕ → ℕ → List Stage → Type 0
-AreTold ns ds n m xs = (j : ℕ) (c : Tree) → n ≤ j → j < m → Stands ns ds j c → TellsWhetherOver c j xs
+abbrev pub AreTold : List Entry → Recipe → ℕ → ℕ → List Stage → Type 0
+AreTold ns doc n m xs = (j : ℕ) (c : Tree) → n ≤ j → j < m → Stands ns doc j c → TellsWhetherOver c j xs

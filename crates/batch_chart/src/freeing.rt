@@ -7,11 +7,10 @@ ghost use Rattle.batch_chart.specs.Running.{SomeLives};
 ghost use Rattle.batch_chart.specs.Stages.{is_finished, stage_at};
 
 use crate::climbing::rise;
-use crate::node::{Detail, Node};
 use crate::noting::set_stage;
 use crate::signs::Signs;
 use crate::stage::Stage;
-use batch_recipe::Values;
+use batch_recipe::{Entry, Recipe, Values};
 
 /// Nothing stands from the first node on, up to `end`, any more, and nothing is shown.
 fn clear(stages: &mut [Stage], signs: &mut Signs, first: usize, end: usize)
@@ -26,13 +25,13 @@ fn clear(stages: &mut [Stage], signs: &mut Signs, first: usize, end: usize)
 }
 
 /// What still stands below the node is given up.
-fn give_up(nodes: &[Node], stages: &mut [Stage], signs: &mut Signs, n: usize)
+fn give_up(nodes: &[Entry], stages: &mut [Stage], signs: &mut Signs, n: usize)
     requires within { n < length nodes.now }
     requires fits { length stages.old ≡ length nodes.now }
     requires ends { end_at nodes.now n ≤ length nodes.now }
     ensures { HasGivenUp nodes.now n stages.old stages.new signs.old signs.new }
 {
-    let end = nodes[n].end;
+    let end = nodes[n].end as usize;
     if end <= n + 1 {
         return;
     }
@@ -44,22 +43,22 @@ fn give_up(nodes: &[Node], stages: &mut [Stage], signs: &mut Signs, n: usize)
 
 /// An act that has ended holds so many needs still. Where it holds none, the chart goes on above it.
 pub fn free(
-    nodes: &[Node],
-    details: &[Detail],
+    nodes: &[Entry],
+    recipe: &Recipe,
     values: &Values,
     stages: &mut [Stage],
     signs: &mut Signs,
     node: usize,
     held: u16,
 )
-    requires lives { SomeLives nodes.now details.now stages.old }
+    requires lives { SomeLives nodes.now recipe.now stages.old }
     requires node { node < length nodes.now }
     requires signs { length signs.old ≡ length nodes.now }
     requires acts { is_act_kind (kind_at nodes.now node) ≡ true }
     requires left { is_finished (stage_at stages.old node) ≡ false }
-    requires neat { AreNeat nodes.now details.now 0 (length nodes.now) stages.old signs.old }
-    ensures freed { IsFreed nodes.now details.now values.now node held stages.old stages.new }
-    ensures neat { AreNeat nodes.now details.now 0 (length nodes.now) stages.new signs.new }
+    requires neat { AreNeat nodes.now recipe.now 0 (length nodes.now) stages.old signs.old }
+    ensures freed { IsFreed nodes.now recipe.now values.now node held stages.old stages.new }
+    ensures neat { AreNeat nodes.now recipe.now 0 (length nodes.now) stages.new signs.new }
     ensures count { length signs.new ≡ length signs.old }
 {
     give_up(nodes, stages, signs, node);
@@ -69,5 +68,5 @@ pub fn free(
     }
     stages[node] = Stage::Finished;
     signs.set(node, 0);
-    rise(nodes, details, values, stages, signs, node);
+    rise(nodes, recipe, values, stages, signs, node);
 }

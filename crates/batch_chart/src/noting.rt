@@ -2,18 +2,19 @@
 ghost use Rattle.std.specs.Prelude.{◌≡◌, ◌<◌, length};
 ghost use Rattle.batch_chart.specs.Noting.{HasCome};
 
-use crate::node::Node;
+use crate::node::kind_of;
 use crate::sign::of_stage;
 use crate::signs::Signs;
 use crate::stage::Stage;
+use batch_recipe::Entry;
 
 /// The act at the node comes to another stage, and shows it.
-pub fn set_stage(nodes: &[Node], stages: &mut [Stage], signs: &mut Signs, n: usize, stage: Stage)
+pub fn set_stage(nodes: &[Entry], stages: &mut [Stage], signs: &mut Signs, n: usize, stage: Stage)
     requires node { n < length nodes.now }
     requires fits { length stages.old ≡ length nodes.now }
     requires signs { length signs.old ≡ length nodes.now }
     ensures { HasCome nodes.now n stage stages.old stages.new signs.old signs.new }
 {
     stages[n] = stage;
-    signs.set(n, of_stage(nodes[n].kind.needs(), stage));
+    signs.set(n, of_stage(kind_of(&nodes[n]).needs(), stage));
 }

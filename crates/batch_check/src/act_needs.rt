@@ -97,7 +97,7 @@ impl ActNeeds {
                 None => &[],
                 Some(needs) => needs,
             },
-            Kind::Skip | Kind::Seq | Kind::Par | Kind::Sel | Kind::Loop => &[],
+            Kind::Skip | Kind::Seq | Kind::Par | Kind::Sel | Kind::Loop(_) => &[],
         }
     }
 }

@@ -186,7 +186,6 @@ module _ (v : EngineView) (k : IsKept v) where
   room-kept room more =
       record {
         cleared = k.cleared;
-        charts = k.charts;
         numbers = k.numbers;
         batches = k.batches;
         cell = record { capacities = k.cell.capacities; shares = k.cell.shares; lines = k.cell.lines };

@@ -26,8 +26,8 @@ use Rattle.batch_arbiter.specs.Allocation.{Claim, shares_of, line_of, next_grant
 use Rattle.batch_chart.specs.NodesOf.{no_need, place_at, need_at, step_at, task_at}
 use Rattle.batch_recipe.specs.Nodes.{node_count}
 use Rattle.batch_chart.specs.OwnMoves.{grants}
+use Rattle.batch_chart.proofs.Laid.{is_chart}
 use Rattle.batch_chart.specs.Charts.{AsksAt, IsChartFor, IsChartOf, IsRunningOf, IsRunning, remains}
-use Rattle.batch_chart.specs.declared.compiled.Compiled.{Compiled}
 use Rattle.batch_engine.specs.declared.batch.Batch.{Batch}
 use Rattle.batch_engine.specs.View.{EngineView, setup, no_recipe, master_at, bound_to, recipe_at, recipe_made, batch_of, act_of, share_of, place_in, names_of, number_of, line_at, plant_of, tree_of}
 use Rattle.batch_engine.specs.Kept.{IsKept, IsRunningBatch}
@@ -52,8 +52,17 @@ Each-at P (x ∷ xs) (suc i) d h l = Each-at P xs i d h.1 (omega arith)
 pub got-batch : (v w : EngineView) (i : ℕ) (b : Batch) → w ≡ v → i < length v.batches → b ≡ get_or w.batches i b → slice_get v.batches i ≡ Some b
 got-batch v w i b e l h = slice_get_read v.batches (length v.batches) i b refl l (h ∙ ap (λ (z : EngineView). get_or z.batches i b) e)
 
-pub got-chart : (v w : EngineView) (k i : ℕ) (x : Compiled) → w ≡ v → k ≡ i → i < length v.charts → x ≡ get_or w.charts k x → slice_get v.charts i ≡ Some x
-got-chart v w k i x e q l h = slice_get_read v.charts (length v.charts) i x refl l (h ∙ ap₂ (λ (z : EngineView) j. get_or z.charts j x) e q)
+pub got-chart : (v w : EngineView) (i : ℕ) (x : document.Recipe) → w ≡ v → slice_get w.cleared.recipes i ≡ Some x → slice_get v.cleared.recipes i ≡ Some x
+got-chart v w i x e h = ap (λ (z : EngineView). slice_get z.cleared.recipes i) (sym e) ∙ h
+
+-- the master recipe with a number
+pub master-found : (c : ClearedSet) (q : ℕ) (r : document.Recipe) → slice_get c.recipes q ≡ Some r → master_at c q ≡ master_of c.cell r
+master-found c q r at =
+    get_or_from_slice_get (map (master_of c.cell) c.recipes) q (master_of c.cell r) (plain no_recipe) (slice_get-map (master_of c.cell) c.recipes q ∙ ap (option_map (master_of c.cell)) at)
+
+-- each recipe of the set is a chart, whatever units take its roles
+pub chart-of : (c : ClearedSet) (q : ℕ) (r : document.Recipe) → slice_get c.recipes q ≡ Some r → (bound : Binding) → IsChartFor bound ((master_at c q).control bound).procedure r
+chart-of c q r at bound = subst (λ (m : Master). IsChartFor bound (m.control bound).procedure r) (sym (master-found c q r at)) (is_chart r bound)
 
 -- the resource with this number has the name
 pub named : (c : ClearedSet) (name : Name) (q : ℕ) → number_of c name ≡ Some q → slice_get (names_of c) q ≡ Some name
@@ -81,17 +90,17 @@ module _ (v : EngineView) (k : IsKept v) (i : ℕ) (b : Batch) (at : slice_get v
   pub tree-placed : IsPlaced (0 ∷ []) (tree_of v.cleared b)
   tree-placed = placed v.cleared k.cleared (recipe_made v.cleared b) is-control
 
-  pub in-charts : b.recipe < length v.charts
-  in-charts = omega (arith, batch-runs.known, k.charts.count)
+  pub in-charts : b.recipe < length v.cleared.recipes
+  in-charts = batch-runs.known
 
-  -- the chart serves the units that take its roles
-  pub chart-for : (x : Compiled) → slice_get v.charts b.recipe ≡ Some x → IsChartFor (bound_to v.cleared b.recipe b.units) (tree_of v.cleared b) x
-  chart-for x e = k.charts.each b.recipe x e (bound_to v.cleared b.recipe b.units)
+  -- the recipe is a chart that serves the units that take its roles
+  pub chart-for : (x : document.Recipe) → slice_get v.cleared.recipes b.recipe ≡ Some x → IsChartFor (bound_to v.cleared b.recipe b.units) (tree_of v.cleared b) x
+  chart-for x e = chart-of v.cleared b.recipe x e (bound_to v.cleared b.recipe b.units)
 
-  pub chart-here : (x : Compiled) → slice_get v.charts b.recipe ≡ Some x → IsChartOf (tree_of v.cleared b) x
+  pub chart-here : (x : document.Recipe) → slice_get v.cleared.recipes b.recipe ≡ Some x → IsChartOf (tree_of v.cleared b) x
   chart-here x e = (chart-for x e).0
 
-  pub runs-here : (x : Compiled) → slice_get v.charts b.recipe ≡ Some x → IsRunning x b.running
+  pub runs-here : (x : document.Recipe) → slice_get v.cleared.recipes b.recipe ≡ Some x → IsRunning x b.running
   runs-here x e = (tree_of v.cleared b, chart-here x e, batch-runs.runs)
 
   abbrev pub rest_here : Rattle.batch_model.specs.Rest.Rest
@@ -166,7 +175,7 @@ module _ (v : EngineView) (k : IsKept v) (i : ℕ) (b : Batch) (at : slice_get v
       (step-place (tree_of v.cleared b) j tree-placed asks.0 (omega (arith, asks.1))) asks served before
 
   -- nobody before `from` is served, and nobody from there on to `node` is in line
-  pub goes-on : (x : Compiled) → slice_get v.charts b.recipe ≡ Some x → (from node : ℕ) → ((j l : ℕ) → j < from → asks_here j l → served_here j l → ⊥)
+  pub goes-on : (x : document.Recipe) → slice_get v.cleared.recipes b.recipe ≡ Some x → (from node : ℕ) → ((j l : ℕ) → j < from → asks_here j l → served_here j l → ⊥)
       → ((t : Tree) → IsChartOf t x → IsRunningOf t b.running → (j l : ℕ) → from ≤ j → j < node → AsksAt t (remains t b.running) j l → ⊥)
       → (j l : ℕ) → j < node → asks_here j l → served_here j l → ⊥
   goes-on x e from node before between j l lt asks served = elim (within-or_past j from) [
@@ -190,7 +199,7 @@ module _ (v : EngineView) (k : IsKept v) (i : ℕ) (b : Batch) (at : slice_get v
       let r : l ≡ m = cc in r
 
   -- the act at `node` isn't first in line, so nobody up to it is served
-  pub passed : (x : Compiled) → slice_get v.charts b.recipe ≡ Some x → (from node need q : ℕ) → ((j l : ℕ) → j < from → asks_here j l → served_here j l → ⊥)
+  pub passed : (x : document.Recipe) → slice_get v.cleared.recipes b.recipe ≡ Some x → (from node need q : ℕ) → ((j l : ℕ) → j < from → asks_here j l → served_here j l → ⊥)
       → ((t : Tree) → IsChartOf t x → IsRunningOf t b.running → (j l : ℕ) → from ≤ j → j < node → AsksAt t (remains t b.running) j l → ⊥)
       → asks_here node need → number_of v.cleared (need_at (tree_of v.cleared b) node need).resource ≡ Some q → (first_here q node → ⊥)
       → (j l : ℕ) → j < node + 1 → asks_here j l → served_here j l → ⊥
@@ -201,11 +210,6 @@ module _ (v : EngineView) (k : IsKept v) (i : ℕ) (b : Batch) (at : slice_get v
         let l_is : l ≡ need = same-need node l need (subst (λ z. asks_here z l) same asks) here in
         not_first (serves-first node need q here number (subst₂ (λ y z. served_here y z) same l_is served))
   ]
-
--- the master recipe with a number
-pub master-found : (c : ClearedSet) (q : ℕ) (r : document.Recipe) → slice_get c.recipes q ≡ Some r → master_at c q ≡ master_of c.cell r
-master-found c q r at =
-    get_or_from_slice_get (map (master_of c.cell) c.recipes) q (master_of c.cell r) (plain no_recipe) (slice_get-map (master_of c.cell) c.recipes q ∙ ap (option_map (master_of c.cell)) at)
 
 -- the recipe with a number, as it is read
 pub recipe-read : (c : ClearedSet) (rs : List document.Recipe) (j q : ℕ) (r : document.Recipe) → rs ≡ c.recipes → j ≡ q → q < length c.recipes → r ≡ get_or rs j r

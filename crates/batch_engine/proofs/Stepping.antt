@@ -78,7 +78,6 @@ module _ (v : EngineView) (k : IsKept v) (i : ℕ) (b b' : Batch) (m : Move) (t 
   kept-after shares cell once room =
       record {
         cleared = k.cleared;
-        charts = k.charts;
         numbers = k.numbers;
         batches = Each-set (IsRunningBatch v.cleared) v.batches i b' k.batches
             (record {

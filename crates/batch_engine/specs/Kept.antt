@@ -17,7 +17,6 @@ use Rattle.batch_verify.specs.ClearedSet.{ClearedSet}
 use Rattle.batch_arbiter.specs.Allocation.{Allocation, line_of, shares_of}
 use Rattle.batch_chart.specs.NodesOf.{needs_in}
 use Rattle.batch_chart.specs.Charts.{IsChartFor, IsRunningOf}
-use Rattle.batch_chart.specs.declared.compiled.Compiled.{Compiled}
 use Rattle.batch_engine.specs.declared.batch.Batch.{Batch}
 use Rattle.batch_engine.specs.Batches.{BatchList, HaveOwnNumbers}
 use Rattle.batch_engine.specs.Numbered.{AreRecipesNumbered}
@@ -35,16 +34,6 @@ pub record IsOfCell (c : ClearedSet) (a : Allocation) : Type 0 where
   pub capacities : a.capacities ≡ capacities_of c.cell
   pub shares : length a.shares ≡ length (names_of c)
   pub lines : length a.lines ≡ length (names_of c)
-
--- each chart is that of the recipe with its number, whatever units take the roles
-abbrev pub AreChartsOf : List document.Recipe → List Compiled → Type 0
-AreChartsOf recipes charts =
-    (k : ℕ) (r : document.Recipe) (chart : Compiled) → slice_get recipes k ≡ Some r → slice_get charts k ≡ Some chart → (bound : Binding) → IsChartFor bound (bound_tree bound r.acts) chart
-
--- each recipe is compiled, for all bindings of its roles
-pub record AreCompiled (c : ClearedSet) (charts : List Compiled) : Type 0 where
-  pub count : length charts ≡ length c.recipes
-  pub each : (k : ℕ) (chart : Compiled) → slice_get charts k ≡ Some chart → (bound : Binding) → IsChartFor bound ((master_at c k).control bound).procedure chart
 
 -- numbers of units, one for each role that a recipe may have
 pub record AreUnits (c : ClearedSet) (units : List ℕ) : Type 0 where
@@ -71,7 +60,6 @@ HasRoom v = needs_of_all v.cleared v.batches ≤ v.allocation.room + claims v.al
 
 pub record IsKept (v : EngineView) : Type 0 where
   pub cleared : CanBeCleared (setup v.cleared)
-  pub charts : AreCompiled v.cleared v.charts
   pub numbers : AreRecipesNumbered v.cleared.cell v.cleared.recipes v.numbers
   pub batches : Each (IsRunningBatch v.cleared) v.batches
   pub cell : IsOfCell v.cleared v.allocation

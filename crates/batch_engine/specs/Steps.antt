@@ -9,7 +9,7 @@ use Rattle.batch_recipe.specs.Conditions.{Name, same_name}
 use Rattle.batch_recipe.specs.Nodes.{node_count}
 use Rattle.batch_chart.specs.Charts.{CanMake, IsWaitingAt, AsksAt, remains, StandsFor}
 use Rattle.batch_chart.specs.Seen.{move_of}
-use Rattle.batch_chart.specs.declared.compiled.Compiled.{Compiled}
+use Rattle.batch_recipe.specs.declared.recipe.Recipe as document
 use Rattle.batch_chart.specs.declared.chart_move.Move.{Move}
 use Rattle.batch_chart.specs.declared.chart_move.Move.TheVariants.{Send, Begin, Start, End}
 use Rattle.batch_engine.specs.declared.batch.Batch.{Batch}
@@ -21,15 +21,15 @@ use Rattle.batch_engine.specs.Names.{resource_name, phase_name}
 use Rattle.batch_engine.specs.Surface as Surface
 use Rattle.batch_engine.specs.View.{EngineView, setup, batch_of, number_of, plant_of, tree_of}
 
--- the batch at an index, and the compiled chart of its recipe
-pub record BatchAt (v : EngineView) (i : ℕ) (b : Batch) (chart : Compiled) : Type 0 where
+-- the batch at an index, and its recipe
+pub record BatchAt (v : EngineView) (i : ℕ) (b : Batch) (chart : document.Recipe) : Type 0 where
   pub at : slice_get v.batches i ≡ Some b
-  pub compiled : slice_get v.charts b.recipe ≡ Some chart
+  pub compiled : slice_get v.cleared.recipes b.recipe ≡ Some chart
 
 -- a move of kinds 1 to 5 of the batch at an index, of which `told` tells
 pub record IsOwnStep (v : EngineView) (told : Model.Move → Type 0) (i : ℕ) (m : Move) : Type 0 where
   pub batch : Batch
-  pub chart : Compiled
+  pub chart : document.Recipe
   pub here : BatchAt v i batch chart
   pub can : CanMake chart batch.running m
   pub about : StandsFor (tree_of v.cleared batch) (remains (tree_of v.cleared batch) batch.running) m
@@ -38,7 +38,7 @@ pub record IsOwnStep (v : EngineView) (told : Model.Move → Type 0) (i : ℕ) (
 -- the act at a node of the batch is given a resource, which the arbiter would give to it
 pub record IsGrantStep (v : EngineView) (told : Model.Move → Type 0) (i node resource units : ℕ) : Type 0 where
   pub batch : Batch
-  pub chart : Compiled
+  pub chart : document.Recipe
   pub here : BatchAt v i batch chart
   pub waits : IsWaitingAt chart batch.running node
   pub need : ℕ

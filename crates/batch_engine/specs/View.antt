@@ -13,7 +13,6 @@ use Rattle.batch_verify.specs.ClearedSet.{ClearedSet}
 use Rattle.batch_arbiter.specs.Allocation.{Claim, Allocation, line_of}
 use Rattle.batch_chart.specs.NodesOf.{place_at}
 use Rattle.batch_chart.specs.Charts.{remains}
-use Rattle.batch_chart.specs.declared.compiled.Compiled.{Compiled}
 use Rattle.batch_engine.specs.Names.{roles_told}
 use Rattle.batch_engine.specs.declared.batch.Batch.{Batch}
 use Rattle.batch_engine.specs.declared.numbers.RecipeNumbers.{RecipeNumbers}
@@ -21,16 +20,15 @@ use Rattle.batch_engine.specs.declared.numbers.RecipeNumbers.{RecipeNumbers}
 pub record EngineView : Type 0 where
   pub cleared : ClearedSet
   -- of each recipe, by its number
-  pub charts : List Compiled
   pub numbers : List RecipeNumbers
   -- by rising number
   pub batches : List Batch
   pub next_number : ℕ
   pub allocation : Allocation
 
-abbrev pub seen : ClearedSet → List Compiled → List RecipeNumbers → List Batch → ℕ → Allocation → EngineView
-seen cleared charts numbers batches next_number allocation =
-    record { cleared = cleared; charts = charts; numbers = numbers; batches = batches; next_number = next_number; allocation = allocation }
+abbrev pub seen : ClearedSet → List RecipeNumbers → List Batch → ℕ → Allocation → EngineView
+seen cleared numbers batches next_number allocation =
+    record { cleared = cleared; numbers = numbers; batches = batches; next_number = next_number; allocation = allocation }
 
 -- the setup of the machine
 abbrev pub setup : ClearedSet → Setup

@@ -5,7 +5,7 @@ ghost use Rattle.batch_model.specs.ActStates.{state_of};
 ghost use Rattle.batch_model.specs.Moves.{next};
 ghost use Rattle.batch_model.specs.Plant.{opening};
 ghost use Rattle.batch_engine.specs.Answered.{IsAnswered};
-ghost use Rattle.batch_engine.specs.Kept.{AreChartsOf, IsKept};
+ghost use Rattle.batch_engine.specs.Kept.{IsKept};
 ghost use Rattle.batch_engine.specs.Led.{IsLed};
 ghost use Rattle.batch_engine.specs.Looked.{batch_state_in, value_in};
 ghost use Rattle.batch_engine.specs.Marked.{AreNoted};
@@ -18,9 +18,7 @@ use crate::numbering::number_recipes;
 use crate::numbers::RecipeNumbers;
 use crate::reply::Reply;
 use batch_arbiter::Arbiter;
-use batch_chart::Compiled;
 use batch_matrix::State;
-use batch_recipe::Recipe;
 use batch_text::{Name, Place};
 use batch_verify::Cleared;
 use std::alloc::{AllocError, Global};
@@ -31,7 +29,6 @@ use std::marker::Model;
 pub struct Control {
     pub(crate) alloc: Global,
     pub(crate) cleared: Cleared,
-    pub(crate) charts: Vec<Compiled>,
     pub(crate) numbers: Vec<RecipeNumbers>,
     pub(crate) batches: Batches,
     /// How many needs the acts of all batches have.
@@ -43,7 +40,6 @@ pub struct Control {
 impl Model for Control {
     ghost use Rattle.std.specs.Coded.{codes};
     ghost use Rattle.batch_arbiter.specs.contracts.arbiter.Arbiter as arbiter_contracts;
-    ghost use Rattle.batch_chart.specs.contracts.compiled.Compiled as compiled_contracts;
     ghost use Rattle.batch_verify.specs.contracts.cleared.Cleared as cleared_contracts;
     ghost use Rattle.batch_engine.specs.contracts.batch.Batch as batch_contracts;
     ghost use Rattle.batch_engine.specs.contracts.numbers.RecipeNumbers as numbers_contracts;
@@ -52,24 +48,11 @@ impl Model for Control {
 
     ghost Value = { EngineView };
 
-    ghost coded = { Prim.hlevel (codes, batch_contracts.the_row.coded, compiled_contracts.the_row.coded, cleared_contracts.the_row.coded, arbiter_contracts.the_row.coded, numbers_contracts.the_row.coded) };
+    ghost coded = { Prim.hlevel (codes, batch_contracts.the_row.coded, cleared_contracts.the_row.coded, arbiter_contracts.the_row.coded, numbers_contracts.the_row.coded) };
 
-    ghost view = { λ e. seen e.cleared e.charts.items e.numbers.items e.batches.batches e.next_number e.arbiter };
+    ghost view = { λ e. seen e.cleared e.numbers.items e.batches.batches e.next_number e.arbiter };
 
-    ghost invariant = { λ e. IsCounted e.batches e.needs (seen e.cleared e.charts.items e.numbers.items e.batches.batches e.next_number e.arbiter) };
-}
-
-/// Compiles the recipes.
-fn compile(alloc: Global, recipes: &[Recipe]) -> Result<Vec<Compiled>, AllocError>
-    ensures count { IfOk result (λ charts. length charts.items ≡ length recipes.now) }
-    ensures each { IfOk result (λ charts. AreChartsOf recipes.now charts.items) }
-{
-    let mut charts = Vec::new(alloc);
-    for recipe in recipes {
-        let chart = Compiled::new(alloc, recipe)?;
-        charts.push(chart)?;
-    }
-    Ok(charts)
+    ghost invariant = { λ e. IsCounted e.batches e.needs (seen e.cleared e.numbers.items e.batches.batches e.next_number e.arbiter) };
 }
 
 impl Control {
@@ -79,10 +62,7 @@ impl Control {
         ensures cleared { IfOk result (λ control. control.cleared ≡ cleared) }
         ensures back { IfErr result (λ fault. fault.1 ≡ cleared) }
     {
-        let Ok(charts) = compile(alloc, cleared.recipes()) else {
-            return Err((AllocError, cleared));
-        };
-        let Ok(numbers) = number_recipes(alloc, cleared.cell(), cleared.recipes(), &charts) else {
+        let Ok(numbers) = number_recipes(alloc, cleared.cell(), cleared.recipes()) else {
             return Err((AllocError, cleared));
         };
         let Ok(arbiter) = Arbiter::new(alloc, cleared.cell()) else {
@@ -91,7 +71,6 @@ impl Control {
         Ok(Control {
             alloc,
             cleared,
-            charts,
             numbers,
             batches: Batches::new(alloc),
             needs: 0,
@@ -159,7 +138,7 @@ impl Control {
         let Some(node) = self.cleared.node_of(batch.recipe, place) else {
             return None;
         };
-        let chart = &self.charts[usize::from(batch.recipe)];
+        let chart = self.cleared.recipe(batch.recipe);
         batch.running.state_at(chart, node, batch.state)
     }
 

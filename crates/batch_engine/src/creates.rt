@@ -86,7 +86,7 @@ impl Control {
             → IsAnswered self.old (Events.create name size pairs) result self.new }
     {
         let needs = self.needs_with(recipe);
-        let Ok(running) = Running::new(self.alloc, &self.charts[usize::from(recipe)]) else {
+        let Ok(running) = Running::new(self.alloc, self.cleared.recipe(recipe)) else {
             return Reply::Refused(Refusal::Memory);
         };
         let Ok(()) = self.arbiter.reserve(needs) else {

@@ -19,7 +19,6 @@ pub struct Engine {
 impl Model for Engine {
     ghost use Rattle.std.specs.Coded.{codes};
     ghost use Rattle.batch_arbiter.specs.contracts.arbiter.Arbiter as arbiter_contracts;
-    ghost use Rattle.batch_chart.specs.contracts.compiled.Compiled as compiled_contracts;
     ghost use Rattle.batch_verify.specs.contracts.cleared.Cleared as cleared_contracts;
     ghost use Rattle.batch_engine.specs.contracts.batch.Batch as batch_contracts;
     ghost use Rattle.batch_engine.specs.contracts.numbers.RecipeNumbers as numbers_contracts;
@@ -28,7 +27,7 @@ impl Model for Engine {
 
     ghost Value = { EngineView };
 
-    ghost coded = { Prim.hlevel (codes, batch_contracts.the_row.coded, compiled_contracts.the_row.coded, cleared_contracts.the_row.coded, arbiter_contracts.the_row.coded, numbers_contracts.the_row.coded) };
+    ghost coded = { Prim.hlevel (codes, batch_contracts.the_row.coded, cleared_contracts.the_row.coded, arbiter_contracts.the_row.coded, numbers_contracts.the_row.coded) };
 
     ghost view = { λ e. e.control };
 

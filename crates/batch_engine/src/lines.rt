@@ -57,7 +57,7 @@ impl Control {
             TaskNumber::Phase(phase) => phase,
             TaskNumber::Role(role) => {
                 let unit = ResourceNumber::Role(role).for_units(&batch.units);
-                let chart = &self.charts[usize::from(batch.recipe)];
+                let chart = self.cleared.recipe(batch.recipe);
                 number_on(self.cleared.cell(), unit, chart, node)
             }
         }

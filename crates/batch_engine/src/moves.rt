@@ -25,7 +25,7 @@ impl Control {
         ensures { MakesNext self.old self.new }
     {
         let batch = &mut self.batches[index];
-        let chart = &self.charts[usize::from(batch.recipe)];
+        let chart = self.cleared.recipe(batch.recipe);
         batch.running.make(chart, made, &batch.values);
     }
 
@@ -38,7 +38,7 @@ impl Control {
         let number = self.batches[index].number;
         self.arbiter.ask(resource, units, number, node);
         let batch = &mut self.batches[index];
-        let chart = &self.charts[usize::from(batch.recipe)];
+        let chart = self.cleared.recipe(batch.recipe);
         batch
             .running
             .make(chart, Move::Ask { node, need }, &batch.values);
@@ -53,7 +53,7 @@ impl Control {
         let number = self.batches[index].number;
         self.arbiter.release(resource, number, node);
         let batch = &mut self.batches[index];
-        let chart = &self.charts[usize::from(batch.recipe)];
+        let chart = self.cleared.recipe(batch.recipe);
         batch
             .running
             .make(chart, Move::Release { node, need }, &batch.values);
@@ -66,7 +66,7 @@ impl Control {
     {
         let _ = self.arbiter.grant_next(resource);
         let batch = &mut self.batches[index];
-        let chart = &self.charts[usize::from(batch.recipe)];
+        let chart = self.cleared.recipe(batch.recipe);
         batch.running.grant(chart, node);
     }
 

@@ -17,7 +17,7 @@ use crate::numbers::{
     ActNumbers, NO_PHASE, NeedNumber, PhaseNumber, RecipeNumbers, ResourceNumber, TaskNumber,
 };
 use batch_cell::Cell;
-use batch_chart::Compiled;
+use batch_chart::{needs, phase_of};
 use batch_recipe::{Act, Need, Recipe, Role, UnitChoice, act_at, node_count};
 use batch_text::Name;
 use std::alloc::{AllocError, Global};
@@ -133,11 +133,11 @@ fn number_phase(cell: &Cell, unit: &Name, phase: &Name) -> PhaseNumber
 }
 
 /// The phase that the act at a node of the chart runs, on the unit with this number.
-pub fn number_on(cell: &Cell, unit: u16, chart: &Compiled, node: u16) -> PhaseNumber
+pub fn number_on(cell: &Cell, unit: u16, chart: &Recipe, node: u16) -> PhaseNumber
     requires { unit < length (units_of cell.now) }
     ensures { (bound : Binding) (t : Tree) → IsChartFor bound t chart.now → result ≡ phase_on cell.now unit (phase_named (node_at t node).here) }
 {
-    match chart.phase_of(node) {
+    match phase_of(chart, node) {
         Some((_unit, phase)) => PhaseNumber {
             unit,
             phase: cell.phase_number(unit, phase).unwrap_or(0),
@@ -147,11 +147,10 @@ pub fn number_on(cell: &Cell, unit: u16, chart: &Compiled, node: u16) -> PhaseNu
 }
 
 /// What the act at a node of the chart runs.
-fn number_task(cell: &Cell, recipe: &Recipe, chart: &Compiled, node: u16) -> TaskNumber
-    requires { (bound : Binding) → IsChartFor bound (bound_tree bound recipe.now.acts) chart.now }
+fn number_task(cell: &Cell, recipe: &Recipe, node: u16) -> TaskNumber
     ensures { (bound : Binding) → IsTaskNumbered cell.now (roles_of recipe.now) bound (node_at (bound_tree bound recipe.now.acts) node).here result }
 {
-    match chart.phase_of(node) {
+    match phase_of(recipe, node) {
         Some((UnitChoice::Unit(unit), phase)) => {
             TaskNumber::Phase(number_phase(cell, unit, phase))
         }
@@ -167,11 +166,9 @@ fn number_act(
     alloc: Global,
     cell: &Cell,
     recipe: &Recipe,
-    chart: &Compiled,
     node: u16,
 ) -> Result<ActNumbers, AllocError>
-    requires chart { (bound : Binding) → IsChartFor bound (bound_tree bound recipe.now.acts) chart.now }
-    requires node { node < node_count (procedure_tree recipe.now.acts) }
+    requires { node < node_count (procedure_tree recipe.now.acts) }
     ensures { IfOk result (λ numbers. (bound : Binding) → IsActNumbered cell.now (roles_of recipe.now) bound (node_at (bound_tree bound recipe.now.acts) node).here numbers) }
 {
     let Some(act) = act_at(recipe, node) else {
@@ -181,7 +178,7 @@ fn number_act(
         });
     };
     let needs = number_needs(alloc, cell, &recipe.roles, act)?;
-    let task = number_task(cell, recipe, chart, node);
+    let task = number_task(cell, recipe, node);
     Ok(ActNumbers { needs, task })
 }
 
@@ -190,19 +187,17 @@ fn number_recipe(
     alloc: Global,
     cell: &Cell,
     recipe: &Recipe,
-    chart: &Compiled,
 ) -> Result<RecipeNumbers, AllocError>
-    requires { (bound : Binding) → IsChartFor bound (bound_tree bound recipe.now.acts) chart.now }
     ensures { IfOk result (λ numbers. IsRecipeNumbered cell.now recipe.now numbers) }
 {
     let mut acts = Vec::new(alloc);
     for node in 0..node_count(recipe) {
-        let act = number_act(alloc, cell, recipe, chart, node)?;
+        let act = number_act(alloc, cell, recipe, node)?;
         acts.push(act)?;
     }
     Ok(RecipeNumbers {
         acts,
-        needs: chart.needs(),
+        needs: needs(recipe),
     })
 }
 
@@ -211,15 +206,12 @@ pub fn number_recipes(
     alloc: Global,
     cell: &Cell,
     recipes: &[Recipe],
-    charts: &[Compiled],
 ) -> Result<Vec<RecipeNumbers>, AllocError>
-    requires count { length charts.now ≡ length recipes.now }
-    requires charts { AreChartsOf recipes.now charts.now }
     ensures { IfOk result (λ numbers. AreRecipesNumbered cell.now recipes.now numbers.items) }
 {
     let mut numbers = Vec::new(alloc);
     for index in 0..recipes.len() {
-        let recipe = number_recipe(alloc, cell, &recipes[index], &charts[index])?;
+        let recipe = number_recipe(alloc, cell, &recipes[index])?;
         numbers.push(recipe)?;
     }
     Ok(numbers)

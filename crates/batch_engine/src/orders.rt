@@ -51,7 +51,7 @@ impl Control {
         ensures { IsOrdered self.old Command.Reset number self.new }
     {
         let batch = &mut self.batches[index];
-        let chart = &self.charts[usize::from(batch.recipe)];
+        let chart = self.cleared.recipe(batch.recipe);
         let recipe = &self.cleared.recipes()[usize::from(batch.recipe)];
         batch.values.clear_outputs(&recipe.outputs);
         batch.state = State::Idle;

@@ -50,7 +50,7 @@ impl Control {
         ensures { IsFirstGrant self.now index result }
     {
         let batch = &self.batches[index];
-        let chart = &self.charts[usize::from(batch.recipe)];
+        let chart = self.cleared.recipe(batch.recipe);
         let mut from = 0;
         while let Some((node, need)) = batch.running.waiting(chart, from) {
             let (resource, units) = self.resource_at(index, node, need);
@@ -71,7 +71,7 @@ impl Control {
         if is_stopped(batch.state) {
             return None;
         }
-        let chart = &self.charts[usize::from(batch.recipe)];
+        let chart = self.cleared.recipe(batch.recipe);
         if let Some(made) = batch.running.next_move(chart, batch.state) {
             return Some(Step::Own { index, made });
         }

@@ -47,7 +47,7 @@ impl Control {
         ensures { IsLiveIn self.now index unit.now phase.now result }
     {
         let batch = &self.batches[index];
-        let chart = &self.charts[usize::from(batch.recipe)];
+        let chart = self.cleared.recipe(batch.recipe);
         let number = self.cleared.cell().unit_of(unit);
         let mut from = 0;
         while let Some((node, state)) = batch.running.live(chart, phase, from) {
@@ -91,7 +91,7 @@ impl Control {
         }
         let batch = &mut self.batches[index];
         let number = batch.number;
-        let chart = &self.charts[usize::from(batch.recipe)];
+        let chart = self.cleared.recipe(batch.recipe);
         batch.values.set_outputs(&report.outputs);
         let next = state_after(report.word, batch.state);
         batch.state = next;

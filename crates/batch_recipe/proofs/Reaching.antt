@@ -98,7 +98,7 @@ module _ (r : Recipe) where
     pub placed : x.place ≡ child above.place entry.child
 
   an_entry : Entry
-  an_entry = record { kind = Rattle.batch_recipe.specs.declared.entry.Kind.TheVariants.Skip; end = 0; parent = 0; child = 0 }
+  an_entry = record { kind = Rattle.batch_recipe.specs.declared.entry.Kind.TheVariants.Skip; end = 0; parent = 0; child = 0; needs = 0; detail = 0 }
 
   pub entry_of_node : (k : ℕ) (x : Node) → slice_get (ns r) k ≡ Some x → (e : Entry) × (slice_get r.outline.entries.items k ≡ Some e)
   entry_of_node k x is =

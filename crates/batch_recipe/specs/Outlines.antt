@@ -27,7 +27,7 @@ form_of kind.Skip = a_skip
 form_of kind.Seq = a_seq
 form_of kind.Par = a_par
 form_of kind.Sel = a_sel
-form_of kind.Loop = a_loop
+form_of (kind.Loop turns) = a_loop
 
 -- the act that a kind names
 abbrev pub act_of : Acts → Kind → Option Act

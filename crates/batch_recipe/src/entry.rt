@@ -16,7 +16,8 @@ pub enum Kind {
     Seq,
     Par,
     Sel,
-    Loop,
+    /// A loop with this greatest number of turns.
+    Loop(u64),
 }
 
 /// A node. It is the child with the number `child` of the node `parent`, and the root is child 0 of itself.
@@ -27,6 +28,11 @@ pub struct Entry {
     pub end: u16,
     pub parent: u16,
     pub child: u16,
+    /// How many needs the act has, its unit among them: 0 where the node is no act.
+    pub needs: u16,
+    /// Of an act the unit procedure that it stands under, by its number in its table; of a `sel` the first of its branches'
+    /// conditions, and of a loop its condition, by their numbers in the outline. 0 at other nodes.
+    pub detail: usize,
 }
 
 impl Kind {
@@ -37,7 +43,7 @@ impl Kind {
         match self {
             Kind::Procedure => Some(&acts.procedure),
             Kind::Act(level, number) => acts.table(level).get(number),
-            Kind::Skip | Kind::Seq | Kind::Par | Kind::Sel | Kind::Loop => None,
+            Kind::Skip | Kind::Seq | Kind::Par | Kind::Sel | Kind::Loop(_) => None,
         }
     }
 }

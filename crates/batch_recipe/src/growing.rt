@@ -2,17 +2,19 @@
 ghost use Rattle.std.specs.Prelude.{◌≡◌, ◌≤◌, ◌<◌, [], ◌++◌, ◌∷◌, map, length, position, slice_get, slice_set, slice_index_or, IfOk, ◌+◌};
 ghost use Rattle.batch_recipe.specs.Conditions.{same_name};
 ghost use Rattle.batch_recipe.specs.Diagram.{diagram_of, diagrams_of};
-ghost use Rattle.batch_recipe.specs.Growing.{HasBegun, HasEnded, HasGrown, act_entries, branch_entries, chart_entries, choice_entries, parts_entries};
+ghost use Rattle.batch_recipe.specs.Growing.{HasAdded, HasBegun, HasEnded, HasGrown, act_conditions, act_entries, bare, branch_conditions, branch_entries, chart_conditions, chart_entries, choice_conditions, choice_entries, needs_count, parts_entries, unit_number};
 ghost use Rattle.batch_recipe.specs.declared.recipe.TheConstants.{MAX_NODES};
 
 use crate::act::{Act, Work};
 use crate::acts::{Acts, LabelTable};
 use crate::chart::Chart;
 use crate::condition::Cond;
+use crate::copying::{push_condition, push_conditions};
 use crate::entry::{Entry, Kind};
 use crate::outline_fault::OutlineFault;
 use crate::recipe::MAX_NODES;
 use batch_text::Name;
+use std::alloc::Global;
 
 /// The number of the first act of the table with this name.
 fn number_of(table: &[Act], name: &Name) -> Option<usize>
@@ -21,10 +23,38 @@ fn number_of(table: &[Act], name: &Name) -> Option<usize>
     table.iter().position(|act| act.name == *name)
 }
 
+/// The unit procedure of an act, where those above it stand under `unit`: a unit procedure stands under itself.
+fn unit_number(table: LabelTable, number: usize, unit: usize) -> usize
+    ensures { result ≡ unit_number table number unit }
+{
+    match table {
+        LabelTable::UnitProcedures => number,
+        LabelTable::Operations | LabelTable::Phases => unit,
+    }
+}
+
+/// How many needs the act has, its unit among them.
+fn needs_count(act: &Act) -> u16
+    ensures { result ≡ needs_count act.now }
+{
+    let needs = act.needs.len() as u16;
+    match &act.unit {
+        None => needs,
+        Some(_) => needs + 1,
+    }
+}
+
 /// Adds a node, below which nothing stands yet, and gives its number.
-fn begin(nodes: &mut Vec<Entry>, kind: Kind, parent: u16, child: u16) -> Result<u16, OutlineFault>
+fn begin(
+    nodes: &mut Vec<Entry>,
+    kind: Kind,
+    needs: u16,
+    detail: usize,
+    parent: u16,
+    child: u16,
+) -> Result<u16, OutlineFault>
     requires { length nodes.old.items ≤ MAX_NODES }
-    ensures { HasBegun nodes.old.items kind parent child nodes.new.items result }
+    ensures { HasBegun nodes.old.items (record { kind = kind; needs = needs; detail = detail }) parent child nodes.new.items result }
 {
     let node = nodes.len() as u16;
     if node >= MAX_NODES {
@@ -35,6 +65,8 @@ fn begin(nodes: &mut Vec<Entry>, kind: Kind, parent: u16, child: u16) -> Result<
         end: node + 1,
         parent,
         child,
+        needs,
+        detail,
     })?;
     Ok(node)
 }
@@ -49,25 +81,29 @@ fn finish(nodes: &mut Vec<Entry>, node: u16)
     nodes[usize::from(node)].end = end;
 }
 
-/// Adds the nodes of an act.
+/// Adds the nodes of an act, which stands under this unit procedure.
 #[cycle(grow)]
 pub fn grow_act(
+    alloc: Global,
     nodes: &mut Vec<Entry>,
+    conditions: &mut Vec<Cond>,
     acts: &Acts,
     act: &Act,
     kind: Kind,
     level: Option<LabelTable>,
+    unit: usize,
     parent: u16,
     child: u16,
 ) -> Result<(), OutlineFault>
     requires { length nodes.old.items ≤ MAX_NODES }
-    ensures { HasGrown nodes.old.items (act_entries acts.now level kind (length nodes.old.items) parent child act.now) nodes.new.items result }
+    ensures grown { HasGrown nodes.old.items (act_entries acts.now level kind unit (length nodes.old.items) (length conditions.old.items) parent child act.now) nodes.new.items result }
+    ensures added { HasAdded conditions.old.items (act_conditions acts.now level act.now) conditions.new.items result }
 {
-    let node = begin(nodes, kind, parent, child)?;
+    let node = begin(nodes, kind, needs_count(act), unit, parent, child)?;
     match &act.work {
         Work::Runs { .. } => Ok(()),
         Work::Follows(chart) => {
-            grow(nodes, acts, chart, level, node, 0)?;
+            grow(alloc, nodes, conditions, acts, chart, level, unit, node, 0)?;
             finish(nodes, node);
             Ok(())
         }
@@ -77,24 +113,28 @@ pub fn grow_act(
 /// Adds a node below which nothing stands.
 fn grow_bare(nodes: &mut Vec<Entry>, parent: u16, child: u16) -> Result<(), OutlineFault>
     requires { length nodes.old.items ≤ MAX_NODES }
-    ensures { HasGrown nodes.old.items (record { kind = Kind.Skip; end = length nodes.old.items + 1; parent = parent; child = child } ∷ []) nodes.new.items result }
+    ensures { HasGrown nodes.old.items (bare (length nodes.old.items) parent child) nodes.new.items result }
 {
-    begin(nodes, Kind::Skip, parent, child)?;
+    begin(nodes, Kind::Skip, 0, 0, parent, child)?;
     Ok(())
 }
 
 /// Adds the nodes of a chart, whose labels are looked up from the level on.
 #[cycle(grow)]
 fn grow(
+    alloc: Global,
     nodes: &mut Vec<Entry>,
+    conditions: &mut Vec<Cond>,
     acts: &Acts,
     chart: &Chart,
     level: Option<LabelTable>,
+    unit: usize,
     parent: u16,
     child: u16,
 ) -> Result<(), OutlineFault>
     requires { length nodes.old.items ≤ MAX_NODES }
-    ensures { HasGrown nodes.old.items (chart_entries acts.now level (length nodes.old.items) parent child (diagram_of chart.now)) nodes.new.items result }
+    ensures grown { HasGrown nodes.old.items (chart_entries acts.now level unit (length nodes.old.items) (length conditions.old.items) parent child (diagram_of chart.now)) nodes.new.items result }
+    ensures added { HasAdded conditions.old.items (chart_conditions acts.now level (diagram_of chart.now)) conditions.new.items result }
 {
     match chart {
         Chart::Label(name) => match level {
@@ -104,11 +144,14 @@ fn grow(
                 Some(number) => match acts.table(table).get(number) {
                     None => grow_bare(nodes, parent, child),
                     Some(act) => grow_act(
+                        alloc,
                         nodes,
+                        conditions,
                         acts,
                         act,
                         Kind::Act(table, number),
                         table.below(),
+                        unit_number(table, number, unit),
                         parent,
                         child,
                     ),
@@ -116,17 +159,56 @@ fn grow(
             },
         },
         Chart::Skip => grow_bare(nodes, parent, child),
-        Chart::Seq(parts) => grow_parts(nodes, acts, Kind::Seq, parts, level, parent, child),
-        Chart::Par(parts) => grow_parts(nodes, acts, Kind::Par, parts, level, parent, child),
+        Chart::Seq(parts) => grow_parts(
+            alloc,
+            nodes,
+            conditions,
+            acts,
+            Kind::Seq,
+            parts,
+            level,
+            unit,
+            parent,
+            child,
+        ),
+        Chart::Par(parts) => grow_parts(
+            alloc,
+            nodes,
+            conditions,
+            acts,
+            Kind::Par,
+            parts,
+            level,
+            unit,
+            parent,
+            child,
+        ),
         Chart::Sel(choices, last) => {
-            let node = begin(nodes, Kind::Sel, parent, child)?;
-            grow_choices(nodes, acts, choices, last, level, node)?;
+            let node = begin(nodes, Kind::Sel, 0, conditions.len(), parent, child)?;
+            let Ok(()) = push_conditions(alloc, conditions, choices) else {
+                return Err(OutlineFault::Memory);
+            };
+            grow_choices(
+                alloc, nodes, conditions, acts, choices, last, level, unit, node,
+            )?;
             finish(nodes, node);
             Ok(())
         }
-        Chart::Loop(_, turn) => {
-            let node = begin(nodes, Kind::Loop, parent, child)?;
-            grow(nodes, acts, &turn.1, level, node, 0)?;
+        Chart::Loop(turns, turn) => {
+            let node = begin(
+                nodes,
+                Kind::Loop(*turns),
+                0,
+                conditions.len(),
+                parent,
+                child,
+            )?;
+            let Ok(()) = push_condition(alloc, conditions, &turn.0) else {
+                return Err(OutlineFault::Memory);
+            };
+            grow(
+                alloc, nodes, conditions, acts, &turn.1, level, unit, node, 0,
+            )?;
             finish(nodes, node);
             Ok(())
         }
@@ -136,19 +218,23 @@ fn grow(
 /// Adds a node and its branches.
 #[cycle(grow)]
 fn grow_parts(
+    alloc: Global,
     nodes: &mut Vec<Entry>,
+    conditions: &mut Vec<Cond>,
     acts: &Acts,
     kind: Kind,
     parts: &[Chart],
     level: Option<LabelTable>,
+    unit: usize,
     parent: u16,
     child: u16,
 ) -> Result<(), OutlineFault>
     requires { length nodes.old.items ≤ MAX_NODES }
-    ensures { HasGrown nodes.old.items (parts_entries acts.now level kind (length nodes.old.items) parent child (map diagram_of parts.now)) nodes.new.items result }
+    ensures grown { HasGrown nodes.old.items (parts_entries acts.now level kind unit (length nodes.old.items) (length conditions.old.items) parent child (map diagram_of parts.now)) nodes.new.items result }
+    ensures added { HasAdded conditions.old.items (branch_conditions acts.now level (map diagram_of parts.now)) conditions.new.items result }
 {
-    let node = begin(nodes, kind, parent, child)?;
-    grow_each(nodes, acts, parts, level, node)?;
+    let node = begin(nodes, kind, 0, 0, parent, child)?;
+    grow_each(alloc, nodes, conditions, acts, parts, level, unit, node)?;
     finish(nodes, node);
     Ok(())
 }
@@ -156,18 +242,24 @@ fn grow_parts(
 /// Adds the nodes of branches.
 #[cycle(grow)]
 fn grow_each(
+    alloc: Global,
     nodes: &mut Vec<Entry>,
+    conditions: &mut Vec<Cond>,
     acts: &Acts,
     parts: &[Chart],
     level: Option<LabelTable>,
+    unit: usize,
     parent: u16,
 ) -> Result<(), OutlineFault>
     requires { length nodes.old.items ≤ MAX_NODES }
-    ensures { HasGrown nodes.old.items (branch_entries acts.now level (length nodes.old.items) parent 0 (map diagram_of parts.now)) nodes.new.items result }
+    ensures grown { HasGrown nodes.old.items (branch_entries acts.now level unit (length nodes.old.items) (length conditions.old.items) parent 0 (map diagram_of parts.now)) nodes.new.items result }
+    ensures added { HasAdded conditions.old.items (branch_conditions acts.now level (map diagram_of parts.now)) conditions.new.items result }
 {
     let mut child = 0;
     for part in parts {
-        grow(nodes, acts, part, level, parent, child)?;
+        grow(
+            alloc, nodes, conditions, acts, part, level, unit, parent, child,
+        )?;
         child += 1;
     }
     Ok(())
@@ -176,20 +268,28 @@ fn grow_each(
 /// Adds the nodes of a selection's branches.
 #[cycle(grow)]
 fn grow_choices(
+    alloc: Global,
     nodes: &mut Vec<Entry>,
+    conditions: &mut Vec<Cond>,
     acts: &Acts,
     choices: &[(Cond, Chart)],
     last: &Chart,
     level: Option<LabelTable>,
+    unit: usize,
     parent: u16,
 ) -> Result<(), OutlineFault>
     requires { length nodes.old.items ≤ MAX_NODES }
-    ensures { HasGrown nodes.old.items (choice_entries acts.now level (length nodes.old.items) parent 0 choices.now last.now) nodes.new.items result }
+    ensures grown { HasGrown nodes.old.items (choice_entries acts.now level unit (length nodes.old.items) (length conditions.old.items) parent 0 choices.now last.now) nodes.new.items result }
+    ensures added { HasAdded conditions.old.items (choice_conditions acts.now level choices.now last.now) conditions.new.items result }
 {
     let mut child = 0;
     for choice in choices {
-        grow(nodes, acts, &choice.1, level, parent, child)?;
+        grow(
+            alloc, nodes, conditions, acts, &choice.1, level, unit, parent, child,
+        )?;
         child += 1;
     }
-    grow(nodes, acts, last, level, parent, child)
+    grow(
+        alloc, nodes, conditions, acts, last, level, unit, parent, child,
+    )
 }

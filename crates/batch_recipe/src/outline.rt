@@ -1,11 +1,12 @@
 //! The outline of a recipe's acts.
 ghost use Rattle.std.specs.Prelude.{◌≡◌, ◌<◌, ◌≤◌, ◌↔◌, length, IfOk, IsErrOf};
-ghost use Rattle.batch_recipe.specs.Growing.{entries_of};
+ghost use Rattle.batch_recipe.specs.Growing.{conditions_of, entries_of};
 ghost use Rattle.batch_recipe.specs.Procedure.{procedure_nodes};
 ghost use Rattle.batch_recipe.specs.declared.outline_fault.OutlineFault.TheVariants.{TooMany};
 ghost use Rattle.batch_recipe.specs.declared.recipe.TheConstants.{MAX_NODES};
 
 use crate::acts::{Acts, LabelTable};
+use crate::condition::Cond;
 use crate::entry::{Entry, Kind};
 use crate::growing::grow_act;
 use crate::outline_fault::OutlineFault;
@@ -16,6 +17,8 @@ use std::alloc::Global;
 pub struct Outline {
     /// Node `k` is entry `k`.
     pub entries: Vec<Entry>,
+    /// The conditions of the nodes that have some, in the order of these nodes.
+    pub conditions: Vec<Cond>,
     ghost few: { length entries.items ≤ MAX_NODES },
 }
 
@@ -24,19 +27,27 @@ impl Outline {
     /// `MAX_NODES` nodes, and `Memory` where memory is refused on the way.
     pub fn new(alloc: Global, acts: &Acts) -> Result<Outline, OutlineFault>
         ensures ok { IfOk result (λ outline. outline.entries.items ≡ entries_of acts.now) }
+        ensures conditions { IfOk result (λ outline. outline.conditions.items ≡ conditions_of acts.now) }
         ensures many { IsErrOf result OutlineFault.TooMany → MAX_NODES < length (procedure_nodes acts.now) }
     {
         let mut entries = Vec::new(alloc);
+        let mut conditions = Vec::new(alloc);
         let level = Some(LabelTable::UnitProcedures);
         grow_act(
+            alloc,
             &mut entries,
+            &mut conditions,
             acts,
             &acts.procedure,
             Kind::Procedure,
             level,
             0,
             0,
+            0,
         )?;
-        Ok(Outline { entries })
+        Ok(Outline {
+            entries,
+            conditions,
+        })
     }
 }

@@ -1,6 +1,5 @@
 use Rattle.std.proofs.Common.{◌≡◌, ◌⊎◌, inl, inr, arith, true, refl, sym, ◌∙◌}
-use Rattle.std.specs.Prelude.{slice_get}
-use Rattle.batch_chart.specs.Compiled.{judged}
+use Rattle.batch_chart.specs.Compiled.{judged, condition_at}
 use Rattle.batch_chart.proofs.Standing.{within}
 use Rattle.batch_chart.proofs.Climbed.{n-compiled, passed-last, passed-round}
 use Rattle.batch_chart.proofs.RisenNeatly.{loop-runs, neatly-last, neatly-round}
@@ -15,7 +14,7 @@ returns-in_default c = record { passes = λ xs ws ms r s. absurd (loop-runs _ _ 
 pub returns-then-left-eq0 : goal.returns-then-left-eq0
 returns-then-left-eq0 c =
     let h = within _ _ _ _ c.requires.compiled in
-    let last : (c.in-Some.left ≡ 0) ⊎ (true ≡ judged (slice_get c.args.details.now c.args.until) c.args.values.now) =
+    let last : (c.in-Some.left ≡ 0) ⊎ (true ≡ judged (condition_at c.args.recipe.now c.args.until) c.args.values.now) =
     elim c.then-left-eq0.branch [ goal.then-left-eq0-via-then-left-eq0 w ↦ inl w.if-left-eq0.true | goal.then-left-eq0-via-else-left-eq0+then-judge w ↦ inr w.if-judge.ensures ] in
     record {
       passes = λ xs ws ms r s. (

@@ -16,6 +16,6 @@ returns c =
     let kind = ap (kind_at c.args.nodes.now) c.from-n.ensures ∙ c.requires.allowed.2 in
     record {
       made = makes-end _ _ _ _ _ c.requires.allowed _ _ _ _ refl c.from-n.ensures kind
-          (subst (λ z. IsFreed c.args.nodes.now c.args.details.now c.args.values.now c.from-n.result z c.args.stages.now c.free.new.stages) (c.needs-needs.ensures ∙ ap needs_of kind) c.free.ensures.freed);
+          (subst (λ z. IsFreed c.args.nodes.now c.args.recipe.now c.args.values.now c.from-n.result z c.args.stages.now c.free.new.stages) (c.needs-needs.ensures ∙ (ap needs_of c.kind_of.ensures ∙ ap needs_of kind)) c.free.ensures.freed);
       kept = record { count = c.free.ensures.count; keeps = λ h. c.free.ensures.neat };
     }

@@ -5,7 +5,7 @@ use Rattle.batch_chart.proofs.next_moves.next_named.Given as goal
 abbrev pub invariant-loop-node : goal.invariant-loop-node
 invariant-loop-node l = record {
   onwards : l.fn.from ≤ l.at;
-  none : NoneNamed l.fn.nodes l.fn.details l.fn.signs l.fn.from l.fn.phase l.at;
+  none : NoneNamed l.fn.nodes l.fn.recipe l.fn.signs l.fn.from l.fn.phase l.at;
 }
 
 abbrev pub decreases-loop-node : goal.decreases-loop-node

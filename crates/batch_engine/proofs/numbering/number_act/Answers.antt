@@ -14,7 +14,7 @@ use Rattle.batch_engine.proofs.numbering.number_act.Goals as goal
 pub returns-in_default : goal.returns-in_default
 returns-in_default c =
     let r = c.args.recipe.now in
-    let few : c.args.node < length (procedure_nodes r.acts) = omega (arith, c.requires.node, counted_nodes (0 ∷ []) [] (procedure_tree r.acts)) in
+    let few : c.args.node < length (procedure_nodes r.acts) = omega (arith, c.requires, counted_nodes (0 ∷ []) [] (procedure_tree r.acts)) in
     let none : slice_get (procedure_acts r.acts) c.args.node ≡ Some None = c.act_at.ensures.act few ∙ ap (λ o. Some (option_copied o)) c.in_default.is in
     λ bound. no-act-numbered c.args.cell.now (roles_of r) bound (node_at (bound_tree bound r.acts) c.args.node).here _ (none-here bound r.acts c.args.node none) c.new.ensures.items refl
 
@@ -24,7 +24,7 @@ number_needs-requires c = omega (arith, c.args.recipe.now.few_roles, ap (λ xs. 
 pub returns : goal.returns
 returns c =
     let r = c.args.recipe.now in
-    let few : c.args.node < length (procedure_nodes r.acts) = omega (arith, c.requires.node, counted_nodes (0 ∷ []) [] (procedure_tree r.acts)) in
+    let few : c.args.node < length (procedure_nodes r.acts) = omega (arith, c.requires, counted_nodes (0 ∷ []) [] (procedure_tree r.acts)) in
     let some : slice_get (procedure_acts r.acts) c.args.node ≡ Some (Some c.in-Some.act.now) = c.act_at.ensures.act few ∙ ap (λ o. Some (option_copied o)) c.in-Some.is in
     let x : ActNumbers = record { needs = c.in_ok-needs.needs; task = c.number_task-task.result } in
     let needs : AreNeeds c.args.cell.now (roles_of r) c.in-Some.act.now.unit c.in-Some.act.now.needs.items x.needs.items =

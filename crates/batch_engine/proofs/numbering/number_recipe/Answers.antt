@@ -4,6 +4,7 @@ use Rattle.batch_recipe.specs.Expanding.{Binding, unbound}
 use Rattle.batch_recipe.specs.Procedure.{bound_tree, procedure_tree}
 use Rattle.batch_recipe.proofs.Order.{counted_nodes}
 use Rattle.batch_chart.specs.NodesOf.{node_at}
+use Rattle.batch_chart.proofs.Laid.{is_chart}
 use Rattle.batch_engine.specs.Names.{roles_of}
 use Rattle.batch_engine.specs.Numbered.{IsActNumbered}
 use Rattle.batch_engine.specs.declared.numbers.ActNumbers.{ActNumbers}
@@ -11,8 +12,8 @@ use Rattle.batch_engine.proofs.AlikeNodes.{count-alike}
 use Rattle.batch_engine.proofs.NumbersFound.{pushed}
 use Rattle.batch_engine.proofs.numbering.number_recipe.Goals as goal
 
-pub number_act-requires-clause-node : goal.number_act-requires-clause-node
-number_act-requires-clause-node c =
+pub number_act-requires : goal.number_act-requires
+number_act-requires c =
     omega (arith, c.loop-node-test.true, c.node_count-node-end.ensures, counted_nodes (0 ∷ []) [] (procedure_tree c.args.recipe.now.acts))
 
 pub loop-node-preserved : goal.loop-node-preserved
@@ -29,9 +30,6 @@ loop-node-preserved c =
       omega (arith, c.loop-node-test.true, c.node_count-node-end.ensures),
     )
 
-pub needs-requires : goal.needs-requires
-needs-requires c = (bound_tree unbound c.args.recipe.now.acts, (c.requires unbound).0)
-
 pub returns : goal.returns
 returns c = λ bound.
     record {
@@ -44,5 +42,5 @@ returns c = λ bound.
         count-alike bound c.args.recipe.now.acts,
       );
       each = λ k x e. c.loop-node.invariant.1 k x e bound;
-      needs = c.needs.ensures (bound_tree bound c.args.recipe.now.acts) (c.requires bound).0;
+      needs = c.needs.ensures (bound_tree bound c.args.recipe.now.acts) (is_chart c.args.recipe.now bound).0;
     }

@@ -2,24 +2,12 @@ use Rattle.std.proofs.Common.{◌≡◌, ◌<◌, refl, sym, ap, subst, arith, �
 use Rattle.std.proofs.lemmas.List.{length-append}
 use Rattle.std.proofs.lemmas.Option.{slice_get_read}
 use Rattle.batch_recipe.specs.declared.recipe.Recipe.{Recipe}
-use Rattle.batch_chart.specs.declared.compiled.Compiled.{Compiled}
+use Rattle.batch_recipe.specs.declared.recipe.Recipe as document
 use Rattle.batch_engine.specs.Numbered.{IsRecipeNumbered}
 use Rattle.batch_engine.specs.declared.numbers.RecipeNumbers.{RecipeNumbers}
 use Rattle.batch_engine.proofs.Answering.{same-at}
 use Rattle.batch_engine.proofs.NumbersFound.{pushed}
 use Rattle.batch_engine.proofs.numbering.number_recipes.Goals as goal
-
-pub number_recipe-requires : goal.number_recipe-requires
-number_recipe-requires c =
-    let recipes = c.args.recipes.now in
-    let charts = c.args.charts.now in
-    let i : ℕ = c.loop-index.index in
-    let r : Recipe = c.index-recipes-index.result in
-    let x : Compiled = c.index-charts-index.result in
-    let few : i < length recipes = omega (arith, c.loop-index-test.true) in
-    let at : slice_get recipes i ≡ Some r = slice_get_read recipes (length recipes) i r refl few c.index-recipes-index.is in
-    let chart : slice_get charts i ≡ Some x = slice_get_read charts (length charts) i x refl (omega (arith, few, c.requires.count)) c.index-charts-index.is in
-    c.requires.charts i r x at chart
 
 pub loop-index-preserved : goal.loop-index-preserved
 loop-index-preserved c =

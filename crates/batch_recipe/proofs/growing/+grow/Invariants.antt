@@ -21,7 +21,7 @@ abbrev pub decreases-grow_choices : goal.decreases-grow_choices
 decreases-grow_choices l = 3 * counted_cases (counted_name (tables_from l.acts.now l.level)) (cases_of (map (λ choice. (choice.0, diagram_of choice.1)) l.choices.now) (diagram_of l.last.now)) + 2
 
 abbrev pub invariant-grow_each-loop-part : goal.invariant-grow_each-loop-part
-invariant-grow_each-loop-part l = KeepsGrowing l.acts l.level l.parent l.parts l.initial.nodes.items l.part-index l.child l.nodes.items
+invariant-grow_each-loop-part l = KeepsGrowing l.acts l.level l.unit l.parent l.parts l.initial.nodes.items l.initial.conditions.items l.part-index l.child l.nodes.items l.conditions.items
 
 abbrev pub invariant-grow_choices-loop-choice : goal.invariant-grow_choices-loop-choice
-invariant-grow_choices-loop-choice l = KeepsChoosing l.acts l.level l.parent l.choices l.last l.initial.nodes.items l.choice-index l.child l.nodes.items
+invariant-grow_choices-loop-choice l = KeepsChoosing l.acts l.level l.unit l.parent l.choices l.last l.initial.nodes.items l.initial.conditions.items l.choice-index l.child l.nodes.items l.conditions.items

@@ -24,7 +24,7 @@ loop-entry-preserved c =
     let r = c.args.recipe.now in
     let n = c.loop-entry.entry-index in
     let h = c.loop-entry.invariant in
-    let zero : Entry = record { kind = kind.Skip; end = 0; parent = 0; child = 0 } in
+    let zero : Entry = record { kind = kind.Skip; end = 0; parent = 0; child = 0; needs = 0; detail = 0 } in
     let entry : Entry = get_or c.deref-entry-items.result.now n zero in
     let is : slice_get r.outline.entries.items n ≡ Some entry =
     ap (λ xs. slice_get xs n) (sym c.deref-entry-items.ensures.value) ∙ slice_get-get_or c.deref-entry-items.result.now n zero c.loop-entry-test.true in

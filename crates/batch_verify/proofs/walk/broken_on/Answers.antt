@@ -18,7 +18,7 @@ use Rattle.batch_verify.proofs.Paths.{KeepsPaths-more, number_above, looked, fau
 use Rattle.batch_verify.proofs.walk.broken_on.Goals as goal
 
 abbrev no_entry : Entry
-no_entry = record { kind = kind.Skip; end = 0; parent = 0; child = 0 }
+no_entry = record { kind = kind.Skip; end = 0; parent = 0; child = 0; needs = 0; detail = 0 }
 
 pub bounds-faults-node : goal.bounds-faults-node
 bounds-faults-node c =

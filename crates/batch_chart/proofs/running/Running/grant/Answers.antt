@@ -5,11 +5,11 @@ use Rattle.batch_chart.proofs.Runs.{runs-lives, runs-long, went-on}
 use Rattle.batch_chart.proofs.running.Running.grant.Goals as goal
 
 pub grant_at-requires : goal.grant_at-requires
-grant_at-requires c = rw (c.deref.ensures.value, c.deref-2.ensures.value, c.deref_mut.ensures.value) (record { lives = runs-lives c.args.chart.now c.args.self.now c.requires.running; signs = runs-long c.args.chart.now c.args.self.now c.requires.running; asking = c.requires.waits })
+grant_at-requires c = rw (c.deref.ensures.value, c.deref_mut.ensures.value) (record { lives = runs-lives c.args.chart.now c.args.self.now c.requires.running; signs = runs-long c.args.chart.now c.args.self.now c.requires.running; asking = c.requires.waits })
 
 pub returns : goal.returns
 returns c = λ t laid old.
-    (let h = (rw (c.deref.ensures.value, c.deref-2.ensures.value, c.deref_mut.ensures.value) at c.grant_at.ensures.changed).means t laid old.alive in
-    let up = rw (c.deref.ensures.value, c.deref-2.ensures.value, c.deref_mut.ensures.value) at c.grant_at.ensures.kept in
+    (let h = (rw (c.deref.ensures.value, c.deref_mut.ensures.value) at c.grant_at.ensures.changed).means t laid old.alive in
+    let up = rw (c.deref.ensures.value, c.deref_mut.ensures.value) at c.grant_at.ensures.kept in
     let is = with_items_is c.args.self.now.stages c.grant_at.new.stages (c.grant_at.auto.stages ∙ c.deref_mut.ensures.len) in
     (went-on c.args.chart.now c.args.self.now _ _ is up t laid old h.0, ap (meaning t 0) is ∙ h.1, λ vs. ap (meaning t 0) is ∙ h.2 vs))

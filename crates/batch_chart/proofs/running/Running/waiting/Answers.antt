@@ -12,4 +12,4 @@ returns-clause-before c =
     (λ (w : ℕ × ℕ). (t : Tree) → IsChartOf t c.args.chart.now → IsRunningOf t c.args.self.now
     → (k i : ℕ) → c.args.from ≤ k → k < w.0 → AsksAt t (remains t c.args.self.now) k i → ⊥)
     (λ w h t laid old. h t laid old.alive) c.next_waiting.result
-    (rw (c.deref.ensures.value, c.deref-2.ensures.value, c.deref-3.ensures.value) at c.next_waiting.ensures).before
+    (rw (c.deref.ensures.value, c.deref-2.ensures.value) at c.next_waiting.ensures).before

@@ -8,12 +8,12 @@ use Rattle.batch_model.specs.Events.{new_batch, Answer}
 use Rattle.batch_model.specs.Runs.{Reacts, IsCreated}
 use Rattle.batch_arbiter.specs.Allocation.{Allocation}
 use Rattle.batch_chart.specs.NodesOf.{needs_in}
-use Rattle.batch_chart.specs.declared.compiled.Compiled.{Compiled}
+use Rattle.batch_recipe.specs.declared.recipe.Recipe as document
 use Rattle.batch_engine.specs.declared.batch.Batch.{Batch}
 use Rattle.batch_engine.specs.View.{EngineView, seen, setup, bound_to, recipe_at, tree_at, batch_of, plant_of}
 use Rattle.batch_engine.specs.Kept.{IsKept, needs_of_all}
 use Rattle.batch_engine.proofs.FewNeeds.{few-batches}
-use Rattle.batch_engine.proofs.Finding.{got-chart}
+use Rattle.batch_engine.proofs.Finding.{chart-of, got-chart}
 use Rattle.batch_engine.proofs.Reacting.{with}
 use Rattle.batch_engine.proofs.Creating.{react-create, create-reacts, create-kept, room-kept}
 use Rattle.batch_engine.specs.Names.{recipe_name, roles_told}
@@ -29,19 +29,19 @@ needs_with-needs-requires-clause-free c = few-batches c.args.self.now c.requires
 
 pub add-requires : goal.add-requires
 add-requires c =
-    let w : EngineView = seen c.self.inside.cleared c.self.inside.charts.items c.self.inside.numbers.items c.self.inside.batches.batches c.self.inside.next_number c.self.inside.arbiter in
+    let w : EngineView = seen c.self.inside.cleared c.self.inside.numbers.items c.self.inside.batches.batches c.self.inside.next_number c.self.inside.arbiter in
     new-number w c.self.invariant.kept c.self.inside.batches refl c.self.invariant.numbers
 
 pub returns-in_default-add : goal.returns-in_default-add
 returns-in_default-add c = λ name pairs o.
     let v : EngineView = c.args.self.now in
-    let w : EngineView = seen c.self.inside.cleared c.self.inside.charts.items c.self.inside.numbers.items c.self.inside.batches.batches c.self.inside.next_number c.self.inside.arbiter in
+    let w : EngineView = seen c.self.inside.cleared c.self.inside.numbers.items c.self.inside.batches.batches c.self.inside.next_number c.self.inside.arbiter in
     let e : w ≡ v = c.self.view_is in
     let room : ℕ = c.reserve.new.self.room in
     let arbiter : c.reserve.new.self ≡ record (c.self.inside.arbiter) { room = room } = c.in-Ok-reserve.ensures.rest in
     let items : c.add.new.self.batches ≡ c.self.inside.batches.batches = ap (λ (r : BatchList). r.batches) c.in_default-add.ensures.same in
-    let same : plant_of (seen c.self.inside.cleared c.self.inside.charts.items c.self.inside.numbers.items c.add.new.self.batches c.self.inside.next_number c.reserve.new.self) ≡ plant_of v =
-    ap₂ (λ (bs : List Batch) (a : Allocation). plant_of (seen c.self.inside.cleared c.self.inside.charts.items c.self.inside.numbers.items bs c.self.inside.next_number a)) items arbiter ∙ ap plant_of e in
+    let same : plant_of (seen c.self.inside.cleared c.self.inside.numbers.items c.add.new.self.batches c.self.inside.next_number c.reserve.new.self) ≡ plant_of v =
+    ap₂ (λ (bs : List Batch) (a : Allocation). plant_of (seen c.self.inside.cleared c.self.inside.numbers.items bs c.self.inside.next_number a)) items arbiter ∙ ap plant_of e in
     let document = some-at v.cleared.recipes c.args.recipe c.requires.2.known in
     let called : recipe_name v.cleared c.args.recipe ≡ (recipe_at v.cleared c.args.recipe c.args.units).name = recipe-named v.cleared c.args.recipe document.0 document.1 (bound_to v.cleared c.args.recipe c.args.units) in
     record {
@@ -53,7 +53,7 @@ pub invariant_of-self-in_default-add : goal.invariant_of-self-in_default-add
 invariant_of-self-in_default-add c =
     let v : EngineView = c.args.self.now in
     let kept : IsKept v = subst IsKept c.self.view_is c.self.invariant.kept in
-    let w : EngineView = seen c.self.inside.cleared c.self.inside.charts.items c.self.inside.numbers.items c.self.inside.batches.batches c.self.inside.next_number c.self.inside.arbiter in
+    let w : EngineView = seen c.self.inside.cleared c.self.inside.numbers.items c.self.inside.batches.batches c.self.inside.next_number c.self.inside.arbiter in
     let e : w ≡ v = c.self.view_is in
     let room : ℕ = c.reserve.new.self.room in
     let more : v.allocation.room ≤ room = subst (λ (z : EngineView). z.allocation.room ≤ room) e c.in-Ok-reserve.ensures.room in
@@ -62,8 +62,8 @@ invariant_of-self-in_default-add c =
     let inside : IsKept (with w w.batches w.next_number (record (w.allocation) { room = room })) =
     subst (λ (z : EngineView). IsKept (with z z.batches z.next_number (record (z.allocation) { room = room }))) (sym e) (room-kept v kept room more) in
     record {
-      kept = subst (λ (a : Allocation). IsKept (seen c.self.inside.cleared c.self.inside.charts.items c.self.inside.numbers.items c.add.new.self.batches c.self.inside.next_number a)) (sym arbiter)
-          (subst (λ (bs : List Batch). IsKept (seen c.self.inside.cleared c.self.inside.charts.items c.self.inside.numbers.items bs c.self.inside.next_number (record (c.self.inside.arbiter) { room = room }))) (sym items) inside);
+      kept = subst (λ (a : Allocation). IsKept (seen c.self.inside.cleared c.self.inside.numbers.items c.add.new.self.batches c.self.inside.next_number a)) (sym arbiter)
+          (subst (λ (bs : List Batch). IsKept (seen c.self.inside.cleared c.self.inside.numbers.items bs c.self.inside.next_number (record (c.self.inside.arbiter) { room = room }))) (sym items) inside);
       numbers = subst HaveOwnNumbers (sym c.in_default-add.ensures.same) c.self.invariant.numbers;
       needs_are = c.self.invariant.needs_are ∙ sym (ap (needs_of_all c.self.inside.cleared) items);
     }
@@ -72,12 +72,12 @@ pub invariant_of-self-2 : goal.invariant_of-self-2
 invariant_of-self-2 c =
     let v : EngineView = c.args.self.now in
     let kept : IsKept v = subst IsKept c.self.view_is c.self.invariant.kept in
-    let x : Compiled = c.index.result.now in
-    let few : c.args.recipe < length v.charts = omega (arith, c.requires.2.known, kept.charts.count) in
-    let compiled : slice_get v.charts c.args.recipe ≡ Some x = got-chart v _ c.from.result c.args.recipe x c.self.view_is c.from.ensures few c.index.ensures in
+    let x : document.Recipe = c.recipe.result.now in
+    let few : c.args.recipe < length v.cleared.recipes = c.requires.2.known in
+    let compiled : slice_get v.cleared.recipes c.args.recipe ≡ Some x = got-chart v _ c.args.recipe x c.self.view_is c.recipe.ensures in
     let t = tree_at v.cleared c.args.recipe c.args.units in
-    let made = λ (vs : ValueList). c.in-Ok.ensures t vs (kept.charts.each c.args.recipe x compiled (bound_to v.cleared c.args.recipe c.args.units)).0 in
-    let w : EngineView = seen c.self.inside.cleared c.self.inside.charts.items c.self.inside.numbers.items c.self.inside.batches.batches c.self.inside.next_number c.self.inside.arbiter in
+    let made = λ (vs : ValueList). c.in-Ok.ensures t vs (chart-of v.cleared c.args.recipe x compiled (bound_to v.cleared c.args.recipe c.args.units)).0 in
+    let w : EngineView = seen c.self.inside.cleared c.self.inside.numbers.items c.self.inside.batches.batches c.self.inside.next_number c.self.inside.arbiter in
     let e : w ≡ v = c.self.view_is in
     let b : Batch = record { number = c.self.inside.next_number; recipe = c.args.recipe; units = c.args.units; size = c.args.size; values = c.args.values; state = Idle; running = c.in-Ok.running } in
     let room : ℕ = c.reserve.new.self.room in
@@ -94,8 +94,8 @@ invariant_of-self-2 c =
     let inside : IsKept (with w (w.batches ++ b ∷ []) (w.next_number + 1) (record (w.allocation) { room = room })) =
     subst (λ (z : EngineView). IsKept (with z (z.batches ++ b ∷ []) (z.next_number + 1) (record (z.allocation) { room = room }))) (sym e) kept_after in
     record {
-      kept = subst (λ (a : Allocation). IsKept (seen c.self.inside.cleared c.self.inside.charts.items c.self.inside.numbers.items c.add.new.self.batches (c.self.inside.next_number + 1) a)) (sym arbiter)
-          (subst (λ (bs : List Batch). IsKept (seen c.self.inside.cleared c.self.inside.charts.items c.self.inside.numbers.items bs (c.self.inside.next_number + 1) (record (c.self.inside.arbiter) { room = room }))) (sym items) inside);
+      kept = subst (λ (a : Allocation). IsKept (seen c.self.inside.cleared c.self.inside.numbers.items c.add.new.self.batches (c.self.inside.next_number + 1) a)) (sym arbiter)
+          (subst (λ (bs : List Batch). IsKept (seen c.self.inside.cleared c.self.inside.numbers.items bs (c.self.inside.next_number + 1) (record (c.self.inside.arbiter) { room = room }))) (sym items) inside);
       numbers = subst HaveOwnNumbers (sym c.in-Ok-add.ensures.added) (own-numbers-push c.self.inside.batches b c.self.invariant.numbers);
       needs_are = counted ∙ sym (ap (needs_of_all w.cleared) items);
     }
@@ -104,12 +104,12 @@ pub returns : goal.returns
 returns c = λ name pairs o.
     let v : EngineView = c.args.self.now in
     let kept : IsKept v = subst IsKept c.self.view_is c.self.invariant.kept in
-    let x : Compiled = c.index.result.now in
-    let few : c.args.recipe < length v.charts = omega (arith, c.requires.2.known, kept.charts.count) in
-    let compiled : slice_get v.charts c.args.recipe ≡ Some x = got-chart v _ c.from.result c.args.recipe x c.self.view_is c.from.ensures few c.index.ensures in
+    let x : document.Recipe = c.recipe.result.now in
+    let few : c.args.recipe < length v.cleared.recipes = c.requires.2.known in
+    let compiled : slice_get v.cleared.recipes c.args.recipe ≡ Some x = got-chart v _ c.args.recipe x c.self.view_is c.recipe.ensures in
     let t = tree_at v.cleared c.args.recipe c.args.units in
-    let made = λ (vs : ValueList). c.in-Ok.ensures t vs (kept.charts.each c.args.recipe x compiled (bound_to v.cleared c.args.recipe c.args.units)).0 in
-    let w : EngineView = seen c.self.inside.cleared c.self.inside.charts.items c.self.inside.numbers.items c.self.inside.batches.batches c.self.inside.next_number c.self.inside.arbiter in
+    let made = λ (vs : ValueList). c.in-Ok.ensures t vs (chart-of v.cleared c.args.recipe x compiled (bound_to v.cleared c.args.recipe c.args.units)).0 in
+    let w : EngineView = seen c.self.inside.cleared c.self.inside.numbers.items c.self.inside.batches.batches c.self.inside.next_number c.self.inside.arbiter in
     let e : w ≡ v = c.self.view_is in
     let b : Batch = record { number = c.self.inside.next_number; recipe = c.args.recipe; units = c.args.units; size = c.args.size; values = c.args.values; state = Idle; running = c.in-Ok.running } in
     let room : ℕ = c.reserve.new.self.room in
@@ -122,16 +122,16 @@ returns c = λ name pairs o.
     let reacts : Reacts (setup v.cleared) (plant_of v) (Events.create name c.args.size pairs) (Events.created v.next_number (recipe_at v.cleared c.args.recipe c.args.units).name c.args.size (roles_told v.cleared c.args.recipe c.args.units))
     (plant_of (with v (v.batches ++ b ∷ []) (v.next_number + 1) (record (v.allocation) { room = room }))) =
     create-reacts v kept c.args.recipe name c.args.size pairs c.args.units c.args.values o b room number refl (made c.args.values).0 new enough in
-    let same : plant_of (seen c.self.inside.cleared c.self.inside.charts.items c.self.inside.numbers.items c.add.new.self.batches (c.self.inside.next_number + 1) c.reserve.new.self)
+    let same : plant_of (seen c.self.inside.cleared c.self.inside.numbers.items c.add.new.self.batches (c.self.inside.next_number + 1) c.reserve.new.self)
     ≡ plant_of (with v (v.batches ++ b ∷ []) (v.next_number + 1) (record (v.allocation) { room = room })) =
-    ap₂ (λ (bs : List Batch) (a : Allocation). plant_of (seen c.self.inside.cleared c.self.inside.charts.items c.self.inside.numbers.items bs (c.self.inside.next_number + 1) a)) items arbiter
+    ap₂ (λ (bs : List Batch) (a : Allocation). plant_of (seen c.self.inside.cleared c.self.inside.numbers.items bs (c.self.inside.next_number + 1) a)) items arbiter
     ∙ ap (λ (z : EngineView). plant_of (with z (z.batches ++ b ∷ []) (z.next_number + 1) (record (z.allocation) { room = room }))) e in
     let document = some-at v.cleared.recipes c.args.recipe c.requires.2.known in
     let called : recipe_name v.cleared c.args.recipe ≡ (recipe_at v.cleared c.args.recipe c.args.units).name = recipe-named v.cleared c.args.recipe document.0 document.1 (bound_to v.cleared c.args.recipe c.args.units) in
     record {
       cleared = ap (λ (z : EngineView). z.cleared) e;
-      reacts = subst (λ (called : Name). Reacts (setup v.cleared) (plant_of v) (Events.create name c.args.size pairs) (Events.created b.number called c.args.size (roles_told v.cleared c.args.recipe c.args.units)) (plant_of (seen c.self.inside.cleared c.self.inside.charts.items c.self.inside.numbers.items c.add.new.self.batches (c.self.inside.next_number + 1) c.reserve.new.self))) (sym called)
-          (subst (λ n. Reacts (setup v.cleared) (plant_of v) (Events.create name c.args.size pairs) (Events.created n (recipe_at v.cleared c.args.recipe c.args.units).name c.args.size (roles_told v.cleared c.args.recipe c.args.units)) (plant_of (seen c.self.inside.cleared c.self.inside.charts.items c.self.inside.numbers.items c.add.new.self.batches (c.self.inside.next_number + 1) c.reserve.new.self)))
+      reacts = subst (λ (called : Name). Reacts (setup v.cleared) (plant_of v) (Events.create name c.args.size pairs) (Events.created b.number called c.args.size (roles_told v.cleared c.args.recipe c.args.units)) (plant_of (seen c.self.inside.cleared c.self.inside.numbers.items c.add.new.self.batches (c.self.inside.next_number + 1) c.reserve.new.self))) (sym called)
+          (subst (λ n. Reacts (setup v.cleared) (plant_of v) (Events.create name c.args.size pairs) (Events.created n (recipe_at v.cleared c.args.recipe c.args.units).name c.args.size (roles_told v.cleared c.args.recipe c.args.units)) (plant_of (seen c.self.inside.cleared c.self.inside.numbers.items c.add.new.self.batches (c.self.inside.next_number + 1) c.reserve.new.self)))
           (sym number)
           (subst (Reacts (setup v.cleared) (plant_of v) (Events.create name c.args.size pairs) (Events.created v.next_number (recipe_at v.cleared c.args.recipe c.args.units).name c.args.size (roles_told v.cleared c.args.recipe c.args.units))) (sym same) reacts));
     }

@@ -5,7 +5,7 @@ use Rattle.batch_model.specs.Moves as Moves
 use Rattle.batch_arbiter.specs.Allocation.{Allocation, asked}
 use Rattle.batch_chart.specs.NodesOf.{need_at}
 use Rattle.batch_chart.specs.Seen.{move_of}
-use Rattle.batch_chart.specs.declared.compiled.Compiled.{Compiled}
+use Rattle.batch_recipe.specs.declared.recipe.Recipe as document
 use Rattle.batch_chart.specs.declared.chart_move.Move.TheVariants as Chart
 use Rattle.batch_engine.specs.declared.batch.Batch.{Batch}
 use Rattle.batch_engine.specs.View.{EngineView, batch_of, number_of, tree_of}
@@ -45,15 +45,15 @@ index_mut-batch-requires c =
     let few : c.args.index < length v.batches = slice_get_within v.batches c.args.index c.requires.step.batch c.requires.step.here.at in
     omega (arith, few, ap (λ (z : EngineView). length z.batches) c.self.view_is)
 
-pub index-chart-requires : goal.index-chart-requires
-index-chart-requires c =
+pub recipe-chart-requires : goal.recipe-chart-requires
+recipe-chart-requires c =
     let v : EngineView = c.args.self.now in
     let kept : IsKept v = subst IsKept c.self.view_is c.self.invariant.kept in
     let b : Batch = c.index_mut-batch.result.now in
     let g : IsOwnStep v (IsNext v) c.args.index (Chart.Ask c.args.node c.args.need) = c.requires.step in
     let at : slice_get v.batches c.args.index ≡ Some b = got-batch v _ c.args.index b c.self.view_is (slice_get_within v.batches c.args.index g.batch g.here.at) c.index_mut-batch.ensures.value in
-    let few : b.recipe < length v.charts = in-charts v kept c.args.index b at in
-    omega (arith, few, ap (λ (z : EngineView). length z.charts) c.self.view_is, c.self.inside.charts.ok.0, c.from.ensures)
+    let few : b.recipe < length v.cleared.recipes = in-charts v kept c.args.index b at in
+    omega (arith, few, ap (λ (z : EngineView). length z.cleared.recipes) c.self.view_is)
 
 pub make-requires-clause-running : goal.make-requires-clause-running
 make-requires-clause-running c =
@@ -62,8 +62,8 @@ make-requires-clause-running c =
     let b : Batch = c.index_mut-batch.result.now in
     let g : IsOwnStep v (IsNext v) c.args.index (Chart.Ask c.args.node c.args.need) = c.requires.step in
     let at : slice_get v.batches c.args.index ≡ Some b = got-batch v _ c.args.index b c.self.view_is (slice_get_within v.batches c.args.index g.batch g.here.at) c.index_mut-batch.ensures.value in
-    let x : Compiled = c.index-chart.result.now in
-    let compiled : slice_get v.charts b.recipe ≡ Some x = got-chart v _ c.from.result b.recipe x c.self.view_is c.from.ensures (in-charts v kept c.args.index b at) c.index-chart.ensures in
+    let x : document.Recipe = c.recipe-chart.result.now in
+    let compiled : slice_get v.cleared.recipes b.recipe ≡ Some x = got-chart v _ b.recipe x c.self.view_is c.recipe-chart.ensures in
     runs-here v kept c.args.index b at x compiled
 
 pub make-requires-clause-possible : goal.make-requires-clause-possible
@@ -73,8 +73,8 @@ make-requires-clause-possible c =
     let b : Batch = c.index_mut-batch.result.now in
     let g : IsOwnStep v (IsNext v) c.args.index (Chart.Ask c.args.node c.args.need) = c.requires.step in
     let at : slice_get v.batches c.args.index ≡ Some b = got-batch v _ c.args.index b c.self.view_is (slice_get_within v.batches c.args.index g.batch g.here.at) c.index_mut-batch.ensures.value in
-    let x : Compiled = c.index-chart.result.now in
-    let compiled : slice_get v.charts b.recipe ≡ Some x = got-chart v _ c.from.result b.recipe x c.self.view_is c.from.ensures (in-charts v kept c.args.index b at) c.index-chart.ensures in
+    let x : document.Recipe = c.recipe-chart.result.now in
+    let compiled : slice_get v.cleared.recipes b.recipe ≡ Some x = got-chart v _ b.recipe x c.self.view_is c.recipe-chart.ensures in
     step-can v c.args.index b at (Chart.Ask c.args.node c.args.need) g x compiled
 
 pub invariant_of-self : goal.invariant_of-self
@@ -84,8 +84,8 @@ invariant_of-self c =
     let b : Batch = c.index_mut-batch.result.now in
     let g : IsOwnStep v (IsNext v) c.args.index (Chart.Ask c.args.node c.args.need) = c.requires.step in
     let at : slice_get v.batches c.args.index ≡ Some b = got-batch v _ c.args.index b c.self.view_is (slice_get_within v.batches c.args.index g.batch g.here.at) c.index_mut-batch.ensures.value in
-    let x : Compiled = c.index-chart.result.now in
-    let compiled : slice_get v.charts b.recipe ≡ Some x = got-chart v _ c.from.result b.recipe x c.self.view_is c.from.ensures (in-charts v kept c.args.index b at) c.index-chart.ensures in
+    let x : document.Recipe = c.recipe-chart.result.now in
+    let compiled : slice_get v.cleared.recipes b.recipe ≡ Some x = got-chart v _ b.recipe x c.self.view_is c.recipe-chart.ensures in
     let number : number_of v.cleared (need_at (tree_of v.cleared b) c.args.node c.args.need).resource ≡ Some c.args.resource = (c.requires.number b at).0 in
     let m : Moves.Move = move_of (tree_of v.cleared b) (batch_of v.cleared b) (Chart.Ask c.args.node c.args.need) in
     let is : IsNext v m = step-is v c.args.index b at (Chart.Ask c.args.node c.args.need) g in
@@ -113,8 +113,8 @@ returns c =
     let b : Batch = c.index_mut-batch.result.now in
     let g : IsOwnStep v (IsNext v) c.args.index (Chart.Ask c.args.node c.args.need) = c.requires.step in
     let at : slice_get v.batches c.args.index ≡ Some b = got-batch v _ c.args.index b c.self.view_is (slice_get_within v.batches c.args.index g.batch g.here.at) c.index_mut-batch.ensures.value in
-    let x : Compiled = c.index-chart.result.now in
-    let compiled : slice_get v.charts b.recipe ≡ Some x = got-chart v _ c.from.result b.recipe x c.self.view_is c.from.ensures (in-charts v kept c.args.index b at) c.index-chart.ensures in
+    let x : document.Recipe = c.recipe-chart.result.now in
+    let compiled : slice_get v.cleared.recipes b.recipe ≡ Some x = got-chart v _ b.recipe x c.self.view_is c.recipe-chart.ensures in
     let number : number_of v.cleared (need_at (tree_of v.cleared b) c.args.node c.args.need).resource ≡ Some c.args.resource = (c.requires.number b at).0 in
     let m : Moves.Move = move_of (tree_of v.cleared b) (batch_of v.cleared b) (Chart.Ask c.args.node c.args.need) in
     let is : IsNext v m = step-is v c.args.index b at (Chart.Ask c.args.node c.args.need) g in

@@ -3,7 +3,7 @@ use Rattle.std.specs.Prelude.{slice_get}
 use Rattle.batch_model.specs.Moves as Moves
 use Rattle.batch_chart.specs.OwnMoves.{own_next}
 use Rattle.batch_chart.specs.Seen.{move_of}
-use Rattle.batch_chart.specs.declared.compiled.Compiled.{Compiled}
+use Rattle.batch_recipe.specs.declared.recipe.Recipe as document
 use Rattle.batch_engine.specs.declared.batch.Batch.{Batch}
 use Rattle.batch_engine.specs.View.{EngineView, batch_of, setup, plant_of, tree_of}
 use Rattle.batch_engine.specs.Kept.{IsKept}
@@ -19,10 +19,10 @@ pub returns-in-Some : goal.returns-in-Some
 returns-in-Some c =
     let v : EngineView = c.args.self.now in
     let b : Batch = c.index-batch.result.now in
-    let x : Compiled = c.index-chart.result.now in
+    let x : document.Recipe = c.recipe-chart.result.now in
     let kept : IsKept v = subst IsKept c.self.view_is c.self.invariant.kept in
     let at : slice_get v.batches c.args.index ≡ Some b = got-batch v _ c.args.index b c.self.view_is c.requires c.index-batch.ensures in
-    let compiled : slice_get v.charts b.recipe ≡ Some x = got-chart v _ c.from.result b.recipe x c.self.view_is c.from.ensures (in-charts v kept c.args.index b at) c.index-chart.ensures in
+    let compiled : slice_get v.cleared.recipes b.recipe ≡ Some x = got-chart v _ b.recipe x c.self.view_is c.recipe-chart.ensures in
     let next : Some (move_of (tree_of v.cleared b) (batch_of v.cleared b) c.in-Some.made) ≡ own_next (batch_of v.cleared b) =
     c.in-Some.ensures.next (tree_of v.cleared b) (batch_of v.cleared b) (chart-here v kept c.args.index b at x compiled) (batch-runs v kept c.args.index b at).runs refl refl in (
       refl,
@@ -40,10 +40,10 @@ pub returns-in_err-node : goal.returns-in_err-node
 returns-in_err-node c =
     let v : EngineView = c.args.self.now in
     let b : Batch = c.index-batch.result.now in
-    let x : Compiled = c.index-chart.result.now in
+    let x : document.Recipe = c.recipe-chart.result.now in
     let kept : IsKept v = subst IsKept c.self.view_is c.self.invariant.kept in
     let at : slice_get v.batches c.args.index ≡ Some b = got-batch v _ c.args.index b c.self.view_is c.requires c.index-batch.ensures in
-    let compiled : slice_get v.charts b.recipe ≡ Some x = got-chart v _ c.from.result b.recipe x c.self.view_is c.from.ensures (in-charts v kept c.args.index b at) c.index-chart.ensures in
+    let compiled : slice_get v.cleared.recipes b.recipe ≡ Some x = got-chart v _ b.recipe x c.self.view_is c.recipe-chart.ensures in
     let own : ◌≡◌ {A = Option Moves.Move} None (own_next (batch_of v.cleared b)) =
     c.in_default.ensures.next (tree_of v.cleared b) (batch_of v.cleared b) (chart-here v kept c.args.index b at x compiled) (batch-runs v kept c.args.index b at).runs refl refl in
     let grants : IsFirstGrant v c.args.index None = subst (IsFirstGrant v c.args.index) c.in_err-node.was c.first_grant.ensures in
@@ -53,10 +53,10 @@ pub returns : goal.returns
 returns c =
     let v : EngineView = c.args.self.now in
     let b : Batch = c.index-batch.result.now in
-    let x : Compiled = c.index-chart.result.now in
+    let x : document.Recipe = c.recipe-chart.result.now in
     let kept : IsKept v = subst IsKept c.self.view_is c.self.invariant.kept in
     let at : slice_get v.batches c.args.index ≡ Some b = got-batch v _ c.args.index b c.self.view_is c.requires c.index-batch.ensures in
-    let compiled : slice_get v.charts b.recipe ≡ Some x = got-chart v _ c.from.result b.recipe x c.self.view_is c.from.ensures (in-charts v kept c.args.index b at) c.index-chart.ensures in
+    let compiled : slice_get v.cleared.recipes b.recipe ≡ Some x = got-chart v _ b.recipe x c.self.view_is c.recipe-chart.ensures in
     let own : ◌≡◌ {A = Option Moves.Move} None (own_next (batch_of v.cleared b)) =
     c.in_default.ensures.next (tree_of v.cleared b) (batch_of v.cleared b) (chart-here v kept c.args.index b at x compiled) (batch-runs v kept c.args.index b at).runs refl refl in
     let g : IsFirstGrant v c.args.index (Some (c.in_ok-node.node, c.in_ok-node.resource, c.in_ok-node.units)) = subst (IsFirstGrant v c.args.index) c.in_ok-node.was c.first_grant.ensures in
@@ -80,10 +80,10 @@ pub next_move-requires : goal.next_move-requires
 next_move-requires c =
     let v : EngineView = c.args.self.now in
     let b : Batch = c.index-batch.result.now in
-    let x : Compiled = c.index-chart.result.now in
+    let x : document.Recipe = c.recipe-chart.result.now in
     let kept : IsKept v = subst IsKept c.self.view_is c.self.invariant.kept in
     let at : slice_get v.batches c.args.index ≡ Some b = got-batch v _ c.args.index b c.self.view_is c.requires c.index-batch.ensures in
-    let compiled : slice_get v.charts b.recipe ≡ Some x = got-chart v _ c.from.result b.recipe x c.self.view_is c.from.ensures (in-charts v kept c.args.index b at) c.index-chart.ensures in
+    let compiled : slice_get v.cleared.recipes b.recipe ≡ Some x = got-chart v _ b.recipe x c.self.view_is c.recipe-chart.ensures in
     runs-here v kept c.args.index b at x compiled
 
 pub returns-then-is_stopped : goal.returns-then-is_stopped

@@ -4,7 +4,7 @@ use Rattle.std.specs.Prelude.{slice_get, option_map}
 use Rattle.batch_arbiter.specs.Allocation.{next_grant, batch_node}
 use Rattle.batch_chart.specs.NodesOf.{need_at}
 use Rattle.batch_chart.specs.Charts.{AsksAt, remains}
-use Rattle.batch_chart.specs.declared.compiled.Compiled.{Compiled}
+use Rattle.batch_recipe.specs.declared.recipe.Recipe as document
 use Rattle.batch_engine.specs.declared.batch.Batch.{Batch}
 use Rattle.batch_engine.specs.View.{EngineView, setup, plant_of, batch_of, tree_of}
 use Rattle.batch_model.specs.Moves.{least}
@@ -18,10 +18,10 @@ pub resource_at-resource-requires : goal.resource_at-resource-requires
 resource_at-resource-requires c =
     let v : EngineView = c.args.self.now in
     let b : Batch = c.index-batch.result.now in
-    let x : Compiled = c.index-chart.result.now in
+    let x : document.Recipe = c.recipe-chart.result.now in
     let kept : IsKept v = subst IsKept c.self.view_is c.self.invariant.kept in
     let at : slice_get v.batches c.args.index ≡ Some b = got-batch v _ c.args.index b c.self.view_is c.requires c.index-batch.ensures in
-    let compiled : slice_get v.charts b.recipe ≡ Some x = got-chart v _ c.from.result b.recipe x c.self.view_is c.from.ensures (in-charts v kept c.args.index b at) c.index-chart.ensures in
+    let compiled : slice_get v.cleared.recipes b.recipe ≡ Some x = got-chart v _ b.recipe x c.self.view_is c.recipe-chart.ensures in
     let asks : AsksAt (tree_of v.cleared b) (remains (tree_of v.cleared b) b.running) c.in-Some.node c.in-Some.need =
     c.in-Some.ensures.some.1 (tree_of v.cleared b) (chart-here v kept c.args.index b at x compiled) (batch-runs v kept c.args.index b at).runs in
     (b, at, asks.0, asks.1)
@@ -30,10 +30,10 @@ pub returns-then-serves : goal.returns-then-serves
 returns-then-serves c =
     let v : EngineView = c.args.self.now in
     let b : Batch = c.index-batch.result.now in
-    let x : Compiled = c.index-chart.result.now in
+    let x : document.Recipe = c.recipe-chart.result.now in
     let kept : IsKept v = subst IsKept c.self.view_is c.self.invariant.kept in
     let at : slice_get v.batches c.args.index ≡ Some b = got-batch v _ c.args.index b c.self.view_is c.requires c.index-batch.ensures in
-    let compiled : slice_get v.charts b.recipe ≡ Some x = got-chart v _ c.from.result b.recipe x c.self.view_is c.from.ensures (in-charts v kept c.args.index b at) c.index-chart.ensures in
+    let compiled : slice_get v.cleared.recipes b.recipe ≡ Some x = got-chart v _ b.recipe x c.self.view_is c.recipe-chart.ensures in
     let asks : asks_here v kept c.args.index b at c.in-Some.node c.in-Some.need =
     c.in-Some.ensures.some.1 (tree_of v.cleared b) (chart-here v kept c.args.index b at x compiled) (batch-runs v kept c.args.index b at).runs in
     let first : first_here v kept c.args.index b at c.resource_at-resource.result.0 c.in-Some.node =
@@ -58,10 +58,10 @@ pub loop-node-preserved : goal.loop-node-preserved
 loop-node-preserved c =
     let v : EngineView = c.args.self.now in
     let b : Batch = c.index-batch.result.now in
-    let x : Compiled = c.index-chart.result.now in
+    let x : document.Recipe = c.recipe-chart.result.now in
     let kept : IsKept v = subst IsKept c.self.view_is c.self.invariant.kept in
     let at : slice_get v.batches c.args.index ≡ Some b = got-batch v _ c.args.index b c.self.view_is c.requires c.index-batch.ensures in
-    let compiled : slice_get v.charts b.recipe ≡ Some x = got-chart v _ c.from.result b.recipe x c.self.view_is c.from.ensures (in-charts v kept c.args.index b at) c.index-chart.ensures in
+    let compiled : slice_get v.cleared.recipes b.recipe ≡ Some x = got-chart v _ b.recipe x c.self.view_is c.recipe-chart.ensures in
     let asks : asks_here v kept c.args.index b at c.in-Some.node c.in-Some.need =
     c.in-Some.ensures.some.1 (tree_of v.cleared b) (chart-here v kept c.args.index b at x compiled) (batch-runs v kept c.args.index b at).runs in
     let not_first : first_here v kept c.args.index b at c.resource_at-resource.result.0 c.in-Some.node → ⊥ =
@@ -74,10 +74,10 @@ pub returns : goal.returns
 returns c =
     let v : EngineView = c.args.self.now in
     let b : Batch = c.index-batch.result.now in
-    let x : Compiled = c.index-chart.result.now in
+    let x : document.Recipe = c.recipe-chart.result.now in
     let kept : IsKept v = subst IsKept c.self.view_is c.self.invariant.kept in
     let at : slice_get v.batches c.args.index ≡ Some b = got-batch v _ c.args.index b c.self.view_is c.requires c.index-batch.ensures in
-    let compiled : slice_get v.charts b.recipe ≡ Some x = got-chart v _ c.from.result b.recipe x c.self.view_is c.from.ensures (in-charts v kept c.args.index b at) c.index-chart.ensures in
+    let compiled : slice_get v.cleared.recipes b.recipe ≡ Some x = got-chart v _ b.recipe x c.self.view_is c.recipe-chart.ensures in
     let none : grants (setup v.cleared) (plant_of v) (batch_of v.cleared b) ≡ [] =
     no-grants v kept c.args.index b at (λ j l asks served. elim (within-or_past j c.loop-node.from) [
       | inl q ↦ c.loop-node.invariant.1 j l q asks served
@@ -89,19 +89,19 @@ pub waiting-requires : goal.waiting-requires
 waiting-requires c =
     let v : EngineView = c.args.self.now in
     let b : Batch = c.index-batch.result.now in
-    let x : Compiled = c.index-chart.result.now in
+    let x : document.Recipe = c.recipe-chart.result.now in
     let kept : IsKept v = subst IsKept c.self.view_is c.self.invariant.kept in
     let at : slice_get v.batches c.args.index ≡ Some b = got-batch v _ c.args.index b c.self.view_is c.requires c.index-batch.ensures in
-    let compiled : slice_get v.charts b.recipe ≡ Some x = got-chart v _ c.from.result b.recipe x c.self.view_is c.from.ensures (in-charts v kept c.args.index b at) c.index-chart.ensures in
+    let compiled : slice_get v.cleared.recipes b.recipe ≡ Some x = got-chart v _ b.recipe x c.self.view_is c.recipe-chart.ensures in
     runs-here v kept c.args.index b at x compiled
 
 pub serves-requires : goal.serves-requires
 serves-requires c =
     let v : EngineView = c.args.self.now in
     let b : Batch = c.index-batch.result.now in
-    let x : Compiled = c.index-chart.result.now in
+    let x : document.Recipe = c.recipe-chart.result.now in
     let kept : IsKept v = subst IsKept c.self.view_is c.self.invariant.kept in
     let at : slice_get v.batches c.args.index ≡ Some b = got-batch v _ c.args.index b c.self.view_is c.requires c.index-batch.ensures in
-    let compiled : slice_get v.charts b.recipe ≡ Some x = got-chart v _ c.from.result b.recipe x c.self.view_is c.from.ensures (in-charts v kept c.args.index b at) c.index-chart.ensures in
+    let compiled : slice_get v.cleared.recipes b.recipe ≡ Some x = got-chart v _ b.recipe x c.self.view_is c.recipe-chart.ensures in
     subst (λ (z : EngineView). c.resource_at-resource.result.0 < length z.allocation.capacities) (sym c.self.view_is)
     (known v kept c.args.index b at (need_at (tree_of v.cleared b) c.in-Some.node c.in-Some.need).resource c.resource_at-resource.result.0 (c.resource_at-resource.ensures b at).0)

@@ -5,7 +5,7 @@ use Rattle.batch_model.specs.Moves as Moves
 use Rattle.batch_arbiter.specs.Allocation.{Allocation, granted, next_grant, batch_node}
 use Rattle.batch_chart.specs.NodesOf.{need_at, place_at}
 use Rattle.batch_chart.specs.Charts.{IsWaitingAt, AsksAt, remains}
-use Rattle.batch_chart.specs.declared.compiled.Compiled.{Compiled}
+use Rattle.batch_recipe.specs.declared.recipe.Recipe as document
 use Rattle.batch_engine.specs.declared.batch.Batch.{Batch}
 use Rattle.batch_engine.specs.View.{EngineView, number_of, tree_of}
 use Rattle.batch_engine.specs.Kept.{IsKept}
@@ -24,15 +24,15 @@ index_mut-batch-requires c =
     let few : c.args.index < length v.batches = slice_get_within v.batches c.args.index c.requires.batch c.requires.here.at in
     omega (arith, few, ap (λ (z : EngineView). length z.batches) c.self.view_is)
 
-pub index-chart-requires : goal.index-chart-requires
-index-chart-requires c =
+pub recipe-chart-requires : goal.recipe-chart-requires
+recipe-chart-requires c =
     let v : EngineView = c.args.self.now in
     let kept : IsKept v = subst IsKept c.self.view_is c.self.invariant.kept in
     let b : Batch = c.index_mut-batch.result.now in
     let g : IsGrantStep v (IsNext v) c.args.index c.args.node c.args.resource c.args.units = c.requires in
     let at : slice_get v.batches c.args.index ≡ Some b = got-batch v _ c.args.index b c.self.view_is (slice_get_within v.batches c.args.index g.batch g.here.at) c.index_mut-batch.ensures.value in
-    let few : b.recipe < length v.charts = in-charts v kept c.args.index b at in
-    omega (arith, few, ap (λ (z : EngineView). length z.charts) c.self.view_is, c.self.inside.charts.ok.0, c.from.ensures)
+    let few : b.recipe < length v.cleared.recipes = in-charts v kept c.args.index b at in
+    omega (arith, few, ap (λ (z : EngineView). length z.cleared.recipes) c.self.view_is)
 
 pub grant-requires-clause-running : goal.grant-requires-clause-running
 grant-requires-clause-running c =
@@ -42,8 +42,8 @@ grant-requires-clause-running c =
     let g : IsGrantStep v (IsNext v) c.args.index c.args.node c.args.resource c.args.units = c.requires in
     let at : slice_get v.batches c.args.index ≡ Some b = got-batch v _ c.args.index b c.self.view_is (slice_get_within v.batches c.args.index g.batch g.here.at) c.index_mut-batch.ensures.value in
     let same : g.batch ≡ b = same-at v.batches c.args.index g.batch b g.here.at at in
-    let x : Compiled = c.index-chart.result.now in
-    let compiled : slice_get v.charts b.recipe ≡ Some x = got-chart v _ c.from.result b.recipe x c.self.view_is c.from.ensures (in-charts v kept c.args.index b at) c.index-chart.ensures in
+    let x : document.Recipe = c.recipe-chart.result.now in
+    let compiled : slice_get v.cleared.recipes b.recipe ≡ Some x = got-chart v _ b.recipe x c.self.view_is c.recipe-chart.ensures in
     runs-here v kept c.args.index b at x compiled
 
 pub grant-requires-clause-waits : goal.grant-requires-clause-waits
@@ -54,10 +54,10 @@ grant-requires-clause-waits c =
     let g : IsGrantStep v (IsNext v) c.args.index c.args.node c.args.resource c.args.units = c.requires in
     let at : slice_get v.batches c.args.index ≡ Some b = got-batch v _ c.args.index b c.self.view_is (slice_get_within v.batches c.args.index g.batch g.here.at) c.index_mut-batch.ensures.value in
     let same : g.batch ≡ b = same-at v.batches c.args.index g.batch b g.here.at at in
-    let x : Compiled = c.index-chart.result.now in
-    let compiled : slice_get v.charts b.recipe ≡ Some x = got-chart v _ c.from.result b.recipe x c.self.view_is c.from.ensures (in-charts v kept c.args.index b at) c.index-chart.ensures in
-    let chart : slice_get v.charts b.recipe ≡ Some g.chart = subst (λ (z : Batch). slice_get v.charts z.recipe ≡ Some g.chart) same g.here.compiled in
-    subst (λ (z : Compiled). IsWaitingAt z b.running c.args.node) (same-at v.charts b.recipe g.chart x chart compiled) (subst (λ (z : Batch). IsWaitingAt g.chart z.running c.args.node) same g.waits)
+    let x : document.Recipe = c.recipe-chart.result.now in
+    let compiled : slice_get v.cleared.recipes b.recipe ≡ Some x = got-chart v _ b.recipe x c.self.view_is c.recipe-chart.ensures in
+    let chart : slice_get v.cleared.recipes b.recipe ≡ Some g.chart = subst (λ (z : Batch). slice_get v.cleared.recipes z.recipe ≡ Some g.chart) same g.here.compiled in
+    subst (λ (z : document.Recipe). IsWaitingAt z b.running c.args.node) (same-at v.cleared.recipes b.recipe g.chart x chart compiled) (subst (λ (z : Batch). IsWaitingAt g.chart z.running c.args.node) same g.waits)
 
 pub invariant_of-self : goal.invariant_of-self
 invariant_of-self c =
@@ -67,8 +67,8 @@ invariant_of-self c =
     let g : IsGrantStep v (IsNext v) c.args.index c.args.node c.args.resource c.args.units = c.requires in
     let at : slice_get v.batches c.args.index ≡ Some b = got-batch v _ c.args.index b c.self.view_is (slice_get_within v.batches c.args.index g.batch g.here.at) c.index_mut-batch.ensures.value in
     let same : g.batch ≡ b = same-at v.batches c.args.index g.batch b g.here.at at in
-    let x : Compiled = c.index-chart.result.now in
-    let compiled : slice_get v.charts b.recipe ≡ Some x = got-chart v _ c.from.result b.recipe x c.self.view_is c.from.ensures (in-charts v kept c.args.index b at) c.index-chart.ensures in
+    let x : document.Recipe = c.recipe-chart.result.now in
+    let compiled : slice_get v.cleared.recipes b.recipe ≡ Some x = got-chart v _ b.recipe x c.self.view_is c.recipe-chart.ensures in
     let t = tree_of v.cleared b in
     let m : Moves.Move = Moves.grant b.number (place_at t c.args.node) (need_at t c.args.node g.need) in
     let is : IsNext v m = subst (λ (z : Batch). IsNext v (Moves.grant z.number (place_at (tree_of v.cleared z) c.args.node) (need_at (tree_of v.cleared z) c.args.node g.need))) same g.is in
@@ -96,8 +96,8 @@ returns c =
     let g : IsGrantStep v (IsNext v) c.args.index c.args.node c.args.resource c.args.units = c.requires in
     let at : slice_get v.batches c.args.index ≡ Some b = got-batch v _ c.args.index b c.self.view_is (slice_get_within v.batches c.args.index g.batch g.here.at) c.index_mut-batch.ensures.value in
     let same : g.batch ≡ b = same-at v.batches c.args.index g.batch b g.here.at at in
-    let x : Compiled = c.index-chart.result.now in
-    let compiled : slice_get v.charts b.recipe ≡ Some x = got-chart v _ c.from.result b.recipe x c.self.view_is c.from.ensures (in-charts v kept c.args.index b at) c.index-chart.ensures in
+    let x : document.Recipe = c.recipe-chart.result.now in
+    let compiled : slice_get v.cleared.recipes b.recipe ≡ Some x = got-chart v _ b.recipe x c.self.view_is c.recipe-chart.ensures in
     let t = tree_of v.cleared b in
     let m : Moves.Move = Moves.grant b.number (place_at t c.args.node) (need_at t c.args.node g.need) in
     let is : IsNext v m = subst (λ (z : Batch). IsNext v (Moves.grant z.number (place_at (tree_of v.cleared z) c.args.node) (need_at (tree_of v.cleared z) c.args.node g.need))) same g.is in

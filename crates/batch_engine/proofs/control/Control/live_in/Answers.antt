@@ -7,7 +7,7 @@ use Rattle.batch_model.specs.Events.{live_in}
 use Rattle.batch_model.specs.Rest.{acts}
 use Rattle.batch_chart.specs.Charts.{remains, remains_from}
 use Rattle.batch_chart.specs.NodesOf.{node_at, phase_at, phase_named}
-use Rattle.batch_chart.specs.declared.compiled.Compiled.{Compiled}
+use Rattle.batch_recipe.specs.declared.recipe.Recipe as document
 use Rattle.batch_chart.proofs.Live.{from-first}
 use Rattle.batch_engine.specs.declared.batch.Batch.{Batch}
 use Rattle.batch_engine.specs.View.{EngineView, batch_of, tree_of}
@@ -32,8 +32,8 @@ live-requires c =
     let phase : Name = c.args.phase.now in
     let b : Batch = c.index-batch.result.now in
     let at : slice_get v.batches i ≡ Some b = got-batch v _ i b c.self.view_is c.requires c.index-batch.ensures in
-    let x : Compiled = c.index-chart.result.now in
-    let compiled : slice_get v.charts b.recipe ≡ Some x = got-chart v _ c.from.result b.recipe x c.self.view_is c.from.ensures (in-charts v kept i b at) c.index-chart.ensures in
+    let x : document.Recipe = c.recipe-chart.result.now in
+    let compiled : slice_get v.cleared.recipes b.recipe ≡ Some x = got-chart v _ b.recipe x c.self.view_is c.recipe-chart.ensures in
     let t = tree_of v.cleared b in
     let chart = chart-here v kept i b at x compiled in
     let runs = (batch-runs v kept i b at).runs in
@@ -48,8 +48,8 @@ phase_at-requires c =
     let phase : Name = c.args.phase.now in
     let b : Batch = c.index-batch.result.now in
     let at : slice_get v.batches i ≡ Some b = got-batch v _ i b c.self.view_is c.requires c.index-batch.ensures in
-    let x : Compiled = c.index-chart.result.now in
-    let compiled : slice_get v.charts b.recipe ≡ Some x = got-chart v _ c.from.result b.recipe x c.self.view_is c.from.ensures (in-charts v kept i b at) c.index-chart.ensures in
+    let x : document.Recipe = c.recipe-chart.result.now in
+    let compiled : slice_get v.cleared.recipes b.recipe ≡ Some x = got-chart v _ b.recipe x c.self.view_is c.recipe-chart.ensures in
     let t = tree_of v.cleared b in
     let chart = chart-here v kept i b at x compiled in
     let runs = (batch-runs v kept i b at).runs in
@@ -66,8 +66,8 @@ returns-then-is_number c =
     let phase : Name = c.args.phase.now in
     let b : Batch = c.index-batch.result.now in
     let at : slice_get v.batches i ≡ Some b = got-batch v _ i b c.self.view_is c.requires c.index-batch.ensures in
-    let x : Compiled = c.index-chart.result.now in
-    let compiled : slice_get v.charts b.recipe ≡ Some x = got-chart v _ c.from.result b.recipe x c.self.view_is c.from.ensures (in-charts v kept i b at) c.index-chart.ensures in
+    let x : document.Recipe = c.recipe-chart.result.now in
+    let compiled : slice_get v.cleared.recipes b.recipe ≡ Some x = got-chart v _ b.recipe x c.self.view_is c.recipe-chart.ensures in
     let t = tree_of v.cleared b in
     let chart = chart-here v kept i b at x compiled in
     let runs = (batch-runs v kept i b at).runs in
@@ -95,8 +95,8 @@ loop-node-preserved c =
     let phase : Name = c.args.phase.now in
     let b : Batch = c.index-batch.result.now in
     let at : slice_get v.batches i ≡ Some b = got-batch v _ i b c.self.view_is c.requires c.index-batch.ensures in
-    let x : Compiled = c.index-chart.result.now in
-    let compiled : slice_get v.charts b.recipe ≡ Some x = got-chart v _ c.from.result b.recipe x c.self.view_is c.from.ensures (in-charts v kept i b at) c.index-chart.ensures in
+    let x : document.Recipe = c.recipe-chart.result.now in
+    let compiled : slice_get v.cleared.recipes b.recipe ≡ Some x = got-chart v _ b.recipe x c.self.view_is c.recipe-chart.ensures in
     let t = tree_of v.cleared b in
     let chart = chart-here v kept i b at x compiled in
     let runs = (batch-runs v kept i b at).runs in
@@ -122,8 +122,8 @@ returns c =
     let phase : Name = c.args.phase.now in
     let b : Batch = c.index-batch.result.now in
     let at : slice_get v.batches i ≡ Some b = got-batch v _ i b c.self.view_is c.requires c.index-batch.ensures in
-    let x : Compiled = c.index-chart.result.now in
-    let compiled : slice_get v.charts b.recipe ≡ Some x = got-chart v _ c.from.result b.recipe x c.self.view_is c.from.ensures (in-charts v kept i b at) c.index-chart.ensures in
+    let x : document.Recipe = c.recipe-chart.result.now in
+    let compiled : slice_get v.cleared.recipes b.recipe ≡ Some x = got-chart v _ b.recipe x c.self.view_is c.recipe-chart.ensures in
     let t = tree_of v.cleared b in
     let chart = chart-here v kept i b at x compiled in
     let runs = (batch-runs v kept i b at).runs in

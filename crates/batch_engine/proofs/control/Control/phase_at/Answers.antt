@@ -5,7 +5,7 @@ use Rattle.batch_cell.specs.LookUps.{units_of}
 use Rattle.batch_cell.specs.declared.cell.Cell.{Cell}
 use Rattle.batch_recipe.specs.Nodes.{node_count}
 use Rattle.batch_chart.specs.NodesOf.{node_at, phase_named}
-use Rattle.batch_chart.specs.declared.compiled.Compiled.{Compiled}
+use Rattle.batch_recipe.specs.declared.recipe.Recipe as document
 use Rattle.batch_engine.specs.Names.{roles_at}
 use Rattle.batch_engine.specs.Numbered.{AreActsNumbered, IsActNumbered, IsTaskNumbered, phase_in, phase_on}
 use Rattle.batch_engine.specs.View.{EngineView, bound_to, tree_of}
@@ -122,8 +122,8 @@ returns-in-Role-clause-named c =
     let role : ℕ = c.in-Role.role in
     let task : IsTaskNumbered v.cleared.cell (roles_at v.cleared b.recipe) bound (node_at (tree_of v.cleared b) c.args.node).here (Role role) =
     subst (IsTaskNumbered v.cleared.cell (roles_at v.cleared b.recipe) bound (node_at (tree_of v.cleared b) c.args.node).here) c.in-Role.is of_act.task in
-    let chart : Compiled = c.index-chart.result.now in
-    let compiled : slice_get v.charts b.recipe ≡ Some chart = got-chart v _ c.from-in-Role.result b.recipe chart c.self.view_is c.from-in-Role.ensures (in-charts v kept c.args.index b at) c.index-chart.ensures in
+    let chart : document.Recipe = c.recipe-chart.result.now in
+    let compiled : slice_get v.cleared.recipes b.recipe ≡ Some chart = got-chart v _ b.recipe chart c.self.view_is c.recipe-chart.ensures in
     let cell : c.cell.result.now ≡ v.cleared.cell = c.cell.ensures.value ∙ ap (λ (z : EngineView). z.cleared.cell) c.self.view_is in
     let is : c.number_on.result ≡ phase_in v.cleared.cell (node_at (tree_of v.cleared b) c.args.node).here =
     role-phase v kept c.args.index b at c.args.node role c.number_on.result task
@@ -149,8 +149,8 @@ returns-in-Role-clause-unit c =
     let role : ℕ = c.in-Role.role in
     let task : IsTaskNumbered v.cleared.cell (roles_at v.cleared b.recipe) bound (node_at (tree_of v.cleared b) c.args.node).here (Role role) =
     subst (IsTaskNumbered v.cleared.cell (roles_at v.cleared b.recipe) bound (node_at (tree_of v.cleared b) c.args.node).here) c.in-Role.is of_act.task in
-    let chart : Compiled = c.index-chart.result.now in
-    let compiled : slice_get v.charts b.recipe ≡ Some chart = got-chart v _ c.from-in-Role.result b.recipe chart c.self.view_is c.from-in-Role.ensures (in-charts v kept c.args.index b at) c.index-chart.ensures in
+    let chart : document.Recipe = c.recipe-chart.result.now in
+    let compiled : slice_get v.cleared.recipes b.recipe ≡ Some chart = got-chart v _ b.recipe chart c.self.view_is c.recipe-chart.ensures in
     let cell : c.cell.result.now ≡ v.cleared.cell = c.cell.ensures.value ∙ ap (λ (z : EngineView). z.cleared.cell) c.self.view_is in
     let is : c.number_on.result ≡ phase_in v.cleared.cell (node_at (tree_of v.cleared b) c.args.node).here =
     role-phase v kept c.args.index b at c.args.node role c.number_on.result task

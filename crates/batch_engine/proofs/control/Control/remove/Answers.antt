@@ -81,7 +81,7 @@ invariant_of-self c =
       ap (λ (z : EngineView). needs_of_all z.cleared z.batches) c.self.view_is,
     ) in
     record {
-      kept = subst (λ (r : BatchList). IsKept (seen c.self.inside.cleared c.self.inside.charts.items c.self.inside.numbers.items r.batches c.self.inside.next_number c.self.inside.arbiter)) (sym c.remove-removed.ensures.rest)
+      kept = subst (λ (r : BatchList). IsKept (seen c.self.inside.cleared c.self.inside.numbers.items r.batches c.self.inside.next_number c.self.inside.arbiter)) (sym c.remove-removed.ensures.rest)
           (subst (λ (z : EngineView). IsKept (with z (remove z.batches i) z.next_number z.allocation)) (sym c.self.view_is) after);
       numbers = subst HaveOwnNumbers (sym c.remove-removed.ensures.rest) (own-numbers-remove c.self.inside.batches i c.self.invariant.numbers);
       needs_are = left ∙ sym (ap (λ (z : EngineView). needs_of_all z.cleared (remove z.batches i)) c.self.view_is) ∙ sym (ap (λ (r : BatchList). needs_of_all c.self.inside.cleared r.batches) c.remove-removed.ensures.rest);
@@ -102,6 +102,6 @@ returns c =
     record {
       cleared = ap (λ (z : EngineView). z.cleared) c.self.view_is;
       reacts =
-          subst (λ (r : BatchList). Reacts (setup v.cleared) (plant_of v) (Events.remove c.args.number) (Events.removed c.args.number) (plant_of (seen c.self.inside.cleared c.self.inside.charts.items c.self.inside.numbers.items r.batches c.self.inside.next_number c.self.inside.arbiter))) (sym c.remove-removed.ensures.rest)
+          subst (λ (r : BatchList). Reacts (setup v.cleared) (plant_of v) (Events.remove c.args.number) (Events.removed c.args.number) (plant_of (seen c.self.inside.cleared c.self.inside.numbers.items r.batches c.self.inside.next_number c.self.inside.arbiter))) (sym c.remove-removed.ensures.rest)
           (subst (λ (z : EngineView). Reacts (setup v.cleared) (plant_of v) (Events.remove c.args.number) (Events.removed c.args.number) (plant_of (with z (remove z.batches i) z.next_number z.allocation))) (sym c.self.view_is) reacts);
     }

@@ -13,7 +13,6 @@ use Rattle.batch_recipe.specs.Values.{are_outputs, with_values}
 use Rattle.batch_model.specs.Runs.{Reacts}
 use Rattle.batch_chart.specs.NodesOf.{place_at, phase_at}
 use Rattle.batch_chart.specs.Charts.{IsLive}
-use Rattle.batch_chart.specs.declared.compiled.Compiled.{Compiled}
 use Rattle.batch_engine.specs.declared.batch.Batch.{Batch}
 use Rattle.batch_engine.specs.View.{EngineView, setup, batch_of, plant_of, tree_of, recipe_made}
 use Rattle.batch_engine.specs.Kept.{IsKept}
@@ -53,10 +52,10 @@ report-requires-clause-running c =
     let b : Batch = c.index_mut-batch.result.now in
     let at : slice_get v.batches i ≡ Some b = got-batch v _ i b c.self.view_is (slice_get_within v.batches i g.batch g.here.at) c.index_mut-batch.ensures.value in
     let same : g.batch ≡ b = same-at v.batches i g.batch b g.here.at at in
-    let x : Compiled = c.index-chart.result.now in
-    let compiled : slice_get v.charts b.recipe ≡ Some x = got-chart v _ c.from-2.result b.recipe x c.self.view_is c.from-2.ensures (in-charts v kept i b at) c.index-chart.ensures in
-    let chart : slice_get v.charts b.recipe ≡ Some g.chart = subst (λ (z : Batch). slice_get v.charts z.recipe ≡ Some g.chart) same g.here.compiled in
-    let live : IsLive x b.running node s = subst (λ (z : Compiled). IsLive z b.running node s) (same-at v.charts b.recipe g.chart x chart compiled) (subst (λ (z : Batch). IsLive g.chart z.running node s) same g.live) in
+    let x : document.Recipe = c.recipe-chart.result.now in
+    let compiled : slice_get v.cleared.recipes b.recipe ≡ Some x = got-chart v _ b.recipe x c.self.view_is c.recipe-chart.ensures in
+    let chart : slice_get v.cleared.recipes b.recipe ≡ Some g.chart = subst (λ (z : Batch). slice_get v.cleared.recipes z.recipe ≡ Some g.chart) same g.here.compiled in
+    let live : IsLive x b.running node s = subst (λ (z : document.Recipe). IsLive z b.running node s) (same-at v.cleared.recipes b.recipe g.chart x chart compiled) (subst (λ (z : Batch). IsLive g.chart z.running node s) same g.live) in
     let ends : after_report s word ≡ Some c.in-Some-after_report._end = sym c.after_report.ensures ∙ c.in-Some-after_report.is in
     runs-here v kept i b at x compiled
 
@@ -75,10 +74,10 @@ report-requires-clause-accepts c =
     let b : Batch = c.index_mut-batch.result.now in
     let at : slice_get v.batches i ≡ Some b = got-batch v _ i b c.self.view_is (slice_get_within v.batches i g.batch g.here.at) c.index_mut-batch.ensures.value in
     let same : g.batch ≡ b = same-at v.batches i g.batch b g.here.at at in
-    let x : Compiled = c.index-chart.result.now in
-    let compiled : slice_get v.charts b.recipe ≡ Some x = got-chart v _ c.from-2.result b.recipe x c.self.view_is c.from-2.ensures (in-charts v kept i b at) c.index-chart.ensures in
-    let chart : slice_get v.charts b.recipe ≡ Some g.chart = subst (λ (z : Batch). slice_get v.charts z.recipe ≡ Some g.chart) same g.here.compiled in
-    let live : IsLive x b.running node s = subst (λ (z : Compiled). IsLive z b.running node s) (same-at v.charts b.recipe g.chart x chart compiled) (subst (λ (z : Batch). IsLive g.chart z.running node s) same g.live) in
+    let x : document.Recipe = c.recipe-chart.result.now in
+    let compiled : slice_get v.cleared.recipes b.recipe ≡ Some x = got-chart v _ b.recipe x c.self.view_is c.recipe-chart.ensures in
+    let chart : slice_get v.cleared.recipes b.recipe ≡ Some g.chart = subst (λ (z : Batch). slice_get v.cleared.recipes z.recipe ≡ Some g.chart) same g.here.compiled in
+    let live : IsLive x b.running node s = subst (λ (z : document.Recipe). IsLive z b.running node s) (same-at v.cleared.recipes b.recipe g.chart x chart compiled) (subst (λ (z : Batch). IsLive g.chart z.running node s) same g.live) in
     let ends : after_report s word ≡ Some c.in-Some-after_report._end = sym c.after_report.ensures ∙ c.in-Some-after_report.is in
     (s, c.in-Some-after_report._end, live, ends)
 
@@ -97,10 +96,10 @@ invariant_of-self c =
     let b : Batch = c.index_mut-batch.result.now in
     let at : slice_get v.batches i ≡ Some b = got-batch v _ i b c.self.view_is (slice_get_within v.batches i g.batch g.here.at) c.index_mut-batch.ensures.value in
     let same : g.batch ≡ b = same-at v.batches i g.batch b g.here.at at in
-    let x : Compiled = c.index-chart.result.now in
-    let compiled : slice_get v.charts b.recipe ≡ Some x = got-chart v _ c.from-2.result b.recipe x c.self.view_is c.from-2.ensures (in-charts v kept i b at) c.index-chart.ensures in
-    let chart : slice_get v.charts b.recipe ≡ Some g.chart = subst (λ (z : Batch). slice_get v.charts z.recipe ≡ Some g.chart) same g.here.compiled in
-    let live : IsLive x b.running node s = subst (λ (z : Compiled). IsLive z b.running node s) (same-at v.charts b.recipe g.chart x chart compiled) (subst (λ (z : Batch). IsLive g.chart z.running node s) same g.live) in
+    let x : document.Recipe = c.recipe-chart.result.now in
+    let compiled : slice_get v.cleared.recipes b.recipe ≡ Some x = got-chart v _ b.recipe x c.self.view_is c.recipe-chart.ensures in
+    let chart : slice_get v.cleared.recipes b.recipe ≡ Some g.chart = subst (λ (z : Batch). slice_get v.cleared.recipes z.recipe ≡ Some g.chart) same g.here.compiled in
+    let live : IsLive x b.running node s = subst (λ (z : document.Recipe). IsLive z b.running node s) (same-at v.cleared.recipes b.recipe g.chart x chart compiled) (subst (λ (z : Batch). IsLive g.chart z.running node s) same g.live) in
     let ends : after_report s word ≡ Some c.in-Some-after_report._end = sym c.after_report.ensures ∙ c.in-Some-after_report.is in
     let t = tree_of v.cleared b in
     let first : Batch = c.index.result.now in
@@ -144,10 +143,10 @@ returns c =
     let b : Batch = c.index_mut-batch.result.now in
     let at : slice_get v.batches i ≡ Some b = got-batch v _ i b c.self.view_is (slice_get_within v.batches i g.batch g.here.at) c.index_mut-batch.ensures.value in
     let same : g.batch ≡ b = same-at v.batches i g.batch b g.here.at at in
-    let x : Compiled = c.index-chart.result.now in
-    let compiled : slice_get v.charts b.recipe ≡ Some x = got-chart v _ c.from-2.result b.recipe x c.self.view_is c.from-2.ensures (in-charts v kept i b at) c.index-chart.ensures in
-    let chart : slice_get v.charts b.recipe ≡ Some g.chart = subst (λ (z : Batch). slice_get v.charts z.recipe ≡ Some g.chart) same g.here.compiled in
-    let live : IsLive x b.running node s = subst (λ (z : Compiled). IsLive z b.running node s) (same-at v.charts b.recipe g.chart x chart compiled) (subst (λ (z : Batch). IsLive g.chart z.running node s) same g.live) in
+    let x : document.Recipe = c.recipe-chart.result.now in
+    let compiled : slice_get v.cleared.recipes b.recipe ≡ Some x = got-chart v _ b.recipe x c.self.view_is c.recipe-chart.ensures in
+    let chart : slice_get v.cleared.recipes b.recipe ≡ Some g.chart = subst (λ (z : Batch). slice_get v.cleared.recipes z.recipe ≡ Some g.chart) same g.here.compiled in
+    let live : IsLive x b.running node s = subst (λ (z : document.Recipe). IsLive z b.running node s) (same-at v.cleared.recipes b.recipe g.chart x chart compiled) (subst (λ (z : Batch). IsLive g.chart z.running node s) same g.live) in
     let ends : after_report s word ≡ Some c.in-Some-after_report._end = sym c.after_report.ensures ∙ c.in-Some-after_report.is in
     let t = tree_of v.cleared b in
     let first : Batch = c.index.result.now in
@@ -268,8 +267,8 @@ index_mut-batch-requires c =
     let within : i < length v.batches = slice_get_within v.batches i g.batch g.here.at in
     omega (arith, within, ap (λ (z : EngineView). length z.batches) c.self.view_is)
 
-pub index-chart-requires : goal.index-chart-requires
-index-chart-requires c =
+pub recipe-chart-requires : goal.recipe-chart-requires
+recipe-chart-requires c =
     let v : EngineView = c.args.self.now in
     let kept : IsKept v = subst IsKept c.self.view_is c.self.invariant.kept in
     let unit : Name = c.args.report.now.unit in
@@ -283,5 +282,5 @@ index-chart-requires c =
     let within : i < length v.batches = slice_get_within v.batches i g.batch g.here.at in
     let b : Batch = c.index_mut-batch.result.now in
     let at : slice_get v.batches i ≡ Some b = got-batch v _ i b c.self.view_is within c.index_mut-batch.ensures.value in
-    let few : b.recipe < length v.charts = in-charts v kept i b at in
-    omega (arith, few, c.from-2.ensures, c.self.inside.charts.ok.0, ap (λ (z : EngineView). length z.charts) c.self.view_is)
+    let few : b.recipe < length v.cleared.recipes = in-charts v kept i b at in
+    omega (arith, few, ap (λ (z : EngineView). length z.cleared.recipes) c.self.view_is)

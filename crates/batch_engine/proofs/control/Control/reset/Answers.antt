@@ -5,7 +5,7 @@ use Rattle.batch_matrix.specs.declared.state.State.TheVariants.{Idle}
 use Rattle.batch_matrix.specs.declared.command.Command.TheVariants.{Reset}
 use Rattle.batch_arbiter.specs.Allocation.{Allocation}
 use Rattle.batch_chart.specs.Charts.{IsRunning}
-use Rattle.batch_chart.specs.declared.compiled.Compiled.{Compiled}
+use Rattle.batch_recipe.specs.declared.recipe.Recipe as document
 use Rattle.batch_engine.specs.declared.batch.Batch.{Batch}
 use Rattle.batch_engine.specs.View.{EngineView, tree_of, recipe_made}
 use Rattle.batch_engine.specs.Kept.{IsKept}
@@ -31,8 +31,8 @@ reset-requires c =
     let at : slice_get v.batches i ≡ Some b = got-batch v _ i b c.self.view_is (slice_get_within v.batches i c.requires.order.batch c.requires.order.at) c.index_mut-batch.ensures.value in
     let o : IsOrder v i Reset n = order-at v i Reset n c.requires.order b at in
     let is : o.batch ≡ b = order-batch v i Reset n c.requires.order b at in
-    let x : Compiled = c.index-chart.result.now in
-    let compiled : slice_get v.charts b.recipe ≡ Some x = got-chart v _ c.from.result b.recipe x c.self.view_is c.from.ensures (in-charts v kept i b at) c.index-chart.ensures in
+    let x : document.Recipe = c.recipe-chart.result.now in
+    let compiled : slice_get v.cleared.recipes b.recipe ≡ Some x = got-chart v _ b.recipe x c.self.view_is c.recipe-chart.ensures in
     runs-here v kept i b at x compiled
 
 pub invariant_of-self : goal.invariant_of-self
@@ -45,11 +45,11 @@ invariant_of-self c =
     let at : slice_get v.batches i ≡ Some b = got-batch v _ i b c.self.view_is (slice_get_within v.batches i c.requires.order.batch c.requires.order.at) c.index_mut-batch.ensures.value in
     let o : IsOrder v i Reset n = order-at v i Reset n c.requires.order b at in
     let is : o.batch ≡ b = order-batch v i Reset n c.requires.order b at in
-    let x : Compiled = c.index-chart.result.now in
-    let compiled : slice_get v.charts b.recipe ≡ Some x = got-chart v _ c.from.result b.recipe x c.self.view_is c.from.ensures (in-charts v kept i b at) c.index-chart.ensures in
+    let x : document.Recipe = c.recipe-chart.result.now in
+    let compiled : slice_get v.cleared.recipes b.recipe ≡ Some x = got-chart v _ b.recipe x c.self.view_is c.recipe-chart.ensures in
     let known : b.recipe < length v.cleared.recipes = (batch-runs v kept i b at).known in
     let outputs : (recipe_made v.cleared b).outputs ≡ c.deref.result.now =
-    ap (λ (z : Rattle.batch_model.specs.Plant.Recipe). z.outputs) (recipe-read v.cleared c.recipes.result.now c.from-2.result b.recipe c.index-recipes-from.result (c.recipes.ensures.value ∙ ap (λ (z : EngineView). z.cleared.recipes) c.self.view_is) c.from-2.ensures known c.index-recipes-from.is b.units)
+    ap (λ (z : Rattle.batch_model.specs.Plant.Recipe). z.outputs) (recipe-read v.cleared c.recipes.result.now c.from.result b.recipe c.index-recipes-from.result (c.recipes.ensures.value ∙ ap (λ (z : EngineView). z.cleared.recipes) c.self.view_is) c.from.ensures known c.index-recipes-from.is b.units)
     ∙ sym c.deref.ensures.value in
     let values : c.clear_outputs.new.self ≡ with_outputs_zero (recipe_made v.cleared b).outputs b.values = c.clear_outputs.ensures ∙ ap (λ z. with_outputs_zero z b.values) (sym outputs) in
     let b' : Batch = record b { values = c.clear_outputs.new.self; state = Idle; running = c.reset.new.self } in
@@ -79,11 +79,11 @@ returns c =
     let at : slice_get v.batches i ≡ Some b = got-batch v _ i b c.self.view_is (slice_get_within v.batches i c.requires.order.batch c.requires.order.at) c.index_mut-batch.ensures.value in
     let o : IsOrder v i Reset n = order-at v i Reset n c.requires.order b at in
     let is : o.batch ≡ b = order-batch v i Reset n c.requires.order b at in
-    let x : Compiled = c.index-chart.result.now in
-    let compiled : slice_get v.charts b.recipe ≡ Some x = got-chart v _ c.from.result b.recipe x c.self.view_is c.from.ensures (in-charts v kept i b at) c.index-chart.ensures in
+    let x : document.Recipe = c.recipe-chart.result.now in
+    let compiled : slice_get v.cleared.recipes b.recipe ≡ Some x = got-chart v _ b.recipe x c.self.view_is c.recipe-chart.ensures in
     let known : b.recipe < length v.cleared.recipes = (batch-runs v kept i b at).known in
     let outputs : (recipe_made v.cleared b).outputs ≡ c.deref.result.now =
-    ap (λ (z : Rattle.batch_model.specs.Plant.Recipe). z.outputs) (recipe-read v.cleared c.recipes.result.now c.from-2.result b.recipe c.index-recipes-from.result (c.recipes.ensures.value ∙ ap (λ (z : EngineView). z.cleared.recipes) c.self.view_is) c.from-2.ensures known c.index-recipes-from.is b.units)
+    ap (λ (z : Rattle.batch_model.specs.Plant.Recipe). z.outputs) (recipe-read v.cleared c.recipes.result.now c.from.result b.recipe c.index-recipes-from.result (c.recipes.ensures.value ∙ ap (λ (z : EngineView). z.cleared.recipes) c.self.view_is) c.from.ensures known c.index-recipes-from.is b.units)
     ∙ sym c.deref.ensures.value in
     let values : c.clear_outputs.new.self ≡ with_outputs_zero (recipe_made v.cleared b).outputs b.values = c.clear_outputs.ensures ∙ ap (λ z. with_outputs_zero z b.values) (sym outputs) in
     let b' : Batch = record b { values = c.clear_outputs.new.self; state = Idle; running = c.reset.new.self } in

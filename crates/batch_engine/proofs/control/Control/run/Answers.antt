@@ -4,7 +4,7 @@ use Rattle.std.proofs.lemmas.Option.{slice_get_within}
 use Rattle.batch_model.specs.Moves as Moves
 use Rattle.batch_arbiter.specs.Allocation.{Allocation}
 use Rattle.batch_chart.specs.Seen.{move_of}
-use Rattle.batch_chart.specs.declared.compiled.Compiled.{Compiled}
+use Rattle.batch_recipe.specs.declared.recipe.Recipe as document
 use Rattle.batch_engine.specs.declared.batch.Batch.{Batch}
 use Rattle.batch_engine.specs.View.{EngineView, batch_of, tree_of}
 use Rattle.batch_engine.specs.Kept.{IsKept}
@@ -24,8 +24,8 @@ make-requires-clause-running c =
     let b : Batch = c.index_mut-batch.result.now in
     let g : IsOwnStep v (IsNext v) c.args.index c.args.made = c.requires.step in
     let at : slice_get v.batches c.args.index ≡ Some b = got-batch v _ c.args.index b c.self.view_is (slice_get_within v.batches c.args.index g.batch g.here.at) c.index_mut-batch.ensures.value in
-    let x : Compiled = c.index-chart.result.now in
-    let compiled : slice_get v.charts b.recipe ≡ Some x = got-chart v _ c.from.result b.recipe x c.self.view_is c.from.ensures (in-charts v kept c.args.index b at) c.index-chart.ensures in
+    let x : document.Recipe = c.recipe-chart.result.now in
+    let compiled : slice_get v.cleared.recipes b.recipe ≡ Some x = got-chart v _ b.recipe x c.self.view_is c.recipe-chart.ensures in
     runs-here v kept c.args.index b at x compiled
 
 pub make-requires-clause-possible : goal.make-requires-clause-possible
@@ -35,8 +35,8 @@ make-requires-clause-possible c =
     let b : Batch = c.index_mut-batch.result.now in
     let g : IsOwnStep v (IsNext v) c.args.index c.args.made = c.requires.step in
     let at : slice_get v.batches c.args.index ≡ Some b = got-batch v _ c.args.index b c.self.view_is (slice_get_within v.batches c.args.index g.batch g.here.at) c.index_mut-batch.ensures.value in
-    let x : Compiled = c.index-chart.result.now in
-    let compiled : slice_get v.charts b.recipe ≡ Some x = got-chart v _ c.from.result b.recipe x c.self.view_is c.from.ensures (in-charts v kept c.args.index b at) c.index-chart.ensures in
+    let x : document.Recipe = c.recipe-chart.result.now in
+    let compiled : slice_get v.cleared.recipes b.recipe ≡ Some x = got-chart v _ b.recipe x c.self.view_is c.recipe-chart.ensures in
     step-can v c.args.index b at c.args.made g x compiled
 
 pub invariant_of-self : goal.invariant_of-self
@@ -46,8 +46,8 @@ invariant_of-self c =
     let b : Batch = c.index_mut-batch.result.now in
     let g : IsOwnStep v (IsNext v) c.args.index c.args.made = c.requires.step in
     let at : slice_get v.batches c.args.index ≡ Some b = got-batch v _ c.args.index b c.self.view_is (slice_get_within v.batches c.args.index g.batch g.here.at) c.index_mut-batch.ensures.value in
-    let x : Compiled = c.index-chart.result.now in
-    let compiled : slice_get v.charts b.recipe ≡ Some x = got-chart v _ c.from.result b.recipe x c.self.view_is c.from.ensures (in-charts v kept c.args.index b at) c.index-chart.ensures in
+    let x : document.Recipe = c.recipe-chart.result.now in
+    let compiled : slice_get v.cleared.recipes b.recipe ≡ Some x = got-chart v _ b.recipe x c.self.view_is c.recipe-chart.ensures in
     let m : Moves.Move = move_of (tree_of v.cleared b) (batch_of v.cleared b) c.args.made in
     let is : IsNext v m = step-is v c.args.index b at c.args.made g in
     let made = c.make.ensures (tree_of v.cleared b) (chart-here v kept c.args.index b at x compiled) (batch-runs v kept c.args.index b at).runs in
@@ -67,8 +67,8 @@ returns c =
     let b : Batch = c.index_mut-batch.result.now in
     let g : IsOwnStep v (IsNext v) c.args.index c.args.made = c.requires.step in
     let at : slice_get v.batches c.args.index ≡ Some b = got-batch v _ c.args.index b c.self.view_is (slice_get_within v.batches c.args.index g.batch g.here.at) c.index_mut-batch.ensures.value in
-    let x : Compiled = c.index-chart.result.now in
-    let compiled : slice_get v.charts b.recipe ≡ Some x = got-chart v _ c.from.result b.recipe x c.self.view_is c.from.ensures (in-charts v kept c.args.index b at) c.index-chart.ensures in
+    let x : document.Recipe = c.recipe-chart.result.now in
+    let compiled : slice_get v.cleared.recipes b.recipe ≡ Some x = got-chart v _ b.recipe x c.self.view_is c.recipe-chart.ensures in
     let m : Moves.Move = move_of (tree_of v.cleared b) (batch_of v.cleared b) c.args.made in
     let is : IsNext v m = step-is v c.args.index b at c.args.made g in
     let made = c.make.ensures (tree_of v.cleared b) (chart-here v kept c.args.index b at x compiled) (batch-runs v kept c.args.index b at).runs in

@@ -10,7 +10,7 @@ use Rattle.batch_recipe.specs.Tree.{Tree}
 use Rattle.batch_model.specs.ActStates.{state_in}
 use Rattle.batch_model.specs.Plant as Model
 use Rattle.batch_chart.specs.NodesOf.{nodes_of, place_at}
-use Rattle.batch_chart.specs.declared.compiled.Compiled.{Compiled}
+use Rattle.batch_recipe.specs.declared.recipe.Recipe as document
 use Rattle.batch_engine.specs.declared.batch.Batch.{Batch}
 use Rattle.batch_engine.specs.View.{EngineView, batch_of, bound_to, tree_of, plant_of}
 use Rattle.batch_engine.specs.Kept.{IsKept}
@@ -60,8 +60,8 @@ state_at-requires c =
     let tree : t ≡ bound_tree bound r.0.acts = tree-is v.cleared b.recipe r.0 r.1 b.units in
     let shown : Rattle.batch_model.specs.ActStates.state_of (plant_of v) c.args.batch c.args.place.now ≡ state_in (batch_of v.cleared b) c.args.place.now =
     ap (λ (o : Option Model.Batch). let s : Option State = elim o [ None ↦ None | Some d ↦ state_in d c.args.place.now ] in s) (f.is ∙ ap (λ (z : Batch). Some (batch_of v.cleared z)) same) in
-    let x : Compiled = c.index-chart.result.now in
-    let compiled : slice_get v.charts b.recipe ≡ Some x = got-chart v _ c.from.result b.recipe x c.self.view_is c.from.ensures (in-charts v kept c.in-Some.index b at) c.index-chart.ensures in
+    let x : document.Recipe = c.recipe-chart.result.now in
+    let compiled : slice_get v.cleared.recipes b.recipe ≡ Some x = got-chart v _ b.recipe x c.self.view_is c.recipe-chart.ensures in
     runs-here v kept c.in-Some.index b at x compiled
 
 pub returns : goal.returns
@@ -79,8 +79,8 @@ returns c =
     let tree : t ≡ bound_tree bound r.0.acts = tree-is v.cleared b.recipe r.0 r.1 b.units in
     let shown : Rattle.batch_model.specs.ActStates.state_of (plant_of v) c.args.batch c.args.place.now ≡ state_in (batch_of v.cleared b) c.args.place.now =
     ap (λ (o : Option Model.Batch). let s : Option State = elim o [ None ↦ None | Some d ↦ state_in d c.args.place.now ] in s) (f.is ∙ ap (λ (z : Batch). Some (batch_of v.cleared z)) same) in
-    let x : Compiled = c.index-chart.result.now in
-    let compiled : slice_get v.charts b.recipe ≡ Some x = got-chart v _ c.from.result b.recipe x c.self.view_is c.from.ensures (in-charts v kept c.in-Some.index b at) c.index-chart.ensures in
+    let x : document.Recipe = c.recipe-chart.result.now in
+    let compiled : slice_get v.cleared.recipes b.recipe ≡ Some x = got-chart v _ b.recipe x c.self.view_is c.recipe-chart.ensures in
     let node : ℕ = c.in-Some-node_of.node in
     let found : IsNodeAt (nodes_of t) node c.args.place.now = subst (λ (z : Tree). IsNodeAt (nodes_of z) node c.args.place.now) (sym tree) (node-alike bound r.0.acts node c.args.place.now (c.in-Some-node_of.ensures.some r.0 read)) in
     let few : node < node_count t = (let l : node < length (nodes_of t) = slice_get_within (nodes_of t) node found.0 found.1 in omega (arith, l, counted_nodes (0 ∷ []) [] t)) in

@@ -1,0 +1,5 @@
+use Rattle.batch_chart.proofs.Laid.{is_chart}
+use Rattle.batch_chart.proofs.laws.recipes_are_charts.Goals as goal
+
+pub returns : goal.returns
+returns c = λ recipe bound. is_chart recipe bound
