@@ -13,7 +13,7 @@ use Rattle.batch_chart.specs.declared.stage.Stage.{Stage}
 use Rattle.batch_chart.specs.declared.stage.Stage.TheVariants.{Finished, Ready, Asking, Open, Live, Freeing, Turning}
 use Rattle.batch_chart.specs.Stages.{stage_at, is_finished, is_begun, turns_of}
 use Rattle.batch_chart.specs.Meaning.{meaning, act_as}
-use Rattle.batch_chart.specs.Compiled.{end_at, Stands, StandsAct, AreStanding, AreChoices}
+use Rattle.batch_chart.specs.Outlined.{end_at, Stands, StandsAct, AreStanding, AreChoices}
 use Rattle.batch_chart.specs.Numbered.{entries, entries_in, numbered, numbered_each, numbered_branch, numbered_chosen}
 use Rattle.batch_chart.specs.Noting.{signs_of, ready_signs, asking_signs, freeing_signs, live_signs, open_signs, sign_in}
 use Rattle.batch_chart.proofs.Standing.{SkipAt, skip_at, skip-at, PhaseAt, phase_at, phase-at, ActAt, act_at, act-at, SeqAt, seq_at, seq-at, ParAt, par_at, par-at, SelAt, sel_at, sel-at, LoopAt, loop_at, loop-at, RowAt, row_at, row-at, row-end, LastAt, last_at, last-at, ChoiceAt, choice_at, choice-at, stood, stood-each, stood-choices, count-pos, choices-pos}

@@ -18,13 +18,13 @@ use Rattle.batch_chart.specs.declared.stage.Stage.{Stage}
 use Rattle.batch_chart.specs.declared.stage.Stage.TheVariants.{Finished, Ready, Asking, Open, Live, Freeing, Turning}
 use Rattle.batch_chart.specs.Stages.{stage_at, is_finished, is_begun, is_over, is_over_at, turns_of, closed_as, looped_as}
 use Rattle.batch_chart.specs.Meaning.{meaning, meaning_each, act_as, branch, chosen, AgreeOutside, AgreeWithin}
-use Rattle.batch_chart.specs.Compiled.{end_at, kind_at, judged, Stands, AreStanding, AreChoices, IsCompiled, AreCompiled, AreCompiledBranches, condition_at}
+use Rattle.batch_chart.specs.Outlined.{end_at, kind_at, judged, Stands, AreStanding, AreChoices, HasTree, HaveTrees, HaveBranches, condition_at}
 use Rattle.batch_chart.specs.Parents.{IsAbove}
 use Rattle.batch_chart.specs.Told.{TellsWhetherOver, AreTold}
 use Rattle.batch_chart.specs.Reaching.{IsReached, IsFirstReached}
 use Rattle.batch_chart.specs.Advancing.{HasAdvanced, HasFirstAdvanced, HasEachAdvanced, HasChoiceAdvanced}
 use Rattle.batch_chart.specs.Climbing.{all_finished, AreFinished, IsRisen, HasStopped, HasPassed}
-use Rattle.batch_chart.proofs.Standing.{count-pos, stood, stood-each, some-stands, nested, SkipAt, skip_at, skip-at, PhaseAt, phase_at, phase-at, ActAt, act_at, act-at, LoopAt, loop_at, loop-at, RowAt, row_at, row-at, ChoiceAt, choice_at, choice-at, seq-compiled, sel-compiled, rest-compiled, choices-compiled}
+use Rattle.batch_chart.proofs.Standing.{count-pos, stood, stood-each, some-stands, nested, SkipAt, skip_at, skip-at, PhaseAt, phase_at, phase-at, ActAt, act_at, act-at, LoopAt, loop_at, loop-at, RowAt, row_at, row-at, ChoiceAt, choice_at, choice-at, seq-standing, sel-standing, rest-standing, choices-standing}
 use Rattle.batch_chart.proofs.Agreeing.{meaning-agree}
 use Rattle.batch_chart.proofs.Calm.{advanced-still}
 use Rattle.batch_chart.proofs.Choosing.{chosen-false}
@@ -105,21 +105,21 @@ module _ (ns : List Entry) (doc : Recipe) (n : ℕ) where
 
 -- the node at p is above that at n
 
-module _ (ns : List Entry) (doc : Recipe) (p n : ℕ) (ys : List Stage) (compiled : IsCompiled ns doc ys p) (above : IsAbove ns p n) where
-  p-end : end_at ns p ≡ p + node_count compiled.1.0
-  p-end = (stood ns doc p compiled.1.0 compiled.1.1).end
+module _ (ns : List Entry) (doc : Recipe) (p n : ℕ) (ys : List Stage) (standing : HasTree ns doc ys p) (above : IsAbove ns p n) where
+  p-end : end_at ns p ≡ p + node_count standing.1.0
+  p-end = (stood ns doc p standing.1.0 standing.1.1).end
 
   p-within : p < length ns
-  p-within = (stood ns doc p compiled.1.0 compiled.1.1).within
+  p-within = (stood ns doc p standing.1.0 standing.1.1).within
 
   p-fits : end_at ns p ≤ length ns
-  p-fits = omega (arith, p-end, (stood ns doc p compiled.1.0 compiled.1.1).fits)
+  p-fits = omega (arith, p-end, (stood ns doc p standing.1.0 standing.1.1).fits)
 
   n-stands : (c : Tree) × Stands ns doc n c
-  n-stands = some-stands ns doc n compiled.1.0 p compiled.1.1 (omega (arith, above.before)) (omega (arith, above.past, p-end))
+  n-stands = some-stands ns doc n standing.1.0 p standing.1.1 (omega (arith, above.before)) (omega (arith, above.past, p-end))
 
   n-end : end_at ns n ≤ end_at ns p
-  n-end = let e : end_at ns n ≤ p + node_count compiled.1.0 = nested ns doc n compiled.1.0 p compiled.1.1 (omega (arith, above.before)) (omega (arith, above.past, p-end)) in omega (arith, p-end)
+  n-end = let e : end_at ns n ≤ p + node_count standing.1.0 = nested ns doc n standing.1.0 p standing.1.1 (omega (arith, above.before)) (omega (arith, above.past, p-end)) in omega (arith, p-end)
 
   n-below : n < end_at ns n
   n-below = omega (arith, (stood ns doc n n-stands.0 n-stands.1).end, count-pos n-stands.0)
@@ -133,22 +133,22 @@ module _ (ns : List Entry) (doc : Recipe) (p n : ℕ) (ys : List Stage) (compile
       ]
 
   pub no-skip : kind_at ns p ≡ Skip → ⊥
-  no-skip e = go compiled.1.0 (skip-at ns doc p e compiled.1.0 compiled.1.1) compiled.1.1
+  no-skip e = go standing.1.0 (skip-at ns doc p e standing.1.0 standing.1.1) standing.1.1
     where
       go : (c : Tree) → SkipAt ns doc p c → Stands ns doc p c → ⊥
       go _ skip_at s = absurd (omega (arith, (stood ns doc p skip s).end, above.before, above.past))
 
   pub no-phase : (k i : ℕ) → kind_at ns p ≡ kind.Phase k i → ⊥
-  no-phase k i e = go compiled.1.0 (phase-at ns doc p k i e compiled.1.0 compiled.1.1)
+  no-phase k i e = go standing.1.0 (phase-at ns doc p k i e standing.1.0 standing.1.1)
     where
       go : (c : Tree) → PhaseAt ns doc p k i c → ⊥
       go _ (phase_at s q a f g) = absurd (omega (arith, f, above.before, above.past))
 
-  pub n-compiled : IsCompiled ns doc ys n
-  n-compiled = (compiled.0, n-stands)
+  pub n-standing : HasTree ns doc ys n
+  n-standing = (standing.0, n-stands)
 
   pub loop-child : (k i : ℕ) → kind_at ns p ≡ Loop k i → (n ≡ p + 1) × (end_at ns n ≡ end_at ns p)
-  loop-child k i e = go compiled.1.0 (loop-at ns doc p k i e compiled.1.0 compiled.1.1)
+  loop-child k i e = go standing.1.0 (loop-at ns doc p k i e standing.1.0 standing.1.1)
     where
       go : (c : Tree) → LoopAt ns doc p k i c → (n ≡ p + 1) × (end_at ns n ≡ end_at ns p)
       go _ (loop_at q body w s f) =
@@ -159,22 +159,22 @@ module _ (ns : List Entry) (doc : Recipe) (p n : ℕ) (ys : List Stage) (compile
   ends-by m a b = above.between m (omega arith) b
 
   seq-split : kind_at ns p ≡ Seq → (us : Trees) × (os : Trees) × AreStanding ns doc (p + 1) n us × AreStanding ns doc n (end_at ns p) os
-  seq-split e = let k = seq-compiled ns doc ys ys p compiled e compiled.0 in split-row ns doc n k.1.0 (p + 1) (end_at ns p) k.1.1 (omega (arith, above.before)) above.past ends-by
+  seq-split e = let k = seq-standing ns doc ys ys p standing e standing.0 in split-row ns doc n k.1.0 (p + 1) (end_at ns p) k.1.1 (omega (arith, above.before)) above.past ends-by
 
   sel-split : (i : ℕ) → kind_at ns p ≡ Sel i → (us : Trees) × (m : ℕ) × (os : Choices) × AreStanding ns doc (p + 1) n us × AreChoices ns doc m n (end_at ns p) os
-  sel-split i e = let k = sel-compiled ns doc ys ys p i compiled e compiled.0 in split-choices ns doc n k.1.0 i (p + 1) (end_at ns p) k.1.1 (omega (arith, above.before)) above.past ends-by
+  sel-split i e = let k = sel-standing ns doc ys ys p i standing e standing.0 in split-choices ns doc n k.1.0 i (p + 1) (end_at ns p) k.1.1 (omega (arith, above.before)) above.past ends-by
 
-  pub seq-before : kind_at ns p ≡ Seq → AreCompiled ns doc ys (p + 1) n
-  seq-before e = let k = seq-split e in (compiled.0, (k.0, k.2))
+  pub seq-before : kind_at ns p ≡ Seq → HaveTrees ns doc ys (p + 1) n
+  seq-before e = let k = seq-split e in (standing.0, (k.0, k.2))
 
-  pub sel-before : (i : ℕ) → kind_at ns p ≡ Sel i → AreCompiled ns doc ys (p + 1) n
-  sel-before i e = let k = sel-split i e in (compiled.0, (k.0, k.3))
+  pub sel-before : (i : ℕ) → kind_at ns p ≡ Sel i → HaveTrees ns doc ys (p + 1) n
+  sel-before i e = let k = sel-split i e in (standing.0, (k.0, k.3))
 
-  pub seq-rest : kind_at ns p ≡ Seq → AreCompiled ns doc ys (end_at ns n) (end_at ns p)
+  pub seq-rest : kind_at ns p ≡ Seq → HaveTrees ns doc ys (end_at ns n) (end_at ns p)
   seq-rest e =
       let k = seq-split e in
       let ne : n ≢ end_at ns p = λ q. absurd (omega (arith, above.past)) in
-      rest-compiled ns doc ys ys n (end_at ns p) ne (compiled.0, (k.1, k.3)) compiled.0
+      rest-standing ns doc ys ys n (end_at ns p) ne (standing.0, (k.1, k.3)) standing.0
 
   -- the subtrees from p on end at n's end
   nest-n : (j : ℕ) (c : Tree) → p < j → j < end_at ns n → Stands ns doc j c → j + node_count c ≤ end_at ns n
@@ -186,21 +186,21 @@ module _ (ns : List Entry) (doc : Recipe) (p n : ℕ) (ys : List Stage) (compile
 
 -- the tree at n, a branch of the node at p, has been finished
 
-module _ (ns : List Entry) (doc : Recipe) (vs : ValueList) (p n : ℕ) (ys : List Stage) (compiled : IsCompiled ns doc ys p) (above : IsAbove ns p n) (xs ws : List Stage) (r : IsRisen ns doc vs xs ws n ys) where
+module _ (ns : List Entry) (doc : Recipe) (vs : ValueList) (p n : ℕ) (ys : List Stage) (standing : HasTree ns doc ys p) (above : IsAbove ns p n) (xs ws : List Stage) (r : IsRisen ns doc vs xs ws n ys) where
   fits-p : end_at ns p ≤ length ns
-  fits-p = p-fits ns doc p n ys compiled above
+  fits-p = p-fits ns doc p n ys standing above
 
   within-p : p < length ns
-  within-p = p-within ns doc p n ys compiled above
+  within-p = p-within ns doc p n ys standing above
 
   end-n : end_at ns n ≤ end_at ns p
-  end-n = n-end ns doc p n ys compiled above
+  end-n = n-end ns doc p n ys standing above
 
   below-n : n < end_at ns n
-  below-n = n-below ns doc p n ys compiled above
+  below-n = n-below ns doc p n ys standing above
 
-  then-compiled : IsCompiled ns doc ws p
-  then-compiled = (r.after, compiled.1)
+  then-standing : HasTree ns doc ws p
+  then-standing = (r.after, standing.1)
 
   was-own : stage_at ws p ≡ stage_at xs p
   was-own = r.same p (inl above.before)
@@ -233,7 +233,7 @@ module _ (ns : List Entry) (doc : Recipe) (vs : ValueList) (p n : ℕ) (ys : Lis
   -- p's own stage is written last
   set-under : (zs us : List Stage) (v : Stage) → us ≡ slice_set zs p v → AreTold ns doc (p + 1) (end_at ns p) zs → AreTold ns doc (p + 1) (end_at ns p) us
   set-under zs us v e h =
-      told-same ns doc (p + 1) (end_at ns p) zs us (nests-below ns doc p (p + 1) (end_at ns p) (omega arith) (nests ns doc p compiled.1.0 compiled.1.1))
+      told-same ns doc (p + 1) (end_at ns p) zs us (nests-below ns doc p (p + 1) (end_at ns p) (omega arith) (nests ns doc p standing.1.0 standing.1.1))
       (subst (λ l. AgreeWithin (p + 1) (end_at ns p) zs l) (sym e) (within-set zs p (end_at ns p) v)) h
 
   whole : (zs : List Stage) (b : Bool) → HasAdvanced ns doc vs p ws zs b → AreTold ns doc (p + 1) (end_at ns p) zs → AreTold ns doc p (end_at ns p) zs
@@ -251,10 +251,10 @@ module _ (ns : List Entry) (doc : Recipe) (vs : ValueList) (p n : ℕ) (ys : Lis
   passed-over o =
       let then : true ≡ is_over_at (kind_at ns p) (stage_at ws p) = o ∙ ap (is_over_at (kind_at ns p)) is-own in
       let before : true ≡ is_over_at (kind_at ns p) (stage_at xs p) = then ∙ ap (is_over_at (kind_at ns p)) was-own in
-      let now = over-at ns doc vs ys p compiled (kind_at ns p) refl o in
-      let was = over-at ns doc vs ws p then-compiled (kind_at ns p) refl then in
-      let first = over-at ns doc vs xs p (r.before, compiled.1) (kind_at ns p) refl before compiled.1.0 compiled.1.1 in
-      let own : is_finished (stage_at xs p) ≡ true = (r.told p compiled.1.0 (omega arith) within-p compiled.1.1).finished ∙ ap is_done first in
+      let now = over-at ns doc vs ys p standing (kind_at ns p) refl o in
+      let was = over-at ns doc vs ws p then-standing (kind_at ns p) refl then in
+      let first = over-at ns doc vs xs p (r.before, standing.1) (kind_at ns p) refl before standing.1.0 standing.1.1 in
+      let own : is_finished (stage_at xs p) ≡ true = (r.told p standing.1.0 (omega arith) within-p standing.1.1).finished ∙ ap is_done first in
       let a : HasAdvanced ns doc vs p ws ys true = record {
         means = λ c s. (now c s ∙ sym (ap (advance vs) (was c s)), sym (ap (λ z. is_done (advance vs z)) (was c s)));
         own = ap is_finished (is-own ∙ was-own) ∙ own;
@@ -275,7 +275,7 @@ module _ (ns : List Entry) (doc : Recipe) (vs : ValueList) (p n : ℕ) (ys : Lis
 
   -- an act with a chart waits until it is ended
   pub passed-act : (k : ℕ) → kind_at ns p ≡ Act k → false ≡ is_over (stage_at ys p) → HasStopped ns doc vs xs ws p ys
-  passed-act k e o = go compiled.1.0 (act-at ns doc p k e compiled.1.0 compiled.1.1) (is_begun (stage_at ws p)) refl
+  passed-act k e o = go standing.1.0 (act-at ns doc p k e standing.1.0 standing.1.1) (is_begun (stage_at ws p)) refl
     where
       still : (s : Step) (m : Name) (d : Tree) → is_begun (stage_at ws p) ≡ false → meaning (act s (follows m d)) p ys ≡ meaning (act s (follows m d)) p ws
       still s m d q = ap (act_as s (follows m d) (meaning d (p + 1) ys)) is-own ∙ unbegun-act s (follows m d) (meaning d (p + 1) ys) (meaning d (p + 1) ws) (stage_at ws p) q
@@ -285,7 +285,7 @@ module _ (ns : List Entry) (doc : Recipe) (vs : ValueList) (p n : ℕ) (ys : Lis
 
       unbegun : is_begun (stage_at ws p) ≡ false → HasAdvanced ns doc vs p ws ys false
       unbegun q =
-          let a : HasAdvanced ns doc vs p ws ws false = advanced-act_still ns doc vs ws p then-compiled k e (sym q) (o ∙ ap is_over is-own) in
+          let a : HasAdvanced ns doc vs p ws ws false = advanced-act_still ns doc vs ws p then-standing k e (sym q) (o ∙ ap is_over is-own) in
           record {
             means = λ c s. (let m = a.means c s in (alone c (act-at ns doc p k e c s) q ∙ m.0, m.1));
             own = ap is_finished is-own ∙ a.own;
@@ -294,14 +294,14 @@ module _ (ns : List Entry) (doc : Recipe) (vs : ValueList) (p n : ℕ) (ys : Lis
 
       go : (c : Tree) → ActAt ns doc p k c → (b : Bool) → is_begun (stage_at ws p) ≡ b → HasStopped ns doc vs xs ws p ys
       go _ (act_at s m d a f g) true q =
-          let at : n ≡ p + 1 = only-child ns doc p n ys compiled above d a f in
-          passed-as (Act k) e o ys false (advanced-act_chart ns doc vs ws p then-compiled ys k true e (sym q) (subst (λ z. HasAdvanced ns doc vs z ws ys true) at r.advanced)) told-under
+          let at : n ≡ p + 1 = only-child ns doc p n ys standing above d a f in
+          passed-as (Act k) e o ys false (advanced-act_chart ns doc vs ws p then-standing ys k true e (sym q) (subst (λ z. HasAdvanced ns doc vs z ws ys true) at r.advanced)) told-under
       go _ (act_at s m d a f g) false q = passed-as (Act k) e o ys false (unbegun q) told-under
 
   -- nothing follows of itself after a tree without branches
   pub passed-still : (kind_at ns p ≡ Skip) ⊎ (((k : ℕ) × (i : ℕ) × (kind_at ns p ≡ kind.Phase k i)) ⊎ ((k : ℕ) × (kind_at ns p ≡ Act k))) → false ≡ is_over_at (kind_at ns p) (stage_at ys p) → HasStopped ns doc vs xs ws p ys
-  passed-still (inl e) o = absurd (no-skip ns doc p n ys compiled above e)
-  passed-still (inr (inl h)) o = absurd (no-phase ns doc p n ys compiled above h.0 h.1 h.2)
+  passed-still (inl e) o = absurd (no-skip ns doc p n ys standing above e)
+  passed-still (inr (inl h)) o = absurd (no-phase ns doc p n ys standing above h.0 h.1 h.2)
   passed-still (inr (inr h)) o = passed-act h.0 h.1 (o ∙ ap (λ κ. is_over_at κ (stage_at ys p)) h.1)
 
   -- rows
@@ -356,7 +356,7 @@ module _ (ns : List Entry) (doc : Recipe) (vs : ValueList) (p n : ℕ) (ys : Lis
             sym (ap is_done on),
           )
 
-  not-yet : (us : Trees) (i j : ℕ) → AreStanding ns doc i n us → AreCompiled ns doc ws i j → end_at ns n ≤ j → all_finished us i ys ≡ false → HasFirstAdvanced ns doc vs i j ws ys false
+  not-yet : (us : Trees) (i j : ℕ) → AreStanding ns doc i n us → HaveTrees ns doc ws i j → end_at ns n ≤ j → all_finished us i ys ≡ false → HasFirstAdvanced ns doc vs i j ws ys false
   not-yet no_trees i j h k fits f = absurd (cc)
   not-yet (tree c us) i j h k fits f =
       let e = (stood ns doc i c h.0).end in
@@ -367,11 +367,11 @@ module _ (ns : List Entry) (doc : Recipe) (vs : ValueList) (p n : ℕ) (ys : Lis
         | inl q ↦
             moved-later ns doc vs ws i j ne k ys false (sym q.0 ∙ ap is_finished (off-own i (inl lt)))
             (subst (λ z. HasFirstAdvanced ns doc vs z j ws ys false) (sym e)
-            (not-yet us (i + node_count c) j h.1 (subst (λ z. AreCompiled ns doc ws z j) e (rest-compiled ns doc ws ws i j ne k r.after)) fits q.1))
+            (not-yet us (i + node_count c) j h.1 (subst (λ z. HaveTrees ns doc ws z j) e (rest-standing ns doc ws ws i j ne k r.after)) fits q.1))
         | inr q ↦ stuck-row i j ne (omega (arith, e)) lt fits q
       ]
 
-  went-row : (us : Trees) (i j : ℕ) → AreStanding ns doc i n us → AreCompiled ns doc ws i j → end_at ns n ≤ j → all_finished us i ys ≡ true → (zs : List Stage) (b : Bool) → HasFirstAdvanced ns doc vs n j ws zs b → HasFirstAdvanced ns doc vs i j ws zs b
+  went-row : (us : Trees) (i j : ℕ) → AreStanding ns doc i n us → HaveTrees ns doc ws i j → end_at ns n ≤ j → all_finished us i ys ≡ true → (zs : List Stage) (b : Bool) → HasFirstAdvanced ns doc vs n j ws zs b → HasFirstAdvanced ns doc vs i j ws zs b
   went-row no_trees i j h k fits f zs b a = subst (λ z. HasFirstAdvanced ns doc vs z j ws zs b) (sym h) a
   went-row (tree c us) i j h k fits f zs b a =
       let e = (stood ns doc i c h.0).end in
@@ -380,7 +380,7 @@ module _ (ns : List Entry) (doc : Recipe) (vs : ValueList) (p n : ℕ) (ys : Lis
       let q = both-true (is_finished (stage_at ys i)) (all_finished us (i + node_count c) ys) f in
       moved-later ns doc vs ws i j ne k zs b (sym q.0 ∙ ap is_finished (off-own i (inl lt)))
       (subst (λ z. HasFirstAdvanced ns doc vs z j ws zs b) (sym e)
-      (went-row us (i + node_count c) j h.1 (subst (λ z. AreCompiled ns doc ws z j) e (rest-compiled ns doc ws ws i j ne k r.after)) fits q.1 zs b a))
+      (went-row us (i + node_count c) j h.1 (subst (λ z. HaveTrees ns doc ws z j) e (rest-standing ns doc ws ws i j ne k r.after)) fits q.1 zs b a))
 
   -- the same of a selection
 
@@ -398,34 +398,34 @@ module _ (ns : List Entry) (doc : Recipe) (vs : ValueList) (p n : ℕ) (ys : Lis
             sym (ap is_done on ∙ sym k.1 ∙ u),
           )
 
-  not-chosen : (us : Trees) (i j : ℕ) → AreStanding ns doc i n us → AreCompiledBranches ns doc ws i j → end_at ns n ≤ j → all_finished us i ys ≡ false → HasChoiceAdvanced ns doc vs i j ws ys false
+  not-chosen : (us : Trees) (i j : ℕ) → AreStanding ns doc i n us → HaveBranches ns doc ws i j → end_at ns n ≤ j → all_finished us i ys ≡ false → HasChoiceAdvanced ns doc vs i j ws ys false
   not-chosen no_trees i j h k fits f = absurd (cc)
   not-chosen (tree c us) i j h k fits f =
       let e = (stood ns doc i c h.0).end in
       let l : i + node_count c ≤ n = omega (arith, stood-each ns doc (i + node_count c) n us h.1) in
       let lt : i < n = omega (arith, count-pos c) in
       let ne : end_at ns i ≢ j = λ q. absurd (omega (arith, below-n, e)) in
-      let later : AreCompiledBranches ns doc ws (end_at ns i) j = (k.0 + 1, choices-compiled ns doc ws ws k.0 i j ne k.1 r.after) in
+      let later : HaveBranches ns doc ws (end_at ns i) j = (k.0 + 1, choices-standing ns doc ws ws k.0 i j ne k.1 r.after) in
       elim (one-false (is_finished (stage_at ys i)) (all_finished us (i + node_count c) ys) f) [
         | inl q ↦
             chosen-later ns doc vs ws i j k ys false ne (sym q.0 ∙ ap is_finished (off-own i (inl lt)))
             (subst (λ z. HasChoiceAdvanced ns doc vs z j ws ys false) (sym e)
-            (not-chosen us (i + node_count c) j h.1 (subst (λ z. AreCompiledBranches ns doc ws z j) e later) fits q.1))
+            (not-chosen us (i + node_count c) j h.1 (subst (λ z. HaveBranches ns doc ws z j) e later) fits q.1))
         | inr q ↦ stuck-choice i j ne (omega (arith, e)) lt fits q
       ]
 
-  went-choices : (us : Trees) (i j : ℕ) → AreStanding ns doc i n us → AreCompiledBranches ns doc ws i j → end_at ns n ≤ j → all_finished us i ys ≡ true → HasChoiceAdvanced ns doc vs n j ws ys true → HasChoiceAdvanced ns doc vs i j ws ys true
+  went-choices : (us : Trees) (i j : ℕ) → AreStanding ns doc i n us → HaveBranches ns doc ws i j → end_at ns n ≤ j → all_finished us i ys ≡ true → HasChoiceAdvanced ns doc vs n j ws ys true → HasChoiceAdvanced ns doc vs i j ws ys true
   went-choices no_trees i j h k fits f a = subst (λ z. HasChoiceAdvanced ns doc vs z j ws ys true) (sym h) a
   went-choices (tree c us) i j h k fits f a =
       let e = (stood ns doc i c h.0).end in
       let l : i + node_count c ≤ n = omega (arith, stood-each ns doc (i + node_count c) n us h.1) in
       let lt : i < n = omega (arith, count-pos c) in
       let ne : end_at ns i ≢ j = λ q. absurd (omega (arith, below-n, e)) in
-      let later : AreCompiledBranches ns doc ws (end_at ns i) j = (k.0 + 1, choices-compiled ns doc ws ws k.0 i j ne k.1 r.after) in
+      let later : HaveBranches ns doc ws (end_at ns i) j = (k.0 + 1, choices-standing ns doc ws ws k.0 i j ne k.1 r.after) in
       let q = both-true (is_finished (stage_at ys i)) (all_finished us (i + node_count c) ys) f in
       chosen-later ns doc vs ws i j k ys true ne (sym q.0 ∙ ap is_finished (off-own i (inl lt)))
       (subst (λ z. HasChoiceAdvanced ns doc vs z j ws ys true) (sym e)
-      (went-choices us (i + node_count c) j h.1 (subst (λ z. AreCompiledBranches ns doc ws z j) e later) fits q.1 a))
+      (went-choices us (i + node_count c) j h.1 (subst (λ z. HaveBranches ns doc ws z j) e later) fits q.1 a))
 
   -- and of branches side by side
 
@@ -477,18 +477,18 @@ module _ (ns : List Entry) (doc : Recipe) (vs : ValueList) (p n : ℕ) (ys : Lis
   pub passed-par : (zs : List Stage) (b t : Bool) → p < length ys → (t ≡ b) × (zs ≡ slice_set ys p (closed_as b)) → kind_at ns p ≡ Par → false ≡ is_over_at Par (stage_at ys p) → AreFinished ns doc (p + 1) (end_at ns p) ys b
       → HasPassed ns doc vs xs ws p zs t
   passed-par zs b t lt closes e o f =
-      passed-as Par e o zs t (advanced-par ns doc vs ws p then-compiled ys zs b t (then-begun o) lt closes e (each-advanced b f)) (set-under ys zs (closed_as b) closes.1 told-under)
+      passed-as Par e o zs t (advanced-par ns doc vs ws p then-standing ys zs b t (then-begun o) lt closes e (each-advanced b f)) (set-under ys zs (closed_as b) closes.1 told-under)
 
   sel-advanced : (i : ℕ) → kind_at ns p ≡ Sel i → (b : Bool) → AreFinished ns doc (p + 1) n ys b → HasChoiceAdvanced ns doc vs (p + 1) (end_at ns p) ws ys b
   sel-advanced i e b f = go b (f.means k.0 k.3)
     where
       k : (us : Trees) × (m : ℕ) × (os : Choices) × AreStanding ns doc (p + 1) n us × AreChoices ns doc m n (end_at ns p) os
-      k = sel-split ns doc p n ys compiled above i e
+      k = sel-split ns doc p n ys standing above i e
 
-      all : AreCompiledBranches ns doc ws (p + 1) (end_at ns p)
-      all = (i, sel-compiled ns doc ws ws p i then-compiled e r.after)
+      all : HaveBranches ns doc ws (p + 1) (end_at ns p)
+      all = (i, sel-standing ns doc ws ws p i then-standing e r.after)
 
-      own : AreCompiledBranches ns doc ws n (end_at ns p)
+      own : HaveBranches ns doc ws n (end_at ns p)
       own = (k.1, (r.after, (k.2, k.4)))
 
       base : HasChoiceAdvanced ns doc vs n (end_at ns p) ws ys true
@@ -504,14 +504,14 @@ module _ (ns : List Entry) (doc : Recipe) (vs : ValueList) (p n : ℕ) (ys : Lis
   pub passed-sel : (i : ℕ) (zs : List Stage) (b t : Bool) → p < length ys → (t ≡ b) × (zs ≡ slice_set ys p (closed_as b)) → kind_at ns p ≡ Sel i → false ≡ is_over_at (Sel i) (stage_at ys p) → AreFinished ns doc (p + 1) n ys b
       → HasPassed ns doc vs xs ws p zs t
   passed-sel i zs b t lt closes e o f =
-      passed-as (Sel i) e o zs t (advanced-sel ns doc vs ws p then-compiled ys zs b t (then-begun o) lt closes i e (sel-advanced i e b f)) (set-under ys zs (closed_as b) closes.1 told-under)
+      passed-as (Sel i) e o zs t (advanced-sel ns doc vs ws p then-standing ys zs b t (then-begun o) lt closes i e (sel-advanced i e b f)) (set-under ys zs (closed_as b) closes.1 told-under)
 
   module _ (e : kind_at ns p ≡ Seq) (o : false ≡ is_over_at Seq (stage_at ys p)) where
     parts : (us : Trees) × (os : Trees) × AreStanding ns doc (p + 1) n us × AreStanding ns doc n (end_at ns p) os
-    parts = seq-split ns doc p n ys compiled above e
+    parts = seq-split ns doc p n ys standing above e
 
-    row : AreCompiled ns doc ws (p + 1) (end_at ns p)
-    row = seq-compiled ns doc ws ws p then-compiled e r.after
+    row : HaveTrees ns doc ws (p + 1) (end_at ns p)
+    row = seq-standing ns doc ws ws p then-standing e r.after
 
     -- the next one is reached
     pub passed-on : (f : Bool) → f ≡ true → AreFinished ns doc (p + 1) n ys f → (zs us : List Stage) (b t : Bool) → p < length zs → IsFirstReached ns doc vs (end_at ns n) (end_at ns p) ys zs b
@@ -520,19 +520,19 @@ module _ (ns : List Entry) (doc : Recipe) (vs : ValueList) (p n : ℕ) (ys : Lis
         let ne : n ≢ end_at ns p = λ q. absurd (omega (arith, above.past)) in
         let on = moved-on ns doc vs ws n (end_at ns p) ne (r.after, (parts.1, parts.3)) ys zs b (sym r.left) r.advanced reached in
         passed-as Seq e o us t
-        (advanced-seq ns doc vs ws p then-compiled zs us b t (then-begun o) lt closes e
+        (advanced-seq ns doc vs ws p then-standing zs us b t (then-begun o) lt closes e
         (went-row parts.0 (p + 1) (end_at ns p) parts.2 row end-n (sym (a.means parts.0 parts.2) ∙ over) zs b on))
         (set-under zs us (closed_as b) closes.1 later)
       where
         later : AreTold ns doc (p + 1) (end_at ns p) zs
         later j c u v s = elim (cases_lt j (end_at ns n)) [
-          | inl w ↦ told-agree ns doc c j ys zs (λ k g h. reached.outside k (inl (let q = nest-n ns doc p n ys compiled above j c (omega arith) w s in omega arith))) (told-under j c u v s)
+          | inl w ↦ told-agree ns doc c j ys zs (λ k g h. reached.outside k (inl (let q = nest-n ns doc p n ys standing above j c (omega arith) w s in omega arith))) (told-under j c u v s)
           | inr w ↦ reached.told (told-part ns doc (p + 1) (end_at ns p) (end_at ns n) (end_at ns p) ys (omega (arith, below-n, above.before)) (omega arith) told-under) j c w v s
         ]
 
   module _ (k i left : ℕ) (e : kind_at ns p ≡ Loop k i) (runs_on : Some left ≡ turns_of (stage_at ys p)) where
     child : (n ≡ p + 1) × (end_at ns n ≡ end_at ns p)
-    child = loop-child ns doc p n ys compiled above k i e
+    child = loop-child ns doc p n ys standing above k i e
 
     unover : false ≡ is_over_at (Loop k i) (stage_at ys p)
     unover = ap is_none runs_on
@@ -545,14 +545,14 @@ module _ (ns : List Entry) (doc : Recipe) (vs : ValueList) (p n : ℕ) (ys : Lis
 
     pub passed-last : p < length ys → (left ≡ 0) ⊎ (true ≡ judged (condition_at doc i) vs) → IsRisen ns doc vs xs ws p (slice_set ys p Finished)
     passed-last lt last =
-        passed-as (Loop k i) e unover (slice_set ys p Finished) true (advanced-loop_over ns doc vs ws p then-compiled ys k i left e then-runs lt last body-over)
+        passed-as (Loop k i) e unover (slice_set ys p Finished) true (advanced-loop_over ns doc vs ws p then-standing ys k i left e then-runs lt last body-over)
         (set-under ys (slice_set ys p Finished) Finished refl told-under)
 
     pub passed-round : left ≢ 0 → false ≡ judged (condition_at doc i) vs → (zs us : List Stage) (b t : Bool) → p < length zs → IsReached ns doc vs n ys zs b → (t ≡ b) × (us ≡ slice_set zs p (looped_as b (left - 1)))
         → HasPassed ns doc vs xs ws p us t
     passed-round more goes_on zs us b t lt reached closes =
         passed-as (Loop k i) e unover us t
-        (advanced-loop_anew ns doc vs ws p then-compiled ys k i left e then-runs zs more goes_on body-over compiled.0 lt us b t (subst (λ z. IsReached ns doc vs z ys zs b) child.0 reached) closes)
+        (advanced-loop_anew ns doc vs ws p then-standing ys k i left e then-runs zs more goes_on body-over standing.0 lt us b t (subst (λ z. IsReached ns doc vs z ys zs b) child.0 reached) closes)
         (set-under zs us (looped_as b (left - 1)) closes.1
         (told-part ns doc n (end_at ns n) (p + 1) (end_at ns p) zs (omega (arith, child.0)) (omega (arith, child.1))
         (reached.told (told-part ns doc (p + 1) (end_at ns p) (n + 1) (end_at ns n) ys (omega (arith, child.0)) (omega (arith, child.1)) told-under))))

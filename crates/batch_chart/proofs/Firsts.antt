@@ -26,7 +26,7 @@ use Rattle.batch_chart.specs.declared.wanted.Wanted.{Wanted}
 use Rattle.batch_chart.specs.declared.wanted.Wanted.TheVariants as wanted
 use Rattle.batch_chart.specs.Stages.{stage_at}
 use Rattle.batch_chart.specs.Meaning.{act_as}
-use Rattle.batch_chart.specs.Compiled.{kind_at, is_act_kind}
+use Rattle.batch_chart.specs.Outlined.{kind_at, is_act_kind}
 use Rattle.batch_chart.specs.Finding.{gives, wants, first_of}
 use Rattle.batch_chart.specs.NodesOf.{no_need, phase_in, name_in}
 use Rattle.batch_chart.specs.OwnMoves.{own_move, is_kind}

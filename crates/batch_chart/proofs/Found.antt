@@ -21,7 +21,7 @@ use Rattle.batch_chart.specs.declared.wanted.Wanted.{Wanted}
 use Rattle.batch_chart.specs.declared.wanted.Wanted.TheVariants as wanted
 use Rattle.batch_chart.specs.Stages.{stage_at, is_finished, is_begun, is_over, is_phase_over, is_over_at, turns_of}
 use Rattle.batch_chart.specs.Meaning.{meaning, meaning_below, meaning_each, act_as, loop_as, branch, chosen}
-use Rattle.batch_chart.specs.Compiled.{end_at, kind_at, IsPhase, phase_name}
+use Rattle.batch_chart.specs.Outlined.{end_at, kind_at, IsPhase, phase_name}
 use Rattle.batch_chart.specs.Finding.{wants_ready, wants_asking, wants_freeing, wants_live, wants_open, wants, still_wants, live_wants, phase_wants, first_of, IsFirst, IsFirstInBranch, IsFirstOfEach, IsFirstInChoice, IsOpenWanted}
 use Rattle.batch_chart.specs.Numbered.{entries, entries_in, numbered, numbered_below, numbered_each, numbered_branch, numbered_chosen}
 use Rattle.batch_chart.proofs.Standing.{SkipAt, skip_at, skip-at, PhaseAt, phase_at, phase-at, ActAt, act_at, act-at, SeqAt, seq_at, seq-at, ParAt, par_at, par-at, SelAt, sel_at, sel-at, LoopAt, loop_at, loop-at, RowAt, row_at, row-at, row-end, LastAt, last_at, last-at, ChoiceAt, choice_at, choice-at}

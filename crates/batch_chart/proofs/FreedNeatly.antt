@@ -13,7 +13,7 @@ use Rattle.batch_recipe.specs.declared.recipe.Recipe.{Recipe}
 use Rattle.batch_chart.specs.declared.stage.Stage.{Stage}
 use Rattle.batch_chart.specs.declared.stage.Stage.TheVariants.{Finished, Freeing}
 use Rattle.batch_chart.specs.Climbing.{IsRisen, IsNeatlyRisen, IsNeatlyLeft, HasRisen}
-use Rattle.batch_chart.specs.Compiled.{end_at, kind_at, is_act_kind, Stands}
+use Rattle.batch_chart.specs.Outlined.{end_at, kind_at, is_act_kind, Stands}
 use Rattle.batch_chart.specs.Freeing.{HasCleared, HasGivenUp, IsFreed}
 use Rattle.batch_chart.specs.Meaning.{AgreeOutside}
 use Rattle.batch_chart.specs.Neat.{AllFinished, AreNeat, AreBlank, SignsOutside}

@@ -17,7 +17,7 @@ use Rattle.batch_chart.specs.declared.sign.TheConstants.{HOLDS}
 use Rattle.batch_chart.specs.declared.stage.Stage.{Stage}
 use Rattle.batch_chart.specs.declared.stage.Stage.TheVariants.{Finished, Ready, Asking, Open, Live, Freeing, Turning}
 use Rattle.batch_chart.specs.declared.wanted.Wanted.TheVariants as wanted
-use Rattle.batch_chart.specs.Compiled.{end_at, kind_at, Stands}
+use Rattle.batch_chart.specs.Outlined.{end_at, kind_at, Stands}
 use Rattle.batch_chart.specs.Finding.{gives, wants, first_of}
 use Rattle.batch_chart.specs.Meaning.{meaning, meaning_below, act_as}
 use Rattle.batch_chart.specs.Neat.{AreNeat}

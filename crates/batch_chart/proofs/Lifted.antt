@@ -15,7 +15,7 @@ use Rattle.batch_chart.specs.declared.stage.Stage.{Stage}
 use Rattle.batch_chart.specs.declared.stage.Stage.TheVariants.{Finished, Ready, Asking, Open, Live, Freeing, Turning}
 use Rattle.batch_chart.specs.Stages.{stage_at, is_finished, is_begun, turns_of}
 use Rattle.batch_chart.specs.Meaning.{meaning, meaning_each, act_as, loop_as, branch, chosen, AgreeOutside}
-use Rattle.batch_chart.specs.Compiled.{end_at, Stands, AreStanding, AreChoices}
+use Rattle.batch_chart.specs.Outlined.{end_at, Stands, AreStanding, AreChoices}
 use Rattle.batch_chart.proofs.Advanced.{advance-phase}
 use Rattle.batch_chart.proofs.Likeness.{Apart, next-apart, after-apart, same-stage, same-status}
 use Rattle.batch_chart.proofs.Calm.{turned-still}

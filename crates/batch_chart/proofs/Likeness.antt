@@ -16,7 +16,7 @@ use Rattle.batch_chart.specs.declared.stage.Stage.{Stage}
 use Rattle.batch_chart.specs.declared.stage.Stage.TheVariants.{Finished, Ready, Asking, Open, Live, Freeing, Turning}
 use Rattle.batch_chart.specs.Stages.{stage_at, is_finished, is_begun, turns_of}
 use Rattle.batch_chart.specs.Meaning.{meaning, meaning_each, act_as, loop_as, branch, chosen, AgreeOutside}
-use Rattle.batch_chart.specs.Compiled.{end_at, Stands, AreStanding, AreChoices}
+use Rattle.batch_chart.specs.Outlined.{end_at, Stands, AreStanding, AreChoices}
 use Rattle.batch_chart.specs.Told.{TellsWhetherOver, AreTold}
 use Rattle.batch_chart.proofs.Standing.{count-pos, choices-pos, stood, stood-each, stood-choices, nested, PhaseAt, phase_at, phase-at, ActAt, act_at, act-at, SkipAt, skip_at, skip-at, SeqAt, seq_at, seq-at, ParAt, par_at, par-at, SelAt, sel_at, sel-at, LoopAt, loop_at, loop-at}
 

@@ -16,7 +16,7 @@ use Rattle.batch_chart.specs.declared.sign.TheConstants.{LIVES}
 use Rattle.batch_chart.specs.declared.stage.Stage.{Stage}
 use Rattle.batch_chart.specs.declared.wanted.Wanted.{Wanted}
 use Rattle.batch_chart.specs.declared.wanted.Wanted.TheVariants as wanted
-use Rattle.batch_chart.specs.Compiled.{kind_at, Stands}
+use Rattle.batch_chart.specs.Outlined.{kind_at, Stands}
 use Rattle.batch_chart.specs.Finding.{wants, first_of}
 use Rattle.batch_chart.specs.Meaning.{meaning_below}
 use Rattle.batch_chart.specs.Nexts.{IsFoundFirst, has_name, is_named, names_at, IsFirstNamed}

@@ -8,7 +8,7 @@ use Rattle.batch_recipe.specs.declared.entry.Entry.{Entry}
 use Rattle.batch_recipe.specs.declared.recipe.Recipe.{Recipe}
 use Rattle.batch_chart.specs.declared.stage.Stage.{Stage}
 use Rattle.batch_chart.specs.declared.stage.Stage.TheVariants.{Finished, Ready, Asking, Open, Live, Freeing, Turning}
-use Rattle.batch_chart.specs.Compiled.{end_at, Stands}
+use Rattle.batch_chart.specs.Outlined.{end_at, Stands}
 use Rattle.batch_chart.specs.Meaning.{AgreeOutside, AgreeWithin}
 use Rattle.batch_chart.specs.Neat.{runs_below, is_single, AllFinished, IsLone, act_shows, shown_of, IsNeat, AreNeat, AreBlank, SignsOutside}
 use Rattle.batch_chart.specs.Running.{IsLaid}

@@ -14,7 +14,7 @@ use Rattle.batch_recipe.specs.declared.entry.Kind.TheVariants as entry
 use Rattle.batch_chart.specs.declared.node.Kind.{Kind}
 use Rattle.batch_chart.specs.declared.node.Kind.TheVariants as kind
 use Rattle.batch_recipe.specs.declared.recipe.Recipe.{Recipe}
-use Rattle.batch_chart.specs.Compiled.{entry_at, kind_at, kind_of, unit_under, names_by, phase_name, StandsOn, StandsActOn, AreStandingOn, AreChoicesOn, Stands, AreStanding, AreChoices, names_in}
+use Rattle.batch_chart.specs.Outlined.{entry_at, kind_at, kind_of, unit_under, names_by, phase_name, StandsOn, StandsActOn, AreStandingOn, AreChoicesOn, Stands, AreStanding, AreChoices, names_in}
 use Rattle.batch_chart.specs.Needs.{needs_of, needs_to}
 use Rattle.batch_chart.specs.NodesOf.{nodes_of, node_at, step_of, needs_in, needs_of_each, needs_of_choices, phase_named}
 use Rattle.batch_chart.specs.Running.{IsLaid}

@@ -20,7 +20,7 @@ use Rattle.batch_machine.proofs.Ordering.{before-irrefl}
 use Rattle.batch_machine.proofs.Changing.{to_same_place}
 use Rattle.batch_recipe.specs.declared.entry.Entry.{Entry}
 use Rattle.batch_recipe.specs.declared.recipe.Recipe.{Recipe}
-use Rattle.batch_chart.specs.Compiled.{Stands, StandsAct, AreStanding, AreChoices}
+use Rattle.batch_chart.specs.Outlined.{Stands, StandsAct, AreStanding, AreChoices}
 use Rattle.batch_chart.specs.declared.stage.Stage.{Stage}
 use Rattle.batch_chart.specs.declared.stage.Stage.TheVariants as stage
 use Rattle.batch_chart.specs.Stages.{stage_at, is_begun, is_finished, turns_of}

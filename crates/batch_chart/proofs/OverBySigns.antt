@@ -14,7 +14,7 @@ use Rattle.batch_chart.specs.declared.stage.Stage.{Stage}
 use Rattle.batch_chart.specs.declared.stage.Stage.TheVariants.{Finished}
 use Rattle.batch_chart.specs.declared.wanted.Wanted.TheVariants as wanted
 use Rattle.batch_chart.specs.Climbing.{all_finished, AreFinished}
-use Rattle.batch_chart.specs.Compiled.{Stands, AreStanding}
+use Rattle.batch_chart.specs.Outlined.{Stands, AreStanding}
 use Rattle.batch_chart.specs.Finding.{wants}
 use Rattle.batch_chart.specs.Meaning.{meaning}
 use Rattle.batch_chart.specs.Neat.{AllFinished, AreNeat, shown_of}

@@ -6,7 +6,7 @@ use Rattle.batch_recipe.specs.Nodes.{node_count, count_within, count_of_each, co
 use Rattle.batch_recipe.specs.Outlines.{Shape, shapes, shapes_within, shapes_of_each, shapes_of_choices}
 use Rattle.batch_recipe.specs.Tree.{Step, Task, runs, follows, Tree, act, skip, seq, par, sel, loop, Trees, no_trees, tree, Choices, otherwise, choice}
 use Rattle.batch_recipe.proofs.Shaping.{shapes_counted}
-use Rattle.batch_chart.specs.Compiled.{end_at, Stands, StandsAct, AreStanding, AreChoices}
+use Rattle.batch_chart.specs.Outlined.{end_at, Stands, StandsAct, AreStanding, AreChoices}
 use Rattle.batch_chart.specs.Parents.{parent_at, IsAbove, HaveParents}
 use Rattle.batch_recipe.specs.declared.entry.Entry.{Entry}
 use Rattle.batch_recipe.specs.declared.recipe.Recipe.{Recipe}

@@ -11,7 +11,7 @@ use Rattle.batch_chart.specs.declared.node.Kind.TheVariants as kind
 use Rattle.batch_recipe.specs.declared.recipe.Recipe.{Recipe}
 use Rattle.batch_chart.specs.declared.stage.Stage.{Stage}
 use Rattle.batch_chart.specs.declared.stage.Stage.TheVariants.{Finished, Ready, Open}
-use Rattle.batch_chart.specs.Compiled.{end_at, kind_at, Stands, IsCompiled, AreCompiled, AreCompiledChoices}
+use Rattle.batch_chart.specs.Outlined.{end_at, kind_at, Stands, HasTree, HaveTrees, HaveChoices}
 use Rattle.batch_chart.specs.Meaning.{AgreeOutside}
 use Rattle.batch_chart.specs.Neat.{runs_below, is_single, AllFinished, IsLone, shown_of, IsNeat, AreNeat, AreBlank, SignsOutside, IsReachedNeatly, IsRowNeat}
 use Rattle.batch_chart.specs.Needs.{needs_of}
@@ -22,15 +22,15 @@ use Rattle.batch_chart.proofs.Advanced.{finished-stage}
 use Rattle.batch_chart.proofs.Agreeing.{stage-set_same, stage-set_other}
 use Rattle.batch_chart.proofs.Neat.{blank-neat, blank-part, blank-same, neat-one, neat-join, neat-same, neat-finished, signs-join, signs-wider, signs-same}
 use Rattle.batch_chart.proofs.Reached.{within-set, outside-set, outside-same}
-use Rattle.batch_chart.proofs.Standing.{count-pos, stood, PhaseAt, phase_at, phase-at, ActAt, act_at, act-at, SeqAt, seq_at, seq-at, ParAt, par_at, par-at, SelAt, sel_at, sel-at, LoopAt, loop_at, loop-at, below-end, first-end, first-compiled, choice-compiled, choice-end}
+use Rattle.batch_chart.proofs.Standing.{count-pos, stood, PhaseAt, phase_at, phase-at, ActAt, act_at, act-at, SeqAt, seq_at, seq-at, ParAt, par_at, par-at, SelAt, sel_at, sel-at, LoopAt, loop_at, loop-at, below-end, first-end, first-standing, choice-standing, choice-end}
 use Rattle.batch_chart.proofs.Telling.{AreNested, nests, nests-each, nests-choices, nests-below}
 
-module _ (ns : List Entry) (doc : Recipe) (xs : List Stage) (n : ℕ) (compiled : IsCompiled ns doc xs n) where
+module _ (ns : List Entry) (doc : Recipe) (xs : List Stage) (n : ℕ) (standing : HasTree ns doc xs n) where
   below : n < end_at ns n
-  below = below-end ns doc xs n compiled
+  below = below-end ns doc xs n standing
 
   nest : AreNested ns doc n (end_at ns n)
-  nest = nests ns doc n compiled.1.0 compiled.1.1
+  nest = nests ns doc n standing.1.0 standing.1.1
 
   under : AreNested ns doc (n + 1) (end_at ns n)
   under = nests-below ns doc n (n + 1) (end_at ns n) (omega arith) nest
@@ -161,7 +161,7 @@ module _ (ns : List Entry) (doc : Recipe) (xs : List Stage) (n : ℕ) (compiled 
 
   pub neatly-loop : (k i : ℕ) → kind_at ns n ≡ Loop k i → (ys us : List Stage) (b r : Bool) (j : ℕ) (old new : List ℕ) → n < length ys → (r ≡ b) × (us ≡ slice_set ys n (looped_as b j)) → is_finished (stage_at ys (n + 1)) ≡ b
       → IsReachedNeatly ns doc (n + 1) xs ys old new → IsReachedNeatly ns doc n xs us old new
-  neatly-loop k i e ys us b r j old new lt closes own body = go compiled.1.0 (loop-at ns doc n k i e compiled.1.0 compiled.1.1)
+  neatly-loop k i e ys us b r j old new lt closes own body = go standing.1.0 (loop-at ns doc n k i e standing.1.0 standing.1.1)
     where
       go : (d : Tree) → LoopAt ns doc n k i d → IsReachedNeatly ns doc n xs us old new
       go _ (loop_at q inner w a f) =
@@ -275,9 +275,9 @@ module _ (ns : List Entry) (doc : Recipe) (n m : ℕ) (c : Tree) (s : Stands ns 
 
 -- what calls on branches need
 
-module _ (ns : List Entry) (doc : Recipe) (xs : List Stage) (n m : ℕ) (ne : n ≢ m) (h : AreCompiled ns doc xs n m) where
-  row-first : IsCompiled ns doc xs n
-  row-first = first-compiled ns doc xs n m ne h
+module _ (ns : List Entry) (doc : Recipe) (xs : List Stage) (n m : ℕ) (ne : n ≢ m) (h : HaveTrees ns doc xs n m) where
+  row-first : HasTree ns doc xs n
+  row-first = first-standing ns doc xs n m ne h
 
   row-rest : AreNested ns doc (end_at ns n) m
   row-rest = nests-below ns doc n (end_at ns n) m (omega (arith, below-end ns doc xs n row-first)) (nests-each ns doc n m h.1.0 h.1.1)
@@ -289,9 +289,9 @@ module _ (ns : List Entry) (doc : Recipe) (xs : List Stage) (n m : ℕ) (ne : n 
   pub neatly-here : (single over : Bool) (ys : List Stage) (old new : List ℕ) → AgreeOutside n (end_at ns n) xs ys → is_finished (stage_at ys n) ≡ false → IsReachedNeatly ns doc n xs ys old new → IsRowNeat ns doc n m single over xs ys old new false
   neatly-here single over ys old new outside own = row-here ns doc n m row-first.1.0 row-first.1.1 (first-end ns doc xs n m ne h) row-rest single over xs ys old new false outside own (λ e. absurd (cc))
 
-module _ (ns : List Entry) (doc : Recipe) (xs : List Stage) (i n m : ℕ) (h : AreCompiledChoices ns doc xs i n m) where
-  choice-first : IsCompiled ns doc xs n
-  choice-first = choice-compiled ns doc xs i n m h
+module _ (ns : List Entry) (doc : Recipe) (xs : List Stage) (i n m : ℕ) (h : HaveChoices ns doc xs i n m) where
+  choice-first : HasTree ns doc xs n
+  choice-first = choice-standing ns doc xs i n m h
 
   choice-rest : AreNested ns doc (end_at ns n) m
   choice-rest = nests-below ns doc n (end_at ns n) m (omega (arith, below-end ns doc xs n choice-first)) (nests-choices ns doc i n m h.1.0 h.1.1)

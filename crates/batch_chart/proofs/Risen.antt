@@ -11,7 +11,7 @@ use Rattle.batch_chart.specs.declared.stage.Stage.{Stage}
 use Rattle.batch_chart.specs.declared.stage.Stage.TheVariants.{Finished, Freeing}
 use Rattle.batch_chart.specs.Advancing.{HasAdvanced}
 use Rattle.batch_chart.specs.Climbing.{IsRisen, HasStopped, HasRisen}
-use Rattle.batch_chart.specs.Compiled.{end_at, Stands, IsCompiled}
+use Rattle.batch_chart.specs.Outlined.{end_at, Stands, HasTree}
 use Rattle.batch_chart.specs.Freeing.{HasFinished}
 use Rattle.batch_chart.specs.Neat.{AllFinished}
 use Rattle.batch_chart.specs.Meaning.{meaning, meaning_below, meaning_each, act_as, loop_as, branch, chosen, AgreeOutside}
@@ -34,7 +34,7 @@ module _ (ns : List Entry) (doc : Recipe) (t : Tree) (laid : IsLaid ns doc t) wh
   pub above-each : (n : ℕ) → 0 < n → n < length ns → IsAbove ns (parent_at ns n) n
   above-each n a b = laid.parents n a b
 
-  pub some-at : (ys : List Stage) (n : ℕ) → length ys ≡ length ns → n < length ns → IsCompiled ns doc ys n
+  pub some-at : (ys : List Stage) (n : ℕ) → length ys ≡ length ns → n < length ns → HasTree ns doc ys n
   some-at ys n l lt = (l, some-stands ns doc n t 0 laid.stands (omega arith) (omega (arith, laid.count)))
 
   module _ (vs : ValueList) (xs ws : List Stage) where

@@ -11,7 +11,7 @@ use Rattle.batch_recipe.specs.declared.recipe.Recipe.{Recipe}
 use Rattle.batch_chart.specs.declared.stage.Stage.{Stage}
 use Rattle.batch_chart.specs.declared.stage.Stage.TheVariants.{Finished, Ready, Asking, Open, Live, Freeing, Turning}
 use Rattle.batch_chart.specs.Climbing.{all_finished, AreFinished, IsNeatlyRisen, HasPassedNeatly}
-use Rattle.batch_chart.specs.Compiled.{end_at, kind_at, Stands, AreStanding, IsCompiled}
+use Rattle.batch_chart.specs.Outlined.{end_at, kind_at, Stands, AreStanding, HasTree}
 use Rattle.batch_chart.specs.Meaning.{AgreeOutside}
 use Rattle.batch_chart.specs.Neat.{runs_below, is_single, AllFinished, act_shows, shown_of, IsNeat, AreNeat, AreBlank, SignsOutside, IsReachedNeatly, IsRowNeat}
 use Rattle.batch_chart.specs.Noting.{open_signs}
@@ -55,21 +55,21 @@ finished-row ns doc n m xs h = record { means = λ ts s. go ts n s h }
         go ts (i + node_count c) s.1 (λ k a b. f k (omega arith) b)
         ∙ sym (chosen-true (is_finished (stage_at xs i)) (all_finished ts (i + node_count c) xs) false (ap is_finished (f i (omega arith) lt)))
 
-module _ (ns : List Entry) (doc : Recipe) (p n : ℕ) (ys : List Stage) (compiled : IsCompiled ns doc ys p) (above : IsAbove ns p n) (xs : List Stage) (ms cur : List ℕ) (r : IsNeatlyRisen ns doc xs ms n ys cur) where
+module _ (ns : List Entry) (doc : Recipe) (p n : ℕ) (ys : List Stage) (standing : HasTree ns doc ys p) (above : IsAbove ns p n) (xs : List Stage) (ms cur : List ℕ) (r : IsNeatlyRisen ns doc xs ms n ys cur) where
   at-p : (c : Tree) × Stands ns doc p c
-  at-p = compiled.1
+  at-p = standing.1
 
-  p-end : end_at ns p ≡ p + node_count compiled.1.0
-  p-end = (stood ns doc p compiled.1.0 compiled.1.1).end
+  p-end : end_at ns p ≡ p + node_count standing.1.0
+  p-end = (stood ns doc p standing.1.0 standing.1.1).end
 
   p-within : p < length ns
-  p-within = (stood ns doc p compiled.1.0 compiled.1.1).within
+  p-within = (stood ns doc p standing.1.0 standing.1.1).within
 
   p-fits : end_at ns p ≤ length ns
-  p-fits = omega (arith, p-end, (stood ns doc p compiled.1.0 compiled.1.1).fits)
+  p-fits = omega (arith, p-end, (stood ns doc p standing.1.0 standing.1.1).fits)
 
   sits : (k : ℕ) → p ≤ k → k < end_at ns p → (d : Tree) × Stands ns doc k d
-  sits k a b = some-stands ns doc k compiled.1.0 p compiled.1.1 a (omega (arith, b, p-end))
+  sits k a b = some-stands ns doc k standing.1.0 p standing.1.1 a (omega (arith, b, p-end))
 
   n-at : (c : Tree) × Stands ns doc n c
   n-at = sits n (omega (arith, above.before)) above.past
@@ -78,13 +78,13 @@ module _ (ns : List Entry) (doc : Recipe) (p n : ℕ) (ys : List Stage) (compile
   n-below = omega (arith, (stood ns doc n n-at.0 n-at.1).end, count-pos n-at.0)
 
   n-fits : end_at ns n ≤ end_at ns p
-  n-fits = let e = nested ns doc n compiled.1.0 p compiled.1.1 (omega (arith, above.before)) (omega (arith, above.past, p-end)) in omega (arith, e, p-end)
+  n-fits = let e = nested ns doc n standing.1.0 p standing.1.1 (omega (arith, above.before)) (omega (arith, above.past, p-end)) in omega (arith, e, p-end)
 
   nest-n : AreNested ns doc n (end_at ns n)
   nest-n = nests ns doc n n-at.0 n-at.1
 
   nest-p : AreNested ns doc p (end_at ns p)
-  nest-p = nests ns doc p compiled.1.0 compiled.1.1
+  nest-p = nests ns doc p standing.1.0 standing.1.1
 
   nest-under : AreNested ns doc (p + 1) (end_at ns p)
   nest-under = nests-below ns doc p (p + 1) (end_at ns p) (omega arith) nest-p
@@ -110,7 +110,7 @@ module _ (ns : List Entry) (doc : Recipe) (p n : ℕ) (ys : List Stage) (compile
   still-runs c s = ap (runs_below c) own ∙ then-runs c s
 
   then-left : is_finished (stage_at xs p) ≡ false
-  then-left = runs-unfinished compiled.1.0 (stage_at xs p) (then-runs compiled.1.0 compiled.1.1)
+  then-left = runs-unfinished standing.1.0 (stage_at xs p) (then-runs standing.1.0 standing.1.1)
 
   -- what stands below p beside n stays as it was
   beside : (j : ℕ) (c : Tree) → p < j → j < end_at ns p → Stands ns doc j c → (j < n) ⊎ (end_at ns n ≤ j) → IsNeat ns c j ys cur
@@ -159,7 +159,7 @@ module _ (ns : List Entry) (doc : Recipe) (p n : ℕ) (ys : List Stage) (compile
     was = then-left;
     same = λ k q. outside k q ∙ wide k q;
     signs = λ k q. signs k q ∙ wide-signs k q;
-    blank = λ k a b. neat-blank ns doc p compiled.1.0 us new compiled.1.1 (λ j f g. sits j f (omega (arith, g, p-end))) (subst (λ z. AreNeat ns doc p z us new) p-end neat) (finished-stage (stage_at us p) u) k a (omega (arith, b, p-end));
+    blank = λ k a b. neat-blank ns doc p standing.1.0 us new standing.1.1 (λ j f g. sits j f (omega (arith, g, p-end))) (subst (λ z. AreNeat ns doc p z us new) p-end neat) (finished-stage (stage_at us p) u) k a (omega (arith, b, p-end));
   }
     where
       wide : AgreeOutside p (end_at ns p) xs ys
@@ -191,7 +191,7 @@ module _ (ns : List Entry) (doc : Recipe) (p n : ℕ) (ys : List Stage) (compile
   no-sign c s none = own-sign ∙ (old-at c s).shown ∙ none (stage_at xs p) (is_finished (stage_at xs (p + 1)))
 
   pub not-over : true ≡ is_over_at (kind_at ns p) (stage_at ys p) → ⊥
-  not-over o = go compiled.1.0 compiled.1.1 (still-runs compiled.1.0 compiled.1.1)
+  not-over o = go standing.1.0 standing.1.1 (still-runs standing.1.0 standing.1.1)
     where
       closed-or-not : (b : Bool) → b ≡ true → true ≡ not b → ⊥
       closed-or-not true e f = absurd (cc)
@@ -233,8 +233,8 @@ module _ (ns : List Entry) (doc : Recipe) (p n : ℕ) (ys : List Stage) (compile
     where
       go : (c : Tree) → ParAt ns doc p c → Stands ns doc p c → IsNeat ns c p (slice_set ys p (closed_as b)) cur
       go _ (par_at ts a) s =
-          over-own ns doc ys p compiled ys (closed_as b) cur cur lt (signs-same (p + 1) (end_at ns p) cur) (par ts) s (no-sign (par ts) s (λ x d. refl)) (λ x d. refl)
-          (shut-by ns doc ys p compiled ys us b t cur cur lt closes (par ts) refl all) (λ one. absurd (cc))
+          over-own ns doc ys p standing ys (closed_as b) cur cur lt (signs-same (p + 1) (end_at ns p) cur) (par ts) s (no-sign (par ts) s (λ x d. refl)) (λ x d. refl)
+          (shut-by ns doc ys p standing ys us b t cur cur lt closes (par ts) refl all) (λ one. absurd (cc))
 
   pub neatly-sel : (i : ℕ) → kind_at ns p ≡ Sel i → (us : List Stage) (t : Bool) → p < length ys → (t ≡ true) × (us ≡ slice_set ys p Finished) → HasPassedNeatly ns doc xs ms p us cur t
   neatly-sel i e us t lt closes = written Finished us t lt closes.1 (sym closes.0) (λ c s. go c (sel-at ns doc p i e c s) s)
@@ -242,26 +242,26 @@ module _ (ns : List Entry) (doc : Recipe) (p n : ℕ) (ys : List Stage) (compile
       go : (c : Tree) → SelAt ns doc p i c → Stands ns doc p c → IsNeat ns c p (slice_set ys p Finished) cur
       go _ (sel_at ch a) s =
           let all = alone (sel ch) s refl in
-          over-own ns doc ys p compiled ys Finished cur cur lt (signs-same (p + 1) (end_at ns p) cur) (sel ch) s (no-sign (sel ch) s (λ x d. refl)) (λ x d. refl)
+          over-own ns doc ys p standing ys Finished cur cur lt (signs-same (p + 1) (end_at ns p) cur) (sel ch) s (no-sign (sel ch) s (λ x d. refl)) (λ x d. refl)
           (λ u k f g. (all k f g).0) (λ one j f g root u k v w out. (all k v w).0)
 
   -- the others of a selection are finished
   pub sel-others : (i : ℕ) → kind_at ns p ≡ Sel i → AllFinished (p + 1) n ys
-  sel-others i e = go compiled.1.0 (sel-at ns doc p i e compiled.1.0 compiled.1.1) compiled.1.1
+  sel-others i e = go standing.1.0 (sel-at ns doc p i e standing.1.0 standing.1.1) standing.1.1
     where
       go : (c : Tree) → SelAt ns doc p i c → Stands ns doc p c → AllFinished (p + 1) n ys
       go _ (sel_at ch a) s k f g = (alone (sel ch) s refl k f (omega (arith, above.past))).0
 
   module _ (k i : ℕ) (e : kind_at ns p ≡ Loop k i) where
     child : (n ≡ p + 1) × (end_at ns n ≡ end_at ns p)
-    child = loop-child ns doc p n ys compiled above k i e
+    child = loop-child ns doc p n ys standing above k i e
 
     pub neatly-last : p < length ys → IsNeatlyRisen ns doc xs ms p (slice_set ys p Finished) cur
     neatly-last lt = written Finished (slice_set ys p Finished) true lt refl refl (λ c s. go c (loop-at ns doc p k i e c s) s)
       where
         go : (c : Tree) → LoopAt ns doc p k i c → Stands ns doc p c → IsNeat ns c p (slice_set ys p Finished) cur
         go _ (loop_at q body w a f) s =
-            over-own ns doc ys p compiled ys Finished cur cur lt (signs-same (p + 1) (end_at ns p) cur) (loop k q body) s (no-sign (loop k q body) s (λ x d. refl)) (λ x d. refl)
+            over-own ns doc ys p standing ys Finished cur cur lt (signs-same (p + 1) (end_at ns p) cur) (loop k q body) s (no-sign (loop k q body) s (λ x d. refl)) (λ x d. refl)
             (λ u j f g. (r.blank j (omega (arith, child.0, f)) (omega (arith, child.1, g))).0) (λ one. absurd (cc))
 
     pub neatly-round : (zs us : List Stage) (new : List ℕ) (b t : Bool) (j : ℕ) → p < length zs → AgreeOutside n (end_at ns n) ys zs → is_finished (stage_at zs n) ≡ b → IsReachedNeatly ns doc n ys zs cur new
@@ -296,7 +296,7 @@ module _ (ns : List Entry) (doc : Recipe) (p n : ℕ) (ys : List Stage) (compile
 
         go : (c : Tree) → LoopAt ns doc p k i c → Stands ns doc p c → IsNeat ns c p (slice_set zs p (looped_as b j)) new
         go _ (loop_at q body w a f) s =
-            over-own ns doc ys p compiled zs (looped_as b j) cur new lt signs (loop k q body) s (no-sign (loop k q body) s (λ x d. refl)) (λ x d. refl)
+            over-own ns doc ys p standing zs (looped_as b j) cur new lt signs (loop k q body) s (no-sign (loop k q body) s (λ x d. refl)) (λ x d. refl)
             (λ u h v g. neat-finished ns doc (p + 1) body zs new a (neat (p + 1) body (omega arith) (omega (arith, f, count-pos body)) a) (ended b refl u) h v (omega (arith, g, f)))
             (λ one. absurd (cc))
 
@@ -316,7 +316,7 @@ module _ (ns : List Entry) (doc : Recipe) (p n : ℕ) (ys : List Stage) (compile
       go _ (act_at s name d a f count) h =
           let begun = still-runs (act s (follows name d)) h in
           let opened : stage_at ys p ≡ Open = begun-open (stage_at ys p) begun in
-          let at : n ≡ p + 1 = only-child ns doc p n ys compiled above d a f in
+          let at : n ≡ p + 1 = only-child ns doc p n ys standing above d a f in
           let over : is_finished (stage_at ys (p + 1)) ≡ true = ap (λ z. is_finished (stage_at ys z)) (sym at) ∙ ap is_finished (r.blank n (omega arith) n-below).0 in
           record {
             shut = λ u. let q : ◌≡◌ {A = Bool} true false = sym begun ∙ u in absurd (cc);
@@ -327,7 +327,7 @@ module _ (ns : List Entry) (doc : Recipe) (p n : ℕ) (ys : List Stage) (compile
 
   module _ (e : kind_at ns p ≡ Seq) where
     blank-seq : AreBlank (p + 1) (end_at ns p) ys cur
-    blank-seq = go compiled.1.0 (seq-at ns doc p e compiled.1.0 compiled.1.1) compiled.1.1
+    blank-seq = go standing.1.0 (seq-at ns doc p e standing.1.0 standing.1.1) standing.1.1
       where
         go : (c : Tree) → SeqAt ns doc p c → Stands ns doc p c → AreBlank (p + 1) (end_at ns p) ys cur
         go _ (seq_at ts a) s = alone (seq ts) s refl
@@ -379,4 +379,4 @@ module _ (ns : List Entry) (doc : Recipe) (p n : ℕ) (ys : List Stage) (compile
 
         go : (c : Tree) → SeqAt ns doc p c → Stands ns doc p c → IsNeat ns c p (slice_set zs p (closed_as b)) new
         go _ (seq_at ts a) s =
-            closed-own ns doc ys p compiled zs (slice_set zs p (closed_as b)) b b cur new lt (refl, refl) true row blank-seq (no-sign (seq ts) s (λ x d. refl)) (seq ts) s (refl, (λ x d. refl), (λ one. refl))
+            closed-own ns doc ys p standing zs (slice_set zs p (closed_as b)) b b cur new lt (refl, refl) true row blank-seq (no-sign (seq ts) s (λ x d. refl)) (seq ts) s (refl, (λ x d. refl), (λ one. refl))

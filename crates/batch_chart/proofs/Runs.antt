@@ -1,4 +1,4 @@
--- Running charts over whichever compiled chart of their tree.
+-- Running charts over whichever chart of their tree.
 use Rattle.std.proofs.Common.{◌≡◌, inl, inr, ◌<◌, ◌≤◌, ◌∙◌, refl, sym, subst, ap, arith, ℕ, ◌+◌, List, length, Bool, Some, None}
 use Rattle.std.specs.Prelude.{Option, IfSome}
 use Rattle.batch_recipe.specs.Nodes.{node_count}
@@ -15,7 +15,7 @@ use Rattle.batch_chart.specs.Charts.{IsChartOf, IsRunning, IsRunningOf, remains}
 use Rattle.batch_chart.specs.Meaning.{meaning}
 use Rattle.batch_chart.specs.Starting.{HasStarted, AreStarted, HasWithdrawn, AreWithdrawn}
 use Rattle.batch_chart.proofs.Withdrawn.{withdrawn-neat}
-use Rattle.batch_chart.specs.Compiled.{end_at, Stands}
+use Rattle.batch_chart.specs.Outlined.{end_at, Stands}
 use Rattle.batch_chart.specs.Noting.{stage_signs}
 use Rattle.batch_chart.specs.Neat.{act_shows, runs_below, is_single, shown_of, AreNeat}
 use Rattle.batch_chart.specs.Nexts.{SomeNoted}
@@ -65,7 +65,7 @@ module _ (ns : List Entry) (doc : Recipe) (n : ℕ) where
   like (sel ch) d h k = like-sel ch h.0 d (sel-at ns doc n h.0 h.1.1 d k)
   like (loop i p body) d h k = like-loop i h.0 p body d (loop-at ns doc n i h.0 h.1.1 d k)
 
--- what one compiled chart of a tree says of its nodes, any other does
+-- what one chart of a tree says of its nodes, any other does
 
 module _ (t : Tree) (ns ms : List Entry) (doc es : Recipe) (laid : IsLaid ns doc t) (other : IsLaid ms es t) where
   same-end : (i : ℕ) → i < node_count t → end_at ms i ≡ end_at ns i

@@ -13,7 +13,7 @@ use Rattle.batch_recipe.specs.declared.entry.Entry.{Entry}
 use Rattle.batch_recipe.specs.declared.recipe.Recipe.{Recipe}
 use Rattle.batch_chart.specs.declared.stage.Stage.{Stage}
 use Rattle.batch_chart.specs.declared.stage.Stage.TheVariants.{Finished, Ready, Asking, Open, Live, Freeing, Turning}
-use Rattle.batch_chart.specs.Compiled.{Stands, StandsAct, AreStanding, AreChoices}
+use Rattle.batch_chart.specs.Outlined.{Stands, StandsAct, AreStanding, AreChoices}
 use Rattle.batch_chart.specs.Meaning.{meaning, act_as}
 use Rattle.batch_chart.specs.Neat.{runs_below, AllFinished, IsLone, step_shows, shown_of, IsNeat, AreNeat}
 use Rattle.batch_chart.specs.Noting.{signs_of, open_signs, sign_in, AreNoted}

@@ -25,7 +25,7 @@ use Rattle.batch_chart.specs.declared.stage.Stage.TheVariants as stage
 use Rattle.batch_chart.specs.declared.wanted.Wanted.TheVariants as wanted
 use Rattle.batch_chart.specs.Stages.{stage_at, is_begun, is_finished, turns_of}
 use Rattle.batch_chart.specs.Meaning.{act_as, meaning, meaning_below}
-use Rattle.batch_chart.specs.Compiled.{kind_at, is_act_kind, Stands, StandsAct, AreStanding, AreChoices, IsCompiled}
+use Rattle.batch_chart.specs.Outlined.{kind_at, is_act_kind, Stands, StandsAct, AreStanding, AreChoices, HasTree}
 use Rattle.batch_chart.specs.Finding.{wants, first_of, IsFirst}
 use Rattle.batch_chart.specs.Numbered.{numbered, numbered_below, numbered_each, numbered_branch, numbered_chosen}
 use Rattle.batch_chart.specs.NodesOf.{nodes_of, node_at, place_at}
@@ -251,8 +251,8 @@ module _ (ns : List Entry) (doc : Recipe) (xs : List Stage) where
       means = λ c h. (let l = live-at k found c h in live-own y l.own (sym e ∙ l.staged) ∙ sym (gravest-of x k None c h first l));
     }
 
-    pub live-is : (k : ℕ) → IsCompiled ns doc xs n → IsFirst ns doc n xs wanted.Live (Some k) → (k < length xs) × ((y : State) × (stage_at xs k ≡ stage.Live y))
-    live-is k compiled found = (let l = live-at k found compiled.1.0 compiled.1.1 in (subst (λ z. k < z) (sym compiled.0) l.within, (l.own, l.staged)))
+    pub live-is : (k : ℕ) → HasTree ns doc xs n → IsFirst ns doc n xs wanted.Live (Some k) → (k < length xs) × ((y : State) × (stage_at xs k ≡ stage.Live y))
+    live-is k standing found = (let l = live-at k found standing.1.0 standing.1.1 in (subst (λ z. k < z) (sym standing.0) l.within, (l.own, l.staged)))
 
   -- The act at a node
 
@@ -442,9 +442,9 @@ module _ (ns : List Entry) (doc : Recipe) (xs : List Stage) where
     abbrev At : Stage → Type 0
     At x = stage_at xs k ≡ x
 
-    pub below-compiled : (o : Option ℕ) → SomeLives ns doc xs → k < length ns → is_some o ≡ true → IsFoundFirst ns doc xs (wanted.At k) o → At stage.Open → IsCompiled ns doc xs (k + 1)
-    below-compiled None lives lt e found began = absurd (cc)
-    below-compiled (Some j) lives lt e found began =
+    pub below-standing : (o : Option ℕ) → SomeLives ns doc xs → k < length ns → is_some o ≡ true → IsFoundFirst ns doc xs (wanted.At k) o → At stage.Open → HasTree ns doc xs (k + 1)
+    below-standing None lives lt e found began = absurd (cc)
+    below-standing (Some j) lives lt e found began =
         let r = reached lives.0 lives.1 (some_batch lives.0 Idle (meaning lives.0 0 xs)) k lt refl refl j found in (
           omega (arith, lives.1.count, lives.2.fits),
           below-stands r.step r.task r.stands (ap (λ z. is_done (act_as r.step r.task (meaning_below r.task (k + 1) xs) z)) (sym began) ∙ r.some),
@@ -507,5 +507,5 @@ module _ (ns : List Entry) (doc : Recipe) (xs : List Stage) where
         }
 
   -- of what is live, the states
-  pub shows-never : (n j : ℕ) (y : State) → IsCompiled ns doc xs n → IsFirst ns doc n xs wanted.Live (Some j) → ((y : State) → stage_at xs j ≡ stage.Live y → ⊥) → IsShown ns doc n xs y y
-  shows-never n j y compiled found never = (let h = live-is n j compiled found in absurd (never h.1.0 h.1.1))
+  pub shows-never : (n j : ℕ) (y : State) → HasTree ns doc xs n → IsFirst ns doc n xs wanted.Live (Some j) → ((y : State) → stage_at xs j ≡ stage.Live y → ⊥) → IsShown ns doc n xs y y
+  shows-never n j y standing found never = (let h = live-is n j standing found in absurd (never h.1.0 h.1.1))

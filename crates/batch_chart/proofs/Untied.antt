@@ -5,7 +5,7 @@ use Rattle.batch_recipe.specs.Nodes.{node_count}
 use Rattle.batch_recipe.specs.Tree.{Step, Task, runs, follows, Tree, act, skip, seq, par, sel, loop, Trees, no_trees, tree, Choices, otherwise, choice}
 use Rattle.batch_recipe.specs.declared.entry.Entry.{Entry}
 use Rattle.batch_recipe.specs.declared.recipe.Recipe.{Recipe}
-use Rattle.batch_chart.specs.Compiled.{StandsOn, StandsActOn, AreStandingOn, AreChoicesOn, Stands, StandsAct, AreStanding, AreChoices}
+use Rattle.batch_chart.specs.Outlined.{StandsOn, StandsActOn, AreStandingOn, AreChoicesOn, Stands, StandsAct, AreStanding, AreChoices}
 
 module _ (bound : Binding) (ns : List Entry) (doc : Recipe) where
   mutual

@@ -15,7 +15,7 @@ use Rattle.batch_chart.specs.declared.stage.Stage.TheVariants.{Finished, Ready, 
 use Rattle.batch_chart.specs.declared.chart_move.Move.{Move}
 use Rattle.batch_chart.specs.declared.chart_move.Move.TheVariants as move
 use Rattle.batch_chart.specs.Stages.{stage_at, is_finished, is_begun}
-use Rattle.batch_chart.specs.Compiled.{end_at, kind_at, is_act_kind, Stands}
+use Rattle.batch_chart.specs.Outlined.{end_at, kind_at, is_act_kind, Stands}
 use Rattle.batch_chart.specs.Meaning.{AgreeOutside}
 use Rattle.batch_chart.specs.Neat.{AllFinished, act_shows, shown_of, step_shows, IsNeat, AreNeat, SignsOutside, IsReachedNeatly, AreBlank}
 use Rattle.batch_chart.specs.Needs.{needs_of}

@@ -21,7 +21,7 @@ use Rattle.batch_chart.specs.declared.stage.Stage.TheVariants as stage
 use Rattle.batch_chart.specs.declared.wanted.Wanted.TheVariants as wanted
 use Rattle.batch_chart.specs.Stages.{stage_at}
 use Rattle.batch_chart.specs.Meaning.{meaning, meaning_below, act_as}
-use Rattle.batch_chart.specs.Compiled.{kind_at, is_act_kind}
+use Rattle.batch_chart.specs.Outlined.{kind_at, is_act_kind}
 use Rattle.batch_chart.specs.Finding.{wants, first_of}
 use Rattle.batch_chart.specs.Numbered.{numbered}
 use Rattle.batch_chart.specs.NodesOf.{nodes_of, node_at, place_at, step_at, task_at}

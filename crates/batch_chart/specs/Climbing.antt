@@ -7,7 +7,7 @@ use Rattle.batch_recipe.specs.declared.entry.Entry.{Entry}
 use Rattle.batch_recipe.specs.declared.recipe.Recipe.{Recipe}
 use Rattle.batch_chart.specs.declared.stage.Stage.{Stage}
 use Rattle.batch_chart.specs.Advancing.{HasAdvanced}
-use Rattle.batch_chart.specs.Compiled.{end_at, AreStanding}
+use Rattle.batch_chart.specs.Outlined.{end_at, AreStanding}
 use Rattle.batch_chart.specs.Meaning.{AgreeOutside}
 use Rattle.batch_chart.specs.Neat.{AreNeat, AreBlank, SignsOutside}
 use Rattle.batch_chart.specs.Stages.{stage_at, is_finished}

@@ -6,7 +6,7 @@ use Rattle.batch_recipe.specs.declared.entry.Entry.{Entry}
 use Rattle.batch_recipe.specs.declared.recipe.Recipe.{Recipe}
 use Rattle.batch_chart.specs.declared.stage.Stage.{Stage}
 use Rattle.batch_chart.specs.declared.stage.Stage.TheVariants.{Finished, Open}
-use Rattle.batch_chart.specs.Compiled.{end_at, Stands}
+use Rattle.batch_chart.specs.Outlined.{end_at, Stands}
 use Rattle.batch_chart.specs.Noting.{open_signs, stage_signs}
 use Rattle.batch_chart.specs.Signs.{sign_at}
 use Rattle.batch_chart.specs.Stages.{stage_at, is_finished, is_begun, turns_of}

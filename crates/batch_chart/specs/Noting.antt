@@ -17,7 +17,7 @@ use Rattle.batch_chart.specs.declared.wanted.Wanted.TheVariants.{Any, Holding, L
 use Rattle.batch_chart.specs.declared.sign.TheConstants.{LACKS, FITS, WAITS, IS_OVER, FREES, HOLDS, IS_ACT, IDLE, RUNNING, PAUSING, PAUSED, HOLDING, HELD, RESTARTING, STOPPING, STOPPED, ABORTING, ABORTED, COMPLETE, LIVES, NOT_RUNNING, NOT_PAUSED, NOT_HELD, CAN_HOLD, CAN_STOP, CAN_ABORT, CAN_RESET}
 use Rattle.batch_chart.specs.Finding.{gives}
 use Rattle.batch_chart.specs.Signs.{sign_at}
-use Rattle.batch_chart.specs.Compiled.{kind_at}
+use Rattle.batch_chart.specs.Outlined.{kind_at}
 use Rattle.batch_chart.specs.Needs.{needs_of}
 use Rattle.batch_chart.specs.Numbered.{numbered}
 

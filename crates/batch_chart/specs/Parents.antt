@@ -1,7 +1,7 @@
--- surface: which node of a compiled chart is above which.
+-- surface: which node of a chart is above which.
 use Rattle.std.specs.Prelude.{◌<◌, ◌≤◌, ℕ, List, length}
 use Rattle.batch_recipe.specs.declared.entry.Entry.{Entry}
-use Rattle.batch_chart.specs.Compiled.{entry_at, end_at}
+use Rattle.batch_chart.specs.Outlined.{entry_at, end_at}
 
 abbrev pub parent_at : List Entry → ℕ → ℕ
 parent_at ns n = (entry_at ns n).parent

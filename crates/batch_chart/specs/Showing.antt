@@ -11,7 +11,7 @@ use Rattle.batch_model.specs.ActStates.{gravest, state_in}
 use Rattle.batch_recipe.specs.declared.entry.Entry.{Entry}
 use Rattle.batch_recipe.specs.declared.recipe.Recipe.{Recipe}
 use Rattle.batch_chart.specs.declared.stage.Stage.{Stage}
-use Rattle.batch_chart.specs.Compiled.{Stands}
+use Rattle.batch_chart.specs.Outlined.{Stands}
 use Rattle.batch_chart.specs.Meaning.{meaning}
 use Rattle.batch_chart.specs.NodesOf.{place_at}
 use Rattle.batch_chart.specs.Running.{IsLaid, IsAlive}

@@ -6,7 +6,7 @@ use Rattle.batch_model.specs.Settled.{IsAdvanced}
 use Rattle.batch_recipe.specs.declared.entry.Entry.{Entry}
 use Rattle.batch_recipe.specs.declared.recipe.Recipe.{Recipe}
 use Rattle.batch_chart.specs.declared.stage.Stage.{Stage}
-use Rattle.batch_chart.specs.Compiled.{Stands}
+use Rattle.batch_chart.specs.Outlined.{Stands}
 use Rattle.batch_chart.specs.Meaning.{meaning}
 use Rattle.batch_chart.specs.Stages.{stage_at, is_finished}
 

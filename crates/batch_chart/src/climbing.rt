@@ -2,7 +2,7 @@
 ghost use Rattle.std.specs.Prelude.{◌≡◌, ◌<◌, ℕ, List, length, false};
 ghost use Rattle.batch_recipe.specs.Tree.{Tree};
 ghost use Rattle.batch_chart.specs.Climbing.{HasRisen, IsNeatlyRisen, IsRisen, PassesBy};
-ghost use Rattle.batch_chart.specs.Compiled.{IsCompiled, kind_at};
+ghost use Rattle.batch_chart.specs.Outlined.{HasTree, kind_at};
 ghost use Rattle.batch_chart.specs.Neat.{AreNeat};
 ghost use Rattle.batch_chart.specs.Parents.{IsAbove};
 ghost use Rattle.batch_chart.specs.Running.{IsLaid};
@@ -27,7 +27,7 @@ fn go_on_after(
     p: usize,
     n: usize,
 ) -> bool
-    requires compiled { IsCompiled nodes.now recipe.now stages.old p }
+    requires standing { HasTree nodes.now recipe.now stages.old p }
     requires fits { length signs.old ≡ length nodes.now }
     requires above { IsAbove nodes.now p n }
     requires seq { kind_at nodes.now p ≡ Seq }
@@ -52,7 +52,7 @@ fn go_round(
     n: usize,
     until: usize,
 ) -> bool
-    requires compiled { IsCompiled nodes.now recipe.now stages.old p }
+    requires standing { HasTree nodes.now recipe.now stages.old p }
     requires fits { length signs.old ≡ length nodes.now }
     requires above { IsAbove nodes.now p n }
     requires looped { (turns : ℕ) × (kind_at nodes.now p ≡ Loop turns until) }
@@ -81,7 +81,7 @@ fn pass(
     p: usize,
     n: usize,
 ) -> bool
-    requires compiled { IsCompiled nodes.now recipe.now stages.old p }
+    requires standing { HasTree nodes.now recipe.now stages.old p }
     requires fits { length signs.old ≡ length nodes.now }
     requires above { IsAbove nodes.now p n }
     ensures passes { PassesBy nodes.now recipe.now values.now n stages.old signs.old p stages.new signs.new result }

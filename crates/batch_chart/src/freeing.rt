@@ -1,6 +1,6 @@
 //! Freeing an act that has ended.
 ghost use Rattle.std.specs.Prelude.{◌≡◌, ◌<◌, ◌≤◌, length, true, false};
-ghost use Rattle.batch_chart.specs.Compiled.{end_at, is_act_kind, kind_at};
+ghost use Rattle.batch_chart.specs.Outlined.{end_at, is_act_kind, kind_at};
 ghost use Rattle.batch_chart.specs.Freeing.{HasCleared, HasGivenUp, IsFreed};
 ghost use Rattle.batch_chart.specs.Neat.{AreNeat};
 ghost use Rattle.batch_chart.specs.Running.{SomeLives};

@@ -4,7 +4,7 @@ ghost use Rattle.batch_recipe.specs.Expanding.{Binding, unit_chosen};
 ghost use Rattle.batch_recipe.specs.Tree.{Tree};
 ghost use Rattle.batch_recipe.specs.declared.recipe.TheConstants.{MAX_NODES};
 ghost use Rattle.batch_chart.specs.Charts.{IsChartFor, IsChartOf};
-ghost use Rattle.batch_chart.specs.Compiled.{kind_at, names_in, phase_name, unit_choice, unit_under};
+ghost use Rattle.batch_chart.specs.Outlined.{kind_at, names_in, phase_name, unit_choice, unit_under};
 ghost use Rattle.batch_chart.specs.Needs.{needs_to};
 ghost use Rattle.batch_chart.specs.NodesOf.{needs_in, node_at, phase_named, step_at};
 

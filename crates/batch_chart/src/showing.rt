@@ -1,6 +1,6 @@
 //! The states that acts show.
 ghost use Rattle.std.specs.Prelude.{◌≡◌};
-ghost use Rattle.batch_chart.specs.Compiled.{IsCompiled, is_act_kind};
+ghost use Rattle.batch_chart.specs.Outlined.{HasTree, is_act_kind};
 ghost use Rattle.batch_chart.specs.Nexts.{SomeNoted};
 ghost use Rattle.batch_chart.specs.Running.{SomeLives};
 ghost use Rattle.batch_chart.specs.Showing.{IsFirstShown, IsShown, IsStateAt};
@@ -34,7 +34,7 @@ fn first_shown(
     n: usize,
     states: &[State],
 ) -> Option<State>
-    requires { IsCompiled nodes.now recipe.now stages.now n }
+    requires { HasTree nodes.now recipe.now stages.now n }
     ensures { IsFirstShown nodes.now recipe.now n stages.now states.now result }
 {
     match states.split_first() {
@@ -51,7 +51,7 @@ fn first_shown(
 
 /// The state that an open act above the chart at n shows, in a batch of this state.
 fn shown(nodes: &[Entry], recipe: &Recipe, stages: &[Stage], n: usize, state: State) -> State
-    requires { IsCompiled nodes.now recipe.now stages.now n }
+    requires { HasTree nodes.now recipe.now stages.now n }
     ensures { IsShown nodes.now recipe.now n stages.now state result }
 {
     match first(nodes, recipe, stages, Wanted::Live, n) {

@@ -24,7 +24,7 @@ use Rattle.batch_engine.specs.View.{EngineView, setup, batch_of, number_of, plan
 -- the batch at an index, and its recipe
 pub record BatchAt (v : EngineView) (i : ℕ) (b : Batch) (chart : document.Recipe) : Type 0 where
   pub at : slice_get v.batches i ≡ Some b
-  pub compiled : slice_get v.cleared.recipes b.recipe ≡ Some chart
+  pub listed : slice_get v.cleared.recipes b.recipe ≡ Some chart
 
 -- a move of kinds 1 to 5 of the batch at an index, of which `told` tells
 pub record IsOwnStep (v : EngineView) (told : Model.Move → Type 0) (i : ℕ) (m : Move) : Type 0 where

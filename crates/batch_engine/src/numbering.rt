@@ -9,7 +9,6 @@ ghost use Rattle.batch_recipe.specs.Nodes.{node_count};
 ghost use Rattle.batch_recipe.specs.Procedure.{bound_tree, procedure_tree};
 ghost use Rattle.batch_recipe.specs.Tree.{Tree};
 ghost use Rattle.batch_recipe.specs.declared.role.TheConstants.{MAX_ROLES};
-ghost use Rattle.batch_engine.specs.Kept.{AreChartsOf};
 ghost use Rattle.batch_engine.specs.Names.{roles_of};
 ghost use Rattle.batch_engine.specs.Numbered.{AreNeeds, AreRecipesNumbered, IsActNumbered, IsChoiceNumber, IsRecipeNumbered, IsRoleNumber, IsTaskNumbered, IsUnitNeed, named_need, phase_number, phase_on, resource_number};
 

@@ -157,7 +157,7 @@ impl ActAsks {
                 None => NOTHING,
                 Some(asks) => *asks,
             },
-            Kind::Skip | Kind::Seq | Kind::Par | Kind::Sel | Kind::Loop => NOTHING,
+            Kind::Skip | Kind::Seq | Kind::Par | Kind::Sel | Kind::Loop(_) => NOTHING,
         }
     }
 }

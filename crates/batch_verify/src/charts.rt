@@ -62,7 +62,7 @@ fn chart_fault(
             Depth::Procedure | Depth::InProcedure | Depth::InUnitProcedure => Ok(None),
         },
         // Every way through a loop runs a phase just where every way through its body does.
-        Kind::Loop => {
+        Kind::Loop(_) => {
             if runs[usize::from(node)] {
                 Ok(None)
             } else {

@@ -37,7 +37,7 @@ fn node_runs(recipe: &Recipe, runs: &[bool], node: u16) -> bool
         Kind::Procedure | Kind::Act(_, _) => entry.end == below || runs[usize::from(below)],
         Kind::Seq | Kind::Par => some_runs(recipe, runs, below, entry.end),
         Kind::Sel => all_run(recipe, runs, below, entry.end),
-        Kind::Loop => runs[usize::from(below)],
+        Kind::Loop(_) => runs[usize::from(below)],
     }
 }
 

@@ -3,8 +3,8 @@ use Rattle.batch_chart.proofs.Risen.{above-each, some-at, risen-top, risen-stop}
 use Rattle.batch_chart.proofs.FreedNeatly.{left-neat, risen-neat}
 use Rattle.batch_chart.proofs.climbing.rise.Goals as goal
 
-pub pass-requires-clause-compiled : goal.pass-requires-clause-compiled
-pass-requires-clause-compiled c =
+pub pass-requires-clause-standing : goal.pass-requires-clause-standing
+pass-requires-clause-standing c =
     let above = above-each _ _ _ c.requires.laid.1 _ c.loop-n-test.true c.loop-n.invariant.within in
     some-at _ _ _ c.requires.laid.1 _ _ (c.loop-n.auto.stages ∙ c.requires.fits) (omega (arith, above.before, c.loop-n.invariant.within))
 

@@ -7,7 +7,7 @@ use Rattle.batch_chart.proofs.moving.begin.Goals as goal
 
 pub reach-over-requires : goal.reach-over-requires
 reach-over-requires c = record {
-  compiled = (length-set _ _ _ ∙ laid-lengths _ _ _ c.requires.lives, begin-stands _ _ _ _ _ _ c.requires.lives c.requires.allowed refl c.from-n.ensures);
+  standing = (length-set _ _ _ ∙ laid-lengths _ _ _ c.requires.lives, begin-stands _ _ _ _ _ _ c.requires.lives c.requires.allowed refl c.from-n.ensures);
   fits = c.requires.signs;
 }
 

@@ -1,5 +1,5 @@
 use Rattle.std.proofs.Common.{◌∙◌, refl, ap, subst}
-use Rattle.batch_chart.specs.Compiled.{kind_at}
+use Rattle.batch_chart.specs.Outlined.{kind_at}
 use Rattle.batch_chart.specs.Freeing.{IsFreed}
 use Rattle.batch_chart.specs.Needs.{needs_of}
 use Rattle.batch_chart.proofs.Moved.{makes-end}

@@ -74,9 +74,9 @@ invariant_of-self-2 c =
     let kept : IsKept v = subst IsKept c.self.view_is c.self.invariant.kept in
     let x : document.Recipe = c.recipe.result.now in
     let few : c.args.recipe < length v.cleared.recipes = c.requires.2.known in
-    let compiled : slice_get v.cleared.recipes c.args.recipe ≡ Some x = got-chart v _ c.args.recipe x c.self.view_is c.recipe.ensures in
+    let listed : slice_get v.cleared.recipes c.args.recipe ≡ Some x = got-chart v _ c.args.recipe x c.self.view_is c.recipe.ensures in
     let t = tree_at v.cleared c.args.recipe c.args.units in
-    let made = λ (vs : ValueList). c.in-Ok.ensures t vs (chart-of v.cleared c.args.recipe x compiled (bound_to v.cleared c.args.recipe c.args.units)).0 in
+    let made = λ (vs : ValueList). c.in-Ok.ensures t vs (chart-of v.cleared c.args.recipe x listed (bound_to v.cleared c.args.recipe c.args.units)).0 in
     let w : EngineView = seen c.self.inside.cleared c.self.inside.numbers.items c.self.inside.batches.batches c.self.inside.next_number c.self.inside.arbiter in
     let e : w ≡ v = c.self.view_is in
     let b : Batch = record { number = c.self.inside.next_number; recipe = c.args.recipe; units = c.args.units; size = c.args.size; values = c.args.values; state = Idle; running = c.in-Ok.running } in
@@ -106,9 +106,9 @@ returns c = λ name pairs o.
     let kept : IsKept v = subst IsKept c.self.view_is c.self.invariant.kept in
     let x : document.Recipe = c.recipe.result.now in
     let few : c.args.recipe < length v.cleared.recipes = c.requires.2.known in
-    let compiled : slice_get v.cleared.recipes c.args.recipe ≡ Some x = got-chart v _ c.args.recipe x c.self.view_is c.recipe.ensures in
+    let listed : slice_get v.cleared.recipes c.args.recipe ≡ Some x = got-chart v _ c.args.recipe x c.self.view_is c.recipe.ensures in
     let t = tree_at v.cleared c.args.recipe c.args.units in
-    let made = λ (vs : ValueList). c.in-Ok.ensures t vs (chart-of v.cleared c.args.recipe x compiled (bound_to v.cleared c.args.recipe c.args.units)).0 in
+    let made = λ (vs : ValueList). c.in-Ok.ensures t vs (chart-of v.cleared c.args.recipe x listed (bound_to v.cleared c.args.recipe c.args.units)).0 in
     let w : EngineView = seen c.self.inside.cleared c.self.inside.numbers.items c.self.inside.batches.batches c.self.inside.next_number c.self.inside.arbiter in
     let e : w ≡ v = c.self.view_is in
     let b : Batch = record { number = c.self.inside.next_number; recipe = c.args.recipe; units = c.args.units; size = c.args.size; values = c.args.values; state = Idle; running = c.in-Ok.running } in

@@ -22,16 +22,16 @@ returns-in-Some c =
     let x : document.Recipe = c.recipe-chart.result.now in
     let kept : IsKept v = subst IsKept c.self.view_is c.self.invariant.kept in
     let at : slice_get v.batches c.args.index ≡ Some b = got-batch v _ c.args.index b c.self.view_is c.requires c.index-batch.ensures in
-    let compiled : slice_get v.cleared.recipes b.recipe ≡ Some x = got-chart v _ b.recipe x c.self.view_is c.recipe-chart.ensures in
+    let listed : slice_get v.cleared.recipes b.recipe ≡ Some x = got-chart v _ b.recipe x c.self.view_is c.recipe-chart.ensures in
     let next : Some (move_of (tree_of v.cleared b) (batch_of v.cleared b) c.in-Some.made) ≡ own_next (batch_of v.cleared b) =
-    c.in-Some.ensures.next (tree_of v.cleared b) (batch_of v.cleared b) (chart-here v kept c.args.index b at x compiled) (batch-runs v kept c.args.index b at).runs refl refl in (
+    c.in-Some.ensures.next (tree_of v.cleared b) (batch_of v.cleared b) (chart-here v kept c.args.index b at x listed) (batch-runs v kept c.args.index b at).runs refl refl in (
       refl,
       record {
         batch = b;
         chart = x;
-        here = record { at = at; compiled = compiled };
+        here = record { at = at; listed = listed };
         can = c.in-Some.ensures.possible;
-        about = c.in-Some.ensures.about (tree_of v.cleared b) (chart-here v kept c.args.index b at x compiled) (batch-runs v kept c.args.index b at).runs;
+        about = c.in-Some.ensures.about (tree_of v.cleared b) (chart-here v kept c.args.index b at x listed) (batch-runs v kept c.args.index b at).runs;
         is = own-least v c.args.index b (move_of (tree_of v.cleared b) (batch_of v.cleared b) c.in-Some.made) at (sym next);
       },
     )
@@ -43,9 +43,9 @@ returns-in_err-node c =
     let x : document.Recipe = c.recipe-chart.result.now in
     let kept : IsKept v = subst IsKept c.self.view_is c.self.invariant.kept in
     let at : slice_get v.batches c.args.index ≡ Some b = got-batch v _ c.args.index b c.self.view_is c.requires c.index-batch.ensures in
-    let compiled : slice_get v.cleared.recipes b.recipe ≡ Some x = got-chart v _ b.recipe x c.self.view_is c.recipe-chart.ensures in
+    let listed : slice_get v.cleared.recipes b.recipe ≡ Some x = got-chart v _ b.recipe x c.self.view_is c.recipe-chart.ensures in
     let own : ◌≡◌ {A = Option Moves.Move} None (own_next (batch_of v.cleared b)) =
-    c.in_default.ensures.next (tree_of v.cleared b) (batch_of v.cleared b) (chart-here v kept c.args.index b at x compiled) (batch-runs v kept c.args.index b at).runs refl refl in
+    c.in_default.ensures.next (tree_of v.cleared b) (batch_of v.cleared b) (chart-here v kept c.args.index b at x listed) (batch-runs v kept c.args.index b at).runs refl refl in
     let grants : IsFirstGrant v c.args.index None = subst (IsFirstGrant v c.args.index) c.in_err-node.was c.first_grant.ensures in
     subst (IsBatchStep v c.args.index) (sym c.from_residual.ensures) (no-move v c.args.index b at (sym own) (grants b at))
 
@@ -56,9 +56,9 @@ returns c =
     let x : document.Recipe = c.recipe-chart.result.now in
     let kept : IsKept v = subst IsKept c.self.view_is c.self.invariant.kept in
     let at : slice_get v.batches c.args.index ≡ Some b = got-batch v _ c.args.index b c.self.view_is c.requires c.index-batch.ensures in
-    let compiled : slice_get v.cleared.recipes b.recipe ≡ Some x = got-chart v _ b.recipe x c.self.view_is c.recipe-chart.ensures in
+    let listed : slice_get v.cleared.recipes b.recipe ≡ Some x = got-chart v _ b.recipe x c.self.view_is c.recipe-chart.ensures in
     let own : ◌≡◌ {A = Option Moves.Move} None (own_next (batch_of v.cleared b)) =
-    c.in_default.ensures.next (tree_of v.cleared b) (batch_of v.cleared b) (chart-here v kept c.args.index b at x compiled) (batch-runs v kept c.args.index b at).runs refl refl in
+    c.in_default.ensures.next (tree_of v.cleared b) (batch_of v.cleared b) (chart-here v kept c.args.index b at x listed) (batch-runs v kept c.args.index b at).runs refl refl in
     let g : IsFirstGrant v c.args.index (Some (c.in_ok-node.node, c.in_ok-node.resource, c.in_ok-node.units)) = subst (IsFirstGrant v c.args.index) c.in_ok-node.was c.first_grant.ensures in
     let own_there : own_next (batch_of v.cleared g.batch) ≡ None = one-batch v kept c.args.index b at (λ z. own_next (batch_of v.cleared z)) None g.batch g.here.at (sym own) in (
       refl,
@@ -83,8 +83,8 @@ next_move-requires c =
     let x : document.Recipe = c.recipe-chart.result.now in
     let kept : IsKept v = subst IsKept c.self.view_is c.self.invariant.kept in
     let at : slice_get v.batches c.args.index ≡ Some b = got-batch v _ c.args.index b c.self.view_is c.requires c.index-batch.ensures in
-    let compiled : slice_get v.cleared.recipes b.recipe ≡ Some x = got-chart v _ b.recipe x c.self.view_is c.recipe-chart.ensures in
-    runs-here v kept c.args.index b at x compiled
+    let listed : slice_get v.cleared.recipes b.recipe ≡ Some x = got-chart v _ b.recipe x c.self.view_is c.recipe-chart.ensures in
+    runs-here v kept c.args.index b at x listed
 
 pub returns-then-is_stopped : goal.returns-then-is_stopped
 returns-then-is_stopped c =

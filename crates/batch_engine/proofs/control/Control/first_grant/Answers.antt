@@ -21,9 +21,9 @@ resource_at-resource-requires c =
     let x : document.Recipe = c.recipe-chart.result.now in
     let kept : IsKept v = subst IsKept c.self.view_is c.self.invariant.kept in
     let at : slice_get v.batches c.args.index ≡ Some b = got-batch v _ c.args.index b c.self.view_is c.requires c.index-batch.ensures in
-    let compiled : slice_get v.cleared.recipes b.recipe ≡ Some x = got-chart v _ b.recipe x c.self.view_is c.recipe-chart.ensures in
+    let listed : slice_get v.cleared.recipes b.recipe ≡ Some x = got-chart v _ b.recipe x c.self.view_is c.recipe-chart.ensures in
     let asks : AsksAt (tree_of v.cleared b) (remains (tree_of v.cleared b) b.running) c.in-Some.node c.in-Some.need =
-    c.in-Some.ensures.some.1 (tree_of v.cleared b) (chart-here v kept c.args.index b at x compiled) (batch-runs v kept c.args.index b at).runs in
+    c.in-Some.ensures.some.1 (tree_of v.cleared b) (chart-here v kept c.args.index b at x listed) (batch-runs v kept c.args.index b at).runs in
     (b, at, asks.0, asks.1)
 
 pub returns-then-serves : goal.returns-then-serves
@@ -33,9 +33,9 @@ returns-then-serves c =
     let x : document.Recipe = c.recipe-chart.result.now in
     let kept : IsKept v = subst IsKept c.self.view_is c.self.invariant.kept in
     let at : slice_get v.batches c.args.index ≡ Some b = got-batch v _ c.args.index b c.self.view_is c.requires c.index-batch.ensures in
-    let compiled : slice_get v.cleared.recipes b.recipe ≡ Some x = got-chart v _ b.recipe x c.self.view_is c.recipe-chart.ensures in
+    let listed : slice_get v.cleared.recipes b.recipe ≡ Some x = got-chart v _ b.recipe x c.self.view_is c.recipe-chart.ensures in
     let asks : asks_here v kept c.args.index b at c.in-Some.node c.in-Some.need =
-    c.in-Some.ensures.some.1 (tree_of v.cleared b) (chart-here v kept c.args.index b at x compiled) (batch-runs v kept c.args.index b at).runs in
+    c.in-Some.ensures.some.1 (tree_of v.cleared b) (chart-here v kept c.args.index b at x listed) (batch-runs v kept c.args.index b at).runs in
     let first : first_here v kept c.args.index b at c.resource_at-resource.result.0 c.in-Some.node =
     ap (λ (w : EngineView). option_map batch_node (next_grant w.allocation c.resource_at-resource.result.0)) (sym c.self.view_is) ∙ c.serves.ensures.0 c.if-serves.true in
     let served : served_here v kept c.args.index b at c.in-Some.node c.in-Some.need =
@@ -43,7 +43,7 @@ returns-then-serves c =
     record {
       batch = b;
       chart = x;
-      here = record { at = at; compiled = compiled };
+      here = record { at = at; listed = listed };
       waits = c.in-Some.ensures.waits;
       need = c.in-Some.need;
       asks = asks;
@@ -51,7 +51,7 @@ returns-then-serves c =
       units_are = (c.resource_at-resource.ensures b at).1;
       first = first;
       is = λ d e. one-batch v kept c.args.index b at (λ z. least (grants (setup v.cleared) (plant_of v) (batch_of v.cleared z))) _ d e
-          (first-grant v kept c.args.index b at c.in-Some.node c.in-Some.need asks served (goes-on v kept c.args.index b at x compiled c.loop-node.from c.in-Some.node c.loop-node.invariant.1 c.in-Some.ensures.before));
+          (first-grant v kept c.args.index b at c.in-Some.node c.in-Some.need asks served (goes-on v kept c.args.index b at x listed c.loop-node.from c.in-Some.node c.loop-node.invariant.1 c.in-Some.ensures.before));
     }
 
 pub loop-node-preserved : goal.loop-node-preserved
@@ -61,13 +61,13 @@ loop-node-preserved c =
     let x : document.Recipe = c.recipe-chart.result.now in
     let kept : IsKept v = subst IsKept c.self.view_is c.self.invariant.kept in
     let at : slice_get v.batches c.args.index ≡ Some b = got-batch v _ c.args.index b c.self.view_is c.requires c.index-batch.ensures in
-    let compiled : slice_get v.cleared.recipes b.recipe ≡ Some x = got-chart v _ b.recipe x c.self.view_is c.recipe-chart.ensures in
+    let listed : slice_get v.cleared.recipes b.recipe ≡ Some x = got-chart v _ b.recipe x c.self.view_is c.recipe-chart.ensures in
     let asks : asks_here v kept c.args.index b at c.in-Some.node c.in-Some.need =
-    c.in-Some.ensures.some.1 (tree_of v.cleared b) (chart-here v kept c.args.index b at x compiled) (batch-runs v kept c.args.index b at).runs in
+    c.in-Some.ensures.some.1 (tree_of v.cleared b) (chart-here v kept c.args.index b at x listed) (batch-runs v kept c.args.index b at).runs in
     let not_first : first_here v kept c.args.index b at c.resource_at-resource.result.0 c.in-Some.node → ⊥ =
     λ f. (let g = c.serves.ensures.1 (ap (λ (w : EngineView). option_map batch_node (next_grant w.allocation c.resource_at-resource.result.0)) c.self.view_is ∙ f) in absurd (let h : ◌≡◌ true false = sym g ∙ c.if-serves.false in cc)) in (
       omega (arith, c.in-Some.ensures.small),
-      passed v kept c.args.index b at x compiled c.loop-node.from c.in-Some.node c.in-Some.need c.resource_at-resource.result.0 c.loop-node.invariant.1 c.in-Some.ensures.before asks (c.resource_at-resource.ensures b at).0 not_first,
+      passed v kept c.args.index b at x listed c.loop-node.from c.in-Some.node c.in-Some.need c.resource_at-resource.result.0 c.loop-node.invariant.1 c.in-Some.ensures.before asks (c.resource_at-resource.ensures b at).0 not_first,
     )
 
 pub returns : goal.returns
@@ -77,11 +77,11 @@ returns c =
     let x : document.Recipe = c.recipe-chart.result.now in
     let kept : IsKept v = subst IsKept c.self.view_is c.self.invariant.kept in
     let at : slice_get v.batches c.args.index ≡ Some b = got-batch v _ c.args.index b c.self.view_is c.requires c.index-batch.ensures in
-    let compiled : slice_get v.cleared.recipes b.recipe ≡ Some x = got-chart v _ b.recipe x c.self.view_is c.recipe-chart.ensures in
+    let listed : slice_get v.cleared.recipes b.recipe ≡ Some x = got-chart v _ b.recipe x c.self.view_is c.recipe-chart.ensures in
     let none : grants (setup v.cleared) (plant_of v) (batch_of v.cleared b) ≡ [] =
     no-grants v kept c.args.index b at (λ j l asks served. elim (within-or_past j c.loop-node.from) [
       | inl q ↦ c.loop-node.invariant.1 j l q asks served
-      | inr q ↦ c.in_default.ensures.none refl (tree_of v.cleared b) (chart-here v kept c.args.index b at x compiled) (batch-runs v kept c.args.index b at).runs j l q asks
+      | inr q ↦ c.in_default.ensures.none refl (tree_of v.cleared b) (chart-here v kept c.args.index b at x listed) (batch-runs v kept c.args.index b at).runs j l q asks
     ]) in
     λ d e. one-none v kept c.args.index b at (λ z. grants (setup v.cleared) (plant_of v) (batch_of v.cleared z)) d e none
 
@@ -92,8 +92,8 @@ waiting-requires c =
     let x : document.Recipe = c.recipe-chart.result.now in
     let kept : IsKept v = subst IsKept c.self.view_is c.self.invariant.kept in
     let at : slice_get v.batches c.args.index ≡ Some b = got-batch v _ c.args.index b c.self.view_is c.requires c.index-batch.ensures in
-    let compiled : slice_get v.cleared.recipes b.recipe ≡ Some x = got-chart v _ b.recipe x c.self.view_is c.recipe-chart.ensures in
-    runs-here v kept c.args.index b at x compiled
+    let listed : slice_get v.cleared.recipes b.recipe ≡ Some x = got-chart v _ b.recipe x c.self.view_is c.recipe-chart.ensures in
+    runs-here v kept c.args.index b at x listed
 
 pub serves-requires : goal.serves-requires
 serves-requires c =
@@ -102,6 +102,6 @@ serves-requires c =
     let x : document.Recipe = c.recipe-chart.result.now in
     let kept : IsKept v = subst IsKept c.self.view_is c.self.invariant.kept in
     let at : slice_get v.batches c.args.index ≡ Some b = got-batch v _ c.args.index b c.self.view_is c.requires c.index-batch.ensures in
-    let compiled : slice_get v.cleared.recipes b.recipe ≡ Some x = got-chart v _ b.recipe x c.self.view_is c.recipe-chart.ensures in
+    let listed : slice_get v.cleared.recipes b.recipe ≡ Some x = got-chart v _ b.recipe x c.self.view_is c.recipe-chart.ensures in
     subst (λ (z : EngineView). c.resource_at-resource.result.0 < length z.allocation.capacities) (sym c.self.view_is)
     (known v kept c.args.index b at (need_at (tree_of v.cleared b) c.in-Some.node c.in-Some.need).resource c.resource_at-resource.result.0 (c.resource_at-resource.ensures b at).0)

@@ -43,8 +43,8 @@ grant-requires-clause-running c =
     let at : slice_get v.batches c.args.index ≡ Some b = got-batch v _ c.args.index b c.self.view_is (slice_get_within v.batches c.args.index g.batch g.here.at) c.index_mut-batch.ensures.value in
     let same : g.batch ≡ b = same-at v.batches c.args.index g.batch b g.here.at at in
     let x : document.Recipe = c.recipe-chart.result.now in
-    let compiled : slice_get v.cleared.recipes b.recipe ≡ Some x = got-chart v _ b.recipe x c.self.view_is c.recipe-chart.ensures in
-    runs-here v kept c.args.index b at x compiled
+    let listed : slice_get v.cleared.recipes b.recipe ≡ Some x = got-chart v _ b.recipe x c.self.view_is c.recipe-chart.ensures in
+    runs-here v kept c.args.index b at x listed
 
 pub grant-requires-clause-waits : goal.grant-requires-clause-waits
 grant-requires-clause-waits c =
@@ -55,9 +55,9 @@ grant-requires-clause-waits c =
     let at : slice_get v.batches c.args.index ≡ Some b = got-batch v _ c.args.index b c.self.view_is (slice_get_within v.batches c.args.index g.batch g.here.at) c.index_mut-batch.ensures.value in
     let same : g.batch ≡ b = same-at v.batches c.args.index g.batch b g.here.at at in
     let x : document.Recipe = c.recipe-chart.result.now in
-    let compiled : slice_get v.cleared.recipes b.recipe ≡ Some x = got-chart v _ b.recipe x c.self.view_is c.recipe-chart.ensures in
-    let chart : slice_get v.cleared.recipes b.recipe ≡ Some g.chart = subst (λ (z : Batch). slice_get v.cleared.recipes z.recipe ≡ Some g.chart) same g.here.compiled in
-    subst (λ (z : document.Recipe). IsWaitingAt z b.running c.args.node) (same-at v.cleared.recipes b.recipe g.chart x chart compiled) (subst (λ (z : Batch). IsWaitingAt g.chart z.running c.args.node) same g.waits)
+    let listed : slice_get v.cleared.recipes b.recipe ≡ Some x = got-chart v _ b.recipe x c.self.view_is c.recipe-chart.ensures in
+    let chart : slice_get v.cleared.recipes b.recipe ≡ Some g.chart = subst (λ (z : Batch). slice_get v.cleared.recipes z.recipe ≡ Some g.chart) same g.here.listed in
+    subst (λ (z : document.Recipe). IsWaitingAt z b.running c.args.node) (same-at v.cleared.recipes b.recipe g.chart x chart listed) (subst (λ (z : Batch). IsWaitingAt g.chart z.running c.args.node) same g.waits)
 
 pub invariant_of-self : goal.invariant_of-self
 invariant_of-self c =
@@ -68,14 +68,14 @@ invariant_of-self c =
     let at : slice_get v.batches c.args.index ≡ Some b = got-batch v _ c.args.index b c.self.view_is (slice_get_within v.batches c.args.index g.batch g.here.at) c.index_mut-batch.ensures.value in
     let same : g.batch ≡ b = same-at v.batches c.args.index g.batch b g.here.at at in
     let x : document.Recipe = c.recipe-chart.result.now in
-    let compiled : slice_get v.cleared.recipes b.recipe ≡ Some x = got-chart v _ b.recipe x c.self.view_is c.recipe-chart.ensures in
+    let listed : slice_get v.cleared.recipes b.recipe ≡ Some x = got-chart v _ b.recipe x c.self.view_is c.recipe-chart.ensures in
     let t = tree_of v.cleared b in
     let m : Moves.Move = Moves.grant b.number (place_at t c.args.node) (need_at t c.args.node g.need) in
     let is : IsNext v m = subst (λ (z : Batch). IsNext v (Moves.grant z.number (place_at (tree_of v.cleared z) c.args.node) (need_at (tree_of v.cleared z) c.args.node g.need))) same g.is in
     let asks : AsksAt t (remains t b.running) c.args.node g.need = subst (λ (z : Batch). AsksAt (tree_of v.cleared z) (remains (tree_of v.cleared z) z.running) c.args.node g.need) same g.asks in
     let number : number_of v.cleared (need_at t c.args.node g.need).resource ≡ Some c.args.resource = subst (λ (z : Batch). number_of v.cleared (need_at (tree_of v.cleared z) c.args.node g.need).resource ≡ Some c.args.resource) same g.number in
     let first : option_map batch_node (next_grant v.allocation c.args.resource) ≡ Some (b.number, c.args.node) = subst (λ (z : Batch). option_map batch_node (next_grant v.allocation c.args.resource) ≡ Some (z.number, c.args.node)) same g.first in
-    let made = c.grant.ensures t (chart-here v kept c.args.index b at x compiled) (batch-runs v kept c.args.index b at).runs in
+    let made = c.grant.ensures t (chart-here v kept c.args.index b at x listed) (batch-runs v kept c.args.index b at).runs in
     let r : Becomes v (changed v c.args.index (record b { running = c.grant.new.self }) (granted c.args.resource (next_grant v.allocation c.args.resource) v.allocation)) m =
     grant-made v kept c.args.index b at c.args.node g.need c.args.resource c.grant.new.self asks number first made.0 made.2 is in
     let after : granted c.args.resource (next_grant v.allocation c.args.resource) v.allocation ≡ c.grant_next.new.self =
@@ -97,14 +97,14 @@ returns c =
     let at : slice_get v.batches c.args.index ≡ Some b = got-batch v _ c.args.index b c.self.view_is (slice_get_within v.batches c.args.index g.batch g.here.at) c.index_mut-batch.ensures.value in
     let same : g.batch ≡ b = same-at v.batches c.args.index g.batch b g.here.at at in
     let x : document.Recipe = c.recipe-chart.result.now in
-    let compiled : slice_get v.cleared.recipes b.recipe ≡ Some x = got-chart v _ b.recipe x c.self.view_is c.recipe-chart.ensures in
+    let listed : slice_get v.cleared.recipes b.recipe ≡ Some x = got-chart v _ b.recipe x c.self.view_is c.recipe-chart.ensures in
     let t = tree_of v.cleared b in
     let m : Moves.Move = Moves.grant b.number (place_at t c.args.node) (need_at t c.args.node g.need) in
     let is : IsNext v m = subst (λ (z : Batch). IsNext v (Moves.grant z.number (place_at (tree_of v.cleared z) c.args.node) (need_at (tree_of v.cleared z) c.args.node g.need))) same g.is in
     let asks : AsksAt t (remains t b.running) c.args.node g.need = subst (λ (z : Batch). AsksAt (tree_of v.cleared z) (remains (tree_of v.cleared z) z.running) c.args.node g.need) same g.asks in
     let number : number_of v.cleared (need_at t c.args.node g.need).resource ≡ Some c.args.resource = subst (λ (z : Batch). number_of v.cleared (need_at (tree_of v.cleared z) c.args.node g.need).resource ≡ Some c.args.resource) same g.number in
     let first : option_map batch_node (next_grant v.allocation c.args.resource) ≡ Some (b.number, c.args.node) = subst (λ (z : Batch). option_map batch_node (next_grant v.allocation c.args.resource) ≡ Some (z.number, c.args.node)) same g.first in
-    let made = c.grant.ensures t (chart-here v kept c.args.index b at x compiled) (batch-runs v kept c.args.index b at).runs in
+    let made = c.grant.ensures t (chart-here v kept c.args.index b at x listed) (batch-runs v kept c.args.index b at).runs in
     let r : Becomes v (changed v c.args.index (record b { running = c.grant.new.self }) (granted c.args.resource (next_grant v.allocation c.args.resource) v.allocation)) m =
     grant-made v kept c.args.index b at c.args.node g.need c.args.resource c.grant.new.self asks number first made.0 made.2 is in
     let after : granted c.args.resource (next_grant v.allocation c.args.resource) v.allocation ≡ c.grant_next.new.self =

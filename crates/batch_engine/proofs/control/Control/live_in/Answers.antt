@@ -33,11 +33,11 @@ live-requires c =
     let b : Batch = c.index-batch.result.now in
     let at : slice_get v.batches i ≡ Some b = got-batch v _ i b c.self.view_is c.requires c.index-batch.ensures in
     let x : document.Recipe = c.recipe-chart.result.now in
-    let compiled : slice_get v.cleared.recipes b.recipe ≡ Some x = got-chart v _ b.recipe x c.self.view_is c.recipe-chart.ensures in
+    let listed : slice_get v.cleared.recipes b.recipe ≡ Some x = got-chart v _ b.recipe x c.self.view_is c.recipe-chart.ensures in
     let t = tree_of v.cleared b in
-    let chart = chart-here v kept i b at x compiled in
+    let chart = chart-here v kept i b at x listed in
     let runs = (batch-runs v kept i b at).runs in
-    runs-here v kept i b at x compiled
+    runs-here v kept i b at x listed
 
 pub phase_at-requires : goal.phase_at-requires
 phase_at-requires c =
@@ -49,9 +49,9 @@ phase_at-requires c =
     let b : Batch = c.index-batch.result.now in
     let at : slice_get v.batches i ≡ Some b = got-batch v _ i b c.self.view_is c.requires c.index-batch.ensures in
     let x : document.Recipe = c.recipe-chart.result.now in
-    let compiled : slice_get v.cleared.recipes b.recipe ≡ Some x = got-chart v _ b.recipe x c.self.view_is c.recipe-chart.ensures in
+    let listed : slice_get v.cleared.recipes b.recipe ≡ Some x = got-chart v _ b.recipe x c.self.view_is c.recipe-chart.ensures in
     let t = tree_of v.cleared b in
-    let chart = chart-here v kept i b at x compiled in
+    let chart = chart-here v kept i b at x listed in
     let runs = (batch-runs v kept i b at).runs in
     let node : ℕ = c.in-Some.node in
     let named : phase_named (node_at t node).here ≡ Some ((phase_at t node).unit, phase) = c.in-Some.ensures.runs t chart runs in
@@ -67,9 +67,9 @@ returns-then-is_number c =
     let b : Batch = c.index-batch.result.now in
     let at : slice_get v.batches i ≡ Some b = got-batch v _ i b c.self.view_is c.requires c.index-batch.ensures in
     let x : document.Recipe = c.recipe-chart.result.now in
-    let compiled : slice_get v.cleared.recipes b.recipe ≡ Some x = got-chart v _ b.recipe x c.self.view_is c.recipe-chart.ensures in
+    let listed : slice_get v.cleared.recipes b.recipe ≡ Some x = got-chart v _ b.recipe x c.self.view_is c.recipe-chart.ensures in
     let t = tree_of v.cleared b in
-    let chart = chart-here v kept i b at x compiled in
+    let chart = chart-here v kept i b at x listed in
     let runs = (batch-runs v kept i b at).runs in
     let node : ℕ = c.in-Some.node in
     let named : phase_named (node_at t node).here ≡ Some ((phase_at t node).unit, phase) = c.in-Some.ensures.runs t chart runs in
@@ -81,7 +81,7 @@ returns-then-is_number c =
     let there : position (same_name unit) units ≡ Some c.phase_at.result.unit = sym number ∙ c.is_number.ensures.0 c.if-is_number.true in (
       b,
       x,
-      record { at = at; compiled = compiled },
+      record { at = at; listed = listed },
       c.loop-node.invariant.1 ∙ found ∙ found-on t (batch_of v.cleared b) (remains_from t b.running) unit phase node c.in-Some.state units c.phase_at.result.unit own there,
       c.in-Some.ensures.live,
     )
@@ -96,9 +96,9 @@ loop-node-preserved c =
     let b : Batch = c.index-batch.result.now in
     let at : slice_get v.batches i ≡ Some b = got-batch v _ i b c.self.view_is c.requires c.index-batch.ensures in
     let x : document.Recipe = c.recipe-chart.result.now in
-    let compiled : slice_get v.cleared.recipes b.recipe ≡ Some x = got-chart v _ b.recipe x c.self.view_is c.recipe-chart.ensures in
+    let listed : slice_get v.cleared.recipes b.recipe ≡ Some x = got-chart v _ b.recipe x c.self.view_is c.recipe-chart.ensures in
     let t = tree_of v.cleared b in
-    let chart = chart-here v kept i b at x compiled in
+    let chart = chart-here v kept i b at x listed in
     let runs = (batch-runs v kept i b at).runs in
     let node : ℕ = c.in-Some.node in
     let named : phase_named (node_at t node).here ≡ Some ((phase_at t node).unit, phase) = c.in-Some.ensures.runs t chart runs in
@@ -123,9 +123,9 @@ returns c =
     let b : Batch = c.index-batch.result.now in
     let at : slice_get v.batches i ≡ Some b = got-batch v _ i b c.self.view_is c.requires c.index-batch.ensures in
     let x : document.Recipe = c.recipe-chart.result.now in
-    let compiled : slice_get v.cleared.recipes b.recipe ≡ Some x = got-chart v _ b.recipe x c.self.view_is c.recipe-chart.ensures in
+    let listed : slice_get v.cleared.recipes b.recipe ≡ Some x = got-chart v _ b.recipe x c.self.view_is c.recipe-chart.ensures in
     let t = tree_of v.cleared b in
-    let chart = chart-here v kept i b at x compiled in
+    let chart = chart-here v kept i b at x listed in
     let runs = (batch-runs v kept i b at).runs in
     let none : live_in (batch_of v.cleared b) unit phase (acts (remains t b.running)) ≡ None =
     c.loop-node.invariant.1 ∙ c.in_default.ensures.found t (batch_of v.cleared b) unit chart runs in

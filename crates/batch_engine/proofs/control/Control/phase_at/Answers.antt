@@ -123,11 +123,11 @@ returns-in-Role-clause-named c =
     let task : IsTaskNumbered v.cleared.cell (roles_at v.cleared b.recipe) bound (node_at (tree_of v.cleared b) c.args.node).here (Role role) =
     subst (IsTaskNumbered v.cleared.cell (roles_at v.cleared b.recipe) bound (node_at (tree_of v.cleared b) c.args.node).here) c.in-Role.is of_act.task in
     let chart : document.Recipe = c.recipe-chart.result.now in
-    let compiled : slice_get v.cleared.recipes b.recipe ≡ Some chart = got-chart v _ b.recipe chart c.self.view_is c.recipe-chart.ensures in
+    let listed : slice_get v.cleared.recipes b.recipe ≡ Some chart = got-chart v _ b.recipe chart c.self.view_is c.recipe-chart.ensures in
     let cell : c.cell.result.now ≡ v.cleared.cell = c.cell.ensures.value ∙ ap (λ (z : EngineView). z.cleared.cell) c.self.view_is in
     let is : c.number_on.result ≡ phase_in v.cleared.cell (node_at (tree_of v.cleared b) c.args.node).here =
     role-phase v kept c.args.index b at c.args.node role c.number_on.result task
-    (c.number_on.ensures bound (tree_of v.cleared b) (chart-for v kept c.args.index b at chart compiled)
+    (c.number_on.ensures bound (tree_of v.cleared b) (chart-for v kept c.args.index b at chart listed)
     ∙ ap₂ (λ (z : Cell) (u : ℕ). phase_on z u (phase_named (node_at (tree_of v.cleared b) c.args.node).here)) cell c.for_units-unit.ensures) in
     phase-named-here v kept c.args.index b at c.args.node few c.number_on.result is
 
@@ -150,10 +150,10 @@ returns-in-Role-clause-unit c =
     let task : IsTaskNumbered v.cleared.cell (roles_at v.cleared b.recipe) bound (node_at (tree_of v.cleared b) c.args.node).here (Role role) =
     subst (IsTaskNumbered v.cleared.cell (roles_at v.cleared b.recipe) bound (node_at (tree_of v.cleared b) c.args.node).here) c.in-Role.is of_act.task in
     let chart : document.Recipe = c.recipe-chart.result.now in
-    let compiled : slice_get v.cleared.recipes b.recipe ≡ Some chart = got-chart v _ b.recipe chart c.self.view_is c.recipe-chart.ensures in
+    let listed : slice_get v.cleared.recipes b.recipe ≡ Some chart = got-chart v _ b.recipe chart c.self.view_is c.recipe-chart.ensures in
     let cell : c.cell.result.now ≡ v.cleared.cell = c.cell.ensures.value ∙ ap (λ (z : EngineView). z.cleared.cell) c.self.view_is in
     let is : c.number_on.result ≡ phase_in v.cleared.cell (node_at (tree_of v.cleared b) c.args.node).here =
     role-phase v kept c.args.index b at c.args.node role c.number_on.result task
-    (c.number_on.ensures bound (tree_of v.cleared b) (chart-for v kept c.args.index b at chart compiled)
+    (c.number_on.ensures bound (tree_of v.cleared b) (chart-for v kept c.args.index b at chart listed)
     ∙ ap₂ (λ (z : Cell) (u : ℕ). phase_on z u (phase_named (node_at (tree_of v.cleared b) c.args.node).here)) cell c.for_units-unit.ensures) in
     phase-unit-here v kept c.args.index b at c.args.node few c.number_on.result is

@@ -64,8 +64,8 @@ make-requires-clause-running c =
     let g : IsOwnStep v (IsNext v) c.args.index (Chart.Release c.args.node c.args.need) = c.requires.step in
     let at : slice_get v.batches c.args.index ≡ Some b = got-batch v _ c.args.index b c.self.view_is (slice_get_within v.batches c.args.index g.batch g.here.at) c.index_mut-batch.ensures.value in
     let x : document.Recipe = c.recipe-chart.result.now in
-    let compiled : slice_get v.cleared.recipes b.recipe ≡ Some x = got-chart v _ b.recipe x c.self.view_is c.recipe-chart.ensures in
-    runs-here v kept c.args.index b at x compiled
+    let listed : slice_get v.cleared.recipes b.recipe ≡ Some x = got-chart v _ b.recipe x c.self.view_is c.recipe-chart.ensures in
+    runs-here v kept c.args.index b at x listed
 
 pub make-requires-clause-possible : goal.make-requires-clause-possible
 make-requires-clause-possible c =
@@ -75,8 +75,8 @@ make-requires-clause-possible c =
     let g : IsOwnStep v (IsNext v) c.args.index (Chart.Release c.args.node c.args.need) = c.requires.step in
     let at : slice_get v.batches c.args.index ≡ Some b = got-batch v _ c.args.index b c.self.view_is (slice_get_within v.batches c.args.index g.batch g.here.at) c.index_mut-batch.ensures.value in
     let x : document.Recipe = c.recipe-chart.result.now in
-    let compiled : slice_get v.cleared.recipes b.recipe ≡ Some x = got-chart v _ b.recipe x c.self.view_is c.recipe-chart.ensures in
-    step-can v c.args.index b at (Chart.Release c.args.node c.args.need) g x compiled
+    let listed : slice_get v.cleared.recipes b.recipe ≡ Some x = got-chart v _ b.recipe x c.self.view_is c.recipe-chart.ensures in
+    step-can v c.args.index b at (Chart.Release c.args.node c.args.need) g x listed
 
 pub invariant_of-self : goal.invariant_of-self
 invariant_of-self c =
@@ -86,11 +86,11 @@ invariant_of-self c =
     let g : IsOwnStep v (IsNext v) c.args.index (Chart.Release c.args.node c.args.need) = c.requires.step in
     let at : slice_get v.batches c.args.index ≡ Some b = got-batch v _ c.args.index b c.self.view_is (slice_get_within v.batches c.args.index g.batch g.here.at) c.index_mut-batch.ensures.value in
     let x : document.Recipe = c.recipe-chart.result.now in
-    let compiled : slice_get v.cleared.recipes b.recipe ≡ Some x = got-chart v _ b.recipe x c.self.view_is c.recipe-chart.ensures in
+    let listed : slice_get v.cleared.recipes b.recipe ≡ Some x = got-chart v _ b.recipe x c.self.view_is c.recipe-chart.ensures in
     let number : number_of v.cleared (need_at (tree_of v.cleared b) c.args.node c.args.need).resource ≡ Some c.args.resource = (c.requires.number b at).0 in
     let m : Moves.Move = move_of (tree_of v.cleared b) (batch_of v.cleared b) (Chart.Release c.args.node c.args.need) in
     let is : IsNext v m = step-is v c.args.index b at (Chart.Release c.args.node c.args.need) g in
-    let made = c.make.ensures (tree_of v.cleared b) (chart-here v kept c.args.index b at x compiled) (batch-runs v kept c.args.index b at).runs in
+    let made = c.make.ensures (tree_of v.cleared b) (chart-here v kept c.args.index b at x listed) (batch-runs v kept c.args.index b at).runs in
     let r : Becomes v (changed v c.args.index (record b { running = c.make.new.self }) (released c.args.resource b.number c.args.node v.allocation)) m =
     release-made v kept c.args.index b at c.args.node c.args.need c.args.resource c.make.new.self (step-about v c.args.index b at (Chart.Release c.args.node c.args.need) g) number made is in
     let first : Batch = c.index.result.now in
@@ -114,11 +114,11 @@ returns c =
     let g : IsOwnStep v (IsNext v) c.args.index (Chart.Release c.args.node c.args.need) = c.requires.step in
     let at : slice_get v.batches c.args.index ≡ Some b = got-batch v _ c.args.index b c.self.view_is (slice_get_within v.batches c.args.index g.batch g.here.at) c.index_mut-batch.ensures.value in
     let x : document.Recipe = c.recipe-chart.result.now in
-    let compiled : slice_get v.cleared.recipes b.recipe ≡ Some x = got-chart v _ b.recipe x c.self.view_is c.recipe-chart.ensures in
+    let listed : slice_get v.cleared.recipes b.recipe ≡ Some x = got-chart v _ b.recipe x c.self.view_is c.recipe-chart.ensures in
     let number : number_of v.cleared (need_at (tree_of v.cleared b) c.args.node c.args.need).resource ≡ Some c.args.resource = (c.requires.number b at).0 in
     let m : Moves.Move = move_of (tree_of v.cleared b) (batch_of v.cleared b) (Chart.Release c.args.node c.args.need) in
     let is : IsNext v m = step-is v c.args.index b at (Chart.Release c.args.node c.args.need) g in
-    let made = c.make.ensures (tree_of v.cleared b) (chart-here v kept c.args.index b at x compiled) (batch-runs v kept c.args.index b at).runs in
+    let made = c.make.ensures (tree_of v.cleared b) (chart-here v kept c.args.index b at x listed) (batch-runs v kept c.args.index b at).runs in
     let r : Becomes v (changed v c.args.index (record b { running = c.make.new.self }) (released c.args.resource b.number c.args.node v.allocation)) m =
     release-made v kept c.args.index b at c.args.node c.args.need c.args.resource c.make.new.self (step-about v c.args.index b at (Chart.Release c.args.node c.args.need) g) number made is in
     let first : Batch = c.index.result.now in

@@ -53,11 +53,11 @@ report-requires-clause-running c =
     let at : slice_get v.batches i ≡ Some b = got-batch v _ i b c.self.view_is (slice_get_within v.batches i g.batch g.here.at) c.index_mut-batch.ensures.value in
     let same : g.batch ≡ b = same-at v.batches i g.batch b g.here.at at in
     let x : document.Recipe = c.recipe-chart.result.now in
-    let compiled : slice_get v.cleared.recipes b.recipe ≡ Some x = got-chart v _ b.recipe x c.self.view_is c.recipe-chart.ensures in
-    let chart : slice_get v.cleared.recipes b.recipe ≡ Some g.chart = subst (λ (z : Batch). slice_get v.cleared.recipes z.recipe ≡ Some g.chart) same g.here.compiled in
-    let live : IsLive x b.running node s = subst (λ (z : document.Recipe). IsLive z b.running node s) (same-at v.cleared.recipes b.recipe g.chart x chart compiled) (subst (λ (z : Batch). IsLive g.chart z.running node s) same g.live) in
+    let listed : slice_get v.cleared.recipes b.recipe ≡ Some x = got-chart v _ b.recipe x c.self.view_is c.recipe-chart.ensures in
+    let chart : slice_get v.cleared.recipes b.recipe ≡ Some g.chart = subst (λ (z : Batch). slice_get v.cleared.recipes z.recipe ≡ Some g.chart) same g.here.listed in
+    let live : IsLive x b.running node s = subst (λ (z : document.Recipe). IsLive z b.running node s) (same-at v.cleared.recipes b.recipe g.chart x chart listed) (subst (λ (z : Batch). IsLive g.chart z.running node s) same g.live) in
     let ends : after_report s word ≡ Some c.in-Some-after_report._end = sym c.after_report.ensures ∙ c.in-Some-after_report.is in
-    runs-here v kept i b at x compiled
+    runs-here v kept i b at x listed
 
 pub report-requires-clause-accepts : goal.report-requires-clause-accepts
 report-requires-clause-accepts c =
@@ -75,9 +75,9 @@ report-requires-clause-accepts c =
     let at : slice_get v.batches i ≡ Some b = got-batch v _ i b c.self.view_is (slice_get_within v.batches i g.batch g.here.at) c.index_mut-batch.ensures.value in
     let same : g.batch ≡ b = same-at v.batches i g.batch b g.here.at at in
     let x : document.Recipe = c.recipe-chart.result.now in
-    let compiled : slice_get v.cleared.recipes b.recipe ≡ Some x = got-chart v _ b.recipe x c.self.view_is c.recipe-chart.ensures in
-    let chart : slice_get v.cleared.recipes b.recipe ≡ Some g.chart = subst (λ (z : Batch). slice_get v.cleared.recipes z.recipe ≡ Some g.chart) same g.here.compiled in
-    let live : IsLive x b.running node s = subst (λ (z : document.Recipe). IsLive z b.running node s) (same-at v.cleared.recipes b.recipe g.chart x chart compiled) (subst (λ (z : Batch). IsLive g.chart z.running node s) same g.live) in
+    let listed : slice_get v.cleared.recipes b.recipe ≡ Some x = got-chart v _ b.recipe x c.self.view_is c.recipe-chart.ensures in
+    let chart : slice_get v.cleared.recipes b.recipe ≡ Some g.chart = subst (λ (z : Batch). slice_get v.cleared.recipes z.recipe ≡ Some g.chart) same g.here.listed in
+    let live : IsLive x b.running node s = subst (λ (z : document.Recipe). IsLive z b.running node s) (same-at v.cleared.recipes b.recipe g.chart x chart listed) (subst (λ (z : Batch). IsLive g.chart z.running node s) same g.live) in
     let ends : after_report s word ≡ Some c.in-Some-after_report._end = sym c.after_report.ensures ∙ c.in-Some-after_report.is in
     (s, c.in-Some-after_report._end, live, ends)
 
@@ -97,9 +97,9 @@ invariant_of-self c =
     let at : slice_get v.batches i ≡ Some b = got-batch v _ i b c.self.view_is (slice_get_within v.batches i g.batch g.here.at) c.index_mut-batch.ensures.value in
     let same : g.batch ≡ b = same-at v.batches i g.batch b g.here.at at in
     let x : document.Recipe = c.recipe-chart.result.now in
-    let compiled : slice_get v.cleared.recipes b.recipe ≡ Some x = got-chart v _ b.recipe x c.self.view_is c.recipe-chart.ensures in
-    let chart : slice_get v.cleared.recipes b.recipe ≡ Some g.chart = subst (λ (z : Batch). slice_get v.cleared.recipes z.recipe ≡ Some g.chart) same g.here.compiled in
-    let live : IsLive x b.running node s = subst (λ (z : document.Recipe). IsLive z b.running node s) (same-at v.cleared.recipes b.recipe g.chart x chart compiled) (subst (λ (z : Batch). IsLive g.chart z.running node s) same g.live) in
+    let listed : slice_get v.cleared.recipes b.recipe ≡ Some x = got-chart v _ b.recipe x c.self.view_is c.recipe-chart.ensures in
+    let chart : slice_get v.cleared.recipes b.recipe ≡ Some g.chart = subst (λ (z : Batch). slice_get v.cleared.recipes z.recipe ≡ Some g.chart) same g.here.listed in
+    let live : IsLive x b.running node s = subst (λ (z : document.Recipe). IsLive z b.running node s) (same-at v.cleared.recipes b.recipe g.chart x chart listed) (subst (λ (z : Batch). IsLive g.chart z.running node s) same g.live) in
     let ends : after_report s word ≡ Some c.in-Some-after_report._end = sym c.after_report.ensures ∙ c.in-Some-after_report.is in
     let t = tree_of v.cleared b in
     let first : Batch = c.index.result.now in
@@ -114,7 +114,7 @@ invariant_of-self c =
     let values : c.set_outputs.new.self ≡ with_values outs b.values = c.set_outputs.ensures ∙ ap (λ xs. with_values xs b.values) c.deref-3.ensures.value in
     let found : live_phase (plant_of v).batches unit name ≡ Some (record { batch = batch_of v.cleared b; place = place_at t node; state = s }) =
     subst (λ (z : Batch). live_phase (plant_of v).batches unit name ≡ Some (record { batch = batch_of v.cleared z; place = place_at (tree_of v.cleared z) node; state = s })) same g.found in
-    let made = c.report.ensures t (chart-here v kept i b at x compiled) (batch-runs v kept i b at).runs in
+    let made = c.report.ensures t (chart-here v kept i b at x listed) (batch-runs v kept i b at).runs in
     let b' : Batch = record b { values = c.set_outputs.new.self; state = batch_state_after word b.state; running = c.report.new.self } in
     let reply : Events.Reply = Events.reported unit name word b.number (place_at t node) (batch_state_after word b.state) in
     let r : Reported v (changed v i b' v.allocation) unit name word outs reply =
@@ -144,9 +144,9 @@ returns c =
     let at : slice_get v.batches i ≡ Some b = got-batch v _ i b c.self.view_is (slice_get_within v.batches i g.batch g.here.at) c.index_mut-batch.ensures.value in
     let same : g.batch ≡ b = same-at v.batches i g.batch b g.here.at at in
     let x : document.Recipe = c.recipe-chart.result.now in
-    let compiled : slice_get v.cleared.recipes b.recipe ≡ Some x = got-chart v _ b.recipe x c.self.view_is c.recipe-chart.ensures in
-    let chart : slice_get v.cleared.recipes b.recipe ≡ Some g.chart = subst (λ (z : Batch). slice_get v.cleared.recipes z.recipe ≡ Some g.chart) same g.here.compiled in
-    let live : IsLive x b.running node s = subst (λ (z : document.Recipe). IsLive z b.running node s) (same-at v.cleared.recipes b.recipe g.chart x chart compiled) (subst (λ (z : Batch). IsLive g.chart z.running node s) same g.live) in
+    let listed : slice_get v.cleared.recipes b.recipe ≡ Some x = got-chart v _ b.recipe x c.self.view_is c.recipe-chart.ensures in
+    let chart : slice_get v.cleared.recipes b.recipe ≡ Some g.chart = subst (λ (z : Batch). slice_get v.cleared.recipes z.recipe ≡ Some g.chart) same g.here.listed in
+    let live : IsLive x b.running node s = subst (λ (z : document.Recipe). IsLive z b.running node s) (same-at v.cleared.recipes b.recipe g.chart x chart listed) (subst (λ (z : Batch). IsLive g.chart z.running node s) same g.live) in
     let ends : after_report s word ≡ Some c.in-Some-after_report._end = sym c.after_report.ensures ∙ c.in-Some-after_report.is in
     let t = tree_of v.cleared b in
     let first : Batch = c.index.result.now in
@@ -161,7 +161,7 @@ returns c =
     let values : c.set_outputs.new.self ≡ with_values outs b.values = c.set_outputs.ensures ∙ ap (λ xs. with_values xs b.values) c.deref-3.ensures.value in
     let found : live_phase (plant_of v).batches unit name ≡ Some (record { batch = batch_of v.cleared b; place = place_at t node; state = s }) =
     subst (λ (z : Batch). live_phase (plant_of v).batches unit name ≡ Some (record { batch = batch_of v.cleared z; place = place_at (tree_of v.cleared z) node; state = s })) same g.found in
-    let made = c.report.ensures t (chart-here v kept i b at x compiled) (batch-runs v kept i b at).runs in
+    let made = c.report.ensures t (chart-here v kept i b at x listed) (batch-runs v kept i b at).runs in
     let b' : Batch = record b { values = c.set_outputs.new.self; state = batch_state_after word b.state; running = c.report.new.self } in
     let reply : Events.Reply = Events.reported unit name word b.number (place_at t node) (batch_state_after word b.state) in
     let r : Reported v (changed v i b' v.allocation) unit name word outs reply =

@@ -32,8 +32,8 @@ reset-requires c =
     let o : IsOrder v i Reset n = order-at v i Reset n c.requires.order b at in
     let is : o.batch ≡ b = order-batch v i Reset n c.requires.order b at in
     let x : document.Recipe = c.recipe-chart.result.now in
-    let compiled : slice_get v.cleared.recipes b.recipe ≡ Some x = got-chart v _ b.recipe x c.self.view_is c.recipe-chart.ensures in
-    runs-here v kept i b at x compiled
+    let listed : slice_get v.cleared.recipes b.recipe ≡ Some x = got-chart v _ b.recipe x c.self.view_is c.recipe-chart.ensures in
+    runs-here v kept i b at x listed
 
 pub invariant_of-self : goal.invariant_of-self
 invariant_of-self c =
@@ -46,14 +46,14 @@ invariant_of-self c =
     let o : IsOrder v i Reset n = order-at v i Reset n c.requires.order b at in
     let is : o.batch ≡ b = order-batch v i Reset n c.requires.order b at in
     let x : document.Recipe = c.recipe-chart.result.now in
-    let compiled : slice_get v.cleared.recipes b.recipe ≡ Some x = got-chart v _ b.recipe x c.self.view_is c.recipe-chart.ensures in
+    let listed : slice_get v.cleared.recipes b.recipe ≡ Some x = got-chart v _ b.recipe x c.self.view_is c.recipe-chart.ensures in
     let known : b.recipe < length v.cleared.recipes = (batch-runs v kept i b at).known in
     let outputs : (recipe_made v.cleared b).outputs ≡ c.deref.result.now =
     ap (λ (z : Rattle.batch_model.specs.Plant.Recipe). z.outputs) (recipe-read v.cleared c.recipes.result.now c.from.result b.recipe c.index-recipes-from.result (c.recipes.ensures.value ∙ ap (λ (z : EngineView). z.cleared.recipes) c.self.view_is) c.from.ensures known c.index-recipes-from.is b.units)
     ∙ sym c.deref.ensures.value in
     let values : c.clear_outputs.new.self ≡ with_outputs_zero (recipe_made v.cleared b).outputs b.values = c.clear_outputs.ensures ∙ ap (λ z. with_outputs_zero z b.values) (sym outputs) in
     let b' : Batch = record b { values = c.clear_outputs.new.self; state = Idle; running = c.reset.new.self } in
-    let made = λ (ws : ValueList). c.reset.ensures (tree_of v.cleared b) ws (chart-here v kept i b at x compiled) (batch-runs v kept i b at).runs in
+    let made = λ (ws : ValueList). c.reset.ensures (tree_of v.cleared b) ws (chart-here v kept i b at x listed) (batch-runs v kept i b at).runs in
     let r : Ordered v (changed v i (record (o.batch) { values = c.clear_outputs.new.self; state = Idle; running = c.reset.new.self }) v.allocation) Reset n =
     reset-made v kept i n o c.reset.new.self c.clear_outputs.new.self
     (subst (λ (z : Batch). c.clear_outputs.new.self ≡ with_outputs_zero (recipe_made v.cleared z).outputs z.values) (sym is) values)
@@ -80,14 +80,14 @@ returns c =
     let o : IsOrder v i Reset n = order-at v i Reset n c.requires.order b at in
     let is : o.batch ≡ b = order-batch v i Reset n c.requires.order b at in
     let x : document.Recipe = c.recipe-chart.result.now in
-    let compiled : slice_get v.cleared.recipes b.recipe ≡ Some x = got-chart v _ b.recipe x c.self.view_is c.recipe-chart.ensures in
+    let listed : slice_get v.cleared.recipes b.recipe ≡ Some x = got-chart v _ b.recipe x c.self.view_is c.recipe-chart.ensures in
     let known : b.recipe < length v.cleared.recipes = (batch-runs v kept i b at).known in
     let outputs : (recipe_made v.cleared b).outputs ≡ c.deref.result.now =
     ap (λ (z : Rattle.batch_model.specs.Plant.Recipe). z.outputs) (recipe-read v.cleared c.recipes.result.now c.from.result b.recipe c.index-recipes-from.result (c.recipes.ensures.value ∙ ap (λ (z : EngineView). z.cleared.recipes) c.self.view_is) c.from.ensures known c.index-recipes-from.is b.units)
     ∙ sym c.deref.ensures.value in
     let values : c.clear_outputs.new.self ≡ with_outputs_zero (recipe_made v.cleared b).outputs b.values = c.clear_outputs.ensures ∙ ap (λ z. with_outputs_zero z b.values) (sym outputs) in
     let b' : Batch = record b { values = c.clear_outputs.new.self; state = Idle; running = c.reset.new.self } in
-    let made = λ (ws : ValueList). c.reset.ensures (tree_of v.cleared b) ws (chart-here v kept i b at x compiled) (batch-runs v kept i b at).runs in
+    let made = λ (ws : ValueList). c.reset.ensures (tree_of v.cleared b) ws (chart-here v kept i b at x listed) (batch-runs v kept i b at).runs in
     let r : Ordered v (changed v i (record (o.batch) { values = c.clear_outputs.new.self; state = Idle; running = c.reset.new.self }) v.allocation) Reset n =
     reset-made v kept i n o c.reset.new.self c.clear_outputs.new.self
     (subst (λ (z : Batch). c.clear_outputs.new.self ≡ with_outputs_zero (recipe_made v.cleared z).outputs z.values) (sym is) values)

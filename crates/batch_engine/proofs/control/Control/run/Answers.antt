@@ -25,8 +25,8 @@ make-requires-clause-running c =
     let g : IsOwnStep v (IsNext v) c.args.index c.args.made = c.requires.step in
     let at : slice_get v.batches c.args.index ≡ Some b = got-batch v _ c.args.index b c.self.view_is (slice_get_within v.batches c.args.index g.batch g.here.at) c.index_mut-batch.ensures.value in
     let x : document.Recipe = c.recipe-chart.result.now in
-    let compiled : slice_get v.cleared.recipes b.recipe ≡ Some x = got-chart v _ b.recipe x c.self.view_is c.recipe-chart.ensures in
-    runs-here v kept c.args.index b at x compiled
+    let listed : slice_get v.cleared.recipes b.recipe ≡ Some x = got-chart v _ b.recipe x c.self.view_is c.recipe-chart.ensures in
+    runs-here v kept c.args.index b at x listed
 
 pub make-requires-clause-possible : goal.make-requires-clause-possible
 make-requires-clause-possible c =
@@ -36,8 +36,8 @@ make-requires-clause-possible c =
     let g : IsOwnStep v (IsNext v) c.args.index c.args.made = c.requires.step in
     let at : slice_get v.batches c.args.index ≡ Some b = got-batch v _ c.args.index b c.self.view_is (slice_get_within v.batches c.args.index g.batch g.here.at) c.index_mut-batch.ensures.value in
     let x : document.Recipe = c.recipe-chart.result.now in
-    let compiled : slice_get v.cleared.recipes b.recipe ≡ Some x = got-chart v _ b.recipe x c.self.view_is c.recipe-chart.ensures in
-    step-can v c.args.index b at c.args.made g x compiled
+    let listed : slice_get v.cleared.recipes b.recipe ≡ Some x = got-chart v _ b.recipe x c.self.view_is c.recipe-chart.ensures in
+    step-can v c.args.index b at c.args.made g x listed
 
 pub invariant_of-self : goal.invariant_of-self
 invariant_of-self c =
@@ -47,10 +47,10 @@ invariant_of-self c =
     let g : IsOwnStep v (IsNext v) c.args.index c.args.made = c.requires.step in
     let at : slice_get v.batches c.args.index ≡ Some b = got-batch v _ c.args.index b c.self.view_is (slice_get_within v.batches c.args.index g.batch g.here.at) c.index_mut-batch.ensures.value in
     let x : document.Recipe = c.recipe-chart.result.now in
-    let compiled : slice_get v.cleared.recipes b.recipe ≡ Some x = got-chart v _ b.recipe x c.self.view_is c.recipe-chart.ensures in
+    let listed : slice_get v.cleared.recipes b.recipe ≡ Some x = got-chart v _ b.recipe x c.self.view_is c.recipe-chart.ensures in
     let m : Moves.Move = move_of (tree_of v.cleared b) (batch_of v.cleared b) c.args.made in
     let is : IsNext v m = step-is v c.args.index b at c.args.made g in
-    let made = c.make.ensures (tree_of v.cleared b) (chart-here v kept c.args.index b at x compiled) (batch-runs v kept c.args.index b at).runs in
+    let made = c.make.ensures (tree_of v.cleared b) (chart-here v kept c.args.index b at x listed) (batch-runs v kept c.args.index b at).runs in
     let r : Becomes v (changed v c.args.index (record b { running = c.make.new.self }) v.allocation) m = run-quiet v kept c.args.index b at c.args.made c.make.new.self c.requires.quiet made is in
     let a : Becomes v (changed v c.args.index (record b { running = c.make.new.self }) c.self.inside.arbiter) m =
     subst (λ (z : Allocation). Becomes v (changed v c.args.index (record b { running = c.make.new.self }) z) m) (sym (ap (λ (z : EngineView). z.allocation) c.self.view_is)) r in
@@ -68,10 +68,10 @@ returns c =
     let g : IsOwnStep v (IsNext v) c.args.index c.args.made = c.requires.step in
     let at : slice_get v.batches c.args.index ≡ Some b = got-batch v _ c.args.index b c.self.view_is (slice_get_within v.batches c.args.index g.batch g.here.at) c.index_mut-batch.ensures.value in
     let x : document.Recipe = c.recipe-chart.result.now in
-    let compiled : slice_get v.cleared.recipes b.recipe ≡ Some x = got-chart v _ b.recipe x c.self.view_is c.recipe-chart.ensures in
+    let listed : slice_get v.cleared.recipes b.recipe ≡ Some x = got-chart v _ b.recipe x c.self.view_is c.recipe-chart.ensures in
     let m : Moves.Move = move_of (tree_of v.cleared b) (batch_of v.cleared b) c.args.made in
     let is : IsNext v m = step-is v c.args.index b at c.args.made g in
-    let made = c.make.ensures (tree_of v.cleared b) (chart-here v kept c.args.index b at x compiled) (batch-runs v kept c.args.index b at).runs in
+    let made = c.make.ensures (tree_of v.cleared b) (chart-here v kept c.args.index b at x listed) (batch-runs v kept c.args.index b at).runs in
     let r : Becomes v (changed v c.args.index (record b { running = c.make.new.self }) v.allocation) m = run-quiet v kept c.args.index b at c.args.made c.make.new.self c.requires.quiet made is in
     let a : Becomes v (changed v c.args.index (record b { running = c.make.new.self }) c.self.inside.arbiter) m =
     subst (λ (z : Allocation). Becomes v (changed v c.args.index (record b { running = c.make.new.self }) z) m) (sym (ap (λ (z : EngineView). z.allocation) c.self.view_is)) r in

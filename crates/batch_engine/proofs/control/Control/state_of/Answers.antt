@@ -61,8 +61,8 @@ state_at-requires c =
     let shown : Rattle.batch_model.specs.ActStates.state_of (plant_of v) c.args.batch c.args.place.now ≡ state_in (batch_of v.cleared b) c.args.place.now =
     ap (λ (o : Option Model.Batch). let s : Option State = elim o [ None ↦ None | Some d ↦ state_in d c.args.place.now ] in s) (f.is ∙ ap (λ (z : Batch). Some (batch_of v.cleared z)) same) in
     let x : document.Recipe = c.recipe-chart.result.now in
-    let compiled : slice_get v.cleared.recipes b.recipe ≡ Some x = got-chart v _ b.recipe x c.self.view_is c.recipe-chart.ensures in
-    runs-here v kept c.in-Some.index b at x compiled
+    let listed : slice_get v.cleared.recipes b.recipe ≡ Some x = got-chart v _ b.recipe x c.self.view_is c.recipe-chart.ensures in
+    runs-here v kept c.in-Some.index b at x listed
 
 pub returns : goal.returns
 returns c =
@@ -80,10 +80,10 @@ returns c =
     let shown : Rattle.batch_model.specs.ActStates.state_of (plant_of v) c.args.batch c.args.place.now ≡ state_in (batch_of v.cleared b) c.args.place.now =
     ap (λ (o : Option Model.Batch). let s : Option State = elim o [ None ↦ None | Some d ↦ state_in d c.args.place.now ] in s) (f.is ∙ ap (λ (z : Batch). Some (batch_of v.cleared z)) same) in
     let x : document.Recipe = c.recipe-chart.result.now in
-    let compiled : slice_get v.cleared.recipes b.recipe ≡ Some x = got-chart v _ b.recipe x c.self.view_is c.recipe-chart.ensures in
+    let listed : slice_get v.cleared.recipes b.recipe ≡ Some x = got-chart v _ b.recipe x c.self.view_is c.recipe-chart.ensures in
     let node : ℕ = c.in-Some-node_of.node in
     let found : IsNodeAt (nodes_of t) node c.args.place.now = subst (λ (z : Tree). IsNodeAt (nodes_of z) node c.args.place.now) (sym tree) (node-alike bound r.0.acts node c.args.place.now (c.in-Some-node_of.ensures.some r.0 read)) in
     let few : node < node_count t = (let l : node < length (nodes_of t) = slice_get_within (nodes_of t) node found.0 found.1 in omega (arith, l, counted_nodes (0 ∷ []) [] t)) in
     let place : place_at t node ≡ c.args.place.now = ap (λ (n : Node). n.place) (get_or_from_slice_get (nodes_of t) node found.0 _ found.1) ∙ found.2 in
-    c.state_at.ensures.act t (batch_of v.cleared b) (chart-here v kept c.in-Some.index b at x compiled) (batch-runs v kept c.in-Some.index b at).runs few refl refl refl
+    c.state_at.ensures.act t (batch_of v.cleared b) (chart-here v kept c.in-Some.index b at x listed) (batch-runs v kept c.in-Some.index b at).runs few refl refl refl
     ∙ ap (state_in (batch_of v.cleared b)) place ∙ sym shown
