@@ -1,5 +1,6 @@
 //! Where a name keeps its bytes.
-ghost use Rattle.std.specs.Prelude.{◌≡◌, ◌≤◌, length, IfOk};
+ghost use Rattle.std.specs.Prelude.{◌≡◌, ◌≤◌, length, nat_eq, IfOk};
+ghost use Rattle.std.specs.Cmp.Lexicographic.{pointwise};
 ghost use Rattle.batch_text.specs.Spelling.{letters, IsWithinRoom};
 
 use crate::name::MAX_NAME_LEN;
@@ -8,7 +9,7 @@ use std::alloc::{AllocError, Global};
 /// The most bytes that a name keeps inside itself: what its 16 bytes leave beside a tag and a length.
 const MAX_SHORT_LEN: usize = 14;
 
-/// The bytes of a name: inside itself where they are few, and otherwise on the heap. Those past the length mean nothing.
+/// The bytes of a name: inside itself where they are few, and otherwise on the heap. Those past a short name's length are zeroes, and those past a long one's mean nothing.
 #[derive(Drop)]
 pub(crate) enum Spelling {
     Short {
@@ -44,6 +45,7 @@ impl Spelling {
     }
 
     /// The bytes.
+    #[inline(always)]
     pub(crate) fn bytes(&self) -> &[u8]
         requires { IsWithinRoom self.now }
         ensures { result.now ≡ letters self.now }
@@ -51,6 +53,24 @@ impl Spelling {
         match self {
             Spelling::Short { len, bytes } => &bytes[..*len as usize],
             Spelling::Long { len, bytes } => &bytes[..*len as usize],
+        }
+    }
+    /// Whether the bytes are the same. Of two short names all of their room is compared, since its length is a constant.
+    #[inline(always)]
+    #[tactic(auto, using(crate::proofs::ShortNames::same_with_room))]
+    pub(crate) fn is_same(&self, other: &Spelling) -> bool
+        requires { IsWithinRoom self.now × IsWithinRoom other.now }
+        ensures { result ≡ pointwise nat_eq (letters self.now) (letters other.now) }
+    {
+        match (self, other) {
+            (
+                Spelling::Short { len, bytes },
+                Spelling::Short {
+                    len: other_len,
+                    bytes: other_bytes,
+                },
+            ) => (len == other_len) & (bytes == other_bytes),
+            _ => self.bytes() == other.bytes(),
         }
     }
 }
