@@ -32,6 +32,13 @@ pub enum Want {
 }
 
 impl Want {
+    /// From now on this is wanted.
+    pub fn set(&mut self, next: Want)
+        ensures { self.new ≡ next }
+    {
+        *self = next;
+    }
+
     /// A word may come next.
     pub fn takes_word(&self) -> bool
         ensures { result ≡ takes_word (want_view self.now) }
