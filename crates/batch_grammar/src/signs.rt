@@ -49,8 +49,9 @@ fn end_case(want: &mut Want, chart: Chart, stack: &mut Vec<Frame>) -> Result<(),
     }
 }
 
-/// A comma after a chart. In a `seq` or a `par` it is added where that stands on the stack.
+/// A comma after a chart, where one is wanted next. In a `seq` or a `par` it is added where that stands on the stack.
 fn take_comma(want: &mut Want, chart: Chart, stack: &mut Vec<Frame>) -> Result<(), Stop>
+    requires { want_view want.old ≡ a_chart }
     ensures { Gives (λ _. after_view stack.new.items want.new) result (take_comma (diagram_of chart) (frames_view stack.old.items)) }
 {
     let depth = stack.len();
@@ -63,12 +64,10 @@ fn take_comma(want: &mut Want, chart: Chart, stack: &mut Vec<Frame>) -> Result<(
     match &mut stack[depth - 1] {
         Frame::Seq(charts) => {
             charts.push(chart)?;
-            want.set(Want::Chart);
             Ok(())
         }
         Frame::Par(charts) => {
             charts.push(chart)?;
-            want.set(Want::Chart);
             Ok(())
         }
         Frame::Else(_) | Frame::Loop(_, _) => Err(Stop::NotAChart),
@@ -97,7 +96,7 @@ fn end_condition(
     }
 }
 
-/// The comma or the parenthesis after a chart.
+/// The comma or the parenthesis after a chart, where one is wanted next if more follows.
 fn end_chart(
     alloc: Global,
     want: &mut Want,
@@ -105,6 +104,7 @@ fn end_chart(
     byte: u8,
     stack: &mut Vec<Frame>,
 ) -> Result<(), Stop>
+    requires { want_view want.old ≡ a_chart }
     ensures { Gives (λ _. after_view stack.new.items want.new) result (take_sign (after_chart (diagram_of chart)) byte (frames_view stack.old.items)) }
 {
     match byte {
@@ -169,11 +169,11 @@ pub fn take_sign(
 ) -> Result<(), Stop>
     ensures { Gives (λ _. after_view stack.new.items want.new) result (take_sign (want_view want.old) byte (frames_view stack.old.items)) }
 {
-    match want {
-        Want::AfterChart(chart) => {
-            let chart = replace(chart, Chart::Skip);
-            end_chart(alloc, want, chart, byte, stack)
-        }
-        _ => take_other_sign(alloc, want, byte, stack),
+    if !matches!(want, Want::AfterChart(_)) {
+        return take_other_sign(alloc, want, byte, stack);
+    }
+    match replace(want, Want::Chart) {
+        Want::AfterChart(chart) => end_chart(alloc, want, chart, byte, stack),
+        _ => unreachable!(),
     }
 }

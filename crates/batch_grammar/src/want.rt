@@ -39,6 +39,13 @@ impl Want {
         *self = next;
     }
 
+    /// From now on this chart has been read.
+    pub fn set_chart(&mut self, chart: Chart)
+        ensures { self.new ≡ Want.AfterChart chart }
+    {
+        *self = Want::AfterChart(chart);
+    }
+
     /// A word may come next.
     pub fn takes_word(&self) -> bool
         ensures { result ≡ takes_word (want_view self.now) }

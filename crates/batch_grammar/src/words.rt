@@ -1,5 +1,5 @@
 //! What a whole word changes in what is wanted.
-ghost use Rattle.std.specs.Prelude.{◌≡◌, ℕ, List};
+ghost use Rattle.std.specs.Prelude.{◌≡◌, ◌≢◌, ℕ, List};
 ghost use Rattle.batch_text.specs.NameText.{IsName};
 ghost use Rattle.batch_recipe.specs.declared.condition.Op.{Op as Operator};
 ghost use Rattle.batch_grammar.specs.ChartMachine.{Test as Around, an_operand, deeper, take_chart_word, take_else, take_name_word, take_operand_word, take_word, word_of};
@@ -25,25 +25,35 @@ fn deeper(depth: usize, want: &mut Want, opening: Want) -> Result<(), Stop>
     }
 }
 
-/// The first word of a chart.
-fn take_chart_word(alloc: Global, want: &mut Want, word: &[u8], depth: usize) -> Result<(), Stop>
-    requires { IsName word.now }
-    ensures { Gives (λ _. want_view want.new) result (take_chart_word (word_of word.now) word.now depth) }
+/// One of the six words with a meaning, as the first word of a chart.
+fn take_chart_keyword(want: &mut Want, kind: Word, depth: usize) -> Result<(), Stop>
+    requires { kind ≢ Word.Name }
+    ensures { (bytes : List ℕ) → Gives (λ _. want_view want.new) result (take_chart_word kind bytes depth) }
 {
-    match word_of(word) {
-        Word::Name => {
-            want.set(Want::AfterChart(Chart::Label(name_of(alloc, word)?)));
-            Ok(())
-        }
+    match kind {
         Word::Skip => {
-            want.set(Want::AfterChart(Chart::Skip));
+            want.set_chart(Chart::Skip);
             Ok(())
         }
         Word::Seq => deeper(depth, want, Want::OpenSeq),
         Word::Par => deeper(depth, want, Want::OpenPar),
         Word::Sel => deeper(depth, want, Want::OpenSel),
         Word::Loop => deeper(depth, want, Want::OpenLoop),
-        Word::Else => Err(Stop::NotAChart),
+        Word::Name | Word::Else => Err(Stop::NotAChart),
+    }
+}
+
+/// The first word of a chart. Most are labels.
+fn take_chart_word(alloc: Global, want: &mut Want, word: &[u8], depth: usize) -> Result<(), Stop>
+    requires { IsName word.now }
+    ensures { Gives (λ _. want_view want.new) result (take_chart_word (word_of word.now) word.now depth) }
+{
+    match word_of(word) {
+        Word::Name => {
+            want.set_chart(Chart::Label(name_of(alloc, word)?));
+            Ok(())
+        }
+        kind => take_chart_keyword(want, kind, depth),
     }
 }
 

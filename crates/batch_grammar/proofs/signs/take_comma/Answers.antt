@@ -25,7 +25,7 @@ returns-in_ok-push-in-Seq c =
     let n = c.len-depth.result - 1 in
     let last : n + 1 ≡ length frames = omega arith in
     let at : get_or frames n (frame.Seq c.in-Seq.charts) ≡ frame.Seq c.in-Seq.charts = cc in
-    rw c.set.ensures (comma_in_seq frames n c.in-Seq.charts c.push.new.self c.args.chart last at c.in_ok-push-in-Seq.ensures.items)
+    rw c.requires (comma_in_seq frames n c.in-Seq.charts c.push.new.self c.args.chart last at c.in_ok-push-in-Seq.ensures.items)
 
 pub returns-in_ok-push-in-Par : goal.returns-in_ok-push-in-Par
 returns-in_ok-push-in-Par c =
@@ -33,7 +33,7 @@ returns-in_ok-push-in-Par c =
     let n = c.len-depth.result - 1 in
     let last : n + 1 ≡ length frames = omega arith in
     let at : get_or frames n (frame.Par c.in-Par.charts) ≡ frame.Par c.in-Par.charts = cc in
-    rw c.set-in-Par.ensures (comma_in_par frames n c.in-Par.charts c.push-in-Par.new.self c.args.chart last at c.in_ok-push-in-Par.ensures.items)
+    rw c.requires (comma_in_par frames n c.in-Par.charts c.push-in-Par.new.self c.args.chart last at c.in_ok-push-in-Par.ensures.items)
 
 pub returns-in-Else : goal.returns-in-Else
 returns-in-Else c =
