@@ -1,7 +1,8 @@
 //! What a sign changes in what is wanted.
-ghost use Rattle.std.specs.Prelude.{◌≡◌, ◌∷◌, ◌==◌, true, false, Some, MatchResult};
-ghost use Rattle.batch_recipe.specs.Diagram.{diagram_of};
-ghost use Rattle.batch_grammar.specs.ChartMachine.{a_chart, after_chart, after_condition, take_comma, take_sign};
+ghost use Rattle.std.specs.Prelude.{◌≡◌, ◌≢◌, ◌∷◌, ◌==◌, List, true, false, Some, MatchResult};
+ghost use Rattle.batch_recipe.specs.declared.condition.Cond.{Cond as Condition};
+ghost use Rattle.batch_recipe.specs.Diagram.{Diagram, diagram_of};
+ghost use Rattle.batch_grammar.specs.ChartMachine.{Frame as Around, in_case, a_chart, after_chart, after_condition, take_comma, take_sign};
 ghost use Rattle.batch_grammar.specs.ChartView.{Gives, after_view, frame_view, frames_view, test_view, want_view};
 
 use crate::fault::Stop;
@@ -32,28 +33,45 @@ fn inside(stack: &mut Vec<Frame>, frame: Frame) -> Result<Want, Stop>
     Ok(Want::Chart)
 }
 
-/// A comma after a chart.
-#[tactic(auto, using(crate::proofs::ChartFrames::diagrams_view_last, crate::proofs::ChartFrames::cases_view_last))]
-fn take_comma(chart: Chart, stack: &mut Vec<Frame>) -> Result<Want, Stop>
-    ensures { Gives (after_view stack.new.items) result (take_comma (diagram_of chart) (frames_view stack.old.items)) }
+/// The comma after a case, whose chart has been read.
+#[tactic(auto, using(crate::proofs::ChartFrames::cases_view_last))]
+fn end_case(want: &mut Want, chart: Chart, stack: &mut Vec<Frame>) -> Result<(), Stop>
+    ensures { (cases : List (Condition × Diagram)) (condition : Condition) (frames : List Around) → frames_view stack.old.items ≡ in_case cases condition ∷ frames
+        → Gives (λ _. after_view stack.new.items want.new) result (take_comma (diagram_of chart) (frames_view stack.old.items)) }
 {
-    let Some(frame) = pop(stack) else {
-        return Err(Stop::NotAChart);
-    };
-    match frame {
-        Frame::Seq(mut charts) => {
-            charts.push(chart)?;
-            inside(stack, Frame::Seq(charts))
-        }
-        Frame::Par(mut charts) => {
-            charts.push(chart)?;
-            inside(stack, Frame::Par(charts))
-        }
-        Frame::Case(mut cases, condition) => {
+    match pop(stack) {
+        Some(Frame::Case(mut cases, condition)) => {
             cases.push((condition, chart))?;
-            Ok(Want::Name(Test::Sel(cases)))
+            want.set(Want::Name(Test::Sel(cases)));
+            Ok(())
+        }
+        _ => Err(Stop::NotAChart),
+    }
+}
+
+/// A comma after a chart, where one is wanted next. In a `seq` or a `par` it is added where that stands on the stack.
+fn take_comma(want: &mut Want, chart: Chart, stack: &mut Vec<Frame>) -> Result<(), Stop>
+    requires { want_view want.old ≡ a_chart }
+    ensures { Gives (λ _. after_view stack.new.items want.new) result (take_comma (diagram_of chart) (frames_view stack.old.items)) }
+{
+    let depth = stack.len();
+    if depth == 0 {
+        return Err(Stop::NotAChart);
+    }
+    if let Frame::Case(_, _) = &stack[depth - 1] {
+        return end_case(want, chart, stack);
+    }
+    match &mut stack[depth - 1] {
+        Frame::Seq(charts) => {
+            charts.push(chart)?;
+            Ok(())
+        }
+        Frame::Par(charts) => {
+            charts.push(chart)?;
+            Ok(())
         }
         Frame::Else(_) | Frame::Loop(_, _) => Err(Stop::NotAChart),
+        Frame::Case(_, _) => unreachable!(),
     }
 }
 
@@ -78,24 +96,35 @@ fn end_condition(
     }
 }
 
-/// The comma or the parenthesis after a chart.
-fn end_chart(alloc: Global, chart: Chart, byte: u8, stack: &mut Vec<Frame>) -> Result<Want, Stop>
-    ensures { Gives (after_view stack.new.items) result (take_sign (after_chart (diagram_of chart)) byte (frames_view stack.old.items)) }
+/// The comma or the parenthesis after a chart, where one is wanted next if more follows.
+fn end_chart(
+    alloc: Global,
+    want: &mut Want,
+    chart: Chart,
+    byte: u8,
+    stack: &mut Vec<Frame>,
+) -> Result<(), Stop>
+    requires { want_view want.old ≡ a_chart }
+    ensures { Gives (λ _. after_view stack.new.items want.new) result (take_sign (after_chart (diagram_of chart)) byte (frames_view stack.old.items)) }
 {
     match byte {
-        b',' => take_comma(chart, stack),
-        b')' => take_close(alloc, chart, stack),
+        b',' => take_comma(want, chart, stack),
+        b')' => {
+            want.set(take_close(alloc, chart, stack)?);
+            Ok(())
+        }
         _ => Err(Stop::NotAChart),
     }
 }
 
-/// A parenthesis, a comma or a colon.
-pub fn take_sign(
+/// A parenthesis, a comma or a colon that stands after no chart.
+fn take_other_sign(
     alloc: Global,
     want: &mut Want,
     byte: u8,
     stack: &mut Vec<Frame>,
 ) -> Result<(), Stop>
+    requires { (chart : Diagram) → want_view want.old ≢ after_chart chart }
     ensures { Gives (λ _. after_view stack.new.items want.new) result (take_sign (want_view want.old) byte (frames_view stack.old.items)) }
 {
     *want = match replace(want, Want::Chart) {
@@ -124,9 +153,27 @@ pub fn take_sign(
             expect(byte, b':')?;
             inside(stack, Frame::Else(cases))?
         }
-        Want::AfterChart(chart) => end_chart(alloc, chart, byte, stack)?,
+        Want::AfterChart(_) => unreachable!(),
         Want::Chart | Want::Turns | Want::Name(_) | Want::Operator(_, _) | Want::Operand(_, _, _) =>
             { return Err(Stop::NotAChart) }
     };
     Ok(())
+}
+
+/// A parenthesis, a comma or a colon.
+pub fn take_sign(
+    alloc: Global,
+    want: &mut Want,
+    byte: u8,
+    stack: &mut Vec<Frame>,
+) -> Result<(), Stop>
+    ensures { Gives (λ _. after_view stack.new.items want.new) result (take_sign (want_view want.old) byte (frames_view stack.old.items)) }
+{
+    if !matches!(want, Want::AfterChart(_)) {
+        return take_other_sign(alloc, want, byte, stack);
+    }
+    match replace(want, Want::Chart) {
+        Want::AfterChart(chart) => end_chart(alloc, want, chart, byte, stack),
+        _ => unreachable!(),
+    }
 }

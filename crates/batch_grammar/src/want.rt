@@ -32,6 +32,20 @@ pub enum Want {
 }
 
 impl Want {
+    /// From now on this is wanted.
+    pub fn set(&mut self, next: Want)
+        ensures { self.new ≡ next }
+    {
+        *self = next;
+    }
+
+    /// From now on this chart has been read.
+    pub fn set_chart(&mut self, chart: Chart)
+        ensures { self.new ≡ Want.AfterChart chart }
+    {
+        *self = Want::AfterChart(chart);
+    }
+
     /// A word may come next.
     pub fn takes_word(&self) -> bool
         ensures { result ≡ takes_word (want_view self.now) }

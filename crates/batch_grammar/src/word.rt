@@ -5,7 +5,7 @@ ghost use Rattle.batch_recipe.specs.WellFormed.{is_among, chart_words};
 ghost use Rattle.batch_grammar.specs.ChartMachine.{word_of};
 
 use crate::fault::Stop;
-use batch_text::{Name, TextFault};
+use batch_text::Name;
 use std::alloc::Global;
 
 /// What a word is: one of the six words with a meaning, or a name.
@@ -56,9 +56,5 @@ pub fn name_of(alloc: Global, word: &[u8]) -> Result<Name, Stop>
     ensures value { IfOk result (λ name. name ≡ word.now) }
     ensures only_memory { IsOkUnless result Stop.Memory }
 {
-    match Name::read(alloc, word) {
-        Ok(name) => Ok(name),
-        Err(TextFault::Memory) => Err(Stop::Memory),
-        Err(_) => unreachable!(),
-    }
+    Ok(Name::known(alloc, word)?)
 }

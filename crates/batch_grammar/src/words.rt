@@ -1,6 +1,8 @@
 //! What a whole word changes in what is wanted.
+ghost use Rattle.std.specs.Prelude.{◌≡◌, ◌≢◌, ℕ, List};
 ghost use Rattle.batch_text.specs.NameText.{IsName};
-ghost use Rattle.batch_grammar.specs.ChartMachine.{deeper, take_chart_word, take_else, take_name_word, take_operand_word, take_word};
+ghost use Rattle.batch_recipe.specs.declared.condition.Op.{Op as Operator};
+ghost use Rattle.batch_grammar.specs.ChartMachine.{Test as Around, an_operand, deeper, take_chart_word, take_else, take_name_word, take_operand_word, take_word, word_of};
 ghost use Rattle.batch_grammar.specs.ChartView.{Gives, test_view, want_view};
 
 use crate::fault::Stop;
@@ -11,30 +13,47 @@ use batch_text::Name;
 use std::alloc::Global;
 use std::mem::replace;
 
-/// A form begins inside `depth` others.
-fn deeper(depth: usize, want: Want) -> Result<Want, Stop>
-    ensures { Gives want_view result (deeper depth (want_view want)) }
+/// A form begins inside `depth` others, where that is allowed, and is opened next.
+fn deeper(depth: usize, want: &mut Want, opening: Want) -> Result<(), Stop>
+    ensures { Gives (λ _. want_view want.new) result (deeper depth (want_view opening)) }
 {
     if depth < MAX_DEPTH {
-        Ok(want)
+        want.set(opening);
+        Ok(())
     } else {
         Err(Stop::NotAChart)
     }
 }
 
-/// The first word of a chart.
-fn take_chart_word(alloc: Global, kind: Word, word: &[u8], depth: usize) -> Result<Want, Stop>
-    requires { IsName word.now }
-    ensures { Gives want_view result (take_chart_word kind word.now depth) }
+/// One of the six words with a meaning, as the first word of a chart.
+fn take_chart_keyword(want: &mut Want, kind: Word, depth: usize) -> Result<(), Stop>
+    requires { kind ≢ Word.Name }
+    ensures { (bytes : List ℕ) → Gives (λ _. want_view want.new) result (take_chart_word kind bytes depth) }
 {
     match kind {
-        Word::Name => Ok(Want::AfterChart(Chart::Label(name_of(alloc, word)?))),
-        Word::Skip => Ok(Want::AfterChart(Chart::Skip)),
-        Word::Seq => deeper(depth, Want::OpenSeq),
-        Word::Par => deeper(depth, Want::OpenPar),
-        Word::Sel => deeper(depth, Want::OpenSel),
-        Word::Loop => deeper(depth, Want::OpenLoop),
-        Word::Else => Err(Stop::NotAChart),
+        Word::Skip => {
+            want.set_chart(Chart::Skip);
+            Ok(())
+        }
+        Word::Seq => deeper(depth, want, Want::OpenSeq),
+        Word::Par => deeper(depth, want, Want::OpenPar),
+        Word::Sel => deeper(depth, want, Want::OpenSel),
+        Word::Loop => deeper(depth, want, Want::OpenLoop),
+        Word::Name | Word::Else => Err(Stop::NotAChart),
+    }
+}
+
+/// The first word of a chart. Most are labels.
+fn take_chart_word(alloc: Global, want: &mut Want, word: &[u8], depth: usize) -> Result<(), Stop>
+    requires { IsName word.now }
+    ensures { Gives (λ _. want_view want.new) result (take_chart_word (word_of word.now) word.now depth) }
+{
+    match word_of(word) {
+        Word::Name => {
+            want.set_chart(Chart::Label(name_of(alloc, word)?));
+            Ok(())
+        }
+        kind => take_chart_keyword(want, kind, depth),
     }
 }
 
@@ -89,17 +108,34 @@ fn take_operand_word(
     }
 }
 
-/// A word, inside `depth` forms.
+/// A word where the right side of a condition is wanted.
+fn end_condition(alloc: Global, want: &mut Want, word: &[u8]) -> Result<(), Stop>
+    requires { IsName word.now }
+    ensures { (test : Around) (name : List ℕ) (op : Operator) → want_view want.old ≡ an_operand test name op
+        → Gives (λ _. want_view want.new) result (take_operand_word (word_of word.now) word.now test name op) }
+{
+    *want = match replace(want, Want::Chart) {
+        Want::Operand(test, name, op) => {
+            take_operand_word(alloc, word_of(word), word, test, name, op)?
+        }
+        _ => return Err(Stop::NotAChart),
+    };
+    Ok(())
+}
+
+/// A word, inside `depth` forms. A chart's is told first, and moves nothing.
 pub fn take_word(alloc: Global, want: &mut Want, word: &[u8], depth: usize) -> Result<(), Stop>
     requires { IsName word.now }
     ensures { Gives (λ _. want_view want.new) result (take_word (want_view want.old) word.now depth) }
 {
-    let kind = word_of(word);
-    *want = match replace(want, Want::Chart) {
-        Want::Chart => take_chart_word(alloc, kind, word, depth)?,
-        Want::Name(test) => take_name_word(alloc, kind, word, test)?,
-        Want::Operand(test, name, op) => take_operand_word(alloc, kind, word, test, name, op)?,
-        _ => return Err(Stop::NotAChart),
-    };
-    Ok(())
+    match want {
+        Want::Chart => take_chart_word(alloc, want, word, depth),
+        Want::Name(test) => {
+            let test = replace(test, Test::Loop(0));
+            want.set(take_name_word(alloc, word_of(word), word, test)?);
+            Ok(())
+        }
+        Want::Operand(_, _, _) => end_condition(alloc, want, word),
+        _ => Err(Stop::NotAChart),
+    }
 }
