@@ -1,10 +1,7 @@
 -- surface: what the engine keeps.
-use Rattle.std.specs.Prelude.{◌≡◌, ℕ, ◌+◌, ◌<◌, ◌≤◌, List, length, sum_by, Some, slice_get}
+use Rattle.std.specs.Prelude.{◌≡◌, ℕ, ◌+◌, ◌<◌, ◌≤◌, List, length, sum_by, Some}
 use Rattle.batch_cell.specs.LookUps.{capacities_of, units_of}
 use Rattle.batch_recipe.specs.Conditions.{Name}
-use Rattle.batch_recipe.specs.Expanding.{Binding}
-use Rattle.batch_recipe.specs.Procedure.{bound_tree}
-use Rattle.batch_recipe.specs.declared.recipe.Recipe as document
 use Rattle.batch_recipe.specs.declared.role.TheConstants.{MAX_ROLES}
 use Rattle.batch_model.specs.Lists.{Each}
 use Rattle.batch_model.specs.Cleared.{CanBeCleared}
@@ -16,11 +13,11 @@ use Rattle.batch_laws.proofs.Entries.{IsOnce}
 use Rattle.batch_verify.specs.ClearedSet.{ClearedSet}
 use Rattle.batch_arbiter.specs.Allocation.{Allocation, line_of, shares_of}
 use Rattle.batch_chart.specs.NodesOf.{needs_in}
-use Rattle.batch_chart.specs.Charts.{IsChartFor, IsRunningOf}
+use Rattle.batch_chart.specs.Charts.{IsRunningOf}
 use Rattle.batch_engine.specs.declared.batch.Batch.{Batch}
 use Rattle.batch_engine.specs.Batches.{BatchList, HaveOwnNumbers}
 use Rattle.batch_engine.specs.Numbered.{AreRecipesNumbered}
-use Rattle.batch_engine.specs.View.{EngineView, setup, master_at, acts_of, names_of, number_of, plant_of, tree_of}
+use Rattle.batch_engine.specs.View.{EngineView, setup, acts_of, names_of, number_of, plant_of, tree_of}
 
 -- there is a record that leads to the plant, and the shares are what it tells, each in the order in which it was granted
 pub record IsTracked (v : EngineView) : Type 0 where

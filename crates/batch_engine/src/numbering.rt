@@ -182,11 +182,7 @@ fn number_act(
 }
 
 /// What all acts of a recipe need and run.
-fn number_recipe(
-    alloc: Global,
-    cell: &Cell,
-    recipe: &Recipe,
-) -> Result<RecipeNumbers, AllocError>
+fn number_recipe(alloc: Global, cell: &Cell, recipe: &Recipe) -> Result<RecipeNumbers, AllocError>
     ensures { IfOk result (λ numbers. IsRecipeNumbered cell.now recipe.now numbers) }
 {
     let mut acts = Vec::new(alloc);

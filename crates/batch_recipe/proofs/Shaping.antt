@@ -5,7 +5,7 @@ use Rattle.batch_recipe.specs.ActsAtNodes.{ActList, acts_along, acts_along_each,
 use Rattle.batch_recipe.specs.Conditions.{Name, same_name}
 use Rattle.batch_recipe.specs.Diagram.{Diagram, label, skip, seq, par, sel, loop, Diagrams, none, more, Cases, otherwise, when, diagram_of}
 use Rattle.batch_recipe.specs.Expanding.{Binding, unbound, expanded, expanded_each, expanded_cases, task_of, act_named, act_tree_with, named_tree_with, unit_with, unit_below, asked_by}
-use Rattle.batch_recipe.specs.Growing.{Head, Labels, LabelConditions, plain, act_head, topped, bare, grown, grown_each, grown_cases, grown_work, grown_act, grown_named, conditions_along, conditions_of_cases, conditions_named, told_from, levels_from, number_in, unit_number, entries_of}
+use Rattle.batch_recipe.specs.Growing.{Head, Labels, LabelConditions, plain, act_head, topped, bare, grown, grown_each, grown_cases, grown_work, grown_act, grown_named, conditions_along, conditions_of_cases, told_from, levels_from, number_in, unit_number, entries_of}
 use Rattle.batch_recipe.specs.Nodes.{child, node_count, count_within, count_of_each, count_of_choices}
 use Rattle.batch_recipe.specs.Outlines.{an_act, Shape, form_of, act_of, shape_of, shapes, shapes_within, shapes_of_each, shapes_of_choices, IsOutline}
 use Rattle.batch_recipe.specs.Procedure.{table_at, tables_from, level_below, bound_tree}

@@ -1,6 +1,6 @@
 use Rattle.std.proofs.Common.{◌≡◌, sym, ap, subst, arith, ℕ, length, List, [], ◌∷◌, ◌++◌, Some, slice_get}
 use Rattle.std.proofs.lemmas.List.{length-append}
-use Rattle.batch_recipe.specs.Expanding.{Binding, unbound}
+use Rattle.batch_recipe.specs.Expanding.{Binding}
 use Rattle.batch_recipe.specs.Procedure.{bound_tree, procedure_tree}
 use Rattle.batch_recipe.proofs.Order.{counted_nodes}
 use Rattle.batch_chart.specs.NodesOf.{node_at}

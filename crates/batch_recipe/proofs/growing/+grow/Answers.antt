@@ -1,11 +1,11 @@
-use Rattle.std.proofs.Common.{◌≡◌, [], ◌∷◌, ◌++◌, map, ℕ, ◌+◌, List, Some, None, Result, Ok, Err, Vec, Global, sym, ap, ◌∙◌, arith, refl, subst, slice_get, append-nil, append_assoc, length, length-append}
+use Rattle.std.proofs.Common.{◌≡◌, [], ◌∷◌, ◌++◌, map, ℕ, ◌+◌, List, Some, None, Ok, Err, Vec, Global, sym, ap, ◌∙◌, arith, refl, subst, slice_get, append-nil, append_assoc, length, length-append}
 use Rattle.std.proofs.lemmas.Grind.{common_steps}
 use Rattle.std.proofs.lemmas.Option.{slice_get_read}
 use Rattle.std.proofs.lemmas.Result.{err_from_is_err_and}
 use Rattle.batch_recipe.specs.Diagram.{diagram_of, cases_of}
 use Rattle.batch_recipe.specs.Conditions.{same_name}
 use Rattle.batch_recipe.specs.Expanding.{act_named}
-use Rattle.batch_recipe.specs.Growing.{Head, grown_work, plain, act_head, topped, grown, grown_cases, told_from, named_from, conditions_of_cases, conditions_along_cases, number_in, unit_number, branch_entries, chart_entries, chart_conditions, choice_entries, choice_conditions, act_entries, act_conditions, HasGrown, HasAdded, HasBegun}
+use Rattle.batch_recipe.specs.Growing.{Head, grown_work, plain, act_head, topped, grown, grown_cases, told_from, named_from, conditions_of_cases, conditions_along_cases, number_in, unit_number, branch_entries, chart_entries, chart_conditions, choice_entries, act_entries, HasGrown, HasAdded}
 use Rattle.batch_recipe.specs.Procedure.{table_at, tables_from}
 use Rattle.batch_recipe.specs.declared.chart.Chart.{Chart}
 use Rattle.batch_recipe.specs.declared.condition.Cond.{Cond}

@@ -11,7 +11,7 @@ use Rattle.batch_engine.specs.Steps.{IsFirstGrant, IsBatchStep}
 use Rattle.batch_engine.proofs.AtRest.{stopped-moves}
 use Rattle.batch_engine.proofs.BatchPlaces.{Has-batch_of}
 use Rattle.batch_engine.proofs.Told.{safe}
-use Rattle.batch_engine.proofs.Finding.{chart-here, got-batch, got-chart, has, in-charts, batch-runs, one-batch, runs-here}
+use Rattle.batch_engine.proofs.Finding.{chart-here, got-batch, got-chart, has, batch-runs, one-batch, runs-here}
 use Rattle.batch_engine.proofs.Upcoming.{own-least, grant-least, no-move}
 use Rattle.batch_engine.proofs.control.Control.batch_step.Goals as goal
 

@@ -10,7 +10,7 @@ use Rattle.batch_engine.specs.View.{EngineView, setup, plant_of, batch_of, tree_
 use Rattle.batch_model.specs.Moves.{least}
 use Rattle.batch_chart.specs.OwnMoves.{grants}
 use Rattle.batch_engine.specs.Kept.{IsKept}
-use Rattle.batch_engine.proofs.Finding.{chart-here, got-batch, got-chart, in-charts, batch-runs, first-serves, no-grants, first-grant, asks_here, served_here, first_here, goes-on, one-batch, one-none, passed, runs-here}
+use Rattle.batch_engine.proofs.Finding.{chart-here, got-batch, got-chart, batch-runs, first-serves, no-grants, first-grant, asks_here, served_here, first_here, goes-on, one-batch, one-none, passed, runs-here}
 use Rattle.batch_engine.proofs.Nodes.{within-or_past}
 use Rattle.batch_engine.proofs.control.Control.first_grant.Goals as goal
 

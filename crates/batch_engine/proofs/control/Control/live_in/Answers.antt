@@ -13,7 +13,7 @@ use Rattle.batch_engine.specs.declared.batch.Batch.{Batch}
 use Rattle.batch_engine.specs.View.{EngineView, batch_of, tree_of}
 use Rattle.batch_engine.specs.Kept.{IsKept}
 use Rattle.batch_engine.proofs.Answering.{at-same}
-use Rattle.batch_engine.proofs.Finding.{chart-here, got-batch, got-chart, in-charts, batch-runs, runs-here}
+use Rattle.batch_engine.proofs.Finding.{chart-here, got-batch, got-chart, batch-runs, runs-here}
 use Rattle.batch_engine.proofs.LivePhases.{found-on, passed-over, phase-within}
 use Rattle.batch_engine.proofs.control.Control.live_in.Goals as goal
 

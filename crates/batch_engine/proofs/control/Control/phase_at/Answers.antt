@@ -15,7 +15,7 @@ use Rattle.batch_engine.specs.declared.numbers.ActNumbers.{ActNumbers}
 use Rattle.batch_engine.specs.declared.numbers.RecipeNumbers.{RecipeNumbers}
 use Rattle.batch_engine.specs.declared.numbers.TaskNumber.TheVariants.{Role}
 use Rattle.batch_engine.proofs.Answering.{at-same}
-use Rattle.batch_engine.proofs.Finding.{chart-for, got-batch, got-chart, in-charts}
+use Rattle.batch_engine.proofs.Finding.{chart-for, got-batch, got-chart}
 use Rattle.batch_engine.proofs.NumbersFound.{got-numbers, numbers-here, in-numbers}
 use Rattle.batch_engine.proofs.Taken.{phase-named-here, phase-unit-here, role-phase, unit-within-here}
 use Rattle.batch_engine.proofs.control.Control.phase_at.Goals as goal

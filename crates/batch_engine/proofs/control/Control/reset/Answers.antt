@@ -10,7 +10,7 @@ use Rattle.batch_engine.specs.declared.batch.Batch.{Batch}
 use Rattle.batch_engine.specs.View.{EngineView, tree_of, recipe_made}
 use Rattle.batch_engine.specs.Kept.{IsKept}
 use Rattle.batch_engine.specs.Orders.{IsOrder}
-use Rattle.batch_engine.proofs.Finding.{chart-here, got-batch, got-chart, in-charts, batch-runs, runs-here}
+use Rattle.batch_engine.proofs.Finding.{chart-here, got-batch, got-chart, batch-runs, runs-here}
 use Rattle.batch_engine.proofs.Stepping.{changed}
 use Rattle.batch_engine.proofs.Ordering.{Ordered, reset-made}
 use Rattle.batch_engine.proofs.OrderAnswers.{order-at, order-batch, closed-kept', closed-ordered}

@@ -17,7 +17,7 @@ use Rattle.batch_engine.specs.Kept.{IsKept}
 use Rattle.batch_engine.proofs.ActsNowhere.{state-nowhere}
 use Rattle.batch_engine.proofs.AlikeNodes.{node-alike, nowhere-alike}
 use Rattle.batch_engine.proofs.Answering.{same-at}
-use Rattle.batch_engine.proofs.Finding.{chart-here, got-batch, got-chart, in-charts, batch-runs, runs-here, tree-placed}
+use Rattle.batch_engine.proofs.Finding.{chart-here, got-batch, got-chart, batch-runs, runs-here, tree-placed}
 use Rattle.batch_engine.proofs.Seeking.{Found, found-at, none-found}
 use Rattle.batch_engine.proofs.Telling.{recipe-here, tree-is}
 use Rattle.batch_engine.proofs.control.Control.state_of.Goals as goal

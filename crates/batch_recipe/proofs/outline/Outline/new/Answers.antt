@@ -1,7 +1,7 @@
 use Rattle.std.proofs.Common.{◌≡◌, ℕ, ◌+◌, ◌<◌, ◌++◌, List, length, Some, Err, Result, IsErrOf, ap, ◌∙◌, subst, arith}
 use Rattle.std.proofs.lemmas.Result.{err_from_is_err_and}
 use Rattle.batch_recipe.specs.Expanding.{unbound}
-use Rattle.batch_recipe.specs.Growing.{HasGrown, HasAdded, act_entries, act_conditions}
+use Rattle.batch_recipe.specs.Growing.{HasGrown, act_entries, act_conditions}
 use Rattle.batch_recipe.specs.declared.acts.LabelTable.TheVariants.{UnitProcedures}
 use Rattle.batch_recipe.specs.declared.condition.Cond.{Cond}
 use Rattle.batch_recipe.specs.declared.entry.Entry.{Entry}
