@@ -16,6 +16,9 @@ const MAX_DEPTH: usize = 192;
 /// How long the text of a place is that is kept.
 const MAX_PLACE_LEN: usize = 384;
 
+/// How long a line can be that is put together before it is written. Few are longer.
+pub(crate) const ROOM: usize = 384;
+
 /// The nodes from a recipe's root to the one whose place was told last, and the text of that place: it begins with the
 /// places of the nodes above.
 #[derive(Drop)]
@@ -24,7 +27,9 @@ pub struct KnownPlaces {
     /// How many nodes are kept.
     depth: usize,
     path: [Known; MAX_DEPTH],
-    text: [u8; MAX_PLACE_LEN],
+    pub(crate) text: [u8; MAX_PLACE_LEN],
+    /// Where lines are put together, so that no room has to be cleared for each.
+    pub(crate) line: [u8; ROOM],
 }
 
 /// A node, and where the text of its place ends.
@@ -44,15 +49,8 @@ impl KnownPlaces {
             depth: 0,
             path: [Known { node: 0, end: 0 }; MAX_DEPTH],
             text: [0; MAX_PLACE_LEN],
+            line: [0; ROOM],
         }
-    }
-
-    /// The text that ends there.
-    pub(crate) fn text(&self, end: usize) -> &[u8]
-        requires { end ≤ 384 }
-        ensures { result.now ≡ take end self.now.text }
-    {
-        &self.text[..end]
     }
 
     /// Makes the place of a node known, and tells where its text ends. None where there is no room for it.

@@ -27,9 +27,6 @@ use batch_verify::Cleared;
 use itoa::Buffer;
 use std::io::Write;
 
-/// How long a line can be that is put together before it is written. Few are longer.
-const ROOM: usize = 384;
-
 /// A node of a recipe, by the numbers of both.
 #[derive(Clone, Copy)]
 struct Site {
@@ -57,17 +54,28 @@ pub fn write_out_knowing<W: Write>(
     ensures written { Writes (W.contents writer.old) (W.contents writer.new) result (out_text (out_of cleared.now out.now)) }
 {
     let Some(Site { recipe, node }) = site_of(out) else {
-        return write_telling(out, cleared, &ToldPlace::Known(b""), writer);
-    };
-    let place = match places.find(cleared, recipe, node) {
-        Some(end) => ToldPlace::Known(places.text(end)),
-        None => ToldPlace::Long {
+        return write_telling(
+            out,
             cleared,
-            recipe,
-            node,
-        },
+            &ToldPlace::Known(b""),
+            &mut places.line,
+            writer,
+        );
     };
-    write_telling(out, cleared, &place, writer)
+    match places.find(cleared, recipe, node) {
+        Some(end) => {
+            let place = ToldPlace::Known(&places.text[..end]);
+            write_telling(out, cleared, &place, &mut places.line, writer)
+        }
+        None => {
+            let place = ToldPlace::Long {
+                cleared,
+                recipe,
+                node,
+            };
+            write_telling(out, cleared, &place, &mut places.line, writer)
+        }
+    }
 }
 
 /// The node whose place the out tells. None where it tells none.
@@ -92,14 +100,15 @@ fn write_telling<W: Write>(
     out: &Out,
     cleared: &Cleared,
     place: &ToldPlace<'_>,
+    room: &mut [u8],
     writer: &mut W,
 ) -> Result<(), WriteFault>
     requires { told_text place.now ≡ place_text (place_of_out (out_of cleared.now out.now)) }
     ensures { Writes (W.contents writer.old) (W.contents writer.new) result (out_text (out_of cleared.now out.now)) }
 {
     match *out {
-        Out::Reply(reply) => write_reply(reply, cleared, place, writer),
-        Out::Move(line) => write_move(line, cleared, place, writer),
+        Out::Reply(reply) => write_reply(reply, cleared, place, room, writer),
+        Out::Move(line) => write_move(line, cleared, place, room, writer),
     }
 }
 
@@ -107,6 +116,7 @@ fn write_reply<W: Write>(
     reply: Reply,
     cleared: &Cleared,
     place: &ToldPlace<'_>,
+    room: &mut [u8],
     writer: &mut W,
 ) -> Result<(), WriteFault>
     requires { told_text place.now ≡ place_text (place_of_reply (reply_of cleared.now reply)) }
@@ -136,7 +146,7 @@ fn write_reply<W: Write>(
             let phase = phase_name(cleared, unit, phase);
             let unit = resource_name(cleared, unit);
             let word = report_text(word);
-            write_reported(unit, phase, word, batch, place, state, writer)
+            write_reported(unit, phase, word, batch, place, room, state, writer)
         }
         Reply::Refused(refusal) => write_refusal(refusal, cleared, writer),
     }
@@ -266,6 +276,7 @@ fn write_reported<'a, W: Write>(
     word: &'a [u8],
     batch: u64,
     place: &ToldPlace<'_>,
+    room: &mut [u8],
     state: State,
     writer: &mut W,
 ) -> Result<(), WriteFault>
@@ -286,6 +297,7 @@ fn write_reported<'a, W: Write>(
             b" ",
         ],
         place,
+        room,
         &[b" ", state_text(state), b"\n"],
         writer,
     )
@@ -329,6 +341,7 @@ fn write_move<W: Write>(
     line: Line,
     cleared: &Cleared,
     place: &ToldPlace<'_>,
+    room: &mut [u8],
     writer: &mut W,
 ) -> Result<(), WriteFault>
     requires { told_text place.now ≡ place_text (place_of_move (move_of cleared.now line)) }
@@ -341,13 +354,13 @@ fn write_move<W: Write>(
             phase,
             command,
             ..
-        } => write_send(batch, place, cleared, unit, phase, command, writer),
+        } => write_send(batch, place, room, cleared, unit, phase, command, writer),
         Line::State { batch, state } => write_state(batch, state, writer),
         Line::Begin {
             batch,
             recipe,
             node,
-        } => write_begin(batch, place, cleared, recipe, node, writer),
+        } => write_begin(batch, place, room, cleared, recipe, node, writer),
         Line::Start {
             batch,
             recipe,
@@ -359,11 +372,11 @@ fn write_move<W: Write>(
             let unit_name = resource_name(cleared, unit);
             let phase_name = phase_name(cleared, unit, phase);
             write_start(
-                batch, place, unit_name, phase_name, cleared, recipe, node, values, writer,
+                batch, place, room, unit_name, phase_name, cleared, recipe, node, values, writer,
             )
         }
-        Line::End { batch, .. } => write_end(batch, place, writer),
-        _ => write_claim(line, cleared, place, writer),
+        Line::End { batch, .. } => write_end(batch, place, room, writer),
+        _ => write_claim(line, cleared, place, room, writer),
     }
 }
 
@@ -372,6 +385,7 @@ fn write_claim<W: Write>(
     line: Line,
     cleared: &Cleared,
     place: &ToldPlace<'_>,
+    room: &mut [u8],
     writer: &mut W,
 ) -> Result<(), WriteFault>
     requires claim { TellsOfClaim line }
@@ -386,7 +400,7 @@ fn write_claim<W: Write>(
             ..
         } => {
             let name = resource_name(cleared, resource);
-            write_need(b"release", batch, place, name, units, writer)
+            write_need(b"release", batch, place, room, name, units, writer)
         }
         Line::Ask {
             batch,
@@ -395,7 +409,7 @@ fn write_claim<W: Write>(
             ..
         } => {
             let name = resource_name(cleared, resource);
-            write_need(b"ask", batch, place, name, units, writer)
+            write_need(b"ask", batch, place, room, name, units, writer)
         }
         Line::Grant {
             batch,
@@ -404,7 +418,7 @@ fn write_claim<W: Write>(
             ..
         } => {
             let name = resource_name(cleared, resource);
-            write_need(b"grant", batch, place, name, units, writer)
+            write_need(b"grant", batch, place, room, name, units, writer)
         }
         _ => unreachable!(),
     }
@@ -413,6 +427,7 @@ fn write_claim<W: Write>(
 fn write_begin<W: Write>(
     batch: u64,
     place: &ToldPlace<'_>,
+    room: &mut [u8],
     cleared: &Cleared,
     recipe: u16,
     node: u16,
@@ -422,12 +437,13 @@ fn write_begin<W: Write>(
         (line_text (codes "begin" ∷ decimal batch ∷ told_text place.now ∷ name_at cleared.now recipe node ∷ [])) }
 {
     let name = act_name(cleared, recipe, node);
-    write_step(b"begin", batch, place, name, writer)
+    write_step(b"begin", batch, place, room, name, writer)
 }
 
 fn write_send<W: Write>(
     batch: u64,
     place: &ToldPlace<'_>,
+    room: &mut [u8],
     cleared: &Cleared,
     unit: u16,
     phase: u16,
@@ -439,7 +455,7 @@ fn write_send<W: Write>(
 {
     let phase_name = phase_name(cleared, unit, phase);
     let unit_name = resource_name(cleared, unit);
-    write_phase_front(b"send", batch, place, unit_name, phase_name, writer)?;
+    write_phase_front(b"send", batch, place, room, unit_name, phase_name, writer)?;
     write_pieces(writer, &[b" ", command_text(command), b"\n"])
 }
 
@@ -460,7 +476,12 @@ fn write_state<W: Write>(batch: u64, state: State, writer: &mut W) -> Result<(),
     )
 }
 
-fn write_end<W: Write>(batch: u64, place: &ToldPlace<'_>, writer: &mut W) -> Result<(), WriteFault>
+fn write_end<W: Write>(
+    batch: u64,
+    place: &ToldPlace<'_>,
+    room: &mut [u8],
+    writer: &mut W,
+) -> Result<(), WriteFault>
     ensures { Writes (W.contents writer.old) (W.contents writer.new) result
         (line_text (codes "end" ∷ decimal batch ∷ told_text place.now ∷ [])) }
 {
@@ -468,6 +489,7 @@ fn write_end<W: Write>(batch: u64, place: &ToldPlace<'_>, writer: &mut W) -> Res
     write_placed(
         &[b"end ", digits.format(batch).as_bytes(), b" "],
         place,
+        room,
         &[b"\n"],
         writer,
     )
@@ -478,6 +500,7 @@ fn write_step<W: Write>(
     word: &'static [u8],
     batch: u64,
     place: &ToldPlace<'_>,
+    room: &mut [u8],
     name: &[u8],
     writer: &mut W,
 ) -> Result<(), WriteFault>
@@ -488,6 +511,7 @@ fn write_step<W: Write>(
     write_placed(
         &[word, b" ", digits.format(batch).as_bytes(), b" "],
         place,
+        room,
         &[b" ", name, b"\n"],
         writer,
     )
@@ -499,6 +523,7 @@ fn write_need<W: Write>(
     word: &'static [u8],
     batch: u64,
     place: &ToldPlace<'_>,
+    room: &mut [u8],
     resource: &[u8],
     units: u32,
     writer: &mut W,
@@ -507,13 +532,14 @@ fn write_need<W: Write>(
         (line_text (word.now ∷ decimal batch ∷ told_text place.now ∷ need_text (record { resource = resource.now; units = units }) ∷ [])) }
 {
     if units <= 1 {
-        return write_step(word, batch, place, resource, writer);
+        return write_step(word, batch, place, room, resource, writer);
     }
     let mut batch_digits = Buffer::new();
     let mut unit_digits = Buffer::new();
     write_placed(
         &[word, b" ", batch_digits.format(batch).as_bytes(), b" "],
         place,
+        room,
         &[
             b" ",
             resource,
@@ -528,6 +554,7 @@ fn write_need<W: Write>(
 fn write_start<W: Write>(
     batch: u64,
     place: &ToldPlace<'_>,
+    room: &mut [u8],
     unit: &[u8],
     phase: &[u8],
     cleared: &Cleared,
@@ -539,7 +566,7 @@ fn write_start<W: Write>(
     ensures { Writes (W.contents writer.old) (W.contents writer.new) result
         (line_text (codes "start" ∷ decimal batch ∷ told_text place.now ∷ unit.now ∷ phase.now ∷ value_texts (zip (handed_at cleared.now recipe node) values))) }
 {
-    write_phase_front(b"start", batch, place, unit, phase, writer)?;
+    write_phase_front(b"start", batch, place, room, unit, phase, writer)?;
     write_handed(cleared, recipe, node, values, writer)?;
     write_all(writer, b"\n")
 }
@@ -549,6 +576,7 @@ fn write_phase_front<W: Write>(
     word: &'static [u8],
     batch: u64,
     place: &ToldPlace<'_>,
+    room: &mut [u8],
     unit: &[u8],
     phase: &[u8],
     writer: &mut W,
@@ -560,6 +588,7 @@ fn write_phase_front<W: Write>(
     write_placed(
         &[word, b" ", digits.format(batch).as_bytes(), b" "],
         place,
+        room,
         &[b" ", unit, b" ", phase],
         writer,
     )
@@ -569,15 +598,15 @@ fn write_phase_front<W: Write>(
 fn write_placed<W: Write>(
     head: &[&[u8]],
     place: &ToldPlace<'_>,
+    room: &mut [u8],
     tail: &[&[u8]],
     writer: &mut W,
 ) -> Result<(), WriteFault>
     ensures { Writes (W.contents writer.old) (W.contents writer.new) result (before head.now (told_text place.now ++ before tail.now [])) }
 {
     if let ToldPlace::Known(known) = *place {
-        let mut text = [0; ROOM];
-        if let Some(start) = put_placed(head, known, tail, &mut text) {
-            return write_all(writer, &text[start..]);
+        if let Some(start) = put_placed(head, known, tail, room) {
+            return write_all(writer, &room[start..]);
         }
     }
     write_apart(head, place, tail, writer)
