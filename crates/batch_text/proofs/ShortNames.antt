@@ -1,9 +1,12 @@
 -- Two short names are the same where their lengths are and all of their room is, zeroes included.
-use Rattle.std.proofs.Common.{◌≡◌, ◌≤◌, ◌-◌, ◌∙◌, ℕ, Bool, zero, suc, true, false, nat_eq, List, [], ◌∷◌, length, refl, sym, ap, subst}
-use Rattle.std.proofs.lemmas.Bool.{and_right, eqb-true, eqb-false}
-use Rattle.std.proofs.lemmas.List.{length-take-le}
-use Rattle.std.specs.Cmp.Lexicographic.{pointwise, nat_list_eq_equiv}
-use Rattle.std.specs.Prelude.{◌≢◌, ◌&&◌, take, drop, replicate}
+use Rattle.std.proofs.Common.{◌≡◌, ◌≤◌, ◌<◌, ◌++◌, arith, ◌-◌, ◌∙◌, ℕ, Bool, zero, suc, true, false, nat_eq, List, [], ◌∷◌, length, refl, sym, ap, subst}
+use Rattle.std.proofs.lemmas.Bool.{and_parts, and_from, and_right, eqb-true, eqb-false, eq-eqb}
+use Rattle.std.proofs.lemmas.List.{length-take-le, take-append-drop, take-take}
+use Rattle.std.proofs.lemmas.Nat.{le_bytes_8}
+use Rattle.std.specs.Cmp.Lexicographic.{pointwise, nat_list_eq_equiv, bytes_decides}
+use Rattle.std.specs.Bool.{Decides, one_answer}
+use Rattle.std.specs.Int.{from_le_bytes, to_le_bytes, w64}
+use Rattle.std.specs.Prelude.{◌≢◌, ◌&&◌, take, drop, replicate, get_or}
 use Rattle.batch_text.specs.Spelling.{letters, IsWithinRoom}
 use Rattle.batch_text.specs.declared.spelling.Spelling.{Spelling}
 use Rattle.batch_text.specs.declared.spelling.Spelling.TheVariants.{Short}
@@ -42,3 +45,27 @@ same_with_room a b m n xs ys r at_a at_b (of_a, of_b) e =
     ∙ by_length m n xs ys (subst IsWithinRoom at_a of_a) (subst IsWithinRoom at_b of_b) (nat_eq m n) refl
     ∙ ap (λ it. pointwise nat_eq (letters it) (take n ys)) (sym at_a)
     ∙ ap (λ it. pointwise nat_eq (letters a) (letters it)) (sym at_b)
+
+-- what a number of eight bytes says of them
+pub same_word : (xs ys : List ℕ) (m n : ℕ) → length xs ≡ 8 → length ys ≡ 8 → ((i : ℕ) → get_or xs i 0 < 256) → ((i : ℕ) → get_or ys i 0 < 256)
+    → m ≡ from_le_bytes w64 xs → n ≡ from_le_bytes w64 ys → nat_eq m n ≡ pointwise nat_eq xs ys
+same_word xs ys m n xs_len ys_len xs_in ys_in p q =
+    let both : Decides (nat_eq m n) (xs ≡ ys) = (
+      λ e. sym (le_bytes_8 xs m xs_len xs_in p) ∙ ap (to_le_bytes w64) (eqb-true m n e) ∙ le_bytes_8 ys n ys_len ys_in q,
+      λ e. eq-eqb m n (p ∙ ap (from_le_bytes w64) e ∙ sym q),
+    ) in
+    one_answer (nat_eq m n) (pointwise nat_eq xs ys) both (bytes_decides xs ys)
+
+same_parts : (xs ys : List ℕ) → take 8 xs ≡ take 8 ys → drop 6 xs ≡ drop 6 ys → xs ≡ ys
+same_parts xs ys p q =
+    let firsts : take 6 xs ≡ take 6 ys = sym (take-take 6 8 xs (omega arith)) ∙ ap (take 6) p ∙ take-take 6 8 ys (omega arith) in
+    sym (take-append-drop 6 xs) ∙ ap (λ it. it ++ drop 6 xs) firsts ∙ ap (λ it. take 6 ys ++ it) q ∙ take-append-drop 6 ys
+
+pub same_by_words : (xs ys first last other_first other_last : List ℕ) (r s : Bool) → first ≡ take 8 xs → last ≡ drop 6 xs → other_first ≡ take 8 ys → other_last ≡ drop 6 ys
+    → r ≡ pointwise nat_eq first other_first → s ≡ pointwise nat_eq last other_last → (r && s) ≡ pointwise nat_eq xs ys
+same_by_words xs ys first last other_first other_last r s a b c d p q =
+    let there : (r && s) ≡ true → xs ≡ ys = λ e. let (one, two) = and_parts r s e in
+    same_parts xs ys (sym a ∙ (bytes_decides first other_first).0 (sym p ∙ one) ∙ c) (sym b ∙ (bytes_decides last other_last).0 (sym q ∙ two) ∙ d) in
+    let back : xs ≡ ys → (r && s) ≡ true = λ e.
+    and_from r s (p ∙ (bytes_decides first other_first).1 (a ∙ ap (take 8) e ∙ sym c)) (q ∙ (bytes_decides last other_last).1 (b ∙ ap (drop 6) e ∙ sym d)) in
+    one_answer (r && s) (pointwise nat_eq xs ys) (there, back) (bytes_decides xs ys)

@@ -55,6 +55,7 @@ impl Spelling {
             Spelling::Long { len, bytes } => &bytes[..*len as usize],
         }
     }
+
     /// Whether the bytes are the same. Of two short names all of their room is compared, since its length is a constant.
     #[inline(always)]
     #[tactic(auto, using(crate::proofs::ShortNames::same_with_room))]
@@ -69,8 +70,35 @@ impl Spelling {
                     len: other_len,
                     bytes: other_bytes,
                 },
-            ) => (len == other_len) & (bytes == other_bytes),
+            ) => (len == other_len) & is_same_room(bytes, other_bytes),
             _ => self.bytes() == other.bytes(),
         }
     }
+}
+
+/// Whether the bytes are the same. They are compared as two numbers, which share two bytes: the array's own `==` takes many more steps.
+#[inline(always)]
+#[tactic(auto, using(crate::proofs::ShortNames::same_by_words))]
+fn is_same_room(room: &[u8; MAX_SHORT_LEN], other: &[u8; MAX_SHORT_LEN]) -> bool
+    ensures { result ≡ pointwise nat_eq room.now other.now }
+{
+    match (
+        room.first_chunk(),
+        room.last_chunk(),
+        other.first_chunk(),
+        other.last_chunk(),
+    ) {
+        (Some(first), Some(last), Some(other_first), Some(other_last)) => {
+            is_same_word(*first, *other_first) & is_same_word(*last, *other_last)
+        }
+        // Never: the room is longer than a word.
+        _ => room == other,
+    }
+}
+
+#[inline(always)]
+fn is_same_word(word: [u8; 8], other: [u8; 8]) -> bool
+    ensures { result ≡ pointwise nat_eq word other }
+{
+    u64::from_le_bytes(word) == u64::from_le_bytes(other)
 }
