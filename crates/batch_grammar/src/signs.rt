@@ -160,7 +160,7 @@ fn take_other_sign(
     Ok(())
 }
 
-/// A parenthesis, a comma or a colon.
+/// A parenthesis, a comma or a colon. Most stand after a chart, of which nothing but the chart is moved.
 pub fn take_sign(
     alloc: Global,
     want: &mut Want,

@@ -94,7 +94,9 @@ pub fn step(alloc: Global, text: &[u8], state: &mut State, place: usize) -> Resu
     if state.lexeme.continues(text[place]) {
         return go_on(text, state, place);
     }
-    end_token(alloc, text, state, place)?;
+    if !matches!(state.lexeme, Lexeme::Nothing) {
+        end_token(alloc, text, state, place)?;
+    }
     begin(alloc, text, state, place)
 }
 

@@ -123,7 +123,7 @@ fn end_condition(alloc: Global, want: &mut Want, word: &[u8]) -> Result<(), Stop
     Ok(())
 }
 
-/// A word, inside `depth` forms. A chart's is told first, and moves nothing.
+/// A word, inside `depth` forms. Most begin a chart, and move nothing out of what is wanted.
 pub fn take_word(alloc: Global, want: &mut Want, word: &[u8], depth: usize) -> Result<(), Stop>
     requires { IsName word.now }
     ensures { Gives (λ _. want_view want.new) result (take_word (want_view want.old) word.now depth) }
