@@ -11,6 +11,7 @@ pub mod NameSets
 pub mod RunningApart
 pub mod NodePhases
 pub mod TreesApart
+pub mod Marking
 pub mod Entering
 pub mod Sizes
 pub mod Levels
