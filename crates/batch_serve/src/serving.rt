@@ -1,10 +1,13 @@
 //! Serving a reader and a writer.
-ghost use Rattle.std.specs.Prelude.{◌≡◌, ◌≤◌, ℕ, take, length, OnOk, IfSome, IsErrOf};
+ghost use Rattle.std.specs.Prelude.{◌≡◌, ◌≤◌, ◌++◌, [], ℕ, take, length, MatchOption, OnOk, IfSome, IsErrOf};
 ghost use Rattle.std.specs.Io.KnownBytes.{Keeps, IsAtEnd};
 ghost use Rattle.batch_engine.specs.View.{setup, plant_of};
 ghost use Rattle.batch_serve.specs.Safe.{TranscriptsAreSafe};
-ghost use Rattle.batch_serve.specs.Serving.{Feeds, Finishes};
+ghost use Rattle.batch_serve.specs.Answering.{WritesAnswer};
+ghost use Rattle.batch_serve.specs.Serving.{EndsLine, Feeds, Finishes, HasNoFeed};
 ghost use Rattle.batch_serve.specs.Settled.{IsSettledEngine};
+ghost use Rattle.batch_serve.specs.declared.line_buffer.TheConstants.{KEPT};
+ghost use Rattle.batch_wire.specs.EventLine.{event_of_line};
 ghost use Rattle.batch_wire.specs.Known.{AreKnown};
 ghost use Rattle.batch_wire.specs.Transcript.{lines_of};
 ghost use Rattle.batch_wire.specs.WrittenTranscript.{BeginsTranscript, WritesTranscript, WritesWholeLines};
@@ -92,15 +95,51 @@ fn feed<W: Write>(
     ensures feeds { Feeds (setup engine.old.cleared) (record { plant = plant_of engine.old; line = line.old; written = W.contents writer.old })
         piece.now result (record { plant = plant_of engine.new; line = line.new; written = W.contents writer.new }) }
 {
-    for byte in piece {
+    let mut rest = piece;
+    while let Some(at) = line_feed(rest) {
+        answer_ended(alloc, engine, line, &rest[..at], places, writer)?;
+        rest = &rest[at + 1..];
+    }
+    line.extend(rest);
+    flush(writer)
+}
+
+/// Answers the line that ends with these bytes, and begins the next one.
+fn answer_ended<W: Write>(
+    alloc: Global,
+    engine: &mut Engine,
+    line: &mut LineBuffer,
+    end: &[u8],
+    places: &mut KnownPlaces,
+    writer: &mut W,
+) -> Result<(), WriteFault>
+    requires { AreKnown engine.old.cleared places.old }
+    ensures known { AreKnown engine.new.cleared places.new }
+    ensures cleared { engine.new.cleared ≡ engine.old.cleared }
+    ensures begun { OnOk result (line.new ≡ []) }
+    ensures answers { WritesAnswer (setup engine.old.cleared) (plant_of engine.old) (event_of_line (take KEPT (line.old ++ end.now)))
+        result (plant_of engine.new) (W.contents writer.old) (W.contents writer.new) }
+{
+    if line.as_slice().is_empty() {
+        // Most lines stand in one piece, and are read where they stand.
+        return answer_line(alloc, engine, end, places, writer);
+    }
+    line.extend(end);
+    answer_line(alloc, engine, line.as_slice(), places, writer)?;
+    line.clear();
+    Ok(())
+}
+
+/// Where the first line feed stands.
+fn line_feed(bytes: &[u8]) -> Option<usize>
+    ensures { MatchOption result (HasNoFeed bytes.now) (λ at. EndsLine at bytes.now) }
+{
+    for (i, byte) in bytes.iter().enumerate() {
         if *byte == b'\n' {
-            answer_line(alloc, engine, line.as_slice(), places, writer)?;
-            line.clear();
-        } else {
-            line.push(*byte);
+            return Some(i);
         }
     }
-    flush(writer)
+    None
 }
 
 /// Answers the last line, which no line feed ends.
