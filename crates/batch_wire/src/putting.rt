@@ -2,6 +2,7 @@
 ghost use Rattle.std.specs.Prelude.{◌≡◌, ◌≤◌, ◌++◌, IfSome, drop, flat_map, length};
 
 /// Puts the pieces in front of what begins at `end`, and tells where they begin. None where there is no room for them.
+#[inline(always)]
 pub fn put_pieces(text: &mut [u8], end: usize, pieces: &[&[u8]]) -> Option<usize>
     requires { end ≤ length text.old }
     ensures { IfSome result (λ start. (start ≤ end) × (drop start text.new ≡ flat_map (λ piece. piece.now) pieces.now ++ drop end text.old)) }
@@ -16,6 +17,7 @@ pub fn put_pieces(text: &mut [u8], end: usize, pieces: &[&[u8]]) -> Option<usize
 }
 
 /// Puts a piece in front of what begins at `end`, and tells where it begins. None where there is no room for it.
+#[inline(always)]
 pub fn put_piece(text: &mut [u8], end: usize, piece: &[u8]) -> Option<usize>
     requires { end ≤ length text.old }
     ensures { IfSome result (λ start. (start ≤ end) × (drop start text.new ≡ piece.now ++ drop end text.old)) }

@@ -96,6 +96,7 @@ fn site_of(out: &Out) -> Option<Site>
 }
 
 /// Writes the line of an out that tells this place.
+#[inline(always)]
 fn write_telling<W: Write>(
     out: &Out,
     cleared: &Cleared,
@@ -337,6 +338,7 @@ fn write_refusal<W: Write>(
     }
 }
 
+#[inline(always)]
 fn write_move<W: Write>(
     line: Line,
     cleared: &Cleared,
@@ -381,6 +383,7 @@ fn write_move<W: Write>(
 }
 
 /// Writes a line that tells of a claim on a resource: it is asked for, granted or given back.
+#[inline(always)]
 fn write_claim<W: Write>(
     line: Line,
     cleared: &Cleared,
@@ -424,6 +427,7 @@ fn write_claim<W: Write>(
     }
 }
 
+#[inline(always)]
 fn write_begin<W: Write>(
     batch: u64,
     place: &ToldPlace<'_>,
@@ -476,6 +480,7 @@ fn write_state<W: Write>(batch: u64, state: State, writer: &mut W) -> Result<(),
     )
 }
 
+#[inline(always)]
 fn write_end<W: Write>(
     batch: u64,
     place: &ToldPlace<'_>,
@@ -496,6 +501,7 @@ fn write_end<W: Write>(
 }
 
 /// Writes what a move tells of a step: the word, the batch, the step's place and a name.
+#[inline(always)]
 fn write_step<W: Write>(
     word: &'static [u8],
     batch: u64,
@@ -519,6 +525,7 @@ fn write_step<W: Write>(
 
 /// Writes what a move tells of a need: the word, the batch, the act's place, the resource, and how many units of it where it is
 /// more than one.
+#[inline(always)]
 fn write_need<W: Write>(
     word: &'static [u8],
     batch: u64,
@@ -572,6 +579,7 @@ fn write_start<W: Write>(
 }
 
 /// Writes what a line of a phase step begins with: the word, the batch, the step's place, the unit and its phase.
+#[inline(always)]
 fn write_phase_front<W: Write>(
     word: &'static [u8],
     batch: u64,
@@ -595,6 +603,7 @@ fn write_phase_front<W: Write>(
 }
 
 /// Writes pieces, a place, and pieces behind it.
+#[inline(always)]
 fn write_placed<W: Write>(
     head: &[&[u8]],
     place: &ToldPlace<'_>,
@@ -614,6 +623,7 @@ fn write_placed<W: Write>(
 
 /// Puts pieces, the text of a place, and pieces behind it to the end of a text, and tells where they begin. None where there is
 /// no room for them.
+#[inline(always)]
 fn put_placed(head: &[&[u8]], place: &[u8], tail: &[&[u8]], text: &mut [u8]) -> Option<usize>
     ensures { IfSome result (λ start. (start ≤ length text.new) × (drop start text.new ≡ before head.now (place.now ++ before tail.now []))) }
 {
