@@ -1,5 +1,5 @@
 -- Phase steps whose phases were gathered once, and the acts that run none.
-use Rattle.std.proofs.Common.{◌≡◌, ◌≢◌, ℕ, ◌<◌, Bool, true, false, not, ◌&&◌, ◌||◌, List, [], length, get_or, set, Option, Some, None, slice_get, sym, ap, ◌∙◌, refl, subst, ◌⊎◌, inl, inr, zero, suc, ◌∷◌}
+use Rattle.std.proofs.Common.{◌≡◌, ℕ, Bool, true, false, not, ◌&&◌, ◌||◌, List, [], get_or, set, slice_get, sym, ◌∙◌, refl, subst, ◌⊎◌, inl, inr, zero, suc, ◌∷◌}
 use Rattle.std.specs.List.{list_all}
 use Rattle.std.proofs.lemmas.List.{get_or-set_other, length-set}
 use Rattle.std.proofs.lemmas.Bool.{cases_eq, and_parts}
