@@ -16,6 +16,18 @@ use crate::recipe::MAX_NODES;
 use batch_text::Name;
 use std::alloc::Global;
 
+/// Where the nodes of an act or a chart come to stand.
+#[derive(Clone, Copy)]
+pub struct Seat {
+    /// The table from which on labels are looked up.
+    pub level: Option<LabelTable>,
+    /// The unit procedure above them, by its number in its table.
+    pub unit: usize,
+    /// The node of which they are the child with the number `child`.
+    pub parent: u16,
+    pub child: u16,
+}
+
 /// The number of the first act of the table with this name.
 fn number_of(table: &[Act], name: &Name) -> Option<usize>
     ensures { result ≡ position (λ a. same_name a.name name.now) table.now }
@@ -81,7 +93,7 @@ fn finish(nodes: &mut Vec<Entry>, node: u16)
     nodes[usize::from(node)].end = end;
 }
 
-/// Adds the nodes of an act, which stands under this unit procedure.
+/// Adds the nodes of an act, which stands under the unit procedure of the seat.
 #[cycle(grow)]
 pub fn grow_act(
     alloc: Global,
@@ -90,20 +102,29 @@ pub fn grow_act(
     acts: &Acts,
     act: &Act,
     kind: Kind,
-    level: Option<LabelTable>,
-    unit: usize,
-    parent: u16,
-    child: u16,
+    seat: Seat,
 ) -> Result<(), OutlineFault>
     requires { length nodes.old.items ≤ MAX_NODES }
-    ensures grown { HasGrown nodes.old.items (act_entries acts.now level kind unit (length nodes.old.items) (length conditions.old.items) parent child act.now) nodes.new.items result }
-    ensures added { HasAdded conditions.old.items (act_conditions acts.now level act.now) conditions.new.items result }
+    ensures grown { HasGrown nodes.old.items (act_entries acts.now seat.level kind seat.unit (length nodes.old.items) (length conditions.old.items) seat.parent seat.child act.now) nodes.new.items result }
+    ensures added { HasAdded conditions.old.items (act_conditions acts.now seat.level act.now) conditions.new.items result }
 {
-    let node = begin(nodes, kind, needs_count(act), unit, parent, child)?;
+    let node = begin(
+        nodes,
+        kind,
+        needs_count(act),
+        seat.unit,
+        seat.parent,
+        seat.child,
+    )?;
     match &act.work {
         Work::Runs { .. } => Ok(()),
         Work::Follows(chart) => {
-            grow(alloc, nodes, conditions, acts, chart, level, unit, node, 0)?;
+            let below = Seat {
+                parent: node,
+                child: 0,
+                ..seat
+            };
+            grow(alloc, nodes, conditions, acts, chart, below)?;
             finish(nodes, node);
             Ok(())
         }
@@ -119,7 +140,7 @@ fn grow_bare(nodes: &mut Vec<Entry>, parent: u16, child: u16) -> Result<(), Outl
     Ok(())
 }
 
-/// Adds the nodes of a chart, whose labels are looked up from the level on.
+/// Adds the nodes of a chart.
 #[cycle(grow)]
 fn grow(
     alloc: Global,
@@ -127,88 +148,70 @@ fn grow(
     conditions: &mut Vec<Cond>,
     acts: &Acts,
     chart: &Chart,
-    level: Option<LabelTable>,
-    unit: usize,
-    parent: u16,
-    child: u16,
+    seat: Seat,
 ) -> Result<(), OutlineFault>
     requires { length nodes.old.items ≤ MAX_NODES }
-    ensures grown { HasGrown nodes.old.items (chart_entries acts.now level unit (length nodes.old.items) (length conditions.old.items) parent child (diagram_of chart.now)) nodes.new.items result }
-    ensures added { HasAdded conditions.old.items (chart_conditions acts.now level (diagram_of chart.now)) conditions.new.items result }
+    ensures grown { HasGrown nodes.old.items (chart_entries acts.now seat.level seat.unit (length nodes.old.items) (length conditions.old.items) seat.parent seat.child (diagram_of chart.now)) nodes.new.items result }
+    ensures added { HasAdded conditions.old.items (chart_conditions acts.now seat.level (diagram_of chart.now)) conditions.new.items result }
 {
     match chart {
-        Chart::Label(name) => match level {
-            None => grow_bare(nodes, parent, child),
+        Chart::Label(name) => match seat.level {
+            None => grow_bare(nodes, seat.parent, seat.child),
             Some(table) => match number_of(acts.table(table), name) {
-                None => grow_bare(nodes, parent, child),
+                None => grow_bare(nodes, seat.parent, seat.child),
                 Some(number) => match acts.table(table).get(number) {
-                    None => grow_bare(nodes, parent, child),
-                    Some(act) => grow_act(
-                        alloc,
-                        nodes,
-                        conditions,
-                        acts,
-                        act,
-                        Kind::Act(table, number),
-                        table.below(),
-                        unit_number(table, number, unit),
-                        parent,
-                        child,
-                    ),
+                    None => grow_bare(nodes, seat.parent, seat.child),
+                    Some(act) => {
+                        let kind = Kind::Act(table, number);
+                        let level = table.below();
+                        let unit = unit_number(table, number, seat.unit);
+                        let own = Seat {
+                            level,
+                            unit,
+                            ..seat
+                        };
+                        grow_act(alloc, nodes, conditions, acts, act, kind, own)
+                    }
                 },
             },
         },
-        Chart::Skip => grow_bare(nodes, parent, child),
-        Chart::Seq(parts) => grow_parts(
-            alloc,
-            nodes,
-            conditions,
-            acts,
-            Kind::Seq,
-            parts,
-            level,
-            unit,
-            parent,
-            child,
-        ),
-        Chart::Par(parts) => grow_parts(
-            alloc,
-            nodes,
-            conditions,
-            acts,
-            Kind::Par,
-            parts,
-            level,
-            unit,
-            parent,
-            child,
-        ),
+        Chart::Skip => grow_bare(nodes, seat.parent, seat.child),
+        Chart::Seq(parts) => grow_parts(alloc, nodes, conditions, acts, Kind::Seq, parts, seat),
+        Chart::Par(parts) => grow_parts(alloc, nodes, conditions, acts, Kind::Par, parts, seat),
         Chart::Sel(choices, last) => {
-            let node = begin(nodes, Kind::Sel, 0, conditions.len(), parent, child)?;
+            let first = conditions.len();
+            let node = begin(nodes, Kind::Sel, 0, first, seat.parent, seat.child)?;
             let Ok(()) = push_conditions(alloc, conditions, choices) else {
                 return Err(OutlineFault::Memory);
             };
-            grow_choices(
-                alloc, nodes, conditions, acts, choices, last, level, unit, node,
-            )?;
+            let below = Seat {
+                parent: node,
+                child: 0,
+                ..seat
+            };
+            grow_choices(alloc, nodes, conditions, acts, choices, last, below)?;
             finish(nodes, node);
             Ok(())
         }
         Chart::Loop(turns, turn) => {
+            let number = conditions.len();
             let node = begin(
                 nodes,
                 Kind::Loop(*turns),
                 0,
-                conditions.len(),
-                parent,
-                child,
+                number,
+                seat.parent,
+                seat.child,
             )?;
             let Ok(()) = push_condition(alloc, conditions, &turn.0) else {
                 return Err(OutlineFault::Memory);
             };
-            grow(
-                alloc, nodes, conditions, acts, &turn.1, level, unit, node, 0,
-            )?;
+            let below = Seat {
+                parent: node,
+                child: 0,
+                ..seat
+            };
+            grow(alloc, nodes, conditions, acts, &turn.1, below)?;
             finish(nodes, node);
             Ok(())
         }
@@ -224,22 +227,24 @@ fn grow_parts(
     acts: &Acts,
     kind: Kind,
     parts: &[Chart],
-    level: Option<LabelTable>,
-    unit: usize,
-    parent: u16,
-    child: u16,
+    seat: Seat,
 ) -> Result<(), OutlineFault>
     requires { length nodes.old.items ≤ MAX_NODES }
-    ensures grown { HasGrown nodes.old.items (parts_entries acts.now level kind unit (length nodes.old.items) (length conditions.old.items) parent child (map diagram_of parts.now)) nodes.new.items result }
-    ensures added { HasAdded conditions.old.items (branch_conditions acts.now level (map diagram_of parts.now)) conditions.new.items result }
+    ensures grown { HasGrown nodes.old.items (parts_entries acts.now seat.level kind seat.unit (length nodes.old.items) (length conditions.old.items) seat.parent seat.child (map diagram_of parts.now)) nodes.new.items result }
+    ensures added { HasAdded conditions.old.items (branch_conditions acts.now seat.level (map diagram_of parts.now)) conditions.new.items result }
 {
-    let node = begin(nodes, kind, 0, 0, parent, child)?;
-    grow_each(alloc, nodes, conditions, acts, parts, level, unit, node)?;
+    let node = begin(nodes, kind, 0, 0, seat.parent, seat.child)?;
+    let below = Seat {
+        parent: node,
+        child: 0,
+        ..seat
+    };
+    grow_each(alloc, nodes, conditions, acts, parts, below)?;
     finish(nodes, node);
     Ok(())
 }
 
-/// Adds the nodes of branches.
+/// Adds the nodes of branches, the first of which is child 0.
 #[cycle(grow)]
 fn grow_each(
     alloc: Global,
@@ -247,25 +252,21 @@ fn grow_each(
     conditions: &mut Vec<Cond>,
     acts: &Acts,
     parts: &[Chart],
-    level: Option<LabelTable>,
-    unit: usize,
-    parent: u16,
+    seat: Seat,
 ) -> Result<(), OutlineFault>
     requires { length nodes.old.items ≤ MAX_NODES }
-    ensures grown { HasGrown nodes.old.items (branch_entries acts.now level unit (length nodes.old.items) (length conditions.old.items) parent 0 (map diagram_of parts.now)) nodes.new.items result }
-    ensures added { HasAdded conditions.old.items (branch_conditions acts.now level (map diagram_of parts.now)) conditions.new.items result }
+    ensures grown { HasGrown nodes.old.items (branch_entries acts.now seat.level seat.unit (length nodes.old.items) (length conditions.old.items) seat.parent 0 (map diagram_of parts.now)) nodes.new.items result }
+    ensures added { HasAdded conditions.old.items (branch_conditions acts.now seat.level (map diagram_of parts.now)) conditions.new.items result }
 {
     let mut child = 0;
     for part in parts {
-        grow(
-            alloc, nodes, conditions, acts, part, level, unit, parent, child,
-        )?;
+        grow(alloc, nodes, conditions, acts, part, Seat { child, ..seat })?;
         child += 1;
     }
     Ok(())
 }
 
-/// Adds the nodes of a selection's branches.
+/// Adds the nodes of a selection's branches, the first of which is child 0.
 #[cycle(grow)]
 fn grow_choices(
     alloc: Global,
@@ -274,22 +275,23 @@ fn grow_choices(
     acts: &Acts,
     choices: &[(Cond, Chart)],
     last: &Chart,
-    level: Option<LabelTable>,
-    unit: usize,
-    parent: u16,
+    seat: Seat,
 ) -> Result<(), OutlineFault>
     requires { length nodes.old.items ≤ MAX_NODES }
-    ensures grown { HasGrown nodes.old.items (choice_entries acts.now level unit (length nodes.old.items) (length conditions.old.items) parent 0 choices.now last.now) nodes.new.items result }
-    ensures added { HasAdded conditions.old.items (choice_conditions acts.now level choices.now last.now) conditions.new.items result }
+    ensures grown { HasGrown nodes.old.items (choice_entries acts.now seat.level seat.unit (length nodes.old.items) (length conditions.old.items) seat.parent 0 choices.now last.now) nodes.new.items result }
+    ensures added { HasAdded conditions.old.items (choice_conditions acts.now seat.level choices.now last.now) conditions.new.items result }
 {
     let mut child = 0;
     for choice in choices {
         grow(
-            alloc, nodes, conditions, acts, &choice.1, level, unit, parent, child,
+            alloc,
+            nodes,
+            conditions,
+            acts,
+            &choice.1,
+            Seat { child, ..seat },
         )?;
         child += 1;
     }
-    grow(
-        alloc, nodes, conditions, acts, last, level, unit, parent, child,
-    )
+    grow(alloc, nodes, conditions, acts, last, Seat { child, ..seat })
 }

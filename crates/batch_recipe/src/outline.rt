@@ -8,7 +8,7 @@ ghost use Rattle.batch_recipe.specs.declared.recipe.TheConstants.{MAX_NODES};
 use crate::acts::{Acts, LabelTable};
 use crate::condition::Cond;
 use crate::entry::{Entry, Kind};
-use crate::growing::grow_act;
+use crate::growing::{Seat, grow_act};
 use crate::outline_fault::OutlineFault;
 use std::alloc::Global;
 
@@ -32,18 +32,21 @@ impl Outline {
     {
         let mut entries = Vec::new(alloc);
         let mut conditions = Vec::new(alloc);
-        let level = Some(LabelTable::UnitProcedures);
+        let seat = Seat {
+            level: Some(LabelTable::UnitProcedures),
+            unit: 0,
+            parent: 0,
+            child: 0,
+        };
+        let root = &acts.procedure;
         grow_act(
             alloc,
             &mut entries,
             &mut conditions,
             acts,
-            &acts.procedure,
+            root,
             Kind::Procedure,
-            level,
-            0,
-            0,
-            0,
+            seat,
         )?;
         Ok(Outline {
             entries,
