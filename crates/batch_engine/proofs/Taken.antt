@@ -1,10 +1,11 @@
 -- The numbers of the units that take the roles of a batch.
-use Rattle.std.proofs.Common.{◌≡◌, ◌<◌, ◌≤◌, refl, sym, ◌∙◌, ap, subst, ℕ, zero, suc, List, [], ◌∷◌, true, Option, Some, arith, length, map, get_or}
+use Rattle.std.proofs.Common.{◌≡◌, ◌<◌, ◌≤◌, refl, sym, ◌∙◌, ap, subst, ℕ, zero, suc, List, [], ◌∷◌, true, Option, None, Some, arith, length, map, get_or, inl, inr}
+use Rattle.std.proofs.lemmas.Bool.{cases_lt}
 use Rattle.std.specs.Prelude.{slice_get, position, unwrap_or}
 use Rattle.std.proofs.lemmas.List.{length-map, get_or-map}
 use Rattle.batch_cell.specs.LookUps.{units_of, resources_of}
 use Rattle.batch_cell.specs.declared.unit.Unit.{Unit}
-use Rattle.batch_cell.proofs.Resources.{length-resource_names, resource_is_unit}
+use Rattle.batch_cell.proofs.Resources.{length-resource_names, resource_is_no_unit, resource_is_unit}
 use Rattle.batch_recipe.specs.Conditions.{Name, same_name}
 use Rattle.batch_recipe.specs.WellFormed.{are_distinct}
 use Rattle.batch_recipe.specs.declared.recipe.Recipe.{Recipe}
@@ -48,6 +49,19 @@ unit-numbers c u l =
     let more : length units ≤ length (resources_of c.cell) = enough c in
     let number : number_of c (resource_name c u) ≡ Some u = number-at c u (resource_name c u) (name-there (resources_of c.cell) u (omega (arith, few, more))) in
     (number, resource_is_unit (same_name (resource_name c u)) units c.cell.modules.items c.cell.shared.items u number few)
+
+-- a unit of the cell has this number among the units where it has it among the resources
+pub unit-is_resource : (c : ClearedSet) (name : Name) (q u : ℕ) → number_of c name ≡ Some q → u < length (units_of c.cell)
+    → (q ≡ u → position (same_name name) (units_of c.cell) ≡ Some u) × (position (same_name name) (units_of c.cell) ≡ Some u → q ≡ u)
+unit-is_resource c name q u number below =
+    let units = c.cell.units.items in
+    let few : u < length units = omega (arith, below, length-map units (λ (x : Unit). x.name)) in (
+      λ same. resource_is_unit (same_name name) units c.cell.modules.items c.cell.shared.items u (number ∙ ap (λ k. Some k) same) few,
+      λ unit. elim (cases_lt q (length units)) [
+        | inr past ↦ absurd (let bad : ◌≡◌ {A = Option ℕ} None (Some u) = sym (resource_is_no_unit (same_name name) units c.cell.modules.items c.cell.shared.items q number past) ∙ unit in cc)
+        | inl within ↦ let both : ◌≡◌ {A = Option ℕ} (Some q) (Some u) = sym (resource_is_unit (same_name name) units c.cell.modules.items c.cell.shared.items q number within) ∙ unit in cc
+      ],
+    )
 
 module _ (c : ClearedSet) (recipe : ℕ) (r : Recipe) (at : slice_get c.recipes recipe ≡ Some r) (units : List ℕ) (own : AreUnits c units) where
   few-roles : length (roles_at c recipe) ≤ length (map (resource_name c) units)

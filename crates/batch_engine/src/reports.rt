@@ -1,12 +1,12 @@
 //! Reports of phases.
-ghost use Rattle.std.specs.Prelude.{◌≡◌, ◌<◌, ◌↔◌, IsTrue, Some, None, length};
+ghost use Rattle.std.specs.Prelude.{◌≡◌, ◌<◌, ℕ, List, Some, None, length};
 ghost use Rattle.batch_model.specs.Events as Events;
 ghost use Rattle.batch_model.specs.Events.{batch_state_after};
 ghost use Rattle.batch_model.specs.Moves.{next};
 ghost use Rattle.batch_engine.specs.Answered.{IsAnswered};
 ghost use Rattle.batch_engine.specs.Marked.{AreNoted};
 ghost use Rattle.batch_engine.specs.Reports.{IsLiveIn, IsLivePhase};
-ghost use Rattle.batch_engine.specs.View.{setup, plant_of};
+ghost use Rattle.batch_engine.specs.View.{number_of, plant_of, setup};
 
 use crate::control::Control;
 use crate::event::PhaseReport;
@@ -30,28 +30,18 @@ fn state_after(word: Report, state: State) -> State
     }
 }
 
-/// Whether the number is this one.
-fn is_number(number: Option<u16>, unit: u16) -> bool
-    ensures { IsTrue result ↔ (number ≡ Some unit) }
-{
-    match number {
-        Some(number) => number == unit,
-        None => false,
-    }
-}
-
 impl Control {
-    /// The live phase with this name that the batch at an index runs on the unit with this name: its node and its state.
-    fn live_in(&self, index: usize, unit: &Name, phase: &Name) -> Option<(u16, State)>
+    /// The live phase with this name that the batch at an index runs on the unit with this number among the resources: its node
+    /// and its state.
+    fn live_in(&self, index: usize, unit: u16, phase: &Name) -> Option<(u16, State)>
         requires { index < length self.now.batches }
-        ensures { IsLiveIn self.now index unit.now phase.now result }
+        ensures { (name : List ℕ) → number_of self.now.cleared name ≡ Some unit → IsLiveIn self.now index name phase.now result }
     {
         let batch = &self.batches[index];
         let chart = self.cleared.recipe(batch.recipe);
-        let number = self.cleared.cell().unit_of(unit);
         let mut from = 0;
         while let Some((node, state)) = batch.running.live(chart, phase, from) {
-            if is_number(number, self.phase_at(index, node).unit) {
+            if self.phase_at(index, node).unit == unit {
                 return Some((node, state));
             }
             from = node + 1;
@@ -67,7 +57,7 @@ impl Control {
         self.is_kept();
         let resource = self.cleared.cell().resource_of(unit)?;
         let index = self.index_of(holders[usize::from(resource)])?;
-        let (node, state) = self.live_in(index, unit, phase)?;
+        let (node, state) = self.live_in(index, resource, phase)?;
         Some((index, node, state))
     }
 

@@ -18,6 +18,7 @@ use crate::laws::transcripts_are_safe;
 use crate::line_buffer::LineBuffer;
 use batch_engine::Engine;
 use batch_wire::{KnownPlaces, WriteFault};
+use memchr::memchr;
 use std::alloc::Global;
 use std::io::{ErrorKind, Read, Write};
 
@@ -134,12 +135,7 @@ fn answer_ended<W: Write>(
 fn line_feed(bytes: &[u8]) -> Option<usize>
     ensures { MatchOption result (HasNoFeed bytes.now) (λ at. EndsLine at bytes.now) }
 {
-    for (i, byte) in bytes.iter().enumerate() {
-        if *byte == b'\n' {
-            return Some(i);
-        }
-    }
-    None
+    memchr(b'\n', bytes)
 }
 
 /// Answers the last line, which no line feed ends.

@@ -60,7 +60,7 @@ returns-in_err-node c =
     subst (IsLivePhase v c.args.unit.now c.args.phase.now) (sym c.from_residual-in_err-node.ensures)
     (live-nowhere v c.args.unit.now c.args.phase.now v.batches
     (λ j d e. elim (cases_eq j i) [
-      | inl same ↦ c.in_err-node.ensures d (subst (λ m. slice_get v.batches m ≡ Some d) same e)
+      | inl same ↦ c.in_err-node.ensures c.args.unit.now unit d (subst (λ m. slice_get v.batches m ≡ Some d) same e)
       | inr other ↦ elsewhere j d e other
     ]))
 
@@ -75,7 +75,7 @@ returns c =
     let elsewhere =
     live-elsewhere v kept hs c.requires c.args.unit.now c.args.phase.now c.in_ok-resource.resource (get_or hs c.from.result 0) unit
     (noted-is v hs kept c.requires c.args.unit.now c.in_ok-resource.resource c.from.result unit c.from.ensures) i (sym c.index_of.ensures ∙ c.in_ok-index.was) in
-    let g : IsLiveIn v i c.args.unit.now c.args.phase.now (Some (c.in_ok-node.node, c.in_ok-node.state)) = c.in_ok-node.ensures in
+    let g : IsLiveIn v i c.args.unit.now c.args.phase.now (Some (c.in_ok-node.node, c.in_ok-node.state)) = c.in_ok-node.ensures c.args.unit.now unit in
     let b : Batch = g.0 in
     let named = live-node (tree_of v.cleared b) (batch_of v.cleared b).rest (batch_of v.cleared b) c.args.unit.now c.args.phase.now c.in_ok-node.node c.in_ok-node.state (tree-placed v kept i b g.2.at) (batch-runs v kept i b g.2.at).runs.alive.stands g.3 in
     record {

@@ -1,7 +1,6 @@
 use Rattle.std.proofs.Common.{◌≡◌, sym, ◌∙◌, ap, subst, ℕ, List, Bool, true, false, Some, None, arith}
 use Rattle.std.specs.Prelude.{slice_get, position}
 use Rattle.batch_cell.specs.LookUps.{units_of}
-use Rattle.batch_cell.specs.declared.cell.Cell.{Cell}
 use Rattle.batch_recipe.specs.Conditions.{Name, same_name}
 use Rattle.batch_model.specs.Events.{live_in}
 use Rattle.batch_model.specs.Rest.{acts}
@@ -15,20 +14,21 @@ use Rattle.batch_engine.specs.Kept.{IsKept}
 use Rattle.batch_engine.proofs.Answering.{at-same}
 use Rattle.batch_engine.proofs.Finding.{chart-here, got-batch, got-chart, batch-runs, runs-here}
 use Rattle.batch_engine.proofs.LivePhases.{found-on, passed-over, phase-within}
+use Rattle.batch_verify.proofs.Finding.{found_below}
+use Rattle.batch_engine.proofs.Taken.{unit-is_resource}
 use Rattle.batch_engine.proofs.control.Control.live_in.Goals as goal
 
 pub loop-node-init : goal.loop-node-init
 loop-node-init c =
     let v : EngineView = c.args.self.now in
     let b : Batch = c.index-batch.result.now in
-    (omega arith, ap (live_in (batch_of v.cleared b) c.args.unit.now c.args.phase.now) (sym (from-first (tree_of v.cleared b) b.running.stages.items)))
+    (omega arith, λ name number. ap (live_in (batch_of v.cleared b) name c.args.phase.now) (sym (from-first (tree_of v.cleared b) b.running.stages.items)))
 
 pub live-requires : goal.live-requires
 live-requires c =
     let v : EngineView = c.args.self.now in
     let kept : IsKept v = subst IsKept c.self.view_is c.self.invariant.kept in
     let i : ℕ = c.args.index in
-    let unit : Name = c.args.unit.now in
     let phase : Name = c.args.phase.now in
     let b : Batch = c.index-batch.result.now in
     let at : slice_get v.batches i ≡ Some b = got-batch v _ i b c.self.view_is c.requires c.index-batch.ensures in
@@ -44,7 +44,6 @@ phase_at-requires c =
     let v : EngineView = c.args.self.now in
     let kept : IsKept v = subst IsKept c.self.view_is c.self.invariant.kept in
     let i : ℕ = c.args.index in
-    let unit : Name = c.args.unit.now in
     let phase : Name = c.args.phase.now in
     let b : Batch = c.index-batch.result.now in
     let at : slice_get v.batches i ≡ Some b = got-batch v _ i b c.self.view_is c.requires c.index-batch.ensures in
@@ -57,12 +56,11 @@ phase_at-requires c =
     let named : phase_named (node_at t node).here ≡ Some ((phase_at t node).unit, phase) = c.in-Some.ensures.runs t chart runs in
     (b, at, phase-within t node ((phase_at t node).unit, phase) named)
 
-pub returns-then-is_number : goal.returns-then-is_number
-returns-then-is_number c =
+pub returns-then-phase_at-unit : goal.returns-then-phase_at-unit
+returns-then-phase_at-unit c =
     let v : EngineView = c.args.self.now in
     let kept : IsKept v = subst IsKept c.self.view_is c.self.invariant.kept in
     let i : ℕ = c.args.index in
-    let unit : Name = c.args.unit.now in
     let phase : Name = c.args.phase.now in
     let b : Batch = c.index-batch.result.now in
     let at : slice_get v.batches i ≡ Some b = got-batch v _ i b c.self.view_is c.requires c.index-batch.ensures in
@@ -74,15 +72,13 @@ returns-then-is_number c =
     let node : ℕ = c.in-Some.node in
     let named : phase_named (node_at t node).here ≡ Some ((phase_at t node).unit, phase) = c.in-Some.ensures.runs t chart runs in
     let units : List Name = units_of v.cleared.cell in
-    let own : position (same_name (phase_at t node).unit) units ≡ Some c.phase_at.result.unit = c.phase_at.ensures.unit b at ((phase_at t node).unit, phase) named in
-    let number : c.unit_of-number.result ≡ position (same_name unit) units =
-    c.unit_of-number.ensures ∙ ap (λ (z : Cell). position (same_name unit) (units_of z)) (c.cell.ensures.value ∙ ap (λ (z : EngineView). z.cleared.cell) c.self.view_is) in
-    let found = c.in-Some.ensures.found t (batch_of v.cleared b) unit chart runs in
-    let there : position (same_name unit) units ≡ Some c.phase_at.result.unit = sym number ∙ c.is_number.ensures.0 c.if-is_number.true in (
+    let own : position (same_name (phase_at t node).unit) units ≡ Some c.phase_at.result.unit = c.phase_at.ensures.unit b at ((phase_at t node).unit, phase) named in λ name number. (
       b,
       x,
       record { at = at; listed = listed },
-      c.loop-node.invariant.1 ∙ found ∙ found-on t (batch_of v.cleared b) (remains_from t b.running) unit phase node c.in-Some.state units c.phase_at.result.unit own there,
+      c.loop-node.invariant.1 name number ∙ c.in-Some.ensures.found t (batch_of v.cleared b) name chart runs
+          ∙ found-on t (batch_of v.cleared b) (remains_from t b.running) name phase node c.in-Some.state units c.phase_at.result.unit own
+          ((unit-is_resource v.cleared name c.args.unit c.phase_at.result.unit number (found_below (same_name (phase_at t node).unit) units c.phase_at.result.unit own)).0 (omega (arith, c.if-phase_at-unit.true))),
       c.in-Some.ensures.live,
     )
 
@@ -91,7 +87,6 @@ loop-node-preserved c =
     let v : EngineView = c.args.self.now in
     let kept : IsKept v = subst IsKept c.self.view_is c.self.invariant.kept in
     let i : ℕ = c.args.index in
-    let unit : Name = c.args.unit.now in
     let phase : Name = c.args.phase.now in
     let b : Batch = c.index-batch.result.now in
     let at : slice_get v.batches i ≡ Some b = got-batch v _ i b c.self.view_is c.requires c.index-batch.ensures in
@@ -103,14 +98,14 @@ loop-node-preserved c =
     let node : ℕ = c.in-Some.node in
     let named : phase_named (node_at t node).here ≡ Some ((phase_at t node).unit, phase) = c.in-Some.ensures.runs t chart runs in
     let units : List Name = units_of v.cleared.cell in
-    let own : position (same_name (phase_at t node).unit) units ≡ Some c.phase_at.result.unit = c.phase_at.ensures.unit b at ((phase_at t node).unit, phase) named in
-    let number : c.unit_of-number.result ≡ position (same_name unit) units =
-    c.unit_of-number.ensures ∙ ap (λ (z : Cell). position (same_name unit) (units_of z)) (c.cell.ensures.value ∙ ap (λ (z : EngineView). z.cleared.cell) c.self.view_is) in
-    let found = c.in-Some.ensures.found t (batch_of v.cleared b) unit chart runs in
-    let differs : position (same_name unit) units ≡ Some c.phase_at.result.unit → ⊥ =
-    λ e. (let yes = c.is_number.ensures.1 (number ∙ e) in absurd (let bad : ◌≡◌ {A = Bool} true false = sym yes ∙ c.if-is_number.false in cc)) in (
+    let own : position (same_name (phase_at t node).unit) units ≡ Some c.phase_at.result.unit = c.phase_at.ensures.unit b at ((phase_at t node).unit, phase) named in (
       omega (arith, c.in-Some.ensures.later.1),
-      c.loop-node.invariant.1 ∙ found ∙ passed-over t (batch_of v.cleared b) (remains_from t b.running) unit phase node c.in-Some.state units c.phase_at.result.unit own differs,
+      λ name number. c.loop-node.invariant.1 name number ∙ c.in-Some.ensures.found t (batch_of v.cleared b) name chart runs
+          ∙ passed-over t (batch_of v.cleared b) (remains_from t b.running) name phase node c.in-Some.state units c.phase_at.result.unit own
+          (λ unit. absurd (
+          let same : c.args.unit ≡ c.phase_at.result.unit = (unit-is_resource v.cleared name c.args.unit c.phase_at.result.unit number (found_below (same_name (phase_at t node).unit) units c.phase_at.result.unit own)).1 unit in
+          omega (arith, c.if-phase_at-unit.false, same)
+          )),
     )
 
 pub returns : goal.returns
@@ -118,7 +113,6 @@ returns c =
     let v : EngineView = c.args.self.now in
     let kept : IsKept v = subst IsKept c.self.view_is c.self.invariant.kept in
     let i : ℕ = c.args.index in
-    let unit : Name = c.args.unit.now in
     let phase : Name = c.args.phase.now in
     let b : Batch = c.index-batch.result.now in
     let at : slice_get v.batches i ≡ Some b = got-batch v _ i b c.self.view_is c.requires c.index-batch.ensures in
@@ -127,6 +121,5 @@ returns c =
     let t = tree_of v.cleared b in
     let chart = chart-here v kept i b at x listed in
     let runs = (batch-runs v kept i b at).runs in
-    let none : live_in (batch_of v.cleared b) unit phase (acts (remains t b.running)) ≡ None =
-    c.loop-node.invariant.1 ∙ c.in_default.ensures.found t (batch_of v.cleared b) unit chart runs in
-    λ d e. at-same v.batches i b d (λ (z : Batch). live_in (batch_of v.cleared z) unit phase (acts (batch_of v.cleared z).rest) ≡ None) at e none
+    λ name number d e. at-same v.batches i b d (λ (z : Batch). live_in (batch_of v.cleared z) name phase (acts (batch_of v.cleared z).rest) ≡ None) at e
+    (c.loop-node.invariant.1 name number ∙ c.in_default.ensures.found t (batch_of v.cleared b) name chart runs)
