@@ -1,19 +1,18 @@
 //! Growing an outline.
-ghost use Rattle.std.specs.Prelude.{◌≡◌, ◌≤◌, ◌<◌, [], ◌++◌, ◌∷◌, map, length, position, slice_get, slice_set, slice_index_or, IfOk, ◌+◌};
-ghost use Rattle.batch_recipe.specs.Conditions.{same_name};
+ghost use Rattle.std.specs.Prelude.{◌≡◌, ◌≤◌, ◌<◌, [], ◌++◌, ◌∷◌, map, length, slice_get, slice_set, slice_index_or, IfOk, ◌+◌};
 ghost use Rattle.batch_recipe.specs.Diagram.{diagram_of, diagrams_of};
 ghost use Rattle.batch_recipe.specs.Growing.{HasAdded, HasBegun, HasEnded, HasGrown, act_conditions, act_entries, bare, branch_conditions, branch_entries, chart_conditions, chart_entries, choice_conditions, choice_entries, needs_count, parts_entries, unit_number};
 ghost use Rattle.batch_recipe.specs.declared.recipe.TheConstants.{MAX_NODES};
 
 use crate::act::{Act, Work};
-use crate::acts::{Acts, LabelTable};
+use crate::acts::LabelTable;
 use crate::chart::Chart;
 use crate::condition::Cond;
 use crate::copying::{push_condition, push_conditions};
 use crate::entry::{Entry, Kind};
+use crate::label_index::Labels;
 use crate::outline_fault::OutlineFault;
 use crate::recipe::MAX_NODES;
-use batch_text::Name;
 use std::alloc::Global;
 
 /// Where the nodes of an act or a chart come to stand.
@@ -26,13 +25,6 @@ pub struct Seat {
     /// The node of which they are the child with the number `child`.
     pub parent: u16,
     pub child: u16,
-}
-
-/// The number of the first act of the table with this name.
-fn number_of(table: &[Act], name: &Name) -> Option<usize>
-    ensures { result ≡ position (λ a. same_name a.name name.now) table.now }
-{
-    table.iter().position(|act| act.name == *name)
 }
 
 /// The unit procedure of an act, where those above it stand under `unit`: a unit procedure stands under itself.
@@ -99,14 +91,14 @@ pub fn grow_act(
     alloc: Global,
     nodes: &mut Vec<Entry>,
     conditions: &mut Vec<Cond>,
-    acts: &Acts,
+    labels: &Labels<'_>,
     act: &Act,
     kind: Kind,
     seat: Seat,
 ) -> Result<(), OutlineFault>
     requires { length nodes.old.items ≤ MAX_NODES }
-    ensures grown { HasGrown nodes.old.items (act_entries acts.now seat.level kind seat.unit (length nodes.old.items) (length conditions.old.items) seat.parent seat.child act.now) nodes.new.items result }
-    ensures added { HasAdded conditions.old.items (act_conditions acts.now seat.level act.now) conditions.new.items result }
+    ensures grown { HasGrown nodes.old.items (act_entries labels.now.acts.now seat.level kind seat.unit (length nodes.old.items) (length conditions.old.items) seat.parent seat.child act.now) nodes.new.items result }
+    ensures added { HasAdded conditions.old.items (act_conditions labels.now.acts.now seat.level act.now) conditions.new.items result }
 {
     let node = begin(
         nodes,
@@ -124,7 +116,7 @@ pub fn grow_act(
                 child: 0,
                 ..seat
             };
-            grow(alloc, nodes, conditions, acts, chart, below)?;
+            grow(alloc, nodes, conditions, labels, chart, below)?;
             finish(nodes, node);
             Ok(())
         }
@@ -146,20 +138,20 @@ fn grow(
     alloc: Global,
     nodes: &mut Vec<Entry>,
     conditions: &mut Vec<Cond>,
-    acts: &Acts,
+    labels: &Labels<'_>,
     chart: &Chart,
     seat: Seat,
 ) -> Result<(), OutlineFault>
     requires { length nodes.old.items ≤ MAX_NODES }
-    ensures grown { HasGrown nodes.old.items (chart_entries acts.now seat.level seat.unit (length nodes.old.items) (length conditions.old.items) seat.parent seat.child (diagram_of chart.now)) nodes.new.items result }
-    ensures added { HasAdded conditions.old.items (chart_conditions acts.now seat.level (diagram_of chart.now)) conditions.new.items result }
+    ensures grown { HasGrown nodes.old.items (chart_entries labels.now.acts.now seat.level seat.unit (length nodes.old.items) (length conditions.old.items) seat.parent seat.child (diagram_of chart.now)) nodes.new.items result }
+    ensures added { HasAdded conditions.old.items (chart_conditions labels.now.acts.now seat.level (diagram_of chart.now)) conditions.new.items result }
 {
     match chart {
         Chart::Label(name) => match seat.level {
             None => grow_bare(nodes, seat.parent, seat.child),
-            Some(table) => match number_of(acts.table(table), name) {
+            Some(table) => match labels.number_of(table, name) {
                 None => grow_bare(nodes, seat.parent, seat.child),
-                Some(number) => match acts.table(table).get(number) {
+                Some(number) => match labels.acts.table(table).get(number) {
                     None => grow_bare(nodes, seat.parent, seat.child),
                     Some(act) => {
                         let kind = Kind::Act(table, number);
@@ -170,14 +162,14 @@ fn grow(
                             unit,
                             ..seat
                         };
-                        grow_act(alloc, nodes, conditions, acts, act, kind, own)
+                        grow_act(alloc, nodes, conditions, labels, act, kind, own)
                     }
                 },
             },
         },
         Chart::Skip => grow_bare(nodes, seat.parent, seat.child),
-        Chart::Seq(parts) => grow_parts(alloc, nodes, conditions, acts, Kind::Seq, parts, seat),
-        Chart::Par(parts) => grow_parts(alloc, nodes, conditions, acts, Kind::Par, parts, seat),
+        Chart::Seq(parts) => grow_parts(alloc, nodes, conditions, labels, Kind::Seq, parts, seat),
+        Chart::Par(parts) => grow_parts(alloc, nodes, conditions, labels, Kind::Par, parts, seat),
         Chart::Sel(choices, last) => {
             let first = conditions.len();
             let node = begin(nodes, Kind::Sel, 0, first, seat.parent, seat.child)?;
@@ -189,7 +181,7 @@ fn grow(
                 child: 0,
                 ..seat
             };
-            grow_choices(alloc, nodes, conditions, acts, choices, last, below)?;
+            grow_choices(alloc, nodes, conditions, labels, choices, last, below)?;
             finish(nodes, node);
             Ok(())
         }
@@ -211,7 +203,7 @@ fn grow(
                 child: 0,
                 ..seat
             };
-            grow(alloc, nodes, conditions, acts, &turn.1, below)?;
+            grow(alloc, nodes, conditions, labels, &turn.1, below)?;
             finish(nodes, node);
             Ok(())
         }
@@ -224,14 +216,14 @@ fn grow_parts(
     alloc: Global,
     nodes: &mut Vec<Entry>,
     conditions: &mut Vec<Cond>,
-    acts: &Acts,
+    labels: &Labels<'_>,
     kind: Kind,
     parts: &[Chart],
     seat: Seat,
 ) -> Result<(), OutlineFault>
     requires { length nodes.old.items ≤ MAX_NODES }
-    ensures grown { HasGrown nodes.old.items (parts_entries acts.now seat.level kind seat.unit (length nodes.old.items) (length conditions.old.items) seat.parent seat.child (map diagram_of parts.now)) nodes.new.items result }
-    ensures added { HasAdded conditions.old.items (branch_conditions acts.now seat.level (map diagram_of parts.now)) conditions.new.items result }
+    ensures grown { HasGrown nodes.old.items (parts_entries labels.now.acts.now seat.level kind seat.unit (length nodes.old.items) (length conditions.old.items) seat.parent seat.child (map diagram_of parts.now)) nodes.new.items result }
+    ensures added { HasAdded conditions.old.items (branch_conditions labels.now.acts.now seat.level (map diagram_of parts.now)) conditions.new.items result }
 {
     let node = begin(nodes, kind, 0, 0, seat.parent, seat.child)?;
     let below = Seat {
@@ -239,7 +231,7 @@ fn grow_parts(
         child: 0,
         ..seat
     };
-    grow_each(alloc, nodes, conditions, acts, parts, below)?;
+    grow_each(alloc, nodes, conditions, labels, parts, below)?;
     finish(nodes, node);
     Ok(())
 }
@@ -250,17 +242,24 @@ fn grow_each(
     alloc: Global,
     nodes: &mut Vec<Entry>,
     conditions: &mut Vec<Cond>,
-    acts: &Acts,
+    labels: &Labels<'_>,
     parts: &[Chart],
     seat: Seat,
 ) -> Result<(), OutlineFault>
     requires { length nodes.old.items ≤ MAX_NODES }
-    ensures grown { HasGrown nodes.old.items (branch_entries acts.now seat.level seat.unit (length nodes.old.items) (length conditions.old.items) seat.parent 0 (map diagram_of parts.now)) nodes.new.items result }
-    ensures added { HasAdded conditions.old.items (branch_conditions acts.now seat.level (map diagram_of parts.now)) conditions.new.items result }
+    ensures grown { HasGrown nodes.old.items (branch_entries labels.now.acts.now seat.level seat.unit (length nodes.old.items) (length conditions.old.items) seat.parent 0 (map diagram_of parts.now)) nodes.new.items result }
+    ensures added { HasAdded conditions.old.items (branch_conditions labels.now.acts.now seat.level (map diagram_of parts.now)) conditions.new.items result }
 {
     let mut child = 0;
     for part in parts {
-        grow(alloc, nodes, conditions, acts, part, Seat { child, ..seat })?;
+        grow(
+            alloc,
+            nodes,
+            conditions,
+            labels,
+            part,
+            Seat { child, ..seat },
+        )?;
         child += 1;
     }
     Ok(())
@@ -272,14 +271,14 @@ fn grow_choices(
     alloc: Global,
     nodes: &mut Vec<Entry>,
     conditions: &mut Vec<Cond>,
-    acts: &Acts,
+    labels: &Labels<'_>,
     choices: &[(Cond, Chart)],
     last: &Chart,
     seat: Seat,
 ) -> Result<(), OutlineFault>
     requires { length nodes.old.items ≤ MAX_NODES }
-    ensures grown { HasGrown nodes.old.items (choice_entries acts.now seat.level seat.unit (length nodes.old.items) (length conditions.old.items) seat.parent 0 choices.now last.now) nodes.new.items result }
-    ensures added { HasAdded conditions.old.items (choice_conditions acts.now seat.level choices.now last.now) conditions.new.items result }
+    ensures grown { HasGrown nodes.old.items (choice_entries labels.now.acts.now seat.level seat.unit (length nodes.old.items) (length conditions.old.items) seat.parent 0 choices.now last.now) nodes.new.items result }
+    ensures added { HasAdded conditions.old.items (choice_conditions labels.now.acts.now seat.level choices.now last.now) conditions.new.items result }
 {
     let mut child = 0;
     for choice in choices {
@@ -287,11 +286,18 @@ fn grow_choices(
             alloc,
             nodes,
             conditions,
-            acts,
+            labels,
             &choice.1,
             Seat { child, ..seat },
         )?;
         child += 1;
     }
-    grow(alloc, nodes, conditions, acts, last, Seat { child, ..seat })
+    grow(
+        alloc,
+        nodes,
+        conditions,
+        labels,
+        last,
+        Seat { child, ..seat },
+    )
 }

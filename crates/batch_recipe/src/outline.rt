@@ -9,6 +9,7 @@ use crate::acts::{Acts, LabelTable};
 use crate::condition::Cond;
 use crate::entry::{Entry, Kind};
 use crate::growing::{Seat, grow_act};
+use crate::label_index::Labels;
 use crate::outline_fault::OutlineFault;
 use std::alloc::Global;
 
@@ -30,6 +31,9 @@ impl Outline {
         ensures conditions { IfOk result (λ outline. outline.conditions.items ≡ conditions_of acts.now) }
         ensures many { IsErrOf result OutlineFault.TooMany → MAX_NODES < length (procedure_nodes acts.now) }
     {
+        let Ok(labels) = Labels::new(alloc, acts) else {
+            return Err(OutlineFault::Memory);
+        };
         let mut entries = Vec::new(alloc);
         let mut conditions = Vec::new(alloc);
         let seat = Seat {
@@ -43,7 +47,7 @@ impl Outline {
             alloc,
             &mut entries,
             &mut conditions,
-            acts,
+            &labels,
             root,
             Kind::Procedure,
             seat,

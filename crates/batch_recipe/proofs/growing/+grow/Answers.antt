@@ -23,52 +23,52 @@ use Rattle.batch_recipe.proofs.growing.+grow.Goals as goal
 
 pub grow-grow_act-requires : goal.grow-grow_act-requires
 grow-grow_act-requires t c =
-    let T = table_at c.args.acts.now c.in-Some.table in
+    let T = table_at c.args.labels.now.acts.now c.in-Some.table in
     let number : number_in T c.in-Label.name ≡ Some c.in-Some-number_of.number =
-    sym (ap (λ ts. number_in ts c.in-Label.name) c.table.ensures) ∙ (sym c.number_of.ensures ∙ c.in-Some-number_of.is) in
+    sym c.number_of.ensures ∙ c.in-Some-number_of.is in
     let got : slice_get T c.in-Some-number_of.number ≡ Some c.in-Some-get.act.now =
-    sym (ap (λ ts. slice_get ts c.in-Some-number_of.number) c.table-in-Some-number_of.ensures)
-    ∙ slice_get_read c.table-in-Some-number_of.result.now (length c.table-in-Some-number_of.result.now) c.in-Some-number_of.number c.in-Some-get.act.now refl
+    sym (ap (λ ts. slice_get ts c.in-Some-number_of.number) c.table.ensures)
+    ∙ slice_get_read c.table.result.now (length c.table.result.now) c.in-Some-number_of.number c.in-Some-get.act.now refl
     (grind (arith, common_steps, c.in-Some-get.ensures.lookup)) c.in-Some-get.ensures.lookup.1 in
     let found : act_named T c.in-Label.name ≡ Some c.in-Some-get.act.now = found_at (λ (a : Act). same_name a.name c.in-Label.name) T c.in-Some-number_of.number number ∙ got in
-    let e = label_counted c.args.acts.now c.args.chart.now c.args.seat.level c.in-Label.name c.in-Some.table c.in-Label.is c.in-Some.is c.below-level.result c.in-Some-get.act.now found c.below-level.ensures in
+    let e = label_counted c.args.labels.now.acts.now c.args.chart.now c.args.seat.level c.in-Label.name c.in-Some.table c.in-Label.is c.in-Some.is c.below-level.result c.in-Some-get.act.now found c.below-level.ensures in
     (omega (arith, e), c.requires)
 
 pub grow_act-grow-requires : goal.grow_act-grow-requires
 grow_act-grow-requires t c =
-    let e : counted_act (counted_name (tables_from c.args.acts.now c.args.seat.level)) c.args.act.now ≡ 1 + counted (counted_name (tables_from c.args.acts.now c.args.seat.level)) (diagram_of c.in-Follows.chart) = rw c.in-Follows.is refl in
+    let e : counted_act (counted_name (tables_from c.args.labels.now.acts.now c.args.seat.level)) c.args.act.now ≡ 1 + counted (counted_name (tables_from c.args.labels.now.acts.now c.args.seat.level)) (diagram_of c.in-Follows.chart) = rw c.in-Follows.is refl in
     (omega (arith, e), c.in_ok-node.ensures.2)
 
 pub grow_each-grow-requires : goal.grow_each-grow-requires
 grow_each-grow-requires t c =
-    let e = counted_at (counted_name (tables_from c.args.acts.now c.args.seat.level)) c.args.parts.now c.loop-part.part-index c.part-item.result c.loop-part-test.true c.part-item.is in
+    let e = counted_at (counted_name (tables_from c.args.labels.now.acts.now c.args.seat.level)) c.args.parts.now c.loop-part.part-index c.part-item.result c.loop-part-test.true c.part-item.is in
     (omega (arith, e), c.loop-part.invariant.small)
 
 pub grow_choices-grow-requires : goal.grow_choices-grow-requires
 grow_choices-grow-requires t c =
-    let e = counted_choice (counted_name (tables_from c.args.acts.now c.args.seat.level)) c.args.choices.now c.args.last.now c.loop-choice.choice-index c.choice-item.result c.loop-choice-test.true c.choice-item.is in
+    let e = counted_choice (counted_name (tables_from c.args.labels.now.acts.now c.args.seat.level)) c.args.choices.now c.args.last.now c.loop-choice.choice-index c.choice-item.result c.loop-choice-test.true c.choice-item.is in
     (omega (arith, e), c.loop-choice.invariant.small)
 
 pub grow_choices-grow-requires-2 : goal.grow_choices-grow-requires-2
 grow_choices-grow-requires-2 t c =
-    let e = counted_last (counted_name (tables_from c.args.acts.now c.args.seat.level)) c.args.choices.now c.args.last.now in
+    let e = counted_last (counted_name (tables_from c.args.labels.now.acts.now c.args.seat.level)) c.args.choices.now c.args.last.now in
     (omega (arith, e), c.loop-choice.invariant.small)
 
 pub grow_parts-returns-clause-grown : goal.grow_parts-returns-clause-grown
 grow_parts-returns-clause-grown t c =
     node_grown c.args.nodes.now.items c.begin.new.nodes.items c.grow_each.new.nodes.items c.finish.new.nodes.items (plain c.args.kind 0) c.in_ok-node.node c.args.seat.parent c.args.seat.child
-    (λ m n. branch_entries c.args.acts.now c.args.seat.level c.args.seat.unit m (length c.args.conditions.now.items) n 0 (map diagram_of c.args.parts.now)) c.in_ok-node.ensures c.in_ok-grow_each.ensures.grown c.finish.ensures
+    (λ m n. branch_entries c.args.labels.now.acts.now c.args.seat.level c.args.seat.unit m (length c.args.conditions.now.items) n 0 (map diagram_of c.args.parts.now)) c.in_ok-node.ensures c.in_ok-grow_each.ensures.grown c.finish.ensures
 
 pub grow_parts-returns-in_err-grow_each-clause-grown : goal.grow_parts-returns-in_err-grow_each-clause-grown
 grow_parts-returns-in_err-grow_each-clause-grown t c =
     let p = err_from_is_err_and c.from_residual-in_err-grow_each.result c.from_residual-in_err-grow_each.ensures.1 in
     rw (p.1, p.2)
     (node_failed c.args.nodes.now.items c.begin.new.nodes.items c.grow_each.new.nodes.items c.grow_each.new.nodes.items (plain c.args.kind 0) c.in_ok-node.node c.args.seat.parent c.args.seat.child
-    (λ m n. branch_entries c.args.acts.now c.args.seat.level c.args.seat.unit m (length c.args.conditions.now.items) n 0 (map diagram_of c.args.parts.now)) c.in_ok-node.ensures c.in_err-grow_each.field-0.0 c.in_err-grow_each.ensures.grown)
+    (λ m n. branch_entries c.args.labels.now.acts.now c.args.seat.level c.args.seat.unit m (length c.args.conditions.now.items) n 0 (map diagram_of c.args.parts.now)) c.in_ok-node.ensures c.in_err-grow_each.field-0.0 c.in_err-grow_each.ensures.grown)
 
 pub grow_each-overflow_add-child : goal.grow_each-overflow_add-child
 grow_each-overflow_add-child t c =
-    let h = KeepsGrowing-room c.args.acts.now c.args.seat.level c.args.seat.unit c.args.seat.parent c.args.parts.now c.args.nodes.now.items c.loop-part.nodes.items c.args.conditions.now.items c.loop-part.conditions.items c.loop-part.part-index c.loop-part.child c.loop-part.invariant in
+    let h = KeepsGrowing-room c.args.labels.now.acts.now c.args.seat.level c.args.seat.unit c.args.seat.parent c.args.parts.now c.args.nodes.now.items c.loop-part.nodes.items c.args.conditions.now.items c.loop-part.conditions.items c.loop-part.part-index c.loop-part.child c.loop-part.invariant in
     omega (arith, h)
 
 pub grow_each-loop-part-init : goal.grow_each-loop-part-init
@@ -86,25 +86,25 @@ grow_each-loop-part-init t c = record {
 
 pub grow_each-loop-part-preserved : goal.grow_each-loop-part-preserved
 grow_each-loop-part-preserved t c =
-    KeepsGrowing-more c.args.acts.now c.args.seat.level c.args.seat.unit c.args.seat.parent c.args.parts.now c.args.nodes.now.items c.loop-part.nodes.items c.args.conditions.now.items c.loop-part.conditions.items c.loop-part.part-index c.loop-part.child c.loop-part.invariant
+    KeepsGrowing-more c.args.labels.now.acts.now c.args.seat.level c.args.seat.unit c.args.seat.parent c.args.parts.now c.args.nodes.now.items c.loop-part.nodes.items c.args.conditions.now.items c.loop-part.conditions.items c.loop-part.part-index c.loop-part.child c.loop-part.invariant
     c.part-item.result c.loop-part-test.true c.part-item.is c.grow.new.nodes.items c.grow.new.conditions.items c.in_ok-grow.ensures.grown c.in_ok-grow.ensures.added
 
 pub grow_each-returns-in_err-grow-clause-grown : goal.grow_each-returns-in_err-grow-clause-grown
 grow_each-returns-in_err-grow-clause-grown t c =
     let p = err_from_is_err_and c.from_residual.result c.from_residual.ensures.1 in
     rw (p.1, p.2)
-    (KeepsGrowing-stop c.args.acts.now c.args.seat.level c.args.seat.unit c.args.seat.parent c.args.parts.now c.args.nodes.now.items c.loop-part.nodes.items c.args.conditions.now.items c.loop-part.conditions.items c.loop-part.part-index c.loop-part.child c.loop-part.invariant
+    (KeepsGrowing-stop c.args.labels.now.acts.now c.args.seat.level c.args.seat.unit c.args.seat.parent c.args.parts.now c.args.nodes.now.items c.loop-part.nodes.items c.args.conditions.now.items c.loop-part.conditions.items c.loop-part.part-index c.loop-part.child c.loop-part.invariant
     c.part-item.result c.loop-part-test.true c.part-item.is c.grow.new.nodes.items c.in_err-grow.field-0.0 c.in_err-grow.ensures.grown)
 
 pub grow_each-returns-clause-grown : goal.grow_each-returns-clause-grown
-grow_each-returns-clause-grown t c = KeepsGrowing-all c.args.acts.now c.args.seat.level c.args.seat.unit c.args.seat.parent c.args.parts.now c.args.nodes.now.items c.loop-part.nodes.items c.args.conditions.now.items c.loop-part.conditions.items c.loop-part.part-index c.loop-part.child c.loop-part.invariant c.loop-part-test.false
+grow_each-returns-clause-grown t c = KeepsGrowing-all c.args.labels.now.acts.now c.args.seat.level c.args.seat.unit c.args.seat.parent c.args.parts.now c.args.nodes.now.items c.loop-part.nodes.items c.args.conditions.now.items c.loop-part.conditions.items c.loop-part.part-index c.loop-part.child c.loop-part.invariant c.loop-part-test.false
 
 pub grow_each-returns-clause-added : goal.grow_each-returns-clause-added
-grow_each-returns-clause-added t c = KeepsGrowing-told c.args.acts.now c.args.seat.level c.args.seat.unit c.args.seat.parent c.args.parts.now c.args.nodes.now.items c.loop-part.nodes.items c.args.conditions.now.items c.loop-part.conditions.items c.loop-part.part-index c.loop-part.child c.loop-part.invariant c.loop-part-test.false
+grow_each-returns-clause-added t c = KeepsGrowing-told c.args.labels.now.acts.now c.args.seat.level c.args.seat.unit c.args.seat.parent c.args.parts.now c.args.nodes.now.items c.loop-part.nodes.items c.args.conditions.now.items c.loop-part.conditions.items c.loop-part.part-index c.loop-part.child c.loop-part.invariant c.loop-part-test.false
 
 pub grow_choices-overflow_add-child : goal.grow_choices-overflow_add-child
 grow_choices-overflow_add-child t c =
-    let h = KeepsChoosing-room c.args.acts.now c.args.seat.level c.args.seat.unit c.args.seat.parent c.args.choices.now c.args.last.now c.args.nodes.now.items c.loop-choice.nodes.items c.args.conditions.now.items c.loop-choice.conditions.items c.loop-choice.choice-index c.loop-choice.child c.loop-choice.invariant c.grow.new.nodes.items in
+    let h = KeepsChoosing-room c.args.labels.now.acts.now c.args.seat.level c.args.seat.unit c.args.seat.parent c.args.choices.now c.args.last.now c.args.nodes.now.items c.loop-choice.nodes.items c.args.conditions.now.items c.loop-choice.conditions.items c.loop-choice.choice-index c.loop-choice.child c.loop-choice.invariant c.grow.new.nodes.items in
     omega (arith, h)
 
 pub grow_choices-loop-choice-init : goal.grow_choices-loop-choice-init
@@ -122,73 +122,73 @@ grow_choices-loop-choice-init t c = record {
 
 pub grow_choices-loop-choice-preserved : goal.grow_choices-loop-choice-preserved
 grow_choices-loop-choice-preserved t c =
-    KeepsChoosing-more c.args.acts.now c.args.seat.level c.args.seat.unit c.args.seat.parent c.args.choices.now c.args.last.now c.args.nodes.now.items c.loop-choice.nodes.items c.args.conditions.now.items c.loop-choice.conditions.items c.loop-choice.choice-index c.loop-choice.child c.loop-choice.invariant
+    KeepsChoosing-more c.args.labels.now.acts.now c.args.seat.level c.args.seat.unit c.args.seat.parent c.args.choices.now c.args.last.now c.args.nodes.now.items c.loop-choice.nodes.items c.args.conditions.now.items c.loop-choice.conditions.items c.loop-choice.choice-index c.loop-choice.child c.loop-choice.invariant
     c.grow.new.nodes.items c.choice-item.result c.loop-choice-test.true c.choice-item.is c.grow.new.conditions.items c.in_ok-grow.ensures.grown c.in_ok-grow.ensures.added
 
 pub grow_choices-returns-in_err-grow-clause-grown : goal.grow_choices-returns-in_err-grow-clause-grown
 grow_choices-returns-in_err-grow-clause-grown t c =
     let p = err_from_is_err_and c.from_residual.result c.from_residual.ensures.1 in
     rw (p.1, p.2)
-    (KeepsChoosing-stop c.args.acts.now c.args.seat.level c.args.seat.unit c.args.seat.parent c.args.choices.now c.args.last.now c.args.nodes.now.items c.loop-choice.nodes.items c.args.conditions.now.items c.loop-choice.conditions.items c.loop-choice.choice-index c.loop-choice.child c.loop-choice.invariant
+    (KeepsChoosing-stop c.args.labels.now.acts.now c.args.seat.level c.args.seat.unit c.args.seat.parent c.args.choices.now c.args.last.now c.args.nodes.now.items c.loop-choice.nodes.items c.args.conditions.now.items c.loop-choice.conditions.items c.loop-choice.choice-index c.loop-choice.child c.loop-choice.invariant
     c.grow.new.nodes.items c.choice-item.result c.loop-choice-test.true c.choice-item.is c.in_err-grow.field-0.0 c.in_err-grow.ensures.grown)
 
 pub grow_choices-returns-clause-grown : goal.grow_choices-returns-clause-grown
 grow_choices-returns-clause-grown t c =
-    KeepsChoosing-last c.args.acts.now c.args.seat.level c.args.seat.unit c.args.seat.parent c.args.choices.now c.args.last.now c.args.nodes.now.items c.loop-choice.nodes.items c.args.conditions.now.items c.loop-choice.conditions.items c.loop-choice.choice-index c.loop-choice.child c.loop-choice.invariant
+    KeepsChoosing-last c.args.labels.now.acts.now c.args.seat.level c.args.seat.unit c.args.seat.parent c.args.choices.now c.args.last.now c.args.nodes.now.items c.loop-choice.nodes.items c.args.conditions.now.items c.loop-choice.conditions.items c.loop-choice.choice-index c.loop-choice.child c.loop-choice.invariant
     c.grow-2.new.nodes.items c.loop-choice-test.false c.grow-2.result c.grow-2.ensures.grown
 
 pub grow_choices-returns-clause-added : goal.grow_choices-returns-clause-added
 grow_choices-returns-clause-added t c =
-    KeepsChoosing-told c.args.acts.now c.args.seat.level c.args.seat.unit c.args.seat.parent c.args.choices.now c.args.last.now c.args.nodes.now.items c.loop-choice.nodes.items c.args.conditions.now.items c.loop-choice.conditions.items c.loop-choice.choice-index c.loop-choice.child c.loop-choice.invariant
+    KeepsChoosing-told c.args.labels.now.acts.now c.args.seat.level c.args.seat.unit c.args.seat.parent c.args.choices.now c.args.last.now c.args.nodes.now.items c.loop-choice.nodes.items c.args.conditions.now.items c.loop-choice.conditions.items c.loop-choice.choice-index c.loop-choice.child c.loop-choice.invariant
     c.grow-2.new.nodes.items c.loop-choice-test.false c.grow-2.new.conditions.items c.grow-2.result c.grow-2.ensures.added
 
 pub grow-returns-in-None-number_of-clause-grown : goal.grow-returns-in-None-number_of-clause-grown
 grow-returns-in-None-number_of-clause-grown t c =
-    let T = table_at c.args.acts.now c.in-Some.table in
+    let T = table_at c.args.labels.now.acts.now c.in-Some.table in
     let number : number_in T c.in-Label.name ≡ None =
-    sym (ap (λ ts. number_in ts c.in-Label.name) c.table.ensures) ∙ (sym c.number_of.ensures ∙ c.in-None-number_of.is) in
+    sym c.number_of.ensures ∙ c.in-None-number_of.is in
     subst (λ (es : List Entry). HasGrown c.args.nodes.now.items es c.grow_bare-in-None-number_of.new.nodes.items c.grow_bare-in-None-number_of.result)
-    (sym (no_number c.args.acts.now c.args.chart.now c.args.seat.level c.in-Label.name c.in-Label.is c.in-Some.table c.in-Some.is c.args.seat.unit (length c.args.nodes.now.items) (length c.args.conditions.now.items) c.args.seat.parent c.args.seat.child number))
+    (sym (no_number c.args.labels.now.acts.now c.args.chart.now c.args.seat.level c.in-Label.name c.in-Label.is c.in-Some.table c.in-Some.is c.args.seat.unit (length c.args.nodes.now.items) (length c.args.conditions.now.items) c.args.seat.parent c.args.seat.child number))
     c.grow_bare-in-None-number_of.ensures
 
 pub grow-returns-in-None-number_of-clause-added : goal.grow-returns-in-None-number_of-clause-added
 grow-returns-in-None-number_of-clause-added t c =
-    let T = table_at c.args.acts.now c.in-Some.table in
+    let T = table_at c.args.labels.now.acts.now c.in-Some.table in
     let number : number_in T c.in-Label.name ≡ None =
-    sym (ap (λ ts. number_in ts c.in-Label.name) c.table.ensures) ∙ (sym c.number_of.ensures ∙ c.in-None-number_of.is) in
+    sym c.number_of.ensures ∙ c.in-None-number_of.is in
     nothing_added c.args.conditions.now.items _ c.grow_bare-in-None-number_of.result
-    (no_number_told c.args.acts.now c.args.chart.now c.args.seat.level c.in-Label.name c.in-Label.is c.in-Some.table c.in-Some.is number)
+    (no_number_told c.args.labels.now.acts.now c.args.chart.now c.args.seat.level c.in-Label.name c.in-Label.is c.in-Some.table c.in-Some.is number)
 
 pub grow-returns-in-Some-get-clause-grown : goal.grow-returns-in-Some-get-clause-grown
 grow-returns-in-Some-get-clause-grown t c =
-    let T = table_at c.args.acts.now c.in-Some.table in
+    let T = table_at c.args.labels.now.acts.now c.in-Some.table in
     let number : number_in T c.in-Label.name ≡ Some c.in-Some-number_of.number =
-    sym (ap (λ ts. number_in ts c.in-Label.name) c.table.ensures) ∙ (sym c.number_of.ensures ∙ c.in-Some-number_of.is) in
+    sym c.number_of.ensures ∙ c.in-Some-number_of.is in
     let got : slice_get T c.in-Some-number_of.number ≡ Some c.in-Some-get.act.now =
-    sym (ap (λ ts. slice_get ts c.in-Some-number_of.number) c.table-in-Some-number_of.ensures)
-    ∙ slice_get_read c.table-in-Some-number_of.result.now (length c.table-in-Some-number_of.result.now) c.in-Some-number_of.number c.in-Some-get.act.now refl
+    sym (ap (λ ts. slice_get ts c.in-Some-number_of.number) c.table.ensures)
+    ∙ slice_get_read c.table.result.now (length c.table.result.now) c.in-Some-number_of.number c.in-Some-get.act.now refl
     (grind (arith, common_steps, c.in-Some-get.ensures.lookup)) c.in-Some-get.ensures.lookup.1 in
     let n = length c.args.nodes.now.items in
     let j = length c.args.conditions.now.items in
-    let unit : act_entries c.args.acts.now c.below-level.result (kind.Act c.in-Some.table c.in-Some-number_of.number) c.unit_number-unit.result n j c.args.seat.parent c.args.seat.child c.in-Some-get.act.now
-    ≡ act_entries c.args.acts.now c.below-level.result (kind.Act c.in-Some.table c.in-Some-number_of.number) (unit_number c.in-Some.table c.in-Some-number_of.number c.args.seat.unit) n j c.args.seat.parent c.args.seat.child c.in-Some-get.act.now =
-    ap (λ o. act_entries c.args.acts.now c.below-level.result (kind.Act c.in-Some.table c.in-Some-number_of.number) o n j c.args.seat.parent c.args.seat.child c.in-Some-get.act.now) c.unit_number-unit.ensures in
+    let unit : act_entries c.args.labels.now.acts.now c.below-level.result (kind.Act c.in-Some.table c.in-Some-number_of.number) c.unit_number-unit.result n j c.args.seat.parent c.args.seat.child c.in-Some-get.act.now
+    ≡ act_entries c.args.labels.now.acts.now c.below-level.result (kind.Act c.in-Some.table c.in-Some-number_of.number) (unit_number c.in-Some.table c.in-Some-number_of.number c.args.seat.unit) n j c.args.seat.parent c.args.seat.child c.in-Some-get.act.now =
+    ap (λ o. act_entries c.args.labels.now.acts.now c.below-level.result (kind.Act c.in-Some.table c.in-Some-number_of.number) o n j c.args.seat.parent c.args.seat.child c.in-Some-get.act.now) c.unit_number-unit.ensures in
     subst (λ (es : List Entry). HasGrown c.args.nodes.now.items es c.grow_act.new.nodes.items c.grow_act.result)
-    (unit ∙ sym (some_act c.args.acts.now c.args.chart.now c.args.seat.level c.in-Label.name c.in-Label.is c.in-Some.table c.in-Some.is c.in-Some-number_of.number number c.args.seat.unit n j c.args.seat.parent c.args.seat.child
+    (unit ∙ sym (some_act c.args.labels.now.acts.now c.args.chart.now c.args.seat.level c.in-Label.name c.in-Label.is c.in-Some.table c.in-Some.is c.in-Some-number_of.number number c.args.seat.unit n j c.args.seat.parent c.args.seat.child
     c.in-Some-get.act.now c.below-level.result c.below-level.ensures got))
     c.grow_act.ensures.grown
 
 pub grow-returns-in-Some-get-clause-added : goal.grow-returns-in-Some-get-clause-added
 grow-returns-in-Some-get-clause-added t c =
-    let T = table_at c.args.acts.now c.in-Some.table in
+    let T = table_at c.args.labels.now.acts.now c.in-Some.table in
     let number : number_in T c.in-Label.name ≡ Some c.in-Some-number_of.number =
-    sym (ap (λ ts. number_in ts c.in-Label.name) c.table.ensures) ∙ (sym c.number_of.ensures ∙ c.in-Some-number_of.is) in
+    sym c.number_of.ensures ∙ c.in-Some-number_of.is in
     let got : slice_get T c.in-Some-number_of.number ≡ Some c.in-Some-get.act.now =
-    sym (ap (λ ts. slice_get ts c.in-Some-number_of.number) c.table-in-Some-number_of.ensures)
-    ∙ slice_get_read c.table-in-Some-number_of.result.now (length c.table-in-Some-number_of.result.now) c.in-Some-number_of.number c.in-Some-get.act.now refl
+    sym (ap (λ ts. slice_get ts c.in-Some-number_of.number) c.table.ensures)
+    ∙ slice_get_read c.table.result.now (length c.table.result.now) c.in-Some-number_of.number c.in-Some-get.act.now refl
     (grind (arith, common_steps, c.in-Some-get.ensures.lookup)) c.in-Some-get.ensures.lookup.1 in
     subst (λ (cs : List Cond). HasAdded c.args.conditions.now.items cs c.grow_act.new.conditions.items c.grow_act.result)
-    (sym (some_act_told c.args.acts.now c.args.chart.now c.args.seat.level c.in-Label.name c.in-Label.is c.in-Some.table c.in-Some.is c.in-Some-number_of.number number c.in-Some-get.act.now c.below-level.result c.below-level.ensures got))
+    (sym (some_act_told c.args.labels.now.acts.now c.args.chart.now c.args.seat.level c.in-Label.name c.in-Label.is c.in-Some.table c.in-Some.is c.in-Some-number_of.number number c.in-Some-get.act.now c.below-level.result c.below-level.ensures got))
     c.grow_act.ensures.added
 
 pub grow-returns-in-Seq-clause-grown : goal.grow-returns-in-Seq-clause-grown
@@ -215,7 +215,7 @@ pub grow-returns-in_ok-grow_choices-in-Sel-clause-grown : goal.grow-returns-in_o
 grow-returns-in_ok-grow_choices-in-Sel-clause-grown t c =
     let before = c.args.nodes.now.items in
     let conds = c.args.conditions.now.items in
-    let acts = c.args.acts.now in
+    let acts = c.args.labels.now.acts.now in
     let level = c.args.seat.level in
     let told = told_from acts level in
     let named = named_from acts level c.args.seat.unit in
@@ -238,7 +238,7 @@ pub grow-returns-in_ok-grow_choices-in-Sel-clause-added : goal.grow-returns-in_o
 grow-returns-in_ok-grow_choices-in-Sel-clause-added t c =
     let before = c.args.nodes.now.items in
     let conds = c.args.conditions.now.items in
-    let acts = c.args.acts.now in
+    let acts = c.args.labels.now.acts.now in
     let level = c.args.seat.level in
     let told = told_from acts level in
     let named = named_from acts level c.args.seat.unit in
@@ -255,7 +255,7 @@ pub grow-returns-in_err-grow_choices-in-Sel-clause-grown : goal.grow-returns-in_
 grow-returns-in_err-grow_choices-in-Sel-clause-grown t c =
     let before = c.args.nodes.now.items in
     let conds = c.args.conditions.now.items in
-    let acts = c.args.acts.now in
+    let acts = c.args.labels.now.acts.now in
     let level = c.args.seat.level in
     let told = told_from acts level in
     let named = named_from acts level c.args.seat.unit in
@@ -281,7 +281,7 @@ pub grow-returns-in_ok-grow-in-Loop-clause-grown : goal.grow-returns-in_ok-grow-
 grow-returns-in_ok-grow-in-Loop-clause-grown t c =
     let before = c.args.nodes.now.items in
     let conds = c.args.conditions.now.items in
-    let acts = c.args.acts.now in
+    let acts = c.args.labels.now.acts.now in
     let level = c.args.seat.level in
     let told = told_from acts level in
     let named = named_from acts level c.args.seat.unit in
@@ -302,7 +302,7 @@ pub grow-returns-in_ok-grow-in-Loop-clause-added : goal.grow-returns-in_ok-grow-
 grow-returns-in_ok-grow-in-Loop-clause-added t c =
     let before = c.args.nodes.now.items in
     let conds = c.args.conditions.now.items in
-    let acts = c.args.acts.now in
+    let acts = c.args.labels.now.acts.now in
     let level = c.args.seat.level in
     let told = told_from acts level in
     let named = named_from acts level c.args.seat.unit in
@@ -317,7 +317,7 @@ pub grow-returns-in_err-grow-in-Loop-clause-grown : goal.grow-returns-in_err-gro
 grow-returns-in_err-grow-in-Loop-clause-grown t c =
     let before = c.args.nodes.now.items in
     let conds = c.args.conditions.now.items in
-    let acts = c.args.acts.now in
+    let acts = c.args.labels.now.acts.now in
     let level = c.args.seat.level in
     let told = told_from acts level in
     let named = named_from acts level c.args.seat.unit in
@@ -342,7 +342,7 @@ grow_act-returns-in_ok-grow-in-Follows-clause-grown t c =
     let conds = c.args.conditions.now.items in
     let own : Head = record { kind = c.args.kind; needs = c.needs_count.result; detail = c.args.seat.unit } in
     let head : own ≡ act_head c.args.kind c.args.seat.unit c.args.act.now = ap (λ m. record { kind = c.args.kind; needs = m; detail = c.args.seat.unit }) c.needs_count.ensures in
-    let below : ℕ → ℕ → List Entry = λ m n. chart_entries c.args.acts.now c.args.seat.level c.args.seat.unit m (length conds) n 0 (diagram_of c.in-Follows.chart) in
+    let below : ℕ → ℕ → List Entry = λ m n. chart_entries c.args.labels.now.acts.now c.args.seat.level c.args.seat.unit m (length conds) n 0 (diagram_of c.in-Follows.chart) in
     let g = grown_as before c.finish.new.nodes.items (Ok _) own (act_head c.args.kind c.args.seat.unit c.args.act.now) (length before) c.args.seat.parent c.args.seat.child _ _ head refl
     (node_grown before c.begin.new.nodes.items c.grow.new.nodes.items c.finish.new.nodes.items own c.in_ok-node.node c.args.seat.parent c.args.seat.child below c.in_ok-node.ensures c.in_ok-grow-in-Follows.ensures.grown c.finish.ensures) in
-    (g.0 ∙ ap (λ (w : Work). before ++ topped (act_head c.args.kind c.args.seat.unit c.args.act.now) (length before) c.args.seat.parent c.args.seat.child (grown_work (told_from c.args.acts.now c.args.seat.level) (named_from c.args.acts.now c.args.seat.level c.args.seat.unit) (length before) (length conds) w)) (sym c.in-Follows.is), g.1)
+    (g.0 ∙ ap (λ (w : Work). before ++ topped (act_head c.args.kind c.args.seat.unit c.args.act.now) (length before) c.args.seat.parent c.args.seat.child (grown_work (told_from c.args.labels.now.acts.now c.args.seat.level) (named_from c.args.labels.now.acts.now c.args.seat.level c.args.seat.unit) (length before) (length conds) w)) (sym c.in-Follows.is), g.1)
