@@ -30,7 +30,7 @@ use Rattle.batch_chart.specs.Stages.{stage_at}
 use Rattle.batch_chart.specs.Told.{AreTold}
 use Rattle.batch_chart.proofs.Choosing.{chosen-true, chosen-false}
 use Rattle.batch_chart.proofs.Found.{nothing, nothing-holds}
-use Rattle.batch_chart.proofs.Gathering.{none-shown}
+use Rattle.batch_chart.proofs.Wanting.{none-shown}
 use Rattle.batch_chart.proofs.Named.{entry-or-not, sign-entry, beyond, first-none, first-some}
 use Rattle.batch_chart.proofs.Neat.{neat-part}
 use Rattle.batch_chart.proofs.Picking.{RiseIn, rise, noted-alike, shown-not, shown-so}

@@ -27,7 +27,7 @@ use Rattle.batch_chart.specs.Signs.{shows, sign_at, IsNextShown}
 use Rattle.batch_chart.specs.Stages.{stage_at}
 use Rattle.batch_chart.proofs.Choosing.{chosen-true, chosen-false}
 use Rattle.batch_chart.proofs.Live.{IsNamed, looks, looks-same, first-same, live-known}
-use Rattle.batch_chart.proofs.Gathering.{none-shown, nothing-shown}
+use Rattle.batch_chart.proofs.Wanting.{none-shown, nothing-shown}
 use Rattle.batch_chart.proofs.Picking.{RiseIn, rise, sign-here, sign-other, shown-not, shown-so, noted-alike}
 use Rattle.batch_chart.proofs.Sought.{said-live}
 use Rattle.batch_chart.proofs.Stepping.{entry-at}

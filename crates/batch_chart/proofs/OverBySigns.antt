@@ -25,7 +25,7 @@ use Rattle.batch_chart.specs.Stages.{stage_at, is_finished}
 use Rattle.batch_chart.specs.Told.{AreTold}
 use Rattle.batch_chart.proofs.Advanced.{finished-stage}
 use Rattle.batch_chart.proofs.Found.{AllActs, acts-all, numbered-acts}
-use Rattle.batch_chart.proofs.Gathering.{none-shown}
+use Rattle.batch_chart.proofs.Wanting.{none-shown}
 use Rattle.batch_chart.proofs.MoveKinds.{empty-done}
 use Rattle.batch_chart.proofs.Neat.{finished-shows, neat-part, neat-finished}
 use Rattle.batch_chart.proofs.Picking.{RiseIn, rise, sign-here, shown-not}

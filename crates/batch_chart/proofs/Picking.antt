@@ -22,7 +22,7 @@ use Rattle.batch_chart.specs.Nexts.{IsFoundFirst}
 use Rattle.batch_chart.specs.Running.{IsLaid}
 use Rattle.batch_chart.proofs.Alike.{alike, same-signs}
 use Rattle.batch_chart.proofs.Choosing.{chosen-true, chosen-false}
-use Rattle.batch_chart.proofs.Gathering.{none-shown, more-not_zero}
+use Rattle.batch_chart.proofs.Wanting.{none-shown, more-not_zero}
 use Rattle.batch_chart.proofs.Sought.{sought-tells}
 
 -- the numbers rise from n on, and stay below m

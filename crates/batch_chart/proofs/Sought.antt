@@ -16,7 +16,7 @@ use Rattle.batch_chart.specs.declared.wanted.Wanted.TheVariants.{Any, Holding, L
 use Rattle.batch_chart.specs.Finding.{wants, gives}
 use Rattle.batch_chart.specs.Signs.{shows}
 use Rattle.batch_chart.specs.Noting.{flag, state_sign, ready_signs, asking_signs, freeing_signs, live_signs, open_signs, signs_of, accepting, sought}
-use Rattle.batch_chart.proofs.Gathering.{shows-or, nothing-shown}
+use Rattle.batch_chart.proofs.Wanting.{shows-or, nothing-shown}
 
 shows-flag : (m s : ℕ) (b : Bool) → shows m (flag b s) ≡ (b && shows m s)
 shows-flag m s true = refl

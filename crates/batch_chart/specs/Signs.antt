@@ -1,6 +1,8 @@
 -- surface: the signs of nodes.
-use Rattle.std.specs.Prelude.{◌≡◌, ◌<◌, ◌≤◌, ◌+◌, ◌*◌, ℕ, List, length, Bool, true, false, not, nat_eq, Option, Some, None, slice_index, slice_set}
+use Rattle.std.specs.Prelude.{◌≡◌, ◌<◌, ◌≤◌, ℕ, List, length, Bool, true, false, not, nat_eq, Option, Some, None, slice_index, slice_set}
+use Rattle.std.specs.Int.{bit_at}
 use Rattle.std.specs.Int.Bits.{bit_and}
+use Rattle.batch_chart.specs.SignSets.{AreRoomFor, shown}
 
 -- one of the wanted signs is among these
 abbrev pub shows : ℕ → ℕ → Bool
@@ -10,17 +12,10 @@ shows wanted signs = not (nat_eq (bit_and signs wanted) 0)
 abbrev pub sign_at : List ℕ → ℕ → ℕ
 sign_at signs k = slice_index signs k
 
--- what isn't among all signs of so many, from one on, isn't among those of each
-abbrev pub covers : List ℕ → ℕ → ℕ → ℕ → Type 0
-covers signs from count all = (k wanted : ℕ) → from ≤ k → k < from + count → bit_and all wanted ≡ 0 → bit_and (sign_at signs k) wanted ≡ 0
-
--- the signs of nodes, those of blocks of them, those of groups of blocks, and all signs
-pub record AreGathered (signs blocks groups : List ℕ) (all : ℕ) : Type 0 where
-  pub count : length signs ≤ 16 * length blocks
-  pub gather : (block : ℕ) → covers signs (block * 16) 16 (slice_index blocks block)
-  pub groups_count : length blocks ≤ 16 * length groups
-  pub group_gather : (group : ℕ) → covers blocks (group * 16) 16 (slice_index groups group)
-  pub whole : covers groups 0 (length groups) all
+-- the signs of nodes, and for each sign the nodes that show it
+pub record AreBySign (signs words : List ℕ) : Type 0 where
+  pub room : AreRoomFor words (length signs)
+  pub same : (k sign : ℕ) → sign < 32 → shown words k sign ≡ bit_at (sign_at signs k) sign
 
 abbrev pub NoneShows : List ℕ → ℕ → ℕ → ℕ → Type 0
 NoneShows signs wanted from end = (k : ℕ) → from ≤ k → k < end → bit_and (sign_at signs k) wanted ≡ 0

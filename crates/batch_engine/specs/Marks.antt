@@ -1,5 +1,5 @@
 -- surface: which numbers are marked.
-use Rattle.std.specs.Prelude.{◌≡◌, ◌<◌, ◌≤◌, ◌/◌, ◌%◌, ℕ, List, length, true, false, nat_eq, Option, Some, None, slice_index}
+use Rattle.std.specs.Prelude.{◌≡◌, ◌<◌, ◌≤◌, ◌/◌, ◌%◌, ℕ, List, length, Option, Some, None, slice_index}
 use Rattle.std.specs.Int.{bit_at}
 
 -- 1 where the number is marked, and else 0
@@ -11,18 +11,6 @@ IsMarked words i = mark_at words i ≡ 1
 
 abbrev pub IsUnmarked : List ℕ → ℕ → Type 0
 IsUnmarked words i = mark_at words i ≡ 0
-
--- the function with 1 at a number
-abbrev pub with_one : ℕ → (ℕ → ℕ) → ℕ → ℕ
-with_one at f k = elim (nat_eq k at) [ true ↦ 1 | false ↦ f k ]
-
-abbrev pub with_zero : ℕ → (ℕ → ℕ) → ℕ → ℕ
-with_zero at f k = elim (nat_eq k at) [ true ↦ 0 | false ↦ f k ]
-
--- the lowest bit that is set, from this one on
-abbrev pub IsLowestFrom : ℕ → ℕ → Option ℕ → Type 0
-IsLowestFrom word from None = (k : ℕ) → from ≤ k → bit_at word k ≡ 0
-IsLowestFrom word from (Some l) = (l < 64) × (from ≤ l) × (bit_at word l ≡ 1) × ((k : ℕ) → from ≤ k → k < l → bit_at word k ≡ 0)
 
 abbrev pub IsNextMark : List ℕ → ℕ → Option ℕ → Type 0
 IsNextMark words from None = (i : ℕ) → from ≤ i → i < 4096 → IsUnmarked words i

@@ -1,4 +1,4 @@
-use Rattle.batch_chart.proofs.Gathering.{tells-none, tells-some}
+use Rattle.batch_chart.proofs.Wanting.{tells-none, tells-some}
 use Rattle.batch_chart.proofs.signs.Signs.has_none.Goals as goal
 
 pub returns-in-None : goal.returns-in-None

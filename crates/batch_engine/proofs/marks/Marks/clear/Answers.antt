@@ -1,6 +1,7 @@
 use Rattle.std.proofs.Common.{◌<◌, arith}
 use Rattle.std.specs.Prelude.{◌/◌, ◌%◌, slice_index}
-use Rattle.batch_engine.proofs.Bits.{summary-kept, some-before, not-zero}
+use Rattle.batch_chart.proofs.Bits.{some-before, not-zero}
+use Rattle.batch_engine.proofs.Summary.{summary-kept}
 use Rattle.batch_engine.proofs.marks.Marks.clear.Goals as goal
 
 pub invariant_of-self-else-left-eq0 : goal.invariant_of-self-else-left-eq0

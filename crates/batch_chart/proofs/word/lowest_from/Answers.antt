@@ -1,8 +1,8 @@
 use Rattle.std.proofs.Common.{refl, arith, ◌<◌, ℕ, ◌*◌, ◌%◌, bit_and}
 use Rattle.std.specs.Prelude.{◌^◌, ◌-◌}
 use Rattle.std.proofs.lemmas.Nat.{and_le_l}
-use Rattle.batch_engine.proofs.Bits.{nothing, lowest, not-zero}
-use Rattle.batch_engine.proofs.word.lowest_from.Goals as goal
+use Rattle.batch_chart.proofs.Bits.{nothing, lowest, not-zero}
+use Rattle.batch_chart.proofs.word.lowest_from.Goals as goal
 
 pub returns-then-rest-eq0 : goal.returns-then-rest-eq0
 returns-then-rest-eq0 c = nothing c.args.word c.args.from c.ranges.word.fits c.requires _ refl c.if-rest-eq0.true
