@@ -1,5 +1,5 @@
 -- surface: places whose texts are kept.
-use Rattle.std.specs.Prelude.{◌≡◌, ℕ, ◌+◌, ◌-◌, ◌≤◌, ◌<◌, ◌⊎◌, List, length, take, get_or, slice_set}
+use Rattle.std.specs.Prelude.{◌≡◌, ℕ, ◌+◌, ◌-◌, ◌≤◌, ◌<◌, ◌⊎◌, List, Option, Some, codes, decimal, drop, length, take, get_or, slice_set}
 use Rattle.batch_recipe.specs.Texts.{place_text}
 use Rattle.batch_verify.specs.ClearedSet.{ClearedSet}
 use Rattle.batch_engine.specs.Names.{place_at}
@@ -9,12 +9,18 @@ use Rattle.batch_wire.specs.declared.known_places.KnownPlaces.{KnownPlaces}
 abbrev pub known_at : KnownPlaces → ℕ → Known
 known_at k i = get_or k.path i (record { node = 0; end = 0 })
 
--- the text that is kept begins with that of each node kept
+-- a space stands before the place, and before it the digits of the batch
+pub record HoldsBatch (batch : Option ℕ) (start : ℕ) (text : List ℕ) : Type 0 where
+  pub space : drop 23 (take 24 text) ≡ codes " "
+  pub digits : (n : ℕ) → batch ≡ Some n → (start ≤ 23) × (drop start (take 23 text) ≡ decimal n)
+
+-- the text that is kept begins with that of each node kept, from its 24th byte on
 pub record AreKnownBy (text_of : ℕ → List ℕ) (k : KnownPlaces) : Type 0 where
+  pub batch : HoldsBatch k.batch k.start k.text
   pub few : k.depth ≤ 192
   pub rise : (i j : ℕ) → i ≤ j → j < k.depth → (known_at k i).end ≤ (known_at k j).end
-  pub fit : (i : ℕ) → i < k.depth → (known_at k i).end ≤ 384
-  pub told : (i : ℕ) → i < k.depth → take (known_at k i).end k.text ≡ text_of (known_at k i).node
+  pub fit : (i : ℕ) → i < k.depth → (24 ≤ (known_at k i).end) × ((known_at k i).end ≤ 408)
+  pub told : (i : ℕ) → i < k.depth → drop 24 (take (known_at k i).end k.text) ≡ text_of (known_at k i).node
 
 -- the places kept are those of a recipe of the set
 abbrev pub AreKnown : ClearedSet → KnownPlaces → Type 0
@@ -22,9 +28,10 @@ AreKnown c k = AreKnownBy (λ node. place_text (place_at c k.recipe node)) k
 
 -- a text ends there, behind all that are kept
 pub record EndsAt (text : List ℕ) (end : ℕ) (k : KnownPlaces) : Type 0 where
-  pub within : end ≤ 384
+  pub from : 24 ≤ end
+  pub within : end ≤ 408
   pub last : (i : ℕ) → i < k.depth → (known_at k i).end ≤ end
-  pub told : take end k.text ≡ text
+  pub told : drop 24 (take end k.text) ≡ text
 
 -- the node is the last one, and the text of its place ends there
 abbrev pub IsLast : ℕ → ℕ → KnownPlaces → Type 0
@@ -35,6 +42,8 @@ pub record IsCutBack (old new : KnownPlaces) : Type 0 where
   pub fewer : new.depth ≤ old.depth
   pub path : new.path ≡ old.path
   pub text : new.text ≡ old.text
+  pub batch : new.batch ≡ old.batch
+  pub start : new.start ≡ old.start
   pub recipe : new.recipe ≡ old.recipe
 
 -- a node is kept behind the others
@@ -47,5 +56,7 @@ pub record IsAdded (node end : ℕ) (old new : KnownPlaces) : Type 0 where
 -- the same, or there was no room for it
 pub record IsKept (node end : ℕ) (old new : KnownPlaces) : Type 0 where
   pub text : new.text ≡ old.text
+  pub batch : new.batch ≡ old.batch
+  pub start : new.start ≡ old.start
   pub recipe : new.recipe ≡ old.recipe
   pub path : ((new.depth ≡ old.depth) × (new.path ≡ old.path)) ⊎ IsAdded node end old new

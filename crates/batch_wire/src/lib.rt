@@ -12,6 +12,7 @@ mod putting;
 mod record_line;
 mod report_line;
 mod rows;
+mod site;
 mod steps;
 mod words;
 mod writing;

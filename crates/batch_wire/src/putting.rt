@@ -1,5 +1,5 @@
 //! Putting a text together from its end.
-ghost use Rattle.std.specs.Prelude.{◌≡◌, ◌≤◌, ◌++◌, IfSome, drop, flat_map, length};
+ghost use Rattle.std.specs.Prelude.{◌≡◌, ◌≤◌, ◌++◌, IfNone, IfSome, drop, flat_map, length};
 
 /// Puts the pieces in front of what begins at `end`, and tells where they begin. None where there is no room for them.
 #[inline(always)]
@@ -16,11 +16,12 @@ pub fn put_pieces(text: &mut [u8], end: usize, pieces: &[&[u8]]) -> Option<usize
     Some(start)
 }
 
-/// Puts a piece in front of what begins at `end`, and tells where it begins. None where there is no room for it.
+/// Puts a piece in front of what begins at `end`, and tells where it begins. None where there is no room for it: then nothing was put.
 #[inline(always)]
 pub fn put_piece(text: &mut [u8], end: usize, piece: &[u8]) -> Option<usize>
     requires { end ≤ length text.old }
-    ensures { IfSome result (λ start. (start ≤ end) × (drop start text.new ≡ piece.now ++ drop end text.old)) }
+    ensures unchanged { IfNone result (text.new ≡ text.old) }
+    ensures put { IfSome result (λ start. (start ≤ end) × (drop start text.new ≡ piece.now ++ drop end text.old)) }
 {
     let start = end.checked_sub(piece.len())?;
     match piece {

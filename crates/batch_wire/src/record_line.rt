@@ -1,15 +1,14 @@
 //! Writing a line of the record.
 ghost use Rattle.std.specs.Prelude.{◌≡◌, ◌≤◌, ◌∷◌, [], ◌++◌, IfSome, map, codes, decimal, drop, length};
 ghost use Rattle.std.specs.List.{zip};
-ghost use Rattle.batch_recipe.specs.Texts.{line_text, place_text};
-ghost use Rattle.batch_model.specs.Moves.{place_of_move};
-ghost use Rattle.batch_engine.specs.Names.{handed_at, name_at, phase_name, place_at, recipe_name, resource_name, roles_of, roles_told};
+ghost use Rattle.batch_recipe.specs.Texts.{line_text};
+ghost use Rattle.batch_engine.specs.Names.{handed_at, name_at, phase_name, recipe_name, resource_name, roles_of, roles_told};
 ghost use Rattle.batch_engine.specs.Surface.{out_of, reply_of, move_of, refusal_of};
 ghost use Rattle.batch_engine.specs.declared.line.Line.TheVariants as lines;
 ghost use Rattle.batch_engine.specs.declared.reply.Reply.TheVariants as replies;
 ghost use Rattle.batch_verify.specs.ClearedSet.{ClearedSet};
 ghost use Rattle.batch_wire.specs.Known.{AreKnown};
-ghost use Rattle.batch_wire.specs.Pieces.{TellsOfClaim, before, created_front, phase_front, place_of_out, place_of_reply, place_of_site, roles_text, told_text, values_text};
+ghost use Rattle.batch_wire.specs.Pieces.{TellsOfClaim, before, created_front, phase_front, roles_text, text_of_site, told_by_move, told_by_out, told_by_reply, told_text, values_text};
 ghost use Rattle.batch_wire.specs.RecordText.{out_text, reply_words, refusal_words, move_words, state_text, command_text, report_text, role_text, value_text, need_text, value_texts};
 ghost use Rattle.batch_wire.specs.Written.{Writes};
 
@@ -18,6 +17,7 @@ use crate::known_places::KnownPlaces;
 use crate::names::{act_name, handed_names, phase_name, recipe_name, resource_name, value_name};
 use crate::places::{ToldPlace, write_place};
 use crate::putting::{put_piece, put_pieces};
+use crate::site::Site;
 use crate::writing::{write_all, write_pieces};
 use batch_engine::{Line, Out, Refusal, Reply};
 use batch_matrix::{Command, Report, State};
@@ -26,13 +26,6 @@ use batch_text::Name;
 use batch_verify::Cleared;
 use itoa::Buffer;
 use std::io::Write;
-
-/// A node of a recipe, by the numbers of both.
-#[derive(Clone, Copy)]
-struct Site {
-    recipe: u16,
-    node: u16,
-}
 
 /// Writes the line of the record that tells the out. It takes no memory.
 pub fn write_out<W: Write>(out: &Out, cleared: &Cleared, writer: &mut W) -> Result<(), WriteFault>
@@ -53,45 +46,121 @@ pub fn write_out_knowing<W: Write>(
     ensures known { AreKnown cleared.now places.new }
     ensures written { Writes (W.contents writer.old) (W.contents writer.new) result (out_text (out_of cleared.now out.now)) }
 {
-    let Some(Site { recipe, node }) = site_of(out) else {
-        return write_telling(
-            out,
-            cleared,
-            &ToldPlace::Known(b""),
-            &mut places.line,
-            writer,
-        );
+    let Some(site) = site_of(out) else {
+        let nothing = ToldPlace::Known(b"");
+        return write_telling(out, cleared, &nothing, &mut places.line, writer);
     };
-    match places.find(cleared, recipe, node) {
+    match places.find(cleared, site) {
         Some(end) => {
-            let place = ToldPlace::Known(&places.text[..end]);
+            let start = places.start;
+            let known = &places.text[..end];
+            let place = ToldPlace::Known(&known[start..]);
             write_telling(out, cleared, &place, &mut places.line, writer)
         }
         None => {
-            let place = ToldPlace::Long {
-                cleared,
-                recipe,
-                node,
-            };
+            let place = ToldPlace::Long { cleared, site };
             write_telling(out, cleared, &place, &mut places.line, writer)
         }
     }
 }
 
 /// The node whose place the out tells. None where it tells none.
+#[inline(always)]
 fn site_of(out: &Out) -> Option<Site>
-    ensures { (cleared : ClearedSet) → place_of_site cleared result ≡ place_of_out (out_of cleared out.now) }
+    ensures { (cleared : ClearedSet) → text_of_site cleared result ≡ told_by_out (out_of cleared out.now) }
 {
     match *out {
-        Out::Reply(Reply::Reported { recipe, node, .. })
-        | Out::Move(Line::Send { recipe, node, .. })
-        | Out::Move(Line::Release { recipe, node, .. })
-        | Out::Move(Line::Begin { recipe, node, .. })
-        | Out::Move(Line::Start { recipe, node, .. })
-        | Out::Move(Line::End { recipe, node, .. })
-        | Out::Move(Line::Ask { recipe, node, .. })
-        | Out::Move(Line::Grant { recipe, node, .. }) => Some(Site { recipe, node }),
+        Out::Reply(reply) => site_of_reply(reply),
+        Out::Move(line) => site_of_move(line),
+    }
+}
+
+#[inline(always)]
+fn site_of_reply(reply: Reply) -> Option<Site>
+    ensures { (cleared : ClearedSet) → text_of_site cleared result ≡ told_by_reply (reply_of cleared reply) }
+{
+    match reply {
+        Reply::Reported {
+            batch,
+            recipe,
+            node,
+            ..
+        } => Some(Site {
+            batch,
+            recipe,
+            node,
+        }),
         _ => None,
+    }
+}
+
+#[inline(always)]
+fn site_of_move(line: Line) -> Option<Site>
+    ensures { (cleared : ClearedSet) → text_of_site cleared result ≡ told_by_move (move_of cleared line) }
+{
+    match line {
+        Line::State { .. } => None,
+        Line::Send {
+            batch,
+            recipe,
+            node,
+            ..
+        }
+        | Line::Begin {
+            batch,
+            recipe,
+            node,
+            ..
+        }
+        | Line::Start {
+            batch,
+            recipe,
+            node,
+            ..
+        }
+        | Line::End {
+            batch,
+            recipe,
+            node,
+            ..
+        } => Some(Site {
+            batch,
+            recipe,
+            node,
+        }),
+        _ => site_of_claim(line),
+    }
+}
+
+#[inline(always)]
+fn site_of_claim(line: Line) -> Option<Site>
+    requires { TellsOfClaim line }
+    ensures { (cleared : ClearedSet) → text_of_site cleared result ≡ told_by_move (move_of cleared line) }
+{
+    match line {
+        Line::Release {
+            batch,
+            recipe,
+            node,
+            ..
+        }
+        | Line::Ask {
+            batch,
+            recipe,
+            node,
+            ..
+        }
+        | Line::Grant {
+            batch,
+            recipe,
+            node,
+            ..
+        } => Some(Site {
+            batch,
+            recipe,
+            node,
+        }),
+        _ => unreachable!(),
     }
 }
 
@@ -104,7 +173,7 @@ fn write_telling<W: Write>(
     room: &mut [u8],
     writer: &mut W,
 ) -> Result<(), WriteFault>
-    requires { told_text place.now ≡ place_text (place_of_out (out_of cleared.now out.now)) }
+    requires { told_text place.now ≡ told_by_out (out_of cleared.now out.now) }
     ensures { Writes (W.contents writer.old) (W.contents writer.new) result (out_text (out_of cleared.now out.now)) }
 {
     match *out {
@@ -120,7 +189,7 @@ fn write_reply<W: Write>(
     room: &mut [u8],
     writer: &mut W,
 ) -> Result<(), WriteFault>
-    requires { told_text place.now ≡ place_text (place_of_reply (reply_of cleared.now reply)) }
+    requires { told_text place.now ≡ told_by_reply (reply_of cleared.now reply) }
     ensures { Writes (W.contents writer.old) (W.contents writer.new) result (line_text (reply_words (reply_of cleared.now reply))) }
 {
     match reply {
@@ -140,14 +209,13 @@ fn write_reply<W: Write>(
             unit,
             phase,
             word,
-            batch,
             state,
             ..
         } => {
             let phase = phase_name(cleared, unit, phase);
             let unit = resource_name(cleared, unit);
             let word = report_text(word);
-            write_reported(unit, phase, word, batch, place, room, state, writer)
+            write_reported(unit, phase, word, place, room, state, writer)
         }
         Reply::Refused(refusal) => write_refusal(refusal, cleared, writer),
     }
@@ -275,28 +343,16 @@ fn write_reported<'a, W: Write>(
     unit: &'a [u8],
     phase: &'a [u8],
     word: &'a [u8],
-    batch: u64,
     place: &ToldPlace<'_>,
     room: &mut [u8],
     state: State,
     writer: &mut W,
 ) -> Result<(), WriteFault>
     ensures { Writes (W.contents writer.old) (W.contents writer.new) result
-        (line_text (codes "ok" ∷ codes "report" ∷ unit.now ∷ phase.now ∷ word.now ∷ decimal batch ∷ told_text place.now ∷ state_text state ∷ [])) }
+        (line_text (codes "ok" ∷ codes "report" ∷ unit.now ∷ phase.now ∷ word.now ∷ told_text place.now ∷ state_text state ∷ [])) }
 {
-    let mut digits = Buffer::new();
     write_placed(
-        &[
-            b"ok report ",
-            unit,
-            b" ",
-            phase,
-            b" ",
-            word,
-            b" ",
-            digits.format(batch).as_bytes(),
-            b" ",
-        ],
+        &[b"ok report ", unit, b" ", phase, b" ", word, b" "],
         place,
         room,
         &[b" ", state_text(state), b"\n"],
@@ -346,38 +402,37 @@ fn write_move<W: Write>(
     room: &mut [u8],
     writer: &mut W,
 ) -> Result<(), WriteFault>
-    requires { told_text place.now ≡ place_text (place_of_move (move_of cleared.now line)) }
+    requires { told_text place.now ≡ told_by_move (move_of cleared.now line) }
     ensures { Writes (W.contents writer.old) (W.contents writer.new) result (line_text (move_words (move_of cleared.now line))) }
 {
     match line {
         Line::Send {
-            batch,
             unit,
             phase,
             command,
             ..
-        } => write_send(batch, place, room, cleared, unit, phase, command, writer),
+        } => write_send(place, room, cleared, unit, phase, command, writer),
         Line::State { batch, state } => write_state(batch, state, writer),
-        Line::Begin {
-            batch,
-            recipe,
-            node,
-        } => write_begin(batch, place, room, cleared, recipe, node, writer),
+        Line::Begin { recipe, node, .. } => {
+            write_step(
+                b"begin ",
+                place,
+                room,
+                act_name(cleared, recipe, node),
+                writer,
+            )
+        }
         Line::Start {
-            batch,
             recipe,
             node,
             unit,
             phase,
             values,
-        } => {
-            let unit_name = resource_name(cleared, unit);
-            let phase_name = phase_name(cleared, unit, phase);
-            write_start(
-                batch, place, room, unit_name, phase_name, cleared, recipe, node, values, writer,
-            )
-        }
-        Line::End { batch, .. } => write_end(batch, place, room, writer),
+            ..
+        } => write_start(
+            place, room, cleared, recipe, node, unit, phase, values, writer,
+        ),
+        Line::End { .. } => write_placed(&[b"end "], place, room, &[b"\n"], writer),
         _ => write_claim(line, cleared, place, room, writer),
     }
 }
@@ -392,60 +447,39 @@ fn write_claim<W: Write>(
     writer: &mut W,
 ) -> Result<(), WriteFault>
     requires claim { TellsOfClaim line }
-    requires place { told_text place.now ≡ place_text (place_of_move (move_of cleared.now line)) }
+    requires place { told_text place.now ≡ told_by_move (move_of cleared.now line) }
     ensures { Writes (W.contents writer.old) (W.contents writer.new) result (line_text (move_words (move_of cleared.now line))) }
 {
     match line {
         Line::Release {
-            batch,
             resource,
             units,
             ..
         } => {
             let name = resource_name(cleared, resource);
-            write_need(b"release", batch, place, room, name, units, writer)
+            write_need(b"release ", place, room, name, units, writer)
         }
         Line::Ask {
-            batch,
             resource,
             units,
             ..
         } => {
             let name = resource_name(cleared, resource);
-            write_need(b"ask", batch, place, room, name, units, writer)
+            write_need(b"ask ", place, room, name, units, writer)
         }
         Line::Grant {
-            batch,
             resource,
             units,
             ..
         } => {
             let name = resource_name(cleared, resource);
-            write_need(b"grant", batch, place, room, name, units, writer)
+            write_need(b"grant ", place, room, name, units, writer)
         }
         _ => unreachable!(),
     }
 }
 
-#[inline(always)]
-fn write_begin<W: Write>(
-    batch: u64,
-    place: &ToldPlace<'_>,
-    room: &mut [u8],
-    cleared: &Cleared,
-    recipe: u16,
-    node: u16,
-    writer: &mut W,
-) -> Result<(), WriteFault>
-    ensures { Writes (W.contents writer.old) (W.contents writer.new) result
-        (line_text (codes "begin" ∷ decimal batch ∷ told_text place.now ∷ name_at cleared.now recipe node ∷ [])) }
-{
-    let name = act_name(cleared, recipe, node);
-    write_step(b"begin", batch, place, room, name, writer)
-}
-
 fn write_send<W: Write>(
-    batch: u64,
     place: &ToldPlace<'_>,
     room: &mut [u8],
     cleared: &Cleared,
@@ -455,11 +489,11 @@ fn write_send<W: Write>(
     writer: &mut W,
 ) -> Result<(), WriteFault>
     ensures { Writes (W.contents writer.old) (W.contents writer.new) result
-        (line_text (codes "send" ∷ decimal batch ∷ told_text place.now ∷ resource_name cleared.now unit ∷ phase_name cleared.now unit phase ∷ command_text command ∷ [])) }
+        (codes "send " ++ line_text (told_text place.now ∷ resource_name cleared.now unit ∷ phase_name cleared.now unit phase ∷ command_text command ∷ [])) }
 {
     let phase_name = phase_name(cleared, unit, phase);
     let unit_name = resource_name(cleared, unit);
-    write_phase_front(b"send", batch, place, room, unit_name, phase_name, writer)?;
+    write_phase_front(b"send ", place, room, unit_name, phase_name, writer)?;
     write_pieces(writer, &[b" ", command_text(command), b"\n"])
 }
 
@@ -480,55 +514,26 @@ fn write_state<W: Write>(batch: u64, state: State, writer: &mut W) -> Result<(),
     )
 }
 
-#[inline(always)]
-fn write_end<W: Write>(
-    batch: u64,
-    place: &ToldPlace<'_>,
-    room: &mut [u8],
-    writer: &mut W,
-) -> Result<(), WriteFault>
-    ensures { Writes (W.contents writer.old) (W.contents writer.new) result
-        (line_text (codes "end" ∷ decimal batch ∷ told_text place.now ∷ [])) }
-{
-    let mut digits = Buffer::new();
-    write_placed(
-        &[b"end ", digits.format(batch).as_bytes(), b" "],
-        place,
-        room,
-        &[b"\n"],
-        writer,
-    )
-}
-
-/// Writes what a move tells of a step: the word, the batch, the step's place and a name.
+/// Writes what a move tells of a step: the word and a space, the batch and the step's place, and a name.
 #[inline(always)]
 fn write_step<W: Write>(
     word: &'static [u8],
-    batch: u64,
     place: &ToldPlace<'_>,
     room: &mut [u8],
     name: &[u8],
     writer: &mut W,
 ) -> Result<(), WriteFault>
     ensures { Writes (W.contents writer.old) (W.contents writer.new) result
-        (line_text (word.now ∷ decimal batch ∷ told_text place.now ∷ name.now ∷ [])) }
+        (word.now ++ line_text (told_text place.now ∷ name.now ∷ [])) }
 {
-    let mut digits = Buffer::new();
-    write_placed(
-        &[word, b" ", digits.format(batch).as_bytes(), b" "],
-        place,
-        room,
-        &[b" ", name, b"\n"],
-        writer,
-    )
+    write_placed(&[word], place, room, &[b" ", name, b"\n"], writer)
 }
 
-/// Writes what a move tells of a need: the word, the batch, the act's place, the resource, and how many units of it where it is
-/// more than one.
+/// Writes what a move tells of a need: the word and a space, the batch and the act's place, the resource, and how many units of it
+/// where it is more than one.
 #[inline(always)]
 fn write_need<W: Write>(
     word: &'static [u8],
-    batch: u64,
     place: &ToldPlace<'_>,
     room: &mut [u8],
     resource: &[u8],
@@ -536,30 +541,45 @@ fn write_need<W: Write>(
     writer: &mut W,
 ) -> Result<(), WriteFault>
     ensures { Writes (W.contents writer.old) (W.contents writer.new) result
-        (line_text (word.now ∷ decimal batch ∷ told_text place.now ∷ need_text (record { resource = resource.now; units = units }) ∷ [])) }
+        (word.now ++ line_text (told_text place.now ∷ need_text (record { resource = resource.now; units = units }) ∷ [])) }
 {
     if units <= 1 {
-        return write_step(word, batch, place, room, resource, writer);
+        return write_step(word, place, room, resource, writer);
     }
-    let mut batch_digits = Buffer::new();
-    let mut unit_digits = Buffer::new();
+    let mut digits = Buffer::new();
+    let units = digits.format(units).as_bytes();
     write_placed(
-        &[word, b" ", batch_digits.format(batch).as_bytes(), b" "],
+        &[word],
         place,
         room,
-        &[
-            b" ",
-            resource,
-            b"*",
-            unit_digits.format(units).as_bytes(),
-            b"\n",
-        ],
+        &[b" ", resource, b"*", units, b"\n"],
         writer,
     )
 }
 
 fn write_start<W: Write>(
-    batch: u64,
+    place: &ToldPlace<'_>,
+    room: &mut [u8],
+    cleared: &Cleared,
+    recipe: u16,
+    node: u16,
+    unit: u16,
+    phase: u16,
+    values: [u64; MAX_VALUES],
+    writer: &mut W,
+) -> Result<(), WriteFault>
+    ensures { Writes (W.contents writer.old) (W.contents writer.new) result
+        (codes "start " ++ line_text (told_text place.now ∷ resource_name cleared.now unit ∷ phase_name cleared.now unit phase ∷ value_texts (zip (handed_at cleared.now recipe node) values))) }
+{
+    let unit_name = resource_name(cleared, unit);
+    let phase_name = phase_name(cleared, unit, phase);
+    write_handing(
+        place, room, unit_name, phase_name, cleared, recipe, node, values, writer,
+    )
+}
+
+/// Writes that a phase starts, and the values that it is handed.
+fn write_handing<W: Write>(
     place: &ToldPlace<'_>,
     room: &mut [u8],
     unit: &[u8],
@@ -571,18 +591,17 @@ fn write_start<W: Write>(
     writer: &mut W,
 ) -> Result<(), WriteFault>
     ensures { Writes (W.contents writer.old) (W.contents writer.new) result
-        (line_text (codes "start" ∷ decimal batch ∷ told_text place.now ∷ unit.now ∷ phase.now ∷ value_texts (zip (handed_at cleared.now recipe node) values))) }
+        (codes "start " ++ line_text (told_text place.now ∷ unit.now ∷ phase.now ∷ value_texts (zip (handed_at cleared.now recipe node) values))) }
 {
-    write_phase_front(b"start", batch, place, room, unit, phase, writer)?;
+    write_phase_front(b"start ", place, room, unit, phase, writer)?;
     write_handed(cleared, recipe, node, values, writer)?;
     write_all(writer, b"\n")
 }
 
-/// Writes what a line of a phase step begins with: the word, the batch, the step's place, the unit and its phase.
+/// Writes what a line of a phase step begins with: the word and a space, the batch and the step's place, the unit and its phase.
 #[inline(always)]
 fn write_phase_front<W: Write>(
     word: &'static [u8],
-    batch: u64,
     place: &ToldPlace<'_>,
     room: &mut [u8],
     unit: &[u8],
@@ -590,16 +609,9 @@ fn write_phase_front<W: Write>(
     writer: &mut W,
 ) -> Result<(), WriteFault>
     ensures { Writes (W.contents writer.old) (W.contents writer.new) result
-        (phase_front word.now batch (told_text place.now) unit.now phase.now) }
+        (phase_front word.now (told_text place.now) unit.now phase.now) }
 {
-    let mut digits = Buffer::new();
-    write_placed(
-        &[word, b" ", digits.format(batch).as_bytes(), b" "],
-        place,
-        room,
-        &[b" ", unit, b" ", phase],
-        writer,
-    )
+    write_placed(&[word], place, room, &[b" ", unit, b" ", phase], writer)
 }
 
 /// Writes pieces, a place, and pieces behind it.

@@ -1,4 +1,4 @@
-//! Lines of two recipes in turn, through the places that are kept.
+//! Lines of batches of two recipes in turn, through the places that are kept.
 use crate::records::cleared_of;
 use batch_engine::{Line, Out};
 use batch_verify::Cleared;
@@ -55,12 +55,12 @@ name = \"HEAT\"
 name = \"DRAIN\"
 ";
 
-/// The ends of these nodes, by the numbers of their recipes.
-fn ends_of(alloc: Global, sites: &[(u16, u16)]) -> Result<Vec<Out>, Fail> {
+/// The ends of these nodes, by the numbers of their batches and recipes.
+fn ends_of(alloc: Global, sites: &[(u64, u16, u16)]) -> Result<Vec<Out>, Fail> {
     let mut outs = Vec::new(alloc);
-    for (recipe, node) in sites {
+    for (batch, recipe, node) in sites {
         outs.push(Out::Move(Line::End {
-            batch: 1,
+            batch: *batch,
             recipe: *recipe,
             node: *node,
         }))?;
@@ -94,17 +94,17 @@ fn places_of_two_recipes_in_turn(rt: HostRuntime) -> Result<(), Fail> {
     let outs = ends_of(
         alloc,
         &[
-            (0, 14),
-            (0, 13),
-            (1, 13),
-            (1, 8),
-            (1, 9),
-            (0, 9),
-            (1, 4),
-            (1, 900),
-            (9, 4),
-            (0, 0),
-            (0, 15),
+            (1, 0, 14),
+            (1, 0, 13),
+            (1, 1, 13),
+            (2, 1, 8),
+            (2, 1, 9),
+            (10, 0, 9),
+            (10, 1, 4),
+            (9, 1, 900),
+            (9, 9, 4),
+            (18446744073709551615, 0, 0),
+            (1, 0, 15),
         ],
     )?;
     let apart = lines_apart(alloc, &cleared, &outs)?;

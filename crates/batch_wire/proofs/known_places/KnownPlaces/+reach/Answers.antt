@@ -1,11 +1,12 @@
-use Rattle.std.proofs.Common.{ℕ, ◌++◌, codes, decimal, ap, sym, ◌∙◌, arith}
+use Rattle.std.proofs.Common.{◌≡◌, ◌≤◌, ℕ, [], ◌++◌, drop, take, length, length-take-le, codes, decimal, ap, sym, ◌∙◌, arith}
+use Rattle.std.proofs.lemmas.List.{drop_all}
 use Rattle.batch_wire.specs.Known.{AreKnownBy, EndsAt}
 use Rattle.batch_wire.specs.Pieces.{text_of_place}
 use Rattle.batch_wire.specs.declared.known_places.KnownPlaces.{KnownPlaces}
 use Rattle.batch_wire.proofs.PlacesKept.{still_known, known_further}
 use Rattle.batch_wire.proofs.PlaceParts.{entry-at, root-text, text-below}
 use Rattle.batch_wire.proofs.known_places.KnownPlaces.+reach.Goals as goal
-use Rattle.batch_wire.proofs.known_places.KnownPlaces.+reach.Goals.{then-node-eq0, else-node-eq0+in_ok-above+else-above-gt-MAX_PLACE_LEN}
+use Rattle.batch_wire.proofs.known_places.KnownPlaces.+reach.Goals.{then-node-eq0, else-node-eq0+in_ok-above+else-above-gt-MAX_PLACE_END}
 
 pub reach-requires : goal.reach-requires
 reach-requires t c =
@@ -23,13 +24,15 @@ known t c =
           let cut = c.forget_past.ensures in
           let none : KnownPlaces = record c.forget_past.new.self { depth = 0 } in
           let put = w.put_number-end.ensures in
-          known_further (text_of_place r) none _ _ (decimal e.child) 0 _ _
-          (still_known (text_of_place r) _ none c.requires.known (record { fewer = omega arith; path = cut.path; text = cut.text; recipe = cut.recipe }))
+          let room : 24 ≤ length none.text = omega arith in
+          let nothing : drop 24 (take 24 none.text) ≡ [] = drop_all 24 (take 24 none.text) (omega (arith, length-take-le 24 none.text room)) in
+          known_further (text_of_place r) none _ _ (decimal e.child) 24 _ _
+          (still_known (text_of_place r) _ none c.requires.known (record { fewer = omega arith; path = cut.path; text = cut.text; batch = cut.batch; start = cut.start; recipe = cut.recipe }))
           (λ i lt. absurd (omega (arith, lt)))
           (rw (w.self-is, w.end-is) put.put)
-          (sym (root-text r c.args.node e is w.if-node-eq0.true))
-          (omega arith) (rw w.end-is (omega (arith, put.end))) (omega arith) (rw w.self-is) (rw w.self-is) c.keep.ensures
-      | else-node-eq0+in_ok-above+else-above-gt-MAX_PLACE_LEN w ↦
+          (ap (λ t. t ++ decimal e.child) nothing ∙ sym (root-text r c.args.node e is w.if-node-eq0.true))
+          (omega arith) (rw w.end-is (omega (arith, put.end))) (rw w.end-is (omega (arith, put.end))) room (rw w.self-is) (rw w.self-is) (rw w.self-is) (rw w.self-is) c.keep.ensures
+      | else-node-eq0+in_ok-above+else-above-gt-MAX_PLACE_END w ↦
           let below = text-below r c.args.node e is w.if-node-eq0.false in
           let above = w.in_ok-above.ensures in
           let put = w.put_step-end.ensures in
@@ -37,7 +40,7 @@ known t c =
           above.known above.reached.last
           (rw (w.self-is, w.end-is) put.put)
           (ap (λ text. text ++ (codes "." ++ decimal e.child)) above.reached.told ∙ sym below.1)
-          (rw w.end-is put.end.0) (rw w.end-is (omega (arith, put.end.1, w.if-above-gt-MAX_PLACE_LEN.false))) (omega arith) (rw w.self-is) (rw w.self-is) c.keep.ensures
+          above.reached.from (rw w.end-is put.end.0) (rw w.end-is (omega (arith, put.end.1, w.if-above-gt-MAX_PLACE_END.false))) (omega arith) (rw w.self-is) (rw w.self-is) (rw w.self-is) (rw w.self-is) c.keep.ensures
     ]
 
 pub returns-clause-known : goal.returns-clause-known
