@@ -14,14 +14,12 @@ use Rattle.batch_recipe.specs.declared.acts.Acts.{Acts}
 use Rattle.batch_recipe.specs.declared.acts.LabelTable.{LabelTable}
 use Rattle.batch_recipe.specs.declared.acts.LabelTable.TheVariants.{UnitProcedures, Operations, Phases}
 use Rattle.batch_recipe.specs.declared.chart.Chart.{Chart}
-use Rattle.batch_recipe.specs.declared.chart.Chart.TheVariants.{Label}
 use Rattle.batch_recipe.specs.declared.condition.Cond.{Cond}
 use Rattle.batch_recipe.specs.declared.entry.Entry.{Entry}
 use Rattle.batch_recipe.specs.declared.entry.Kind.TheVariants as kind
 use Rattle.batch_recipe.specs.declared.outline_fault.OutlineFault.{OutlineFault}
 use Rattle.batch_recipe.specs.declared.outline_fault.OutlineFault.TheVariants.{TooMany, Memory}
 use Rattle.batch_recipe.specs.declared.recipe.TheConstants.{MAX_NODES}
-use Rattle.batch_recipe.proofs.Diagrams.{diagram_of-label}
 
 -- the first that passes, by its number
 module _ {X : Type 0} (p : X → Bool) (xs : List X) where
@@ -64,34 +62,34 @@ levels_cons Operations = refl
 levels_cons Phases = refl
 
 -- a label
-module _ (acts : Acts) (chart : Chart) (level : Option LabelTable) (name : Name) (is : chart ≡ Label name) where
-  pub no_level : (o n j u i : ℕ) → level ≡ None → chart_entries acts level o n j u i (diagram_of chart) ≡ bare n u i
-  no_level o n j u i at = rw (is, diagram_of-label name, at) refl
+module _ (acts : Acts) (level : Option LabelTable) (name : Name) where
+  pub no_level : (o n j u i : ℕ) → level ≡ None → chart_entries acts level o n j u i (chart.label name) ≡ bare n u i
+  no_level o n j u i is = rw is refl
 
-  pub no_level_told : level ≡ None → chart_conditions acts level (diagram_of chart) ≡ []
-  no_level_told at = rw (is, diagram_of-label name, at) refl
+  pub no_level_told : level ≡ None → chart_conditions acts level (chart.label name) ≡ []
+  no_level_told is = rw is refl
 
   module _ (table : LabelTable) (at : level ≡ Some table) where
-    pub no_number : (o n j u i : ℕ) → number_in (table_at acts table) name ≡ None → chart_entries acts level o n j u i (diagram_of chart) ≡ bare n u i
-    no_number o n j u i e = rw (is, diagram_of-label name, at, levels_cons table, grown_named, e) refl
+    pub no_number : (o n j u i : ℕ) → number_in (table_at acts table) name ≡ None → chart_entries acts level o n j u i (chart.label name) ≡ bare n u i
+    no_number o n j u i e = rw (at, levels_cons table, grown_named, e) refl
 
-    pub no_number_told : number_in (table_at acts table) name ≡ None → chart_conditions acts level (diagram_of chart) ≡ []
-    no_number_told e = rw (is, diagram_of-label name, at, levels_cons table, conditions_named, e) refl
+    pub no_number_told : number_in (table_at acts table) name ≡ None → chart_conditions acts level (chart.label name) ≡ []
+    no_number_told e = rw (at, levels_cons table, conditions_named, e) refl
 
     module _ (k : ℕ) (e : number_in (table_at acts table) name ≡ Some k) where
-      pub no_act : (o n j u i : ℕ) → slice_get (table_at acts table) k ≡ None → chart_entries acts level o n j u i (diagram_of chart) ≡ bare n u i
-      no_act o n j u i f = rw (is, diagram_of-label name, at, levels_cons table, grown_named, e, f) refl
+      pub no_act : (o n j u i : ℕ) → slice_get (table_at acts table) k ≡ None → chart_entries acts level o n j u i (chart.label name) ≡ bare n u i
+      no_act o n j u i f = rw (at, levels_cons table, grown_named, e, f) refl
 
-      pub no_act_told : slice_get (table_at acts table) k ≡ None → chart_conditions acts level (diagram_of chart) ≡ []
-      no_act_told f = rw (is, diagram_of-label name, at, levels_cons table, conditions_named, e, f) refl
+      pub no_act_told : slice_get (table_at acts table) k ≡ None → chart_conditions acts level (chart.label name) ≡ []
+      no_act_told f = rw (at, levels_cons table, conditions_named, e, f) refl
 
       pub some_act : (o n j u i : ℕ) (a : Act) (below : Option LabelTable) → below ≡ level_below table → slice_get (table_at acts table) k ≡ Some a
-          → chart_entries acts level o n j u i (diagram_of chart) ≡ act_entries acts below (kind.Act table k) (unit_number table k o) n j u i a
-      some_act o n j u i a below b f = rw (is, diagram_of-label name, at, levels_cons table, grown_named, e, f, b) refl
+          → chart_entries acts level o n j u i (chart.label name) ≡ act_entries acts below (kind.Act table k) (unit_number table k o) n j u i a
+      some_act o n j u i a below b f = rw (at, levels_cons table, grown_named, e, f, b) refl
 
       pub some_act_told : (a : Act) (below : Option LabelTable) → below ≡ level_below table → slice_get (table_at acts table) k ≡ Some a
-          → chart_conditions acts level (diagram_of chart) ≡ act_conditions acts below a
-      some_act_told a below b f = rw (is, diagram_of-label name, at, levels_cons table, conditions_named, e, f, b) refl
+          → chart_conditions acts level (chart.label name) ≡ act_conditions acts below a
+      some_act_told a below b f = rw (at, levels_cons table, conditions_named, e, f, b) refl
 
 cut : {X : Type 0} (xs : List X) (i : ℕ) (x : X) → i < length xs → x ≡ get_or xs i x → drop i xs ≡ x ∷ drop (i + 1) xs
 cut {X} xs i x in' is = rw add-one (drop-cons xs i x in' ∙ ap (λ (y : X). y ∷ drop (suc i) xs) (sym is))

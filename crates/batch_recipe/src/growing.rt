@@ -1,7 +1,7 @@
 //! Growing an outline.
 ghost use Rattle.std.specs.Prelude.{◌≡◌, ◌≤◌, ◌<◌, [], ◌++◌, ◌∷◌, map, length, slice_get, slice_set, slice_index_or, IfOk, ◌+◌};
-ghost use Rattle.batch_recipe.specs.Diagram.{diagram_of, diagrams_of};
-ghost use Rattle.batch_recipe.specs.Growing.{HasAdded, HasBegun, HasEnded, HasGrown, act_conditions, act_entries, bare, branch_conditions, branch_entries, chart_conditions, chart_entries, choice_conditions, choice_entries, needs_count, parts_entries, unit_number};
+ghost use Rattle.batch_recipe.specs.Diagram.{diagram_of, diagrams_of, label, loop, sel};
+ghost use Rattle.batch_recipe.specs.Growing.{HasAdded, HasBegun, HasEnded, HasGrown, act_conditions, act_entries, bare, branch_conditions, branch_entries, chart_conditions, chart_entries, choice_cases, choice_conditions, choice_entries, needs_count, parts_entries, unit_number};
 ghost use Rattle.batch_recipe.specs.declared.recipe.TheConstants.{MAX_NODES};
 
 use crate::act::{Act, Work};
@@ -13,6 +13,7 @@ use crate::entry::{Entry, Kind};
 use crate::label_index::Labels;
 use crate::outline_fault::OutlineFault;
 use crate::recipe::MAX_NODES;
+use batch_text::Name;
 use std::alloc::Global;
 
 /// Where the nodes of an act or a chart come to stand.
@@ -147,66 +148,50 @@ fn grow(
     ensures added { HasAdded conditions.old.items (chart_conditions labels.now.acts.now seat.level (diagram_of chart.now)) conditions.new.items result }
 {
     match chart {
-        Chart::Label(name) => match seat.level {
-            None => grow_bare(nodes, seat.parent, seat.child),
-            Some(table) => match labels.number_of(table, name) {
-                None => grow_bare(nodes, seat.parent, seat.child),
-                Some(number) => match labels.acts.table(table).get(number) {
-                    None => grow_bare(nodes, seat.parent, seat.child),
-                    Some(act) => {
-                        let kind = Kind::Act(table, number);
-                        let level = table.below();
-                        let unit = unit_number(table, number, seat.unit);
-                        let own = Seat {
-                            level,
-                            unit,
-                            ..seat
-                        };
-                        grow_act(alloc, nodes, conditions, labels, act, kind, own)
-                    }
-                },
-            },
-        },
+        Chart::Label(name) => grow_label(alloc, nodes, conditions, labels, name, seat),
         Chart::Skip => grow_bare(nodes, seat.parent, seat.child),
         Chart::Seq(parts) => grow_parts(alloc, nodes, conditions, labels, Kind::Seq, parts, seat),
         Chart::Par(parts) => grow_parts(alloc, nodes, conditions, labels, Kind::Par, parts, seat),
-        Chart::Sel(choices, last) => {
-            let first = conditions.len();
-            let node = begin(nodes, Kind::Sel, 0, first, seat.parent, seat.child)?;
-            let Ok(()) = push_conditions(alloc, conditions, choices) else {
-                return Err(OutlineFault::Memory);
-            };
-            let below = Seat {
-                parent: node,
-                child: 0,
-                ..seat
-            };
-            grow_choices(alloc, nodes, conditions, labels, choices, last, below)?;
-            finish(nodes, node);
-            Ok(())
-        }
-        Chart::Loop(turns, turn) => {
-            let number = conditions.len();
-            let node = begin(
-                nodes,
-                Kind::Loop(*turns),
-                0,
-                number,
-                seat.parent,
-                seat.child,
-            )?;
-            let Ok(()) = push_condition(alloc, conditions, &turn.0) else {
-                return Err(OutlineFault::Memory);
-            };
-            let below = Seat {
-                parent: node,
-                child: 0,
-                ..seat
-            };
-            grow(alloc, nodes, conditions, labels, &turn.1, below)?;
-            finish(nodes, node);
-            Ok(())
-        }
+        Chart::Sel(choices, last) => grow_selection(
+            alloc, nodes, conditions, labels, choices, last, seat,
+        ),
+        Chart::Loop(turns, turn) => grow_loop(alloc, nodes, conditions, labels, *turns, turn, seat),
+    }
+}
+
+/// Adds the nodes of the act that the label names. Where there is none, it adds a node below which nothing stands.
+#[cycle(grow)]
+fn grow_label(
+    alloc: Global,
+    nodes: &mut Vec<Entry>,
+    conditions: &mut Vec<Cond>,
+    labels: &Labels<'_>,
+    name: &Name,
+    seat: Seat,
+) -> Result<(), OutlineFault>
+    requires { length nodes.old.items ≤ MAX_NODES }
+    ensures grown { HasGrown nodes.old.items (chart_entries labels.now.acts.now seat.level seat.unit (length nodes.old.items) (length conditions.old.items) seat.parent seat.child (label name.now)) nodes.new.items result }
+    ensures added { HasAdded conditions.old.items (chart_conditions labels.now.acts.now seat.level (label name.now)) conditions.new.items result }
+{
+    match seat.level {
+        None => grow_bare(nodes, seat.parent, seat.child),
+        Some(table) => match labels.number_of(table, name) {
+            None => grow_bare(nodes, seat.parent, seat.child),
+            Some(number) => match labels.acts.table(table).get(number) {
+                None => grow_bare(nodes, seat.parent, seat.child),
+                Some(act) => {
+                    let kind = Kind::Act(table, number);
+                    let level = table.below();
+                    let unit = unit_number(table, number, seat.unit);
+                    let own = Seat {
+                        level,
+                        unit,
+                        ..seat
+                    };
+                    grow_act(alloc, nodes, conditions, labels, act, kind, own)
+                }
+            },
+        },
     }
 }
 
@@ -265,6 +250,36 @@ fn grow_each(
     Ok(())
 }
 
+/// Adds a selection's node and its branches.
+#[cycle(grow)]
+fn grow_selection(
+    alloc: Global,
+    nodes: &mut Vec<Entry>,
+    conditions: &mut Vec<Cond>,
+    labels: &Labels<'_>,
+    choices: &[(Cond, Chart)],
+    last: &Chart,
+    seat: Seat,
+) -> Result<(), OutlineFault>
+    requires { length nodes.old.items ≤ MAX_NODES }
+    ensures grown { HasGrown nodes.old.items (chart_entries labels.now.acts.now seat.level seat.unit (length nodes.old.items) (length conditions.old.items) seat.parent seat.child (sel (choice_cases choices.now last.now))) nodes.new.items result }
+    ensures added { HasAdded conditions.old.items (chart_conditions labels.now.acts.now seat.level (sel (choice_cases choices.now last.now))) conditions.new.items result }
+{
+    let first = conditions.len();
+    let node = begin(nodes, Kind::Sel, 0, first, seat.parent, seat.child)?;
+    let Ok(()) = push_conditions(alloc, conditions, choices) else {
+        return Err(OutlineFault::Memory);
+    };
+    let below = Seat {
+        parent: node,
+        child: 0,
+        ..seat
+    };
+    grow_choices(alloc, nodes, conditions, labels, choices, last, below)?;
+    finish(nodes, node);
+    Ok(())
+}
+
 /// Adds the nodes of a selection's branches, the first of which is child 0.
 #[cycle(grow)]
 fn grow_choices(
@@ -300,4 +315,34 @@ fn grow_choices(
         last,
         Seat { child, ..seat },
     )
+}
+
+/// Adds a loop's node and those of its body.
+#[cycle(grow)]
+fn grow_loop(
+    alloc: Global,
+    nodes: &mut Vec<Entry>,
+    conditions: &mut Vec<Cond>,
+    labels: &Labels<'_>,
+    turns: u64,
+    turn: &(Cond, Chart),
+    seat: Seat,
+) -> Result<(), OutlineFault>
+    requires { length nodes.old.items ≤ MAX_NODES }
+    ensures grown { HasGrown nodes.old.items (chart_entries labels.now.acts.now seat.level seat.unit (length nodes.old.items) (length conditions.old.items) seat.parent seat.child (loop turns turn.now.0 (diagram_of turn.now.1))) nodes.new.items result }
+    ensures added { HasAdded conditions.old.items (chart_conditions labels.now.acts.now seat.level (loop turns turn.now.0 (diagram_of turn.now.1))) conditions.new.items result }
+{
+    let number = conditions.len();
+    let node = begin(nodes, Kind::Loop(turns), 0, number, seat.parent, seat.child)?;
+    let Ok(()) = push_condition(alloc, conditions, &turn.0) else {
+        return Err(OutlineFault::Memory);
+    };
+    let below = Seat {
+        parent: node,
+        child: 0,
+        ..seat
+    };
+    grow(alloc, nodes, conditions, labels, &turn.1, below)?;
+    finish(nodes, node);
+    Ok(())
 }

@@ -1,11 +1,11 @@
-use Rattle.std.proofs.Common.{◌≡◌, [], ◌∷◌, ◌++◌, map, ℕ, ◌+◌, List, Some, None, Ok, Err, Vec, Global, sym, ap, ◌∙◌, arith, refl, subst, slice_get, append-nil, append_assoc, length, length-append}
+use Rattle.std.proofs.Common.{◌≡◌, [], ◌∷◌, ◌++◌, map, ℕ, ◌+◌, List, Some, None, Ok, Err, sym, ap, ◌∙◌, arith, refl, subst, slice_get, append-nil, append_assoc, length, length-append}
 use Rattle.std.proofs.lemmas.Grind.{common_steps}
 use Rattle.std.proofs.lemmas.Option.{slice_get_read}
 use Rattle.std.proofs.lemmas.Result.{err_from_is_err_and}
 use Rattle.batch_recipe.specs.Diagram.{diagram_of, cases_of}
 use Rattle.batch_recipe.specs.Conditions.{same_name}
 use Rattle.batch_recipe.specs.Expanding.{act_named}
-use Rattle.batch_recipe.specs.Growing.{Head, grown_work, plain, act_head, topped, grown, grown_cases, told_from, named_from, conditions_of_cases, conditions_along_cases, number_in, unit_number, branch_entries, chart_entries, chart_conditions, choice_entries, act_entries, HasGrown, HasAdded}
+use Rattle.batch_recipe.specs.Growing.{Head, grown_work, plain, act_head, topped, grown, grown_cases, told_from, named_from, conditions_of_cases, conditions_along_cases, number_in, unit_number, branch_entries, chart_entries, chart_conditions, act_entries, HasGrown, HasAdded}
 use Rattle.batch_recipe.specs.Procedure.{table_at, tables_from}
 use Rattle.batch_recipe.specs.declared.chart.Chart.{Chart}
 use Rattle.batch_recipe.specs.declared.condition.Cond.{Cond}
@@ -14,24 +14,25 @@ use Rattle.batch_recipe.specs.declared.act.Work.{Work}
 use Rattle.batch_recipe.specs.declared.entry.Kind.TheVariants as kind
 use Rattle.batch_recipe.specs.declared.entry.Entry.{Entry}
 use Rattle.batch_recipe.proofs.Counts.{counted, counted_act, counted_name}
-use Rattle.batch_recipe.proofs.Diagrams.{diagram_of-seq, diagram_of-par, diagram_of-sel, diagram_of-loop}
-use Rattle.batch_recipe.proofs.Tables.{label_counted}
+use Rattle.batch_recipe.proofs.Diagrams.{diagram_of-label, diagram_of-seq, diagram_of-par, diagram_of-sel, diagram_of-loop}
+use Rattle.batch_recipe.proofs.Tables.{counted_some}
 use Rattle.batch_recipe.proofs.Branches.{counted_at, counted_choice, counted_last}
 use Rattle.batch_recipe.proofs.Growth.{found_at, node_grown, node_failed, no_number, no_number_told, some_act, some_act_told, nothing_added, grown_as, KeepsGrowing-more, KeepsGrowing-stop, KeepsGrowing-room, KeepsGrowing-all, KeepsGrowing-told, KeepsChoosing-more, KeepsChoosing-stop, KeepsChoosing-room, KeepsChoosing-last, KeepsChoosing-told}
 use Rattle.batch_recipe.proofs.Copies.{conditions-are}
 use Rattle.batch_recipe.proofs.growing.+grow.Goals as goal
 
-pub grow-grow_act-requires : goal.grow-grow_act-requires
-grow-grow_act-requires t c =
+pub grow_label-grow_act-requires : goal.grow_label-grow_act-requires
+grow_label-grow_act-requires t c =
     let T = table_at c.args.labels.now.acts.now c.in-Some.table in
-    let number : number_in T c.in-Label.name ≡ Some c.in-Some-number_of.number =
+    let number : number_in T c.args.name.now ≡ Some c.in-Some-number_of.number =
     sym c.number_of.ensures ∙ c.in-Some-number_of.is in
     let got : slice_get T c.in-Some-number_of.number ≡ Some c.in-Some-get.act.now =
     sym (ap (λ ts. slice_get ts c.in-Some-number_of.number) c.table.ensures)
     ∙ slice_get_read c.table.result.now (length c.table.result.now) c.in-Some-number_of.number c.in-Some-get.act.now refl
     (grind (arith, common_steps, c.in-Some-get.ensures.lookup)) c.in-Some-get.ensures.lookup.1 in
-    let found : act_named T c.in-Label.name ≡ Some c.in-Some-get.act.now = found_at (λ (a : Act). same_name a.name c.in-Label.name) T c.in-Some-number_of.number number ∙ got in
-    let e = label_counted c.args.labels.now.acts.now c.args.chart.now c.args.seat.level c.in-Label.name c.in-Some.table c.in-Label.is c.in-Some.is c.below-level.result c.in-Some-get.act.now found c.below-level.ensures in
+    let found : act_named T c.args.name.now ≡ Some c.in-Some-get.act.now = found_at (λ (a : Act). same_name a.name c.args.name.now) T c.in-Some-number_of.number number ∙ got in
+    let e : counted_name (tables_from c.args.labels.now.acts.now c.args.seat.level) c.args.name.now ≡ counted_act (counted_name (tables_from c.args.labels.now.acts.now c.below-level.result)) c.in-Some-get.act.now =
+    rw (c.in-Some.is, c.below-level.ensures) (counted_some c.args.labels.now.acts.now c.in-Some.table c.args.name.now c.in-Some-get.act.now found) in
     (omega (arith, e), c.requires)
 
 pub grow_act-grow-requires : goal.grow_act-grow-requires
@@ -142,27 +143,27 @@ grow_choices-returns-clause-added t c =
     KeepsChoosing-told c.args.labels.now.acts.now c.args.seat.level c.args.seat.unit c.args.seat.parent c.args.choices.now c.args.last.now c.args.nodes.now.items c.loop-choice.nodes.items c.args.conditions.now.items c.loop-choice.conditions.items c.loop-choice.choice-index c.loop-choice.child c.loop-choice.invariant
     c.grow-2.new.nodes.items c.loop-choice-test.false c.grow-2.new.conditions.items c.grow-2.result c.grow-2.ensures.added
 
-pub grow-returns-in-None-number_of-clause-grown : goal.grow-returns-in-None-number_of-clause-grown
-grow-returns-in-None-number_of-clause-grown t c =
+pub grow_label-returns-in-None-number_of-clause-grown : goal.grow_label-returns-in-None-number_of-clause-grown
+grow_label-returns-in-None-number_of-clause-grown t c =
     let T = table_at c.args.labels.now.acts.now c.in-Some.table in
-    let number : number_in T c.in-Label.name ≡ None =
+    let number : number_in T c.args.name.now ≡ None =
     sym c.number_of.ensures ∙ c.in-None-number_of.is in
     subst (λ (es : List Entry). HasGrown c.args.nodes.now.items es c.grow_bare-in-None-number_of.new.nodes.items c.grow_bare-in-None-number_of.result)
-    (sym (no_number c.args.labels.now.acts.now c.args.chart.now c.args.seat.level c.in-Label.name c.in-Label.is c.in-Some.table c.in-Some.is c.args.seat.unit (length c.args.nodes.now.items) (length c.args.conditions.now.items) c.args.seat.parent c.args.seat.child number))
+    (sym (no_number c.args.labels.now.acts.now c.args.seat.level c.args.name.now c.in-Some.table c.in-Some.is c.args.seat.unit (length c.args.nodes.now.items) (length c.args.conditions.now.items) c.args.seat.parent c.args.seat.child number))
     c.grow_bare-in-None-number_of.ensures
 
-pub grow-returns-in-None-number_of-clause-added : goal.grow-returns-in-None-number_of-clause-added
-grow-returns-in-None-number_of-clause-added t c =
+pub grow_label-returns-in-None-number_of-clause-added : goal.grow_label-returns-in-None-number_of-clause-added
+grow_label-returns-in-None-number_of-clause-added t c =
     let T = table_at c.args.labels.now.acts.now c.in-Some.table in
-    let number : number_in T c.in-Label.name ≡ None =
+    let number : number_in T c.args.name.now ≡ None =
     sym c.number_of.ensures ∙ c.in-None-number_of.is in
     nothing_added c.args.conditions.now.items _ c.grow_bare-in-None-number_of.result
-    (no_number_told c.args.labels.now.acts.now c.args.chart.now c.args.seat.level c.in-Label.name c.in-Label.is c.in-Some.table c.in-Some.is number)
+    (no_number_told c.args.labels.now.acts.now c.args.seat.level c.args.name.now c.in-Some.table c.in-Some.is number)
 
-pub grow-returns-in-Some-get-clause-grown : goal.grow-returns-in-Some-get-clause-grown
-grow-returns-in-Some-get-clause-grown t c =
+pub grow_label-returns-in-Some-get-clause-grown : goal.grow_label-returns-in-Some-get-clause-grown
+grow_label-returns-in-Some-get-clause-grown t c =
     let T = table_at c.args.labels.now.acts.now c.in-Some.table in
-    let number : number_in T c.in-Label.name ≡ Some c.in-Some-number_of.number =
+    let number : number_in T c.args.name.now ≡ Some c.in-Some-number_of.number =
     sym c.number_of.ensures ∙ c.in-Some-number_of.is in
     let got : slice_get T c.in-Some-number_of.number ≡ Some c.in-Some-get.act.now =
     sym (ap (λ ts. slice_get ts c.in-Some-number_of.number) c.table.ensures)
@@ -174,22 +175,28 @@ grow-returns-in-Some-get-clause-grown t c =
     ≡ act_entries c.args.labels.now.acts.now c.below-level.result (kind.Act c.in-Some.table c.in-Some-number_of.number) (unit_number c.in-Some.table c.in-Some-number_of.number c.args.seat.unit) n j c.args.seat.parent c.args.seat.child c.in-Some-get.act.now =
     ap (λ o. act_entries c.args.labels.now.acts.now c.below-level.result (kind.Act c.in-Some.table c.in-Some-number_of.number) o n j c.args.seat.parent c.args.seat.child c.in-Some-get.act.now) c.unit_number-unit.ensures in
     subst (λ (es : List Entry). HasGrown c.args.nodes.now.items es c.grow_act.new.nodes.items c.grow_act.result)
-    (unit ∙ sym (some_act c.args.labels.now.acts.now c.args.chart.now c.args.seat.level c.in-Label.name c.in-Label.is c.in-Some.table c.in-Some.is c.in-Some-number_of.number number c.args.seat.unit n j c.args.seat.parent c.args.seat.child
+    (unit ∙ sym (some_act c.args.labels.now.acts.now c.args.seat.level c.args.name.now c.in-Some.table c.in-Some.is c.in-Some-number_of.number number c.args.seat.unit n j c.args.seat.parent c.args.seat.child
     c.in-Some-get.act.now c.below-level.result c.below-level.ensures got))
     c.grow_act.ensures.grown
 
-pub grow-returns-in-Some-get-clause-added : goal.grow-returns-in-Some-get-clause-added
-grow-returns-in-Some-get-clause-added t c =
+pub grow_label-returns-in-Some-get-clause-added : goal.grow_label-returns-in-Some-get-clause-added
+grow_label-returns-in-Some-get-clause-added t c =
     let T = table_at c.args.labels.now.acts.now c.in-Some.table in
-    let number : number_in T c.in-Label.name ≡ Some c.in-Some-number_of.number =
+    let number : number_in T c.args.name.now ≡ Some c.in-Some-number_of.number =
     sym c.number_of.ensures ∙ c.in-Some-number_of.is in
     let got : slice_get T c.in-Some-number_of.number ≡ Some c.in-Some-get.act.now =
     sym (ap (λ ts. slice_get ts c.in-Some-number_of.number) c.table.ensures)
     ∙ slice_get_read c.table.result.now (length c.table.result.now) c.in-Some-number_of.number c.in-Some-get.act.now refl
     (grind (arith, common_steps, c.in-Some-get.ensures.lookup)) c.in-Some-get.ensures.lookup.1 in
     subst (λ (cs : List Cond). HasAdded c.args.conditions.now.items cs c.grow_act.new.conditions.items c.grow_act.result)
-    (sym (some_act_told c.args.labels.now.acts.now c.args.chart.now c.args.seat.level c.in-Label.name c.in-Label.is c.in-Some.table c.in-Some.is c.in-Some-number_of.number number c.in-Some-get.act.now c.below-level.result c.below-level.ensures got))
+    (sym (some_act_told c.args.labels.now.acts.now c.args.seat.level c.args.name.now c.in-Some.table c.in-Some.is c.in-Some-number_of.number number c.in-Some-get.act.now c.below-level.result c.below-level.ensures got))
     c.grow_act.ensures.added
+
+pub grow-returns-in-Label-clause-grown : goal.grow-returns-in-Label-clause-grown
+grow-returns-in-Label-clause-grown t c = rw (c.in-Label.is, diagram_of-label c.in-Label.name) c.grow_label.ensures.grown
+
+pub grow-returns-in-Label-clause-added : goal.grow-returns-in-Label-clause-added
+grow-returns-in-Label-clause-added t c = rw (c.in-Label.is, diagram_of-label c.in-Label.name) c.grow_label.ensures.added
 
 pub grow-returns-in-Seq-clause-grown : goal.grow-returns-in-Seq-clause-grown
 grow-returns-in-Seq-clause-grown t c =
@@ -211,130 +218,137 @@ grow-returns-in-Par-clause-added t c =
     rw (c.in-Par.is, diagram_of-par c.in-Par.parts)
     (rw (c.deref-in-Par-2.ensures.value, c.deref-in-Par.ensures) at c.grow_parts-in-Par.ensures.added)
 
-pub grow-returns-in_ok-grow_choices-in-Sel-clause-grown : goal.grow-returns-in_ok-grow_choices-in-Sel-clause-grown
-grow-returns-in_ok-grow_choices-in-Sel-clause-grown t c =
+pub grow-returns-in-Sel-clause-grown : goal.grow-returns-in-Sel-clause-grown
+grow-returns-in-Sel-clause-grown t c =
+    rw (c.in-Sel.is, diagram_of-sel c.in-Sel.choices c.in-Sel.last)
+    (rw (c.deref-in-Sel-2.ensures.value, c.deref-in-Sel.ensures, c.deref-in-Sel-3.ensures) at c.grow_selection.ensures.grown)
+
+pub grow-returns-in-Sel-clause-added : goal.grow-returns-in-Sel-clause-added
+grow-returns-in-Sel-clause-added t c =
+    rw (c.in-Sel.is, diagram_of-sel c.in-Sel.choices c.in-Sel.last)
+    (rw (c.deref-in-Sel-2.ensures.value, c.deref-in-Sel.ensures, c.deref-in-Sel-3.ensures) at c.grow_selection.ensures.added)
+
+pub grow-returns-in-Loop-clause-grown : goal.grow-returns-in-Loop-clause-grown
+grow-returns-in-Loop-clause-grown t c =
+    rw (c.in-Loop.is, diagram_of-loop c.in-Loop.turns c.in-Loop.turn)
+    (rw c.deref-in-Loop.ensures at c.grow_loop.ensures.grown)
+
+pub grow-returns-in-Loop-clause-added : goal.grow-returns-in-Loop-clause-added
+grow-returns-in-Loop-clause-added t c =
+    rw (c.in-Loop.is, diagram_of-loop c.in-Loop.turns c.in-Loop.turn)
+    (rw c.deref-in-Loop.ensures at c.grow_loop.ensures.added)
+
+pub grow_selection-returns-clause-grown : goal.grow_selection-returns-clause-grown
+grow_selection-returns-clause-grown t c =
     let before = c.args.nodes.now.items in
     let conds = c.args.conditions.now.items in
     let acts = c.args.labels.now.acts.now in
     let level = c.args.seat.level in
     let told = told_from acts level in
     let named = named_from acts level c.args.seat.unit in
-    let cs = cases_of (map (λ (choice : Cond × Chart). (choice.0, diagram_of choice.1)) c.in-Sel.choices.value.items) (diagram_of c.in-Sel.last.value) in
+    let cs = cases_of (map (λ (choice : Cond × Chart). (choice.0, diagram_of choice.1)) c.args.choices.now) (diagram_of c.args.last.now) in
     let pushed = c.push_conditions.new.conditions.items in
     let pushed_is : pushed ≡ conds ++ conditions_of_cases cs =
-    c.in-Ok.ensures ∙ (ap (λ (xs : List (Cond × Chart)). conds ++ map (λ (choice : Cond × Chart). choice.0) xs) (c.deref-in-Sel-2.ensures.value ∙ ap (λ (choices : Vec (Cond × Chart) Global). choices.items) c.deref-in-Sel.ensures)
-    ∙ ap (λ (xs : List Cond). conds ++ xs) (conditions-are c.in-Sel.choices.value.items (diagram_of c.in-Sel.last.value))) in
+    c.in-Ok.ensures ∙ ap (λ (xs : List Cond). conds ++ xs) (conditions-are c.args.choices.now (diagram_of c.args.last.now)) in
     let size : length pushed ≡ length conds + length (conditions_of_cases cs) = ap length pushed_is ∙ length-append conds (conditions_of_cases cs) in
     let head : plain kind.Sel c.len-first.result ≡ plain kind.Sel (length conds) = ap (λ m. plain kind.Sel m) (omega (arith, c.len-first.ensures)) in
     let below : ℕ → ℕ → List Entry = λ m n. grown_cases told named m (length pushed) n 0 cs in
     let same : below (length before + 1) (length before) ≡ grown_cases told named (length before + 1) (length conds + length (conditions_of_cases cs)) (length before) 0 cs =
     ap (λ m. grown_cases told named (length before + 1) m (length before) 0 cs) size in
-    rw (c.in-Sel.is, diagram_of-sel c.in-Sel.choices c.in-Sel.last)
-    (grown_as before c.finish.new.nodes.items (Ok _) (plain kind.Sel c.len-first.result) (plain kind.Sel (length conds)) (length before) c.args.seat.parent c.args.seat.child _ _ head same
-    (node_grown before c.begin.new.nodes.items c.grow_choices.new.nodes.items c.finish.new.nodes.items (plain kind.Sel c.len-first.result) c.in_ok-node-in-Sel.node c.args.seat.parent c.args.seat.child
-    below c.in_ok-node-in-Sel.ensures (rw (c.deref-in-Sel-4.ensures.value, c.deref-in-Sel-3.ensures, c.deref-in-Sel-5.ensures) at c.in_ok-grow_choices-in-Sel.ensures.grown) c.finish.ensures))
+    grown_as before c.finish.new.nodes.items (Ok _) (plain kind.Sel c.len-first.result) (plain kind.Sel (length conds)) (length before) c.args.seat.parent c.args.seat.child _ _ head same
+    (node_grown before c.begin.new.nodes.items c.grow_choices.new.nodes.items c.finish.new.nodes.items (plain kind.Sel c.len-first.result) c.in_ok-node.node c.args.seat.parent c.args.seat.child
+    below c.in_ok-node.ensures c.in_ok-grow_choices.ensures.grown c.finish.ensures)
 
-pub grow-returns-in_ok-grow_choices-in-Sel-clause-added : goal.grow-returns-in_ok-grow_choices-in-Sel-clause-added
-grow-returns-in_ok-grow_choices-in-Sel-clause-added t c =
+pub grow_selection-returns-clause-added : goal.grow_selection-returns-clause-added
+grow_selection-returns-clause-added t c =
+    let conds = c.args.conditions.now.items in
+    let acts = c.args.labels.now.acts.now in
+    let level = c.args.seat.level in
+    let told = told_from acts level in
+    let cs = cases_of (map (λ (choice : Cond × Chart). (choice.0, diagram_of choice.1)) c.args.choices.now) (diagram_of c.args.last.now) in
+    let pushed = c.push_conditions.new.conditions.items in
+    let pushed_is : pushed ≡ conds ++ conditions_of_cases cs =
+    c.in-Ok.ensures ∙ ap (λ (xs : List Cond). conds ++ xs) (conditions-are c.args.choices.now (diagram_of c.args.last.now)) in
+    c.in_ok-grow_choices.ensures.added
+    ∙ (ap (λ (xs : List Cond). xs ++ conditions_along_cases told cs) pushed_is ∙ append_assoc conds (conditions_of_cases cs) (conditions_along_cases told cs))
+
+pub grow_selection-returns-in_err-grow_choices-clause-grown : goal.grow_selection-returns-in_err-grow_choices-clause-grown
+grow_selection-returns-in_err-grow_choices-clause-grown t c =
     let before = c.args.nodes.now.items in
     let conds = c.args.conditions.now.items in
     let acts = c.args.labels.now.acts.now in
     let level = c.args.seat.level in
     let told = told_from acts level in
     let named = named_from acts level c.args.seat.unit in
-    let cs = cases_of (map (λ (choice : Cond × Chart). (choice.0, diagram_of choice.1)) c.in-Sel.choices.value.items) (diagram_of c.in-Sel.last.value) in
+    let cs = cases_of (map (λ (choice : Cond × Chart). (choice.0, diagram_of choice.1)) c.args.choices.now) (diagram_of c.args.last.now) in
     let pushed = c.push_conditions.new.conditions.items in
     let pushed_is : pushed ≡ conds ++ conditions_of_cases cs =
-    c.in-Ok.ensures ∙ (ap (λ (xs : List (Cond × Chart)). conds ++ map (λ (choice : Cond × Chart). choice.0) xs) (c.deref-in-Sel-2.ensures.value ∙ ap (λ (choices : Vec (Cond × Chart) Global). choices.items) c.deref-in-Sel.ensures)
-    ∙ ap (λ (xs : List Cond). conds ++ xs) (conditions-are c.in-Sel.choices.value.items (diagram_of c.in-Sel.last.value))) in
-    rw (c.in-Sel.is, diagram_of-sel c.in-Sel.choices c.in-Sel.last)
-    ((rw (c.deref-in-Sel-4.ensures.value, c.deref-in-Sel-3.ensures, c.deref-in-Sel-5.ensures) at c.in_ok-grow_choices-in-Sel.ensures.added)
-    ∙ (ap (λ (xs : List Cond). xs ++ conditions_along_cases told cs) pushed_is ∙ append_assoc conds (conditions_of_cases cs) (conditions_along_cases told cs)))
-
-pub grow-returns-in_err-grow_choices-in-Sel-clause-grown : goal.grow-returns-in_err-grow_choices-in-Sel-clause-grown
-grow-returns-in_err-grow_choices-in-Sel-clause-grown t c =
-    let before = c.args.nodes.now.items in
-    let conds = c.args.conditions.now.items in
-    let acts = c.args.labels.now.acts.now in
-    let level = c.args.seat.level in
-    let told = told_from acts level in
-    let named = named_from acts level c.args.seat.unit in
-    let cs = cases_of (map (λ (choice : Cond × Chart). (choice.0, diagram_of choice.1)) c.in-Sel.choices.value.items) (diagram_of c.in-Sel.last.value) in
-    let pushed = c.push_conditions.new.conditions.items in
-    let pushed_is : pushed ≡ conds ++ conditions_of_cases cs =
-    c.in-Ok.ensures ∙ (ap (λ (xs : List (Cond × Chart)). conds ++ map (λ (choice : Cond × Chart). choice.0) xs) (c.deref-in-Sel-2.ensures.value ∙ ap (λ (choices : Vec (Cond × Chart) Global). choices.items) c.deref-in-Sel.ensures)
-    ∙ ap (λ (xs : List Cond). conds ++ xs) (conditions-are c.in-Sel.choices.value.items (diagram_of c.in-Sel.last.value))) in
+    c.in-Ok.ensures ∙ ap (λ (xs : List Cond). conds ++ xs) (conditions-are c.args.choices.now (diagram_of c.args.last.now)) in
     let size : length pushed ≡ length conds + length (conditions_of_cases cs) = ap length pushed_is ∙ length-append conds (conditions_of_cases cs) in
     let head : plain kind.Sel c.len-first.result ≡ plain kind.Sel (length conds) = ap (λ m. plain kind.Sel m) (omega (arith, c.len-first.ensures)) in
     let below : ℕ → ℕ → List Entry = λ m n. grown_cases told named m (length pushed) n 0 cs in
     let same : below (length before + 1) (length before) ≡ grown_cases told named (length before + 1) (length conds + length (conditions_of_cases cs)) (length before) 0 cs =
     ap (λ m. grown_cases told named (length before + 1) m (length before) 0 cs) size in
-    let p = err_from_is_err_and c.from_residual-in_err-grow_choices-in-Sel.result c.from_residual-in_err-grow_choices-in-Sel.ensures.1 in
-    let fault = c.in_err-grow_choices-in-Sel.field-0.0 in
-    rw (c.in-Sel.is, diagram_of-sel c.in-Sel.choices c.in-Sel.last, p.1, p.2)
+    let p = err_from_is_err_and c.from_residual-in_err-grow_choices.result c.from_residual-in_err-grow_choices.ensures.1 in
+    let fault = c.in_err-grow_choices.field-0.0 in
+    rw (p.1, p.2)
     (grown_as before c.grow_choices.new.nodes.items (Err fault) (plain kind.Sel c.len-first.result) (plain kind.Sel (length conds)) (length before) c.args.seat.parent c.args.seat.child _ _ head same
-    (node_failed before c.begin.new.nodes.items c.grow_choices.new.nodes.items c.grow_choices.new.nodes.items (plain kind.Sel c.len-first.result) c.in_ok-node-in-Sel.node c.args.seat.parent c.args.seat.child
-    below c.in_ok-node-in-Sel.ensures fault (subst (λ (xs : List (Cond × Chart)). HasGrown c.begin.new.nodes.items (choice_entries acts level c.args.seat.unit (length c.begin.new.nodes.items) (length pushed) c.in_ok-node-in-Sel.node 0 xs c.in-Sel.last.value) c.grow_choices.new.nodes.items (Err fault)) (c.deref-in-Sel-4.ensures.value ∙ ap (λ (choices : Vec (Cond × Chart) Global). choices.items) c.deref-in-Sel-3.ensures)
-    (subst (λ (l : Chart). HasGrown c.begin.new.nodes.items (choice_entries acts level c.args.seat.unit (length c.begin.new.nodes.items) (length pushed) c.in_ok-node-in-Sel.node 0 c.deref-in-Sel-4.result.now l) c.grow_choices.new.nodes.items (Err fault)) c.deref-in-Sel-5.ensures c.in_err-grow_choices-in-Sel.ensures.grown))))
+    (node_failed before c.begin.new.nodes.items c.grow_choices.new.nodes.items c.grow_choices.new.nodes.items (plain kind.Sel c.len-first.result) c.in_ok-node.node c.args.seat.parent c.args.seat.child
+    below c.in_ok-node.ensures fault c.in_err-grow_choices.ensures.grown))
 
-pub grow-returns-in_ok-grow-in-Loop-clause-grown : goal.grow-returns-in_ok-grow-in-Loop-clause-grown
-grow-returns-in_ok-grow-in-Loop-clause-grown t c =
+pub grow_loop-returns-clause-grown : goal.grow_loop-returns-clause-grown
+grow_loop-returns-clause-grown t c =
     let before = c.args.nodes.now.items in
     let conds = c.args.conditions.now.items in
     let acts = c.args.labels.now.acts.now in
     let level = c.args.seat.level in
     let told = told_from acts level in
     let named = named_from acts level c.args.seat.unit in
-    let d = diagram_of c.in-Loop.turn.value.1 in
+    let d = diagram_of c.args.turn.now.1 in
     let pushed = c.push_condition.new.conditions.items in
-    let pushed_is : pushed ≡ conds ++ c.in-Loop.turn.value.0 ∷ [] = c.in-Ok-push_condition.ensures ∙ ap (λ (b : Cond × Chart). conds ++ b.0 ∷ []) c.deref-in-Loop.ensures in
-    let size : length pushed ≡ length conds + 1 = ap length pushed_is ∙ length-append conds (c.in-Loop.turn.value.0 ∷ []) in
-    let head : plain (kind.Loop c.in-Loop.turns) c.len-number.result ≡ plain (kind.Loop c.in-Loop.turns) (length conds) = ap (λ m. plain (kind.Loop c.in-Loop.turns) m) (omega (arith, c.len-number.ensures)) in
+    let pushed_is : pushed ≡ conds ++ c.args.turn.now.0 ∷ [] = c.in-Ok.ensures in
+    let size : length pushed ≡ length conds + 1 = ap length pushed_is ∙ length-append conds (c.args.turn.now.0 ∷ []) in
+    let head : plain (kind.Loop c.args.turns) c.len-number.result ≡ plain (kind.Loop c.args.turns) (length conds) = ap (λ m. plain (kind.Loop c.args.turns) m) (omega (arith, c.len-number.ensures)) in
     let below : ℕ → ℕ → List Entry = λ m n. grown told named m (length pushed) n 0 d in
     let same : below (length before + 1) (length before) ≡ grown told named (length before + 1) (length conds + 1) (length before) 0 d =
     ap (λ m. grown told named (length before + 1) m (length before) 0 d) size in
-    rw (c.in-Loop.is, diagram_of-loop c.in-Loop.turns c.in-Loop.turn)
-    (grown_as before c.finish-in-Loop.new.nodes.items (Ok _) (plain (kind.Loop c.in-Loop.turns) c.len-number.result) (plain (kind.Loop c.in-Loop.turns) (length conds)) (length before) c.args.seat.parent c.args.seat.child _ _ head same
-    (node_grown before c.begin-in-Loop.new.nodes.items c.grow.new.nodes.items c.finish-in-Loop.new.nodes.items (plain (kind.Loop c.in-Loop.turns) c.len-number.result) c.in_ok-node-in-Loop.node c.args.seat.parent c.args.seat.child
-    below c.in_ok-node-in-Loop.ensures (rw c.deref-in-Loop-2.ensures at c.in_ok-grow-in-Loop.ensures.grown) c.finish-in-Loop.ensures))
+    grown_as before c.finish.new.nodes.items (Ok _) (plain (kind.Loop c.args.turns) c.len-number.result) (plain (kind.Loop c.args.turns) (length conds)) (length before) c.args.seat.parent c.args.seat.child _ _ head same
+    (node_grown before c.begin.new.nodes.items c.grow.new.nodes.items c.finish.new.nodes.items (plain (kind.Loop c.args.turns) c.len-number.result) c.in_ok-node.node c.args.seat.parent c.args.seat.child
+    below c.in_ok-node.ensures c.in_ok-grow.ensures.grown c.finish.ensures)
 
-pub grow-returns-in_ok-grow-in-Loop-clause-added : goal.grow-returns-in_ok-grow-in-Loop-clause-added
-grow-returns-in_ok-grow-in-Loop-clause-added t c =
+pub grow_loop-returns-clause-added : goal.grow_loop-returns-clause-added
+grow_loop-returns-clause-added t c =
+    let conds = c.args.conditions.now.items in
+    let acts = c.args.labels.now.acts.now in
+    let level = c.args.seat.level in
+    let d = diagram_of c.args.turn.now.1 in
+    let pushed = c.push_condition.new.conditions.items in
+    let pushed_is : pushed ≡ conds ++ c.args.turn.now.0 ∷ [] = c.in-Ok.ensures in
+    c.in_ok-grow.ensures.added
+    ∙ (ap (λ (xs : List Cond). xs ++ chart_conditions acts level d) pushed_is ∙ append_assoc conds (c.args.turn.now.0 ∷ []) (chart_conditions acts level d))
+
+pub grow_loop-returns-in_err-grow-clause-grown : goal.grow_loop-returns-in_err-grow-clause-grown
+grow_loop-returns-in_err-grow-clause-grown t c =
     let before = c.args.nodes.now.items in
     let conds = c.args.conditions.now.items in
     let acts = c.args.labels.now.acts.now in
     let level = c.args.seat.level in
     let told = told_from acts level in
     let named = named_from acts level c.args.seat.unit in
-    let d = diagram_of c.in-Loop.turn.value.1 in
+    let d = diagram_of c.args.turn.now.1 in
     let pushed = c.push_condition.new.conditions.items in
-    let pushed_is : pushed ≡ conds ++ c.in-Loop.turn.value.0 ∷ [] = c.in-Ok-push_condition.ensures ∙ ap (λ (b : Cond × Chart). conds ++ b.0 ∷ []) c.deref-in-Loop.ensures in
-    rw (c.in-Loop.is, diagram_of-loop c.in-Loop.turns c.in-Loop.turn)
-    ((rw c.deref-in-Loop-2.ensures at c.in_ok-grow-in-Loop.ensures.added)
-    ∙ (ap (λ (xs : List Cond). xs ++ chart_conditions acts level d) pushed_is ∙ append_assoc conds (c.in-Loop.turn.value.0 ∷ []) (chart_conditions acts level d)))
-
-pub grow-returns-in_err-grow-in-Loop-clause-grown : goal.grow-returns-in_err-grow-in-Loop-clause-grown
-grow-returns-in_err-grow-in-Loop-clause-grown t c =
-    let before = c.args.nodes.now.items in
-    let conds = c.args.conditions.now.items in
-    let acts = c.args.labels.now.acts.now in
-    let level = c.args.seat.level in
-    let told = told_from acts level in
-    let named = named_from acts level c.args.seat.unit in
-    let d = diagram_of c.in-Loop.turn.value.1 in
-    let pushed = c.push_condition.new.conditions.items in
-    let pushed_is : pushed ≡ conds ++ c.in-Loop.turn.value.0 ∷ [] = c.in-Ok-push_condition.ensures ∙ ap (λ (b : Cond × Chart). conds ++ b.0 ∷ []) c.deref-in-Loop.ensures in
-    let size : length pushed ≡ length conds + 1 = ap length pushed_is ∙ length-append conds (c.in-Loop.turn.value.0 ∷ []) in
-    let head : plain (kind.Loop c.in-Loop.turns) c.len-number.result ≡ plain (kind.Loop c.in-Loop.turns) (length conds) = ap (λ m. plain (kind.Loop c.in-Loop.turns) m) (omega (arith, c.len-number.ensures)) in
+    let pushed_is : pushed ≡ conds ++ c.args.turn.now.0 ∷ [] = c.in-Ok.ensures in
+    let size : length pushed ≡ length conds + 1 = ap length pushed_is ∙ length-append conds (c.args.turn.now.0 ∷ []) in
+    let head : plain (kind.Loop c.args.turns) c.len-number.result ≡ plain (kind.Loop c.args.turns) (length conds) = ap (λ m. plain (kind.Loop c.args.turns) m) (omega (arith, c.len-number.ensures)) in
     let below : ℕ → ℕ → List Entry = λ m n. grown told named m (length pushed) n 0 d in
     let same : below (length before + 1) (length before) ≡ grown told named (length before + 1) (length conds + 1) (length before) 0 d =
     ap (λ m. grown told named (length before + 1) m (length before) 0 d) size in
-    let p = err_from_is_err_and c.from_residual-in_err-grow-in-Loop.result c.from_residual-in_err-grow-in-Loop.ensures.1 in
-    let fault = c.in_err-grow-in-Loop.field-0.0 in
-    rw (c.in-Loop.is, diagram_of-loop c.in-Loop.turns c.in-Loop.turn, p.1, p.2)
-    (grown_as before c.grow.new.nodes.items (Err fault) (plain (kind.Loop c.in-Loop.turns) c.len-number.result) (plain (kind.Loop c.in-Loop.turns) (length conds)) (length before) c.args.seat.parent c.args.seat.child _ _ head same
-    (node_failed before c.begin-in-Loop.new.nodes.items c.grow.new.nodes.items c.grow.new.nodes.items (plain (kind.Loop c.in-Loop.turns) c.len-number.result) c.in_ok-node-in-Loop.node c.args.seat.parent c.args.seat.child
-    below c.in_ok-node-in-Loop.ensures fault (subst (λ (b : Cond × Chart). HasGrown c.begin-in-Loop.new.nodes.items (chart_entries acts level c.args.seat.unit (length c.begin-in-Loop.new.nodes.items) (length pushed) c.in_ok-node-in-Loop.node 0 (diagram_of b.1)) c.grow.new.nodes.items (Err fault)) c.deref-in-Loop-2.ensures c.in_err-grow-in-Loop.ensures.grown)))
+    let p = err_from_is_err_and c.from_residual-in_err-grow.result c.from_residual-in_err-grow.ensures.1 in
+    let fault = c.in_err-grow.field-0.0 in
+    rw (p.1, p.2)
+    (grown_as before c.grow.new.nodes.items (Err fault) (plain (kind.Loop c.args.turns) c.len-number.result) (plain (kind.Loop c.args.turns) (length conds)) (length before) c.args.seat.parent c.args.seat.child _ _ head same
+    (node_failed before c.begin.new.nodes.items c.grow.new.nodes.items c.grow.new.nodes.items (plain (kind.Loop c.args.turns) c.len-number.result) c.in_ok-node.node c.args.seat.parent c.args.seat.child
+    below c.in_ok-node.ensures fault c.in_err-grow.ensures.grown))
 
 pub grow_act-returns-in_ok-grow-in-Follows-clause-grown : goal.grow_act-returns-in_ok-grow-in-Follows-clause-grown
 grow_act-returns-in_ok-grow-in-Follows-clause-grown t c =
