@@ -9,6 +9,7 @@ mod names;
 mod pairs;
 mod places;
 mod putting;
+mod putting_lines;
 mod record_line;
 mod report_line;
 mod rows;

@@ -16,7 +16,7 @@ use crate::fault::WriteFault;
 use crate::known_places::KnownPlaces;
 use crate::names::{act_name, handed_names, phase_name, recipe_name, resource_name, value_name};
 use crate::places::{ToldPlace, write_place};
-use crate::putting::{put_piece, put_pieces};
+use crate::putting_lines::put_out;
 use crate::site::Site;
 use crate::writing::{write_all, write_pieces};
 use batch_engine::{Line, Out, Refusal, Reply};
@@ -47,19 +47,21 @@ pub fn write_out_knowing<W: Write>(
     ensures written { Writes (W.contents writer.old) (W.contents writer.new) result (out_text (out_of cleared.now out.now)) }
 {
     let Some(site) = site_of(out) else {
-        let nothing = ToldPlace::Known(b"");
-        return write_telling(out, cleared, &nothing, &mut places.line, writer);
+        return write_telling(out, cleared, &ToldPlace::Known(b""), writer);
     };
     match places.find(cleared, site) {
         Some(end) => {
             let start = places.start;
             let known = &places.text[..end];
-            let place = ToldPlace::Known(&known[start..]);
-            write_telling(out, cleared, &place, &mut places.line, writer)
+            let told = &known[start..];
+            match put_out(out, cleared, told, &mut places.line) {
+                Some(start) => write_all(writer, &places.line[start..]),
+                None => write_telling(out, cleared, &ToldPlace::Known(told), writer),
+            }
         }
         None => {
             let place = ToldPlace::Long { cleared, site };
-            write_telling(out, cleared, &place, &mut places.line, writer)
+            write_telling(out, cleared, &place, writer)
         }
     }
 }
@@ -165,20 +167,18 @@ fn site_of_claim(line: Line) -> Option<Site>
 }
 
 /// Writes the line of an out that tells this place.
-#[inline(always)]
 fn write_telling<W: Write>(
     out: &Out,
     cleared: &Cleared,
     place: &ToldPlace<'_>,
-    room: &mut [u8],
     writer: &mut W,
 ) -> Result<(), WriteFault>
     requires { told_text place.now ≡ told_by_out (out_of cleared.now out.now) }
     ensures { Writes (W.contents writer.old) (W.contents writer.new) result (out_text (out_of cleared.now out.now)) }
 {
     match *out {
-        Out::Reply(reply) => write_reply(reply, cleared, place, room, writer),
-        Out::Move(line) => write_move(line, cleared, place, room, writer),
+        Out::Reply(reply) => write_reply(reply, cleared, place, writer),
+        Out::Move(line) => write_move(line, cleared, place, writer),
     }
 }
 
@@ -186,7 +186,6 @@ fn write_reply<W: Write>(
     reply: Reply,
     cleared: &Cleared,
     place: &ToldPlace<'_>,
-    room: &mut [u8],
     writer: &mut W,
 ) -> Result<(), WriteFault>
     requires { told_text place.now ≡ told_by_reply (reply_of cleared.now reply) }
@@ -214,8 +213,8 @@ fn write_reply<W: Write>(
         } => {
             let phase = phase_name(cleared, unit, phase);
             let unit = resource_name(cleared, unit);
-            let word = report_text(word);
-            write_reported(unit, phase, word, place, room, state, writer)
+            let word = inner_word(word);
+            write_reported(unit, phase, word, place, state, writer)
         }
         Reply::Refused(refusal) => write_refusal(refusal, cleared, writer),
     }
@@ -321,9 +320,7 @@ fn write_ordered<W: Write>(
             command_text(command),
             b" ",
             digits.format(batch).as_bytes(),
-            b" ",
-            state_text(state),
-            b"\n",
+            last_word(state),
         ],
     )
 }
@@ -339,23 +336,22 @@ fn write_removed<W: Write>(batch: u64, writer: &mut W) -> Result<(), WriteFault>
     )
 }
 
+/// Writes that a phase of a unit reported something, by this word between spaces.
 fn write_reported<'a, W: Write>(
     unit: &'a [u8],
     phase: &'a [u8],
     word: &'a [u8],
     place: &ToldPlace<'_>,
-    room: &mut [u8],
     state: State,
     writer: &mut W,
 ) -> Result<(), WriteFault>
     ensures { Writes (W.contents writer.old) (W.contents writer.new) result
-        (line_text (codes "ok" ∷ codes "report" ∷ unit.now ∷ phase.now ∷ word.now ∷ told_text place.now ∷ state_text state ∷ [])) }
+        (codes "ok report " ++ (unit.now ++ (codes " " ++ (phase.now ++ (word.now ++ line_text (told_text place.now ∷ state_text state ∷ [])))))) }
 {
-    write_placed(
-        &[b"ok report ", unit, b" ", phase, b" ", word, b" "],
+    write_apart(
+        &[b"ok report ", unit, b" ", phase, word],
         place,
-        room,
-        &[b" ", state_text(state), b"\n"],
+        &[last_word(state)],
         writer,
     )
 }
@@ -372,11 +368,11 @@ fn write_refusal<W: Write>(
         Refusal::UnknownRecipe => write_all(writer, b"refused E1\n"),
         Refusal::UnknownBatch => write_all(writer, b"refused E2\n"),
         Refusal::CommandNotAccepted(state) => {
-            write_pieces(writer, &[b"refused E3 ", state_text(state), b"\n"])
+            write_pieces(writer, &[b"refused E3", last_word(state)])
         }
         Refusal::NoLivePhase => write_all(writer, b"refused E4\n"),
         Refusal::ReportNotExpected(state) => {
-            write_pieces(writer, &[b"refused E5 ", state_text(state), b"\n"])
+            write_pieces(writer, &[b"refused E5", last_word(state)])
         }
         Refusal::BadOutput => write_all(writer, b"refused E6\n"),
         Refusal::BadSize => write_all(writer, b"refused E7 F1\n"),
@@ -386,7 +382,7 @@ fn write_refusal<W: Write>(
         }
         Refusal::Full => write_all(writer, b"refused E8\n"),
         Refusal::NotIdle(state) => {
-            write_pieces(writer, &[b"refused E9 ", state_text(state), b"\n"])
+            write_pieces(writer, &[b"refused E9", last_word(state)])
         }
         Refusal::MovesPending => write_all(writer, b"refused E10\n"),
         Refusal::Memory => write_all(writer, b"refused E11\n"),
@@ -394,12 +390,10 @@ fn write_refusal<W: Write>(
     }
 }
 
-#[inline(always)]
 fn write_move<W: Write>(
     line: Line,
     cleared: &Cleared,
     place: &ToldPlace<'_>,
-    room: &mut [u8],
     writer: &mut W,
 ) -> Result<(), WriteFault>
     requires { told_text place.now ≡ told_by_move (move_of cleared.now line) }
@@ -411,13 +405,12 @@ fn write_move<W: Write>(
             phase,
             command,
             ..
-        } => write_send(place, room, cleared, unit, phase, command, writer),
+        } => write_send(place, cleared, unit, phase, command, writer),
         Line::State { batch, state } => write_state(batch, state, writer),
         Line::Begin { recipe, node, .. } => {
             write_step(
                 b"begin ",
                 place,
-                room,
                 act_name(cleared, recipe, node),
                 writer,
             )
@@ -430,20 +423,18 @@ fn write_move<W: Write>(
             values,
             ..
         } => write_start(
-            place, room, cleared, recipe, node, unit, phase, values, writer,
+            place, cleared, recipe, node, unit, phase, values, writer,
         ),
-        Line::End { .. } => write_placed(&[b"end "], place, room, &[b"\n"], writer),
-        _ => write_claim(line, cleared, place, room, writer),
+        Line::End { .. } => write_apart(&[b"end "], place, &[b"\n"], writer),
+        _ => write_claim(line, cleared, place, writer),
     }
 }
 
 /// Writes a line that tells of a claim on a resource: it is asked for, granted or given back.
-#[inline(always)]
 fn write_claim<W: Write>(
     line: Line,
     cleared: &Cleared,
     place: &ToldPlace<'_>,
-    room: &mut [u8],
     writer: &mut W,
 ) -> Result<(), WriteFault>
     requires claim { TellsOfClaim line }
@@ -457,7 +448,7 @@ fn write_claim<W: Write>(
             ..
         } => {
             let name = resource_name(cleared, resource);
-            write_need(b"release ", place, room, name, units, writer)
+            write_need(b"release ", place, name, units, writer)
         }
         Line::Ask {
             resource,
@@ -465,7 +456,7 @@ fn write_claim<W: Write>(
             ..
         } => {
             let name = resource_name(cleared, resource);
-            write_need(b"ask ", place, room, name, units, writer)
+            write_need(b"ask ", place, name, units, writer)
         }
         Line::Grant {
             resource,
@@ -473,7 +464,7 @@ fn write_claim<W: Write>(
             ..
         } => {
             let name = resource_name(cleared, resource);
-            write_need(b"grant ", place, room, name, units, writer)
+            write_need(b"grant ", place, name, units, writer)
         }
         _ => unreachable!(),
     }
@@ -481,7 +472,6 @@ fn write_claim<W: Write>(
 
 fn write_send<W: Write>(
     place: &ToldPlace<'_>,
-    room: &mut [u8],
     cleared: &Cleared,
     unit: u16,
     phase: u16,
@@ -493,7 +483,7 @@ fn write_send<W: Write>(
 {
     let phase_name = phase_name(cleared, unit, phase);
     let unit_name = resource_name(cleared, unit);
-    write_phase_front(b"send ", place, room, unit_name, phase_name, writer)?;
+    write_phase_front(b"send ", place, unit_name, phase_name, writer)?;
     write_pieces(writer, &[b" ", command_text(command), b"\n"])
 }
 
@@ -507,35 +497,29 @@ fn write_state<W: Write>(batch: u64, state: State, writer: &mut W) -> Result<(),
         &[
             b"state ",
             digits.format(batch).as_bytes(),
-            b" ",
-            state_text(state),
-            b"\n",
+            last_word(state),
         ],
     )
 }
 
 /// Writes what a move tells of a step: the word and a space, the batch and the step's place, and a name.
-#[inline(always)]
 fn write_step<W: Write>(
     word: &'static [u8],
     place: &ToldPlace<'_>,
-    room: &mut [u8],
     name: &[u8],
     writer: &mut W,
 ) -> Result<(), WriteFault>
     ensures { Writes (W.contents writer.old) (W.contents writer.new) result
         (word.now ++ line_text (told_text place.now ∷ name.now ∷ [])) }
 {
-    write_placed(&[word], place, room, &[b" ", name, b"\n"], writer)
+    write_apart(&[word], place, &[b" ", name, b"\n"], writer)
 }
 
 /// Writes what a move tells of a need: the word and a space, the batch and the act's place, the resource, and how many units of it
 /// where it is more than one.
-#[inline(always)]
 fn write_need<W: Write>(
     word: &'static [u8],
     place: &ToldPlace<'_>,
-    room: &mut [u8],
     resource: &[u8],
     units: u32,
     writer: &mut W,
@@ -544,14 +528,13 @@ fn write_need<W: Write>(
         (word.now ++ line_text (told_text place.now ∷ need_text (record { resource = resource.now; units = units }) ∷ [])) }
 {
     if units <= 1 {
-        return write_step(word, place, room, resource, writer);
+        return write_step(word, place, resource, writer);
     }
     let mut digits = Buffer::new();
     let units = digits.format(units).as_bytes();
-    write_placed(
+    write_apart(
         &[word],
         place,
-        room,
         &[b" ", resource, b"*", units, b"\n"],
         writer,
     )
@@ -559,7 +542,6 @@ fn write_need<W: Write>(
 
 fn write_start<W: Write>(
     place: &ToldPlace<'_>,
-    room: &mut [u8],
     cleared: &Cleared,
     recipe: u16,
     node: u16,
@@ -574,14 +556,13 @@ fn write_start<W: Write>(
     let unit_name = resource_name(cleared, unit);
     let phase_name = phase_name(cleared, unit, phase);
     write_handing(
-        place, room, unit_name, phase_name, cleared, recipe, node, values, writer,
+        place, unit_name, phase_name, cleared, recipe, node, values, writer,
     )
 }
 
 /// Writes that a phase starts, and the values that it is handed.
 fn write_handing<W: Write>(
     place: &ToldPlace<'_>,
-    room: &mut [u8],
     unit: &[u8],
     phase: &[u8],
     cleared: &Cleared,
@@ -593,17 +574,15 @@ fn write_handing<W: Write>(
     ensures { Writes (W.contents writer.old) (W.contents writer.new) result
         (codes "start " ++ line_text (told_text place.now ∷ unit.now ∷ phase.now ∷ value_texts (zip (handed_at cleared.now recipe node) values))) }
 {
-    write_phase_front(b"start ", place, room, unit, phase, writer)?;
-    write_handed(cleared, recipe, node, values, writer)?;
+    write_phase_front(b"start ", place, unit, phase, writer)?;
+    write_values(handed_names(cleared, recipe, node), values, writer)?;
     write_all(writer, b"\n")
 }
 
 /// Writes what a line of a phase step begins with: the word and a space, the batch and the step's place, the unit and its phase.
-#[inline(always)]
 fn write_phase_front<W: Write>(
     word: &'static [u8],
     place: &ToldPlace<'_>,
-    room: &mut [u8],
     unit: &[u8],
     phase: &[u8],
     writer: &mut W,
@@ -611,40 +590,10 @@ fn write_phase_front<W: Write>(
     ensures { Writes (W.contents writer.old) (W.contents writer.new) result
         (phase_front word.now (told_text place.now) unit.now phase.now) }
 {
-    write_placed(&[word], place, room, &[b" ", unit, b" ", phase], writer)
+    write_apart(&[word], place, &[b" ", unit, b" ", phase], writer)
 }
 
-/// Writes pieces, a place, and pieces behind it.
-#[inline(always)]
-fn write_placed<W: Write>(
-    head: &[&[u8]],
-    place: &ToldPlace<'_>,
-    room: &mut [u8],
-    tail: &[&[u8]],
-    writer: &mut W,
-) -> Result<(), WriteFault>
-    ensures { Writes (W.contents writer.old) (W.contents writer.new) result (before head.now (told_text place.now ++ before tail.now [])) }
-{
-    if let ToldPlace::Known(known) = *place {
-        if let Some(start) = put_placed(head, known, tail, room) {
-            return write_all(writer, &room[start..]);
-        }
-    }
-    write_apart(head, place, tail, writer)
-}
-
-/// Puts pieces, the text of a place, and pieces behind it to the end of a text, and tells where they begin. None where there is
-/// no room for them.
-#[inline(always)]
-fn put_placed(head: &[&[u8]], place: &[u8], tail: &[&[u8]], text: &mut [u8]) -> Option<usize>
-    ensures { IfSome result (λ start. (start ≤ length text.new) × (drop start text.new ≡ before head.now (place.now ++ before tail.now []))) }
-{
-    let end = put_pieces(text, text.len(), tail)?;
-    let start = put_piece(text, end, place)?;
-    put_pieces(text, start, head)
-}
-
-/// Writes the same one after the other, however long it is.
+/// Writes pieces, a place, and pieces behind it, one after the other, however long they are.
 fn write_apart<W: Write>(
     head: &[&[u8]],
     place: &ToldPlace<'_>,
@@ -656,26 +605,6 @@ fn write_apart<W: Write>(
     write_pieces(writer, head)?;
     write_place(place, writer)?;
     write_pieces(writer, tail)
-}
-
-/// Writes the values that a phase step hands its phase, each behind a space.
-fn write_handed<W: Write>(
-    cleared: &Cleared,
-    recipe: u16,
-    node: u16,
-    values: [u64; MAX_VALUES],
-    writer: &mut W,
-) -> Result<(), WriteFault>
-    ensures { Writes (W.contents writer.old) (W.contents writer.new) result
-        (values_text (zip (handed_at cleared.now recipe node) values)) }
-{
-    match cleared.recipes().get(usize::from(recipe)) {
-        Some(recipe) => match handed_names(recipe, node) {
-            Some(names) => write_values(names, values, writer),
-            None => write_all(writer, b""),
-        },
-        None => write_all(writer, b""),
-    }
 }
 
 /// Writes the names beside the values, as far as there are both.
@@ -702,22 +631,23 @@ fn write_value<W: Write>(name: &[u8], value: u64, writer: &mut W) -> Result<(), 
     write_pieces(writer, &[b" ", name, b"=", digits.format(value).as_bytes()])
 }
 
-fn state_text(state: State) -> &'static [u8]
-    ensures { result.now ≡ state_text state }
+/// The state as the last word of a line: behind a space, and with the line's end.
+pub(crate) fn last_word(state: State) -> &'static [u8]
+    ensures { result.now ≡ codes " " ++ (state_text state ++ codes "\n") }
 {
     match state {
-        State::Idle => b"idle",
-        State::Running => b"running",
-        State::Pausing => b"pausing",
-        State::Paused => b"paused",
-        State::Holding => b"holding",
-        State::Held => b"held",
-        State::Restarting => b"restarting",
-        State::Stopping => b"stopping",
-        State::Stopped => b"stopped",
-        State::Aborting => b"aborting",
-        State::Aborted => b"aborted",
-        State::Complete => b"complete",
+        State::Idle => b" idle\n",
+        State::Running => b" running\n",
+        State::Pausing => b" pausing\n",
+        State::Paused => b" paused\n",
+        State::Holding => b" holding\n",
+        State::Held => b" held\n",
+        State::Restarting => b" restarting\n",
+        State::Stopping => b" stopping\n",
+        State::Stopped => b" stopped\n",
+        State::Aborting => b" aborting\n",
+        State::Aborted => b" aborted\n",
+        State::Complete => b" complete\n",
     }
 }
 
@@ -736,16 +666,17 @@ fn command_text(command: Command) -> &'static [u8]
     }
 }
 
-fn report_text(word: Report) -> &'static [u8]
-    ensures { result.now ≡ report_text word }
+/// What a phase tells, as a word with a space on either side.
+pub(crate) fn inner_word(word: Report) -> &'static [u8]
+    ensures { result.now ≡ codes " " ++ (report_text word ++ codes " ") }
 {
     match word {
-        Report::Done => b"done",
-        Report::Paused => b"paused",
-        Report::Held => b"held",
-        Report::Running => b"running",
-        Report::Stopped => b"stopped",
-        Report::Aborted => b"aborted",
-        Report::Fault => b"fault",
+        Report::Done => b" done ",
+        Report::Paused => b" paused ",
+        Report::Held => b" held ",
+        Report::Running => b" running ",
+        Report::Stopped => b" stopped ",
+        Report::Aborted => b" aborted ",
+        Report::Fault => b" fault ",
     }
 }

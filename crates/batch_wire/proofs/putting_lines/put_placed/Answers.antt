@@ -1,7 +1,7 @@
 use Rattle.std.proofs.Common.{◌≡◌, ◌≤◌, ◌++◌, drop, flat_map, length, ap, ◌∙◌, arith, append-nil}
 use Rattle.std.proofs.lemmas.List.{drop_all}
 use Rattle.batch_wire.proofs.PartsWritten.{all_put}
-use Rattle.batch_wire.proofs.record_line.put_placed.Goals as goal
+use Rattle.batch_wire.proofs.putting_lines.put_placed.Goals as goal
 
 pub returns : goal.returns
 returns c =
