@@ -4,8 +4,8 @@ use Rattle.std.proofs.Math.Nat.{eq-or-lt_of_le}
 use Rattle.std.proofs.lemmas.List.{take-append-le, drop-append-le, drop-take, length-append, length-take, length-drop, take-append-drop}
 use Rattle.std.proofs.Math.Seq.{drop-append-add, drop-append_seam, take-append_seam}
 use Rattle.std.specs.Prelude.{IfSome}
-use Rattle.batch_wire.specs.declared.known_places.Known.{Known}
-use Rattle.batch_wire.specs.declared.known_places.KnownPlaces.{KnownPlaces}
+use Rattle.batch_wire.specs.declared.recipe_places.Known.{Known}
+use Rattle.batch_wire.specs.declared.recipe_places.RecipePlaces.{RecipePlaces}
 use Rattle.batch_wire.specs.Known.{known_at, AreKnownBy, EndsAt, HoldsBatch, IsCutBack, IsAdded, IsKept}
 
 -- what stands before a text that was put is what stood there
@@ -70,7 +70,7 @@ module _ (old new digits : List ℕ) (start : ℕ) (before : start ≤ 23) (room
 
 module _ (text_of : ℕ → List ℕ) where
   -- the batch, a space and the place
-  batch_and_place : (k : KnownPlaces) (n end : ℕ) (text : List ℕ) → AreKnownBy text_of k → k.batch ≡ Some n → EndsAt text end k
+  batch_and_place : (k : RecipePlaces) (n end : ℕ) (text : List ℕ) → AreKnownBy text_of k → k.batch ≡ Some n → EndsAt text end k
       → (k.start ≤ end) × (end ≤ 408) × (drop k.start (take end k.text) ≡ decimal n ++ (codes " " ++ text))
   batch_and_place k n end text h is ends =
       let digits = h.batch.digits n is in
@@ -84,7 +84,7 @@ module _ (text_of : ℕ → List ℕ) where
       )
 
   -- the digits of another batch were put in front
-  pub batch_held : (k : KnownPlaces) (n start : ℕ) (new : List ℕ) → AreKnownBy text_of k → start ≤ 23 → length new ≡ length k.text → drop start new ≡ decimal n ++ drop 23 k.text
+  pub batch_held : (k : RecipePlaces) (n start : ℕ) (new : List ℕ) → AreKnownBy text_of k → start ≤ 23 → length new ≡ length k.text → drop start new ≡ decimal n ++ drop 23 k.text
       → AreKnownBy text_of (record k { batch = Some n; start = start; text = new })
   batch_held k n start new h before count put =
       let room : 24 ≤ length k.text = omega (arith, ap (λ (t : List ℕ). length t) h.batch.space, length-drop 23 (take 24 k.text), length-take 24 k.text) in
@@ -105,12 +105,12 @@ module _ (text_of : ℕ → List ℕ) where
       some_same n m e = cc
 
   -- where a text ends, its batch stands in front of it
-  pub found_with : (k : KnownPlaces) (n : ℕ) (text : List ℕ) (o : Option ℕ) → AreKnownBy text_of k → k.batch ≡ Some n → IfSome o (λ end. EndsAt text end k)
+  pub found_with : (k : RecipePlaces) (n : ℕ) (text : List ℕ) (o : Option ℕ) → AreKnownBy text_of k → k.batch ≡ Some n → IfSome o (λ end. EndsAt text end k)
       → IfSome o (λ end. (k.start ≤ end) × (end ≤ 408) × (drop k.start (take end k.text) ≡ decimal n ++ (codes " " ++ text)))
   found_with k n text None h is ends = tt
   found_with k n text (Some end) h is ends = batch_and_place k n end text h is ends
 
-  pub still_known : (old new : KnownPlaces) → AreKnownBy text_of old → IsCutBack old new → AreKnownBy text_of new
+  pub still_known : (old new : RecipePlaces) → AreKnownBy text_of old → IsCutBack old new → AreKnownBy text_of new
   still_known old new h cut =
       let same : (i : ℕ) → known_at old i ≡ known_at new i = λ i. ap (λ path. get_or path i (record { node = 0; end = 0 })) (sym cut.path) in
       record {
@@ -123,7 +123,7 @@ module _ (text_of : ℕ → List ℕ) where
       }
 
   -- another text is put behind what is known
-  pub known_before : (old new : KnownPlaces) (more : List ℕ) (at end : ℕ) → AreKnownBy text_of old → ((i : ℕ) → i < old.depth → (known_at old i).end ≤ at)
+  pub known_before : (old new : RecipePlaces) (more : List ℕ) (at end : ℕ) → AreKnownBy text_of old → ((i : ℕ) → i < old.depth → (known_at old i).end ≤ at)
       → take end new.text ≡ take at old.text ++ more → 24 ≤ at → at ≤ end → at ≤ length old.text → new.path ≡ old.path → new.depth ≡ old.depth
       → new.batch ≡ old.batch → new.start ≡ old.start → AreKnownBy text_of new
   known_before old new more at end h below put from after within path depth batch start =
@@ -140,7 +140,7 @@ module _ (text_of : ℕ → List ℕ) where
       }
 
   -- a node whose text ends behind what is known is known with it
-  pub known_with : (old new : KnownPlaces) (node end : ℕ) → AreKnownBy text_of old → EndsAt (text_of node) end old → IsKept node end old new
+  pub known_with : (old new : RecipePlaces) (node end : ℕ) → AreKnownBy text_of old → EndsAt (text_of node) end old → IsKept node end old new
       → AreKnownBy text_of new × EndsAt (text_of node) end new
   known_with old new node end h is kept = go kept.path
     where
@@ -193,7 +193,7 @@ module _ (text_of : ℕ → List ℕ) where
           )
 
   -- a text that is put behind what is known is that of a node
-  pub known_further : (old put new : KnownPlaces) (more : List ℕ) (at end node : ℕ) → AreKnownBy text_of old → ((i : ℕ) → i < old.depth → (known_at old i).end ≤ at)
+  pub known_further : (old put new : RecipePlaces) (more : List ℕ) (at end node : ℕ) → AreKnownBy text_of old → ((i : ℕ) → i < old.depth → (known_at old i).end ≤ at)
       → take end put.text ≡ take at old.text ++ more → drop 24 (take at old.text) ++ more ≡ text_of node → 24 ≤ at → at ≤ end → end ≤ 408 → at ≤ length old.text
       → put.path ≡ old.path → put.depth ≡ old.depth → put.batch ≡ old.batch → put.start ≡ old.start → IsKept node end put new → AreKnownBy text_of new × EndsAt (text_of node) end new
   known_further old put new more at end node h below text is from after within long path depth batch start kept =

@@ -1,12 +1,14 @@
 -- surface: places whose texts are kept.
 use Rattle.std.specs.Prelude.{◌≡◌, ℕ, ◌+◌, ◌-◌, ◌≤◌, ◌<◌, ◌⊎◌, List, Option, Some, codes, decimal, drop, length, take, get_or, slice_set}
+use Rattle.std.specs.List.{All}
 use Rattle.batch_recipe.specs.Texts.{place_text}
 use Rattle.batch_verify.specs.ClearedSet.{ClearedSet}
 use Rattle.batch_engine.specs.Names.{place_at}
-use Rattle.batch_wire.specs.declared.known_places.Known.{Known}
 use Rattle.batch_wire.specs.declared.known_places.KnownPlaces.{KnownPlaces}
+use Rattle.batch_wire.specs.declared.recipe_places.Known.{Known}
+use Rattle.batch_wire.specs.declared.recipe_places.RecipePlaces.{RecipePlaces}
 
-abbrev pub known_at : KnownPlaces → ℕ → Known
+abbrev pub known_at : RecipePlaces → ℕ → Known
 known_at k i = get_or k.path i (record { node = 0; end = 0 })
 
 -- a space stands before the place, and before it the digits of the batch
@@ -15,7 +17,7 @@ pub record HoldsBatch (batch : Option ℕ) (start : ℕ) (text : List ℕ) : Typ
   pub digits : (n : ℕ) → batch ≡ Some n → (start ≤ 23) × (drop start (take 23 text) ≡ decimal n)
 
 -- the text that is kept begins with that of each node kept, from its 24th byte on
-pub record AreKnownBy (text_of : ℕ → List ℕ) (k : KnownPlaces) : Type 0 where
+pub record AreKnownBy (text_of : ℕ → List ℕ) (k : RecipePlaces) : Type 0 where
   pub batch : HoldsBatch k.batch k.start k.text
   pub few : k.depth ≤ 192
   pub rise : (i j : ℕ) → i ≤ j → j < k.depth → (known_at k i).end ≤ (known_at k j).end
@@ -23,22 +25,26 @@ pub record AreKnownBy (text_of : ℕ → List ℕ) (k : KnownPlaces) : Type 0 wh
   pub told : (i : ℕ) → i < k.depth → drop 24 (take (known_at k i).end k.text) ≡ text_of (known_at k i).node
 
 -- the places kept are those of a recipe of the set
+abbrev pub AreKnownIn : ClearedSet → RecipePlaces → Type 0
+AreKnownIn c k = AreKnownBy (λ node. place_text (place_at c k.recipe node)) k
+
+-- and of several recipes
 abbrev pub AreKnown : ClearedSet → KnownPlaces → Type 0
-AreKnown c k = AreKnownBy (λ node. place_text (place_at c k.recipe node)) k
+AreKnown c k = All (AreKnownIn c) k.recipes
 
 -- a text ends there, behind all that are kept
-pub record EndsAt (text : List ℕ) (end : ℕ) (k : KnownPlaces) : Type 0 where
+pub record EndsAt (text : List ℕ) (end : ℕ) (k : RecipePlaces) : Type 0 where
   pub from : 24 ≤ end
   pub within : end ≤ 408
   pub last : (i : ℕ) → i < k.depth → (known_at k i).end ≤ end
   pub told : drop 24 (take end k.text) ≡ text
 
 -- the node is the last one, and the text of its place ends there
-abbrev pub IsLast : ℕ → ℕ → KnownPlaces → Type 0
+abbrev pub IsLast : ℕ → ℕ → RecipePlaces → Type 0
 IsLast node end k = (1 ≤ k.depth) × ((known_at k (k.depth - 1)).node ≡ node) × ((known_at k (k.depth - 1)).end ≡ end)
 
 -- the last nodes were forgotten, or none
-pub record IsCutBack (old new : KnownPlaces) : Type 0 where
+pub record IsCutBack (old new : RecipePlaces) : Type 0 where
   pub fewer : new.depth ≤ old.depth
   pub path : new.path ≡ old.path
   pub text : new.text ≡ old.text
@@ -47,14 +53,14 @@ pub record IsCutBack (old new : KnownPlaces) : Type 0 where
   pub recipe : new.recipe ≡ old.recipe
 
 -- a node is kept behind the others
-pub record IsAdded (node end : ℕ) (old new : KnownPlaces) : Type 0 where
+pub record IsAdded (node end : ℕ) (old new : RecipePlaces) : Type 0 where
   pub room : old.depth < 192
   pub all : length old.path ≡ 192
   pub deeper : new.depth ≡ old.depth + 1
   pub path : new.path ≡ slice_set old.path old.depth (record { node = node; end = end })
 
 -- the same, or there was no room for it
-pub record IsKept (node end : ℕ) (old new : KnownPlaces) : Type 0 where
+pub record IsKept (node end : ℕ) (old new : RecipePlaces) : Type 0 where
   pub text : new.text ≡ old.text
   pub batch : new.batch ≡ old.batch
   pub start : new.start ≡ old.start

@@ -10,6 +10,7 @@ mod pairs;
 mod places;
 mod putting;
 mod putting_lines;
+mod recipe_places;
 mod record_line;
 mod report_line;
 mod rows;

@@ -1,5 +1,5 @@
 //! Writing a line of the record.
-ghost use Rattle.std.specs.Prelude.{◌≡◌, ◌≤◌, ◌∷◌, [], ◌++◌, IfSome, map, codes, decimal, drop, length};
+ghost use Rattle.std.specs.Prelude.{◌≡◌, ◌≤◌, Some, ◌∷◌, [], ◌++◌, IfSome, map, codes, decimal, drop, length};
 ghost use Rattle.std.specs.List.{zip};
 ghost use Rattle.batch_recipe.specs.Texts.{line_text};
 ghost use Rattle.batch_engine.specs.Names.{handed_at, name_at, phase_name, recipe_name, resource_name, roles_of, roles_told};
@@ -7,16 +7,17 @@ ghost use Rattle.batch_engine.specs.Surface.{out_of, reply_of, move_of, refusal_
 ghost use Rattle.batch_engine.specs.declared.line.Line.TheVariants as lines;
 ghost use Rattle.batch_engine.specs.declared.reply.Reply.TheVariants as replies;
 ghost use Rattle.batch_verify.specs.ClearedSet.{ClearedSet};
-ghost use Rattle.batch_wire.specs.Known.{AreKnown};
+ghost use Rattle.batch_wire.specs.Known.{AreKnown, AreKnownIn};
 ghost use Rattle.batch_wire.specs.Pieces.{TellsOfClaim, before, created_front, phase_front, roles_text, text_of_site, told_by_move, told_by_out, told_by_reply, told_text, values_text};
 ghost use Rattle.batch_wire.specs.RecordText.{out_text, reply_words, refusal_words, move_words, state_text, command_text, report_text, role_text, value_text, need_text, value_texts};
 ghost use Rattle.batch_wire.specs.Written.{Writes};
 
 use crate::fault::WriteFault;
-use crate::known_places::KnownPlaces;
+use crate::known_places::{KnownPlaces, seat_of};
 use crate::names::{act_name, handed_names, phase_name, recipe_name, resource_name, value_name};
 use crate::places::{ToldPlace, write_place};
 use crate::putting_lines::put_out;
+use crate::recipe_places::RecipePlaces;
 use crate::site::Site;
 use crate::writing::{write_all, write_pieces};
 use batch_engine::{Line, Out, Refusal, Reply};
@@ -31,11 +32,15 @@ use std::io::Write;
 pub fn write_out<W: Write>(out: &Out, cleared: &Cleared, writer: &mut W) -> Result<(), WriteFault>
     ensures { Writes (W.contents writer.old) (W.contents writer.new) result (out_text (out_of cleared.now out.now)) }
 {
-    write_out_knowing(out, cleared, &mut KnownPlaces::new(), writer)
+    match site_of(out) {
+        None => write_telling(out, cleared, &ToldPlace::Known(b""), writer),
+        Some(site) => write_telling(out, cleared, &ToldPlace::Long { cleared, site }, writer),
+    }
 }
 
-/// Writes the same line. The text of the place that it tells is put together from that of the last one, and is known from then
-/// on: of many lines of a batch each costs what its place differs from the one before.
+/// Writes the same line. The text of the place that it tells is put together from that of the recipe's last one, and is known from
+/// then on: of many lines of a batch each costs what its place differs from the one before.
+#[inline(always)]
 pub fn write_out_knowing<W: Write>(
     out: &Out,
     cleared: &Cleared,
@@ -49,20 +54,40 @@ pub fn write_out_knowing<W: Write>(
     let Some(site) = site_of(out) else {
         return write_telling(out, cleared, &ToldPlace::Known(b""), writer);
     };
-    match places.find(cleared, site) {
-        Some(end) => {
-            let start = places.start;
-            let known = &places.text[..end];
-            let told = &known[start..];
-            match put_out(out, cleared, told, &mut places.line) {
-                Some(start) => write_all(writer, &places.line[start..]),
-                None => write_telling(out, cleared, &ToldPlace::Known(told), writer),
-            }
-        }
-        None => {
-            let place = ToldPlace::Long { cleared, site };
-            write_telling(out, cleared, &place, writer)
-        }
+    let seat = seat_of(site.recipe);
+    write_site(
+        out,
+        cleared,
+        site,
+        &mut places.recipes[seat],
+        &mut places.line,
+        writer,
+    )
+}
+
+/// Writes the line of an out that tells this site, where these places are known.
+#[inline(always)]
+fn write_site<W: Write>(
+    out: &Out,
+    cleared: &Cleared,
+    site: Site,
+    places: &mut RecipePlaces,
+    room: &mut [u8],
+    writer: &mut W,
+) -> Result<(), WriteFault>
+    requires known { AreKnownIn cleared.now places.old }
+    requires told { text_of_site cleared.now (Some site) ≡ told_by_out (out_of cleared.now out.now) }
+    ensures known { AreKnownIn cleared.now places.new }
+    ensures written { Writes (W.contents writer.old) (W.contents writer.new) result (out_text (out_of cleared.now out.now)) }
+{
+    let Some(end) = places.find(cleared, site) else {
+        return write_telling(out, cleared, &ToldPlace::Long { cleared, site }, writer);
+    };
+    let known = &places.text[..end];
+    let told = &known[places.start..];
+    match put_out(out, cleared, told, room) {
+        Some(start) => write_all(writer, &room[start..]),
+        None => write_telling(out, cleared, &ToldPlace::Known(told), writer),
     }
 }
 

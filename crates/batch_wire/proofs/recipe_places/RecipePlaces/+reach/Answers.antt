@@ -2,11 +2,11 @@ use Rattle.std.proofs.Common.{◌≡◌, ◌≤◌, ℕ, [], ◌++◌, drop, tak
 use Rattle.std.proofs.lemmas.List.{drop_all}
 use Rattle.batch_wire.specs.Known.{AreKnownBy, EndsAt}
 use Rattle.batch_wire.specs.Pieces.{text_of_place}
-use Rattle.batch_wire.specs.declared.known_places.KnownPlaces.{KnownPlaces}
+use Rattle.batch_wire.specs.declared.recipe_places.RecipePlaces.{RecipePlaces}
 use Rattle.batch_wire.proofs.PlacesKept.{still_known, known_further}
 use Rattle.batch_wire.proofs.PlaceParts.{entry-at, root-text, text-below}
-use Rattle.batch_wire.proofs.known_places.KnownPlaces.+reach.Goals as goal
-use Rattle.batch_wire.proofs.known_places.KnownPlaces.+reach.Goals.{then-node-eq0, else-node-eq0+in_ok-above+else-above-gt-MAX_PLACE_END}
+use Rattle.batch_wire.proofs.recipe_places.RecipePlaces.+reach.Goals as goal
+use Rattle.batch_wire.proofs.recipe_places.RecipePlaces.+reach.Goals.{then-node-eq0, else-node-eq0+in_ok-above+else-above-gt-MAX_PLACE_END}
 
 pub reach-requires : goal.reach-requires
 reach-requires t c =
@@ -22,7 +22,7 @@ known t c =
     elim c.if-node-eq0.branch [
       | then-node-eq0 w ↦
           let cut = c.forget_past.ensures in
-          let none : KnownPlaces = record c.forget_past.new.self { depth = 0 } in
+          let none : RecipePlaces = record c.forget_past.new.self { depth = 0 } in
           let put = w.put_number-end.ensures in
           let room : 24 ≤ length none.text = omega arith in
           let nothing : drop 24 (take 24 none.text) ≡ [] = drop_all 24 (take 24 none.text) (omega (arith, length-take-le 24 none.text room)) in

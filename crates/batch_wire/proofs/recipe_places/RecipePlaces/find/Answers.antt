@@ -2,12 +2,12 @@ use Rattle.std.proofs.Common.{◌≡◌, ℕ, List, ◌∙◌, subst, sym}
 use Rattle.batch_recipe.specs.Texts.{place_text}
 use Rattle.batch_engine.specs.Names.{place_at}
 use Rattle.batch_verify.specs.ClearedSet.{ClearedSet}
-use Rattle.batch_wire.specs.Known.{AreKnown, AreKnownBy}
-use Rattle.batch_wire.specs.declared.known_places.KnownPlaces.{KnownPlaces}
+use Rattle.batch_wire.specs.Known.{AreKnownBy, AreKnownIn}
+use Rattle.batch_wire.specs.declared.recipe_places.RecipePlaces.{RecipePlaces}
 use Rattle.batch_wire.proofs.PlacesKept.{found_with}
-use Rattle.batch_wire.proofs.known_places.KnownPlaces.find.Goals as goal
+use Rattle.batch_wire.proofs.recipe_places.RecipePlaces.find.Goals as goal
 
-held : (cleared : ClearedSet) (old new : KnownPlaces) → ((text_of : ℕ → List ℕ) → AreKnownBy text_of old → AreKnownBy text_of new) → new.recipe ≡ old.recipe → AreKnown cleared old → AreKnown cleared new
+held : (cleared : ClearedSet) (old new : RecipePlaces) → ((text_of : ℕ → List ℕ) → AreKnownBy text_of old → AreKnownBy text_of new) → new.recipe ≡ old.recipe → AreKnownIn cleared old → AreKnownIn cleared new
 held cleared old new known recipe h =
     subst (λ r. AreKnownBy (λ node. place_text (place_at cleared r node)) new) (sym recipe) (known (λ node. place_text (place_at cleared old.recipe node)) h)
 

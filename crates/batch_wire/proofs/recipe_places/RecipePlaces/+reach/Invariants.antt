@@ -1,4 +1,4 @@
-use Rattle.batch_wire.proofs.known_places.KnownPlaces.+reach.Given as goal
+use Rattle.batch_wire.proofs.recipe_places.RecipePlaces.+reach.Given as goal
 
 abbrev pub decreases-reach : goal.decreases-reach
 decreases-reach l = l.node

@@ -1,0 +1,202 @@
+//! The place of a recipe that was told last, kept for those told after it.
+ghost use Rattle.std.specs.Prelude.{◌≡◌, ◌≤◌, ◌<◌, ◌++◌, ℕ, List, IfSome, IsTrue, Some, codes, decimal, drop, length, take};
+ghost use Rattle.batch_recipe.specs.Texts.{place_text};
+ghost use Rattle.batch_engine.specs.Names.{place_at};
+ghost use Rattle.batch_verify.specs.ClearedSet.{ClearedSet};
+ghost use Rattle.batch_wire.specs.Known.{AreKnownBy, AreKnownIn, EndsAt, HoldsBatch, IsCutBack, IsKept, IsLast};
+ghost use Rattle.batch_wire.specs.Pieces.{text_of_place, text_of_site};
+
+use crate::putting::put_piece;
+use crate::site::Site;
+use crate::steps::{MAX_STEP_LEN, put_number, put_step};
+use batch_recipe::{Entry, Recipe};
+use batch_verify::Cleared;
+use itoa::Buffer;
+
+/// How many nodes are kept: more than stand above one another where forms nest as deep as they may.
+const MAX_DEPTH: usize = 192;
+
+/// Where the text of a place begins. Before it stand a batch's digits, at most 20, and a space.
+const PLACE_START: usize = 24;
+
+/// Where the text of a place ends at most that is kept.
+const MAX_PLACE_END: usize = 408;
+
+/// The nodes from a recipe's root to the one whose place was told last, and the text of that place, which begins with the
+/// places of the nodes above. In front of it stands the batch that was told last.
+#[derive(Clone, Copy)]
+pub(crate) struct RecipePlaces {
+    /// The batch whose digits stand in front of the place.
+    batch: Option<u64>,
+    /// Where they begin.
+    pub(crate) start: usize,
+    recipe: u16,
+    /// How many nodes are kept.
+    depth: usize,
+    path: [Known; MAX_DEPTH],
+    pub(crate) text: [u8; MAX_PLACE_END],
+}
+
+/// A node, and where the text of its place ends.
+#[derive(Clone, Copy)]
+struct Known {
+    node: u16,
+    end: u16,
+}
+
+impl RecipePlaces {
+    /// No place is known yet.
+    pub(crate) fn new() -> RecipePlaces
+        ensures { (cleared : ClearedSet) → AreKnownIn cleared result }
+    {
+        RecipePlaces {
+            batch: None,
+            start: 0,
+            recipe: 0,
+            depth: 0,
+            path: [Known { node: 0, end: 0 }; MAX_DEPTH],
+            text: [b' '; MAX_PLACE_END],
+        }
+    }
+
+    /// Makes the place of a node known, and the batch in front of it, and tells where the place's text ends. None where there is no
+    /// room for it, or no such node.
+    pub(crate) fn find(&mut self, cleared: &Cleared, site: Site) -> Option<usize>
+        requires { AreKnownIn cleared.now self.old }
+        ensures known { AreKnownIn cleared.now self.new }
+        ensures found { IfSome result (λ end. (self.new.start ≤ end) × (end ≤ 408)
+            × (drop self.new.start (take end self.new.text) ≡ text_of_site cleared.now (Some site))) }
+    {
+        if !self.hold_batch(site.batch) {
+            return None;
+        }
+        self.find_place(cleared, site.recipe, site.node)
+    }
+
+    /// The same where the batch stands already.
+    fn find_place(&mut self, cleared: &Cleared, recipe: u16, node: u16) -> Option<usize>
+        requires { AreKnownIn cleared.now self.old }
+        ensures known { AreKnownIn cleared.now self.new }
+        ensures batch { self.new.batch ≡ self.old.batch }
+        ensures found { IfSome result (λ end. EndsAt (place_text (place_at cleared.now recipe node)) end self.new) }
+    {
+        if self.recipe != recipe {
+            self.recipe = recipe;
+            self.depth = 0;
+        }
+        match cleared.recipes().get(usize::from(recipe)) {
+            Some(recipe) => self.find_in(recipe, node),
+            None => None,
+        }
+    }
+
+    /// The same in the recipe whose places are known.
+    fn find_in(&mut self, recipe: &Recipe, node: u16) -> Option<usize>
+        requires { AreKnownBy (text_of_place recipe.now) self.old }
+        ensures recipe { self.new.recipe ≡ self.old.recipe }
+        ensures batch { self.new.batch ≡ self.old.batch }
+        ensures known { AreKnownBy (text_of_place recipe.now) self.new }
+        ensures found { IfSome result (λ end. EndsAt (text_of_place recipe.now node) end self.new) }
+    {
+        if usize::from(node) < recipe.outline.entries.len() {
+            self.reach(recipe, node)
+        } else {
+            None
+        }
+    }
+
+    /// The digits of the batch stand in front of the place, unless there is no room for them.
+    fn hold_batch(&mut self, batch: u64) -> bool
+        ensures known { (text_of : ℕ → List ℕ) → AreKnownBy text_of self.old → AreKnownBy text_of self.new }
+        ensures recipe { self.new.recipe ≡ self.old.recipe }
+        ensures holds { IsTrue result → self.new.batch ≡ Some batch }
+    {
+        if let Some(held) = self.batch {
+            if held == batch {
+                return true;
+            }
+        }
+        let mut digits = Buffer::new();
+        match put_piece(
+            &mut self.text,
+            PLACE_START - 1,
+            digits.format(batch).as_bytes(),
+        ) {
+            Some(start) => {
+                self.start = start;
+                self.batch = Some(batch);
+                true
+            }
+            None => false,
+        }
+    }
+
+    /// Makes the place of a node known from that of the node above it, and tells where its text ends. None where there is no
+    /// room for it.
+    fn reach(&mut self, recipe: &Recipe, node: u16) -> Option<usize>
+        requires within { node < length recipe.now.outline.entries.items }
+        requires known { AreKnownBy (text_of_place recipe.now) self.old }
+        ensures recipe { self.new.recipe ≡ self.old.recipe }
+        ensures batch { self.new.batch ≡ self.old.batch }
+        ensures known { AreKnownBy (text_of_place recipe.now) self.new }
+        ensures reached { IfSome result (λ end. EndsAt (text_of_place recipe.now node) end self.new) }
+    {
+        self.forget_past(node);
+        if let Some(end) = self.end_of(node) {
+            return Some(end);
+        }
+        let Entry { parent, child, .. } = recipe.outline.entries[usize::from(node)];
+        let end = if node == 0 {
+            self.depth = 0;
+            put_number(&mut self.text, PLACE_START, child)
+        } else {
+            let above = self.reach(recipe, parent)?;
+            if above + MAX_STEP_LEN > MAX_PLACE_END {
+                return None;
+            }
+            put_step(&mut self.text, above, child)
+        };
+        self.keep(node, end);
+        Some(end)
+    }
+
+    /// Forgets the last nodes, as far as they come after this one.
+    fn forget_past(&mut self, node: u16)
+        requires { self.old.depth ≤ 192 }
+        ensures { IsCutBack self.old self.new }
+    {
+        while self.depth > 0 && self.path[self.depth - 1].node > node {
+            self.depth -= 1;
+        }
+    }
+
+    /// Where the text of the node's place ends, where it is the last node.
+    fn end_of(&self, node: u16) -> Option<usize>
+        requires { self.now.depth ≤ 192 }
+        ensures { IfSome result (λ end. IsLast node end self.now) }
+    {
+        if self.depth == 0 {
+            return None;
+        }
+        let last = self.path[self.depth - 1];
+        if last.node == node {
+            Some(usize::from(last.end))
+        } else {
+            None
+        }
+    }
+
+    /// Keeps the node as the last one, unless as many are kept as may be.
+    fn keep(&mut self, node: u16, end: usize)
+        requires { end ≤ 408 }
+        ensures { IsKept node end self.old self.new }
+    {
+        if self.depth < MAX_DEPTH {
+            self.path[self.depth] = Known {
+                node,
+                end: end as u16,
+            };
+            self.depth += 1;
+        }
+    }
+}
