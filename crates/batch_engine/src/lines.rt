@@ -45,6 +45,7 @@ fn handed(recipe: &Recipe, node: u16, values: &Values) -> [u64; MAX_VALUES]
 
 impl Control {
     /// The numbers of the phase that an act of the batch at an index runs. Those of an act that runs none name nothing.
+    #[inline(always)]
     pub(crate) fn phase_at(&self, index: usize, node: u16) -> PhaseNumber
         requires { IsNodeAt self.now index node }
         ensures named { IsPhaseAt self.now index node result.unit result.phase }

@@ -85,6 +85,7 @@ impl Control {
     }
 
     /// The next step: that of the first marked batch that has one.
+    #[inline(always)]
     pub(crate) fn first_step(&self, marks: &Marks) -> Option<Step>
         requires { AreMarked self.now marks.now }
         ensures { IsFirstStep self.now result }
