@@ -8,8 +8,8 @@ use Rattle.batch_check.specs.declared.path.Path.{Path}
 use Rattle.batch_check.specs.Edges.{has_pair, Joins, Follows}
 use Rattle.batch_check.specs.Pairs.{ArePaired, Keeps}
 use Rattle.batch_check.specs.Joining.{AreBelow, Grows, HasJoined, IsKept, needs_in}
-use Rattle.batch_check.specs.Collecting.{IsCopy, IsPathOf, IsReady, kept_by, last_number, IsAmong, GoesOn, HasAsked}
-use Rattle.batch_check.proofs.Joins.{ArePaired-push, AreBelow-push, Contains-at, at-Contains, Contains-none, Contains-one, Contains-right, Grows-same, Grows-twice, slice_get-left, slice_get-right}
+use Rattle.batch_check.specs.Collecting.{IsCopy, IsPathOf, IsReady, ends_in, kept_by, last_number, IsAmong, GoesOn, HasAsked}
+use Rattle.batch_check.proofs.Joins.{ArePaired-push, AreBelow-push, Contains-at, at-Contains, Contains-none, Contains-one, Contains-right, Grows-same, Grows-twice, HasJoined-none, slice_get-left, slice_get-right}
 
 -- Last needs
 
@@ -232,3 +232,15 @@ module _ (path : Path) (node : ℕ) where
   -- a copy that has asked for nothing
   pub HasAsked-copied : (copy : Path) (edges : EdgeSet) → IsReady path edges → IsCopy path copy → HasAsked path node [] edges edges copy
   HasAsked-copied copy edges ready same = record { grown = Grows-same edges; further = GoesOn-copied path copy edges ready same; standing = λ above of edge stands. inl stands }
+
+-- Paths that keep no needs
+
+pub is_ready : (recipe : ℕ) (last : Option ℕ) (edges : EdgeSet) → ((k : ℕ) → last ≡ Some k → k < edges.count) → IsReady (ends_in recipe last) edges
+is_ready recipe last edges within = record { within = within; below = λ k among. absurd (Contains-none (Some k) among) }
+
+pub HasAsked-alone : (recipe node : ℕ) (last need : Option ℕ) (old new : EdgeSet) → ((k : ℕ) → last ≡ Some k → k < old.count)
+    → ((k : ℕ) → need ≡ Some k → k < old.count) → HasJoined recipe node (last ∷ []) need old new
+    → HasAsked (ends_in recipe last) node (need ∷ []) old new (ends_in recipe need)
+HasAsked-alone recipe node last need old new within known h =
+    HasAsked-one (ends_in recipe last) node need old new new (ends_in recipe need) (is_ready recipe last old within) known refl refl h
+    (record { joined = HasJoined-none recipe node need new; extended = refl })

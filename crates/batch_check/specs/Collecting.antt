@@ -24,6 +24,10 @@ abbrev pub kept_at_top : Reach → Option (List (Option ℕ))
 kept_at_top Next = None
 kept_at_top Whole = Some []
 
+-- the path that ends in this need and keeps none
+abbrev pub ends_in : ℕ → Option ℕ → Path
+ends_in recipe last = record { recipe = recipe; last = last; asked = None }
+
 -- the paths go on alike
 pub record IsCopy (path copy : Path) : Type 0 where
   pub same_recipe : copy.recipe ≡ path.recipe

@@ -25,7 +25,7 @@ pub(crate) fn collect(
     let needs = ActNeeds::new(alloc, site)?;
     let top = Path::top(alloc, number, reach);
     // The path to each node so far, by number.
-    let mut paths = Vec::new(alloc);
+    let mut paths = Vec::with_capacity(alloc, site.recipe.outline.entries.len())?;
     for (node, entry) in site.recipe.outline.entries.iter().enumerate() {
         let above = path_above(&paths, entry, &top);
         let path = ask_each(needs.of(entry.kind), above, node as u16, edges)?;

@@ -1,7 +1,7 @@
 //! Paths of needs.
 ghost use Rattle.std.specs.Prelude.{◌≡◌, ◌<◌, [], ◌∷◌, IfOk};
 ghost use Rattle.std.specs.Option.{ForSome};
-ghost use Rattle.batch_check.specs.Collecting.{HasAsked, IsCopy, IsReady, kept_at_top, kept_by};
+ghost use Rattle.batch_check.specs.Collecting.{HasAsked, IsCopy, IsReady, ends_in, kept_at_top, kept_by};
 ghost use Rattle.batch_check.specs.Joining.{AreBelow};
 
 use crate::edge_set::EdgeSet;
@@ -88,9 +88,37 @@ pub(crate) fn ask_each(
     requires needs { AreBelow edges.old.count needs.now }
     ensures { IfOk result (HasAsked path.now node needs.now edges.old edges.new) }
 {
+    if path.asked.is_none() {
+        let last = ask_in_turn(needs, path.recipe, path.last, node, edges)?;
+        return Ok(Path {
+            recipe: path.recipe,
+            last,
+            asked: None,
+        });
+    }
     let mut at = path.copied()?;
     for need in needs {
         at = ask(*need, at, node, edges)?;
     }
     Ok(at)
+}
+
+/// The last need after these of the act at the node, in their order. Adds the edges to them, each from the need before it.
+fn ask_in_turn(
+    needs: &[Option<u16>],
+    recipe: u16,
+    before: Option<u16>,
+    node: u16,
+    edges: &mut EdgeSet,
+) -> Result<Option<u16>, AllocError>
+    requires before { ForSome before (λ number. number < edges.old.count) }
+    requires needs { AreBelow edges.old.count needs.now }
+    ensures { IfOk result (λ last. HasAsked (ends_in recipe before) node needs.now edges.old edges.new (ends_in recipe last)) }
+{
+    let mut last = before;
+    for need in needs {
+        join(recipe, node, last, *need, edges)?;
+        last = *need;
+    }
+    Ok(last)
 }

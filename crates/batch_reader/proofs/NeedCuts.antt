@@ -1,9 +1,37 @@
 -- What a text that is a need says, by where its first star stands.
-use Rattle.std.proofs.Common.{◌≡◌, ℕ, ◌+◌, ◌-◌, List, length, take, drop, position, Option, Some, None, refl, sym, ◌∙◌, subst}
+use Rattle.std.proofs.Common.{◌≡◌, ℕ, ◌+◌, ◌-◌, Bool, true, false, List, [], ◌∷◌, length, slice_index, take, drop, position, Option, Some, None, refl, sym, ◌∙◌, subst, arith}
+use Rattle.std.specs.Char.{is_ascii_alphabetic}
+use Rattle.std.specs.List.{list_all}
+use Rattle.std.proofs.lemmas.Bool.{and_parts, eqb-true, false≢true}
+use Rattle.std.proofs.lemmas.Bool.Decides.{nat_tests}
+use Rattle.std.proofs.lemmas.Grind.{common_steps}
 use Rattle.std.proofs.lemmas.List.{take_rest}
-use Rattle.batch_text.specs.NameText.{IsName}
+use Rattle.batch_text.specs.NameText.{IsName, is_name_byte}
 use Rattle.batch_recipe.specs.declared.need.Need.{Need}
 use Rattle.batch_reader.specs.NeedText.{IsNeedText, IsNeedCut, IsUnits, is_star}
+
+-- Names
+
+-- no byte of a name is a star
+not_star : (byte : ℕ) → is_name_byte byte ≡ true → is_star byte ≡ false
+not_star byte named = go (is_star byte) refl where
+  go : (b : Bool) → is_star byte ≡ b → is_star byte ≡ false
+  go false is = is
+  go true is = absurd (false≢true (subst (λ n. is_name_byte n ≡ true) (eqb-true byte 42 is) named))
+
+without_star : (text : List ℕ) → list_all is_name_byte text ≡ true → position is_star text ≡ None
+without_star [] named = refl
+without_star (byte ∷ text) named =
+    let both = and_parts (is_name_byte byte) (list_all is_name_byte text) named in
+    grind (arith, nat_tests, common_steps, without_star text both.1, not_star byte both.0)
+
+-- a name is a need of one unit
+pub name_is_need : (text name : List ℕ) → name ≡ text → IsName text → IsNeedText text (record { resource = name; units = 1 })
+name_is_need text name same is =
+    let spelled = and_parts (is_ascii_alphabetic (slice_index text 0)) (list_all is_name_byte text) is.spelled in
+    subst (λ z. IsNeedCut z text (record { resource = name; units = 1 })) (sym (without_star text spelled.1)) (is, same, refl)
+
+-- Cuts
 
 module _ (text : List ℕ) (found : Option ℕ) (first : found ≡ position is_star text) where
   cut : (o : Option ℕ) (need : Need) → found ≡ o → IsNeedText text need → IsNeedCut o text need

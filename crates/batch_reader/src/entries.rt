@@ -142,7 +142,7 @@ pub(crate) fn names_of(alloc: Global, values: &[Value], spot: Spot) -> Result<Ve
         → (names : List (List ℕ)) → ¬ (AllItems IsNameItem (items_view values.now) names)) }
     ensures told { IfErr result (IsToldAs spot EntryFault.WrongKind) }
 {
-    let mut names = Vec::new(alloc);
+    let mut names = Vec::with_capacity(alloc, values.len())?;
     for value in values {
         let name = name_of(alloc, value, spot)?;
         names.push(name)?;

@@ -48,7 +48,7 @@ fn needs_of(alloc: Global, values: &[Value], spot: Spot) -> Result<Vec<Need>, Ta
         → (needs : List Need) → ¬ (AllItems IsNeedItem (items_view values.now) needs)) }
     ensures told { IfErr result (TellsAt spot (IsNeedsFault (items_view values.now))) }
 {
-    let mut needs = Vec::new(alloc);
+    let mut needs = Vec::with_capacity(alloc, values.len())?;
     for value in values {
         let need = need_of(alloc, value, spot)?;
         needs.push(need)?;
@@ -70,7 +70,22 @@ fn need_of(alloc: Global, value: &Value, spot: Spot) -> Result<Need, TableFault>
 }
 
 /// The need that a text is: a resource, of which it is one unit, or so many after a star.
+#[tactic(auto, using(crate::proofs::NeedCuts::name_is_need))]
 fn read_need(alloc: Global, text: &[u8], spot: Spot) -> Result<Need, TableFault>
+    ensures ok { IfOk result (λ need. IsNeedText text.now need) }
+    ensures refused { IfErr result (λ fault. fault ≢ TableFault.Memory → (need : Need) → ¬ (IsNeedText text.now need)) }
+    ensures told { IfErr result (TellsAt spot (IsNeedTextFault text.now)) }
+{
+    match Name::read(alloc, text) {
+        // Most needs are of one unit, and no star stands in a name.
+        Ok(resource) => Ok(Need { resource, units: 1 }),
+        Err(TextFault::Memory) => Err(TableFault::Memory),
+        Err(_) => read_parts(alloc, text, spot),
+    }
+}
+
+/// The same by its parts: the resource that stands before the first star, and the units behind it.
+fn read_parts(alloc: Global, text: &[u8], spot: Spot) -> Result<Need, TableFault>
     ensures ok { IfOk result (λ need. IsNeedText text.now need) }
     ensures refused { IfErr result (λ fault. fault ≢ TableFault.Memory → (need : Need) → ¬ (IsNeedText text.now need)) }
     ensures told { IfErr result (TellsAt spot (IsNeedTextFault text.now)) }

@@ -12,7 +12,7 @@ ghost use Rattle.batch_verify.specs.Asking.{AreAsksOf, asks_of, climb, climb_fro
 ghost use Rattle.batch_verify.specs.Refusals.{ranking_in};
 ghost use Rattle.batch_verify.specs.Walking.{RisesAfter, last_of};
 
-use crate::rising::{are_resources, are_within_capacity, rank_of, rise, rise_through};
+use crate::rising::{look_up_each, rank_of, rise, rise_through};
 use crate::rule::Rule;
 use batch_cell::Cell;
 use batch_recipe::{Act, Acts, Kind, LabelTable, Need};
@@ -72,9 +72,10 @@ fn last_rank(cell: &Cell, ranks: Option<&[u32]>, needs: &[Need]) -> Result<Optio
 fn asks_of(cell: &Cell, ranks: Option<&[u32]>, act: &Act) -> Asks
     ensures { result ≡ asks_of cell.now (ranking_in cell.now (option_copied ranks.entry)) act.now }
 {
+    let (are_resources, are_within_capacity) = look_up_each(cell, &act.needs);
     Asks {
-        are_resources: are_resources(cell, &act.needs),
-        are_within_capacity: are_within_capacity(cell, &act.needs),
+        are_resources,
+        are_within_capacity,
         first: first_rank(cell, ranks, &act.needs),
         last: last_rank(cell, ranks, &act.needs),
     }
@@ -89,7 +90,7 @@ fn asks_in(
 ) -> Result<Vec<Asks>, AllocError>
     ensures { IfOk result (λ asks. asks.items ≡ map (asks_of cell.now (ranking_in cell.now (option_copied ranks.entry))) table.now) }
 {
-    let mut asks = Vec::new(alloc);
+    let mut asks = Vec::with_capacity(alloc, table.len())?;
     for act in table {
         asks.push(asks_of(cell, ranks, act))?;
     }

@@ -78,8 +78,9 @@ pub(crate) fn chart_faults(alloc: Global, recipe: &Recipe) -> Result<Vec<Option<
     ensures { IfOk result (λ faults. AreFaults recipe.now.acts faults.items) }
 {
     let runs = running_nodes(alloc, recipe)?;
-    let mut below = Vec::new(alloc);
-    let mut faults = Vec::new(alloc);
+    let nodes = recipe.outline.entries.len();
+    let mut below = Vec::with_capacity(alloc, nodes)?;
+    let mut faults = Vec::with_capacity(alloc, nodes)?;
     for entry in &recipe.outline.entries {
         let depth = depth_above(&below, entry);
         let node = faults.len() as u16;

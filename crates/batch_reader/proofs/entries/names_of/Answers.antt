@@ -7,7 +7,7 @@ use Rattle.batch_reader.proofs.entries.names_of.Goals as goal
 
 pub returns-in_err-name-clause-refused : goal.returns-in_err-name-clause-refused
 returns-in_err-name-clause-refused c =
-    let p = err_from_is_err_and c.from_residual.result c.from_residual.ensures.1 in
+    let p = err_from_is_err_and c.from_residual-in_err-name.result c.from_residual-in_err-name.ensures.1 in
     rw (p.1, p.2) (λ known.
     let none : (name : List ℕ) → IsNameItem (view (get_or c.args.values.now c.loop-value.value-index c.value-item.result)) name → ⊥ =
     rw (← c.value-item.is) (c.in_err-name.ensures.refused known) in
@@ -21,7 +21,7 @@ loop-value-preserved c =
 
 pub returns-in_err-name-clause-told : goal.returns-in_err-name-clause-told
 returns-in_err-name-clause-told c =
-    let p = err_from_is_err_and c.from_residual.result c.from_residual.ensures.1 in
+    let p = err_from_is_err_and c.from_residual-in_err-name.result c.from_residual-in_err-name.ensures.1 in
     rw (p.1, p.2) c.in_err-name.ensures.told
 
 pub returns-in_err-push-clause-refused : goal.returns-in_err-push-clause-refused

@@ -17,7 +17,7 @@ chart_fault-requires-clause-known c =
     omega (arith, c.len-node.ensures, c.loop-entry.invariant.many, c.loop-entry-test.true, ap length c.deref-entry-items.ensures.value, as_many c.args.recipe.now, runs, ap length c.deref-in-loop-entry.ensures.value)
 
 pub loop-entry-init : goal.loop-entry-init
-loop-entry-init c = rw (c.new-below.ensures.items, c.new-faults.ensures.items) (KeepsFaults-none c.args.recipe.now)
+loop-entry-init c = rw (c.in_ok-below.ensures.items, c.in_ok-faults.ensures.items) (KeepsFaults-none c.args.recipe.now)
 
 pub loop-entry-preserved : goal.loop-entry-preserved
 loop-entry-preserved c =

@@ -1,6 +1,6 @@
 use Rattle.std.proofs.lemmas.Result.{err_from_is_err_and}
 use Rattle.batch_reader.proofs.NeedCuts.{name_alone, name_before, units_after, says_name, says_units}
-use Rattle.batch_reader.proofs.needs.read_need.Goals as goal
+use Rattle.batch_reader.proofs.needs.read_parts.Goals as goal
 
 pub returns-in_err-resource-in-None-clause-refused :
     goal.returns-in_err-resource-in-None-clause-refused
