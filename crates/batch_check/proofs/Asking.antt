@@ -1,5 +1,5 @@
 -- The edges to the needs of one act.
-use Rattle.std.proofs.Common.{◌≡◌, ℕ, ◌+◌, ◌<◌, ◌⊎◌, inl, inr, List, [], ◌∷◌, ◌++◌, length, slice_get, IsTrue, Option, Some, None, option_map, refl, sym, ap, ◌∙◌, subst, arith, length-append, append_assoc, append-nil}
+use Rattle.std.proofs.Common.{◌≡◌, ℕ, ◌+◌, ◌-◌, ◌<◌, ◌⊎◌, inl, inr, List, [], ◌∷◌, ◌++◌, length, get_or, slice_get, IsTrue, Option, Some, None, option_map, refl, sym, ap, ◌∙◌, subst, arith, length-append, append_assoc, append-nil}
 use Rattle.std.specs.List.{Contains}
 use Rattle.std.proofs.lemmas.Option.{slice_get_within}
 use Rattle.batch_check.specs.declared.edge.Edge.{Edge}
@@ -244,3 +244,44 @@ pub HasAsked-alone : (recipe node : ℕ) (last need : Option ℕ) (old new : Edg
 HasAsked-alone recipe node last need old new within known h =
     HasAsked-one (ends_in recipe last) node need old new new (ends_in recipe need) (is_ready recipe last old within) known refl refl h
     (record { joined = HasJoined-none recipe node need new; extended = refl })
+
+-- needs between which there are edges already
+HasAsked-known : (recipe node : ℕ) (last : Option ℕ) (needs : List (Option ℕ)) (edges : EdgeSet) → ((k : ℕ) → last ≡ Some k → k < edges.count)
+    → AreBelow edges.count needs → Follows edges.edges.items last needs → HasAsked (ends_in recipe last) node needs edges edges (ends_in recipe (last_number last needs))
+HasAsked-known recipe node last needs edges within below follows = record {
+  grown = Grows-same edges;
+  further = record {
+    ready = is_ready recipe (last_number last needs) edges (λ k is. elim (last_among last needs k is) [ inl here ↦ within k here | inr among ↦ below k among ]);
+    same_recipe = refl;
+    ends = refl;
+    extended = refl;
+    covering = follows;
+    pairing = λ kept is final later paired. let bad : None ≡ Some kept = is in absurd cc;
+  };
+  standing = λ above of edge stands. inl stands;
+}
+
+-- the last need is that at the last place
+last_at : (need : Option ℕ) (needs : List (Option ℕ)) → last_number need needs ≡ get_or (need ∷ needs) (length needs) None
+last_at need [] = refl
+last_at need (next ∷ needs) = last_at next needs
+
+-- and an edge to the first of them
+pub HasAsked-again : (recipe node : ℕ) (last : Option ℕ) (needs : List (Option ℕ)) (old new : EdgeSet) → ((k : ℕ) → last ≡ Some k → k < old.count)
+    → AreBelow old.count needs → Follows old.edges.items None needs → 0 < length needs → HasJoined recipe node (last ∷ []) (get_or needs 0 None) old new
+    → HasAsked (ends_in recipe last) node needs old new (ends_in recipe (get_or needs (length needs - 1) None))
+HasAsked-again recipe node last [] old new within below follows some h = absurd (omega (arith, some))
+HasAsked-again recipe node last (need ∷ needs) old new within below follows some h =
+    let first_below : (k : ℕ) → need ≡ Some k → k < old.count = λ k is. below k (Contains-at (need ∷ needs) 0 (Some k) (ap (λ (o : Option ℕ). Some o) is)) in
+    let place : length needs ≡ length (need ∷ needs) - 1 = omega arith in
+    subst (λ (next : Option ℕ). HasAsked (ends_in recipe last) node (need ∷ needs) old new (ends_in recipe next)) (last_at need needs ∙ ap (λ k. get_or (need ∷ needs) k None) place)
+    (HasAsked-append (ends_in recipe last) node (need ∷ []) needs old new new (ends_in recipe need) (ends_in recipe (last_number need needs))
+    (HasAsked-alone recipe node last need old new within first_below h)
+    (HasAsked-known recipe node need needs new (λ k is. omega (arith, first_below k is, h.grown.same_count))
+    (λ k among. omega (arith, below k (Contains-right (need ∷ []) needs (Some k) among), h.grown.same_count))
+    (Follows-keeps old.edges.items new.edges.items h.grown.kept need needs follows.1)))
+
+-- needs that follow one another after any one do so after none
+pub Follows-alone : (edges : List Edge) (last : Option ℕ) (needs : List (Option ℕ)) → Follows edges last needs → Follows edges None needs
+Follows-alone edges last [] h = tt
+Follows-alone edges last (need ∷ needs) h = (tt, h.1)

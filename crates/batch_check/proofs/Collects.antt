@@ -1,8 +1,8 @@
 -- The paths to the nodes of a recipe, and the edges along them, by number.
-use Rattle.std.proofs.Common.{◌≡◌, ◌⊎◌, ℕ, ◌+◌, ◌<◌, ◌≤◌, List, [], ◌∷◌, ◌++◌, length, Option, Some, None, slice_get, get_or, sym, ap, ◌∙◌, refl, subst, arith, inl, inr, length-append}
-use Rattle.std.specs.List.{Contains}
-use Rattle.std.proofs.lemmas.Bool.{cases_lt}
-use Rattle.std.proofs.lemmas.List.{get_or_append_left, get_or-append-add, get_or_past, length-map}
+use Rattle.std.proofs.Common.{◌≡◌, ◌≢◌, ◌⊎◌, ℕ, ◌+◌, ◌<◌, ◌≤◌, Bool, true, false, IsTrue, List, [], ◌∷◌, ◌++◌, length, Option, Some, None, slice_get, get_or, set, sym, ap, ◌∙◌, refl, subst, arith, inl, inr, length-append}
+use Rattle.std.specs.List.{Contains, slice_index_or}
+use Rattle.std.proofs.lemmas.Bool.{cases_eq, cases_lt}
+use Rattle.std.proofs.lemmas.List.{get_or_append_left, get_or-append-add, get_or_past, get_or-set_other, length-map}
 use Rattle.std.proofs.lemmas.Option.{slice_get_within}
 use Rattle.batch_cell.specs.declared.cell.Cell.{Cell}
 use Rattle.batch_recipe.specs.Conditions.{Name}
@@ -13,7 +13,10 @@ use Rattle.batch_recipe.specs.Needs.{resources_of}
 use Rattle.batch_recipe.specs.Nodes.{Node, needs_of}
 use Rattle.batch_recipe.specs.Outlines.{act_of, shape_of}
 use Rattle.batch_recipe.specs.Procedure.{bound_nodes}
+use Rattle.batch_recipe.specs.declared.acts.LabelTable.TheVariants.{Phases}
 use Rattle.batch_recipe.specs.declared.entry.Entry.{Entry}
+use Rattle.batch_recipe.specs.declared.entry.Kind.{Kind}
+use Rattle.batch_recipe.specs.declared.entry.Kind.TheVariants as kind
 use Rattle.batch_recipe.specs.declared.recipe.Recipe.{Recipe}
 use Rattle.batch_recipe.proofs.Asking.{own_needs}
 use Rattle.batch_recipe.proofs.Climbing.{entry_in}
@@ -24,9 +27,12 @@ use Rattle.batch_check.specs.declared.edge_set.EdgeSet.{EdgeSet}
 use Rattle.batch_check.specs.declared.path.Path.{Path}
 use Rattle.batch_check.specs.declared.path.Reach.{Reach}
 use Rattle.batch_check.specs.declared.path.Reach.TheVariants.{Next, Whole}
+use Rattle.batch_check.specs.declared.site.Site.{Site}
 use Rattle.batch_check.specs.Edges.{Covers, Follows, number_of_resource, numbers_of_resources}
 use Rattle.batch_check.specs.Joining.{Grows, needs_in}
-use Rattle.batch_check.specs.Collecting.{GoesOn, HasAsked, IsAmong, IsCollected, IsPathOf, IsReady, PairsAll, StandsAmong, kept_at_top, kept_by}
+use Rattle.batch_check.specs.Pairs.{Keeps}
+use Rattle.batch_check.specs.Sites.{needs_at}
+use Rattle.batch_check.specs.Collecting.{GoesOn, HasAsked, IsAmong, IsCollected, IsPathOf, IsReady, PairsAll, StandsAmong, is_joined, kept_at_top, kept_by, with_joined}
 use Rattle.batch_check.proofs.Asking.{Follows-keeps, GoesOn-append, GoesOn-grown, GoesOn-none, IsPathOf-append}
 use Rattle.batch_check.proofs.Bound.{each_at}
 use Rattle.batch_check.proofs.Joins.{Contains-none, Grows-same, Grows-twice}
@@ -201,3 +207,22 @@ module _ (cell : Cell) (number : ℕ) (kept : Option (List (Option ℕ))) (top :
         where
           path_of : (k : ℕ) (x : Node) → slice_get ns k ≡ Some x → GoesOn top (numbers_of_resources cell x.asked) edges (get_or paths k top)
           path_of k x at = h.along k x at (omega (arith, slice_get_within ns k x at, past, h.as_many, as_many_nodes))
+
+-- The acts whose own needs are joined
+
+-- where an act's flag is set, there are edges between its own needs
+abbrev pub AreJoined : Site → List Bool → EdgeSet → Type 0
+AreJoined site joined edges = (number : ℕ) → IsTrue (slice_index_or joined number false) → Follows edges.edges.items None (needs_at site (kind.Act Phases number))
+
+pub AreJoined-at : (site : Site) (joined : List Bool) (edges : EdgeSet) (k : Kind) → AreJoined site joined edges → IsTrue (is_joined joined k) → Follows edges.edges.items None (needs_at site k)
+AreJoined-at site joined edges (kind.Act Phases number) h is = h number is
+AreJoined-at site joined edges _ h is = let bad : false ≡ true = is in absurd cc
+
+pub AreJoined-with : (site : Site) (joined : List Bool) (old new : EdgeSet) (k : Kind) → AreJoined site joined old → Keeps old.edges.items new.edges.items
+    → Follows new.edges.items None (needs_at site k) → AreJoined site (with_joined joined k) new
+AreJoined-with site joined old new (kind.Act Phases place) h kept follows = λ number is. at number is (cases_eq number place)
+  where
+    at : (number : ℕ) → IsTrue (get_or (set joined place true) number false) → (number ≡ place) ⊎ (number ≢ place) → Follows new.edges.items None (needs_at site (kind.Act Phases number))
+    at number is (inl same) = subst (λ n. Follows new.edges.items None (needs_at site (kind.Act Phases n))) (sym same) follows
+    at number is (inr other) = Follows-keeps old.edges.items new.edges.items kept None (needs_at site (kind.Act Phases number)) (h number (subst IsTrue (get_or-set_other joined place number true false other) is))
+AreJoined-with site joined old new _ h kept follows = λ number is. Follows-keeps old.edges.items new.edges.items kept None (needs_at site (kind.Act Phases number)) (h number is)

@@ -1,9 +1,12 @@
 -- private: what is kept while the edges of recipes are collected.
-use Rattle.std.specs.Prelude.{◌≡◌, ℕ, ◌<◌, ◌≤◌, List, [], ◌∷◌, ◌++◌, length, slice_get, Option, Some, None, ◌⊎◌, IsTrue, option_map}
-use Rattle.std.specs.List.{Contains}
+use Rattle.std.specs.Prelude.{◌≡◌, ℕ, ◌<◌, ◌≤◌, List, [], ◌∷◌, ◌++◌, length, slice_get, Option, Some, None, ◌⊎◌, Bool, true, false, IsTrue, option_map, slice_set}
+use Rattle.std.specs.List.{Contains, slice_index_or}
 use Rattle.batch_cell.specs.declared.cell.Cell.{Cell}
 use Rattle.batch_recipe.specs.Nodes.{Node}
 use Rattle.batch_model.specs.Lists.{Each}
+use Rattle.batch_recipe.specs.declared.acts.LabelTable.TheVariants.{Phases}
+use Rattle.batch_recipe.specs.declared.entry.Kind.{Kind}
+use Rattle.batch_recipe.specs.declared.entry.Kind.TheVariants as kind
 use Rattle.batch_recipe.specs.declared.recipe.Recipe.{Recipe}
 use Rattle.batch_check.specs.declared.edge.Edge.{Edge}
 use Rattle.batch_check.specs.declared.edge_set.EdgeSet.{EdgeSet}
@@ -78,6 +81,18 @@ pub record HasAsked (path : Path) (node : ℕ) (own : List (Option ℕ)) (old ne
   pub further : GoesOn path own new next
   pub standing : (above : List (Option ℕ)) → IsPathOf above path → (edge : Edge) → Contains new.edges.items edge
       → Contains old.edges.items edge ⊎ ((edge.recipe ≡ path.recipe) × (edge.node ≡ node) × IsAmong above own edge)
+
+-- Acts whose own needs are joined
+
+-- whether the act's flag is set, of those that say for each phase act whether there are edges between its own needs
+abbrev pub is_joined : List Bool → Kind → Bool
+is_joined joined (kind.Act Phases number) = slice_index_or joined number false
+is_joined joined _ = false
+
+-- the flags after the act's was set
+abbrev pub with_joined : List Bool → Kind → List Bool
+with_joined joined (kind.Act Phases number) = slice_set joined number true
+with_joined joined _ = joined
 
 -- Nodes
 

@@ -1,14 +1,14 @@
 //! The edges of a recipe's nodes.
 ghost use Rattle.std.specs.Prelude.{◌≡◌, length, slice_index_or, OnOk};
 ghost use Rattle.batch_cell.specs.LookUps.{resources_of as cell_resources};
-ghost use Rattle.batch_check.specs.Collecting.{IsCollected, kept_at_top};
+ghost use Rattle.batch_check.specs.Collecting.{IsCollected, is_joined, kept_at_top, with_joined};
 ghost use Rattle.batch_check.specs.Sites.{nodes_on};
 
 use crate::act_needs::ActNeeds;
 use crate::edge_set::EdgeSet;
-use crate::path::{Path, Reach, ask_each};
+use crate::path::{Path, Reach, ask_act};
 use crate::site::Site;
-use batch_recipe::Entry;
+use batch_recipe::{Entry, Kind, LabelTable};
 use std::alloc::{AllocError, Global};
 
 /// Adds the edges of the nodes of the site's recipe, which has this number.
@@ -26,12 +26,37 @@ pub(crate) fn collect(
     let top = Path::top(alloc, number, reach);
     // The path to each node so far, by number.
     let mut paths = Vec::with_capacity(alloc, site.recipe.outline.entries.len())?;
+    // For each phase act, by number, whether there are edges between its own needs.
+    let mut joined = vec![in alloc; false; site.recipe.acts.phases.len()]?;
     for (node, entry) in site.recipe.outline.entries.iter().enumerate() {
         let above = path_above(&paths, entry, &top);
-        let path = ask_each(needs.of(entry.kind), above, node as u16, edges)?;
+        let known = is_joined(&joined, entry.kind);
+        let path = ask_act(needs.of(entry.kind), known, above, node as u16, edges)?;
+        set_joined(&mut joined, entry.kind);
         paths.push(path)?;
     }
     Ok(())
+}
+
+/// Whether the flag of the act is set. Only phase acts have flags: they stand at many nodes.
+fn is_joined(joined: &[bool], kind: Kind) -> bool
+    ensures { result ≡ is_joined joined.now kind }
+{
+    match kind {
+        Kind::Act(LabelTable::Phases, number) => joined.get(number).copied().unwrap_or(false),
+        _ => false,
+    }
+}
+
+/// Sets the flag of the act, where it has one.
+fn set_joined(joined: &mut [bool], kind: Kind)
+    ensures { joined.new ≡ with_joined joined.old kind }
+{
+    if let Kind::Act(LabelTable::Phases, number) = kind
+        && number < joined.len()
+    {
+        joined[number] = true;
+    }
 }
 
 /// The path to the node above that of the entry: `top` for the first node, which comes before all paths.

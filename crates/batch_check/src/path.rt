@@ -1,7 +1,8 @@
 //! Paths of needs.
-ghost use Rattle.std.specs.Prelude.{◌≡◌, ◌<◌, [], ◌∷◌, IfOk};
+ghost use Rattle.std.specs.Prelude.{◌≡◌, ◌<◌, [], ◌∷◌, IfOk, IsTrue};
 ghost use Rattle.std.specs.Option.{ForSome};
 ghost use Rattle.batch_check.specs.Collecting.{HasAsked, IsCopy, IsReady, ends_in, kept_at_top, kept_by};
+ghost use Rattle.batch_check.specs.Edges.{Follows};
 ghost use Rattle.batch_check.specs.Joining.{AreBelow};
 
 use crate::edge_set::EdgeSet;
@@ -103,6 +104,31 @@ pub(crate) fn ask_each(
     Ok(at)
 }
 
+/// The path after these needs of the act at the node, in their order. Adds the edges to them; where the needs are joined, those
+/// between them are there already.
+pub(crate) fn ask_act(
+    needs: &[Option<u16>],
+    joined: bool,
+    path: &Path,
+    node: u16,
+    edges: &mut EdgeSet,
+) -> Result<Path, AllocError>
+    requires ready { IsReady path.now edges.old }
+    requires needs { AreBelow edges.old.count needs.now }
+    requires joined { IsTrue joined → Follows edges.old.edges.items None needs.now }
+    ensures { IfOk result (HasAsked path.now node needs.now edges.old edges.new) }
+{
+    if !joined || path.asked.is_some() {
+        return ask_each(needs, path, node, edges);
+    }
+    let last = ask_again(needs, path.recipe, path.last, node, edges)?;
+    Ok(Path {
+        recipe: path.recipe,
+        last,
+        asked: None,
+    })
+}
+
 /// The last need after these of the act at the node, in their order. Adds the edges to them, each from the need before it.
 fn ask_in_turn(
     needs: &[Option<u16>],
@@ -121,4 +147,24 @@ fn ask_in_turn(
         last = *need;
     }
     Ok(last)
+}
+
+/// The last need after these of the act at the node, between which there are edges already. Adds the edge to the first of them.
+fn ask_again(
+    needs: &[Option<u16>],
+    recipe: u16,
+    before: Option<u16>,
+    node: u16,
+    edges: &mut EdgeSet,
+) -> Result<Option<u16>, AllocError>
+    requires before { ForSome before (λ number. number < edges.old.count) }
+    requires needs { AreBelow edges.old.count needs.now }
+    requires joined { Follows edges.old.edges.items None needs.now }
+    ensures { IfOk result (λ last. HasAsked (ends_in recipe before) node needs.now edges.old edges.new (ends_in recipe last)) }
+{
+    let [first, ..] = needs else {
+        return Ok(before);
+    };
+    join(recipe, node, before, *first, edges)?;
+    Ok(needs[needs.len() - 1])
 }

@@ -28,8 +28,8 @@ loop-need-preserved c =
     let need = get_or needs index None in
     let now = c.loop-need.edges in
     let later : (k : ℕ) → need ≡ Some k → k < now.count = λ k is.
-        let among = Contains-at needs index (Some k) (slice_get-get_or needs index None c.loop-need-test.true ∙ ap (λ (o : Option ℕ). Some o) is) in
-        omega (arith, c.requires.needs k among, c.loop-need.invariant.grown.same_count) in
+    let among = Contains-at needs index (Some k) (slice_get-get_or needs index None c.loop-need-test.true ∙ ap (λ (o : Option ℕ). Some o) is) in
+    omega (arith, c.requires.needs k among, c.loop-need.invariant.grown.same_count) in
     subst (λ (own : List (Option ℕ)). HasAsked (ends_in c.args.recipe c.args.before) c.args.node own c.args.edges.now c.join.new.edges (ends_in c.args.recipe need))
     (sym (take_more needs index None c.loop-need-test.true))
     (HasAsked-append (ends_in c.args.recipe c.args.before) c.args.node (take index needs) (need ∷ []) c.args.edges.now now c.join.new.edges
