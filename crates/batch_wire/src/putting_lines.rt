@@ -19,12 +19,7 @@ use itoa::Buffer;
 /// Puts the line of an out that tells this batch and place to the end of a text, and tells where it begins. None where there is
 /// no room for it, and for the lines that are written piece by piece: those of a command that is sent, and of values.
 #[inline(always)]
-pub(crate) fn put_out(
-    out: &Out,
-    cleared: &Cleared,
-    told: &[u8],
-    text: &mut [u8],
-) -> Option<usize>
+pub(crate) fn put_out(out: &Out, cleared: &Cleared, told: &[u8], text: &mut [u8]) -> Option<usize>
     requires { told.now ≡ told_by_out (out_of cleared.now out.now) }
     ensures { IsPut (out_text (out_of cleared.now out.now)) text.new result }
 {

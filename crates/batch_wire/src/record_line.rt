@@ -406,9 +406,7 @@ fn write_refusal<W: Write>(
             write_pieces(writer, &[b"refused E7 F2 ", name, b"\n"])
         }
         Refusal::Full => write_all(writer, b"refused E8\n"),
-        Refusal::NotIdle(state) => {
-            write_pieces(writer, &[b"refused E9", last_word(state)])
-        }
+        Refusal::NotIdle(state) => { write_pieces(writer, &[b"refused E9", last_word(state)]) }
         Refusal::MovesPending => write_all(writer, b"refused E10\n"),
         Refusal::Memory => write_all(writer, b"refused E11\n"),
         Refusal::BadBinding => write_all(writer, b"refused E12\n"),
@@ -433,12 +431,7 @@ fn write_move<W: Write>(
         } => write_send(place, cleared, unit, phase, command, writer),
         Line::State { batch, state } => write_state(batch, state, writer),
         Line::Begin { recipe, node, .. } => {
-            write_step(
-                b"begin ",
-                place,
-                act_name(cleared, recipe, node),
-                writer,
-            )
+            write_step(b"begin ", place, act_name(cleared, recipe, node), writer)
         }
         Line::Start {
             recipe,
@@ -447,9 +440,7 @@ fn write_move<W: Write>(
             phase,
             values,
             ..
-        } => write_start(
-            place, cleared, recipe, node, unit, phase, values, writer,
-        ),
+        } => write_start(place, cleared, recipe, node, unit, phase, values, writer),
         Line::End { .. } => write_apart(&[b"end "], place, &[b"\n"], writer),
         _ => write_claim(line, cleared, place, writer),
     }
@@ -519,11 +510,7 @@ fn write_state<W: Write>(batch: u64, state: State, writer: &mut W) -> Result<(),
     let mut digits = Buffer::new();
     write_pieces(
         writer,
-        &[
-            b"state ",
-            digits.format(batch).as_bytes(),
-            last_word(state),
-        ],
+        &[b"state ", digits.format(batch).as_bytes(), last_word(state)],
     )
 }
 
