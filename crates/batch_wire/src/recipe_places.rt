@@ -61,6 +61,7 @@ impl RecipePlaces {
 
     /// Makes the place of a node known, and the batch in front of it, and tells where the place's text ends. None where there is no
     /// room for it, or no such node.
+    #[inline(always)]
     pub(crate) fn find(&mut self, cleared: &Cleared, site: Site) -> Option<usize>
         requires { AreKnownIn cleared.now self.old }
         ensures known { AreKnownIn cleared.now self.new }
@@ -74,6 +75,7 @@ impl RecipePlaces {
     }
 
     /// The same where the batch stands already.
+    #[inline(always)]
     fn find_place(&mut self, cleared: &Cleared, recipe: u16, node: u16) -> Option<usize>
         requires { AreKnownIn cleared.now self.old }
         ensures known { AreKnownIn cleared.now self.new }
@@ -91,6 +93,7 @@ impl RecipePlaces {
     }
 
     /// The same in the recipe whose places are known.
+    #[inline(always)]
     fn find_in(&mut self, recipe: &Recipe, node: u16) -> Option<usize>
         requires { AreKnownBy (text_of_place recipe.now) self.old }
         ensures recipe { self.new.recipe ≡ self.old.recipe }

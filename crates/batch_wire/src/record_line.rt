@@ -40,7 +40,6 @@ pub fn write_out<W: Write>(out: &Out, cleared: &Cleared, writer: &mut W) -> Resu
 
 /// Writes the same line. The text of the place that it tells is put together from that of the recipe's last one, and is known from
 /// then on: of many lines of a batch each costs what its place differs from the one before.
-#[inline(always)]
 pub fn write_out_knowing<W: Write>(
     out: &Out,
     cleared: &Cleared,
