@@ -13,6 +13,7 @@ mod judgement;
 mod laws;
 mod lines;
 mod names;
+mod offering;
 mod ranking;
 mod reading;
 mod recipes;

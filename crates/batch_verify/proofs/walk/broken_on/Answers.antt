@@ -1,4 +1,5 @@
 use Rattle.std.proofs.Common.{◌≡◌, ◌≤◌, ◌+◌, List, Option, Some, None, Ok, Err, length, option_copied, get_or, slice_get, sym, ap, ◌∙◌, subst, arith}
+use Rattle.std.proofs.lemmas.List.{with_items_is}
 use Rattle.std.proofs.lemmas.Option.{slice_get-get_or}
 use Rattle.batch_recipe.specs.Outlines.{act_of}
 use Rattle.batch_recipe.specs.declared.act.Act.{Act}
@@ -9,11 +10,13 @@ use Rattle.batch_recipe.proofs.Climbing.{as_many}
 use Rattle.batch_model.specs.Cleared.{Level}
 use Rattle.batch_model.specs.Setups.{setup_of}
 use Rattle.batch_verify.specs.Bindings.{numbered}
+use Rattle.batch_verify.specs.Offers.{AreOffered, offering_unit, with_offering}
 use Rattle.batch_verify.specs.Refusals.{ranking_in, IsFirstBroken}
 use Rattle.batch_verify.specs.Ways.{bound_parts}
 use Rattle.batch_verify.specs.Walking.{IsEntered}
 use Rattle.batch_verify.specs.declared.rule.Rule.{Rule}
 use Rattle.batch_verify.specs.declared.site.Path.{Path}
+use Rattle.batch_verify.proofs.Offers.{AreOffered-with}
 use Rattle.batch_verify.proofs.Paths.{KeepsPaths-more, number_above, looked, fault_known, path_stops, paths_end}
 use Rattle.batch_verify.proofs.walk.broken_on.Goals as goal
 
@@ -22,7 +25,7 @@ no_entry = record { kind = kind.Skip; end = 0; parent = 0; child = 0; needs = 0;
 
 pub bounds-faults-node : goal.bounds-faults-node
 bounds-faults-node c =
-    omega (arith, c.len-node.ensures, c.loop-entry.invariant.size, c.loop-entry-test.true, ap length c.deref-entry-items.ensures.value, as_many c.args.recipe.now, c.requires.faults.as_many)
+    omega (arith, c.len-node.ensures, c.loop-entry.invariant.paths.size, c.loop-entry-test.true, ap length c.deref-entry-items.ensures.value, as_many c.args.recipe.now, c.requires.faults.as_many)
 
 pub look-requires : goal.look-requires
 look-requires c =
@@ -31,7 +34,7 @@ look-requires c =
     let ranking = ranking_in cell (option_copied c.args.ranks) in
     let bound = numbered cell r.roles.items c.args.binding in
     let n = c.loop-entry.entry-index in
-    let h = c.loop-entry.invariant in
+    let h = c.loop-entry.invariant.paths in
     let paths = c.loop-entry.paths.items in
     let entry : Entry = get_or c.deref-entry-items.result.now n no_entry in
     let is : slice_get r.outline.entries.items n ≡ Some entry =
@@ -39,6 +42,9 @@ look-requires c =
     let above = c.path_above-above.result in
     record {
       asks = c.requires.asks;
+      known = λ a unit act_is known_is.
+          c.loop-entry.invariant.offered entry.kind a unit act_is
+          (ap (λ units. offering_unit units entry.kind) (sym c.deref-in-loop-entry-2.ensures.value) ∙ (sym c.offering_unit-known.ensures ∙ known_is));
       unit =
           number_above cell ranking bound r paths n h entry is above
           (λ q q_is. c.path_above-above.ensures.some q (ap (λ xs. slice_get xs entry.parent) c.deref-in-loop-entry.ensures.value ∙ q_is))
@@ -52,7 +58,7 @@ returns-in-Err c = λ recipes.
     let ranking = ranking_in cell (option_copied c.args.ranks) in
     let bound = numbered cell r.roles.items c.args.binding in
     let n = c.loop-entry.entry-index in
-    let h = c.loop-entry.invariant in
+    let h = c.loop-entry.invariant.paths in
     let paths = c.loop-entry.paths.items in
     let entry : Entry = get_or c.deref-entry-items.result.now n no_entry in
     let is : slice_get r.outline.entries.items n ≡ Some entry =
@@ -80,7 +86,7 @@ loop-entry-preserved c =
     let ranking = ranking_in cell (option_copied c.args.ranks) in
     let bound = numbered cell r.roles.items c.args.binding in
     let n = c.loop-entry.entry-index in
-    let h = c.loop-entry.invariant in
+    let h = c.loop-entry.invariant.paths in
     let paths = c.loop-entry.paths.items in
     let entry : Entry = get_or c.deref-entry-items.result.now n no_entry in
     let is : slice_get r.outline.entries.items n ≡ Some entry =
@@ -97,9 +103,17 @@ loop-entry-preserved c =
     let none = (λ (past : length paths ≤ entry.parent). c.path_above-above.ensures.none (omega (arith, past, ap length c.deref-in-loop-entry.ensures.value))) in
     let known = fault_known cell ranking bound r paths n h entry is above some none c.args.faults.now c.requires.faults fault fault_is in
     let good = looked cell ranking bound r paths n h entry is above some none (Ok c.in-Ok.path) fault known entered c.in-Ok.ensures.chart in
-    rw c.in_ok-push-in-Ok.ensures.items (KeepsPaths-more cell ranking bound r paths n h entry is above some none c.in-Ok.path good c.in-Ok.ensures.number)
+    let offered : AreOffered cell r.acts (with_offering c.loop-entry.offering.items entry.kind c.in-Ok.path.unit) =
+    AreOffered-with cell r.acts c.loop-entry.offering.items entry.kind c.in-Ok.path.unit c.loop-entry.invariant.offered c.in-Ok.ensures.offered in
+    let noted : c.note_unit.new.units ≡ with_offering c.loop-entry.offering.items entry.kind c.in-Ok.path.unit =
+    c.note_unit.ensures ∙ ap (λ units. with_offering units entry.kind c.in-Ok.path.unit) c.deref_mut.ensures.value in
+    let written = with_items_is c.loop-entry.offering c.note_unit.new.units (c.note_unit.auto.units ∙ c.deref_mut.ensures.len) in
+    record {
+      paths = rw c.in_ok-push-in-Ok.ensures.items (KeepsPaths-more cell ranking bound r paths n h entry is above some none c.in-Ok.path good c.in-Ok.ensures.number);
+      offered = subst (AreOffered cell r.acts) (sym (written ∙ noted)) offered;
+    }
 
 pub returns : goal.returns
 returns c = λ recipes.
     paths_end c.args.cell.now (ranking_in c.args.cell.now (option_copied c.args.ranks)) (numbered c.args.cell.now c.args.recipe.now.roles.items c.args.binding) c.args.recipe.now
-    c.loop-entry.paths.items c.loop-entry.entry-index c.loop-entry.invariant (omega (arith, c.loop-entry-test.false, ap length c.deref-entry-items.ensures.value)) recipes
+    c.loop-entry.paths.items c.loop-entry.entry-index c.loop-entry.invariant.paths (omega (arith, c.loop-entry-test.false, ap length c.deref-entry-items.ensures.value)) recipes
