@@ -1,8 +1,8 @@
 -- Units that are known to offer what phase steps run.
-use Rattle.std.proofs.Common.{◌≡◌, ◌≢◌, ◌⊎◌, ◌<◌, ◌≤◌, ℕ, List, length, replicate, Option, Some, None, Result, Ok, Err, get_or, set, true, sym, ap, ◌∙◌, subst, arith, inl, inr}
+use Rattle.std.proofs.Common.{◌≡◌, ◌≢◌, ◌⊎◌, ◌<◌, ◌≤◌, ℕ, List, length, Option, Some, None, Result, Ok, Err, get_or, set, true, sym, ap, ◌∙◌, subst, arith, inl, inr}
 use Rattle.std.specs.Prelude.{IfOk}
 use Rattle.std.proofs.lemmas.Bool.{cases_eq, cases_lt}
-use Rattle.std.proofs.lemmas.List.{get_or-replicate, get_or-set_other, get_or-set_same, get_or_past, length-replicate, length-set}
+use Rattle.std.proofs.lemmas.List.{get_or-set_other, get_or-set_same, get_or_past, length-set}
 use Rattle.batch_cell.specs.declared.cell.Cell as equipment
 use Rattle.batch_recipe.specs.Outlines.{act_of}
 use Rattle.batch_recipe.specs.declared.act.Act.{Act}
@@ -14,21 +14,6 @@ use Rattle.batch_verify.specs.Offers.{AreOffered, with_offering}
 use Rattle.batch_verify.specs.Walking.{offers_work}
 use Rattle.batch_verify.specs.declared.rule.Rule.{Rule}
 use Rattle.batch_verify.specs.declared.site.Path.{Path}
-
-abbrev nobody : ℕ → List (Option ℕ)
-nobody n = replicate n None
-
-no_unit : (n number : ℕ) → get_or (nobody n) number None ≡ None
-no_unit n number = by (cases_lt number n)
-  where
-    by : (number < n) ⊎ (n ≤ number) → get_or (nobody n) number None ≡ None
-    by (inl within) = get_or-replicate n number None None within
-    by (inr past) = let long : length (nobody n) ≡ n = length-replicate n None in get_or_past (nobody n) number None (omega (arith, past, long))
-
--- no unit is noted at first
-pub AreOffered-none : (c : equipment.Cell) (acts : Acts) (n : ℕ) → AreOffered c acts (nobody n)
-AreOffered-none c acts n (kind.Act Phases number) a unit is known = let bad : None ≡ Some unit = sym (no_unit n number) ∙ known in absurd cc
-AreOffered-none c acts n _ a unit is known = let bad : None ≡ Some unit = known in absurd cc
 
 -- a unit that offers what the act runs is noted
 pub AreOffered-with : (c : equipment.Cell) (acts : Acts) (units : List (Option ℕ)) (k : Kind) (unit : Option ℕ) → AreOffered c acts units
