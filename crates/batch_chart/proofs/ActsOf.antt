@@ -18,7 +18,7 @@ use Rattle.batch_chart.proofs.Stepping.{all-has}
 use Rattle.batch_chart.proofs.NodesStand.{get-or}
 use Rattle.batch_chart.proofs.Found.{acts-all, AllActs}
 use Rattle.batch_chart.specs.Finding.{wants}
-use Rattle.batch_chart.specs.declared.wanted.Wanted.TheVariants as wanted
+use Rattle.batch_chart.specs.Finding as wanted
 
 pub record IsActOf (ls : List Node) (a : Rest) : Type 0 where
   pub number : ℕ
@@ -118,10 +118,8 @@ act-place s w (asking u v k) r h m = inl (ap (λ (u : Step). u.place) h.0)
 act-place s w (open_act u x) r h m = inl (ap (λ (u : Step). u.place) h.0)
 act-place s w (live u v k) r h m = inl (ap (λ (u : Step). u.place) h.0)
 act-place s w (freeing u k) r h m = inl (ap (λ (u : Step). u.place) h.0)
-act-place s w (in_seq x doc) r h m = absurd h
-act-place s w (in_par rs) r h m = absurd h
-act-place s w (in_loop n c t x) r h m = absurd h
 act-place s w done r h m = inr refl
+act-place x1 x2 x3 x4 x5 x6 = absurd (grind arith)
 
 not-done : (a : Rest) (r : Rest) → AllActs (acts r) → Has (acts r) a → a ≡ done → ⊥
 not-done a r all h e = (let d : true ≡ false = sym (all-has (acts r) a all h 0) ∙ ap (wants wanted.Any 0) e in cc)

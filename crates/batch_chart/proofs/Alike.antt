@@ -41,9 +41,8 @@ same-signs k l m none e = sign-marked k l none ∙ ap (λ z. marked-as k z none)
 
 empty-marks : (l m : List (ℕ × Rest)) → marks l ≡ marks m → is_empty (map (λ a. a.1) l) ≡ is_empty (map (λ a. a.1) m)
 empty-marks [] [] e = refl
-empty-marks [] (b ∷ m) e = absurd (cc)
-empty-marks (a ∷ l) [] e = absurd (cc)
 empty-marks (a ∷ l) (b ∷ m) e = refl
+empty-marks x1 x2 x3 = absurd (grind arith)
 
 alike-phase : (n : ℕ) (s u : Step) (p q : Phase) (x : Stage) → length s.needs ≡ length u.needs → marks (entries n (act_as s (runs p) done x) []) ≡ marks (entries n (act_as u (runs q) done x) [])
 alike-phase n s u p q Finished e = refl

@@ -15,7 +15,7 @@ use Rattle.batch_chart.specs.declared.node.Kind.TheVariants.{Skip, Act, Seq, Par
 use Rattle.batch_chart.specs.declared.node.Kind.TheVariants as kind
 use Rattle.batch_recipe.specs.declared.recipe.Recipe.{Recipe}
 use Rattle.batch_chart.specs.declared.stage.Stage.{Stage}
-use Rattle.batch_chart.specs.declared.stage.Stage.TheVariants.{Finished, Ready, Asking, Open, Live, Freeing, Turning}
+use Rattle.batch_chart.specs.declared.stage.Stage.TheVariants.{Finished}
 use Rattle.batch_chart.specs.Stages.{stage_at, is_finished, is_begun, is_over, is_over_at, turns_of, closed_as, looped_as}
 use Rattle.batch_chart.specs.Meaning.{meaning, meaning_each, act_as, branch, chosen, AgreeOutside, AgreeWithin}
 use Rattle.batch_chart.specs.Outlined.{end_at, kind_at, judged, Stands, AreStanding, AreChoices, HasTree, HaveTrees, HaveBranches, condition_at}
@@ -45,23 +45,10 @@ one-false false x e = inr refl
 both-and : (b d x y : Bool) → b ≡ d → x ≡ y → elim b as (λ _. Bool) [ true ↦ x | false ↦ false ] ≡ (d && y)
 both-and true true x y e f = f
 both-and false false x y e f = refl
-both-and true false x y e f = absurd (cc)
-both-and false true x y e f = absurd (cc)
+both-and x1 x2 x3 x4 x5 x6 = absurd (grind arith)
 
 pub unover-left : (κ : Kind) (x : Stage) → is_over_at κ x ≡ false → is_finished x ≡ false
-unover-left Skip Finished e = absurd (cc)
-unover-left (kind.Phase j i) Finished e = absurd (cc)
-unover-left (Act j) Finished e = absurd (cc)
-unover-left Seq Finished e = absurd (cc)
-unover-left Par Finished e = absurd (cc)
-unover-left (Sel i) Finished e = absurd (cc)
-unover-left (Loop j i) Finished e = absurd (cc)
-unover-left κ (Ready k) e = refl
-unover-left κ (Asking k) e = refl
-unover-left κ Open e = refl
-unover-left κ (Live x) e = refl
-unover-left κ (Freeing k) e = refl
-unover-left κ (Turning k) e = refl
+unover-left x1 x2 x3 = grind arith
 
 -- a stage that is written anew
 set-again : (xs : List Stage) (n : ℕ) (v : Stage) → n < length xs → stage_at xs n ≡ v → slice_set xs n v ≡ xs

@@ -24,14 +24,10 @@ nothing_cleared = record { units = []; resources = []; capacity = λ r. 0; offer
 
 own-act : (b : Batch) (a : Rest) (m : Move) → own_move b a ≡ Some m → act_move nothing_cleared opening b a ≡ Some m
 own-act b (ready p w k) m e = e
-own-act b (asking p w k) m e = absurd (cc)
 own-act b (open_act p r) m e = e
 own-act b (live p x t) m e = e
 own-act b (freeing p k) m e = e
-own-act b (in_seq r cs) m e = absurd (cc)
-own-act b (in_par rs) m e = absurd (cc)
-own-act b (in_loop n c t r) m e = absurd (cc)
-own-act b done m e = absurd (cc)
+own-act x1 x2 x3 x4 = absurd (grind arith)
 
 pub own-is : (b : Batch) (a : Rest) (m : Move) → own_move b a ≡ Some m → IsMoveOf b a m
 own-is b a m e = act_move-is b nothing_cleared opening a m (own-act b a m e)

@@ -22,12 +22,13 @@ use Rattle.batch_chart.specs.declared.stage.Stage.{Stage}
 use Rattle.batch_chart.specs.declared.stage.Stage.TheVariants.{Finished, Ready, Asking, Open, Live, Freeing, Turning}
 use Rattle.batch_chart.specs.declared.chart_move.Move.{Move}
 use Rattle.batch_chart.specs.declared.chart_move.Move.TheVariants as move
-use Rattle.batch_chart.specs.declared.wanted.Wanted.{Wanted}
-use Rattle.batch_chart.specs.declared.wanted.Wanted.TheVariants as wanted
+use Rattle.batch_chart.specs.Finding.{Wanted}
+use Rattle.batch_chart.specs.Finding as wanted
 use Rattle.batch_chart.specs.Stages.{stage_at}
 use Rattle.batch_chart.specs.Meaning.{act_as}
 use Rattle.batch_chart.specs.Outlined.{kind_at, is_act_kind}
-use Rattle.batch_chart.specs.Finding.{gives, wants, first_of}
+use Rattle.batch_chart.specs.Finding.{wants, first_of}
+use Rattle.batch_chart.specs.Noting.{gives}
 use Rattle.batch_chart.specs.NodesOf.{no_need, phase_in, name_in}
 use Rattle.batch_chart.specs.OwnMoves.{own_move, is_kind}
 use Rattle.batch_chart.specs.Running.{CanRelease, HasMore, Allows}
@@ -346,30 +347,10 @@ module _ (b : Batch) (ns : List Entry) (xs : List Stage) (k : ℕ) (lt : k < len
   pub suits-send : (c : Command) (s : Step) (w : Task) (r : Rest) (κ : Kind) (x : Stage) → At κ x → Fits κ s w → passed_on b.state ≡ Some c → wants (wanted.Accepting c) k (act_as s w r x) ≡ true
       → Suits (λ n κ x. move.Send n c) s w r κ x
   suits-send c s (runs p) r (kind.Phase j i) (Live y) a h e q = (own-live b c s p y e q, (j, i, y, lt, a.0, a.1))
-  suits-send c s (follows name t) r κ (Live y) a h e q = absurd (cc)
-  suits-send c s (runs p) r (Act j) (Live y) a h e q = absurd h
-  suits-send c s (runs p) r Skip (Live y) a h e q = absurd h
-  suits-send c s (runs p) r Seq (Live y) a h e q = absurd h
-  suits-send c s (runs p) r Par (Live y) a h e q = absurd h
-  suits-send c s (runs p) r (Sel i) (Live y) a h e q = absurd h
-  suits-send c s (runs p) r (Loop i j) (Live y) a h e q = absurd h
-  suits-send c s w r κ Finished a h e q = absurd (cc)
-  suits-send c s w r κ (Ready i) a h e q = absurd (cc)
-  suits-send c s w r κ (Asking i) a h e q = absurd (cc)
-  suits-send c s (runs p) r κ Open a h e q = absurd (cc)
-  suits-send c s (follows name t) r κ Open a h e q = absurd (cc)
-  suits-send c s w r κ (Freeing zero) a h e q = absurd (cc)
-  suits-send c s w r κ (Freeing (suc i)) a h e q = absurd (cc)
-  suits-send c s w r κ (Turning i) a h e q = absurd (cc)
+  suits-send x1 x2 x3 x4 x5 x6 x7 x8 x9 x10 = absurd (grind arith)
 
   fits-act : (κ : Kind) (s : Step) (w : Task) → Fits κ s w → is_act_kind κ ≡ true
-  fits-act (kind.Phase j i) s w h = refl
-  fits-act (Act j) s w h = refl
-  fits-act Skip s w h = absurd h
-  fits-act Seq s w h = absurd h
-  fits-act Par s w h = absurd h
-  fits-act (Sel i) s w h = absurd h
-  fits-act (Loop i j) s w h = absurd h
+  fits-act x1 x2 x3 x4 = grind arith
 
   back-some : (s : Step) (w : Task) (h : ℕ) (m : Option machine.Move) → m ≡ giving_back b s h → gives (length s.needs) h ≡ true → m ≡ Some (machine.release b.number s.place (slice_index_or s.needs (h - 1) no_need))
   back-some s w h m e q = e ∙ giving-some b s h q
@@ -381,26 +362,14 @@ module _ (b : Batch) (ns : List Entry) (xs : List Stage) (k : ℕ) (lt : k < len
   pub suits-freeing : (s : Step) (w : Task) (r : Rest) (κ : Kind) (x : Stage) → At κ x → Fits κ s w → wants wanted.Freeing k (act_as s w r x) ≡ true → Suits releasing s w r κ x
   suits-freeing s w r κ (Freeing (suc i)) a h q =
       (back-some s w (suc i) (giving_back b s (suc i)) refl q, can-still κ (Freeing (suc i)) (suc i) (suc i - 1) a (fits-act κ s w h) (inr refl) (gives-step (length s.needs) (suc i) q))
-  suits-freeing s w r κ (Freeing zero) a h q = absurd (cc)
-  suits-freeing s w r κ Finished a h q = absurd (cc)
-  suits-freeing s w r κ (Ready i) a h q = absurd (cc)
-  suits-freeing s w r κ (Asking i) a h q = absurd (cc)
-  suits-freeing s (runs p) r κ Open a h q = absurd (cc)
-  suits-freeing s (follows name t) r κ Open a h q = absurd (cc)
-  suits-freeing s (runs p) r κ (Live y) a h q = absurd (cc)
-  suits-freeing s (follows name t) r κ (Live y) a h q = absurd (cc)
-  suits-freeing s w r κ (Turning i) a h q = absurd (cc)
+  suits-freeing x1 x2 x3 x4 x5 x6 x7 x8 = absurd (grind arith)
 
   pub suits-releasing : (s : Step) (w : Task) (r : Rest) (κ : Kind) (x : Stage) → At κ x → Fits κ s w → is_running b.state ≡ false → is_stopping b.state ≡ true → is_quiet b.rest ≡ true
       → wants wanted.Releasing k (act_as s w r x) ≡ true → Suits releasing s w r κ x
   suits-releasing s w r κ (Freeing (suc i)) a h e f g q =
       (back-some s w (suc i) (giving_back b s (suc i)) refl q, can-still κ (Freeing (suc i)) (suc i) (suc i - 1) a (fits-act κ s w h) (inr refl) (gives-step (length s.needs) (suc i) q))
-  suits-releasing s w r κ (Freeing zero) a h e f g q = absurd (cc)
-  suits-releasing s w r κ Finished a h e f g q = absurd (cc)
   suits-releasing s w r κ (Ready i) a h e f g q =
       (back-some s w i (own_move b (ready s w i)) (own-back b s w i e f g) q, can-still κ (Ready i) i (i - 1) a (fits-act κ s w h) (inl refl) (gives-step (length s.needs) i q))
-  suits-releasing s w r κ (Asking i) a h e f g q = absurd (cc)
-  suits-releasing s (runs p) r κ Open a h e f g q = absurd (cc)
   suits-releasing s (follows name t) r (Act j) Open a h e f g q =
       let some = both-first (nat_lt 0 (length s.needs)) (is_empty (held_in r)) q in
       let count : length s.needs ≡ (j - 1) + 1 = h ∙ pos-step j (ap (nat_lt 0) (sym h) ∙ some) in (
@@ -409,15 +378,7 @@ module _ (b : Batch) (ns : List Entry) (xs : List Stage) (k : ℕ) (lt : k < len
             ∙ ap (λ i. Some (machine.release b.number s.place (slice_index_or s.needs (i - 1) no_need))) h,
         (lt, subst (λ z. CanRelease (kind_at ns k) z (j - 1)) (sym a.1) (a.0 ∙ ap Act (sym h ∙ count))),
       )
-  suits-releasing s (follows name t) r (kind.Phase j i) Open a h e f g q = absurd h
-  suits-releasing s (follows name t) r Skip Open a h e f g q = absurd h
-  suits-releasing s (follows name t) r Seq Open a h e f g q = absurd h
-  suits-releasing s (follows name t) r Par Open a h e f g q = absurd h
-  suits-releasing s (follows name t) r (Sel i) Open a h e f g q = absurd h
-  suits-releasing s (follows name t) r (Loop i j) Open a h e f g q = absurd h
-  suits-releasing s (runs p) r κ (Live y) a h e f g q = absurd (cc)
-  suits-releasing s (follows name t) r κ (Live y) a h e f g q = absurd (cc)
-  suits-releasing s w r κ (Turning i) a h e f g q = absurd (cc)
+  suits-releasing x1 x2 x3 x4 x5 x6 x7 x8 x9 x10 x11 = absurd (grind arith)
 
   pub suits-asking : (s : Step) (w : Task) (r : Rest) (κ : Kind) (x : Stage) → At κ x → Fits κ s w → is_running b.state ≡ true → wants wanted.Asking k (act_as s w r x) ≡ true
       → Suits (λ n κ x. move.Ask n (held_at x)) s w r κ x
@@ -429,13 +390,7 @@ module _ (b : Batch) (ns : List Entry) (xs : List Stage) (k : ℕ) (lt : k < len
       more : (κ : Kind) (w : Task) → Fits κ s w → HasMore κ i
       more (kind.Phase j d) (runs p) h = let l = less-than i (length s.needs) q in omega (arith, h)
       more (Act j) (follows name t) h = let l = less-than i (length s.needs) q in omega (arith, h)
-      more (kind.Phase j d) (follows name t) h = absurd h
-      more (Act j) (runs p) h = absurd h
-      more Skip w h = absurd h
-      more Seq w h = absurd h
-      more Par w h = absurd h
-      more (Sel d) w h = absurd h
-      more (Loop d j) w h = absurd h
+      more x1 x2 x3 = absurd (grind arith)
   suits-asking s w r κ Finished a h e q = absurd (cc)
   suits-asking s w r κ (Asking i) a h e q = absurd (cc)
   suits-asking s (runs p) r κ Open a h e q = absurd (cc)
@@ -450,46 +405,20 @@ module _ (b : Batch) (ns : List Entry) (xs : List Stage) (k : ℕ) (lt : k < len
   ends : (s : Step) (name : Name) (t : Tree) (r : Rest) (κ : Kind) → At κ Open → Fits κ s (follows name t) → (is_stopping b.state || is_stopped b.state) ≡ false → is_done r ≡ true
       → Suits entered s (follows name t) r κ Open
   ends s name t r (Act j) a h e d = (own-ending b s r e d, (j, lt, a.0, a.1))
-  ends s name t r (kind.Phase j i) a h e d = absurd h
-  ends s name t r Skip a h e d = absurd h
-  ends s name t r Seq a h e d = absurd h
-  ends s name t r Par a h e d = absurd h
-  ends s name t r (Sel i) a h e d = absurd h
-  ends s name t r (Loop i j) a h e d = absurd h
+  ends x1 x2 x3 x4 x5 x6 x7 x8 x9 = absurd (grind arith)
 
   begins : (s : Step) (w : Task) (r : Rest) (i : ℕ) (κ : Kind) → At κ (Ready i) → Fits κ s w → is_running b.state ≡ true → nat_lt i (length s.needs) ≡ false → Suits entered s w r κ (Ready i)
   begins s (runs p) r i (kind.Phase j d) a h e q = (own-entering b s (runs p) i e ∙ entering-start b s p i q, (j, d, i, lt, a.0, a.1))
   begins s (follows name t) r i (Act j) a h e q = (own-entering b s (follows name t) i e ∙ entering-begin b s name t i q, (j, i, lt, a.0, a.1))
-  begins s (follows name t) r i (kind.Phase j d) a h e q = absurd h
-  begins s (runs p) r i (Act j) a h e q = absurd h
-  begins s w r i Skip a h e q = absurd h
-  begins s w r i Seq a h e q = absurd h
-  begins s w r i Par a h e q = absurd h
-  begins s w r i (Sel d) a h e q = absurd h
-  begins s w r i (Loop d j) a h e q = absurd h
+  begins x1 x2 x3 x4 x5 x6 x7 x8 x9 = absurd (grind arith)
 
   pub suits-entering : (s : Step) (w : Task) (r : Rest) (κ : Kind) (x : Stage) → At κ x → Fits κ s w → IsAdvanced (act_as s w r x) → is_running b.state ≡ true → wants wanted.Entering k (act_as s w r x) ≡ true
       → Suits entered s w r κ x
   suits-entering s w r κ (Ready i) a h d e q = begins s w r i κ a h e (le-less (length s.needs) i q)
   suits-entering s (follows name t) r κ Open a h d e q = ends s name t r κ a h (running-others b.state e) (empty-done r d ∙ q)
-  suits-entering s (runs p) r κ Open a h d e q = absurd (cc)
-  suits-entering s w r κ Finished a h d e q = absurd (cc)
-  suits-entering s w r κ (Asking i) a h d e q = absurd (cc)
-  suits-entering s (runs p) r κ (Live y) a h d e q = absurd (cc)
-  suits-entering s (follows name t) r κ (Live y) a h d e q = absurd (cc)
-  suits-entering s w r κ (Freeing zero) a h d e q = absurd (cc)
-  suits-entering s w r κ (Freeing (suc i)) a h d e q = absurd (cc)
-  suits-entering s w r κ (Turning i) a h d e q = absurd (cc)
+  suits-entering x1 x2 x3 x4 x5 x6 x7 x8 x9 x10 = absurd (grind arith)
 
   pub suits-ending : (s : Step) (w : Task) (r : Rest) (κ : Kind) (x : Stage) → At κ x → Fits κ s w → IsAdvanced (act_as s w r x) → (is_stopping b.state || is_stopped b.state) ≡ false → wants wanted.Ending k (act_as s w r x) ≡ true
       → Suits entered s w r κ x
   suits-ending s (follows name t) r κ Open a h d e q = ends s name t r κ a h e (empty-done r d ∙ q)
-  suits-ending s (runs p) r κ Open a h d e q = absurd (cc)
-  suits-ending s w r κ (Ready i) a h d e q = absurd (cc)
-  suits-ending s w r κ Finished a h d e q = absurd (cc)
-  suits-ending s w r κ (Asking i) a h d e q = absurd (cc)
-  suits-ending s (runs p) r κ (Live y) a h d e q = absurd (cc)
-  suits-ending s (follows name t) r κ (Live y) a h d e q = absurd (cc)
-  suits-ending s w r κ (Freeing zero) a h d e q = absurd (cc)
-  suits-ending s w r κ (Freeing (suc i)) a h d e q = absurd (cc)
-  suits-ending s w r κ (Turning i) a h d e q = absurd (cc)
+  suits-ending x1 x2 x3 x4 x5 x6 x7 x8 x9 x10 = absurd (grind arith)

@@ -7,7 +7,7 @@ use Rattle.batch_chart.proofs.Choosing.{chosen-true, chosen-false}
 use Rattle.std.proofs.lemmas.Bool.Decides.{eqb_tells}
 use Rattle.batch_recipe.specs.Conditions.{ValueList}
 use Rattle.batch_recipe.specs.Nodes.{node_count}
-use Rattle.batch_recipe.specs.Tree.{Step, Task, Tree, runs, follows, act, skip, seq, par, sel, loop}
+use Rattle.batch_recipe.specs.Tree.{Step, Task, Tree, runs, follows, act}
 use Rattle.batch_recipe.specs.declared.entry.Entry.{Entry}
 use Rattle.batch_recipe.specs.declared.recipe.Recipe.{Recipe}
 use Rattle.batch_chart.specs.declared.stage.Stage.{Stage}
@@ -132,11 +132,7 @@ module _ (ns : List Entry) (doc : Recipe) (vs : ValueList) (xs : List Stage) (li
           neat-blank ns doc (k + 1) d xs ms h.1 (λ i f g. some-stands ns doc i d (k + 1) h.1 f g)
           (λ i c f g s. neat i c (omega arith) (omega (arith, g, (stood ns doc (k + 1) d h.1).fits)) s)
           (finished-stage (stage_at xs (k + 1)) (u (omega (arith, same, count-pos d)))) j a (omega (arith, b, same)))
-      go skip h e = absurd (cc)
-      go (seq ts) h e = absurd (cc)
-      go (par ts) h e = absurd (cc)
-      go (sel ch) h e = absurd (cc)
-      go (loop i q body) h e = absurd (cc)
+      go x1 x2 x3 = absurd (grind arith)
 
   given-blank : AreBlank (k + 1) (end_at ns k) mid sg
   given-blank = elim given [

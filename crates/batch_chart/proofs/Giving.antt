@@ -16,13 +16,13 @@ use Rattle.batch_recipe.specs.declared.recipe.Recipe.{Recipe}
 use Rattle.batch_chart.specs.declared.sign.TheConstants.{HOLDS}
 use Rattle.batch_chart.specs.declared.stage.Stage.{Stage}
 use Rattle.batch_chart.specs.declared.stage.Stage.TheVariants.{Finished, Ready, Asking, Open, Live, Freeing, Turning}
-use Rattle.batch_chart.specs.declared.wanted.Wanted.TheVariants as wanted
+use Rattle.batch_chart.specs.Finding as wanted
 use Rattle.batch_chart.specs.Outlined.{end_at, kind_at, Stands}
-use Rattle.batch_chart.specs.Finding.{gives, wants, first_of}
+use Rattle.batch_chart.specs.Finding.{Wanted, wants, first_of}
 use Rattle.batch_chart.specs.Meaning.{meaning, meaning_below, act_as}
 use Rattle.batch_chart.specs.Neat.{AreNeat}
 use Rattle.batch_chart.specs.Nexts.{IsFoundFirst, SomeNoted, GivesAs, GivesNone, IsFirstGiving}
-use Rattle.batch_chart.specs.Noting.{signs_of, sign_in}
+use Rattle.batch_chart.specs.Noting.{gives, signs_of, sign_in}
 use Rattle.batch_chart.specs.Numbered.{numbered}
 use Rattle.batch_chart.specs.Running.{IsLaid}
 use Rattle.batch_chart.specs.Signs.{shows, sign_at, TellsNone, IsNextShown}
@@ -33,9 +33,9 @@ use Rattle.batch_chart.proofs.Found.{nothing, nothing-holds}
 use Rattle.batch_chart.proofs.Wanting.{none-shown}
 use Rattle.batch_chart.proofs.Named.{entry-or-not, sign-entry, beyond, first-none, first-some}
 use Rattle.batch_chart.proofs.Neat.{neat-part}
-use Rattle.batch_chart.proofs.Picking.{RiseIn, rise, noted-alike, shown-not, shown-so}
+use Rattle.batch_chart.proofs.Picking.{RiseIn, rise, sign-before, first-shown, first-same, picks, noted-alike, shown-not, shown-so}
 use Rattle.batch_chart.proofs.Shown.{link}
-use Rattle.batch_chart.proofs.Sought.{said-holding}
+use Rattle.batch_chart.proofs.Sought.{Says, says-all, said-holding}
 use Rattle.batch_chart.proofs.Standing.{stood}
 use Rattle.batch_chart.proofs.Stepping.{Fits, entry-at}
 use Rattle.batch_chart.proofs.Telling.{told-part}
@@ -138,37 +138,52 @@ in-range (a ∷ l) n m h e (inl q) = subst (λ (z : ℕ × Rest). (n ≤ z.0) ×
 in-range (a ∷ l) n m h e (inr q) = let b = in-range l (a.0 + 1) m h.2 e q in (omega (arith, h.0, b.0), b.1)
 
 module _ (ns : List Entry) (doc : Recipe) (xs : List Stage) (signs : List ℕ) (told : AreTold ns doc 0 (length ns) xs) (neat : AreNeat ns doc 0 (length ns) xs signs) where
-  -- whether anything is held below a node is told by the signs there
-  held-told : (c : Tree) (n : ℕ) → Stands ns doc n c → (b : Bool) → TellsNone signs HOLDS n (n + node_count c) b → is_empty (held_in (meaning c n xs)) ≡ b
-  held-told c n s b h = sym (nothing-holds c n xs) ∙ go b h
-    where
-      fits : n + node_count c ≤ length ns
-      fits = (stood ns doc n c s).fits
+  -- a tree and the signs of its nodes
+  module _ (c : Tree) (n : ℕ) (s : Stands ns doc n c) where
+    fits : n + node_count c ≤ length ns
+    fits = (stood ns doc n c s).fits
 
-      l : List (ℕ × Rest)
-      l = numbered c n xs
+    abbrev l : List (ℕ × Rest)
+    l = numbered c n xs
 
-      rises : RiseIn n (n + node_count c) l
-      rises = rise xs c n
+    rises : RiseIn n (n + node_count c) l
+    rises = rise xs c n
 
-      links : (k : ℕ) → n ≤ k → k < n + node_count c → sign_in k l 0 ≡ sign_at signs k
-      links = link ns doc xs signs c n (n + node_count c) refl s (neat-part ns doc 0 (length ns) n (n + node_count c) xs signs (omega arith) fits neat) (told-part ns doc 0 (length ns) n (n + node_count c) xs (omega arith) fits told)
+    links : (k : ℕ) → n ≤ k → k < n + node_count c → sign_in k l 0 ≡ sign_at signs k
+    links = link ns doc xs signs c n (n + node_count c) refl s (neat-part ns doc 0 (length ns) n (n + node_count c) xs signs (omega arith) fits neat) (told-part ns doc 0 (length ns) n (n + node_count c) xs (omega arith) fits told)
 
-      own : (e : ℕ × Rest) → Has l e → sign_at signs e.0 ≡ signs_of e.1
-      own e i = let r = in-range l n (n + node_count c) rises e i in sym (links e.0 r.0 r.1) ∙ sign-entry l n (n + node_count c) rises e i
+    own : (e : ℕ × Rest) → Has l e → sign_at signs e.0 ≡ signs_of e.1
+    own e i = let r = in-range l n (n + node_count c) rises e i in sym (links e.0 r.0 r.1) ∙ sign-entry l n (n + node_count c) rises e i
 
-      go : (b : Bool) → TellsNone signs HOLDS n (n + node_count c) b → nothing (first_of (wants wanted.Holding) l) ≡ b
-      go true none = passes-none (wants wanted.Holding) l (λ e i.
+    module _ (w : Wanted) (m : ℕ) (says : Says w m) where
+      -- whether anything below a node is wanted is told by the signs there
+      pub below-told : (b : Bool) → TellsNone signs m n (n + node_count c) b → nothing (first_of (wants w) l) ≡ b
+      below-told true none = passes-none (wants w) l (λ e i.
           (let r = in-range l n (n + node_count c) rises e i in
-          said-holding e.0 e.1 ∙ shown-not HOLDS (signs_of e.1) (ap (λ z. bit_and z HOLDS) (sym (own e i)) ∙ none e.0 r.0 r.1)))
-      go false some = elim (entry-or-not l some.0) [
-        | inl q ↦ passes-some (wants wanted.Holding) l (some.0, q.0) q.1 (shown (wants wanted.Holding some.0 q.0) q.0 refl (own (some.0, q.0) q.1) (said-holding some.0 q.0))
-        | inr q ↦ absurd (some.3 (ap (λ z. bit_and z HOLDS) (sym (links some.0 some.1 some.2) ∙ q) ∙ none-shown HOLDS))
+          says e.0 e.1 ∙ shown-not m (signs_of e.1) (ap (λ z. bit_and z m) (sym (own e i)) ∙ none e.0 r.0 r.1)))
+      below-told false some = elim (entry-or-not l some.0) [
+        | inl q ↦ passes-some (wants w) l (some.0, q.0) q.1 (shown (wants w some.0 q.0) q.0 refl (own (some.0, q.0) q.1) (says some.0 q.0))
+        | inr q ↦ absurd (some.3 (ap (λ z. bit_and z m) (sym (links some.0 some.1 some.2) ∙ q) ∙ none-shown m))
       ]
         where
-          shown : (d : Bool) (r : Rest) → wants wanted.Holding some.0 r ≡ d → sign_at signs some.0 ≡ signs_of r → wants wanted.Holding some.0 r ≡ shows HOLDS (signs_of r) → wants wanted.Holding some.0 r ≡ true
+          shown : (d : Bool) (r : Rest) → wants w some.0 r ≡ d → sign_at signs some.0 ≡ signs_of r → wants w some.0 r ≡ shows m (signs_of r) → wants w some.0 r ≡ true
           shown true r e f g = e
-          shown false r e f g = absurd (some.3 (ap (λ z. bit_and z HOLDS) f ∙ shown-so HOLDS (signs_of r) (sym g ∙ e)))
+          shown false r e f g = absurd (some.3 (ap (λ z. bit_and z m) f ∙ shown-so m (signs_of r) (sym g ∙ e)))
+
+      -- and so is the first
+      pub below-first : (j : ℕ) → j < n + node_count c → IsNextShown signs m n (Some j) → Some j ≡ first_of (wants w) l
+      below-first j lt h =
+          first-shown m 0 (n + node_count c) l n rises (Some j) (omega arith, λ z. h.2 (ap (λ y. bit_and y m) (sym (links j h.0 lt)) ∙ z), λ k le less. before k less)
+          ∙ sym (first-same (wants w) (picks m 0 (n + node_count c)) (says-all w m says) l)
+        where
+          before : (k : ℕ) → k < j → bit_and (sign_in k l 0) m ≡ 0
+          before k less = elim (cases_lt k n) [
+            | inl q ↦ ap (λ y. bit_and y m) (sign-before k n (n + node_count c) l 0 rises q) ∙ none-shown m
+            | inr q ↦ ap (λ y. bit_and y m) (links k q (omega (arith, less, lt))) ∙ h.3 k q less
+          ]
+
+  held-told : (c : Tree) (n : ℕ) → Stands ns doc n c → (b : Bool) → TellsNone signs HOLDS n (n + node_count c) b → is_empty (held_in (meaning c n xs)) ≡ b
+  held-told c n s b h = sym (nothing-holds c n xs) ∙ below-told c n s wanted.Holding HOLDS said-holding b h
 
   module _ (t : Tree) (laid : IsLaid ns doc t) (noted : (k : ℕ) → sign_at signs k ≡ sign_in k (numbered t 0 xs) 0) where
     abbrev l-all : List (ℕ × Rest)
@@ -231,5 +246,5 @@ module _ (ns : List Entry) (doc : Recipe) (xs : List Stage) (signs : List ℕ) (
         holding r i true e = e
         holding r i false e = absurd (h.1 (ap (λ z. bit_and z HOLDS) (own-all (j, r) i) ∙ shown-so HOLDS (signs_of r) (sym (said-holding j r) ∙ e)))
 
-pub found-giving : (ns : List Entry) (doc : Recipe) (xs : List Stage) (signs : List ℕ) → SomeNoted ns doc xs signs → (o : Option ℕ) → IsFirstGiving ns xs signs o → IsFoundFirst ns doc xs wanted.Releasing o
+pub found-giving : (ns : List Entry) (doc : Recipe) (xs : List Stage) (signs : List ℕ) → SomeNoted ns doc xs signs → (o : Option ℕ) → IsFirstGiving ns xs signs o → IsFoundFirst ns doc xs (wants wanted.Releasing) o
 found-giving ns doc xs signs some o h = record { means = λ t laid. giving-first ns doc xs signs some.3 some.4 t laid (noted-alike ns doc xs signs some.0 t some.1 laid some.2) o h }

@@ -34,18 +34,7 @@ has-among (y ∷ l) x (inr h) = go (same_state y x) (has-among l x h)
     go false e = e
 
 gravity-most : (x : State) → gravity x ≤ 9
-gravity-most Idle = omega arith
-gravity-most Running = omega arith
-gravity-most Pausing = omega arith
-gravity-most Paused = omega arith
-gravity-most Holding = omega arith
-gravity-most Held = omega arith
-gravity-most Restarting = omega arith
-gravity-most Stopping = omega arith
-gravity-most Stopped = omega arith
-gravity-most Aborting = omega arith
-gravity-most Aborted = omega arith
-gravity-most Complete = omega arith
+gravity-most x1 = grind arith
 
 less : (m n : ℕ) → nat_lt m n ≡ true → m < n
 less m n e = grind (arith, nat_tests)

@@ -36,8 +36,7 @@ alike-trans r q p a b = (a.0 ∙ b.0, λ h. b.1 (a.1 h))
 pick : (b e : Bool) (r q s t : Rest) → b ≡ e → Alike r s → Alike q t → Alike (elim b as (λ _. Rest) [ true ↦ r | false ↦ q ]) (elim e as (λ _. Rest) [ true ↦ s | false ↦ t ])
 pick true true r q s t e a b = a
 pick false false r q s t e a b = b
-pick true false r q s t e a b = absurd (cc)
-pick false true r q s t e a b = absurd (cc)
+pick x1 x2 x3 x4 x5 x6 x7 x8 x9 = absurd (grind arith)
 
 like-seq : (r q : Rest) (ts us : Trees) → Alike r q → Alike (in_seq r ts) (in_seq q us)
 like-seq r q ts us a = (refl, λ h. (sym a.0 ∙ h.0, a.1 h.1))

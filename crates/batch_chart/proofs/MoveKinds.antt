@@ -13,7 +13,7 @@ use Rattle.batch_model.specs.Rest.{Rest, ready, asking, open_act, live, freeing,
 use Rattle.batch_model.specs.Settled.{IsAdvanced, AreAdvanced}
 use Rattle.batch_model.specs.Moves.{Move, send, begin, start, end, ask, release, kind_of, handed_values, passed_on, is_running, is_stopping, is_stopped, is_empty, is_quiet, when, beginning, entering, giving_back}
 use Rattle.batch_chart.specs.NodesOf.{no_need}
-use Rattle.batch_chart.specs.Finding.{gives}
+use Rattle.batch_chart.specs.Noting.{gives}
 use Rattle.batch_chart.specs.OwnMoves.{own_move, is_kind}
 use Rattle.batch_chart.proofs.NodesStand.{get-or}
 

@@ -14,19 +14,18 @@ use Rattle.batch_recipe.specs.declared.entry.Entry.{Entry}
 use Rattle.batch_recipe.specs.declared.recipe.Recipe.{Recipe}
 use Rattle.batch_chart.specs.declared.sign.TheConstants.{LIVES}
 use Rattle.batch_chart.specs.declared.stage.Stage.{Stage}
-use Rattle.batch_chart.specs.declared.wanted.Wanted.{Wanted}
-use Rattle.batch_chart.specs.declared.wanted.Wanted.TheVariants as wanted
+use Rattle.batch_chart.specs.Finding as wanted
 use Rattle.batch_chart.specs.Outlined.{kind_at, Stands}
 use Rattle.batch_chart.specs.Finding.{wants, first_of}
 use Rattle.batch_chart.specs.Meaning.{meaning_below}
-use Rattle.batch_chart.specs.Nexts.{IsFoundFirst, has_name, is_named, names_at, IsFirstNamed}
-use Rattle.batch_chart.specs.Noting.{signs_of, sign_in, AreNoted}
+use Rattle.batch_chart.specs.Nexts.{IsFoundFirst, SomeNoted, has_name, is_named, names_at, IsFirstNamed}
+use Rattle.batch_chart.specs.Noting.{signs_of, sign_in}
 use Rattle.batch_chart.specs.Numbered.{numbered}
 use Rattle.batch_chart.specs.Running.{IsLaid}
 use Rattle.batch_chart.specs.Signs.{shows, sign_at, IsNextShown}
 use Rattle.batch_chart.specs.Stages.{stage_at}
 use Rattle.batch_chart.proofs.Choosing.{chosen-true, chosen-false}
-use Rattle.batch_chart.proofs.Live.{IsNamed, looks, looks-same, first-same, live-known}
+use Rattle.batch_chart.proofs.Live.{looks, live-known}
 use Rattle.batch_chart.proofs.Wanting.{none-shown, nothing-shown}
 use Rattle.batch_chart.proofs.Picking.{RiseIn, rise, sign-here, sign-other, shown-not, shown-so, noted-alike}
 use Rattle.batch_chart.proofs.Sought.{said-live}
@@ -121,13 +120,9 @@ module _ (ns : List Entry) (doc : Recipe) (xs : List Stage) (signs : List ℕ) (
     | inr q ↦ absurd (let z : ◌≡◌ {A = Bool} true false = sym h.1 ∙ unsigned j (noted j ∙ q) in cc)
   ]
 
-pub found-named : (ns : List Entry) (doc : Recipe) (xs : List Stage) (signs : List ℕ) → (t : Tree) × IsLaid ns doc t × AreNoted t xs signs → (w : Wanted) (from : ℕ) (phase : Name) → IsNamed w phase from → (o : Option ℕ) → IsFirstNamed ns doc signs from phase o
-    → IsFoundFirst ns doc xs w o
-found-named ns doc xs signs some w from phase named o h = record {
-  means = λ t laid.
-      looks-first ns doc xs signs t laid (noted-alike ns doc xs signs some.0 t some.1 laid some.2) from phase o h
-      ∙ sym (first-same (wants w) (looks from phase) (looks-same w phase from named) (numbered t 0 xs));
-}
+pub found-named : (ns : List Entry) (doc : Recipe) (xs : List Stage) (signs : List ℕ) → SomeNoted ns doc xs signs → (from : ℕ) (phase : Name) → (o : Option ℕ) → IsFirstNamed ns doc signs from phase o
+    → IsFoundFirst ns doc xs (looks from phase) o
+found-named ns doc xs signs some from phase o h = record { means = λ t laid. looks-first ns doc xs signs t laid (noted-alike ns doc xs signs some.0 t some.1 laid some.2) from phase o h }
 
 -- the search, step by step
 

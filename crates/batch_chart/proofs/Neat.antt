@@ -19,21 +19,10 @@ use Rattle.batch_chart.proofs.Telling.{AreNested}
 
 -- what stands at a node shows nothing once it is finished
 pub finished-shows : (c : Tree) (b : Bool) → shown_of c Finished b ≡ 0
-finished-shows (act s (runs p)) b = refl
-finished-shows (act s (follows name c)) b = refl
-finished-shows skip b = refl
-finished-shows (seq ts) b = refl
-finished-shows (par ts) b = refl
-finished-shows (sel ch) b = refl
-finished-shows (loop k p body) b = refl
+finished-shows x1 x2 = grind arith
 
 pub finished-stops : (c : Tree) → runs_below c Finished ≡ false
-finished-stops (act s w) = refl
-finished-stops skip = refl
-finished-stops (seq ts) = refl
-finished-stops (par ts) = refl
-finished-stops (sel ch) = refl
-finished-stops (loop k p body) = refl
+finished-stops x1 = grind arith
 
 unbegun-still : (needs : ℕ) (x : Stage) (a b : Bool) → (x ≡ Open → a ≡ b) → act_shows needs x a ≡ act_shows needs x b
 unbegun-still needs Open a b h = ap (act_shows needs Open) (h refl)

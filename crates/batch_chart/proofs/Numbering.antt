@@ -180,16 +180,13 @@ module _ (ls : List Node) (ns : List Entry) (doc : Recipe) (xs : List Stage) whe
 
   -- an act's own rest, or one of those below it
   pub has-entry : (n : ℕ) (s : Step) (w : Task) (r : Rest) (x : Stage) (below : List (ℕ × Rest)) (e : ℕ × Rest) → Has (entries n (act_as s w r x) below) e → (e ≡ (n, act_as s w r x)) ⊎ Has below e
-  has-entry n s w r stage.Finished below e h = absurd h
   has-entry n s w r (stage.Ready k) below e h = inl (one (n, ready s w k) e h)
   has-entry n s w r (stage.Asking k) below e h = inl (one (n, asking s w k) e h)
-  has-entry n s (runs p) r stage.Open below e h = absurd h
   has-entry n s (follows name c) r stage.Open below e (inl q) = inl (sym q)
   has-entry n s (follows name c) r stage.Open below e (inr q) = inr q
   has-entry n s (runs p) r (stage.Live x) below e h = inl (one (n, live s p x) e h)
-  has-entry n s (follows name c) r (stage.Live x) below e h = absurd h
   has-entry n s w r (stage.Freeing k) below e h = inl (has-freed n s k below e h)
-  has-entry n s w r (stage.Turning k) below e h = absurd h
+  has-entry x1 x2 x3 x4 x5 x6 x7 x8 = absurd (grind arith)
 
   pub if-begun : (b : Bool) (l : List (ℕ × Rest)) (e : ℕ × Rest) → Has (elim b as (λ _. List (ℕ × Rest)) [ true ↦ l | false ↦ [] ]) e → Has l e
   if-begun true l e h = h

@@ -12,7 +12,7 @@ use Rattle.batch_recipe.specs.declared.recipe.Recipe.{Recipe}
 use Rattle.batch_chart.specs.declared.sign.TheConstants.{IS_ACT}
 use Rattle.batch_chart.specs.declared.stage.Stage.{Stage}
 use Rattle.batch_chart.specs.declared.stage.Stage.TheVariants.{Finished}
-use Rattle.batch_chart.specs.declared.wanted.Wanted.TheVariants as wanted
+use Rattle.batch_chart.specs.Finding as wanted
 use Rattle.batch_chart.specs.Climbing.{all_finished, AreFinished}
 use Rattle.batch_chart.specs.Outlined.{Stands, AreStanding}
 use Rattle.batch_chart.specs.Finding.{wants}

@@ -11,19 +11,18 @@ use Rattle.batch_model.specs.Rest.{Rest, ready, asking, open_act, live, freeing,
 use Rattle.batch_recipe.specs.declared.entry.Entry.{Entry}
 use Rattle.batch_recipe.specs.declared.recipe.Recipe.{Recipe}
 use Rattle.batch_chart.specs.declared.stage.Stage.{Stage}
-use Rattle.batch_chart.specs.declared.wanted.Wanted.{Wanted}
 use Rattle.batch_chart.specs.Stages.{stage_at, is_finished, is_begun, turns_of}
 use Rattle.batch_chart.specs.Meaning.{act_as, meaning_below}
-use Rattle.batch_chart.specs.Finding.{wants, first_of}
+use Rattle.batch_chart.specs.Finding.{Wanted, wants, first_of}
 use Rattle.batch_chart.specs.Numbered.{entries, entries_in, numbered, numbered_below, numbered_each, numbered_branch, numbered_chosen}
 use Rattle.batch_chart.specs.Signs.{shows, sign_at, IsNextShown}
-use Rattle.batch_chart.specs.Noting.{signs_of, sign_in, AreNoted, sought}
-use Rattle.batch_chart.specs.Nexts.{IsFoundFirst}
+use Rattle.batch_chart.specs.Noting.{signs_of, sign_in, AreNoted}
+use Rattle.batch_chart.specs.Nexts.{IsFoundFirst, SomeNoted}
 use Rattle.batch_chart.specs.Running.{IsLaid}
 use Rattle.batch_chart.proofs.Alike.{alike, same-signs}
 use Rattle.batch_chart.proofs.Choosing.{chosen-true, chosen-false}
 use Rattle.batch_chart.proofs.Wanting.{none-shown, more-not_zero}
-use Rattle.batch_chart.proofs.Sought.{sought-tells}
+use Rattle.batch_chart.proofs.Sought.{Says, says-all}
 
 -- the numbers rise from n on, and stay below m
 abbrev pub RiseIn : ℕ → ℕ → List (ℕ × Rest) → Type 0
@@ -148,8 +147,7 @@ module _ (m from end : ℕ) where
     where
       go : (x : Bool) → nat_le from n ≡ x → (y : Bool) → shows m (signs_of r) ≡ y → (x && y) ≡ true → (from ≤ n) × (bit_and (signs_of r) m ≡ 0 → ⊥)
       go true a true b e = (grind (arith, nat_tests), λ z. let d : ◌≡◌ {A = Bool} false true = sym (shown-not m (signs_of r) z) ∙ b in absurd (cc))
-      go true a false b e = absurd (cc)
-      go false a y b e = absurd (cc)
+      go x1 x2 x3 x4 x5 = absurd (grind arith)
 
   picks-false : (n : ℕ) (r : Rest) → picks n r ≡ false → from ≤ n → bit_and (signs_of r) m ≡ 0
   picks-false n r e le = go (nat_le from n) refl (shows m (signs_of r)) refl e
@@ -194,7 +192,7 @@ module _ (m from end : ℕ) where
           ap Some same ∙ sym (chosen-true (picks a.0 a.1) (Some a.0) (first_of picks l) e)
       go more false e o f = more o (narrow o e f) ∙ sym (chosen-false (picks a.0 a.1) (Some a.0) (first_of picks l) e)
 
-first-same : (p q : ℕ → Rest → Bool) → ((n : ℕ) (r : Rest) → p n r ≡ q n r) → (l : List (ℕ × Rest)) → first_of p l ≡ first_of q l
+pub first-same : (p q : ℕ → Rest → Bool) → ((n : ℕ) (r : Rest) → p n r ≡ q n r) → (l : List (ℕ × Rest)) → first_of p l ≡ first_of q l
 first-same p q h [] = refl
 first-same p q h (e ∷ l) =
     ap (λ z. elim z as (λ _. Option ℕ) [ true ↦ Some e.0 | false ↦ first_of p l ]) (h e.0 e.1) ∙ ap (λ z. elim (q e.0 e.1) as (λ _. Option ℕ) [ true ↦ Some e.0 | false ↦ z ]) (first-same p q h l)
@@ -211,11 +209,14 @@ module _ (ns : List Entry) (doc : Recipe) (xs : List Stage) (ms : List ℕ) wher
   in-all m from None f same h = λ k le. ap (λ z. bit_and z m) (sym (same k)) ∙ elim (cases_lt k (length ms)) [ inl q ↦ h k le q | inr q ↦ past k q m ]
   in-all m from (Some j) f same h = (h.0, λ z. h.2 (ap (λ y. bit_and y m) (same j) ∙ z), λ k le lt. ap (λ z. bit_and z m) (sym (same k)) ∙ h.3 k le lt)
 
-  pub found-sought : (w : Wanted) (m from : ℕ) (o : Option ℕ) → (t : Tree) × IsLaid ns doc t × AreNoted t xs ms → sought w ≡ Some (m, from) → IsNextShown ms m from o → IsFoundFirst ns doc xs w o
-  found-sought w m from o some e h =
+  -- the first node that shows a sign is that of the first act that is wanted, where the sign tells those
+  pub found-from : (w : Wanted) (m from : ℕ) (o : Option ℕ) → ((n : ℕ) (r : Rest) → wants w n r ≡ (nat_le from n && shows m (signs_of r))) → SomeNoted ns doc xs ms → IsNextShown ms m from o → IsFoundFirst ns doc xs (wants w) o
+  found-from w m from o says some h =
       record {
         means = λ t laid.
-            (let says = (sought-tells w m from e).says in
             first-shown m from (0 + node_count t) (numbered t 0 xs) 0 (rise xs t 0) o (in-all m from o (λ k. sign_in k (numbered t 0 xs) 0) (noted-alike some.0 t some.1 laid some.2) h)
-            ∙ sym (first-same (wants w) (picks m from (0 + node_count t)) says (numbered t 0 xs)));
+            ∙ sym (first-same (wants w) (picks m from (0 + node_count t)) says (numbered t 0 xs));
       }
+
+  pub found : (w : Wanted) (m : ℕ) (o : Option ℕ) → Says w m → SomeNoted ns doc xs ms → IsNextShown ms m 0 o → IsFoundFirst ns doc xs (wants w) o
+  found w m o says = found-from w m 0 o (says-all w m says)

@@ -198,8 +198,7 @@ unfinished-not x e u = let f : ◌≡◌ {A = Bool} true false = sym (ap is_fini
 
 both-true : (a b : Bool) → (a && b) ≡ true → (a ≡ true) × (b ≡ true)
 both-true true true e = (refl, refl)
-both-true true false e = absurd (cc)
-both-true false b e = absurd (cc)
+both-true x1 x2 x3 = absurd (grind arith)
 
 module _ (ns : List Entry) (doc : Recipe) (n m : ℕ) (c : Tree) (s : Stands ns doc n c) (fits : end_at ns n ≤ m) (rest : AreNested ns doc (end_at ns n) m) where
   row-end : end_at ns n ≡ n + node_count c

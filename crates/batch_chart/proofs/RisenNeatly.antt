@@ -194,15 +194,13 @@ module _ (ns : List Entry) (doc : Recipe) (p n : ℕ) (ys : List Stage) (standin
   not-over o = go standing.1.0 standing.1.1 (still-runs standing.1.0 standing.1.1)
     where
       closed-or-not : (b : Bool) → b ≡ true → true ≡ not b → ⊥
-      closed-or-not true e f = absurd (cc)
-      closed-or-not false e f = absurd (cc)
+      closed-or-not x1 x2 x3 = absurd (grind arith)
 
       open-over : (x : Stage) → is_begun x ≡ true → true ≡ is_over_at (Act 0) x → ⊥
       open-over x e f = let q : ◌≡◌ {A = Bool} true false = f ∙ ap (is_over_at (Act 0)) (begun-open x e) in absurd (cc)
 
       none-or-not : (b : Bool) → not b ≡ true → true ≡ b → ⊥
-      none-or-not true e f = absurd (cc)
-      none-or-not false e f = absurd (cc)
+      none-or-not x1 x2 x3 = absurd (grind arith)
 
       at-kind : (κ : Kind) → kind_at ns p ≡ κ → true ≡ is_over_at κ (stage_at ys p)
       at-kind κ e = o ∙ ap (λ z. is_over_at z (stage_at ys p)) e

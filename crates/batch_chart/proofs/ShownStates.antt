@@ -1,7 +1,6 @@
 -- The states that acts show, as the stages tell them.
-use Rattle.std.proofs.Common.{◌≡◌, ◌≢◌, ◌⊎◌, inl, inr, ◌<◌, ◌≤◌, ℕ, zero, suc, ◌+◌, List, [], ◌∷◌, length, Bool, true, false, Some, None, nat_eq, arith, refl, sym, ◌∙◌, subst, ap, ap₂}
-use Rattle.std.specs.Prelude.{Option, not, map, find, ◌||◌}
-use Rattle.std.specs.Option.{is_some}
+use Rattle.std.proofs.Common.{◌≡◌, ◌≢◌, ◌⊎◌, inl, inr, ◌<◌, ◌≤◌, ℕ, suc, ◌+◌, List, [], ◌∷◌, length, Bool, true, false, Some, None, nat_eq, arith, refl, sym, ◌∙◌, subst, ap, ap₂}
+use Rattle.std.specs.Prelude.{Option, not, map, find, ◌||◌, ⊤}
 use Rattle.std.proofs.Math.Bool.{cond}
 use Rattle.std.proofs.lemmas.Bool.Decides.{eqb_tells}
 use Rattle.batch_matrix.specs.declared.state.State.{State}
@@ -22,35 +21,37 @@ use Rattle.batch_chart.specs.declared.node.Kind.TheVariants as kind
 use Rattle.batch_recipe.specs.declared.recipe.Recipe.{Recipe}
 use Rattle.batch_chart.specs.declared.stage.Stage.{Stage}
 use Rattle.batch_chart.specs.declared.stage.Stage.TheVariants as stage
-use Rattle.batch_chart.specs.declared.wanted.Wanted.TheVariants as wanted
+use Rattle.batch_chart.specs.Finding as wanted
+use Rattle.batch_chart.specs.Finding.{Wanted, wants, first_of}
 use Rattle.batch_chart.specs.Stages.{stage_at, is_begun, is_finished, turns_of}
 use Rattle.batch_chart.specs.Meaning.{act_as, meaning, meaning_below}
-use Rattle.batch_chart.specs.Outlined.{kind_at, is_act_kind, Stands, StandsAct, AreStanding, AreChoices, HasTree}
-use Rattle.batch_chart.specs.Finding.{wants, first_of, IsFirst}
+use Rattle.batch_chart.specs.Outlined.{end_at, kind_at, is_act_kind, Stands, StandsAct, AreStanding, AreChoices}
+use Rattle.batch_chart.specs.Neat.{step_shows, IsNeat}
+use Rattle.batch_chart.specs.Noting.{state_sign}
+use Rattle.batch_chart.specs.Signs.{shows, sign_at, TellsNone, IsNextShown}
+use Rattle.batch_chart.specs.Told.{TellsWhetherOver}
+use Rattle.batch_chart.specs.declared.sign.TheConstants.{IS_ACT, LIVES}
 use Rattle.batch_chart.specs.Numbered.{numbered, numbered_below, numbered_each, numbered_branch, numbered_chosen}
 use Rattle.batch_chart.specs.NodesOf.{nodes_of, node_at, place_at}
-use Rattle.batch_chart.specs.Nexts.{IsFoundFirst}
+use Rattle.batch_chart.specs.Nexts.{SomeNoted}
 use Rattle.batch_chart.specs.Running.{IsActTree, IsLaid, SomeLives}
-use Rattle.batch_chart.specs.Showing.{is_among, shown_by, IsFirstShown, IsShown, IsStateAt}
-use Rattle.batch_chart.proofs.Choosing.{chosen-true, chosen-false}
-use Rattle.batch_chart.proofs.Found.{nothing, numbered-acts, acts-all}
+use Rattle.batch_chart.specs.Showing.{is_among, shown_by, StandsBelow, IsFirstShown, IsShown, IsStateAt}
+use Rattle.batch_chart.proofs.Found.{nothing, numbered-acts}
+use Rattle.batch_chart.proofs.Giving.{below-told, below-first}
+use Rattle.batch_chart.proofs.Named.{entry-or-not}
+use Rattle.batch_chart.proofs.Picking.{noted-alike}
+use Rattle.batch_chart.proofs.Sought.{Says, said-live, said-in, says-any, open-shows}
+use Rattle.batch_chart.proofs.Wanting.{tells-none, nothing-shown}
 use Rattle.batch_chart.proofs.Gravest.{gravest_states, gravest-is}
-use Rattle.batch_chart.proofs.Joining.{some_batch, no-live, known}
+use Rattle.batch_chart.proofs.Joining.{no-live, known}
 use Rattle.batch_chart.proofs.NodesStand.{node-got, node-stands}
 use Rattle.batch_chart.proofs.Numbering.{told, has-entry, if-begun, either, if-turning}
 use Rattle.batch_chart.proofs.StepsOf.{steps-of, own_step, step_in, unreached, step-found}
-use Rattle.batch_chart.proofs.Stepping.{Fits, entry-at, entry-undone, act-place, all-has}
+use Rattle.batch_chart.proofs.Stepping.{Fits, entry-at, entry-undone, act-place}
 use Rattle.batch_chart.proofs.Waiting.{carries}
 
-some-nothing : (o : Option ℕ) → nothing o ≡ not (is_some o)
-some-nothing None = refl
-some-nothing (Some k) = refl
-
-not-not : (a b : Bool) → not a ≡ not b → a ≡ b
-not-not true true e = refl
-not-not true false e = absurd (cc)
-not-not false true e = absurd (cc)
-not-not false false e = refl
+flip : (a b : Bool) → not a ≡ b → a ≡ not b
+flip a b e = grind arith
 
 -- a live phase in a state is found where one has it
 
@@ -73,27 +74,19 @@ in-live y ((k, done) ∷ l) = in-live y l
 -- a live act is that of a live stage
 live-stage : (y : Stage) (s : Step) (w : Task) (r : Rest) (u : Step) (p : Phase) (x : State) → act_as s w r y ≡ live u p x → y ≡ stage.Live x
 live-stage (stage.Live z) s (runs v) r u p x e = let f : z ≡ x = cc in ap stage.Live f
-live-stage (stage.Live z) s (follows name c) r u p x e = absurd (cc)
-live-stage stage.Finished s w r u p x e = absurd (cc)
-live-stage (stage.Ready h) s w r u p x e = absurd (cc)
-live-stage (stage.Asking h) s w r u p x e = absurd (cc)
-live-stage stage.Open s (runs v) r u p x e = absurd (cc)
-live-stage stage.Open s (follows name c) r u p x e = absurd (cc)
-live-stage (stage.Freeing zero) s w r u p x e = absurd (cc)
-live-stage (stage.Freeing (suc h)) s w r u p x e = absurd (cc)
-live-stage (stage.Turning h) s w r u p x e = absurd (cc)
+live-stage x1 x2 x3 x4 x5 x6 x7 x8 = absurd (grind arith)
 
--- every act is found by its number
-wants-at : (a : Rest) (n k : ℕ) → wants wanted.Any n a ≡ true → wants (wanted.At k) n a ≡ nat_eq n k
-wants-at (ready s w i) n k e = refl
-wants-at (asking s w i) n k e = refl
-wants-at (open_act s r) n k e = refl
-wants-at (live s p x) n k e = refl
-wants-at (freeing s i) n k e = refl
-wants-at (in_seq r cs) n k e = absurd (cc)
-wants-at (in_par rs) n k e = absurd (cc)
-wants-at (in_loop i c body r) n k e = absurd (cc)
-wants-at done n k e = absurd (cc)
+-- an act at one of these stages runs
+abbrev IsUp : Stage → Type 0
+IsUp stage.Open = ⊤
+IsUp (stage.Live y) = ⊤
+IsUp _ = ⊥
+
+-- one that runs shows that it is an act
+signed : (s : Step) (w : Task) (r : Rest) (x : Stage) (over : Bool) → is_finished x ≡ is_done (act_as s w r x) → IsUp x → shows IS_ACT (step_shows (length s.needs) w x over) ≡ true
+signed s (runs p) r (stage.Live y) over t u = sym (says-any 0 (live s p y))
+signed s (follows name c) r stage.Open over t u = open-shows (length s.needs) over
+signed x1 x2 x3 x4 x5 x6 x7 = absurd (grind arith)
 
 no-number : (n k : ℕ) → n ≢ k → nat_eq n k ≡ false
 no-number n k ne = elim (eqb_tells n k) [ inl q ↦ absurd (ne q.1) | inr q ↦ q.0 ]
@@ -107,6 +100,20 @@ unfit kind.Seq s w e h = h
 unfit kind.Par s w e h = h
 unfit (kind.Sel i) s w e h = h
 unfit (kind.Loop i j) s w e h = h
+
+-- what an act shows at its stage
+
+shows-live : (s : Step) (w : Task) (r : Rest) (y z : State) → is_done (act_as s w r (stage.Live y)) ≡ false → act_state z (act_as s w r (stage.Live y)) ≡ y
+shows-live s (runs p) r y z e = refl
+shows-live s (follows name c) r y z e = absurd (cc)
+
+shows-idle : (s : Step) (w : Task) (r : Rest) (x : Stage) (z : State) → is_done (act_as s w r x) ≡ false → (x ≡ stage.Open → ⊥) → ((y : State) → x ≡ stage.Live y → ⊥) → act_state z (act_as s w r x) ≡ Idle
+shows-idle s w r (stage.Ready h) z e f g = refl
+shows-idle s w r (stage.Asking h) z e f g = refl
+shows-idle s w r stage.Open z e f g = absurd (f refl)
+shows-idle s w r (stage.Live y) z e f g = absurd (g y refl)
+shows-idle s w r (stage.Freeing (suc h)) z e f g = refl
+shows-idle x1 x2 x3 x4 x5 x6 x7 x8 = absurd (grind arith)
 
 module _ (ns : List Entry) (doc : Recipe) (xs : List Stage) where
   -- a numbered act is as the stage of its node says
@@ -186,36 +193,34 @@ module _ (ns : List Entry) (doc : Recipe) (xs : List Stage) where
   first-live ((j, in_loop i c body r) ∷ l) g k e = (let h = first-live l (λ e h. g e (inr h)) k e in record { own = h.own; others = h.others; states = h.states; within = h.within; staged = h.staged })
   first-live ((j, done) ∷ l) g k e = (let h = first-live l (λ e h. g e (inr h)) k e in record { own = h.own; others = h.others; states = h.states; within = h.within; staged = h.staged })
 
-  module _ (n : ℕ) where
+  module _ (signs : List ℕ) (noted : SomeNoted ns doc xs signs) (n : ℕ) where
     abbrev states_in : Tree → List State
-    states_in c = phase_states (acts (meaning c n xs))
+    states_in c = phase_states (acts (meaning c (n + 1) xs))
 
-    mapped-states : (c : Tree) → phase_states (map (λ (z : ℕ × Rest). z.1) (numbered c n xs)) ≡ states_in c
-    mapped-states c = ap phase_states (numbered-acts xs c n)
+    mapped-states : (c : Tree) → phase_states (map (λ (z : ℕ × Rest). z.1) (numbered c (n + 1) xs)) ≡ states_in c
+    mapped-states c = ap phase_states (numbered-acts xs c (n + 1))
 
-    -- whether a state is among them is told by finding it
-    found-among : (y : State) (o : Option ℕ) (c : Tree) → IsFirst ns doc n xs (wanted.In y) o → Stands ns doc n c → is_among (states_in c) y ≡ is_some o
-    found-among y o c found h =
-        not-not (is_among (states_in c) y) (is_some o)
-        (sym (ap (λ l. not (is_among l y)) (mapped-states c)) ∙ sym (in-live y (numbered c n xs)) ∙ ap nothing (sym (found.means c h)) ∙ some-nothing o)
+    told-below : (c : Tree) → StandsBelow ns doc n c → (w : Wanted) (m : ℕ) → Says w m → (b : Bool) → TellsNone signs m (n + 1) (end_at ns n) b → nothing (first_of (wants w) (numbered c (n + 1) xs)) ≡ b
+    told-below c h w m says b t = below-told ns doc xs signs noted.3 noted.4 c (n + 1) h.1 w m says b (subst (λ z. TellsNone signs m (n + 1) z b) h.0 t)
 
-    pub shown-none : IsFirstShown ns doc n xs [] None
-    shown-none = record { means = λ c h. refl }
+    -- whether a state is among them is told by its sign
+    found-among : (y : State) (b : Bool) (c : Tree) → TellsNone signs (state_sign y) (n + 1) (end_at ns n) b → StandsBelow ns doc n c → is_among (states_in c) y ≡ not b
+    found-among y b c t h =
+        flip (is_among (states_in c) y) b
+        (sym (ap (λ l. not (is_among l y)) (mapped-states c)) ∙ sym (in-live y (numbered c (n + 1) xs)) ∙ told-below c h (wanted.In y) (state_sign y) (said-in y) b t)
 
-    pub shown-here : (y : State) (later : List State) (o : Option ℕ) → is_some o ≡ true → IsFirst ns doc n xs (wanted.In y) o → IsFirstShown ns doc n xs (y ∷ later) (Some y)
-    shown-here y later o e found = record { means = λ c h. sym (ap (λ b. cond b (Some y) (find (is_among (states_in c)) later)) (found-among y o c found h ∙ e)) }
+    pub shown-none : (states : List State) → length states ≡ 0 → IsFirstShown ns doc n xs states None
+    shown-none [] e = record { means = λ c h. refl }
+    shown-none (y ∷ l) e = absurd (omega (arith, e))
 
-    pub shown-later : (y : State) (later : List State) (o : Option ℕ) (result : Option State) → is_some o ≡ false → IsFirst ns doc n xs (wanted.In y) o → IsFirstShown ns doc n xs later result
-        → IsFirstShown ns doc n xs (y ∷ later) result
-    shown-later y later o result e found rest =
-        record { means = λ c h. rest.means c h ∙ sym (ap (λ b. cond b (Some y) (find (is_among (states_in c)) later)) (found-among y o c found h ∙ e)) }
+    pub here-first : (y : State) (later states : List State) (m : ℕ) → states ≡ y ∷ later → m ≡ state_sign y → TellsNone signs m (n + 1) (end_at ns n) false → IsFirstShown ns doc n xs states (Some y)
+    here-first y later states m is e t =
+        subst (λ l. IsFirstShown ns doc n xs l (Some y)) (sym is) record { means = λ c h. sym (ap (λ b. cond b (Some y) (find (is_among (states_in c)) later)) (found-among y false c (rw e at t) h)) }
 
-    pub here-first : (y : State) (later states : List State) (o : Option ℕ) → states ≡ y ∷ later → true ≡ is_some o → IsFirst ns doc n xs (wanted.In y) o → IsFirstShown ns doc n xs states (Some y)
-    here-first y later states o is e found = subst (λ l. IsFirstShown ns doc n xs l (Some y)) (sym is) (shown-here y later o (sym e) found)
-
-    pub later-first : (y : State) (later states : List State) (o : Option ℕ) (result : Option State) → states ≡ y ∷ later → false ≡ is_some o → IsFirst ns doc n xs (wanted.In y) o
-        → IsFirstShown ns doc n xs later result → IsFirstShown ns doc n xs states result
-    later-first y later states o result is e found rest = subst (λ l. IsFirstShown ns doc n xs l result) (sym is) (shown-later y later o result (sym e) found rest)
+    pub later-first : (y : State) (later states : List State) (m : ℕ) (result : Option State) → states ≡ y ∷ later → m ≡ state_sign y → TellsNone signs m (n + 1) (end_at ns n) true → IsFirstShown ns doc n xs later result → IsFirstShown ns doc n xs states result
+    later-first y later states m result is e t rest =
+        subst (λ l. IsFirstShown ns doc n xs l result) (sym is)
+        record { means = λ c h. rest.means c h ∙ sym (ap (λ b. cond b (Some y) (find (is_among (states_in c)) later)) (found-among y true c (rw e at t) h)) }
 
     -- nothing is live
 
@@ -223,46 +228,48 @@ module _ (ns : List Entry) (doc : Recipe) (xs : List Stage) where
     no-states [] e = refl
     no-states (x ∷ l) e = absurd (cc)
 
-    pub shows-batch : (x : State) → IsFirst ns doc n xs wanted.Live None → IsShown ns doc n xs x x
-    shows-batch x found = record {
+    shows-batch : (x : State) → TellsNone signs LIVES (n + 1) (end_at ns n) true → IsShown ns doc n xs x x
+    shows-batch x t = record {
       means = λ c h.
-          sym (ap (shown_by x) (no-states (states_in c) (ap nothing (found.means c h) ∙ no-live (numbered c n xs) ∙ ap is_empty (mapped-states c))));
+          sym (ap (shown_by x) (no-states (states_in c) (sym (told-below c h wanted.Live LIVES said-live true t) ∙ no-live (numbered c (n + 1) xs) ∙ ap is_empty (mapped-states c))));
     }
 
-    live-at : (k : ℕ) → IsFirst ns doc n xs wanted.Live (Some k) → (c : Tree) → Stands ns doc n c → IsFirstLive (numbered c n xs) k
-    live-at k found c h = first-live (numbered c n xs) (λ e m. staged c n e h m) k (found.means c h)
+    pub shows-none : (x : State) → IsNextShown signs LIVES (n + 1) None → IsShown ns doc n xs x x
+    shows-none x h = shows-batch x (tells-none signs LIVES (n + 1) (end_at ns n) h)
 
-    gravest-of : (x : State) (k : ℕ) (o : Option State) (c : Tree) → Stands ns doc n c → IsFirstShown ns doc n xs gravest_states o → (h : IsFirstLive (numbered c n xs) k)
-        → shown_by x (states_in c) ≡ elim o as (λ _. State) [ Some w ↦ w | None ↦ h.own ]
-    gravest-of x k o c s first h =
-        let e : states_in c ≡ h.own ∷ h.others = sym (mapped-states c) ∙ h.states in
-        ap (shown_by x) e ∙ gravest-is h.own h.others
-        ∙ ap (λ l. elim (find (is_among l) gravest_states) as (λ _. State) [ Some w ↦ w | None ↦ h.own ]) (sym e)
-        ∙ ap (λ z. elim z as (λ _. State) [ Some w ↦ w | None ↦ h.own ]) (sym (first.means c s))
+    pub shows-past : (x : State) (k : ℕ) → IsNextShown signs LIVES (n + 1) (Some k) → end_at ns n ≤ k → IsShown ns doc n xs x x
+    shows-past x k h le = shows-batch x (λ j a b. h.3 j a (omega (arith, b, le)))
 
-    pub shows-grave : (x y : State) (k : ℕ) → IsFirst ns doc n xs wanted.Live (Some k) → IsFirstShown ns doc n xs gravest_states (Some y) → IsShown ns doc n xs x y
-    shows-grave x y k found first = record { means = λ c h. sym (gravest-of x k (Some y) c h first (live-at k found c h)) }
+    module _ (k : ℕ) (found : IsNextShown signs LIVES (n + 1) (Some k)) (lt : k < end_at ns n) where
+      live-at : (c : Tree) → StandsBelow ns doc n c → IsFirstLive (numbered c (n + 1) xs) k
+      live-at c h =
+          first-live (numbered c (n + 1) xs) (λ e m. staged c (n + 1) e h.1 m) k
+          (below-first ns doc xs signs noted.3 noted.4 c (n + 1) h.1 wanted.Live LIVES said-live k (subst (λ z. k < z) h.0 lt) found)
 
-    live-own : (x y : State) → stage.Live x ≡ stage.Live y → x ≡ y
-    live-own x y e = cc
+      gravest-of : (x : State) (o : Option State) (c : Tree) → StandsBelow ns doc n c → IsFirstShown ns doc n xs gravest_states o → (h : IsFirstLive (numbered c (n + 1) xs) k)
+          → shown_by x (states_in c) ≡ elim o as (λ _. State) [ Some w ↦ w | None ↦ h.own ]
+      gravest-of x o c s first h =
+          let e : states_in c ≡ h.own ∷ h.others = sym (mapped-states c) ∙ h.states in
+          ap (shown_by x) e ∙ gravest-is h.own h.others
+          ∙ ap (λ l. elim (find (is_among l) gravest_states) as (λ _. State) [ Some w ↦ w | None ↦ h.own ]) (sym e)
+          ∙ ap (λ z. elim z as (λ _. State) [ Some w ↦ w | None ↦ h.own ]) (sym (first.means c s))
 
-    pub shows-own : (x y : State) (k : ℕ) → IsFirst ns doc n xs wanted.Live (Some k) → IsFirstShown ns doc n xs gravest_states None → stage_at xs k ≡ stage.Live y → IsShown ns doc n xs x y
-    shows-own x y k found first e = record {
-      means = λ c h. (let l = live-at k found c h in live-own y l.own (sym e ∙ l.staged) ∙ sym (gravest-of x k None c h first l));
-    }
+      pub shows-grave : (x y : State) → IsFirstShown ns doc n xs gravest_states (Some y) → IsShown ns doc n xs x y
+      shows-grave x y first = record { means = λ c h. sym (gravest-of x (Some y) c h first (live-at c h)) }
 
-    pub live-is : (k : ℕ) → HasTree ns doc xs n → IsFirst ns doc n xs wanted.Live (Some k) → (k < length xs) × ((y : State) × (stage_at xs k ≡ stage.Live y))
-    live-is k standing found = (let l = live-at k found standing.1.0 standing.1.1 in (subst (λ z. k < z) (sym standing.0) l.within, (l.own, l.staged)))
+      live-own : (x y : State) → stage.Live x ≡ stage.Live y → x ≡ y
+      live-own x y e = cc
+
+      pub shows-own : (x y : State) → IsFirstShown ns doc n xs gravest_states None → stage_at xs k ≡ stage.Live y → IsShown ns doc n xs x y
+      shows-own x y first e = record { means = λ c h. (let l = live-at c h in live-own y l.own (sym e ∙ l.staged) ∙ sym (gravest-of x None c h first l)) }
+
+      pub shows-never : (x : State) → ((y : State) → stage_at xs k ≡ stage.Live y → ⊥) → IsShown ns doc n xs x x
+      shows-never x never = record { means = λ c h. (let l = live-at c h in absurd (never l.own l.staged)) }
 
   -- The act at a node
 
   root-place : (t : Tree) → IsActTree t → place_at t 0 ≡ root
-  root-place (act s w) h = refl
-  root-place skip h = absurd h
-  root-place (seq ts) h = absurd h
-  root-place (par ts) h = absurd h
-  root-place (sel ch) h = absurd h
-  root-place (loop i p body) h = absurd h
+  root-place x1 x2 = grind arith
 
   some-node : (t : Tree) → 0 < node_count t
   some-node (act s w) = omega arith
@@ -284,43 +291,26 @@ module _ (ns : List Entry) (doc : Recipe) (xs : List Stage) where
 
     abbrev Looked : ℕ → List (ℕ × Rest) → Type 0
     Looked k l =
-        ((first_of (wants (wanted.At k)) l ≡ None) × (find (there (place_at t k)) (map (λ (z : ℕ × Rest). z.1) l) ≡ None))
-        ⊎ ((a : Rest) × Has l (k, a) × (first_of (wants (wanted.At k)) l ≡ Some k) × (find (there (place_at t k)) (map (λ (z : ℕ × Rest). z.1) l) ≡ Some a))
+        (((r : Rest) → Has l (k, r) → ⊥) × (find (there (place_at t k)) (map (λ (z : ℕ × Rest). z.1) l) ≡ None))
+        ⊎ ((a : Rest) × Has l (k, a) × (find (there (place_at t k)) (map (λ (z : ℕ × Rest). z.1) l) ≡ Some a))
 
-    looked : (k : ℕ) (l : List (ℕ × Rest)) → ((e : ℕ × Rest) → Has l e → (there (place_at t k) e.1 ≡ nat_eq e.0 k) × (wants (wanted.At k) e.0 e.1 ≡ nat_eq e.0 k)) → Looked k l
-    looked k [] g = inl (refl, refl)
+    looked : (k : ℕ) (l : List (ℕ × Rest)) → ((e : ℕ × Rest) → Has l e → there (place_at t k) e.1 ≡ nat_eq e.0 k) → Looked k l
+    looked k [] g = inl (λ r h. h, refl)
     looked k (e ∷ l) g = elim (eqb_tells e.0 k) [
-      | inl q ↦
-          inr (
-            e.1,
-            inl (ap₂ (λ i a. (i, a)) q.1 refl),
-            chosen-true (wants (wanted.At k) e.0 e.1) (Some e.0) (first_of (wants (wanted.At k)) l) ((g e (inl refl)).1 ∙ q.0) ∙ ap Some q.1,
-            ap (λ b. cond b (Some e.1) (find (there (place_at t k)) (map (λ (z : ℕ × Rest). z.1) l))) ((g e (inl refl)).0 ∙ q.0),
-          )
-      | inr q ↦ later q.0 (looked k l (λ d h. g d (inr h)))
+      | inl q ↦ inr (e.1, inl (ap₂ (λ i a. (i, a)) q.1 refl), ap (λ b. cond b (Some e.1) (find (there (place_at t k)) (map (λ (z : ℕ × Rest). z.1) l))) (g e (inl refl) ∙ q.0))
+      | inr q ↦ later q.1 (ap (λ b. cond b (Some e.1) (find (there (place_at t k)) (map (λ (z : ℕ × Rest). z.1) l))) (g e (inl refl) ∙ q.0)) (looked k l (λ d h. g d (inr h)))
     ]
       where
-        later : nat_eq e.0 k ≡ false → Looked k l → Looked k (e ∷ l)
-        later f (inl h) =
-            inl (
-              chosen-false (wants (wanted.At k) e.0 e.1) (Some e.0) (first_of (wants (wanted.At k)) l) ((g e (inl refl)).1 ∙ f) ∙ h.0,
-              ap (λ b. cond b (Some e.1) (find (there (place_at t k)) (map (λ (z : ℕ × Rest). z.1) l))) ((g e (inl refl)).0 ∙ f) ∙ h.1,
-            )
-        later f (inr h) =
-            inr (
-              h.0,
-              inr h.1,
-              chosen-false (wants (wanted.At k) e.0 e.1) (Some e.0) (first_of (wants (wanted.At k)) l) ((g e (inl refl)).1 ∙ f) ∙ h.2,
-              ap (λ b. cond b (Some e.1) (find (there (place_at t k)) (map (λ (z : ℕ × Rest). z.1) l))) ((g e (inl refl)).0 ∙ f) ∙ h.3,
-            )
+        later : e.0 ≢ k → find (there (place_at t k)) (map (λ (z : ℕ × Rest). z.1) (e ∷ l)) ≡ find (there (place_at t k)) (map (λ (z : ℕ × Rest). z.1) l) → Looked k l → Looked k (e ∷ l)
+        later ne f (inl h) = inl (λ r m. elim m [ inl q ↦ ne (ap (λ (z : ℕ × Rest). z.0) q) | inr q ↦ h.0 r q ], f ∙ h.1)
+        later ne f (inr h) = inr (h.0, inr h.1, f ∙ h.2)
 
-    numbered-there : (k : ℕ) → k < length ns → (e : ℕ × Rest) → Has (numbered t 0 xs) e → (there (place_at t k) e.1 ≡ nat_eq e.0 k) × (wants (wanted.At k) e.0 e.1 ≡ nat_eq e.0 k)
+    numbered-there : (k : ℕ) → k < length ns → (e : ℕ × Rest) → Has (numbered t 0 xs) e → there (place_at t k) e.1 ≡ nat_eq e.0 k
     numbered-there k lt e h =
         let g = known ns doc xs t laid e h in
-        let any : wants wanted.Any e.0 e.1 ≡ true = all-has (acts (meaning t 0 xs)) e.1 (acts-all (meaning t 0 xs)) g.among e.0 in
         let un : is_done (act_as g.step g.task (meaning_below g.task (e.0 + 1) xs) (stage_at xs e.0)) ≡ false = ap is_done (sym g.is) ∙ entry-undone ns doc t laid xs e g.among in
         let placed : place_of e.1 ≡ place_at t e.0 = ap place_of g.is ∙ act-place g.step g.task (meaning_below g.task (e.0 + 1) xs) (stage_at xs e.0) un ∙ sym g.place in
-        (ap (λ q. same_place q (place_at t k)) placed ∙ same-number e.0 k g.within lt, wants-at e.1 e.0 k any)
+        ap (λ q. same_place q (place_at t k)) placed ∙ same-number e.0 k g.within lt
 
     -- the act that a node's place finds among those that aren't reached
     step-at : (k : ℕ) → k < length ns → unreached (find (λ (s : Step). same_place s.place (place_at t k)) (steps t)) ≡ unreached (step_in (node_at t k))
@@ -379,16 +369,6 @@ module _ (ns : List Entry) (doc : Recipe) (xs : List Stage) where
               ∙ ap (λ q. elim q as (λ _. Option State) [ true ↦ Some Idle | false ↦ None ]) f
           go (inr h) = (let g = known ns doc xs t laid (k, h.0) h.1 in absurd (unfit (kind_at ns k) g.step g.task f g.fits))
 
-      -- the act isn't reached, or is finished
-      pub not-reached : k ≢ 0 → is_act_kind (kind_at ns k) ≡ true → IsFoundFirst ns doc xs (wanted.At k) None → state_in b (place_at t k) ≡ Some Idle
-      not-reached ne f found = below-root ne ∙ go now-looked
-        where
-          go : Looked k (numbered t 0 xs) → seen_by (find (there (place_at t k)) (map (λ (z : ℕ × Rest). z.1) (numbered t 0 xs))) ≡ Some Idle
-          go (inl h) =
-              ap seen_by h.1 ∙ shown-kind k (node_at t k).here (node-stands ns doc t laid k lt)
-              ∙ ap (λ q. elim q as (λ _. Option State) [ true ↦ Some Idle | false ↦ None ]) f
-          go (inr h) = absurd (let q : None ≡ Some k = found.means t laid ∙ h.2 in cc)
-
       -- the act is reached
       pub record IsReachedAct : Type 0 where
         pub step : Step
@@ -397,58 +377,58 @@ module _ (ns : List Entry) (doc : Recipe) (xs : List Stage) where
         pub some : is_done (act_as step task (meaning_below task (k + 1) xs) (stage_at xs k)) ≡ false
         pub seen : k ≢ 0 → state_in b (place_at t k) ≡ Some (act_state b.state (act_as step task (meaning_below task (k + 1) xs) (stage_at xs k)))
 
-      pub reached : (j : ℕ) → IsFoundFirst ns doc xs (wanted.At k) (Some j) → IsReachedAct
-      reached j found = go now-looked
+      found-act : (a : Rest) → Has (numbered t 0 xs) (k, a) → find (there (place_at t k)) (map (λ (z : ℕ × Rest). z.1) (numbered t 0 xs)) ≡ Some a → IsReachedAct
+      found-act a i q =
+          let g = entry-at ns doc t laid xs (k, a) i in
+          let f = known ns doc xs t laid (k, a) i in
+          record {
+            step = g.step;
+            task = g.task;
+            stands = g.stands;
+            some = ap is_done (sym g.is) ∙ entry-undone ns doc t laid xs (k, a) f.among;
+            seen = λ ne. below-root ne ∙ ap seen_by q ∙ ap (λ a. Some (act_state b.state a)) g.is;
+          }
+
+      -- an act that shows that it is one is reached
+      pub reached : (signs : List ℕ) → SomeNoted ns doc xs signs → shows IS_ACT (sign_at signs k) ≡ true → IsReachedAct
+      reached signs noted shown = go now-looked
         where
           go : Looked k (numbered t 0 xs) → IsReachedAct
-          go (inl h) = absurd (let q : Some j ≡ None = found.means t laid ∙ h.0 in cc)
-          go (inr h) =
-              let g = entry-at ns doc t laid xs (k, h.0) h.1 in
-              let f = known ns doc xs t laid (k, h.0) h.1 in
-              record {
-                step = g.step;
-                task = g.task;
-                stands = g.stands;
-                some = ap is_done (sym g.is) ∙ entry-undone ns doc t laid xs (k, h.0) f.among;
-                seen = λ ne. below-root ne ∙ ap seen_by h.3 ∙ ap (λ a. Some (act_state b.state a)) g.is;
-              }
+          go (inr h) = found-act h.0 h.1 h.2
+          go (inl h) = elim (entry-or-not (numbered t 0 xs) k) [
+            | inl q ↦ absurd (h.0 q.0 q.1)
+            | inr q ↦ absurd (let z : ◌≡◌ {A = Bool} true false = sym shown ∙ ap (shows IS_ACT) (noted-alike ns doc xs signs noted.0 t noted.1 laid noted.2 k ∙ q) ∙ nothing-shown IS_ACT in cc)
+          ]
 
-  -- what an act shows at its stage
+      -- at any other stage the act is idle, reached or not
+      pub idle : k ≢ 0 → is_act_kind (kind_at ns k) ≡ true → (stage_at xs k ≡ stage.Open → ⊥) → ((y : State) → stage_at xs k ≡ stage.Live y → ⊥) → state_in b (place_at t k) ≡ Some Idle
+      idle ne f began other = go now-looked
+        where
+          go : Looked k (numbered t 0 xs) → state_in b (place_at t k) ≡ Some Idle
+          go (inl h) =
+              below-root ne ∙ ap seen_by h.1 ∙ shown-kind k (node_at t k).here (node-stands ns doc t laid k lt)
+              ∙ ap (λ q. elim q as (λ _. Option State) [ true ↦ Some Idle | false ↦ None ]) f
+          go (inr h) = (let g = found-act h.0 h.1 h.2 in g.seen ne ∙ ap Some (shows-idle g.step g.task (meaning_below g.task (k + 1) xs) (stage_at xs k) b.state g.some began other))
 
-  shows-live : (s : Step) (w : Task) (r : Rest) (y z : State) → is_done (act_as s w r (stage.Live y)) ≡ false → act_state z (act_as s w r (stage.Live y)) ≡ y
-  shows-live s (runs p) r y z e = refl
-  shows-live s (follows name c) r y z e = absurd (cc)
-
-  shows-idle : (s : Step) (w : Task) (r : Rest) (x : Stage) (z : State) → is_done (act_as s w r x) ≡ false → (x ≡ stage.Open → ⊥) → ((y : State) → x ≡ stage.Live y → ⊥) → act_state z (act_as s w r x) ≡ Idle
-  shows-idle s w r stage.Finished z e f g = absurd (cc)
-  shows-idle s w r (stage.Ready h) z e f g = refl
-  shows-idle s w r (stage.Asking h) z e f g = refl
-  shows-idle s w r stage.Open z e f g = absurd (f refl)
-  shows-idle s w r (stage.Live y) z e f g = absurd (g y refl)
-  shows-idle s w r (stage.Freeing zero) z e f g = absurd (cc)
-  shows-idle s w r (stage.Freeing (suc h)) z e f g = refl
-  shows-idle s w r (stage.Turning h) z e f g = absurd (cc)
-
-  module _ (k : ℕ) where
+  module _ (signs : List ℕ) (noted : SomeNoted ns doc xs signs) (k : ℕ) where
     shows-open : (s : Step) (w : Task) (z : State) → Stands ns doc k (act s w) → is_done (act_as s w (meaning_below w (k + 1) xs) stage.Open) ≡ false
-        → (y : State) → IsShown ns doc (k + 1) xs z y → act_state z (act_as s w (meaning_below w (k + 1) xs) stage.Open) ≡ y
+        → (y : State) → IsShown ns doc k xs z y → act_state z (act_as s w (meaning_below w (k + 1) xs) stage.Open) ≡ y
     shows-open s (runs p) z g e y h = absurd (cc)
-    shows-open s (follows name c) z g e y h = sym (h.means c g.1)
-
-    below-stands : (s : Step) (w : Task) → Stands ns doc k (act s w) → is_done (act_as s w (meaning_below w (k + 1) xs) stage.Open) ≡ false → (c : Tree) × Stands ns doc (k + 1) c
-    below-stands s (runs p) g e = absurd (cc)
-    below-stands s (follows name c) g e = (c, g.1)
+    shows-open s (follows name c) z g e y h = sym (h.means c (omega (arith, g.0.2), g.1))
 
     abbrev At : Stage → Type 0
     At x = stage_at xs k ≡ x
 
-    pub below-standing : (o : Option ℕ) → SomeLives ns doc xs → k < length ns → is_some o ≡ true → IsFoundFirst ns doc xs (wanted.At k) o → At stage.Open → HasTree ns doc xs (k + 1)
-    below-standing None lives lt e found began = absurd (cc)
-    below-standing (Some j) lives lt e found began =
-        let r = reached lives.0 lives.1 (some_batch lives.0 Idle (meaning lives.0 0 xs)) k lt refl refl j found in (
-          omega (arith, lives.1.count, lives.2.fits),
-          below-stands r.step r.task r.stands (ap (λ z. is_done (act_as r.step r.task (meaning_below r.task (k + 1) xs) z)) (sym began) ∙ r.some),
-        )
+    -- the act at the node shows that it is one, where it runs
+    is-signed : (c : Tree) → Stands ns doc k c → IsNeat ns c k xs signs → TellsWhetherOver c k xs → is_act_kind (kind_at ns k) ≡ true → (x : Stage) → At x → IsUp x → shows IS_ACT (sign_at signs k) ≡ true
+    is-signed (act s w) h neat told e x at up =
+        ap (shows IS_ACT) (neat.shown ∙ ap (λ z. step_shows (length s.needs) w z (is_finished (stage_at xs (k + 1)))) at)
+        ∙ signed s w (meaning_below w (k + 1) xs) x (is_finished (stage_at xs (k + 1))) (ap is_finished (sym at) ∙ told.finished ∙ ap (λ z. is_done (act_as s w (meaning_below w (k + 1) xs) z)) at) up
+    is-signed skip h neat told e x at up = absurd (let q : ◌≡◌ {A = Bool} false true = sym (ap is_act_kind h.1) ∙ e in cc)
+    is-signed (seq ts) h neat told e x at up = absurd (let q : ◌≡◌ {A = Bool} false true = sym (ap is_act_kind h.0.1) ∙ e in cc)
+    is-signed (par ts) h neat told e x at up = absurd (let q : ◌≡◌ {A = Bool} false true = sym (ap is_act_kind h.0.1) ∙ e in cc)
+    is-signed (sel ch) h neat told e x at up = absurd (let q : ◌≡◌ {A = Bool} false true = sym (ap is_act_kind h.1.1) ∙ e in cc)
+    is-signed (loop i p body) h neat told e x at up = absurd (let q : ◌≡◌ {A = Bool} false true = sym (ap is_act_kind h.1.1) ∙ e in cc)
 
     -- the whole answer, at the root and below it
     module _ (x : State) where
@@ -470,42 +450,32 @@ module _ (ns : List Entry) (doc : Recipe) (xs : List Stage) where
         pub state-none : false ≡ is_act_kind (kind_at ns k) → IsStateAt ns doc xs k x None
         state-none e = record { means = λ t b laid alive m f g r. sym (no-act t laid b k lt f r ne (sym e)); past = λ t laid m. refl }
 
-        pub state-idle : (o : Option ℕ) → is_some o ≡ false → true ≡ is_act_kind (kind_at ns k) → IsFoundFirst ns doc xs (wanted.At k) o → IsStateAt ns doc xs k x (Some Idle)
-        state-idle (Some j) e f found = absurd (cc)
-        state-idle None e f found = record {
-          means = λ t b laid alive m h g r. sym (not-reached t laid b k lt h r ne (sym f) found);
-          past = only-within (Some Idle) lt;
-        }
+        module _ (is : true ≡ is_act_kind (kind_at ns k)) where
+          up : (y : Stage) → At y → IsUp y → (t : Tree) (laid : IsLaid ns doc t) (b : Batch) (f : b.recipe.procedure ≡ t) (r : b.rest ≡ meaning t 0 xs) → IsReachedAct t laid b k lt f r
+          up y at u t laid b f r =
+              let s = node-stands ns doc t laid k lt in
+              reached t laid b k lt f r signs noted (is-signed (node_at t k).here s (noted.4 k (node_at t k).here (omega arith) lt s) (noted.3 k (node_at t k).here (omega arith) lt s) (sym is) y at u)
 
-        pub state-live : (o : Option ℕ) (y : State) → is_some o ≡ true → IsFoundFirst ns doc xs (wanted.At k) o → At (stage.Live y) → IsStateAt ns doc xs k x (Some y)
-        state-live None y e found stays = absurd (cc)
-        state-live (Some j) y e found stays = record {
-          means = λ t b laid alive m f g r.
-              (let h = reached t laid b k lt f r j found in
-              sym (h.seen ne ∙ ap (λ z. Some (act_state b.state (act_as h.step h.task (meaning_below h.task (k + 1) xs) z))) stays
-              ∙ ap Some (shows-live h.step h.task (meaning_below h.task (k + 1) xs) y b.state (ap (λ z. is_done (act_as h.step h.task (meaning_below h.task (k + 1) xs) z)) (sym stays) ∙ h.some))));
-          past = only-within (Some y) lt;
-        }
+          pub state-live : (y : State) → At (stage.Live y) → IsStateAt ns doc xs k x (Some y)
+          state-live y stays = record {
+            means = λ t b laid alive m f g r.
+                (let h = up (stage.Live y) stays tt t laid b f r in
+                sym (h.seen ne ∙ ap (λ z. Some (act_state b.state (act_as h.step h.task (meaning_below h.task (k + 1) xs) z))) stays
+                ∙ ap Some (shows-live h.step h.task (meaning_below h.task (k + 1) xs) y b.state (ap (λ z. is_done (act_as h.step h.task (meaning_below h.task (k + 1) xs) z)) (sym stays) ∙ h.some))));
+            past = only-within (Some y) lt;
+          }
 
-        pub state-open : (o : Option ℕ) (y : State) → is_some o ≡ true → IsFoundFirst ns doc xs (wanted.At k) o → At stage.Open → IsShown ns doc (k + 1) xs x y → IsStateAt ns doc xs k x (Some y)
-        state-open None y e found began shown = absurd (cc)
-        state-open (Some j) y e found began shown = record {
-          means = λ t b laid alive m f g r.
-              (let h = reached t laid b k lt f r j found in
-              sym (h.seen ne ∙ ap₂ (λ v z. Some (act_state v (act_as h.step h.task (meaning_below h.task (k + 1) xs) z))) g began
-              ∙ ap Some (shows-open h.step h.task x h.stands (ap (λ z. is_done (act_as h.step h.task (meaning_below h.task (k + 1) xs) z)) (sym began) ∙ h.some) y shown)));
-          past = only-within (Some y) lt;
-        }
+          pub state-open : (y : State) → At stage.Open → IsShown ns doc k xs x y → IsStateAt ns doc xs k x (Some y)
+          state-open y began shown = record {
+            means = λ t b laid alive m f g r.
+                (let h = up stage.Open began tt t laid b f r in
+                sym (h.seen ne ∙ ap₂ (λ v z. Some (act_state v (act_as h.step h.task (meaning_below h.task (k + 1) xs) z))) g began
+                ∙ ap Some (shows-open h.step h.task x h.stands (ap (λ z. is_done (act_as h.step h.task (meaning_below h.task (k + 1) xs) z)) (sym began) ∙ h.some) y shown)));
+            past = only-within (Some y) lt;
+          }
 
-        pub state-else : (o : Option ℕ) → is_some o ≡ true → IsFoundFirst ns doc xs (wanted.At k) o → (At stage.Open → ⊥) → ((y : State) → At (stage.Live y) → ⊥) → IsStateAt ns doc xs k x (Some Idle)
-        state-else None e found began other = absurd (cc)
-        state-else (Some j) e found began other = record {
-          means = λ t b laid alive m f g r.
-              (let h = reached t laid b k lt f r j found in
-              sym (h.seen ne ∙ ap Some (shows-idle h.step h.task (meaning_below h.task (k + 1) xs) (stage_at xs k) b.state h.some began other)));
-          past = only-within (Some Idle) lt;
-        }
-
-  -- of what is live, the states
-  pub shows-never : (n j : ℕ) (y : State) → HasTree ns doc xs n → IsFirst ns doc n xs wanted.Live (Some j) → ((y : State) → stage_at xs j ≡ stage.Live y → ⊥) → IsShown ns doc n xs y y
-  shows-never n j y standing found never = (let h = live-is n j standing found in absurd (never h.1.0 h.1.1))
+          pub state-idle : (At stage.Open → ⊥) → ((y : State) → At (stage.Live y) → ⊥) → IsStateAt ns doc xs k x (Some Idle)
+          state-idle began other = record {
+            means = λ t b laid alive m f g r. sym (idle t laid b k lt f r ne (sym is) began other);
+            past = only-within (Some Idle) lt;
+          }

@@ -38,32 +38,13 @@ IsPlain (Freeing i) = ⊤
 IsPlain x = ⊥
 
 plain-left : (x : Stage) → IsPlain x → is_finished x ≡ false
-plain-left (Ready i) h = refl
-plain-left (Asking i) h = refl
-plain-left (Live y) h = refl
-plain-left (Freeing i) h = refl
-plain-left Open h = absurd h
-plain-left Finished h = absurd h
-plain-left (Turning i) h = absurd h
+plain-left x1 x2 = grind arith
 
 plain-begun : (x : Stage) → IsPlain x → is_begun x ≡ false
-plain-begun (Ready i) h = refl
-plain-begun (Asking i) h = refl
-plain-begun (Live y) h = refl
-plain-begun (Freeing i) h = refl
-plain-begun Open h = absurd h
-plain-begun Finished h = absurd h
-plain-begun (Turning i) h = absurd h
+plain-begun x1 x2 = grind arith
 
 plain-shows : (needs : ℕ) (w : Task) (x : Stage) (b : Bool) → IsPlain x → stage_signs needs x ≡ step_shows needs w x b
-plain-shows needs (runs p) x b h = refl
-plain-shows needs (follows name c) (Ready i) b h = refl
-plain-shows needs (follows name c) (Asking i) b h = refl
-plain-shows needs (follows name c) (Live y) b h = refl
-plain-shows needs (follows name c) (Freeing i) b h = refl
-plain-shows needs (follows name c) Open b h = absurd h
-plain-shows needs (follows name c) Finished b h = absurd h
-plain-shows needs (follows name c) (Turning i) b h = absurd h
+plain-shows x1 x2 x3 x4 x5 = grind arith
 
 pub fits-count : (κ : Kind) (s : Step) (w : Task) → Fits κ s w → length s.needs ≡ needs_of κ
 fits-count (kind.Phase j d) s (runs p) f = f
@@ -141,13 +122,7 @@ module _ (ns : List Entry) (doc : Recipe) (xs ys : List Stage) (old new : List �
   }
 
   more-acting : (κ : Kind) (i : ℕ) → HasMore κ i → is_act_kind κ ≡ true
-  more-acting (kind.Phase j d) i h = refl
-  more-acting (Act j) i h = refl
-  more-acting Skip i h = absurd h
-  more-acting Seq i h = absurd h
-  more-acting Par i h = absurd h
-  more-acting (Sel d) i h = absurd h
-  more-acting (Loop j d) i h = absurd h
+  more-acting x1 x2 x3 = grind arith
 
   at-node : (n k : ℕ) (v : Stage) → n ≡ k → HasCome ns n v xs ys old new → HasCome ns k v xs ys old new
   at-node n k v e h = subst (λ z. HasCome ns z v xs ys old new) e h

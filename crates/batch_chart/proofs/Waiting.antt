@@ -18,7 +18,7 @@ use Rattle.batch_recipe.specs.declared.entry.Entry.{Entry}
 use Rattle.batch_recipe.specs.declared.recipe.Recipe.{Recipe}
 use Rattle.batch_chart.specs.declared.stage.Stage.{Stage}
 use Rattle.batch_chart.specs.declared.stage.Stage.TheVariants as stage
-use Rattle.batch_chart.specs.declared.wanted.Wanted.TheVariants as wanted
+use Rattle.batch_chart.specs.Finding as wanted
 use Rattle.batch_chart.specs.Stages.{stage_at}
 use Rattle.batch_chart.specs.Meaning.{meaning, meaning_below, act_as}
 use Rattle.batch_chart.specs.Outlined.{kind_at, is_act_kind}
@@ -126,7 +126,7 @@ module _ (ns : List Entry) (doc : Recipe) (xs : List Stage) (t : Tree) (laid : I
   asks-here : (k i : ℕ) → AsksAt t (meaning t 0 xs) k i → Has (numbered t 0 xs) (k, asking (step_at t k) (task_at t k) i)
   asks-here k i h = number-at-place ns doc t laid xs k (asking (step_at t k) (task_at t k) i) (omega (arith, laid.count, h.0)) h.2 (own-place k i h.0 h.1)
 
-  before-none : (from k : ℕ) → IsFoundFirst ns doc xs (wanted.Waiting from) (Some k) → (j i : ℕ) → from ≤ j → j < k → AsksAt t (meaning t 0 xs) j i → ⊥
+  before-none : (from k : ℕ) → IsFoundFirst ns doc xs (wants (wanted.Waiting from)) (Some k) → (j i : ℕ) → from ≤ j → j < k → AsksAt t (meaning t 0 xs) j i → ⊥
   before-none from k found j i f l h =
       let entry : ℕ × Rest = (j, asking (step_at t j) (task_at t j) i) in
       let m = passes-first (wants (wanted.Waiting from)) (numbered t 0 xs) k
@@ -148,7 +148,7 @@ module _ (ns : List Entry) (doc : Recipe) (xs : List Stage) (t : Tree) (laid : I
           let d : true ≡ false = sym (subst (λ q. is_before q (place_at t j) ≡ true) placed s) ∙ before-asym (place_at t j) (place_at t k) order in
           cc
 
-  after-none : (from : ℕ) → IsFoundFirst ns doc xs (wanted.Waiting from) None → (j i : ℕ) → from ≤ j → AsksAt t (meaning t 0 xs) j i → ⊥
+  after-none : (from : ℕ) → IsFoundFirst ns doc xs (wants (wanted.Waiting from)) None → (j i : ℕ) → from ≤ j → AsksAt t (meaning t 0 xs) j i → ⊥
   after-none from found j i f h =
       none-passes (wants (wanted.Waiting from)) (numbered t 0 xs) (found.means t laid) (j, asking (step_at t j) (task_at t j) i) (asks-here j i h) (wants-it from j i (length (step_at t j).needs) f h.1)
 
@@ -160,26 +160,12 @@ module _ (ns : List Entry) (doc : Recipe) (xs : List Stage) (t : Tree) (laid : I
 
   sees : (from n : ℕ) (s : Step) (w : Task) (r : Rest) (y : Stage) → wants (wanted.Waiting from) n (act_as s w r y) ≡ true → Sees from n s w y
   sees from n s w r (stage.Asking i) e = (i, refl, (both from n i (length s.needs) e).0, (both from n i (length s.needs) e).1)
-  sees from n s w r stage.Finished e = absurd (cc)
-  sees from n s w r (stage.Ready h) e = absurd (cc)
-  sees from n s (runs p) r stage.Open e = absurd (cc)
-  sees from n s (follows name c) r stage.Open e = absurd (cc)
-  sees from n s (runs p) r (stage.Live x) e = absurd (cc)
-  sees from n s (follows name c) r (stage.Live x) e = absurd (cc)
-  sees from n s w r (stage.Freeing zero) e = absurd (cc)
-  sees from n s w r (stage.Freeing (suc h)) e = absurd (cc)
-  sees from n s w r (stage.Turning h) e = absurd (cc)
+  sees x1 x2 x3 x4 x5 x6 x7 = absurd (grind arith)
 
   fits-act : (κ : Kind) (s : Step) (w : Task) → Fits κ s w → (is_act_kind κ ≡ true) × (length s.needs ≡ needs_of κ)
   fits-act (kind.Phase j d) s (runs p) h = (refl, h)
   fits-act (kind.Act j) s (follows name c) h = (refl, h)
-  fits-act (kind.Phase j d) s (follows name c) h = absurd h
-  fits-act (kind.Act j) s (runs p) h = absurd h
-  fits-act kind.Skip s w h = absurd h
-  fits-act kind.Seq s w h = absurd h
-  fits-act kind.Par s w h = absurd h
-  fits-act (kind.Sel d) s w h = absurd h
-  fits-act (kind.Loop j d) s w h = absurd h
+  fits-act x1 x2 x3 x4 = absurd (grind arith)
 
   record Found (from k : ℕ) : Type 0 where
     pub need : ℕ
@@ -188,7 +174,7 @@ module _ (ns : List Entry) (doc : Recipe) (xs : List Stage) (t : Tree) (laid : I
     pub asks : AsksAt t (meaning t 0 xs) k need
     pub waits : IsAskingAt ns xs k
 
-  found-at : (from k : ℕ) → IsFoundFirst ns doc xs (wanted.Waiting from) (Some k) → Found from k
+  found-at : (from k : ℕ) → IsFoundFirst ns doc xs (wants (wanted.Waiting from)) (Some k) → Found from k
   found-at from k found =
       let m = first-has (wants (wanted.Waiting from)) (numbered t 0 xs) k (found.means t laid) in
       go m.0 m.1 m.2 m.3
@@ -212,7 +198,7 @@ module _ (ns : List Entry) (doc : Recipe) (xs : List Stage) (t : Tree) (laid : I
           }
 
 module _ (ns : List Entry) (doc : Recipe) (xs : List Stage) (from : ℕ) (lives : SomeLives ns doc xs) where
-  pub waiting-some : (k n i : ℕ) → IsFoundFirst ns doc xs (wanted.Waiting from) (Some k) → n ≡ k → stage_at xs n ≡ stage.Asking i → IsFirstWaiting ns doc xs from (Some (k, i))
+  pub waiting-some : (k n i : ℕ) → IsFoundFirst ns doc xs (wants (wanted.Waiting from)) (Some k) → n ≡ k → stage_at xs n ≡ stage.Asking i → IsFirstWaiting ns doc xs from (Some (k, i))
   waiting-some k n i found same was =
       let f = found-at ns doc xs lives.0 lives.1 lives.2 from k found in
       record {
@@ -229,9 +215,9 @@ module _ (ns : List Entry) (doc : Recipe) (xs : List Stage) (from : ℕ) (lives 
         small = omega (arith, f.asks.0, lives.1.small);
       }
 
-  pub waiting-none : IsFoundFirst ns doc xs (wanted.Waiting from) None → IsFirstWaiting ns doc xs from None
+  pub waiting-none : IsFoundFirst ns doc xs (wants (wanted.Waiting from)) None → IsFirstWaiting ns doc xs from None
   waiting-none found =
       record { some = tt; before = tt; none = λ e t laid alive j i a h. after-none ns doc xs t laid alive from found j i a h; waits = tt; small = tt }
 
-  pub waiting-never : (k n : ℕ) → IsFoundFirst ns doc xs (wanted.Waiting from) (Some k) → n ≡ k → ((i : ℕ) → stage_at xs n ≡ stage.Asking i → ⊥) → ⊥
+  pub waiting-never : (k n : ℕ) → IsFoundFirst ns doc xs (wants (wanted.Waiting from)) (Some k) → n ≡ k → ((i : ℕ) → stage_at xs n ≡ stage.Asking i → ⊥) → ⊥
   waiting-never k n found same never = (let f = found-at ns doc xs lives.0 lives.1 lives.2 from k found in never f.need (ap (stage_at xs) same ∙ f.is))

@@ -22,12 +22,7 @@ use Rattle.batch_chart.proofs.Started.{IsSoFar, keeps, finished-again, begun-aga
 -- an act in line that is ready again shows just that
 
 readied-flags : (a b h : Bool) → b ≡ not a → readied (bit_or (bit_or IS_ACT (flag a WAITS)) (flag h HOLDS)) ≡ bit_or (bit_or (bit_or IS_ACT (flag a LACKS)) (flag b FITS)) (flag h HOLDS)
-readied-flags true false true e = refl
-readied-flags true false false e = refl
-readied-flags false true true e = refl
-readied-flags false true false e = refl
-readied-flags true true h e = absurd (cc)
-readied-flags false false h e = absurd (cc)
+readied-flags x1 x2 x3 x4 = grind arith
 
 lacks-or-fits : (k needs : ℕ) → nat_le needs k ≡ not (nat_lt k needs)
 lacks-or-fits k needs = elim (cases_lt k needs) [ inl lt ↦ grind (arith, nat_tests) | inr le ↦ grind (arith, nat_tests) ]
@@ -36,10 +31,7 @@ readied-asking : (needs k : ℕ) → readied (asking_signs needs k) ≡ ready_si
 readied-asking needs k = readied-flags (nat_lt k needs) (nat_le needs k) (nat_lt 0 k && nat_lt 0 needs) (lacks-or-fits k needs)
 
 some-sign : (a h : Bool) → nat_eq (bit_or (bit_or IS_ACT (flag a WAITS)) (flag h HOLDS)) 0 ≡ false
-some-sign true true = refl
-some-sign true false = refl
-some-sign false true = refl
-some-sign false false = refl
+some-sign x1 x2 = grind arith
 
 waits-then : (needs k : ℕ) → withdrawn_sign (Asking k) (asking_signs needs k) ≡ ready_signs needs k
 waits-then needs k =

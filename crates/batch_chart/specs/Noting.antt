@@ -1,5 +1,5 @@
 -- surface: what acts show, and the acts of a chart noted by it.
-use Rattle.std.specs.Prelude.{◌≡◌, ℕ, List, [], ◌∷◌, length, Bool, true, false, ◌&&◌, Option, Some, None, nat_lt, nat_le, nat_eq, slice_set}
+use Rattle.std.specs.Prelude.{◌≡◌, ℕ, List, [], ◌∷◌, length, Bool, true, false, ◌&&◌, nat_lt, nat_le, nat_eq, slice_set}
 use Rattle.std.specs.Int.Bits.{bit_and, bit_or, bit_xor}
 use Rattle.batch_matrix.specs.declared.command.Command.{Command}
 use Rattle.batch_matrix.specs.declared.command.Command.TheVariants.{Start, Pause, Resume, Hold, Restart, Stop, Abort, Reset}
@@ -12,14 +12,15 @@ use Rattle.batch_model.specs.Moves.{is_empty}
 use Rattle.batch_recipe.specs.declared.entry.Entry.{Entry}
 use Rattle.batch_chart.specs.declared.stage.Stage.{Stage}
 use Rattle.batch_chart.specs.declared.stage.Stage.TheVariants as stage
-use Rattle.batch_chart.specs.declared.wanted.Wanted.{Wanted}
-use Rattle.batch_chart.specs.declared.wanted.Wanted.TheVariants.{Any, Holding, Live, NotIn, Accepting, Freeing, Ending, Entering, Asking, Waiting}
-use Rattle.batch_chart.specs.declared.sign.TheConstants.{LACKS, FITS, WAITS, IS_OVER, FREES, HOLDS, IS_ACT, IDLE, RUNNING, PAUSING, PAUSED, HOLDING, HELD, RESTARTING, STOPPING, STOPPED, ABORTING, ABORTED, COMPLETE, LIVES, NOT_RUNNING, NOT_PAUSED, NOT_HELD, CAN_HOLD, CAN_STOP, CAN_ABORT, CAN_RESET}
-use Rattle.batch_chart.specs.Finding.{gives}
+use Rattle.batch_chart.specs.declared.sign.TheConstants.{LACKS, FITS, WAITS, IS_OVER, FREES, HOLDS, IS_ACT, IDLE, RUNNING, PAUSING, PAUSED, HOLDING, HELD, RESTARTING, STOPPING, STOPPED, ABORTING, ABORTED, COMPLETE, LIVES, CAN_HOLD, CAN_STOP, CAN_ABORT, CAN_RESET}
 use Rattle.batch_chart.specs.Signs.{sign_at}
 use Rattle.batch_chart.specs.Outlined.{kind_at}
 use Rattle.batch_chart.specs.Needs.{needs_of}
 use Rattle.batch_chart.specs.Numbered.{numbered}
+
+-- one of the first k needs can be given back
+abbrev pub gives : ℕ → ℕ → Bool
+gives needs k = nat_lt 0 k && nat_le k needs
 
 abbrev pub flag : Bool → ℕ → ℕ
 flag true sign = sign
@@ -38,6 +39,10 @@ state_sign state.Stopped = STOPPED
 state_sign state.Aborting = ABORTING
 state_sign state.Aborted = ABORTED
 state_sign state.Complete = COMPLETE
+
+-- those of all other states
+abbrev pub but : State → ℕ
+but x = bit_xor LIVES (state_sign x)
 
 abbrev pub ready_signs : ℕ → ℕ → ℕ
 ready_signs needs k = bit_or (bit_or (bit_or IS_ACT (flag (nat_lt k needs) LACKS)) (flag (nat_le needs k) FITS)) (flag (nat_lt 0 k && nat_lt 0 needs) HOLDS)
@@ -84,22 +89,6 @@ accepting Restart = HELD
 accepting Stop = CAN_STOP
 accepting Abort = CAN_ABORT
 accepting Reset = CAN_RESET
-
--- of which signs one is looked for, and from which node on
-abbrev pub sought : Wanted → Option (ℕ × ℕ)
-sought Any = Some (IS_ACT, 0)
-sought Holding = Some (HOLDS, 0)
-sought Live = Some (LIVES, 0)
-sought (NotIn state.Running) = Some (NOT_RUNNING, 0)
-sought (NotIn state.Paused) = Some (NOT_PAUSED, 0)
-sought (NotIn state.Held) = Some (NOT_HELD, 0)
-sought (Accepting c) = Some (accepting c, 0)
-sought Freeing = Some (FREES, 0)
-sought Ending = Some (IS_OVER, 0)
-sought Entering = Some (bit_or IS_OVER FITS, 0)
-sought Asking = Some (LACKS, 0)
-sought (Waiting from) = Some (WAITS, from)
-sought _ = None
 
 -- the signs that the last of these acts with number k shows, where there is one
 abbrev pub sign_in : ℕ → List (ℕ × Rest) → ℕ → ℕ

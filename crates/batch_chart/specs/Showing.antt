@@ -1,5 +1,5 @@
 -- private: the states that acts show.
-use Rattle.std.specs.Prelude.{◌≡◌, ◌<◌, ◌≤◌, ℕ, List, [], ◌∷◌, Bool, Option, None, find}
+use Rattle.std.specs.Prelude.{◌≡◌, ◌<◌, ◌≤◌, ◌+◌, ℕ, List, [], ◌∷◌, Bool, Option, None, find}
 use Rattle.std.specs.List.{list_any}
 use Rattle.batch_matrix.specs.declared.state.State.{State}
 use Rattle.batch_matrix.specs.Matrix.{same_state}
@@ -11,7 +11,7 @@ use Rattle.batch_model.specs.ActStates.{gravest, state_in}
 use Rattle.batch_recipe.specs.declared.entry.Entry.{Entry}
 use Rattle.batch_recipe.specs.declared.recipe.Recipe.{Recipe}
 use Rattle.batch_chart.specs.declared.stage.Stage.{Stage}
-use Rattle.batch_chart.specs.Outlined.{Stands}
+use Rattle.batch_chart.specs.Outlined.{Stands, end_at}
 use Rattle.batch_chart.specs.Meaning.{meaning}
 use Rattle.batch_chart.specs.NodesOf.{place_at}
 use Rattle.batch_chart.specs.Running.{IsLaid, IsAlive}
@@ -24,13 +24,17 @@ shown_by batch states = elim states [ [] ↦ batch | x ∷ xs ↦ gravest x xs ]
 abbrev pub is_among : List State → State → Bool
 is_among states x = list_any (λ y. same_state y x) states
 
--- the first of the wanted states that a live phase of the chart at n has
-pub record IsFirstShown (ns : List Entry) (doc : Recipe) (n : ℕ) (xs : List Stage) (wanted : List State) (result : Option State) : Type 0 where
-  pub means : (c : Tree) → Stands ns doc n c → result ≡ find (is_among (phase_states (acts (meaning c n xs)))) wanted
+-- the tree below the act at node n
+abbrev pub StandsBelow : List Entry → Recipe → ℕ → Tree → Type 0
+StandsBelow ns doc n c = (end_at ns n ≡ n + 1 + node_count c) × Stands ns doc (n + 1) c
 
--- an open act above the chart at n shows this state
+-- the first of the wanted states that a live phase below the act at node n has
+pub record IsFirstShown (ns : List Entry) (doc : Recipe) (n : ℕ) (xs : List Stage) (wanted : List State) (result : Option State) : Type 0 where
+  pub means : (c : Tree) → StandsBelow ns doc n c → result ≡ find (is_among (phase_states (acts (meaning c (n + 1) xs)))) wanted
+
+-- an open act at node n shows this state
 pub record IsShown (ns : List Entry) (doc : Recipe) (n : ℕ) (xs : List Stage) (batch x : State) : Type 0 where
-  pub means : (c : Tree) → Stands ns doc n c → x ≡ shown_by batch (phase_states (acts (meaning c n xs)))
+  pub means : (c : Tree) → StandsBelow ns doc n c → x ≡ shown_by batch (phase_states (acts (meaning c (n + 1) xs)))
 
 -- the act at node k shows this state, in a batch of the state; None where no act is there
 pub record IsStateAt (ns : List Entry) (doc : Recipe) (xs : List Stage) (k : ℕ) (batch : State) (result : Option State) : Type 0 where

@@ -1,16 +1,14 @@
 //! The states that acts show.
-ghost use Rattle.std.specs.Prelude.{◌≡◌};
-ghost use Rattle.batch_chart.specs.Outlined.{HasTree, is_act_kind};
+ghost use Rattle.std.specs.Prelude.{◌≡◌, ◌<◌, length};
+ghost use Rattle.batch_chart.specs.Outlined.{is_act_kind};
 ghost use Rattle.batch_chart.specs.Nexts.{SomeNoted};
 ghost use Rattle.batch_chart.specs.Running.{SomeLives};
 ghost use Rattle.batch_chart.specs.Showing.{IsFirstShown, IsShown, IsStateAt};
 
-use crate::finding::first;
-use crate::next_moves::find;
 use crate::node::{Kind, kind_of};
+use crate::sign::{LIVES, of_state};
 use crate::signs::Signs;
 use crate::stage::Stage;
-use crate::wanted::Wanted;
 use batch_matrix::State;
 use batch_recipe::{Entry, Recipe};
 
@@ -26,42 +24,56 @@ const GRAVEST: [State; 8] = [
     State::Running,
 ];
 
-/// The first of the states that a live phase of the chart at n has.
+/// The first of the states that a live phase below the act at n has.
 fn first_shown(
     nodes: &[Entry],
     recipe: &Recipe,
     stages: &[Stage],
+    signs: &Signs,
     n: usize,
     states: &[State],
 ) -> Option<State>
-    requires { HasTree nodes.now recipe.now stages.now n }
+    requires node { n < length nodes.now }
+    requires noted { SomeNoted nodes.now recipe.now stages.now signs.now }
     ensures { IsFirstShown nodes.now recipe.now n stages.now states.now result }
 {
     match states.split_first() {
         None => None,
         Some((state, later)) => {
-            if first(nodes, recipe, stages, Wanted::In(*state), n).is_some() {
-                Some(*state)
+            if signs.has_none(of_state(*state), n + 1, nodes[n].end as usize) {
+                first_shown(nodes, recipe, stages, signs, n, later)
             } else {
-                first_shown(nodes, recipe, stages, n, later)
+                Some(*state)
             }
         }
     }
 }
 
-/// The state that an open act above the chart at n shows, in a batch of this state.
-fn shown(nodes: &[Entry], recipe: &Recipe, stages: &[Stage], n: usize, state: State) -> State
-    requires { HasTree nodes.now recipe.now stages.now n }
+/// The state that an open act at n shows, in a batch of this state.
+fn shown(
+    nodes: &[Entry],
+    recipe: &Recipe,
+    stages: &[Stage],
+    signs: &Signs,
+    n: usize,
+    state: State,
+) -> State
+    requires node { n < length nodes.now }
+    requires fits { length stages.now ≡ length nodes.now }
+    requires noted { SomeNoted nodes.now recipe.now stages.now signs.now }
     ensures { IsShown nodes.now recipe.now n stages.now state result }
 {
-    match first(nodes, recipe, stages, Wanted::Live, n) {
-        None => state,
-        Some(live) => match first_shown(nodes, recipe, stages, n, &GRAVEST) {
-            Some(gravest) => gravest,
-            None => match stages[live] {
-                Stage::Live(own) => own,
-                _ => state,
-            },
+    let Some(live) = signs.next(LIVES, n + 1) else {
+        return state;
+    };
+    if nodes[n].end as usize <= live {
+        return state;
+    }
+    match first_shown(nodes, recipe, stages, signs, n, &GRAVEST) {
+        Some(gravest) => gravest,
+        None => match stages[live] {
+            Stage::Live(own) => own,
+            _ => state,
         },
     }
 }
@@ -98,12 +110,9 @@ pub fn state_at(
     if !is_act(kind_of(&nodes[n])) {
         return None;
     }
-    if find(nodes, recipe, stages, signs, Wanted::At(n)).is_none() {
-        return Some(State::Idle);
-    }
     match stages[n] {
         Stage::Live(own) => Some(own),
-        Stage::Open => Some(shown(nodes, recipe, stages, n + 1, state)),
+        Stage::Open => Some(shown(nodes, recipe, stages, signs, n, state)),
         _ => Some(State::Idle),
     }
 }

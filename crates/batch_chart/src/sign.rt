@@ -1,25 +1,24 @@
 //! The signs by which acts are found, each a bit of a word.
 ghost use Rattle.std.specs.Prelude.{◌≡◌};
-ghost use Rattle.batch_chart.specs.Noting.{accepting, asking_signs, flag, freeing_signs, live_signs, open_signs, readied, ready_signs, sought, stage_signs, state_sign};
+ghost use Rattle.batch_chart.specs.Noting.{accepting, asking_signs, but, flag, freeing_signs, gives, live_signs, open_signs, readied, ready_signs, stage_signs, state_sign};
 
 use crate::stage::Stage;
-use crate::wanted::Wanted;
 use batch_matrix::{Command, State};
 
 /// A ready act lacks a need.
-const LACKS: u32 = 1;
+pub const LACKS: u32 = 1;
 
 /// A ready act lacks none.
-const FITS: u32 = 2;
+pub const FITS: u32 = 2;
 
 /// An act stands in line.
-const WAITS: u32 = 4;
+pub const WAITS: u32 = 4;
 
 /// Nothing is left of the chart that an act follows.
-const IS_OVER: u32 = 8;
+pub const IS_OVER: u32 = 8;
 
 /// An act that has ended can give back a need.
-const FREES: u32 = 16;
+pub const FREES: u32 = 16;
 
 pub const HOLDS: u32 = 32;
 
@@ -53,12 +52,6 @@ const COMPLETE: u32 = 262_144;
 /// The signs of all states.
 pub const LIVES: u32 = CAN_ABORT | CAN_RESET | IDLE | ABORTING;
 
-const NOT_RUNNING: u32 = LIVES - RUNNING;
-
-const NOT_PAUSED: u32 = LIVES - PAUSED;
-
-const NOT_HELD: u32 = LIVES - HELD;
-
 // The states that accept a command of several.
 
 const CAN_HOLD: u32 = RUNNING | PAUSING | PAUSED | RESTARTING;
@@ -69,6 +62,13 @@ const CAN_ABORT: u32 = CAN_STOP | STOPPING | STOPPED;
 
 const CAN_RESET: u32 = STOPPED | ABORTED | COMPLETE;
 
+/// One of the needs that are held can be given back.
+pub fn gives(needs: u16, held: u16) -> bool
+    ensures { result ≡ gives needs held }
+{
+    0 < held && held <= needs
+}
+
 fn flag(shown: bool, sign: u32) -> u32
     ensures { result ≡ flag shown sign }
 {
@@ -76,7 +76,7 @@ fn flag(shown: bool, sign: u32) -> u32
 }
 
 /// The sign of a live phase in this state.
-fn of_state(state: State) -> u32
+pub fn of_state(state: State) -> u32
     ensures { result ≡ state_sign state }
 {
     match state {
@@ -93,6 +93,13 @@ fn of_state(state: State) -> u32
         State::Aborted => ABORTED,
         State::Complete => COMPLETE,
     }
+}
+
+/// The signs of all other states.
+pub fn but(state: State) -> u32
+    ensures { result ≡ but state }
+{
+    LIVES ^ of_state(state)
 }
 
 /// What an act with so many needs shows that is ready and holds so many of them.
@@ -155,7 +162,7 @@ pub fn readied(signs: u32) -> u32
 }
 
 /// The signs of the states that accept the command.
-fn accepting(command: Command) -> u32
+pub fn accepting(command: Command) -> u32
     ensures { result ≡ accepting command }
 {
     match command {
@@ -167,28 +174,5 @@ fn accepting(command: Command) -> u32
         Command::Stop => CAN_STOP,
         Command::Abort => CAN_ABORT,
         Command::Reset => CAN_RESET,
-    }
-}
-
-/// The signs of which an act that is wanted shows one, and the node from which on it stands. None where signs don't tell.
-#[inline(always)]
-pub fn sought(wanted: Wanted<'_>) -> Option<(u32, usize)>
-    ensures { result ≡ sought wanted.entry }
-{
-    match wanted {
-        Wanted::Any => Some((IS_ACT, 0)),
-        Wanted::Holding => Some((HOLDS, 0)),
-        Wanted::Live => Some((LIVES, 0)),
-        Wanted::NotIn(State::Running) => Some((NOT_RUNNING, 0)),
-        Wanted::NotIn(State::Paused) => Some((NOT_PAUSED, 0)),
-        Wanted::NotIn(State::Held) => Some((NOT_HELD, 0)),
-        Wanted::Accepting(command) => Some((accepting(command), 0)),
-        Wanted::Freeing => Some((FREES, 0)),
-        Wanted::Ending => Some((IS_OVER, 0)),
-        Wanted::Entering => Some((IS_OVER | FITS, 0)),
-        Wanted::Asking => Some((LACKS, 0)),
-        Wanted::Waiting(from) => Some((WAITS, from)),
-        Wanted::NotIn(_) | Wanted::At(_) | Wanted::In(_) | Wanted::Named(..) | Wanted::Releasing =>
-            None,
     }
 }

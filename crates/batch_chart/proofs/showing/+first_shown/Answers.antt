@@ -1,8 +1,11 @@
-use Rattle.batch_chart.proofs.ShownStates.{here-first, later-first}
+use Rattle.batch_chart.proofs.ShownStates.{shown-none, here-first, later-first}
 use Rattle.batch_chart.proofs.showing.+first_shown.Goals as goal
 
-pub returns-then-is_some : goal.returns-then-is_some
-returns-then-is_some t c = here-first _ _ _ _ _ _ _ _ c.in-Some.ensures.cases.0 c.if-is_some.ensures c.first.ensures
+pub returns-in-None : goal.returns-in-None
+returns-in-None t c = shown-none c.args.nodes.now c.args.recipe.now c.args.stages.now c.args.signs.now c.requires.noted c.args.n _ c.in-None.ensures.cases
 
-pub returns-else-is_some : goal.returns-else-is_some
-returns-else-is_some t c = later-first _ _ _ _ _ _ _ _ _ c.in-Some.ensures.cases.0 c.if-is_some.ensures c.first.ensures c.first_shown.ensures
+pub returns-then-has_none : goal.returns-then-has_none
+returns-then-has_none t c = later-first c.args.nodes.now c.args.recipe.now c.args.stages.now c.args.signs.now c.requires.noted c.args.n _ _ _ _ _ c.in-Some.ensures.cases.0 c.of_state.ensures c.if-has_none.ensures c.first_shown.ensures
+
+pub returns-else-has_none : goal.returns-else-has_none
+returns-else-has_none t c = here-first c.args.nodes.now c.args.recipe.now c.args.stages.now c.args.signs.now c.requires.noted c.args.n _ _ _ _ c.in-Some.ensures.cases.0 c.of_state.ensures c.if-has_none.ensures
