@@ -57,18 +57,7 @@ live-all test (done ∷ more) e s p t (inr h) = live-all test more e s p t h
 
 -- a running phase isn't told to resume
 sends-running : (t : State) → is_running t ≡ true → sends Running t ≡ 0
-sends-running Running e = refl
-sends-running Idle e = absurd cc
-sends-running Pausing e = absurd cc
-sends-running Paused e = absurd cc
-sends-running Holding e = absurd cc
-sends-running Held e = absurd cc
-sends-running Restarting e = absurd cc
-sends-running Stopping e = absurd cc
-sends-running Stopped e = absurd cc
-sends-running Aborting e = absurd cc
-sends-running Aborted e = absurd cc
-sends-running Complete e = absurd cc
+sends-running t e = grind arith
 
 -- m changes the state of a batch in state x to one in which less work is left
 abbrev pub IsStateMove : ℕ → State → Rest → Move → Type 0

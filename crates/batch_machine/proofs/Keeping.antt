@@ -31,10 +31,8 @@ sent-remains c (ready t v k) s w h = h
 sent-remains c (asking t v k) s w h = h
 sent-remains c (open_act t r) s w h = h
 sent-remains c (freeing t k) s w h = h
-sent-remains c (in_seq r ds) s w h = absurd h
-sent-remains c (in_par rs) s w h = absurd h
-sent-remains c (in_loop n d b r) s w h = absurd h
 sent-remains c done s w h = tt
+sent-remains c a s w h = absurd (grind arith)
 
 pub released-remains : (a : Rest) → RemainsAs a (released a)
 released-remains (ready t v k) s w h = (h.0, h.1, omega (arith, h.2))
@@ -42,10 +40,8 @@ released-remains (open_act t r) s w h = freed-remains t (pred (length t.needs)) 
 released-remains (freeing t k) s w h = freed-remains t (pred k) s w h.0 (omega (arith, h.2))
 released-remains (live t p x) s w h = h
 released-remains (asking t v k) s w h = h
-released-remains (in_seq r ds) s w h = absurd h
-released-remains (in_par rs) s w h = absurd h
-released-remains (in_loop n d b r) s w h = absurd h
 released-remains done s w h = tt
+released-remains a s w h = absurd (grind arith)
 
 pub ended-remains : (a : Rest) → RemainsAs a (ended a)
 ended-remains (open_act t r) s w h = freed-remains t (length t.needs) s w h.0 (omega arith)
@@ -53,10 +49,8 @@ ended-remains (live t p x) s w h = freed-remains t (length t.needs) s w h.0 (ome
 ended-remains (ready t v k) s w h = h
 ended-remains (asking t v k) s w h = h
 ended-remains (freeing t k) s w h = h
-ended-remains (in_seq r ds) s w h = absurd h
-ended-remains (in_par rs) s w h = absurd h
-ended-remains (in_loop n d b r) s w h = absurd h
 ended-remains done s w h = tt
+ended-remains a s w h = absurd (grind arith)
 
 pub now-remains : (y : State) (a : Rest) → RemainsAs a (phase_after (Now y) a)
 now-remains y (live t p x) s w h = h
@@ -64,10 +58,8 @@ now-remains y (ready t v k) s w h = h
 now-remains y (asking t v k) s w h = h
 now-remains y (open_act t r) s w h = h
 now-remains y (freeing t k) s w h = h
-now-remains y (in_seq r ds) s w h = absurd h
-now-remains y (in_par rs) s w h = absurd h
-now-remains y (in_loop n d b r) s w h = absurd h
 now-remains y done s w h = tt
+now-remains y a s w h = absurd (grind arith)
 
 pub phase_after-remains : (e : PhaseEnd) (a : Rest) → RemainsAs a (phase_after e a)
 phase_after-remains Ended a = ended-remains a
@@ -161,8 +153,7 @@ mutual
   pub withdrawn_each-AreBranches : (cs : Trees) (rs : Rests) → AreBranches cs rs → AreBranches cs (withdrawn_each rs)
   withdrawn_each-AreBranches no_trees no_rests h = tt
   withdrawn_each-AreBranches (tree c cs) (rest r rs) h = (withdrawn-IsRestOf c r h.0, withdrawn_each-AreBranches cs rs h.1)
-  withdrawn_each-AreBranches no_trees (rest r rs) h = absurd h
-  withdrawn_each-AreBranches (tree c cs) no_rests h = absurd h
+  withdrawn_each-AreBranches cs rs h = absurd (grind arith)
 
   pub withdrawn-IsChosen : (ch : Choices) (r : Rest) → IsChosen ch r → IsChosen ch (withdrawn r)
   withdrawn-IsChosen (otherwise c) r h = withdrawn-IsRestOf c r h

@@ -39,14 +39,7 @@ sends-bound x t = go (passed_on x)
 
 -- no state that a command leads to accepts that command
 own : (c : Command) → accepts (target c) c ≡ false
-own Start = refl
-own Pause = refl
-own Resume = refl
-own Hold = refl
-own Restart = refl
-own Stop = refl
-own Abort = refl
-own Reset = refl
+own c = grind arith
 
 -- a command that is passed on isn't passed on again
 sent-once : (x t : State) (c : Command) → passed_on x ≡ Some c → accepts t c ≡ true → (sends x (target c) ≡ 0) × (sends x t ≡ 1)
@@ -56,18 +49,7 @@ sent-once x t c e a = (
 )
 
 running-goes_on : (x : State) → is_running x ≡ true → goes_on x ≡ true
-running-goes_on Running e = refl
-running-goes_on Idle e = absurd cc
-running-goes_on Pausing e = absurd cc
-running-goes_on Paused e = absurd cc
-running-goes_on Holding e = absurd cc
-running-goes_on Held e = absurd cc
-running-goes_on Restarting e = absurd cc
-running-goes_on Stopping e = absurd cc
-running-goes_on Stopped e = absurd cc
-running-goes_on Aborting e = absurd cc
-running-goes_on Aborted e = absurd cc
-running-goes_on Complete e = absurd cc
+running-goes_on x e = grind arith
 
 stopping-goes_no_further : (x : State) (quiet : Bool) → (is_stopping x && quiet) ≡ true → goes_on x ≡ false
 stopping-goes_no_further x quiet e = go (is_stopping x) e
@@ -211,7 +193,4 @@ module _ (b : Batch) where
           subst (IsMoveOf b (live p y t)) n.1
           (record { number = refl; place = refl; changes = refl; lowers = omega (arith, z.0, z.1); remains = sent-remains d (live p y t) })
   act_move-is c s (freeing p k) m e = giving_back-is p k m (freeing p k) refl (λ some r. omega (arith, some, freed-toil p (pred k))) e
-  act_move-is c s (in_seq r cs) m e = absurd cc
-  act_move-is c s (in_par rs) m e = absurd cc
-  act_move-is c s (in_loop n d body r) m e = absurd cc
-  act_move-is c s done m e = absurd cc
+  act_move-is c s a m e = absurd (grind arith)

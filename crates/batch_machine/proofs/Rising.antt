@@ -87,8 +87,7 @@ mutual
       Each-append (IsUnderFrom p i) (acts r) (acts_of_each rs)
       (Each-map (IsUnder (child p i)) (IsUnderFrom p i) (to-from p i) (acts r) (acts-under (child p i) c r l.0 h.0))
       (Each-map (IsUnderFrom p (i + 1)) (IsUnderFrom p i) (earlier-from p i) (acts_of_each rs) (acts-from_each p (i + 1) cs rs l.1 h.1))
-  acts-from_each p i no_trees (rest r rs) l h = absurd h
-  acts-from_each p i (tree c cs) no_rests l h = absurd h
+  acts-from_each p i cs rs l h = absurd (grind arith)
 
   pub acts-from_chosen : (p : Place) (i : ℕ) (ch : Choices) (r : Rest) → IsChoicePlaced p i ch → IsChosen ch r → Each (IsUnderFrom p i) (acts r)
   acts-from_chosen p i (otherwise c) r l h = Each-map (IsUnder (child p i)) (IsUnderFrom p i) (to-from p i) (acts r) (acts-under (child p i) c r l h)
@@ -140,8 +139,7 @@ mutual
       (Each-map (IsUnder (child p i)) (λ a. Each (Before a) (acts_of_each rs))
       (λ a k. Each-map (IsUnderFrom p (i + 1)) (Before a) (λ b m. before-later p i a b k m) (acts_of_each rs) (acts-from_each p (i + 1) cs rs l.1 h.1))
       (acts r) (acts-under (child p i) c r l.0 h.0))
-  each-rises p i no_trees (rest r rs) l h = absurd h
-  each-rises p i (tree c cs) no_rests l h = absurd h
+  each-rises p i cs rs l h = absurd (grind arith)
 
   pub chosen-rises : (p : Place) (i : ℕ) (ch : Choices) (r : Rest) → IsChoicePlaced p i ch → IsChosen ch r → Rises (acts r)
   chosen-rises p i (otherwise c) r l h = acts-rise (child p i) c r l h

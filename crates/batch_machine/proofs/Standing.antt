@@ -38,13 +38,7 @@ turning-IsRestOf n m c body r lt h = go (is_done r)
 later : (c : Tree) (cs : Trees) (r : Rest) → IsRestOf (seq cs) r → IsRestOf (seq (tree c cs)) r
 later c cs done h = tt
 later c cs (in_seq r ds) h = inr h
-later c cs (ready s w k) h = absurd h
-later c cs (asking s w k) h = absurd h
-later c cs (open_act s r) h = absurd h
-later c cs (live s p x) h = absurd h
-later c cs (freeing s k) h = absurd h
-later c cs (in_par rs) h = absurd h
-later c cs (in_loop n d b r) h = absurd h
+later c cs r h = absurd (grind arith)
 
 first-IsRestOf : (c : Tree) (cs : Trees) (r after : Rest) → IsRestOf c r → IsRestOf (seq cs) after
     → IsRestOf (seq (tree c cs)) (elim (is_done r) [ true ↦ after | false ↦ in_seq r cs ])
@@ -142,8 +136,7 @@ mutual
   pub advance-AreBranches : (vs : ValueList) (cs : Trees) (rs : Rests) → AreBranches cs rs → AreBranches cs (advance_each vs rs)
   advance-AreBranches vs no_trees no_rests h = tt
   advance-AreBranches vs (tree c cs) (rest r rs) h = (advance-IsRestOf vs c r h.0, advance-AreBranches vs cs rs h.1)
-  advance-AreBranches vs no_trees (rest r rs) h = absurd h
-  advance-AreBranches vs (tree c cs) no_rests h = absurd h
+  advance-AreBranches vs cs rs h = absurd (grind arith)
 
   pub advance-IsChosen : (vs : ValueList) (ch : Choices) (r : Rest) → IsChosen ch r → IsChosen ch (advance vs r)
   advance-IsChosen vs (otherwise c) r h = advance-IsRestOf vs c r h
