@@ -3,20 +3,18 @@ ghost use Rattle.std.specs.Prelude.{◌<◌};
 ghost use Rattle.batch_verify.specs.ClearedSet.{ClearedSet};
 ghost use Rattle.batch_wire.specs.Known.{AreKnown};
 
+use crate::line_room::LineRoom;
 use crate::recipe_places::RecipePlaces;
 
 /// Of how many recipes places are kept: as many as a cell may have units, so as many as may run at once of which each has a unit.
 const RECIPES: usize = 64;
-
-/// How long a line can be that is put together before it is written. Few are longer.
-pub(crate) const ROOM: usize = 384;
 
 /// For some recipes the place that was told last. Recipes whose numbers are the same modulo 64 share one, in turn.
 #[derive(Drop)]
 pub struct KnownPlaces {
     pub(crate) recipes: [RecipePlaces; RECIPES],
     /// Where lines are put together, so that no room has to be cleared for each.
-    pub(crate) line: [u8; ROOM],
+    pub(crate) line: LineRoom,
 }
 
 impl KnownPlaces {
@@ -26,7 +24,7 @@ impl KnownPlaces {
     {
         KnownPlaces {
             recipes: [RecipePlaces::new(); RECIPES],
-            line: [0; ROOM],
+            line: LineRoom::new(),
         }
     }
 }

@@ -14,9 +14,9 @@ ghost use Rattle.batch_wire.specs.Written.{Writes};
 
 use crate::fault::WriteFault;
 use crate::known_places::{KnownPlaces, seat_of};
+use crate::line_room::LineRoom;
 use crate::names::{act_name, handed_names, phase_name, recipe_name, resource_name, value_name};
 use crate::places::{ToldPlace, write_place};
-use crate::putting_lines::put_out;
 use crate::recipe_places::RecipePlaces;
 use crate::site::Site;
 use crate::writing::{write_all, write_pieces};
@@ -38,8 +38,8 @@ pub fn write_out<W: Write>(out: &Out, cleared: &Cleared, writer: &mut W) -> Resu
     }
 }
 
-/// Writes the same line. The text of the place that it tells is put together from that of the recipe's last one, and is known from
-/// then on: of many lines of a batch each costs what its place differs from the one before.
+/// Writes the same line, in one piece where it isn't too long. The text of the place that it tells is put together from that of the
+/// recipe's last one, and is known from then on: of many lines of a batch each costs what its place differs from the one before.
 pub fn write_out_knowing<W: Write>(
     out: &Out,
     cleared: &Cleared,
@@ -51,7 +51,13 @@ pub fn write_out_knowing<W: Write>(
     ensures written { Writes (W.contents writer.old) (W.contents writer.new) result (out_text (out_of cleared.now out.now)) }
 {
     let Some(site) = site_of(out) else {
-        return write_telling(out, cleared, &ToldPlace::Known(b""), writer);
+        return write_line(
+            out,
+            cleared,
+            &ToldPlace::Known(b""),
+            &mut places.line,
+            writer,
+        );
     };
     let seat = seat_of(site.recipe);
     write_site(
@@ -71,7 +77,7 @@ fn write_site<W: Write>(
     cleared: &Cleared,
     site: Site,
     places: &mut RecipePlaces,
-    room: &mut [u8],
+    room: &mut LineRoom,
     writer: &mut W,
 ) -> Result<(), WriteFault>
     requires known { AreKnownIn cleared.now places.old }
@@ -83,10 +89,26 @@ fn write_site<W: Write>(
         return write_telling(out, cleared, &ToldPlace::Long { cleared, site }, writer);
     };
     let known = &places.text[..end];
-    let told = &known[places.start..];
-    match put_out(out, cleared, told, room) {
-        Some(start) => write_all(writer, &room[start..]),
-        None => write_telling(out, cleared, &ToldPlace::Known(told), writer),
+    let told = ToldPlace::Known(&known[places.start..]);
+    write_line(out, cleared, &told, room, writer)
+}
+
+/// Writes the line of an out that tells this place: at once where the room holds it, else piece by piece.
+#[inline(always)]
+fn write_line<W: Write>(
+    out: &Out,
+    cleared: &Cleared,
+    told: &ToldPlace<'_>,
+    room: &mut LineRoom,
+    writer: &mut W,
+) -> Result<(), WriteFault>
+    requires { told_text told.now ≡ told_by_out (out_of cleared.now out.now) }
+    ensures { Writes (W.contents writer.old) (W.contents writer.new) result (out_text (out_of cleared.now out.now)) }
+{
+    room.clear();
+    match write_telling(out, cleared, told, room) {
+        Ok(()) => write_all(writer, room.line()),
+        Err(_) => write_telling(out, cleared, told, writer),
     }
 }
 
@@ -361,6 +383,7 @@ fn write_removed<W: Write>(batch: u64, writer: &mut W) -> Result<(), WriteFault>
 }
 
 /// Writes that a phase of a unit reported something, by this word between spaces.
+#[inline(always)]
 fn write_reported<'a, W: Write>(
     unit: &'a [u8],
     phase: &'a [u8],
@@ -412,6 +435,7 @@ fn write_refusal<W: Write>(
     }
 }
 
+#[inline(always)]
 fn write_move<W: Write>(
     line: Line,
     cleared: &Cleared,
@@ -446,6 +470,7 @@ fn write_move<W: Write>(
 }
 
 /// Writes a line that tells of a claim on a resource: it is asked for, granted or given back.
+#[inline(always)]
 fn write_claim<W: Write>(
     line: Line,
     cleared: &Cleared,
@@ -514,6 +539,7 @@ fn write_state<W: Write>(batch: u64, state: State, writer: &mut W) -> Result<(),
 }
 
 /// Writes what a move tells of a step: the word and a space, the batch and the step's place, and a name.
+#[inline(always)]
 fn write_step<W: Write>(
     word: &'static [u8],
     place: &ToldPlace<'_>,
@@ -528,6 +554,7 @@ fn write_step<W: Write>(
 
 /// Writes what a move tells of a need: the word and a space, the batch and the act's place, the resource, and how many units of it
 /// where it is more than one.
+#[inline(always)]
 fn write_need<W: Write>(
     word: &'static [u8],
     place: &ToldPlace<'_>,
@@ -591,6 +618,7 @@ fn write_handing<W: Write>(
 }
 
 /// Writes what a line of a phase step begins with: the word and a space, the batch and the step's place, the unit and its phase.
+#[inline(always)]
 fn write_phase_front<W: Write>(
     word: &'static [u8],
     place: &ToldPlace<'_>,
@@ -605,6 +633,7 @@ fn write_phase_front<W: Write>(
 }
 
 /// Writes pieces, a place, and pieces behind it, one after the other, however long they are.
+#[inline(always)]
 fn write_apart<W: Write>(
     head: &[&[u8]],
     place: &ToldPlace<'_>,

@@ -1,0 +1,59 @@
+//! Room for one line, so that its writer gets it in one piece.
+ghost use Rattle.std.specs.Prelude.{◌≡◌, [], Some, take};
+
+use std::io::{Result, Write};
+
+/// How long a line can be that is put together before it is written. Few are longer.
+const ROOM: usize = 384;
+
+/// What stands in it is a writer's, to which a line is written as to any other. What has no room is refused.
+#[derive(Drop)]
+pub(crate) struct LineRoom {
+    len: usize,
+    bytes: [u8; ROOM],
+}
+
+impl LineRoom {
+    pub(crate) fn new() -> LineRoom {
+        LineRoom {
+            len: 0,
+            bytes: [0; ROOM],
+        }
+    }
+
+    /// Nothing stands in it any more.
+    #[inline(always)]
+    pub(crate) fn clear(&mut self)
+        ensures { take self.new.len self.new.bytes ≡ [] }
+    {
+        self.len = 0;
+    }
+
+    /// What was written since it was cleared.
+    #[inline(always)]
+    pub(crate) fn line(&self) -> &[u8]
+        ensures { result.now ≡ take self.now.len self.now.bytes }
+    {
+        &self.bytes[..self.len.min(ROOM)]
+    }
+}
+
+impl Write for LineRoom {
+    ghost contents = { λ room. Some (take room.len room.bytes) };
+
+    #[inline(always)]
+    fn write(&mut self, piece: &[u8]) -> Result<usize> {
+        let start = self.len;
+        if start >= ROOM || piece.len() > ROOM - start {
+            return Ok(0);
+        }
+        let end = start + piece.len();
+        self.bytes[start..end].copy_from_slice(piece);
+        self.len = end;
+        Ok(piece.len())
+    }
+
+    fn flush(&mut self) -> Result<()> {
+        Ok(())
+    }
+}
