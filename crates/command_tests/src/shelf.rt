@@ -3,7 +3,7 @@ ghost use Rattle.std.specs.Prelude.{◌≡◌, option_map};
 ghost use Rattle.std.specs.List.{find};
 ghost use Rattle.std.specs.Str.{bytes_eq};
 
-use batch_commands::{Documents, Halt, Verdict};
+use batch_commands::{Documents, Halt};
 use std::alloc::Global;
 use std::test::Fail;
 
@@ -31,12 +31,4 @@ pub(crate) fn owned(alloc: Global, words: &[&str]) -> Result<Vec<String>, Fail> 
         owned.push(String::from_str(alloc, word)?)?;
     }
     Ok(owned)
-}
-
-/// The verdict with which the program ends.
-pub(crate) fn ended(outcome: Result<Verdict, Halt>) -> Result<Verdict, Halt> {
-    match outcome {
-        Err(Halt::Refused(verdict)) => Ok(verdict),
-        other => other,
-    }
 }
