@@ -64,12 +64,6 @@ module _ (es : List Entry) (e : Entry) where
           get_or-map (claims_of (es ++ e ∷ [])) ls k no_list d w ∙ (list_kept k w).1 ∙ sym (get_or-map (claims_of es) ls k no_list d w)),
     )
 
-pub IsGrown-none : (es : List Entry) (unused : ℕ) → IsGrown es unused es unused 0
-IsGrown-none es unused ls room linked = (subst (λ (x : ℕ). IsLinked es ls unused x) (sym (zero_more room)) linked, refl)
-  where
-    zero_more : (n : ℕ) → n + 0 ≡ n
-    zero_more n = omega arith
-
 -- one more
 pub IsGrown-more : (es fs : List Entry) (unused unused' more : ℕ) (e : Entry) → e.next ≡ unused' → length fs < 2 ^ 32 → IsGrown es unused fs unused' more → IsGrown es unused (fs ++ e ∷ []) (length fs) (more + 1)
 IsGrown-more es fs unused unused' more e next few grown ls room linked =

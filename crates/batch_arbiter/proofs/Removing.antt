@@ -1,12 +1,12 @@
 -- What it does to a list when the first claim of an act leaves it.
-use Rattle.std.proofs.Common.{ℕ, ◌≡◌, ◌+◌, ◌-◌, ◌<◌, List, [], ◌∷◌, length, get_or, drop, sym, ap, ◌∙◌, subst, arith, suc, zero, set, map, true, false, cond}
+use Rattle.std.proofs.Common.{ℕ, ◌≡◌, ◌+◌, ◌-◌, ◌<◌, List, [], length, get_or, sym, ap, ◌∙◌, subst, arith, suc, zero, set, map, false}
 use Rattle.std.specs.Prelude.{slice_get, MatchOption}
 use Rattle.std.specs.List.{remove}
-use Rattle.std.proofs.lemmas.List.Sums.{sum_by-remove, sum_by-cons}
+use Rattle.std.proofs.lemmas.List.Sums.{sum_by-remove}
 use Rattle.batch_arbiter.specs.declared.entry.Entry.{Entry}
 use Rattle.batch_arbiter.specs.declared.ends.Ends.{Ends}
 use Rattle.batch_arbiter.specs.Allocation.{Claim, is_claim, held_units, without_first}
-use Rattle.batch_arbiter.specs.Linked.{Lists, list_at, with_list, at, ends_at, claim_of, claims_from, claims_of, free, claim_in, marked, IsLinkedBy, IsLinked, IsBefore, IsRemoved, behind}
+use Rattle.batch_arbiter.specs.Linked.{at, ends_at, claim_of, claims_from, claims_of, free, claim_in, marked, IsLinkedBy, IsLinked, IsBefore, behind}
 use Rattle.batch_arbiter.proofs.Linking.{behind-within}
 use Rattle.batch_arbiter.proofs.Pooling.{IsLinkedBy-step, claims-step}
 use Rattle.batch_arbiter.proofs.Leaving.{left_ends, behind-suc, unlinked, claims-unlinked}
@@ -71,14 +71,3 @@ module _ (es : List Entry) (ls : List Ends) (k unused room batch node b : ℕ) (
       ∙ sym sum
       ∙ ap (λ n. held_units (remove (claims_of es (ends_at ls k)) (suc s.place)) + n) units
       ∙ ap (λ cs. held_units cs + (at es (at es b).next).units) (remove-IsFirst (is_claim batch node) (claims_of es (ends_at ls k)) (suc s.place) f ∙ ap (without_first (is_claim batch node)) (sym (list-seen es ls k known)))
-
--- the first claim of the list is the act's
-pub IsRemoved-first : (old new : Lists) (k batch node : ℕ) (c : Claim) → list_at old k ≡ c ∷ drop 1 (list_at old k) → is_claim batch node c ≡ true → new ≡ with_list old k (drop 1 (list_at old k)) (old.room + 1) → IsRemoved old k batch node c.units new
-IsRemoved-first old new k batch node c at own after =
-    let rest : without_first (is_claim batch node) (list_at old k) ≡ drop 1 (list_at old k) = ap (without_first (is_claim batch node)) at ∙ ap (λ b. cond b (drop 1 (list_at old k)) (c ∷ without_first (is_claim batch node) (drop 1 (list_at old k)))) own in
-    let sum : held_units (list_at old k) ≡ c.units + held_units (drop 1 (list_at old k)) = ap held_units at ∙ sum_by-cons (λ (x : Claim). x.units) c (drop 1 (list_at old k)) in
-    let less : held_units (without_first (is_claim batch node) (list_at old k)) ≡ held_units (drop 1 (list_at old k)) = ap held_units rest in
-    record {
-      sum = omega (arith, sum, less);
-      after = after ∙ ap (λ cs. with_list old k cs (old.room + 1)) (sym rest);
-    }

@@ -1,8 +1,8 @@
 -- A list that goes round: its claims leave it in turn, and those that stay join its end again.
-use Rattle.std.proofs.Common.{ℕ, ◌≡◌, ◌+◌, ◌-◌, ◌<◌, ◌≤◌, List, [], ◌∷◌, ◌++◌, length, get_or, take, drop, refl, sym, ap, ◌∙◌, arith, Bool, true, false, not, filter}
+use Rattle.std.proofs.Common.{ℕ, ◌≡◌, ◌+◌, ◌-◌, ◌<◌, List, [], ◌∷◌, ◌++◌, length, get_or, take, drop, refl, sym, ap, ◌∙◌, arith, Bool, true, false, not, filter}
 use Rattle.std.specs.Prelude.{◌||◌}
 use Rattle.std.specs.List.{list_any}
-use Rattle.std.proofs.lemmas.List.{drop_more, drop_all, take_more, take_all, length-append, length-drop, length-set, get_or-set_same, set-set, set-get_or, append_assoc, append-nil}
+use Rattle.std.proofs.lemmas.List.{drop_more, take_more, length-append, length-set, get_or-set_same, set-set, set-get_or, append_assoc, append-nil}
 use Rattle.std.proofs.lemmas.List.Elements.{filter-append}
 use Rattle.batch_arbiter.specs.Allocation.{Claim, is_of_batch}
 use Rattle.batch_arbiter.specs.Linked.{Lists, list_at, with_list}
@@ -88,22 +88,6 @@ module _ (p s t : Lists) (k batch i : ℕ) (c : Claim) (known : k < length p.lis
 
   pub left-room : 0 < t.room
   left-room = omega (arith, ap (λ (q : Lists). q.room) left)
-
--- none is left that wasn't looked at
-pub rotated-all : (p : Lists) (k batch i : ℕ) → length (list_at p k) ≤ i → rotated p k batch i ≡ with_list p k (staying batch (list_at p k)) (p.room + leaving batch (list_at p k))
-rotated-all p k batch i all =
-    ap (λ cs. with_list p k (cs ++ staying batch (take i (list_at p k))) (p.room + leaving batch (take i (list_at p k)))) (drop_all i (list_at p k) all)
-    ∙ ap (λ cs. with_list p k (staying batch cs) (p.room + leaving batch cs)) (take_all i (list_at p k) all)
-
-pub rotated-known : (p s : Lists) (k batch i : ℕ) → k < length p.lists → s ≡ rotated p k batch i → k < length s.lists
-rotated-known p s k batch i known now =
-    omega (arith, ap (λ (q : Lists). length q.lists) now, length-set p.lists k (drop i (list_at p k) ++ staying batch (take i (list_at p k))))
-
-pub rotated-some : (p s : Lists) (k batch i : ℕ) → k < length p.lists → i < length (list_at p k) → s ≡ rotated p k batch i → 0 < length (list_at s k)
-rotated-some p s k batch i known lt now =
-    let here : list_at s k ≡ drop i (list_at p k) ++ staying batch (take i (list_at p k)) =
-    ap (λ q. list_at q k) now ∙ list-with p k (p.room + leaving batch (take i (list_at p k))) (drop i (list_at p k) ++ staying batch (take i (list_at p k))) known in
-    omega (arith, ap length here, length-append (drop i (list_at p k)) (staying batch (take i (list_at p k))), length-drop i (list_at p k))
 
 -- a list without a claim of the batch stays as it is
 pub none-leaves : (p : Lists) (k batch : ℕ) → list_any (is_of_batch batch) (list_at p k) ≡ false → p ≡ with_list p k (staying batch (list_at p k)) (p.room + leaving batch (list_at p k))

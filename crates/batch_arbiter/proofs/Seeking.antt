@@ -26,13 +26,6 @@ pub record Seeks (es : List Entry) (l : Ends) (batch node counter before : ℕ) 
   pub is : before ≡ behind es (counter - 1) l.first
   pub others : (m : ℕ) → m < counter → is_claim_behind es l batch node m ≡ false
 
-pub Seeks-first : (es : List Entry) (l : Ends) (batch node : ℕ) → is_claim batch node (claim_of (at es l.first)) ≡ false → Seeks es l batch node 1 l.first
-Seeks-first es l batch node other = record { begun = omega arith; is = refl; others = one }
-  where
-    one : (m : ℕ) → m < 1 → is_claim_behind es l batch node m ≡ false
-    one zero h = other
-    one (suc m) h = absurd (omega arith)
-
 pub before-within : (es : List Entry) (l : Ends) (batch node counter before : ℕ) → Seeks es l batch node counter before → IsSomeList es l → counter < l.len → before < length es
 before-within es l batch node counter before s it lt =
     subst (λ (x : ℕ). x < length es) (sym s.is) (behind-within it.part it.parts es (counter - 1) l.len l.first l.end (omega (arith, lt)) it.linked).0

@@ -1,11 +1,11 @@
 -- The asks of a batch leave the lines of all resources in turn.
 use Rattle.std.proofs.Common.{ℕ, ◌≡◌, ◌+◌, ◌<◌, ◌≤◌, List, [], ◌∷◌, ◌++◌, length, get_or, take, drop, sym, ap, ◌∙◌, arith, map, set}
 use Rattle.std.specs.Prelude.{sum_by}
-use Rattle.std.proofs.lemmas.List.{length-append, length-map, length-drop, length-take-le, drop_more, drop_all, take_all, take_at, drop_at, take-append-drop, map_more, get_or_at, set_at, append-nil, append_assoc, get_or_append_left, get_or-take}
+use Rattle.std.proofs.lemmas.List.{length-append, length-map, length-drop, length-take-le, drop_more, take_at, drop_at, map_more, get_or_at, set_at, append_assoc}
 use Rattle.std.proofs.lemmas.List.Sums.{sum_by_more}
-use Rattle.batch_arbiter.specs.Allocation.{Claim, held_units, withdrawn}
+use Rattle.batch_arbiter.specs.Allocation.{Claim}
 use Rattle.batch_arbiter.specs.Linked.{Lists, list_at, with_list}
-use Rattle.batch_arbiter.specs.Standing.{seen, StandsInPool}
+use Rattle.batch_arbiter.specs.Standing.{seen}
 use Rattle.batch_arbiter.proofs.Rounds.{staying, leaving}
 
 -- the pool when so many of the lines behind the first n lists have been gone through
@@ -15,12 +15,6 @@ withdrawn_to n batch i p =
       lists = (take n p.lists ++ map (staying batch) (take i (drop n p.lists))) ++ drop i (drop n p.lists);
       room = p.room + sum_by (leaving batch) (take i (drop n p.lists));
     }
-
-pub withdrawn-none : (n batch : ℕ) (p : Lists) → p ≡ withdrawn_to n batch 0 p
-withdrawn-none n batch p =
-    let zero_more : p.room ≡ p.room + 0 = omega arith in
-    let lists : p.lists ≡ (take n p.lists ++ []) ++ drop n p.lists = sym (ap (λ xs. xs ++ drop n p.lists) (append-nil (take n p.lists)) ∙ take-append-drop n p.lists) in
-    ap (λ ls. record { lists = ls; room = p.room }) lists ∙ ap (λ m. record { lists = (take n p.lists ++ []) ++ drop n p.lists; room = m }) zero_more
 
 module _ (n batch i : ℕ) (p : Lists) (twice : length p.lists ≡ n + n) (within : i ≤ n) where
   line_count : length (drop n p.lists) ≡ n
@@ -35,21 +29,6 @@ module _ (n batch i : ℕ) (p : Lists) (twice : length p.lists ≡ n + n) (withi
   withdrawn-twice =
       length-append (take n p.lists ++ map (staying batch) (take i (drop n p.lists))) (drop i (drop n p.lists))
       ∙ omega (arith, front, length-drop i (drop n p.lists), line_count)
-
-  pub shares-withdrawn : (k : ℕ) → k < n → list_at (withdrawn_to n batch i p) k ≡ list_at p k
-  shares-withdrawn k h =
-      get_or_append_left (take n p.lists ++ map (staying batch) (take i (drop n p.lists))) (drop i (drop n p.lists)) [] k (omega (arith, front))
-      ∙ get_or_append_left (take n p.lists) (map (staying batch) (take i (drop n p.lists))) [] k (omega (arith, length-take-le n p.lists (omega (arith, twice))))
-      ∙ get_or-take n p.lists k [] h
-
-  pub IsSound-withdrawn : (capacities held : List ℕ) → n ≡ length capacities → StandsInPool capacities held p → StandsInPool capacities held (withdrawn_to n batch i p)
-  IsSound-withdrawn capacities held e sound = record {
-    twice = omega (arith, withdrawn-twice, e);
-    counts = sound.counts;
-    sums = λ k h. sound.sums k h ∙ ap held_units (sym (shares-withdrawn k (omega (arith, e))));
-    within = sound.within;
-    counted = sound.counted;
-  }
 
   module _ (lt : i < n) where
     rest : drop i (drop n p.lists) ≡ get_or (drop n p.lists) i [] ∷ drop (i + 1) (drop n p.lists)
@@ -80,25 +59,9 @@ module _ (n batch i : ℕ) (p : Lists) (twice : length p.lists ≡ n + n) (withi
         push_front : (xs ys zs : List (List Claim)) (y : List Claim) → (xs ++ ys) ++ y ∷ zs ≡ (xs ++ (ys ++ y ∷ [])) ++ zs
         push_front xs ys zs y = sym (append_assoc (xs ++ ys) (y ∷ []) zs) ∙ ap (λ ws. ws ++ zs) (append_assoc xs ys (y ∷ []))
 
--- all lines have been gone through
-withdrawn-all : (n batch : ℕ) (p : Lists) → length p.lists ≡ n + n
-    → withdrawn_to n batch n p ≡ record { lists = take n p.lists ++ map (staying batch) (drop n p.lists); room = p.room + sum_by (leaving batch) (drop n p.lists) }
-withdrawn-all n batch p twice =
-    let count : length (drop n p.lists) ≤ n = omega (arith, length-drop n p.lists) in
-    ap (λ xs. record { lists = (take n p.lists ++ map (staying batch) xs) ++ drop n (drop n p.lists); room = p.room + sum_by (leaving batch) xs }) (take_all n (drop n p.lists) count)
-    ∙ ap (λ xs. record { lists = (take n p.lists ++ map (staying batch) (drop n p.lists)) ++ xs; room = p.room + sum_by (leaving batch) (drop n p.lists) }) (drop_all n (drop n p.lists) count)
-    ∙ ap (λ xs. record { lists = xs; room = p.room + sum_by (leaving batch) (drop n p.lists) }) (append-nil (take n p.lists ++ map (staying batch) (drop n p.lists)))
-
 -- shares and lines that stand one after the other
 sides : (capacities : List ℕ) (shares lines : List (List Claim)) (room : ℕ) → length shares ≡ length capacities
     → seen capacities (record { lists = shares ++ lines; room = room }) ≡ record { capacities = capacities; shares = shares; lines = lines; room = room }
 sides capacities shares lines room e =
     ap (λ xs. record { capacities = capacities; shares = xs; lines = drop (length capacities) (shares ++ lines); room = room }) (take_at shares lines (length capacities) e)
     ∙ ap (λ xs. record { capacities = capacities; shares = shares; lines = xs; room = room }) (drop_at shares lines (length capacities) e)
-
-pub seen-withdraw : (capacities : List ℕ) (batch : ℕ) (p : Lists) → length p.lists ≡ length capacities + length capacities
-    → seen capacities (withdrawn_to (length capacities) batch (length capacities) p) ≡ withdrawn batch (seen capacities p)
-seen-withdraw capacities batch p twice =
-    ap (seen capacities) (withdrawn-all (length capacities) batch p twice)
-    ∙ sides capacities (take (length capacities) p.lists) (map (staying batch) (drop (length capacities) p.lists)) (p.room + sum_by (leaving batch) (drop (length capacities) p.lists))
-    (length-take-le (length capacities) p.lists (omega (arith, twice)))

@@ -1,5 +1,6 @@
 -- The edges to the needs of one act.
 use Rattle.std.proofs.Common.{◌≡◌, ℕ, ◌+◌, ◌-◌, ◌<◌, ◌⊎◌, inl, inr, List, [], ◌∷◌, ◌++◌, length, get_or, slice_get, IsTrue, Option, Some, None, option_map, refl, sym, ap, ◌∙◌, subst, arith, length-append, append_assoc, append-nil}
+use Rattle.std.proofs.lemmas.List.Elements.{Contains-append_right}
 use Rattle.std.specs.List.{Contains}
 use Rattle.std.proofs.lemmas.Option.{slice_get_within}
 use Rattle.batch_check.specs.declared.edge.Edge.{Edge}
@@ -9,7 +10,8 @@ use Rattle.batch_check.specs.Edges.{has_pair, Joins, Follows}
 use Rattle.batch_check.specs.Pairs.{ArePaired, Keeps}
 use Rattle.batch_check.specs.Joining.{AreBelow, Grows, HasJoined, IsKept, needs_in}
 use Rattle.batch_check.specs.Collecting.{IsCopy, IsPathOf, IsReady, ends_in, kept_by, last_number, IsAmong, GoesOn, HasAsked}
-use Rattle.batch_check.proofs.Joins.{ArePaired-push, AreBelow-push, Contains-at, at-Contains, Contains-none, Contains-one, Contains-right, Grows-same, Grows-twice, HasJoined-none, slice_get-left, slice_get-right}
+use Rattle.batch_recipe.proofs.Slices.{slice_get-left, slice_get-right}
+use Rattle.batch_check.proofs.Joins.{ArePaired-push, AreBelow-push, Contains-at, at-Contains, Contains-none, Contains-one, Grows-same, Grows-twice, HasJoined-none}
 
 -- Last needs
 
@@ -21,7 +23,7 @@ last_among : (last : Option ℕ) (needs : List (Option ℕ)) (number : ℕ) → 
 last_among last [] number is = inl is
 last_among last (need ∷ needs) number is = elim (last_among need needs number is) [
   | inl first ↦ inr (Contains-at (need ∷ needs) 0 (Some number) (ap (λ (o : Option ℕ). Some o) first))
-  | inr later ↦ inr (Contains-right (need ∷ []) needs (Some number) later)
+  | inr later ↦ inr (Contains-append_right (need ∷ []) needs (Some number) later)
 ]
 
 -- Edges to own needs
@@ -278,7 +280,7 @@ HasAsked-again recipe node last (need ∷ needs) old new within below follows so
     (HasAsked-append (ends_in recipe last) node (need ∷ []) needs old new new (ends_in recipe need) (ends_in recipe (last_number need needs))
     (HasAsked-alone recipe node last need old new within first_below h)
     (HasAsked-known recipe node need needs new (λ k is. omega (arith, first_below k is, h.grown.same_count))
-    (λ k among. omega (arith, below k (Contains-right (need ∷ []) needs (Some k) among), h.grown.same_count))
+    (λ k among. omega (arith, below k (Contains-append_right (need ∷ []) needs (Some k) among), h.grown.same_count))
     (Follows-keeps old.edges.items new.edges.items h.grown.kept need needs follows.1)))
 
 -- needs that follow one another after any one do so after none

@@ -1,12 +1,12 @@
 -- Circles with the fewest edges.
-use Rattle.std.proofs.Common.{◌≡◌, ◌≢◌, ℕ, ◌+◌, ◌<◌, ◌≤◌, ◌⊎◌, inl, inr, List, [], ◌∷◌, length, get_or, IsTrue, Option, Some, None, All, AllPairs, Contains, refl, sym, ap, ◌∙◌, subst, arith, below_more}
+use Rattle.std.proofs.Common.{◌≡◌, ◌≢◌, ℕ, ◌+◌, ◌<◌, ◌≤◌, ◌⊎◌, inl, inr, List, [], ◌∷◌, length, get_or, IsTrue, Option, Some, None, All, AllPairs, Contains, refl, sym, ap, ◌∙◌, subst, arith}
 use Rattle.std.proofs.lemmas.Bool.{cases_lt}
 use Rattle.std.proofs.lemmas.List.Elements.{All-cons, All-contains}
 use Rattle.std.proofs.lemmas.List.Kept.{AllPairs-cons}
 use Rattle.batch_check.specs.declared.edge.Edge.{Edge}
 use Rattle.batch_check.specs.Edges.{has_pair}
 use Rattle.batch_check.specs.LeastRanking.{IsEdgeCircle, HasEndsBelow, LeadsAlong}
-use Rattle.batch_check.specs.Spreading.{AreJoined, HasFewest, HasReached, IsClosedAt, IsFewest, IsReached, IsSpread, LeadsBack, NoneBelow}
+use Rattle.batch_check.specs.Spreading.{AreJoined, HasFewest, HasReached, IsReached, IsSpread, NoneBelow}
 use Rattle.batch_check.proofs.Rising.{edge_of}
 
 -- Walks along joined resources
@@ -69,18 +69,6 @@ pub record WalksBack (edges : List Edge) (start level : ℕ) (levels : List ℕ)
   pub sized : length walk + get_or levels at 0 ≡ level + 1
 
 module _ (edges : List Edge) (start level : ℕ) (levels : List ℕ) (causes : List (Option Edge)) (in_range : HasEndsBelow (length levels) edges) (has : HasReached edges start levels causes) where
-  pub WalksBack-first : (last : Edge) → LeadsBack edges start level levels causes last → WalksBack edges start level levels (last ∷ []) last.earlier
-  WalksBack-first last h = record {
-    leads = (refl, h.back);
-    some = omega arith;
-    apart = λ i j d ij j_in. absurd (omega arith);
-    standing = All-cons (Contains edges) last [] h.standing (λ k d in'. absurd (omega arith));
-    above = All-cons (λ (e : Edge). (e.later ≡ start) ⊎ (get_or levels last.earlier 0 < get_or levels e.later 0)) last [] (inl h.back) (λ k d in'. absurd (omega arith));
-    reached = omega (arith, h.from, h.positive);
-    within = (All-contains (λ f. (f.earlier < length levels) × (f.later < length levels)) edges last in_range h.standing).0;
-    sized = omega (arith, h.from);
-  }
-
   module _ (walk : List Edge) (at : ℕ) (h : WalksBack edges start level levels walk at) where
     pub WalksBack-caused : at ≢ start → IsReached edges levels causes at
     WalksBack-caused apart = has.reached at apart h.reached
@@ -114,28 +102,6 @@ module _ (edges : List Edge) (start level : ℕ) (levels : List ℕ) (causes : L
           sized = omega (arith, h.sized, one);
         }
 
-    -- each step back goes one level down
-    pub WalksBack-lower : (cause : Edge) → at ≢ start → get_or causes at None ≡ Some cause → get_or levels cause.earlier 0 < get_or levels at 0
-    WalksBack-lower cause differ is =
-        let caused = WalksBack-caused differ in
-        let same : caused.edge ≡ cause = let e : Some caused.edge ≡ Some cause = sym caused.stored ∙ is in cc in
-        omega (arith, caused.one_above, ap (λ (e : Edge). get_or levels e.earlier 0) same)
-
-    pub IsClosedAt-back : at ≡ start → IsClosedAt edges start level walk
-    IsClosedAt-back back =
-        let root : get_or levels at 0 ≡ 1 = ap (λ n. get_or levels n 0) back ∙ has.root in
-        let long : length walk ≡ level = omega (arith, h.sized, root) in
-        record {
-          is_circle = record {
-            start = start;
-            nonempty = h.some;
-            closed = subst (λ n. LeadsAlong n walk start) back h.leads;
-            apart = h.apart;
-            standing = h.standing;
-          };
-          sized = long;
-        }
-
 -- All starts
 
 pub record KeepsFewest (edges circle : List Edge) (start : ℕ) : Type 0 where
@@ -143,19 +109,6 @@ pub record KeepsFewest (edges circle : List Edge) (start : ℕ) : Type 0 where
   pub none : (first : ℕ) → first < start → NoneBelow edges first (length circle)
 
 module _ (edges circle : List Edge) (start : ℕ) (h : KeepsFewest edges circle start) where
-  pub KeepsFewest-same : NoneBelow edges start (length circle) → KeepsFewest edges circle (start + 1)
-  KeepsFewest-same none = record {
-    is_circle = h.is_circle;
-    none = below_more (λ first. NoneBelow edges first (length circle)) start h.none none;
-  }
-
-  pub KeepsFewest-fewer : (shorter : List Edge) → IsFewest edges start (length circle) shorter → KeepsFewest edges shorter (start + 1)
-  KeepsFewest-fewer shorter g = record {
-    is_circle = g.is_circle;
-    none = below_more (λ first. NoneBelow edges first (length shorter)) start
-        (λ first below. NoneBelow-less edges first (length circle) (length shorter) (let e = g.fewer in omega arith) (h.none first below)) g.none;
-  }
-
   -- a circle starts at a resource that an edge comes from
   pub HasFewest-all : (count : ℕ) → HasEndsBelow count edges → count ≤ start → HasFewest edges circle
   HasFewest-all count within all other closed joined = h.none closed.start (starts other closed.nonempty closed.closed joined) other closed.closed closed.nonempty joined

@@ -1,31 +1,14 @@
 -- Edges that join needs to one more.
-use Rattle.std.proofs.Common.{◌≡◌, ℕ, zero, suc, ◌+◌, ◌<◌, ◌⊎◌, inl, inr, List, [], ◌∷◌, ◌++◌, length, get_or, slice_get, IsTrue, Option, Some, None, refl, sym, ap, ◌∙◌, subst, arith}
+use Rattle.std.proofs.Common.{◌≡◌, ℕ, ◌+◌, ◌<◌, ◌⊎◌, inl, inr, List, [], ◌∷◌, ◌++◌, length, get_or, slice_get, IsTrue, Option, Some, refl, sym, ap, ◌∙◌, subst, arith}
 use Rattle.std.specs.List.{Contains}
+use Rattle.std.proofs.lemmas.List.Elements.{Contains-append_cases, Contains-append_left, Contains-append_right}
 use Rattle.std.proofs.lemmas.Option.{slice_get-get_or, slice_get_within}
+use Rattle.batch_recipe.proofs.Slices.{slice_get-split}
 use Rattle.batch_check.specs.declared.edge.Edge.{Edge}
 use Rattle.batch_check.specs.declared.edge_set.EdgeSet.{EdgeSet}
 use Rattle.batch_check.specs.Edges.{has_pair}
 use Rattle.batch_check.specs.Pairs.{ArePaired}
 use Rattle.batch_check.specs.Joining.{AreBelow, Grows, HasJoined, HasTaken, LeadsFrom}
-
-pub slice_get-left : {X : Type 0} (xs ys : List X) (k : ℕ) (x : X) → slice_get xs k ≡ Some x → slice_get (xs ++ ys) k ≡ Some x
-slice_get-left [] ys k x h = let bad : None ≡ Some x = h in cc
-slice_get-left (y ∷ xs) ys zero x h = h
-slice_get-left (y ∷ xs) ys (suc k) x h = slice_get-left xs ys k x h
-
-pub slice_get-right : {X : Type 0} (xs ys : List X) (k : ℕ) → slice_get (xs ++ ys) (length xs + k) ≡ slice_get ys k
-slice_get-right [] ys k = let e : 0 + k ≡ k = omega arith in ap (slice_get ys) e
-slice_get-right (x ∷ xs) ys k = let e : length (x ∷ xs) + k ≡ suc (length xs + k) = omega arith in ap (slice_get (x ∷ (xs ++ ys))) e ∙ slice_get-right xs ys k
-
--- an element of both lists is one of the first or of the second
-pub slice_get-split : {X : Type 0} (xs ys : List X) (k : ℕ) (x : X) → slice_get (xs ++ ys) k ≡ Some x
-    → (slice_get xs k ≡ Some x) ⊎ ((j : ℕ) × (k ≡ length xs + j) × (slice_get ys j ≡ Some x))
-slice_get-split [] ys k x h = inr (k, (let e : k ≡ 0 + k = omega arith in e), h)
-slice_get-split (y ∷ xs) ys zero x h = inl h
-slice_get-split (y ∷ xs) ys (suc k) x h = elim (slice_get-split xs ys k x h) [
-  | inl left ↦ inl left
-  | inr right ↦ inr (right.0, (let e : suc k ≡ length (y ∷ xs) + right.0 = omega (arith, right.1) in e), right.2)
-]
 
 pub Contains-at : {X : Type 0} (xs : List X) (k : ℕ) (x : X) → slice_get xs k ≡ Some x → Contains xs x
 Contains-at xs k x h =
@@ -34,22 +17,6 @@ Contains-at xs k x h =
 
 pub at-Contains : {X : Type 0} (xs : List X) (x : X) → Contains xs x → (k : ℕ) × (slice_get xs k ≡ Some x)
 at-Contains {X} xs x h = (h.0, slice_get-get_or xs h.0 x h.1 ∙ ap (λ (y : X). Some y) h.2)
-
-pub Contains-left : {X : Type 0} (xs ys : List X) (x : X) → Contains xs x → Contains (xs ++ ys) x
-Contains-left xs ys x h = let at = at-Contains xs x h in Contains-at (xs ++ ys) at.0 x (slice_get-left xs ys at.0 x at.1)
-
-pub Contains-right : {X : Type 0} (xs ys : List X) (x : X) → Contains ys x → Contains (xs ++ ys) x
-Contains-right xs ys x h =
-    let at = at-Contains ys x h in
-    Contains-at (xs ++ ys) (length xs + at.0) x (slice_get-right xs ys at.0 ∙ at.1)
-
-pub Contains-split : {X : Type 0} (xs ys : List X) (x : X) → Contains (xs ++ ys) x → Contains xs x ⊎ Contains ys x
-Contains-split xs ys x h =
-    let at = at-Contains (xs ++ ys) x h in
-    elim (slice_get-split xs ys at.0 x at.1) [
-      | inl left ↦ inl (Contains-at xs at.0 x left)
-      | inr right ↦ inr (Contains-at ys right.0 x right.2)
-    ]
 
 pub Contains-none : {X : Type 0} (x : X) → Contains [] x → ⊥
 Contains-none x h = absurd (omega (arith, h.1))
@@ -89,26 +56,17 @@ pub HasJoined-append : (recipe node : ℕ) (xs ys : List (Option ℕ)) (later : 
     → HasJoined recipe node xs later old mid → HasJoined recipe node ys later mid new → HasJoined recipe node (xs ++ ys) later old new
 HasJoined-append recipe node xs ys later old mid new h g = record {
   grown = Grows-twice old mid new h.grown g.grown;
-  joined = λ i j among is. elim (Contains-split xs ys (Some i) among) [
+  joined = λ i j among is. elim (Contains-append_cases xs ys (Some i) among) [
     | inl left ↦ g.grown.kept i j (h.joined i j left is)
     | inr right ↦ g.joined i j right is
   ];
   only = λ edge stands. elim (g.only edge stands) [
-    | inr new ↦ inr (LeadsFrom-more recipe node ys (xs ++ ys) later edge (λ k. Contains-right xs ys k) new)
+    | inr new ↦ inr (LeadsFrom-more recipe node ys (xs ++ ys) later edge (λ k. Contains-append_right xs ys k) new)
     | inl before ↦ elim (h.only edge before) [
       | inl known ↦ inl known
-      | inr new ↦ inr (LeadsFrom-more recipe node xs (xs ++ ys) later edge (λ k. Contains-left xs ys k) new)
+      | inr new ↦ inr (LeadsFrom-more recipe node xs (xs ++ ys) later edge (λ k. Contains-append_left xs ys k) new)
     ]
   ];
-}
-
--- no edge is added where one of the two is no resource
-pub HasJoined-bare : (recipe node : ℕ) (earlier later : Option ℕ) (edges : EdgeSet) → ((i j : ℕ) → earlier ≡ Some i → later ≡ Some j → ⊥)
-    → HasJoined recipe node (earlier ∷ []) later edges edges
-HasJoined-bare recipe node earlier later edges bare = record {
-  grown = Grows-same edges;
-  joined = λ i j among is. absurd (bare i j (Contains-one earlier (Some i) among) is);
-  only = λ edge stands. inl stands;
 }
 
 pub HasJoined-pair : (recipe node earlier later : ℕ) (old new : EdgeSet) → Grows old new → IsTrue (has_pair new.edges.items earlier later)
@@ -152,7 +110,7 @@ ArePaired-push edges needs need paired joined before place i j ordered at_before
     ]
 
 pub AreBelow-push : (count : ℕ) (needs : List (Option ℕ)) (need : Option ℕ) → AreBelow count needs → ((k : ℕ) → need ≡ Some k → k < count) → AreBelow count (needs ++ need ∷ [])
-AreBelow-push count needs need below here k among = elim (Contains-split needs (need ∷ []) (Some k) among) [
+AreBelow-push count needs need below here k among = elim (Contains-append_cases needs (need ∷ []) (Some k) among) [
   | inl known ↦ below k known
   | inr new ↦ here k (Contains-one need (Some k) new)
 ]

@@ -12,6 +12,7 @@ use Rattle.batch_recipe.specs.Tree.{Place, Task, runs, follows, Tree, act, skip,
 use Rattle.batch_recipe.specs.Nodes.{Node, nodes, nodes_within, nodes_of_each, nodes_of_choices, needs_of, child}
 use Rattle.batch_model.specs.Lists.{Each}
 use Rattle.batch_model.proofs.Members.{Each-append}
+use Rattle.batch_verify.proofs.Covering.{Each_left, Each_right}
 use Rattle.batch_check.specs.Edges.{number_of_resource}
 use Rattle.batch_check.proofs.Names.{name_in-found, position_of_own, resources_differ}
 use Rattle.batch_check.specs.ByName.{name_in}
@@ -39,14 +40,6 @@ found c name among =
 
 pub name_among : (c : Cell) (number : ℕ) → number < length (resources_of c) → IsTrue (is_among (resources_of c) (name_in c number))
 name_among c number below = list_any_at (same_name (name_in c number)) (resources_of c) number [] below ((bytes_eq-Decides (name_in c number) (name_in c number)).1 refl)
-
-Each-left : {X : Type 0} (P : X → Type 0) (xs ys : List X) → Each P (xs ++ ys) → Each P xs
-Each-left P [] ys h = tt
-Each-left P (x ∷ xs) ys h = (h.0, Each-left P xs ys h.1)
-
-Each-right : {X : Type 0} (P : X → Type 0) (xs ys : List X) → Each P (xs ++ ys) → Each P ys
-Each-right P [] ys h = h
-Each-right P (x ∷ xs) ys h = Each-right P xs ys h.1
 
 -- where the needs of each node are known, all that is asked for on its path is
 module _ (K : Name → Type 0) where
@@ -80,11 +73,11 @@ module _ (K : Name → Type 0) where
     known_each p above i (tree t ts) k h =
         let xs = nodes (child p i) above t in
         let ys = nodes_of_each p above (i + 1) ts in
-        Each-append Path xs ys (known_path (child p i) above t k (Each-left Own xs ys h)) (known_each p above (i + 1) ts k (Each-right Own xs ys h))
+        Each-append Path xs ys (known_path (child p i) above t k (Each_left Own xs ys h)) (known_each p above (i + 1) ts k (Each_right Own xs ys h))
 
     known_choices : (p : Place) (above : List Name) (i : ℕ) (cs : Choices) → Each K above → Each Own (nodes_of_choices p above i cs) → Each Path (nodes_of_choices p above i cs)
     known_choices p above i (otherwise t) k h = known_path (child p i) above t k h
     known_choices p above i (choice c t cs) k h =
         let xs = nodes (child p i) above t in
         let ys = nodes_of_choices p above (i + 1) cs in
-        Each-append Path xs ys (known_path (child p i) above t k (Each-left Own xs ys h)) (known_choices p above (i + 1) cs k (Each-right Own xs ys h))
+        Each-append Path xs ys (known_path (child p i) above t k (Each_left Own xs ys h)) (known_choices p above (i + 1) cs k (Each_right Own xs ys h))

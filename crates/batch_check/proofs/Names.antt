@@ -2,6 +2,7 @@
 use Rattle.std.proofs.Common.{◌≡◌, ◌≢◌, ℕ, ◌<◌, Bool, true, false, cond, List, [], ◌∷◌, ◌++◌, map, filter, length, get_or, slice_get, position, Some, None, Option, All, AllPairs, ◌↔◌, refl, sym, ap, ◌∙◌, arith, nat_lt, lt-ltb}
 use Rattle.std.specs.List.{AllByRecursion, IsDistinct, position_or_len}
 use Rattle.std.proofs.lemmas.Option.{get_or_from_slice_get, slice_get_within}
+use Rattle.std.proofs.lemmas.Bool.{false_from_ne_true}
 use Rattle.std.proofs.lemmas.Slice.Eq.{bytes_eq-Decides}
 use Rattle.std.proofs.lemmas.List.Sums.{position_or_len_is}
 use Rattle.std.proofs.lemmas.Map.Made.{AllPairs-from_IsDistinct}
@@ -50,16 +51,12 @@ resources_distinct c = IsDistinct-thin (λ m. m.name) is_free (map (λ s. s.name
 pub resources_differ : (c : Cell) → AllPairs (λ x y. x ≢ y) (resources_of c)
 resources_differ c = AllPairs-from_IsDistinct bytes_eq-Decides (resources_of c) (resources_distinct c)
 
-not_true : (b : Bool) → (b ≡ true → ⊥) → b ≡ false
-not_true true h = absurd (h refl)
-not_true false h = refl
-
 -- a name stands first where it stands, in a list of different names
 pub position_of_own : (names : List Name) (i : ℕ) → AllPairs (λ x y. x ≢ y) names → i < length names → position (same_name (get_or names i [])) names ≡ Some i
 position_of_own names i differ below =
     let at : position_or_len (same_name (get_or names i [])) names ≡ i =
     position_or_len_is (same_name (get_or names i [])) names i [] (omega arith)
-    (λ k before. not_true (same_name (get_or names i []) (get_or names k [])) (λ same. differ k i [] before below (sym ((bytes_eq-Decides (get_or names i []) (get_or names k [])).0 same))))
+    (λ k before. false_from_ne_true (same_name (get_or names i []) (get_or names k [])) (λ same. differ k i [] before below (sym ((bytes_eq-Decides (get_or names i []) (get_or names k [])).0 same))))
     (λ _. (bytes_eq-Decides (get_or names i []) (get_or names i [])).1 refl) in
     let inside : nat_lt i (length names) ≡ true = lt-ltb i (length names) below in
     rw at (rw inside refl)

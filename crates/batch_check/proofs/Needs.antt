@@ -1,5 +1,5 @@
 -- The numbers of resources, and what acts ask for by them.
-use Rattle.std.proofs.Common.{◌≡◌, ℕ, suc, ◌+◌, ◌<◌, ◌≤◌, List, [], ◌∷◌, ◌++◌, map, length, drop, get_or, slice_get, Vec, Option, Some, None, option_map, refl, sym, ap, ◌∙◌, add-one, drop-cons, drop_of_length-le, append_assoc, append-nil}
+use Rattle.std.proofs.Common.{◌≡◌, ℕ, ◌+◌, ◌<◌, List, [], ◌++◌, map, length, get_or, slice_get, Vec, Option, Some, None, option_map, refl, sym, ap, ◌∙◌}
 use Rattle.std.specs.Global.{Global}
 use Rattle.std.proofs.lemmas.List.{map-append}
 use Rattle.std.proofs.lemmas.Option.{slice_get-get_or, slice_get-map}
@@ -60,18 +60,6 @@ module _ (cell : Cell) where
   -- with the numbers of the rest these are all
   abbrev pub IsCompletedBy : List (Option ℕ) → List Need → List (Option ℕ) → Type 0
   IsCompletedBy numbers rest all = numbers ++ numbers_of_resources cell (resources_of rest) ≡ all
-
-  pub IsCompletedBy-more : (numbers new all : List (Option ℕ)) (needs : List Need) (i : ℕ) (need : Need) → IsCompletedBy numbers (drop i needs) all → i < length needs → need ≡ get_or needs i need
-      → new ≡ numbers ++ number_of_resource cell need.resource ∷ [] → IsCompletedBy new (drop (i + 1) needs) all
-  IsCompletedBy-more numbers new all needs i need h within is pushed =
-      let numbered : List Need → List (Option ℕ) = λ rest. numbers_of_resources cell (resources_of rest) in
-      let cut : drop i needs ≡ need ∷ drop (i + 1) needs = drop-cons needs i need within ∙ (ap (λ n. n ∷ drop (suc i) needs) (sym is) ∙ ap (λ n. need ∷ drop n needs) (sym (add-one i))) in
-      ap (λ ws. ws ++ numbered (drop (i + 1) needs)) pushed
-      ∙ (append_assoc numbers (number_of_resource cell need.resource ∷ []) (numbered (drop (i + 1) needs)) ∙ (ap (λ rest. numbers ++ numbered rest) (sym cut) ∙ h))
-
-  pub IsCompletedBy-all : (numbers all : List (Option ℕ)) (needs : List Need) (i : ℕ) → IsCompletedBy numbers (drop i needs) all → length needs ≤ i → numbers ≡ all
-  IsCompletedBy-all numbers all needs i h past =
-      sym (append-nil numbers) ∙ (ap (λ rest. numbers ++ numbers_of_resources cell (resources_of rest)) (sym (drop_of_length-le needs past)) ∙ h)
 
 -- what the act with this number in a table asks for
 pub needs_at_number : (site : Site) (level : LabelTable) (number : ℕ) (table : List (Vec (Option ℕ) Global)) (own : Vec (Option ℕ) Global)

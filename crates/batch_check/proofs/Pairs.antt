@@ -1,11 +1,10 @@
 -- One more edge in a set of edges.
-use Rattle.std.proofs.Common.{◌≡◌, ℕ, ◌+◌, ◌*◌, ◌<◌, ◌/◌, Bool, true, false, ◌&&◌, ◌||◌, IsTrue, nat_eq, List, [], ◌∷◌, ◌++◌, length, set, get_or, inl, inr, refl, sym, ap, ◌∙◌, subst, arith, get_or-set_same, get_or-set_other}
+use Rattle.std.proofs.Common.{◌≡◌, ℕ, ◌+◌, ◌*◌, ◌<◌, ◌/◌, Bool, true, false, ◌&&◌, ◌||◌, nat_eq, List, [], ◌∷◌, ◌++◌, length, set, get_or, inl, inr, refl, sym, ap, ◌∙◌, arith, get_or-set_same, get_or-set_other}
 use Rattle.std.proofs.lemmas.Bool.{cases_eq, eqb-true, eq-eqb}
 use Rattle.std.proofs.lemmas.Nat.{mul-add-lt, div-mul-add}
 use Rattle.std.proofs.lemmas.List.Folds.{list_any-append}
 use Rattle.batch_check.specs.declared.edge.Edge.{Edge}
 use Rattle.batch_check.specs.Edges.{has_pair}
-use Rattle.batch_check.specs.Pairs.{Keeps}
 
 abbrev is_pair : Edge → ℕ → ℕ → Bool
 is_pair e i j = nat_eq e.earlier i && nat_eq e.later j
@@ -13,22 +12,11 @@ is_pair e i j = nat_eq e.earlier i && nat_eq e.later j
 has_pair-push : (edges : List Edge) (e : Edge) (i j : ℕ) → has_pair (edges ++ e ∷ []) i j ≡ (has_pair edges i j || (is_pair e i j || false))
 has_pair-push edges e i j = list_any-append (λ (f : Edge). is_pair f i j) edges (e ∷ [])
 
-or_left : (a b : Bool) → IsTrue a → IsTrue (a || b)
-or_left true b h = refl
-or_left false b h = cc
-
 or_right : (a b : Bool) → b ≡ true → (a || (b || false)) ≡ true
-or_right true b h = refl
-or_right false true h = refl
-or_right false false h = cc
+or_right a b h = grind arith
 
 or_none : (a b : Bool) → b ≡ false → a ≡ (a || (b || false))
-or_none true b h = refl
-or_none false true h = cc
-or_none false false h = refl
-
-pub pushed-keeps : (edges : List Edge) (e : Edge) → Keeps edges (edges ++ e ∷ [])
-pushed-keeps edges e i j h = subst IsTrue (sym (has_pair-push edges e i j)) (or_left (has_pair edges i j) (is_pair e i j || false) h)
+or_none a b h = grind arith
 
 is_pair-own : (e : Edge) (i j : ℕ) → e.earlier ≡ i → e.later ≡ j → is_pair e i j ≡ true
 is_pair-own e i j p q = rw (eq-eqb e.earlier i p, eq-eqb e.later j q) refl
@@ -40,10 +28,6 @@ is_pair-other e i j h = go (nat_eq e.earlier i) (nat_eq e.later j) refl refl
     go true true p q = absurd (h (eqb-true e.earlier i p) (eqb-true e.later j q))
     go true false p q = refl
     go false b p q = refl
-
-pub pushed-has : (edges : List Edge) (e : Edge) → IsTrue (has_pair (edges ++ e ∷ []) e.earlier e.later)
-pushed-has edges e =
-    has_pair-push edges e e.earlier e.later ∙ or_right (has_pair edges e.earlier e.later) (is_pair e e.earlier e.later) (is_pair-own e e.earlier e.later refl refl)
 
 -- the table says which pairs have an edge
 abbrev IsExact : ℕ → List Bool → List Edge → Type 0

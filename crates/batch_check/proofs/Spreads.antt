@@ -1,11 +1,11 @@
 -- Rounds that reach further resources.
-use Rattle.std.proofs.Common.{◌≡◌, ◌≢◌, ℕ, ◌+◌, ◌<◌, ◌≤◌, inl, inr, List, length, set, get_or, Option, Some, None, Bool, true, false, Contains, refl, sym, ap, ◌∙◌, subst, arith, below_more, length-set, get_or-set_same, get_or-set_other}
+use Rattle.std.proofs.Common.{◌≡◌, ◌≢◌, ℕ, ◌+◌, ◌<◌, ◌≤◌, inl, inr, List, length, set, get_or, Option, Some, None, Bool, true, false, Contains, sym, ap, ◌∙◌, subst, arith, below_more, length-set, get_or-set_same, get_or-set_other}
 use Rattle.std.proofs.lemmas.Bool.{cases_eq, cases_lt, false≢true}
 use Rattle.std.proofs.lemmas.List.{get_or_default}
 use Rattle.std.proofs.lemmas.List.Elements.{All-get_or, Contains-get_or}
 use Rattle.batch_check.specs.declared.edge.Edge.{Edge}
 use Rattle.batch_check.specs.LeastRanking.{HasEndsBelow}
-use Rattle.batch_check.specs.Spreading.{HasReached, IsSpread, LeadsBack, LeadsOn}
+use Rattle.batch_check.specs.Spreading.{HasReached, IsSpread, LeadsOn}
 use Rattle.batch_check.proofs.Raises.{no_edge}
 
 -- what the loop over the edges keeps
@@ -16,17 +16,6 @@ pub record KeepsSpreading (edges : List Edge) (start level : ℕ) (first levels 
   pub still : further ≡ false → (resource : ℕ) → get_or levels resource 0 ≤ level
   pub onward : (edge : Edge) → Contains edges edge → 0 < get_or levels edge.earlier 0 → get_or levels edge.earlier 0 < level → LeadsOn start levels edge
   pub here : (j : ℕ) → j < index → get_or levels (get_or edges j no_edge).earlier 0 ≡ level → LeadsOn start levels (get_or edges j no_edge)
-
-pub KeepsSpreading-first : (edges : List Edge) (start level : ℕ) (levels : List ℕ) (causes : List (Option Edge)) → IsSpread edges start level levels causes
-    → KeepsSpreading edges start level levels levels causes false 0
-KeepsSpreading-first edges start level levels causes h = record {
-  same_length = refl;
-  has = h.has;
-  top = λ resource. omega (arith, h.top resource);
-  still = λ none. h.top;
-  onward = h.onward;
-  here = λ j below. absurd (omega arith);
-}
 
 -- a resource that had no level gets the next one, by an edge from this level
 module _ (edges : List Edge) (start level : ℕ) (levels : List ℕ) (causes : List (Option Edge)) (e : Edge)
@@ -174,31 +163,6 @@ module _ (edges : List Edge) (start level : ℕ) (first levels : List ℕ) (caus
           subst (λ (e : Edge). LeadsOn start levels e) is (h.here stands.0 in' level_is)
     ];
   }
-
-pub LeadsBack-item : (edges : List Edge) (start level : ℕ) (first levels : List ℕ) (causes : List (Option Edge)) (further : Bool) (index : ℕ) → 0 < level
-    → KeepsSpreading edges start level first levels causes further index → index < length edges → get_or levels (get_or edges index no_edge).earlier 0 ≡ level
-    → (get_or edges index no_edge).later ≡ start → LeadsBack edges start level levels causes (get_or edges index no_edge)
-LeadsBack-item edges start level first levels causes further index positive h in_edges from back =
-    record { has = h.has; positive = positive; standing = Contains-get_or edges index no_edge in_edges; from = from; back = back }
-
--- the start alone has a level
-pub IsSpread-first : (edges : List Edge) (start : ℕ) (zeros : List ℕ) (causes : List (Option Edge)) → start < length zeros → length causes ≡ length zeros
-    → ((k : ℕ) → get_or zeros k 0 ≡ 0) → IsSpread edges start 1 (set zeros start 1) causes
-IsSpread-first edges start zeros causes inside sized empty =
-    let root : get_or (set zeros start 1) start 0 ≡ 1 = get_or-set_same zeros start 1 0 inside in
-    let other : (k : ℕ) → k ≢ start → get_or (set zeros start 1) k 0 ≡ 0 = λ k ne. get_or-set_other zeros start k 1 0 ne ∙ empty k in
-    record {
-      has = record {
-        lengths = sized ∙ sym (length-set zeros start 1);
-        root = root;
-        reached = λ k apart high. absurd (omega (arith, high, other k apart));
-      };
-      top = λ k. elim (cases_eq k start) [
-        | inl same ↦ let here : get_or (set zeros start 1) k 0 ≡ 1 = ap (λ n. get_or (set zeros start 1) n 0) same ∙ root in omega arith
-        | inr differ ↦ omega (arith, other k differ)
-      ];
-      onward = λ edge stands high low. absurd (omega (arith, high, low));
-    }
 
 pub level_positive : (edges : List Edge) (start level : ℕ) (levels : List ℕ) (causes : List (Option Edge)) → IsSpread edges start level levels causes → 0 < level
 level_positive edges start level levels causes h = omega (arith, h.top start, h.has.root)

@@ -1,5 +1,5 @@
 -- From what is found of recipes to what it means for clearance.
-use Rattle.std.proofs.Common.{◌≡◌, ◌≢◌, ℕ, ◌+◌, ◌<◌, ◌≤◌, ◌++◌, List, [], ◌∷◌, take, get_or, option_map, map, length, slice_get, IsTrue, Some, None, inl, inr, refl, sym, ap, ◌∙◌, subst, arith}
+use Rattle.std.proofs.Common.{◌≡◌, ◌≢◌, ℕ, ◌+◌, ◌<◌, ◌++◌, List, [], ◌∷◌, take, get_or, option_map, map, length, slice_get, IsTrue, Some, None, inl, inr, refl, sym, ap, ◌∙◌, subst}
 use Rattle.batch_cell.specs.LookUps.{resources_of}
 use Rattle.batch_cell.specs.declared.cell.Cell as equipment
 use Rattle.batch_recipe.specs.Conditions.{Name}
@@ -11,7 +11,6 @@ use Rattle.batch_model.specs.Lists.{Each}
 use Rattle.batch_model.specs.Plant.{Role, Master, Setup}
 use Rattle.batch_model.specs.Cleared.{Ranking, Part, NeedsResources, RiseStrictly, IsClear, IsClearedRecipe, HasCandidates, is_procedure, procedure_parts, CanBeCleared}
 use Rattle.batch_model.specs.Setups.{master_of, setup_of}
-use Rattle.batch_model.specs.declared.limits.TheConstants.{MAX_RECIPES}
 use Rattle.batch_model.specs.Recipes.{recipe_of}
 use Rattle.std.proofs.lemmas.List.{length-map, take_more}
 use Rattle.std.proofs.lemmas.Option.{get_or_from_slice_get, slice_get_read, slice_get-map}
@@ -130,9 +129,6 @@ least_clearance c recipes ranks set sound least =
       bounded = rise.bounded;
       least = λ other positive cleared. rise.least other positive (cleared_rises c (setup_of c recipes) other recipes cleared.recipes);
     }
-
-pub few_recipes : (c : equipment.Cell) (recipes : List document.Recipe) → IsRecipeSet (map (master_of c) recipes) → length recipes ≤ MAX_RECIPES
-few_recipes c recipes set = omega (arith, set.few, length-map recipes (master_of c))
 
 -- Recipes one after another
 

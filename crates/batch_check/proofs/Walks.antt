@@ -64,9 +64,6 @@ module _ (edges : List Edge) (ranks : List ℕ) (causes : List (Option Edge))
   laters : (walk : List Edge) → All (Contains edges) walk → All (λ e. e.later < length ranks) walk
   laters walk h = All-weaker (Contains edges) (λ e. e.later < length ranks) (λ e stands. (All-contains (λ f. (f.earlier < length ranks) × (f.later < length ranks)) edges e in_range stands).1) walk h
 
-  pub Walks-length : (walk : List Edge) (at : ℕ) → Walks edges ranks walk at → length walk ≤ length ranks
-  Walks-length walk at h = length-le_from_apart (length ranks) walk h.apart (laters walk h.standing)
-
   pub Walks-first : (e : Edge) → Overruns edges ranks e → Walks edges ranks (e ∷ []) e.earlier
   Walks-first e h = record {
     last = e.later;

@@ -12,7 +12,7 @@ use Rattle.batch_recipe.specs.declared.condition.Cond.{Cond}
 use Rattle.batch_recipe.specs.Diagram.{Diagram, Diagrams, Cases, diagrams_of, cases_of}
 use Rattle.batch_recipe.specs.Diagram as chart
 use Rattle.batch_grammar.specs.declared.firsts.Firsts.{Firsts}
-use Rattle.batch_grammar.specs.ChartGrammar.{Offsets, joined, ranged, opens_par, Skips, here, space, ReadsOp, ReadsTerm, ReadsCond, Reads, ReadsBranches, ReadsCases, IsWideChart}
+use Rattle.batch_grammar.specs.ChartGrammar.{Offsets, joined, ranged, opens_par, Skips, here, ReadsOp, ReadsTerm, ReadsCond, Reads, ReadsBranches, ReadsCases, IsWideChart}
 use Rattle.batch_grammar.specs.ChartGrammar as spec
 use Rattle.batch_grammar.specs.ChartMachine.{Frame, in_seq, in_par, in_case, in_else, in_loop, Test, of_sel, of_loop, Want, a_chart, open_seq, open_par, open_sel, open_loop, a_turns, after_turns, a_name, an_operator, an_operand, after_condition, after_else, after_chart, State, between, start, finish, step, steps, begin, no_firsts, first_or, noted, condition_of, take_word, take_chart_word, take_name_word, take_operand_word, deeper}
 use Rattle.batch_grammar.proofs.ChartBytes.{letter-not_equals, digit-not_equals}
@@ -47,11 +47,7 @@ cases_of-is [] t = refl
 cases_of-is (u ∷ us) t = ap (chart.when u.0 u.1) (cases_of-is us t)
 
 first_or-append : (o : Option ℕ) (f g : List ℕ) → first_or o (f ++ g) ≡ first_or (first_or o f) g
-first_or-append o [] g = refl
-first_or-append (Some m) (n ∷ f) [] = refl
-first_or-append (Some m) (n ∷ f) (k ∷ g) = refl
-first_or-append None (n ∷ f) [] = refl
-first_or-append None (n ∷ f) (k ∷ g) = refl
+first_or-append o f g = grind arith
 
 two : (a b c d : Option ℕ) → a ≡ b → c ≡ d → ◌≡◌ {A = Firsts} (record { outside = a; par = c }) (record { outside = b; par = d })
 two a b c d e f = cc

@@ -15,12 +15,12 @@ use Rattle.batch_recipe.specs.declared.condition.Op.{Op}
 use Rattle.batch_recipe.specs.declared.condition.Op.TheVariants.{Less, AtMost, Equal, NotEqual, AtLeast, Greater}
 use Rattle.batch_recipe.specs.declared.condition.Term.{Term}
 use Rattle.batch_recipe.specs.declared.condition.Cond.{Cond}
-use Rattle.batch_recipe.specs.Diagram.{Diagram, Diagrams, Cases, diagrams_of, cases_of}
+use Rattle.batch_recipe.specs.Diagram.{Diagram, Diagrams, Cases}
 use Rattle.batch_recipe.specs.Diagram as chart
 use Rattle.batch_grammar.specs.declared.word.Word.{Word}
 use Rattle.batch_grammar.specs.declared.word.Word.TheVariants as word
 use Rattle.batch_grammar.specs.declared.firsts.Firsts.{Firsts}
-use Rattle.batch_grammar.specs.ChartGrammar.{is_chart_space, Offsets, no_offsets, joined, opens_par, ranged, IsLabel, Skips, here, space, ReadsOp, ReadsTerm, ReadsCond, Reads, ReadsBranches, ReadsCases, IsWideChart}
+use Rattle.batch_grammar.specs.ChartGrammar.{is_chart_space, Offsets, no_offsets, joined, opens_par, ranged, IsLabel, Skips, here, space, ReadsOp, ReadsTerm, Reads, ReadsBranches, ReadsCases, IsWideChart}
 use Rattle.batch_grammar.specs.ChartGrammar as spec
 use Rattle.batch_grammar.specs.ChartMachine.{Frame, in_seq, in_par, in_case, in_else, in_loop, Test, of_sel, of_loop, Lexeme, IsGood, nothing, letters, digits, less, more, slash, begin, end_token, end_number, continues, go_on, step, finish, result_of, starts, takes_word, takes_number, takes_operator, in_token, start, Want, a_chart, open_seq, open_par, open_sel, open_loop, a_turns, after_turns, a_name, an_operator, an_operand, after_condition, after_else, after_chart, State, no_firsts, noted, number_offsets, sign_offsets, word_of, take_word, take_chart_word, take_name_word, take_operand_word, take_number, take_operator, take_sign, take_comma, take_close, take_else, condition_of, deeper, After, when_is}
 use Rattle.batch_grammar.proofs.ChartTexts.{name_more, name_of_letter, number_more, number_of_digit}
@@ -475,19 +475,7 @@ module _ (total : ℕ) (whole : Diagram) where
   result_back (after_chart t) [] o k e =
       let pair : ◌≡◌ {A = Diagram × Firsts} (t, o) (whole, k) = cc in
       (no_offsets, from_after_chart (subst (λ x. Completes [] x [] no_offsets) (sym (ap (λ p. p.0) pair)) (ends here)), ap (λ p. p.1) pair)
-  result_back (after_chart t) (f ∷ frames) o k e = absurd cc
-  result_back a_chart frames o k e = absurd cc
-  result_back open_seq frames o k e = absurd cc
-  result_back open_par frames o k e = absurd cc
-  result_back open_sel frames o k e = absurd cc
-  result_back open_loop frames o k e = absurd cc
-  result_back a_turns frames o k e = absurd cc
-  result_back (after_turns n) frames o k e = absurd cc
-  result_back (a_name test) frames o k e = absurd cc
-  result_back (an_operator test bytes) frames o k e = absurd cc
-  result_back (an_operand test bytes op) frames o k e = absurd cc
-  result_back (after_condition test c) frames o k e = absurd cc
-  result_back (after_else us) frames o k e = absurd cc
+  result_back w frames o k e = absurd (grind arith)
 
   runs_back : (s : List ℕ) (st : State) (k : Firsts) → IsGood st.lexeme → runs total s st ≡ Some (whole, k) → RestOf st s k
   unfolding runs finish in_token

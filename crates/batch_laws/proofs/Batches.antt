@@ -1,5 +1,5 @@
 -- A change of one act of one batch, among the entries of all batches.
-use Rattle.std.proofs.Common.{◌≡◌, refl, sym, ◌∙◌, ap, ap₂, subst, ℕ, ◌<◌, List, [], ◌∷◌, ◌++◌, Bool, true, false, cond, map, filter, flat_map, take, slice_get, Option, Some, None, inl, inr, ◌⊎◌, ⊎_elim, bytes_eq, nat_eq, append-nil, append_assoc}
+use Rattle.std.proofs.Common.{arith, ◌≡◌, refl, sym, ◌∙◌, ap, ap₂, subst, ℕ, ◌<◌, List, [], ◌∷◌, ◌++◌, Bool, true, false, cond, map, filter, flat_map, take, slice_get, Option, Some, None, inl, inr, ◌⊎◌, ⊎_elim, bytes_eq, nat_eq, append-nil, append_assoc}
 use Rattle.std.proofs.lemmas.List.{map-append}
 use Rattle.std.proofs.lemmas.Grind.{flat_map-append}
 use Rattle.batch_model.specs.Lists.{Has}
@@ -11,7 +11,7 @@ use Rattle.batch_laws.proofs.Facts.{Fact, performing, Standing, held_at, awaited
 use Rattle.batch_model.proofs.Members.{Has-split, Has-flat_map}
 use Rattle.batch_laws.proofs.Members.{Has-map, map-Has, flat_map-Has}
 use Rattle.batch_laws.proofs.Framing.{Frame, regroup}
-use Rattle.batch_laws.proofs.Entries.{nat_same, nat_self, nat_differs, holders-append}
+use Rattle.batch_laws.proofs.Entries.{nat_same, nat_self, holders-append}
 use Rattle.batch_recipe.specs.declared.need.Need.{Need}
 
 -- The model's holders are those among the entries
@@ -82,18 +82,10 @@ abbrev pub only : ℕ → (Batch → Batch) → Batch → Batch
 only n g b = elim (nat_eq b.number n) [ true ↦ g b | false ↦ b ]
 
 pub only-hit : (n : ℕ) (g : Batch → Batch) (b : Batch) → b.number ≡ n → only n g b ≡ g b
-only-hit n g b e = go (nat_eq b.number n) (subst (λ z. nat_eq b.number z ≡ true) e (nat_self b.number))
-  where
-    go : (t : Bool) → t ≡ true → elim t [ true ↦ g b | false ↦ b ] ≡ g b
-    go true f = refl
-    go false f = absurd cc
+only-hit n g b e = grind arith
 
 pub only-miss : (n : ℕ) (g : Batch → Batch) (b : Batch) → (b.number ≡ n → ⊥) → only n g b ≡ b
-only-miss n g b d = go (nat_eq b.number n) (nat_differs b.number n d)
-  where
-    go : (t : Bool) → t ≡ false → elim t [ true ↦ g b | false ↦ b ] ≡ b
-    go true f = absurd cc
-    go false f = refl
+only-miss n g b d = grind arith
 
 others-same : (n : ℕ) (g : Batch → Batch) (bs : List Batch) → ((c : Batch) → Has bs c → c.number ≡ n → ⊥) → map (only n g) bs ≡ bs
 others-same n g [] d = refl

@@ -1,7 +1,6 @@
 -- One act of one batch changes: what each kind of change keeps.
-use Rattle.std.proofs.Common.{◌≡◌, ◌⊎◌, ⊎_elim, refl, sym, ◌∙◌, ap, subst, subst₂, ℕ, ◌+◌, ◌≤◌, arith, List, [], ◌∷◌, ◌++◌, Bool, true, false, map, Option, Some, None, inl, inr, bytes_eq, append-nil}
+use Rattle.std.proofs.Common.{◌≡◌, ◌⊎◌, ⊎_elim, refl, sym, ◌∙◌, ap, subst, subst₂, ℕ, ◌+◌, ◌≤◌, arith, List, [], ◌∷◌, ◌++◌, Bool, true, false, map, Option, Some, inl, inr, bytes_eq, append-nil}
 use Rattle.std.proofs.lemmas.List.{map-append}
-use Rattle.std.proofs.lemmas.List.Sums.{fold-append}
 use Rattle.batch_matrix.specs.declared.state.State.{State}
 use Rattle.batch_model.specs.Lists.{Has}
 use Rattle.batch_recipe.specs.Conditions.{Name, ValueList}
@@ -9,13 +8,14 @@ use Rattle.batch_recipe.specs.Tree.{Place, Phase}
 use Rattle.batch_model.specs.Rest.{Rest, advance, changed_at, place_of}
 use Rattle.batch_model.specs.Plant.{Setup, Batch, BatchAct, Share, units_in, Plant, without}
 use Rattle.batch_model.specs.Runs.{Out}
-use Rattle.batch_model.specs.Records.{holders_after, holders_told, waiters_after, waiters_told, Active, active_after, active_told, state_after, state_told}
+use Rattle.batch_model.specs.Records.{holders_after, holders_told, waiters_after, Active, active_after, active_told, state_after, state_told}
+use Rattle.batch_machine.proofs.Telling.{holders_told-last, waiters_told-last, active_told-last, state_told-last}
 use Rattle.batch_laws.proofs.Facts.{Fact, holding, awaiting, performing, Standing, held_at, facts, Entry, entry, entries, holders_among, need, share}
 use Rattle.batch_model.specs.Cleared.{Ranking}
 use Rattle.batch_laws.proofs.ClearedDown.{IsClearedDown}
 use Rattle.batch_model.proofs.Members.{Has-split, Has-left, Has-right}
 use Rattle.batch_laws.proofs.Members.{Has-map}
-use Rattle.batch_laws.proofs.Ranking.{holding-performing, holding-awaiting}
+use Rattle.batch_laws.proofs.Ranking.{holding-performing, holding-awaiting, same_holding}
 use Rattle.batch_laws.proofs.Reaching.{advance-facts}
 use Rattle.batch_laws.proofs.Framing.{Frame}
 use Rattle.batch_laws.proofs.Entries.{Agrees, Has-holders, holders-append, agrees-more, agrees-less, IsOnce, NoneBy, units-append, units-frame, units-one, Has-frame, frame-front, frame-middle, frame-back, name_self}
@@ -24,18 +24,6 @@ use Rattle.batch_laws.proofs.Invariant.{IsFitting, IsSound, IsKept}
 use Rattle.batch_model.specs.Standing.{IsStanding}
 use Rattle.batch_laws.proofs.Invariant.{numbers-of}
 use Rattle.batch_recipe.specs.declared.need.Need.{Need}
-
-pub told-holders : (outs : List Out) (o : Out) (q : Name) → holders_told (outs ++ o ∷ []) q ≡ holders_after q (holders_told outs q) o
-told-holders outs o q = fold-append (holders_after q) [] outs (o ∷ [])
-
-pub told-waiters : (outs : List Out) (o : Out) (q : Name) → waiters_told (outs ++ o ∷ []) q ≡ waiters_after q (waiters_told outs q) o
-told-waiters outs o q = fold-append (waiters_after q) [] outs (o ∷ [])
-
-pub told-active : (outs : List Out) (o : Out) → active_told (outs ++ o ∷ []) ≡ active_after (active_told outs) o
-told-active outs o = fold-append active_after [] outs (o ∷ [])
-
-pub told-state : (outs : List Out) (o : Out) (n : ℕ) → state_told (outs ++ o ∷ []) n ≡ state_after n (state_told outs n) o
-told-state outs o n = fold-append (state_after n) None outs (o ∷ [])
 
 -- the plant in which g has changed batch n and the lines are these
 abbrev pub changed_plant : Plant → ℕ → (Batch → Batch) → (Name → List Share) → Plant
@@ -62,23 +50,23 @@ module _ (d : Setup) (rank : Ranking) (outs : List Out) (s : Plant) (sd : IsStan
     kept-after o g line num sound others own held within lines once asked active listed shown =
         record {
           sound = λ c h. ⊎_elim (λ e. subst (IsSound d rank) (sym e) sound) (λ m. k.sound c m.0) (Has-only s.next_number s.batches b g c (numbers-of d s sd) i h);
-          held = λ q. subst (λ z. Agrees z (holders_among q (entries (map (only b.number g) s.batches)))) (sym (told-holders outs o q)) (held q);
+          held = λ q. subst (λ z. Agrees z (holders_among q (entries (map (only b.number g) s.batches)))) (sym (holders_told-last outs o q)) (held q);
           within = within;
-          lines = λ q. told-waiters outs o q ∙ ap (λ z. waiters_after q z o) (k.lines q) ∙ lines q;
+          lines = λ q. waiters_told-last outs o q ∙ ap (λ z. waiters_after q z o) (k.lines q) ∙ lines q;
           once = once;
           asked = asked;
-          active = λ x h. active x (subst (λ z. Has z x) (told-active outs o) h);
+          active = λ x h. active x (subst (λ z. Has z x) (active_told-last outs o) h);
           listed = listed;
-          shown = λ a x h. subst (λ z. Has z (record { act = a; phase = x })) (sym (told-active outs o)) (shown a x h);
+          shown = λ a x h. subst (λ z. Has z (record { act = a; phase = x })) (sym (active_told-last outs o)) (shown a x h);
           states = λ c h.
               ⊎_elim
               (λ e.
               let n : c.number ≡ b.number = ap (λ z. z.number) e ∙ num in
-              told-state outs o c.number
+              state_told-last outs o c.number
               ∙ ap (λ z. state_after z (state_told outs z) o) n
               ∙ ap (λ z. state_after b.number z o) (k.states b i)
               ∙ own ∙ ap (λ z. Some z.state) (sym e))
-              (λ m. told-state outs o c.number ∙ others c.number (state_told outs c.number) m.1 ∙ k.states c m.0)
+              (λ m. state_told-last outs o c.number ∙ others c.number (state_told outs c.number) m.1 ∙ k.states c m.0)
               (Has-only s.next_number s.batches b g c (numbers-of d s sd) i h);
         }
 
@@ -144,9 +132,6 @@ tail-no_holder n p q r e = go (bytes_eq q r.resource) e
     go true m = absurd cc
     go false m = refl
 
-same_held : (y z : Need) → holding y ≡ holding z → y ≡ z
-same_held y z q = cc
-
 -- none of the needs is of the resource of r
 abbrev pub Lacks : List Need → Need → Type 0
 Lacks needs r = (x : Need) → Has needs x → x.resource ≡ r.resource → ⊥
@@ -195,7 +180,7 @@ module _ (n : ℕ) (p : Place) (names : List Need) (t u : Tail) (before after : 
   not_own : (r : Need) → Lacks names r → NoneBy (n, p) (holders_among r.resource (map (entry n) (held_at p names)))
   not_own r d y m e =
       let w = held-entry n p names (y.act, holding (need r.resource y.units)) (Has-holders r.resource (map (entry n) (held_at p names)) y m) in
-      d w.0 w.1 (ap (λ z. z.resource) (sym (same_held (need r.resource y.units) w.0 (ap (λ z. z.1) w.2))))
+      d w.0 w.1 (ap (λ z. z.resource) (sym (same_holding (need r.resource y.units) w.0 (ap (λ z. z.1) w.2))))
 
   -- the tail was a share of r, and it is given back
   pub agrees-released : (r : Need) → t ≡ also (holding r) → u ≡ nothing → Lacks names r → (told : List Share) → Agrees told (holders_among r.resource before)

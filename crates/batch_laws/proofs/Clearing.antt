@@ -195,8 +195,7 @@ module _ (setup : Setup) (rank : Ranking) where
     elsewhere_act unit asked needs (runs x) h rise = tt_of needs h
       where
         tt_of : (needs : List Need) → IsActOf in_procedure unit needs (runs x) → Each (IsElsewhere asked) (x ∷ [])
-        tt_of [] h = absurd h
-        tt_of (own ∷ needs) h = absurd h
+        tt_of needs h = absurd (grind arith)
     elsewhere_act unit asked [] (follows name t) h rise = absurd h
     elsewhere_act unit asked (own ∷ needs) (follows name t) h rise = elsewhere-below asked (resources_of needs) own.resource (phases t) rise (below-unit own.resource t h.1)
 
@@ -235,12 +234,10 @@ module _ (setup : Setup) (rank : Ranking) where
 
     in-procedure_act : (unit : Name) (p : Place) (asked : List Name) (above needs : List Need) (w : Task) → IsActOf in_procedure unit needs w
         → Each Clear (parts_within in_unit_procedure p (asked ++ resources_of needs) w) → RunsInUnitsBelow needs above w
-    in-procedure_act unit p asked above [] (runs x) h c = absurd h
-    in-procedure_act unit p asked above (own ∷ needs) (runs x) h c = absurd h
-    in-procedure_act unit p asked above [] (follows name t) h c = absurd h
     in-procedure_act unit p asked above (own ∷ needs) (follows name t) h c =
         in-unit_procedure own.resource (child p 0) (asked ++ (own.resource ∷ resources_of needs)) ((own ∷ needs) ++ above) t
         (inl (ap (λ z. let n : Need = record { resource = own.resource; units = z } in n) h.0)) h.1 c
+    in-procedure_act unit p asked above needs w h c = absurd (grind arith)
 
     in-procedure_each : (unit : Name) (p : Place) (asked : List Name) (above : List Need) (i : ℕ) (ts : Trees) → Within above asked → AreOfLevel in_procedure unit ts
         → Each Clear (parts_of_each in_procedure p asked i ts) → RunInUnits above ts
@@ -302,10 +299,8 @@ module _ (setup : Setup) (rank : Ranking) where
     one-user-below own xs u h = Each-map (RunsOn own) HasOneUser (λ x e. ap setup.capacity e ∙ exclusive own u) xs h
 
     one-user_act : (unit : Name) (needs : List Need) (w : Task) → IsActOf in_procedure unit needs w → BeginsWithUnit setup.units needs → Each HasOneUser (phases_within w)
-    one-user_act unit [] (runs x) h u = absurd h
-    one-user_act unit (own ∷ needs) (runs x) h u = absurd h
-    one-user_act unit [] (follows name t) h u = absurd h
     one-user_act unit (own ∷ needs) (follows name t) h u = one-user-below own.resource (phases t) u (below-unit own.resource t h.1)
+    one-user_act unit needs w h u = absurd (grind arith)
 
     mutual
       one-user : (unit : Name) (p : Place) (asked : List Name) (t : Tree) → IsOfLevel in_procedure unit t → Each Clear (parts in_procedure p asked t) → Each HasOneUser (phases t)
@@ -335,24 +330,16 @@ module _ (setup : Setup) (rank : Ranking) where
     -- The whole procedure
 
     whole-in_units : (t : Tree) → HasLevels t → Each Clear (parts is_procedure (0 ∷ []) [] t) → RunsInUnits [] t
-    whole-in_units (act s (runs x)) h c = absurd h
     whole-in_units (act s (follows name t)) h c =
         in-procedure [] (0 ∷ 0 ∷ []) (resources_of s.needs) (s.needs ++ []) t
         (λ z k. elim (Has-split s.needs [] (one_unit z) k) [ inl m ↦ map-Has (λ n. n.resource) s.needs (one_unit z) m | inr m ↦ absurd m ]) h c.1
     whole-in_units skip h c = tt
-    whole-in_units (seq ts) h c = absurd h
-    whole-in_units (par ts) h c = absurd h
-    whole-in_units (sel cs) h c = absurd h
-    whole-in_units (loop n q t) h c = absurd h
+    whole-in_units t h c = absurd (grind arith)
 
     whole-one-user : (t : Tree) → HasLevels t → Each Clear (parts is_procedure (0 ∷ []) [] t) → Each HasOneUser (phases t)
-    whole-one-user (act s (runs x)) h c = absurd h
     whole-one-user (act s (follows name t)) h c = one-user [] (0 ∷ 0 ∷ []) (resources_of s.needs) t h c.1
     whole-one-user skip h c = tt
-    whole-one-user (seq ts) h c = absurd h
-    whole-one-user (par ts) h c = absurd h
-    whole-one-user (sel cs) h c = absurd h
-    whole-one-user (loop n q t) h c = absurd h
+    whole-one-user t h c = absurd (grind arith)
 
     abbrev AsksInOrder : Node → Type 0
     AsksInOrder n = RiseStrictly rank n.asked

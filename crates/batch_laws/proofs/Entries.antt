@@ -1,9 +1,9 @@
 -- Holders among entries, and what a record tells of them.
-use Rattle.std.proofs.Common.{◌≡◌, refl, sym, ◌∙◌, ap, ap₂, subst, ℕ, ◌+◌, ◌≤◌, ◌<◌, arith, List, [], ◌∷◌, ◌++◌, Bool, true, false, cond, not, ◌&&◌, filter, inl, inr, ◌⊎◌, ⊎_elim, length, sum_by, bytes_eq, nat_eq}
-use Rattle.std.proofs.lemmas.List.Sums.{sum_by-append, sum_by-cons}
+use Rattle.std.proofs.Common.{◌≡◌, refl, sym, ◌∙◌, ap, ap₂, subst, ℕ, ◌+◌, ◌≤◌, ◌<◌, arith, List, [], ◌∷◌, ◌++◌, Bool, true, false, cond, not, filter, inl, inr, ◌⊎◌, ⊎_elim, length, sum_by, bytes_eq, nat_eq}
+use Rattle.std.proofs.lemmas.List.Sums.{sum_by-append, sum_by-cons, length-filter, count_by-le-length}
 use Rattle.std.proofs.lemmas.Slice.Eq.{bytes_eq-Decides}
 use Rattle.std.proofs.lemmas.Grind.{flat_map-append}
-use Rattle.std.proofs.lemmas.Bool.{and_parts}
+use Rattle.std.proofs.lemmas.Bool.{and_parts, and_from, not_from_true}
 use Rattle.batch_model.specs.Lists.{Has}
 use Rattle.batch_recipe.specs.Conditions.{Name}
 use Rattle.batch_model.specs.Plant.{BatchAct, Share, units_in, is_same_act, without}
@@ -30,18 +30,13 @@ name_self r = (bytes_eq-Decides r r).1 refl
 pub name_same : (q r : Name) → bytes_eq q r ≡ true → q ≡ r
 name_same q r e = (bytes_eq-Decides q r).0 e
 
-and-true : (a b : Bool) → a ≡ true → b ≡ true → (a && b) ≡ true
-and-true true true e f = refl
-and-true true false e f = absurd cc
-and-true false b e f = absurd cc
-
 pub same_act : (a b : BatchAct) → is_same_act a b ≡ true → a ≡ b
 same_act a b e =
     let h : (nat_eq a.0 b.0 ≡ true) × (bytes_eq a.1 b.1 ≡ true) = and_parts (nat_eq a.0 b.0) (bytes_eq a.1 b.1) e in
     ap₂ (λ x y. let z : BatchAct = (x, y) in z) (nat_same a.0 b.0 h.0) (name_same a.1 b.1 h.1)
 
 pub act_self : (a : BatchAct) → is_same_act a a ≡ true
-act_self a = and-true (nat_eq a.0 a.0) (bytes_eq a.1 a.1) (nat_self a.0) (name_self a.1)
+act_self a = and_from (nat_eq a.0 a.0) (bytes_eq a.1 a.1) (nat_self a.0) (name_self a.1)
 
 -- Filtered lists
 
@@ -68,12 +63,7 @@ filter-Has p (y ∷ xs) x (inr h) e = go (p y) (filter-Has p xs x h e)
     go false f = f
 
 length-filter_le : {X : Type 0} (p : X → Bool) (xs : List X) → length (filter p xs) ≤ length xs
-length-filter_le p [] = omega arith
-length-filter_le p (y ∷ xs) = go (p y) (length-filter_le p xs)
-  where
-    go : (b : Bool) → length (filter p xs) ≤ length xs → length (cond b (y ∷ filter p xs) (filter p xs)) ≤ length (y ∷ xs)
-    go true h = omega arith
-    go false h = omega arith
+length-filter_le p xs = omega (arith, length-filter p xs, count_by-le-length p xs)
 
 pub length-filter_lt : {X : Type 0} (p : X → Bool) (xs : List X) (x : X) → Has xs x → p x ≡ false → length (filter p xs) < length xs
 length-filter_lt p [] x h e = absurd h
@@ -88,15 +78,11 @@ length-filter_lt p (y ∷ xs) x (inr k) e = go (p y) (length-filter_lt p xs x k 
     go true h = omega arith
     go false h = omega arith
 
-not_true : (b : Bool) → b ≡ true → not b ≡ false
-not_true true e = refl
-not_true false e = absurd cc
-
 pub Has-without : (a : BatchAct) (xs : List Share) (x : Share) → Has (without a xs) x → Has xs x × (x.act ≡ a → ⊥)
 Has-without a xs x h =
     let k = Has-filter (λ b. not (is_same_act b.act a)) xs x h in (
       k.0,
-      λ e. absurd (let f : not (is_same_act x.act a) ≡ false = not_true (is_same_act x.act a) (subst (λ z. is_same_act x.act z ≡ true) e (act_self x.act)) in
+      λ e. absurd (let f : not (is_same_act x.act a) ≡ false = not_from_true (is_same_act x.act a) (subst (λ z. is_same_act x.act z ≡ true) e (act_self x.act)) in
           let g : not (is_same_act x.act a) ≡ true = k.1 in let t : ◌≡◌ {A = Bool} true false = sym g ∙ f in cc),
     )
 

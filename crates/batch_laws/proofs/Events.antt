@@ -1,5 +1,5 @@
 -- Each event keeps what is kept.
-use Rattle.std.proofs.Common.{◌≡◌, ◌⊎◌, ⊎_elim, refl, sym, ◌∙◌, ap, ap₂, subst, subst₂, ℕ, zero, suc, ◌<◌, ◌≤◌, arith, List, [], ◌∷◌, ◌++◌, Bool, true, false, cond, not, ◌&&◌, map, filter, find, Option, Some, None, inl, inr, nat_eq, length, bytes_eq}
+use Rattle.std.proofs.Common.{◌≡◌, ◌⊎◌, ⊎_elim, refl, sym, ◌∙◌, ap, ap₂, subst, subst₂, ℕ, ◌<◌, ◌≤◌, arith, List, [], ◌∷◌, ◌++◌, Bool, true, false, cond, not, map, filter, find, Option, Some, None, inl, inr, nat_eq}
 use Rattle.batch_matrix.specs.declared.state.State.{State}
 use Rattle.batch_matrix.specs.declared.state.State.TheVariants.{Idle, Running, Pausing, Paused, Holding, Held, Restarting, Stopping, Stopped, Aborting, Aborted, Complete}
 use Rattle.batch_matrix.specs.declared.command.Command.{Command}
@@ -13,7 +13,7 @@ use Rattle.batch_model.specs.Plant.{Recipe, Setup, Batch, BatchAct, Share, units
 use Rattle.batch_recipe.specs.Values.{with_outputs_zero}
 use Rattle.batch_model.specs.Events.{Refusal, created, ordered, removed, refused, command_not_accepted, not_idle, Answer, new_batch, with_batch, reset, commanded, lines_under, ordering, without_batch, removing}
 use Rattle.batch_model.specs.Runs.{Out, reply}
-use Rattle.batch_model.specs.Records.{holders_after, waiters_after, Active, active_after, ends_phase, state_after}
+use Rattle.batch_model.specs.Records.{waiters_after, state_after}
 use Rattle.batch_laws.proofs.Facts.{holding, awaiting, performing, Standing, facts, Entry, entry, entries_of, entries, holder_of, holders_among, need}
 use Rattle.batch_model.specs.Cleared.{Ranking}
 use Rattle.batch_laws.proofs.ClearedDown.{IsClearedDown}
@@ -24,7 +24,8 @@ use Rattle.batch_laws.proofs.Entries.{Agrees, once-filter, Has-filter, filter-Ha
 use Rattle.batch_laws.proofs.Batches.{Has-only, below-next, only, only-hit, only-miss, same-batch}
 use Rattle.batch_laws.proofs.Invariant.{IsFitting, NothingAwaited, IsSound, IsKept}
 use Rattle.batch_laws.proofs.Batches.{entry-of, of-entry}
-use Rattle.batch_laws.proofs.Changing.{changed_plant, kept-after, told-holders, told-waiters, told-active, told-state}
+use Rattle.batch_machine.proofs.Telling.{holders_told-last, waiters_told-last, active_told-last, state_told-last}
+use Rattle.batch_laws.proofs.Changing.{changed_plant, kept-after}
 use Rattle.batch_laws.proofs.Keeping.{kept-quiet}
 use Rattle.batch_laws.proofs.Moving.{tells-other, tells-own}
 use Rattle.std.proofs.lemmas.List.{append-nil}
@@ -51,15 +52,15 @@ kept-refused d rank outs s x k =
     let o : Out = reply (refused x) in
     record {
       sound = k.sound;
-      held = λ q. subst (λ z. Agrees z (holders_among q (entries s.batches))) (sym (told-holders outs o q)) (k.held q);
+      held = λ q. subst (λ z. Agrees z (holders_among q (entries s.batches))) (sym (holders_told-last outs o q)) (k.held q);
       within = k.within;
-      lines = λ q. told-waiters outs o q ∙ k.lines q;
+      lines = λ q. waiters_told-last outs o q ∙ k.lines q;
       once = k.once;
       asked = k.asked;
-      active = λ y h. k.active y (subst (λ z. Has z y) (told-active outs o) h);
+      active = λ y h. k.active y (subst (λ z. Has z y) (active_told-last outs o) h);
       listed = k.listed;
-      shown = λ a y h. subst (λ z. Has z (record { act = a; phase = y })) (sym (told-active outs o)) (k.shown a y h);
-      states = λ c h. told-state outs o c.number ∙ k.states c h;
+      shown = λ a y h. subst (λ z. Has z (record { act = a; phase = y })) (sym (active_told-last outs o)) (k.shown a y h);
+      states = λ c h. state_told-last outs o c.number ∙ k.states c h;
     }
 
 -- Creation
@@ -80,15 +81,15 @@ kept-created d rank outs s r name size told vs cleared sd k =
       sound = λ c h. ⊎_elim (k.sound c)
           (λ m. ⊎_elim (λ e. subst (IsSound d rank) e (record { cleared = cleared; fits = none })) (λ e. absurd e) m)
           (Has-split s.batches (n ∷ []) c h);
-      held = λ q. subst₂ Agrees (sym (told-holders outs o q)) (ap (holders_among q) (sym same)) (k.held q);
+      held = λ q. subst₂ Agrees (sym (holders_told-last outs o q)) (ap (holders_among q) (sym same)) (k.held q);
       within = λ q. subst (λ z. units_in (holders_among q z) ≤ d.capacity q) (sym same) (k.within q);
-      lines = λ q. told-waiters outs o q ∙ k.lines q;
+      lines = λ q. waiters_told-last outs o q ∙ k.lines q;
       once = k.once;
       asked = λ q a h. subst (λ z. Has z (a.act, awaiting (need q a.units))) (sym same) (k.asked q a h);
-      active = λ y h. subst (λ z. Has z (y.act, performing y.phase)) (sym same) (k.active y (subst (λ z. Has z y) (told-active outs o) h));
+      active = λ y h. subst (λ z. Has z (y.act, performing y.phase)) (sym same) (k.active y (subst (λ z. Has z y) (active_told-last outs o) h));
       listed = λ q a h. k.listed q a (subst (λ z. Has z (a.act, awaiting (need q a.units))) same h);
-      shown = λ a y h. subst (λ z. Has z (record { act = a; phase = y })) (sym (told-active outs o)) (k.shown a y (subst (λ z. Has z (a, performing y)) same h));
-      states = λ c h. told-state outs o c.number
+      shown = λ a y h. subst (λ z. Has z (record { act = a; phase = y })) (sym (active_told-last outs o)) (k.shown a y (subst (λ z. Has z (a, performing y)) same h));
+      states = λ c h. state_told-last outs o c.number
           ∙ ⊎_elim
           (λ m. tells-other s.next_number c.number (Some Idle) (Rattle.batch_model.specs.Records.state_told outs c.number)
           (λ e. (let l : c.number < s.next_number = below-next s.next_number s.batches c (numbers-of d s sd) m in absurd (omega arith))) ∙ k.states c m)
@@ -120,15 +121,15 @@ kept-removed d rank outs s b i idle sd k =
     = entries-without b.number s.batches (λ c h e. subst (λ z. facts z.rest ≡ []) (sym (same-batch s.next_number s.batches c b (numbers-of d s sd) h i e)) none) in
     record {
       sound = λ c h. k.sound c ((Has-filter left s.batches c h).0);
-      held = λ q. subst₂ Agrees (sym (told-holders outs o q)) (ap (holders_among q) (sym same)) (k.held q);
+      held = λ q. subst₂ Agrees (sym (holders_told-last outs o q)) (ap (holders_among q) (sym same)) (k.held q);
       within = λ q. subst (λ z. units_in (holders_among q z) ≤ d.capacity q) (sym same) (k.within q);
-      lines = λ q. told-waiters outs o q ∙ k.lines q;
+      lines = λ q. waiters_told-last outs o q ∙ k.lines q;
       once = k.once;
       asked = λ q a h. subst (λ z. Has z (a.act, awaiting (need q a.units))) (sym same) (k.asked q a h);
-      active = λ y h. subst (λ z. Has z (y.act, performing y.phase)) (sym same) (k.active y (subst (λ z. Has z y) (told-active outs o) h));
+      active = λ y h. subst (λ z. Has z (y.act, performing y.phase)) (sym same) (k.active y (subst (λ z. Has z y) (active_told-last outs o) h));
       listed = λ q a h. k.listed q a (subst (λ z. Has z (a.act, awaiting (need q a.units))) same h);
-      shown = λ a y h. subst (λ z. Has z (record { act = a; phase = y })) (sym (told-active outs o)) (k.shown a y (subst (λ z. Has z (a, performing y)) same h));
-      states = λ c h. told-state outs o c.number ∙ k.states c ((Has-filter left s.batches c h).0);
+      shown = λ a y h. subst (λ z. Has z (record { act = a; phase = y })) (sym (active_told-last outs o)) (k.shown a y (subst (λ z. Has z (a, performing y)) same h));
+      states = λ c h. state_told-last outs o c.number ∙ k.states c ((Has-filter left s.batches c h).0);
     }
 
 -- Commands
@@ -141,18 +142,10 @@ order-own c n x was = tells-own n (Some x) (Some was)
 
 -- a batch that may be reset has no facts
 reset-nothing : (x : State) (es : List Standing) → accepts x Reset ≡ true → IsFitting x es → es ≡ []
-reset-nothing Idle es e h = absurd cc
-reset-nothing Running es e h = absurd cc
-reset-nothing Pausing es e h = absurd cc
-reset-nothing Paused es e h = absurd cc
-reset-nothing Holding es e h = absurd cc
-reset-nothing Held es e h = absurd cc
-reset-nothing Restarting es e h = absurd cc
-reset-nothing Stopping es e h = absurd cc
 reset-nothing Stopped es e h = h
-reset-nothing Aborting es e h = absurd cc
 reset-nothing Aborted es e h = h
 reset-nothing Complete es e h = h
+reset-nothing x es e h = absurd (grind arith)
 
 kept-holders : (n : ℕ) (q : Name) (es : List Standing) → holders_among q (map (entry n) (filter is_kept es)) ≡ holders_among q (map (entry n) es)
 kept-holders n q [] = refl

@@ -108,43 +108,10 @@ fit-awaited Held es more p r k h = tt
 fit-awaited Restarting es more p r k h = tt
 
 pub fit-running : (x : State) (es : List Standing) → is_running x ≡ true → IsFitting x es
-fit-running Running es h = tt
-fit-running Idle es h = absurd cc
-fit-running Complete es h = absurd cc
-fit-running Stopped es h = absurd cc
-fit-running Aborted es h = absurd cc
-fit-running Stopping es h = absurd cc
-fit-running Aborting es h = absurd cc
-fit-running Pausing es h = absurd cc
-fit-running Paused es h = absurd cc
-fit-running Holding es h = absurd cc
-fit-running Held es h = absurd cc
-fit-running Restarting es h = absurd cc
-
-pub fit-nothing : (x : State) → IsFitting x []
-fit-nothing Idle = refl
-fit-nothing Complete = refl
-fit-nothing Stopped = refl
-fit-nothing Aborted = refl
-fit-nothing Stopping = λ p r k. k
-fit-nothing Aborting = λ p r k. k
-fit-nothing Running = tt
-fit-nothing Pausing = tt
-fit-nothing Paused = tt
-fit-nothing Holding = tt
-fit-nothing Held = tt
-fit-nothing Restarting = tt
+fit-running x es h = grind arith
 
 pub at_rest-nothing : (x : State) (es : List Standing) → IsAtRest x → IsFitting x es → es ≡ []
 at_rest-nothing Complete es r h = h
 at_rest-nothing Stopped es r h = h
 at_rest-nothing Aborted es r h = h
-at_rest-nothing Idle es r h = absurd cc
-at_rest-nothing Stopping es r h = absurd cc
-at_rest-nothing Aborting es r h = absurd cc
-at_rest-nothing Running es r h = absurd cc
-at_rest-nothing Pausing es r h = absurd cc
-at_rest-nothing Paused es r h = absurd cc
-at_rest-nothing Holding es r h = absurd cc
-at_rest-nothing Held es r h = absurd cc
-at_rest-nothing Restarting es r h = absurd cc
+at_rest-nothing x es r h = absurd (grind arith)

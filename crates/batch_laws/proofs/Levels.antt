@@ -1,5 +1,5 @@
 -- The expanded tree of a recipe has the levels of a procedure.
-use Rattle.std.proofs.Common.{◌≡◌, refl, ℕ, ◌+◌, List, [], ◌∷◌, Bool, true, false, ◌&&◌, not, Option, Some, None}
+use Rattle.std.proofs.Common.{arith, ◌≡◌, refl, ℕ, ◌+◌, List, [], ◌∷◌, Bool, true, false, ◌&&◌, not, Option, Some, None}
 use Rattle.std.proofs.lemmas.Bool.{and_parts}
 use Rattle.std.specs.List.{list_all}
 use Rattle.batch_recipe.specs.Conditions.{Name}
@@ -75,31 +75,26 @@ no_par w = elim w [ Follows c ↦ has_no_par (diagram_of c) | Runs phase values 
 module _ (bound : Binding) where
   phase_step-level : (acts : Name → Place → Tree) (unit name : Name) (p : Place) (o : Option UnitChoice) (needs : List Need) (w : Work)
       → (not (some_unit o) && not (some_chart w)) ≡ true → IsActOf in_operation unit (asked_by (unit_with bound o) needs) (task_of acts (unit_below unit (unit_with bound o)) name p w)
-  phase_step-level acts unit name p None needs (Follows c) e = absurd cc
-  phase_step-level acts unit name p None needs (Runs phase values) e = refl
-  phase_step-level acts unit name p (Some own) needs w e = absurd cc
+  phase_step-level acts unit name p o needs w e = grind arith
 
   operation-level : (acts : Name → Name → Place → Tree) → ((unit name : Name) (p : Place) → IsOfLevel in_operation unit (acts unit name p))
       → (unit name : Name) (p : Place) (o : Option UnitChoice) (needs : List Need) (w : Work)
       → (not (some_unit o) && some_chart w) ≡ true → IsActOf in_unit_procedure unit (asked_by (unit_with bound o) needs) (task_of (acts (unit_below unit (unit_with bound o))) (unit_below unit (unit_with bound o)) name p w)
   operation-level acts named unit name p None needs (Follows c) e = expanded-level in_operation unit (acts unit) (named unit) (child p 0) (diagram_of c) (λ q. tt)
-  operation-level acts named unit name p None needs (Runs phase values) e = absurd cc
-  operation-level acts named unit name p (Some own) needs w e = absurd cc
+  operation-level acts h unit name p o needs w e = absurd (grind arith)
 
   unit_procedure-level : (acts : Name → Name → Place → Tree) → ((unit name : Name) (p : Place) → IsOfLevel in_unit_procedure unit (acts unit name p))
       → (above unit name : Name) (p : Place) (o : Option UnitChoice) (needs : List Need) (w : Work)
       → (some_unit o && some_chart w) ≡ true → no_par w ≡ true → IsActOf in_procedure above (asked_by (unit_with bound o) needs) (task_of (acts (unit_below unit (unit_with bound o))) (unit_below unit (unit_with bound o)) name p w)
-  unit_procedure-level acts named above unit name p None needs w e n = absurd cc
   unit_procedure-level acts named above unit name p (Some own) needs (Follows c) e n =
       let unit : Name = unit_chosen bound own in
       (refl, expanded-level in_unit_procedure unit (acts unit) (named unit) (child p 0) (diagram_of c) (λ q. absurd cc))
-  unit_procedure-level acts named above unit name p (Some own) needs (Runs phase values) e n = absurd cc
+  unit_procedure-level acts h above unit name p o needs w e n = absurd (grind arith)
 
   procedure-level : (acts : Name → Name → Place → Tree) → ((unit name : Name) (p : Place) → IsOfLevel in_procedure [] (acts unit name p)) → (a : Act) (p : Place) (o : Option UnitChoice) (w : Work)
       → (not (some_unit o) && some_chart w) ≡ true → HasLevels (act (record { place = p; needs = asked_by (unit_with bound o) a.needs.items }) (task_of (acts (unit_below [] (unit_with bound o))) (unit_below [] (unit_with bound o)) a.name p w))
   procedure-level acts named a p None (Follows c) e = expanded-level in_procedure [] (acts []) (named []) (child p 0) (diagram_of c) (λ q. tt)
-  procedure-level acts named a p None (Runs phase values) e = absurd cc
-  procedure-level acts named a p (Some own) w e = absurd cc
+  procedure-level acts h a p o w e = absurd (grind arith)
 
   -- Tables
 

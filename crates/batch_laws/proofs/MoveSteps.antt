@@ -8,7 +8,7 @@ use Rattle.batch_matrix.specs.Matrix.{accepts}
 use Rattle.batch_model.specs.Lists.{Has}
 use Rattle.batch_recipe.specs.Conditions.{Name, ValueList}
 use Rattle.batch_recipe.specs.Tree.{Place, Step, Phase, Task, runs, follows, Tree}
-use Rattle.batch_model.specs.Rest.{Rest, ready, asking, open_act, live, freeing, in_seq, in_par, in_loop, done, is_done, acts, place_of}
+use Rattle.batch_model.specs.Rest.{Rest, ready, asking, open_act, live, freeing, is_done, acts, place_of}
 use Rattle.batch_model.specs.Plant.{Setup, Batch, units_in, Plant, in_act, held_in, holders}
 use Rattle.batch_model.specs.Moves.{Move, send, release, begin, start, end, ask, grant, is_running, is_stopping, is_stopped, is_quiet, is_empty, passed_on, beginning, entering, giving_back, when, is_served, act_move, freed, sent, released, begun, ended, asked, granted, batch_after, after, handed_values}
 use Rattle.batch_model.specs.Runs.{Out, move}
@@ -61,10 +61,10 @@ freed-facts s (suc k) = refl
 abbrev pub Stepped : Setup → Ranking → List Out → Plant → Move → Type 0
 Stepped d rank outs s m = IsKept d rank (outs ++ move m ∷ []) (after s m) × StartsIdle d (outs ++ move m ∷ [])
 
-some_move : (m l : Move) → ◌≡◌ {A = Option Move} (Some m) (Some l) → m ≡ l
+pub some_move : (m l : Move) → ◌≡◌ {A = Option Move} (Some m) (Some l) → m ≡ l
 some_move m l e = cc
 
-no_move : (l : Move) → ◌≡◌ {A = Option Move} None (Some l) → ⊥
+pub no_move : (l : Move) → ◌≡◌ {A = Option Move} None (Some l) → ⊥
 no_move l e = cc
 
 module _ (d : Setup) (rank : Ranking) (outs : List Out) (s : Plant) (sd : IsStanding d s) (k : IsKept d rank outs s) (b : Batch) (i : Has s.batches b) where
@@ -318,7 +318,4 @@ module _ (d : Setup) (rank : Ranking) (outs : List Out) (s : Plant) (sd : IsStan
   act-step (open_act p r) m j e td = step-open p r m j e
   act-step (live p x t) m j e td = step-live p x t m j e
   act-step (freeing p n) m j e td = step-freeing p n m j e
-  act-step (in_seq r cs) m j e td = absurd (no_move m e)
-  act-step (in_par rs) m j e td = absurd (no_move m e)
-  act-step (in_loop n c body r) m j e td = absurd (no_move m e)
-  act-step done m j e td = absurd (no_move m e)
+  act-step a m j e td = absurd (grind arith)

@@ -1,8 +1,8 @@
 -- The next move keeps what is kept.
-use Rattle.std.proofs.Common.{◌≡◌, refl, sym, subst, ℕ, List, [], Bool, true, false, ◌&&◌, Option, Some, None, option_and_then, option_to_list, inl, inr, nat_eq, ◌++◌, filter_map}
+use Rattle.std.proofs.Common.{arith, ◌≡◌, refl, sym, subst, ℕ, List, [], Bool, true, false, ◌&&◌, Option, Some, None, option_and_then, option_to_list, inl, inr, nat_eq, ◌++◌, filter_map}
 use Rattle.std.proofs.lemmas.Bool.{and_parts}
 use Rattle.batch_matrix.specs.declared.state.State.{State}
-use Rattle.batch_matrix.specs.declared.state.State.TheVariants.{Idle, Running, Pausing, Paused, Holding, Held, Restarting, Stopping, Stopped, Aborting, Aborted, Complete}
+use Rattle.batch_matrix.specs.declared.state.State.TheVariants.{Running, Pausing, Paused, Holding, Held, Restarting, Stopping, Stopped, Aborting, Aborted, Complete}
 use Rattle.batch_matrix.specs.Matrix.{ends_as}
 use Rattle.batch_model.specs.Lists.{Has}
 use Rattle.batch_recipe.specs.Tree.{Place}
@@ -10,7 +10,7 @@ use Rattle.batch_model.specs.Rest.{Rest, acts}
 use Rattle.batch_model.specs.Plant.{Setup, Batch, Plant, held_in}
 use Rattle.batch_model.specs.Moves.{after, Move, state, when, is_quiet, is_empty, is_reached, act_move, state_move, batch_moves, next, batch_after}
 use Rattle.batch_model.specs.Runs.{Out, move}
-use Rattle.batch_laws.proofs.Facts.{Standing, facts}
+use Rattle.batch_laws.proofs.Facts.{facts}
 use Rattle.batch_model.specs.Cleared.{Ranking}
 use Rattle.batch_machine.proofs.Falling.{next-possible}
 use Rattle.batch_model.proofs.Members.{Has-filter_map, Has-flat_map}
@@ -20,7 +20,7 @@ use Rattle.batch_laws.proofs.Invariant.{IsFitting, IsSound, IsKept}
 use Rattle.batch_laws.proofs.Quiet.{quiet-performs_nothing, holding-nothing, no_facts}
 use Rattle.batch_laws.proofs.Starting.{starts-nothing}
 use Rattle.batch_laws.proofs.Keeping.{kept-quiet}
-use Rattle.batch_laws.proofs.MoveSteps.{Stepped, act-step}
+use Rattle.batch_laws.proofs.MoveSteps.{Stepped, act-step, no_move, some_move}
 use Rattle.batch_model.specs.Standing.{IsStandingBatch, IsStanding}
 use Rattle.batch_laws.proofs.Invariant.{standing-of}
 
@@ -59,18 +59,7 @@ fit-reached Holding y r f e h = subst (FitsReached r) (same_some Held y f) (λ u
 fit-reached Restarting y r f e h = subst (FitsReached r) (same_some Running y f) (λ u. tt) e
 fit-reached Stopping y r f e h = subst (FitsReached r) (same_some Stopped y f) (λ u. nothing_left r u h) e
 fit-reached Aborting y r f e h = subst (FitsReached r) (same_some Aborted y f) (λ u. nothing_left r u h) e
-fit-reached Idle y r f e h = absurd cc
-fit-reached Paused y r f e h = absurd cc
-fit-reached Held y r f e h = absurd cc
-fit-reached Stopped y r f e h = absurd cc
-fit-reached Aborted y r f e h = absurd cc
-fit-reached Complete y r f e h = absurd cc
-
-some_move : (m l : Move) → ◌≡◌ {A = Option Move} (Some m) (Some l) → m ≡ l
-some_move m l e = cc
-
-no_move : (l : Move) → ◌≡◌ {A = Option Move} None (Some l) → ⊥
-no_move l e = cc
+fit-reached x y r f e h = absurd (grind arith)
 
 module _ (d : Setup) (rank : Ranking) (outs : List Out) (s : Plant) (sd : IsStanding d s) (k : IsKept d rank outs s) where
   state-step : (b : Batch) → Has s.batches b → (m : Move) → state_move b ≡ Some m → Stepped d rank outs s m

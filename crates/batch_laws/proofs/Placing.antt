@@ -77,8 +77,7 @@ mutual
       ⊎_elim (λ m. (i, omega arith, under_child p i e.0 (facts-under (child p i) c r pl.0 h.0 e m)))
       (λ m. let n = facts-side_by_side p (i + 1) cs rs pl.1 h.1 e m in (n.0, omega (arith, n.1), n.2))
       (Has-split (facts r) (facts_of_each rs) e k)
-  facts-side_by_side p i no_trees (rest r rs) pl h e k = absurd h
-  facts-side_by_side p i (tree c cs) no_rests pl h e k = absurd h
+  facts-side_by_side p i cs rs pl h e k = absurd (grind arith)
 
   pub facts-chosen : (p : Place) (i : ℕ) (ch : Choices) (r : Rest) → IsChoicePlaced p i ch → IsChosen ch r → (e : Standing) → Has (facts r) e → IsUnderLater p i e.0
   facts-chosen p i (otherwise c) r pl h e k = (i, omega arith, under_child p i e.0 (facts-under (child p i) c r pl h e k))

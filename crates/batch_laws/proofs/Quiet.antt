@@ -1,7 +1,7 @@
 -- Where no phase is live, nothing is held and nothing is asked for, there are no facts.
-use Rattle.std.proofs.Common.{◌≡◌, ⊎_elim, refl, ap, List, [], ◌∷◌, ◌++◌, true, take, slice_get, inl, inr}
+use Rattle.std.proofs.Common.{arith, ◌≡◌, ⊎_elim, refl, ap, List, [], ◌∷◌, ◌++◌, true, take, slice_get, inl, inr}
 use Rattle.batch_matrix.specs.declared.state.State.{State}
-use Rattle.batch_matrix.specs.declared.state.State.TheVariants.{Idle, Running, Pausing, Paused, Holding, Held, Restarting, Stopping, Stopped, Aborting, Aborted, Complete}
+use Rattle.batch_matrix.specs.declared.state.State.TheVariants.{Stopping, Aborting}
 use Rattle.batch_model.specs.Lists.{Has}
 use Rattle.batch_recipe.specs.Tree.{Place, Step, Phase}
 use Rattle.batch_model.specs.Rest.{Rest, ready, asking, open_act, live, freeing, in_seq, in_par, in_loop, done, Rests, no_rests, rest, acts, acts_of_each}
@@ -128,13 +128,4 @@ no_facts es w p h = no_members es none
 pub fit-stopping : (x : State) (es : List Standing) → is_stopping x ≡ true → IsFitting x es → NothingAwaited es
 fit-stopping Stopping es e h = h
 fit-stopping Aborting es e h = h
-fit-stopping Idle es e h = absurd cc
-fit-stopping Complete es e h = absurd cc
-fit-stopping Stopped es e h = absurd cc
-fit-stopping Aborted es e h = absurd cc
-fit-stopping Running es e h = absurd cc
-fit-stopping Pausing es e h = absurd cc
-fit-stopping Paused es e h = absurd cc
-fit-stopping Holding es e h = absurd cc
-fit-stopping Held es e h = absurd cc
-fit-stopping Restarting es e h = absurd cc
+fit-stopping x es e h = absurd (grind arith)

@@ -44,12 +44,6 @@ rises-below_last rank low (q ∷ needs) r h (inl e) =
     subst (λ x. rank x.resource ≤ last_rank rank (rank q.resource) (resources_of needs)) e (last_rank-above rank (rank q.resource) (resources_of needs) h.1)
 rises-below_last rank low (q ∷ needs) r h (inr k) = rises-below_last rank (rank q.resource) needs r h.1 k
 
-pub Has-take : (k : ℕ) (names : List Need) (r : Need) → Has (take k names) r → Has names r
-Has-take zero names r h = absurd h
-Has-take (suc k) [] r h = absurd h
-Has-take (suc k) (q ∷ names) r (inl e) = inl e
-Has-take (suc k) (q ∷ names) r (inr h) = inr (Has-take k names r h)
-
 pub Has-get : (k : ℕ) (names : List Need) (r : Need) → slice_get names k ≡ Some r → Has names r
 Has-get k [] r e = absurd cc
 Has-get zero (q ∷ names) r e = inl cc
@@ -159,8 +153,7 @@ mutual
   awaited-above_side_by_side rank low no_trees no_rests rs h q x k = absurd k
   awaited-above_side_by_side rank low (tree c cs) (rest r more) rs h q x k =
       ⊎_elim (awaited-above rank low c r rs.0 h.0 q x) (awaited-above_side_by_side rank low cs more rs.1 h.1 q x) (Has-split (facts r) (facts_of_each more) (q, awaiting x) k)
-  awaited-above_side_by_side rank low no_trees (rest r more) rs h q x k = absurd h
-  awaited-above_side_by_side rank low (tree c cs) no_rests rs h q x k = absurd h
+  awaited-above_side_by_side rank low cs r rs h q x k = absurd (grind arith)
 
   pub awaited-above_chosen : (rank : Ranking) (low : ℕ) (ch : Choices) (r : Rest) → ChoicesRiseDown rank low ch → IsChosen ch r → (q : Place) (x : Need) → Has (facts r) (q, awaiting x) → low < rank x.resource
   awaited-above_chosen rank low (otherwise c) r rs h q x k = awaited-above rank low c r rs h q x k
@@ -226,8 +219,7 @@ mutual
       (λ n. rank-rises_side_by_side rank low p (i + 1) cs more pl.1 rs.1 h.1 qh qw x y m n ab)
       (Has-split (facts r) (facts_of_each more) (qw, awaiting y) wk))
       (Has-split (facts r) (facts_of_each more) (qh, holding x) hk)
-  rank-rises_side_by_side rank low p i no_trees (rest r more) pl rs h qh qw x y hk wk ab = absurd h
-  rank-rises_side_by_side rank low p i (tree c cs) no_rests pl rs h qh qw x y hk wk ab = absurd h
+  rank-rises_side_by_side rank low p i cs r pl rs h qh qw x y hk wk ab = absurd (grind arith)
 
   pub rank-rises_chosen : (rank : Ranking) (low : ℕ) (p : Place) (i : ℕ) (ch : Choices) (r : Rest) → IsChoicePlaced p i ch → ChoicesRiseDown rank low ch → IsChosen ch r
       → (qh qw : Place) (x y : Need) → Has (facts r) (qh, holding x) → Has (facts r) (qw, awaiting y) → IsAtOrAbove qh qw → rank x.resource < rank y.resource

@@ -1,5 +1,5 @@
 -- Reaching a chart and advancing change no facts; withdrawing takes the asks away.
-use Rattle.std.proofs.Common.{◌≡◌, refl, sym, ◌∙◌, ap, ap₂, ℕ, zero, suc, pred, List, [], ◌∷◌, ◌++◌, Bool, true, false, filter, take, slice_get, Option, Some, None, append-nil}
+use Rattle.std.proofs.Common.{arith, ◌≡◌, refl, sym, ◌∙◌, ap, ap₂, ℕ, zero, suc, pred, List, [], ◌∷◌, ◌++◌, Bool, true, false, filter, take, slice_get, Option, Some, None, append-nil}
 use Rattle.std.proofs.lemmas.List.Elements.{filter-append}
 use Rattle.std.proofs.lemmas.Bool.{and_parts}
 use Rattle.batch_recipe.specs.Conditions.{ValueList, holds}
@@ -10,15 +10,7 @@ use Rattle.batch_laws.proofs.Facts.{holding, awaiting, performing, Standing, hel
 use Rattle.batch_recipe.specs.declared.need.Need.{Need}
 
 pub done-facts : (r : Rest) → is_done r ≡ true → facts r ≡ []
-done-facts done e = refl
-done-facts (ready s w k) e = absurd cc
-done-facts (asking s w k) e = absurd cc
-done-facts (open_act s r) e = absurd cc
-done-facts (live s p x) e = absurd cc
-done-facts (freeing s k) e = absurd cc
-done-facts (in_seq r cs) e = absurd cc
-done-facts (in_par rs) e = absurd cc
-done-facts (in_loop n c body r) e = absurd cc
+done-facts r e = grind arith
 
 all_done-facts : (rs : Rests) → all_done rs ≡ true → facts_of_each rs ≡ []
 all_done-facts no_rests e = refl

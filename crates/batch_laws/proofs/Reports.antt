@@ -1,7 +1,7 @@
 -- Each report keeps what is kept, and so does each event.
-use Rattle.std.proofs.Common.{◌≡◌, refl, sym, ◌∙◌, ap, subst, subst₂, ℕ, List, [], ◌∷◌, ◌++◌, Bool, true, false, not, ◌&&◌, filter, find, Option, Some, None, inl, inr, nat_eq, length, bytes_eq}
+use Rattle.std.proofs.Common.{arith, ◌≡◌, refl, sym, ◌∙◌, ap, subst, subst₂, ℕ, List, [], ◌∷◌, ◌++◌, Bool, true, false, not, ◌&&◌, filter, find, Option, Some, None, inl, inr, nat_eq, length, bytes_eq}
 use Rattle.batch_matrix.specs.declared.state.State.{State}
-use Rattle.batch_matrix.specs.declared.state.State.TheVariants.{Idle, Running, Pausing, Paused, Holding, Held, Restarting, Stopping, Stopped, Aborting, Aborted, Complete}
+use Rattle.batch_matrix.specs.declared.state.State.TheVariants.{Running, Paused, Holding, Held, Stopped, Aborted}
 use Rattle.batch_matrix.specs.declared.command.Command.TheVariants.{Hold}
 use Rattle.batch_matrix.specs.declared.report.Report.{Report}
 use Rattle.batch_matrix.specs.declared.report.PhaseEnd.{PhaseEnd}
@@ -11,8 +11,8 @@ use Rattle.std.specs.Option.{option_or}
 use Rattle.batch_model.specs.Lists.{Has}
 use Rattle.batch_recipe.specs.Conditions.{Name, ValueList}
 use Rattle.batch_recipe.specs.Tree.{Place, Phase, Step}
-use Rattle.batch_model.specs.Rest.{Rest, ready, asking, open_act, live, freeing, in_seq, in_par, in_loop, done, acts, place_of}
-use Rattle.batch_model.specs.Plant.{Formula, size_out_of_range, value_out_of_range, scaled, Recipe, Master, Setup, Batch, BatchAct, Plant, batch_at, in_batch, in_act}
+use Rattle.batch_model.specs.Rest.{Rest, ready, asking, open_act, live, freeing, in_seq, in_par, in_loop, done, acts}
+use Rattle.batch_model.specs.Plant.{Formula, size_out_of_range, value_out_of_range, scaled, Recipe, Master, Setup, Batch, Plant, batch_at, in_batch}
 use Rattle.batch_model.specs.Moves.{Move, ended, next}
 use Rattle.batch_recipe.specs.Values.{with_values, are_outputs}
 use Rattle.batch_model.specs.Events.{Event, create, order, remove, report, Reply, reported, refused, unknown_recipe, bad_binding, binding, is_binding, bound_by, roles_told, creating_for, unknown_batch, no_live_phase, report_not_expected, bad_output, bad_size, bad_value, full, moves_pending, no_memory, is_full, creating, ordering, removing, LivePhase, live_in, live_phase, phase_after, batch_state_after, outputs_of, batch_reported, reporting, judged, react}
@@ -33,150 +33,16 @@ use Rattle.batch_model.specs.Standing.{IsControl, IsStanding}
 -- Reports
 
 ended-word : (t : State) (word : Report) → after_report t word ≡ Some Ended → ends_phase word ≡ true
-ended-word t Report.Done e = refl
-ended-word Idle Report.Paused e = absurd cc
-ended-word Running Report.Paused e = absurd cc
-ended-word Pausing Report.Paused e = absurd cc
-ended-word Paused Report.Paused e = absurd cc
-ended-word Holding Report.Paused e = absurd cc
-ended-word Held Report.Paused e = absurd cc
-ended-word Restarting Report.Paused e = absurd cc
-ended-word Stopping Report.Paused e = absurd cc
-ended-word Stopped Report.Paused e = absurd cc
-ended-word Aborting Report.Paused e = absurd cc
-ended-word Aborted Report.Paused e = absurd cc
-ended-word Complete Report.Paused e = absurd cc
-ended-word Idle Report.Held e = absurd cc
-ended-word Running Report.Held e = absurd cc
-ended-word Pausing Report.Held e = absurd cc
-ended-word Paused Report.Held e = absurd cc
-ended-word Holding Report.Held e = absurd cc
-ended-word Held Report.Held e = absurd cc
-ended-word Restarting Report.Held e = absurd cc
-ended-word Stopping Report.Held e = absurd cc
-ended-word Stopped Report.Held e = absurd cc
-ended-word Aborting Report.Held e = absurd cc
-ended-word Aborted Report.Held e = absurd cc
-ended-word Complete Report.Held e = absurd cc
-ended-word Idle Report.Running e = absurd cc
-ended-word Running Report.Running e = absurd cc
-ended-word Pausing Report.Running e = absurd cc
-ended-word Paused Report.Running e = absurd cc
-ended-word Holding Report.Running e = absurd cc
-ended-word Held Report.Running e = absurd cc
-ended-word Restarting Report.Running e = absurd cc
-ended-word Stopping Report.Running e = absurd cc
-ended-word Stopped Report.Running e = absurd cc
-ended-word Aborting Report.Running e = absurd cc
-ended-word Aborted Report.Running e = absurd cc
-ended-word Complete Report.Running e = absurd cc
-ended-word t Report.Stopped e = refl
-ended-word t Report.Aborted e = refl
-ended-word Idle Report.Fault e = absurd cc
-ended-word Running Report.Fault e = absurd cc
-ended-word Pausing Report.Fault e = absurd cc
-ended-word Paused Report.Fault e = absurd cc
-ended-word Holding Report.Fault e = absurd cc
-ended-word Held Report.Fault e = absurd cc
-ended-word Restarting Report.Fault e = absurd cc
-ended-word Stopping Report.Fault e = absurd cc
-ended-word Stopped Report.Fault e = absurd cc
-ended-word Aborting Report.Fault e = absurd cc
-ended-word Aborted Report.Fault e = absurd cc
-ended-word Complete Report.Fault e = absurd cc
+ended-word t word e = grind arith
 
 now-word : (t y : State) (word : Report) → after_report t word ≡ Some (Now y) → ends_phase word ≡ false
-now-word Idle y Report.Done e = absurd cc
-now-word Running y Report.Done e = absurd cc
-now-word Pausing y Report.Done e = absurd cc
-now-word Paused y Report.Done e = absurd cc
-now-word Holding y Report.Done e = absurd cc
-now-word Held y Report.Done e = absurd cc
-now-word Restarting y Report.Done e = absurd cc
-now-word Stopping y Report.Done e = absurd cc
-now-word Stopped y Report.Done e = absurd cc
-now-word Aborting y Report.Done e = absurd cc
-now-word Aborted y Report.Done e = absurd cc
-now-word Complete y Report.Done e = absurd cc
-now-word t y Report.Paused e = refl
-now-word t y Report.Held e = refl
-now-word t y Report.Running e = refl
-now-word Idle y Report.Stopped e = absurd cc
-now-word Running y Report.Stopped e = absurd cc
-now-word Pausing y Report.Stopped e = absurd cc
-now-word Paused y Report.Stopped e = absurd cc
-now-word Holding y Report.Stopped e = absurd cc
-now-word Held y Report.Stopped e = absurd cc
-now-word Restarting y Report.Stopped e = absurd cc
-now-word Stopping y Report.Stopped e = absurd cc
-now-word Stopped y Report.Stopped e = absurd cc
-now-word Aborting y Report.Stopped e = absurd cc
-now-word Aborted y Report.Stopped e = absurd cc
-now-word Complete y Report.Stopped e = absurd cc
-now-word Idle y Report.Aborted e = absurd cc
-now-word Running y Report.Aborted e = absurd cc
-now-word Pausing y Report.Aborted e = absurd cc
-now-word Paused y Report.Aborted e = absurd cc
-now-word Holding y Report.Aborted e = absurd cc
-now-word Held y Report.Aborted e = absurd cc
-now-word Restarting y Report.Aborted e = absurd cc
-now-word Stopping y Report.Aborted e = absurd cc
-now-word Stopped y Report.Aborted e = absurd cc
-now-word Aborting y Report.Aborted e = absurd cc
-now-word Aborted y Report.Aborted e = absurd cc
-now-word Complete y Report.Aborted e = absurd cc
-now-word t y Report.Fault e = refl
+now-word t y word e = grind arith
 
 same-word : (t : State) (word : Report) → after_report t word ≡ Some Same → ends_phase word ≡ false
-same-word Idle Report.Done e = absurd cc
-same-word Running Report.Done e = absurd cc
-same-word Pausing Report.Done e = absurd cc
-same-word Paused Report.Done e = absurd cc
-same-word Holding Report.Done e = absurd cc
-same-word Held Report.Done e = absurd cc
-same-word Restarting Report.Done e = absurd cc
-same-word Stopping Report.Done e = absurd cc
-same-word Stopped Report.Done e = absurd cc
-same-word Aborting Report.Done e = absurd cc
-same-word Aborted Report.Done e = absurd cc
-same-word Complete Report.Done e = absurd cc
-same-word t Report.Paused e = refl
-same-word t Report.Held e = refl
-same-word t Report.Running e = refl
-same-word Idle Report.Stopped e = absurd cc
-same-word Running Report.Stopped e = absurd cc
-same-word Pausing Report.Stopped e = absurd cc
-same-word Paused Report.Stopped e = absurd cc
-same-word Holding Report.Stopped e = absurd cc
-same-word Held Report.Stopped e = absurd cc
-same-word Restarting Report.Stopped e = absurd cc
-same-word Stopping Report.Stopped e = absurd cc
-same-word Stopped Report.Stopped e = absurd cc
-same-word Aborting Report.Stopped e = absurd cc
-same-word Aborted Report.Stopped e = absurd cc
-same-word Complete Report.Stopped e = absurd cc
-same-word Idle Report.Aborted e = absurd cc
-same-word Running Report.Aborted e = absurd cc
-same-word Pausing Report.Aborted e = absurd cc
-same-word Paused Report.Aborted e = absurd cc
-same-word Holding Report.Aborted e = absurd cc
-same-word Held Report.Aborted e = absurd cc
-same-word Restarting Report.Aborted e = absurd cc
-same-word Stopping Report.Aborted e = absurd cc
-same-word Stopped Report.Aborted e = absurd cc
-same-word Aborting Report.Aborted e = absurd cc
-same-word Aborted Report.Aborted e = absurd cc
-same-word Complete Report.Aborted e = absurd cc
-same-word t Report.Fault e = refl
+same-word t word e = grind arith
 
 ended-state : (word : Report) (x : State) → ends_phase word ≡ true → batch_state_after word x ≡ x
-ended-state Report.Done x e = refl
-ended-state Report.Paused x e = refl
-ended-state Report.Held x e = refl
-ended-state Report.Running x e = refl
-ended-state Report.Stopped x e = refl
-ended-state Report.Aborted x e = refl
-ended-state Report.Fault x e = absurd cc
+ended-state word x e = grind arith
 
 fit-fault : (x : State) (es : List Standing) (t : Bool) → IsFitting x es → IsFitting (elim t [ true ↦ Holding | false ↦ x ]) es
 fit-fault x es true h = tt

@@ -1,5 +1,6 @@
 -- A phase that starts was idle, and its unit offers it.
 use Rattle.std.proofs.Common.{◌≡◌, ⊎_elim, refl, sym, ◌∙◌, ap, ap₂, subst, ℕ, ◌+◌, ◌≤◌, arith, List, [], ◌∷◌, ◌++◌, Bool, true, false, map, inl, inr, bytes_eq, nat_eq, IsTrue}
+use Rattle.std.proofs.lemmas.List.{same_from_push}
 use Rattle.batch_laws.proofs.Units as units
 use Rattle.batch_model.specs.Lists.{Has, Each}
 use Rattle.batch_recipe.specs.Conditions.{Name, ValueList}
@@ -22,23 +23,9 @@ use Rattle.batch_model.specs.Standing.{IsStandingBatch, IsStanding}
 use Rattle.batch_laws.proofs.Invariant.{standing-of, numbers-of}
 use Rattle.batch_recipe.specs.Needs.{one_unit}
 
-snoc-nil : {X : Type 0} (ys : List X) (x y z : X) → x ∷ [] ≡ y ∷ (ys ++ z ∷ []) → ⊥
-snoc-nil [] x y z e = (let t : ◌≡◌ {A = List _} [] (z ∷ []) = cc in absurd cc)
-snoc-nil (w ∷ ys) x y z e = (let t : ◌≡◌ {A = List _} [] (w ∷ (ys ++ z ∷ [])) = cc in absurd cc)
-
-pub same-last : {X : Type 0} (xs ys : List X) (x y : X) → xs ++ x ∷ [] ≡ ys ++ y ∷ [] → (xs ≡ ys) × (x ≡ y)
-same-last [] [] x y e = (refl, cc)
-same-last [] (z ∷ ys) x y e = absurd (snoc-nil ys x z y e)
-same-last (z ∷ xs) [] x y e = absurd (snoc-nil xs y z x (sym e))
-same-last (z ∷ xs) (w ∷ ys) x y e =
-    let t : xs ++ x ∷ [] ≡ ys ++ y ∷ [] = cc in
-    let h : z ≡ w = cc in
-    let k = same-last xs ys x y t in
-    (ap₂ (λ a as'. a ∷ as') h k.0, k.1)
-
 -- a line that starts no phase
 pub starts-nothing : (d : Setup) (outs : List Out) (o : Out) → ((n : ℕ) (p : Place) (x : Phase) (vs : ValueList) → o ≡ move (start n p x vs) → ⊥) → StartsIdle d (outs ++ o ∷ [])
-starts-nothing d outs o h before n p x vs e = absurd (h n p x vs (same-last outs before o (move (start n p x vs)) e).1)
+starts-nothing d outs o h before n p x vs e = absurd (h n p x vs (same_from_push outs before o (move (start n p x vs)) e).1)
 
 shares-holders : (n : ℕ) (u : Name) (es : List Standing) → units_in (holders_among u (map (entry n) es)) ≡ shares u es
 shares-holders n u [] = refl
@@ -148,7 +135,7 @@ pub starts-idle : (d : Setup) (rank : Ranking) (outs : List Out) (s t : Plant) (
     → ((a : BatchAct) (y : Phase) → Has (entries s.batches) (a, performing y) → Has (entries t.batches) (a, performing y) × (a ≡ (n, p) → ⊥))
     → StartsIdle d (outs ++ move (start n p x vs) ∷ [])
 starts-idle d rank outs s t n p x vs sd k td l here stay before n' p' x' vs' e =
-    let q = same-last outs before (move (start n p x vs)) (move (start n' p' x' vs')) e in
+    let q = same_from_push outs before (move (start n p x vs)) (move (start n' p' x' vs')) e in
     let xx : x ≡ x' = same_start n n' p p' x x' vs vs' q.1 in
     subst (λ z. IsTrue (d.offers z.unit z.name) × Each (λ a. IsOnUnit z.unit z.name a → ⊥) (active_told before)) xx
     (subst (λ z. IsTrue (d.offers x.unit x.name) × Each (λ a. IsOnUnit x.unit x.name a → ⊥) (active_told z)) q.0 (

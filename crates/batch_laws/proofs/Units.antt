@@ -69,8 +69,7 @@ mutual
   performed-side_by_side (tree c cs) (rest r more) h q x k =
       ⊎_elim (λ m. Has-left (phases c) (phases_of_each cs) x (performed-phase c r h.0 q x m)) (λ m. Has-right (phases c) (phases_of_each cs) x (performed-side_by_side cs more h.1 q x m))
       (Has-split (facts r) (facts_of_each more) (q, performing x) k)
-  performed-side_by_side no_trees (rest r more) h q x k = absurd h
-  performed-side_by_side (tree c cs) no_rests h q x k = absurd h
+  performed-side_by_side cs r h q x k = absurd (grind arith)
 
   pub performed-chosen : (ch : Choices) (r : Rest) → IsChosen ch r → (q : Place) (x : Phase) → Has (facts r) (q, performing x) → Has (phases_of_choices ch) x
   performed-chosen (otherwise c) r h q x k = performed-phase c r h q x k
@@ -146,8 +145,7 @@ mutual
       (λ m. in_branch (held_above-left (facts r) (facts_of_each more) x.unit q) (unit-held above (child p i) c r pl.0 iu.0 h.0 q x m))
       (λ m. in_branch (held_above-right (facts r) (facts_of_each more) x.unit q) (unit-held_side_by_side above p (i + 1) cs more pl.1 iu.2 h.1 q x m))
       (Has-split (facts r) (facts_of_each more) (q, performing x) k)
-  unit-held_side_by_side above p i no_trees (rest r more) pl iu h q x k = absurd h
-  unit-held_side_by_side above p i (tree c cs) no_rests pl iu h q x k = absurd h
+  unit-held_side_by_side above p i cs r pl iu h q x k = absurd (grind arith)
 
   pub unit-held_chosen : (above : List Need) (p : Place) (i : ℕ) (ch : Choices) (r : Rest) → IsChoicePlaced p i ch → ChoicesRunInUnits above ch → IsChosen ch r
       → (q : Place) (x : Phase) → Has (facts r) (q, performing x) → Has above (one_unit x.unit) ⊎ IsHeldAbove (facts r) x.unit q
@@ -240,8 +238,7 @@ mutual
       (λ m'. let t : 2 ≤ shares x.unit (facts_of_each more) = twice-held_side_by_side above p (i + 1) cs more pl.1 iu.2 h.1 q o x y e d k' m' in omega arith)
       (Has-split (facts r) (facts_of_each more) (o, performing y) m))
       (Has-split (facts r) (facts_of_each more) (q, performing x) k)
-  twice-held_side_by_side above p i no_trees (rest r more) pl iu h q o x y e d k m = absurd h
-  twice-held_side_by_side above p i (tree c cs) no_rests pl iu h q o x y e d k m = absurd h
+  twice-held_side_by_side above p i cs r pl iu h q o x y e d k m = absurd (grind arith)
 
   pub twice-held_chosen : (above : List Need) (p : Place) (i : ℕ) (ch : Choices) (r : Rest) → IsChoicePlaced p i ch → ChoicesRunInUnits above ch → IsChosen ch r
       → (q o : Place) (x y : Phase) → IsSamePhase x y → (q ≡ o → ⊥) → Has (facts r) (q, performing x) → Has (facts r) (o, performing y) → 2 ≤ shares x.unit (facts r)

@@ -1,5 +1,5 @@
 -- `reach` and `advance` leave nothing to be reached, and take and give back nothing.
-use Rattle.std.proofs.Common.{◌≡◌, refl, ◌∙◌, ap₂, ◌&&◌, ℕ, zero, suc, pred, Bool, true, false}
+use Rattle.std.proofs.Common.{arith, ◌≡◌, refl, ◌∙◌, ap₂, ◌&&◌, ℕ, zero, suc, pred, Bool, true, false}
 use Rattle.batch_recipe.specs.Conditions.{ValueList, holds}
 use Rattle.batch_recipe.specs.declared.condition.Cond.{Cond}
 use Rattle.batch_recipe.specs.Tree.{Tree, act, skip, seq, par, sel, loop, Trees, no_trees, tree, Choices, otherwise, choice}
@@ -81,15 +81,7 @@ mutual
 -- Withdrawn asks
 
 withdrawn-done : (r : Rest) → is_done (withdrawn r) ≡ is_done r
-withdrawn-done (ready s w k) = refl
-withdrawn-done (asking s w k) = refl
-withdrawn-done (open_act s r) = refl
-withdrawn-done (live s p x) = refl
-withdrawn-done (freeing s k) = refl
-withdrawn-done (in_seq r cs) = refl
-withdrawn-done (in_par rs) = refl
-withdrawn-done (in_loop n c body r) = refl
-withdrawn-done done = refl
+withdrawn-done r = grind arith
 
 withdrawn_each-all_done : (rs : Rests) → all_done (withdrawn_each rs) ≡ all_done rs
 withdrawn_each-all_done no_rests = refl

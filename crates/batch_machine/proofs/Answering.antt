@@ -1,5 +1,5 @@
 -- A plant that stands does so after each event.
-use Rattle.std.proofs.Common.{◌≡◌, refl, ℕ, List, [], ◌∷◌, Bool, true, false, Some, None}
+use Rattle.std.proofs.Common.{arith, ◌≡◌, refl, ℕ, List, [], ◌∷◌, Bool, true, false, Some, None}
 use Rattle.std.specs.Prelude.{Option, find, not, nat_eq}
 use Rattle.batch_matrix.specs.declared.state.State.{State}
 use Rattle.batch_matrix.specs.declared.state.State.TheVariants.{Idle}
@@ -44,11 +44,7 @@ commanded-stands c command b k = go (same_state (target command) Idle)
     go false = in_state-stands c b (target command) (ends_asks command) k
 
 commanded-number : (command : Command) (b : Batch) → (commanded command b).number ≡ b.number
-commanded-number command b = go (same_state (target command) Idle)
-  where
-    go : (t : Bool) → ◌≡◌ {A = ℕ} (let c : Batch = elim t [ true ↦ reset b | false ↦ record b { state = target command; rest = elim (ends_asks command) [ true ↦ withdrawn b.rest | false ↦ b.rest ] } ] in c.number) b.number
-    go true = refl
-    go false = refl
+commanded-number command b = grind arith
 
 reported-stands : (c : Setup) (word : Report) (outputs : ValueList) (p : Place) (e : PhaseEnd) (b : Batch) → IsStandingBatch c b
     → IsStandingBatch c (batch_reported word outputs p e b)

@@ -15,28 +15,13 @@ same-number : (m n : ℕ) → nat_eq m n ≡ true → m ≡ n
 same-number m n e = grind arith
 
 only-this : (n : ℕ) (f : Batch → Batch) (b : Batch) → b.number ≡ n → only n f b ≡ f b
-only-this n f b e = go (nat_eq b.number n) (test b.number n e)
-  where
-    test : (i j : ℕ) → i ≡ j → nat_eq i j ≡ true
-    test i j h = grind arith
-
-    go : (t : Bool) → t ≡ true → elim t [ true ↦ f b | false ↦ b ] ≡ f b
-    go true h = refl
-    go false h = absurd cc
+only-this n f b e = grind arith
 
 only-other : (n : ℕ) (f : Batch → Batch) (b : Batch) → (b.number ≡ n → ⊥) → only n f b ≡ b
-only-other n f b d = go (nat_eq b.number n) refl
-  where
-    go : (t : Bool) → nat_eq b.number n ≡ t → elim t [ true ↦ f b | false ↦ b ] ≡ b
-    go true h = absurd (d (same-number b.number n h))
-    go false h = refl
+only-other n f b d = grind (arith, same-number)
 
 only-number : (n : ℕ) (f : Batch → Batch) (b : Batch) → ((d : Batch) → (f d).number ≡ d.number) → (only n f b).number ≡ b.number
-only-number n f b h = go (nat_eq b.number n)
-  where
-    go : (t : Bool) → (let d : Batch = elim t [ true ↦ f b | false ↦ b ] in d.number) ≡ b.number
-    go true = h b
-    go false = refl
+only-number n f b h = grind arith
 
 -- what the change keeps holds of all batches after it
 pub Each-only : (P : Batch → Type 0) (n : ℕ) (f : Batch → Batch) (bs : List Batch) → ((b : Batch) → Has bs b → b.number ≡ n → P b → P (f b)) → Each P bs

@@ -1,10 +1,10 @@
 -- A batch that changes its state by itself has less work left.
-use Rattle.std.proofs.Common.{◌≡◌, refl, sym, ◌∙◌, ap, ℕ, suc, length, ◌-◌, Bool, true, false, List, [], ◌∷◌, Some, arith, inl, inr, ◌<◌, ◌≤◌, ◌+◌, ◌*◌}
+use Rattle.std.proofs.Common.{◌≡◌, refl, sym, ◌∙◌, ap, ℕ, suc, length, ◌-◌, Bool, true, List, [], ◌∷◌, Some, arith, inl, inr, ◌<◌, ◌≤◌, ◌+◌, ◌*◌}
 use Rattle.std.proofs.lemmas.Bool.{and_parts}
 use Rattle.std.specs.List.{list_all}
 use Rattle.std.specs.Prelude.{option_and_then}
 use Rattle.batch_matrix.specs.declared.state.State.{State}
-use Rattle.batch_matrix.specs.declared.state.State.TheVariants.{Idle, Running, Pausing, Paused, Holding, Held, Restarting, Stopping, Stopped, Aborting, Aborted, Complete}
+use Rattle.batch_matrix.specs.declared.state.State.TheVariants.{Running, Pausing, Paused, Holding, Held, Restarting, Stopping, Stopped, Aborting, Aborted, Complete}
 use Rattle.batch_matrix.specs.Matrix.{ends_as}
 use Rattle.batch_recipe.specs.Tree.{Step, Phase}
 use Rattle.batch_model.specs.Lists.{Has}
@@ -25,11 +25,10 @@ module _ (x y : State) (no_more : (n : ℕ) → ahead y n ≤ ahead x n) where
     calmer (asking s w k) h = omega (arith, no_more (3 * (length s.needs - suc k) + toil_of_work w))
     calmer (open_act s r) h = omega (arith, no_more 1, calmer r (λ u p t i. h u p t (inr i)))
     calmer (live s p t) h = omega (arith, h s p t (inl refl))
-    calmer (freeing s k) h = omega arith
     calmer (in_seq r cs) h = omega (arith, no_more (toil_of_each cs), calmer r h)
     calmer (in_par rs) h = calmer_each rs h
     calmer (in_loop n c body r) h = omega (arith, no_more (n * toil body), calmer r h)
-    calmer done h = omega arith
+    calmer r h = grind arith
 
     calmer_each : (rs : Rests) → SendsNoMore (acts_of_each rs) → toil_left_in_each y rs ≤ toil_left_in_each x rs
     calmer_each no_rests h = omega arith
@@ -64,8 +63,7 @@ abbrev pub IsStateMove : ℕ → State → Rest → Move → Type 0
 IsStateMove n x r m = (y : State) × (m ≡ state n y) × (state_moves_left y + toil_left y r < state_moves_left x + toil_left x r)
 
 taken : (t : Bool) (l m : Move) → when t l ≡ Some m → (t ≡ true) × (m ≡ l)
-taken true l m e = (refl, cc)
-taken false l m e = absurd cc
+taken t l m e = grind arith
 
 state_move-lowers : (n : ℕ) (x : State) (r : Rest) (m : Move)
     → option_and_then (λ y. when (is_reached y r) (state n y)) (ends_as x) ≡ Some m → IsStateMove n x r m
@@ -100,12 +98,7 @@ state_move-lowers n Aborting r m e = (
   (taken (is_reached Aborted r) (state n Aborted) m e).1,
   omega (arith, calmer Aborting Aborted (λ k. omega arith) r (λ s p t h. omega arith)),
 )
-state_move-lowers n Idle r m e = absurd cc
-state_move-lowers n Paused r m e = absurd cc
-state_move-lowers n Held r m e = absurd cc
-state_move-lowers n Stopped r m e = absurd cc
-state_move-lowers n Aborted r m e = absurd cc
-state_move-lowers n Complete r m e = absurd cc
+state_move-lowers n x r m e = grind arith
 
 pub state_move-is : (b : Batch) (m : Move) → state_move b ≡ Some m → IsStateMove b.number b.state b.rest m
 state_move-is b m e = state_move-lowers b.number b.state b.rest m e

@@ -22,8 +22,7 @@ module _ (x : State) (p : Place) (f : Rest → Rest) where
 
   eased : (a b : Rest) (t : Bool) → (t ≡ true → toil_left x (f a) ≤ toil_left x a) → toil_left x b ≤ toil_left x a
       → toil_left x (elim t [ true ↦ f a | false ↦ b ]) ≤ toil_left x a
-  eased a b true h k = h refl
-  eased a b false h k = k
+  eased a b t h k = grind arith
 
   mutual
     -- a change that adds no work at its place adds none to the whole
@@ -63,16 +62,14 @@ module _ (x : State) (p : Place) (f : Rest → Rest) where
   -- an act above the place, or the act at it
   lowered_below : (a b : Rest) (t : Bool) → (t ≡ true → toil_left x (f a) < toil_left x a) → toil_left x b < toil_left x a
       → toil_left x (elim t [ true ↦ f a | false ↦ b ]) < toil_left x a
-  lowered_below a b true h k = h refl
-  lowered_below a b false h k = k
+  lowered_below a b t h k = grind arith
 
   -- some act of the list stands at the place
   abbrev pub HasAt : List Rest → Type 0
   HasAt more = (a : Rest) × Has more a × (place_of a ≡ p)
 
   HasAt-one : (a b : Rest) → Has (a ∷ []) b → a ≡ b
-  HasAt-one a b (inl e) = e
-  HasAt-one a b (inr e) = absurd e
+  HasAt-one a b h = grind arith
 
   at_one : (a : Rest) → HasAt (a ∷ []) → place_of a ≡ p
   at_one a h = ap place_of (HasAt-one a h.0 h.1) ∙ h.2
@@ -83,8 +80,7 @@ module _ (x : State) (p : Place) (f : Rest → Rest) where
   HasAt-append (z ∷ xs) ys (a, inr m, q) = elim (HasAt-append xs ys (a, m, q)) [ inl k ↦ inl (k.0, inr k.1, k.2) | inr k ↦ inr k ]
 
   HasAt-cons : (z : Rest) (ys : List Rest) → HasAt (z ∷ ys) → (place_of z ≡ p) ⊎ HasAt ys
-  HasAt-cons z ys (a, inl e, q) = inl (ap place_of e ∙ q)
-  HasAt-cons z ys (a, inr m, q) = inr (a, m, q)
+  HasAt-cons z ys h = grind arith
 
   open_lower : (s : Step) (r : Rest) → ((a : Rest) → Has (acts (open_act s r)) a → Lowers a)
       → (HasAt (acts r) → toil_left x (changed_at p f r) < toil_left x r) → (s.place ≡ p) ⊎ HasAt (acts r)

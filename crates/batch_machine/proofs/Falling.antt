@@ -1,5 +1,5 @@
 -- Each possible move lowers the work left.
-use Rattle.std.proofs.Common.{◌≡◌, ◌⊎◌, refl, sym, ◌∙◌, ap, subst, true, false, List, [], ◌∷◌, Some, None, arith, inl, inr, ◌<◌}
+use Rattle.std.proofs.Common.{◌≡◌, ◌⊎◌, refl, sym, ◌∙◌, ap, subst, true, List, [], ◌∷◌, Some, None, arith, inl, inr, ◌<◌}
 use Rattle.std.specs.Prelude.{Option, ◌++◌, map, option_to_list, sum_by}
 use Rattle.std.specs.List.{filter_map}
 use Rattle.batch_model.specs.Lists.{Has}
@@ -20,9 +20,7 @@ use Rattle.batch_machine.proofs.Calming.{IsStateMove, state_move-is}
 use Rattle.batch_machine.proofs.Batches.{only, sum-falls}
 
 not_itself : (p q : Place) → p ≡ q → is_before p q ≡ true → ⊥
-not_itself p q e h =
-    let same : is_before p q ≡ false = subst (λ z. is_before p z ≡ false) e (before-irrefl p) in
-    absurd cc
+not_itself p q e h = grind (arith, before-irrefl p)
 
 -- at each place stands one act at most
 pub one_act : (xs : List Rest) (a b : Rest) → Rises xs → Has xs a → Has xs b → place_of a ≡ place_of b → a ≡ b

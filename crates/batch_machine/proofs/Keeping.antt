@@ -116,8 +116,7 @@ module _ (p : Place) (f : Rest → Rest) where
       changed_at-IsRestOf c r (λ a i. keep a (Has-left (acts r) (acts_of_each rs) a i)) h.0,
       changed_in_each-AreBranches cs rs (λ a i. keep a (Has-right (acts r) (acts_of_each rs) a i)) h.1,
     )
-    changed_in_each-AreBranches no_trees (rest r rs) keep h = absurd h
-    changed_in_each-AreBranches (tree c cs) no_rests keep h = absurd h
+    changed_in_each-AreBranches cs rs keep h = grind arith
 
     pub changed_at-IsChosen : (ch : Choices) (r : Rest) → KeepsActs (acts r) → IsChosen ch r → IsChosen ch (changed_at p f r)
     changed_at-IsChosen (otherwise c) r keep h = changed_at-IsRestOf c r keep h

@@ -1,14 +1,13 @@
 -- Each move of an act takes some of that act's work, and leaves what can remain at its node.
-use Rattle.std.proofs.Common.{◌≡◌, refl, sym, ◌∙◌, ap, subst, ℕ, zero, suc, pred, Bool, true, false, Some, None, arith, ◌<◌, ◌≤◌, ◌+◌, ◌-◌, ◌*◌, length}
+use Rattle.std.proofs.Common.{◌≡◌, refl, sym, ap, subst, ℕ, zero, suc, pred, Bool, true, false, Some, None, arith, ◌<◌, ◌≤◌, ◌+◌, ◌-◌, ◌*◌, length}
 use Rattle.std.specs.Prelude.{Option, slice_get, ◌&&◌, ◌||◌, not}
 use Rattle.std.proofs.lemmas.Option.{slice_get_within}
 use Rattle.batch_matrix.specs.declared.state.State.{State}
-use Rattle.batch_matrix.specs.declared.state.State.TheVariants.{Idle, Running, Pausing, Paused, Holding, Held, Restarting, Stopping, Stopped, Aborting, Aborted, Complete}
+use Rattle.batch_matrix.specs.declared.state.State.TheVariants.{Running}
 use Rattle.batch_matrix.specs.declared.command.Command.{Command}
-use Rattle.batch_matrix.specs.declared.command.Command.TheVariants.{Start, Pause, Resume, Hold, Restart, Stop, Abort, Reset}
 use Rattle.batch_matrix.specs.Matrix.{accepts, target}
 use Rattle.batch_recipe.specs.Tree.{Step, Task, runs, follows}
-use Rattle.batch_model.specs.Rest.{Rest, ready, asking, open_act, live, freeing, in_seq, in_par, in_loop, done, is_done, place_of}
+use Rattle.batch_model.specs.Rest.{Rest, ready, asking, open_act, live, freeing, is_done, place_of}
 use Rattle.batch_model.specs.Plant.{Setup, Batch, Plant, in_act, held_in}
 use Rattle.batch_model.specs.Moves.{Move, send, release, begin, start, end, ask, grant, batch_of, place_of_move, passed_on, is_running, is_stopping, is_stopped, is_quiet, is_empty, handed_values, when, beginning, entering, giving_back, is_served, act_move, act_after, batch_after, freed}
 use Rattle.batch_model.specs.Runs.{toil, toil_of_work, sends, goes_on, ahead, toil_left}
@@ -27,15 +26,7 @@ pub record IsMoveOf (b : Batch) (a : Rest) (m : Move) : Type 0 where
 -- States
 
 sends-bound : (x t : State) → sends x t ≤ 1
-sends-bound x t = go (passed_on x)
-  where
-    test : (b : Bool) → elim b [ true ↦ 1 | false ↦ 0 ] ≤ 1
-    test true = omega arith
-    test false = omega arith
-
-    go : (o : Option Command) → elim o [ None ↦ 0 | Some c ↦ elim (accepts t c) [ true ↦ 1 | false ↦ 0 ] ] ≤ 1
-    go None = omega arith
-    go (Some c) = test (accepts t c)
+sends-bound x t = grind arith
 
 -- no state that a command leads to accepts that command
 own : (c : Command) → accepts (target c) c ≡ false
@@ -43,20 +34,13 @@ own c = grind arith
 
 -- a command that is passed on isn't passed on again
 sent-once : (x t : State) (c : Command) → passed_on x ≡ Some c → accepts t c ≡ true → (sends x (target c) ≡ 0) × (sends x t ≡ 1)
-sent-once x t c e a = (
-  ap (λ o. elim o [ None ↦ 0 | Some d ↦ elim (accepts (target c) d) [ true ↦ 1 | false ↦ 0 ] ]) e ∙ ap (λ b. elim b [ true ↦ 1 | false ↦ 0 ]) (own c),
-  ap (λ o. elim o [ None ↦ 0 | Some d ↦ elim (accepts t d) [ true ↦ 1 | false ↦ 0 ] ]) e ∙ ap (λ b. elim b [ true ↦ 1 | false ↦ 0 ]) a,
-)
+sent-once x t c e a = grind (arith, own c)
 
 running-goes_on : (x : State) → is_running x ≡ true → goes_on x ≡ true
 running-goes_on x e = grind arith
 
 stopping-goes_no_further : (x : State) (quiet : Bool) → (is_stopping x && quiet) ≡ true → goes_on x ≡ false
-stopping-goes_no_further x quiet e = go (is_stopping x) e
-  where
-    go : (t : Bool) → (t && quiet) ≡ true → not (t || is_stopped x) ≡ false
-    go true h = refl
-    go false h = absurd cc
+stopping-goes_no_further x quiet e = grind arith
 
 -- Moves
 
@@ -127,12 +111,10 @@ module _ (b : Batch) where
           (record { number = refl; place = sym at; changes = refl; lowers = lower (omega arith) r; remains = released-remains a })
 
   freed-toil : (s : Step) (n : ℕ) → toil_left b.state (freed s n) ≤ n
-  freed-toil s zero = omega arith
-  freed-toil s (suc n) = omega arith
+  freed-toil s n = grind arith
 
   when-is : (t : Bool) (m n : Move) → when t m ≡ Some n → (t ≡ true) × (m ≡ n)
-  when-is true m n e = (refl, cc)
-  when-is false m n e = absurd cc
+  when-is t m n e = grind arith
 
   pub act_move-is : (c : Setup) (s : Plant) (a : Rest) (m : Move) → act_move c s b a ≡ Some m → IsMoveOf b a m
   act_move-is c s (ready p w k) m e = go (is_running b.state) refl (is_stopping b.state && is_quiet b.rest) refl e

@@ -1,10 +1,10 @@
 -- A plant that stands does so after each possible move.
-use Rattle.std.proofs.Common.{◌≡◌, refl, sym, ◌∙◌, subst, inl, inr}
+use Rattle.std.proofs.Common.{arith, ◌≡◌, sym, ◌∙◌, subst, inl, inr}
 use Rattle.batch_recipe.specs.Tree.{Place}
 use Rattle.batch_model.specs.Lists.{Has}
 use Rattle.batch_model.specs.Rest.{Rest, acts, changed_at}
 use Rattle.batch_model.specs.Plant.{Setup, Batch, Plant, in_act}
-use Rattle.batch_model.specs.Moves.{Move, send, state, release, begin, start, end, ask, grant, batch_of, place_of_move, act_after, batch_moves, possible, batch_after, after}
+use Rattle.batch_model.specs.Moves.{Move, state, batch_of, place_of_move, act_after, batch_moves, possible, batch_after, after}
 use Rattle.batch_model.specs.Standing.{HasPlacedTrees, IsStandingBatch, IsStanding}
 use Rattle.batch_model.specs.Placed.{Rises}
 use Rattle.batch_model.proofs.Members.{Each-Has, Has-flat_map}
@@ -45,14 +45,7 @@ batch_moves-stand c s b m placed k h =
 
 -- a move leaves the number of its batch
 after-number : (m : Move) (b : Batch) → (batch_after m b).number ≡ b.number
-after-number (send n p x c) b = refl
-after-number (state n x) b = refl
-after-number (release n p r) b = refl
-after-number (begin n p a) b = refl
-after-number (start n p x vs) b = refl
-after-number (end n p) b = refl
-after-number (ask n p r) b = refl
-after-number (grant n p r) b = refl
+after-number m b = grind arith
 
 pub possible-stands : (c : Setup) (s : Plant) (m : Move) → HasPlacedTrees c → IsStanding c s → Has (possible c s) m → IsStanding c (after s m)
 possible-stands c s m placed k h =

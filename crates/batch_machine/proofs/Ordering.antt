@@ -13,25 +13,20 @@ not_before-head i j k a b c e f g = grind arith
 
 pub not_before-trans : (p q r : Place) → is_before p q ≡ false → is_before q r ≡ false → is_before p r ≡ false
 not_before-trans [] [] r e f = f
-not_before-trans (i ∷ p) q [] e f = refl
 not_before-trans (i ∷ p) (j ∷ q) (k ∷ r) e f =
     not_before-head i j k (is_before p q) (is_before q r) (is_before p r) e f (λ a b. not_before-trans p q r a b)
-not_before-trans p q r e f = absurd (grind arith)
+not_before-trans p q r e f = grind arith
 
 before-head : (i j : ℕ) (a b : Bool) → elim (nat_eq i j) [ true ↦ a | false ↦ nat_lt i j ] ≡ true → (a ≡ true → b ≡ false) → elim (nat_eq j i) [ true ↦ b | false ↦ nat_lt j i ] ≡ false
 before-head i j a b e g = grind arith
 
 pub before-asym : (p q : Place) → is_before p q ≡ true → is_before q p ≡ false
-before-asym [] (j ∷ q) e = refl
 before-asym (i ∷ p) (j ∷ q) e = before-head i j (is_before p q) (is_before q p) e (before-asym p q)
-before-asym p q e = absurd (grind arith)
+before-asym p q e = grind arith
 
 pub before-irrefl : (p : Place) → is_before p p ≡ false
 before-irrefl [] = refl
-before-irrefl (i ∷ p) = same i (is_before p p) (before-irrefl p)
-  where
-    same : (k : ℕ) (a : Bool) → a ≡ false → elim (nat_eq k k) [ true ↦ a | false ↦ nat_lt k k ] ≡ false
-    same k a e = grind arith
+before-irrefl (i ∷ p) = grind (arith, before-irrefl p)
 
 equal-head : (i j : ℕ) (a b : Bool) → elim (nat_eq i j) [ true ↦ a | false ↦ nat_lt i j ] ≡ false → elim (nat_eq j i) [ true ↦ b | false ↦ nat_lt j i ] ≡ false → i ≡ j
 equal-head i j a b e f = grind arith
@@ -41,12 +36,11 @@ below-head i j a e f = grind arith
 
 -- of two places neither of which comes before the other, both are one
 pub before-connected : (p q : Place) → is_before p q ≡ false → is_before q p ≡ false → p ≡ q
-before-connected [] [] e f = refl
 before-connected (i ∷ p) (j ∷ q) e f =
     let same : i ≡ j = equal-head i j (is_before p q) (is_before q p) e f in
     ap₂ (λ x xs. x ∷ xs) same
     (before-connected p q (below-head i j (is_before p q) same e) (below-head j i (is_before q p) (sym same) f))
-before-connected p q e f = absurd (grind arith)
+before-connected p q e f = grind arith
 
 pub none_least : (ms : List Move) → least ms ≡ None → ms ≡ []
 none_least [] e = refl

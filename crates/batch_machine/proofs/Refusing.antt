@@ -22,9 +22,7 @@ IsJust c s e (created n r size told) t = IsCreate e
 IsJust c s e _ t = ⊤
 
 either-limit : (a b : Bool) (m n k l : ℕ) → (a ≡ true → m ≤ n) → (b ≡ true → k < l) → (a || b) ≡ true → (m ≤ n) ⊎ (k < l)
-either-limit true b m n k l f g e = inl (f refl)
-either-limit false true m n k l f g e = inr (g refl)
-either-limit false false m n k l f g e = absurd cc
+either-limit a b m n k l f g e = grind arith
 
 at-most : (m n : ℕ) → nat_le m n ≡ true → m ≤ n
 at-most m n e = grind arith
@@ -33,9 +31,7 @@ less : (m n : ℕ) → nat_lt m n ≡ true → m < n
 less m n e = grind arith
 
 full-cause : (c : Setup) (s : Plant) → is_full c s ≡ true → (c.batch_limit ≤ length s.batches) ⊎ (LAST_NUMBER < s.next_number)
-full-cause c s e =
-    either-limit (nat_le c.batch_limit (length s.batches)) (nat_lt LAST_NUMBER s.next_number) c.batch_limit (length s.batches) LAST_NUMBER s.next_number
-    (at-most c.batch_limit (length s.batches)) (less LAST_NUMBER s.next_number) e
+full-cause c s e = grind (arith, either-limit, at-most, less)
 
 module _ (c : Setup) (s : Plant) where
   abbrev Just : Event → Answer → Type 0
@@ -142,10 +138,7 @@ module _ (c : Setup) (s : Plant) where
 
   created-create : (e : Event) (a : Answer) → Just e a → IsCreated a.0 → IsCreate e
   created-create e (created n r size told, t) h k = h
-  created-create e (ordered command n x, t) h k = absurd k
-  created-create e (removed n, t) h k = absurd k
-  created-create e (reported unit name word n p x, t) h k = absurd k
-  created-create e (refused x, t) h k = absurd k
+  created-create e a h k = grind arith
 
   same-refusal : (x y : Refusal) → refused x ≡ refused y → x ≡ y
   same-refusal x y e = cc

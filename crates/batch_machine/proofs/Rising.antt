@@ -96,10 +96,7 @@ mutual
 
 -- an act comes before all that stand below its first child
 before-under : (s t : Step) (p : Place) (b : Rest) → t ≡ s → s.place ≡ p → IsUnder (child p 0) b → is_before t.place (place_of b) ≡ true
-before-under s t p b e f h =
-    ap (λ q. is_before q (place_of b)) (ap (λ u. u.place) e ∙ f)
-    ∙ ap (is_before p) (h.1 ∙ append_assoc p (0 ∷ []) h.0)
-    ∙ before-below p h.0 0
+before-under s t p b e f h = grind (arith, append_assoc p (0 ∷ []) h.0, before-below p h.0 0)
 
 -- what stands in a branch comes before what stands in a later one
 before-later : (p : Place) (i : ℕ) (a b : Rest) → IsUnder (child p i) a → IsUnderFrom p (i + 1) b → Before a b
@@ -117,7 +114,6 @@ mutual
     Each-map (IsUnder (child p 0)) (Before (open_act t r)) (λ b k. before-under s t p b h.0 l.0 k) (acts r) (acts-under (child p 0) c r l.1 h.1),
     acts-rise (child p 0) c r l.1 h.1,
   )
-  acts-rise p (act s (runs x)) (open_act t r) l h = absurd h.1
   acts-rise p (act s w) (live t x y) l h = (tt, tt)
   acts-rise p (act s w) (freeing t k) l h = (tt, tt)
   acts-rise p (seq cs) (in_seq r ds) l h = branch-rises p 0 cs r ds l h
@@ -125,7 +121,7 @@ mutual
   acts-rise p (sel ch) r l h = chosen-rises p 0 ch r l h
   acts-rise p (loop n c body) (in_loop m d b r) l h = acts-rise (child p 0) body r l h.3
   acts-rise p _ done l h = tt
-  acts-rise p _ _ l h = absurd h
+  acts-rise p c r l h = grind arith
 
   pub branch-rises : (p : Place) (i : ℕ) (cs : Trees) (r : Rest) (ds : Trees) → ArePlaced p i cs → IsBranch cs r ds → Rises (acts r)
   branch-rises p i no_trees r ds l h = absurd h

@@ -1,5 +1,5 @@
 -- Acts, without where their parts lie in memory: what a recipe's parts must be depends on no more.
-use Rattle.std.proofs.Common.{◌≡◌, ◌≤◌, nat_le, Bool, true, false, ◌&&◌, List, [], ◌∷◌, ◌++◌, map, length, Option, Some, None, option_map, refl, sym, ap, ◌∙◌, subst, cond, find}
+use Rattle.std.proofs.Common.{arith, ◌≡◌, ◌≤◌, nat_le, Bool, true, false, ◌&&◌, List, [], ◌∷◌, ◌++◌, map, length, Option, Some, None, option_map, refl, sym, ap, ◌∙◌, subst, cond, find}
 use Rattle.std.proofs.Math.Path.{fun_ext}
 use Rattle.std.proofs.lemmas.List.{length-map}
 use Rattle.std.specs.List.{list_all}
@@ -62,8 +62,7 @@ work_case : (labels values : List Name) (w : Work)
     → ◌≡◌ {A = Bool}
     (elim w [ Follows c ↦ is_chart labels values 32 (diagram_of c) | Runs phase handed ↦ nat_le (length handed.items) MAX_VALUES && list_all (is_among values) handed.items ])
     (elim (work_form w) [ follows d ↦ is_chart labels values 32 d | runs phase handed ↦ nat_le (length handed) MAX_VALUES && list_all (is_among values) handed ])
-work_case labels values (Follows c) = refl
-work_case labels values (Runs phase handed) = refl
+work_case labels values w = grind arith
 
 par_case : (w : Work)
     → ◌≡◌ {A = Bool} (elim w [ Follows c ↦ has_no_par (diagram_of c) | Runs phase handed ↦ true ]) (elim (work_form w) [ follows d ↦ has_no_par d | runs phase handed ↦ true ])

@@ -139,10 +139,3 @@ pub HasTable_refused : {X : Type 0} (R : Members → X → Type 0) (key : List �
 HasTable_refused R key ms inner found none x h =
     let same : h.members ≡ inner = cc (h.found, found) in
     none x (rw same at h.stands_for)
-
--- where a table stands for one value at most, as far as f sees it, so does the table at a key
-pub HasTable_same : {X Y : Type 0} (R : Members → X → Type 0) (f : X → Y) → ((ms : Members) (x y : X) → R ms x → R ms y → f x ≡ f y)
-    → (key : List ℕ) (ms : Members) (x y : X) → HasTable R key ms x → HasTable R key ms y → f x ≡ f y
-HasTable_same R f one key ms x y h k =
-    let same : h.members ≡ k.members = cc (h.found, k.found) in
-    one k.members x y (rw same at h.stands_for) k.stands_for

@@ -1,25 +1,24 @@
 -- What is told of a table among others stands there.
-use Rattle.std.proofs.Common.{◌≡◌, ◌≢◌, ℕ, ◌+◌, ◌<◌, ◌≤◌, List, [], ◌∷◌, ◌++◌, length, map, take, get_or, nat_eq, refl, sym, ap, ap₂, subst, ◌∙◌, append-nil, inl, inr, arith, true, Err, IsErrOf}
+use Rattle.std.proofs.Common.{◌≡◌, ℕ, ◌+◌, ◌<◌, ◌≤◌, List, [], ◌∷◌, ◌++◌, length, map, take, get_or, nat_eq, refl, sym, ap, subst, ◌∙◌, append-nil, inl, inr, arith, Err, IsErrOf}
 use Rattle.std.proofs.lemmas.List.{take_more}
 use Rattle.std.proofs.lemmas.List.Elements.{All-append, All-cons, All-nil}
 use Rattle.std.proofs.lemmas.Option.{slice_get-get_or}
 use Rattle.std.specs.Cmp.Lexicographic.{pointwise}
-use Rattle.std.specs.List.{IsDistinct, list_all}
+use Rattle.std.specs.List.{IsDistinct}
 use Rattle.batch_cell.specs.Equipment.{OffersPhasesOnce, unit_phases}
 use Rattle.batch_cell.specs.declared.module.Module.{Module}
 use Rattle.batch_cell.specs.declared.unit.Unit.{Unit}
 use Rattle.batch_recipe.specs.Conditions.{Name}
 use Rattle.batch_recipe.specs.Procedure.{procedure_nodes}
-use Rattle.batch_recipe.specs.WellFormed.{is_role_among, value_names}
+use Rattle.batch_recipe.specs.WellFormed.{value_names}
 use Rattle.batch_recipe.specs.declared.acts.Acts.{Acts}
 use Rattle.batch_recipe.specs.declared.outline_fault.OutlineFault.{OutlineFault}
 use Rattle.batch_recipe.specs.declared.outline_fault.OutlineFault.TheVariants as outline
 use Rattle.batch_recipe.specs.declared.quantity.Quantity.{Quantity}
 use Rattle.batch_recipe.specs.declared.recipe.Recipe.{Recipe}
 use Rattle.batch_recipe.specs.declared.recipe.TheConstants.{MAX_NODES}
-use Rattle.batch_recipe.specs.declared.role.Role.{Role}
 use Rattle.batch_reader.specs.Faults.{IsNamingFault, IsRoleFault, IsToldIn, IsWrong, Tells}
-use Rattle.batch_reader.specs.PartFaults.{AreDistinct, FailsFirst, HasUndeclaredName, HasUndeclaredRole, IsPartFault, OffersTwice, Parts, role_names}
+use Rattle.batch_reader.specs.PartFaults.{AreDistinct, FailsFirst, HasUndeclaredName, IsPartFault, OffersTwice, Parts}
 use Rattle.batch_reader.specs.SoundTables.{outline_fault}
 use Rattle.batch_reader.specs.declared.fault.EntryFault.{EntryFault}
 use Rattle.batch_reader.specs.declared.fault.EntryFault.TheVariants.{MissingKey, WrongKind, UnknownKey, Undeclared, Duplicate, OutOfLimit, Chart}
@@ -27,7 +26,6 @@ use Rattle.batch_reader.specs.declared.fault.Spot.{Spot}
 use Rattle.batch_reader.specs.declared.fault.TableFault.{TableFault}
 use Rattle.batch_reader.specs.declared.fault.TableFault.TheVariants.{Entry, Memory}
 use Rattle.batch_reader.specs.declared.fault.TableKind.{TableKind}
-use Rattle.batch_reader.specs.declared.fault.TableKind.TheVariants.{UnitProcedure}
 
 -- where it is known what is wrong, or also in which tables, that is told of the spot
 pub wrong_told : (what : EntryFault) (P : Spot → Type 0) (Q : Spot → EntryFault → Type 0) → ((spot : Spot) → P spot → Q spot what) → (fault : TableFault)
@@ -92,16 +90,6 @@ pub undeclared_told : (inputs parameters : List Quantity) (outputs : List Name) 
 undeclared_told inputs parameters outputs acts values Memory same is_wrong told = tt
 undeclared_told inputs parameters outputs acts values (Entry here wrong) same is_wrong told =
     subst (IsNamingFault inputs parameters outputs acts here.kind here.entry) (sym is_wrong) (subst (λ names. HasUndeclaredName names acts here.kind here.entry) same told)
-
--- a unit procedure has a role that isn't declared
-pub undeclared_role_told : (roles : List Role) (acts : Acts) (keys : List Name) → keys ≡ role_names roles → (fault : TableFault)
-    → ((spot : Spot) (wrong : EntryFault) → fault ≡ Entry spot wrong → FailsFirst (λ front. list_all (is_role_among keys) front ≡ true) acts.unit_procedures.items spot.entry)
-    → IsToldIn UnitProcedure Undeclared fault → Tells (λ spot. IsRoleFault roles acts spot.kind spot.entry) fault
-undeclared_role_told roles acts keys same Memory first told = tt
-undeclared_role_told roles acts keys same (Entry here wrong) first told =
-    let fails : HasUndeclaredRole roles acts UnitProcedure here.entry =
-    subst (λ names. FailsFirst (λ front. list_all (is_role_among names) front ≡ true) acts.unit_procedures.items here.entry) same (first here wrong refl) in
-    subst (IsRoleFault roles acts here.kind here.entry) (sym told.1) (subst (λ kind. HasUndeclaredRole roles acts kind here.entry) (sym told.0) fails)
 
 -- what is wrong among names is wrong with a recipe's parts
 pub naming_fault : (p : Parts) (kind : TableKind) (entry : ℕ) (wrong : EntryFault) → IsNamingFault p.inputs p.parameters p.outputs p.acts kind entry wrong → IsPartFault p kind entry wrong

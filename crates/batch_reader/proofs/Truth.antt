@@ -1,5 +1,5 @@
 -- Tests that hold together.
-use Rattle.std.proofs.Common.{◌≡◌, Bool, true, false, ◌&&◌, refl, sym}
+use Rattle.std.proofs.Common.{arith, ◌≡◌, Bool, true, false, ◌&&◌, refl, sym}
 pub use Rattle.std.proofs.lemmas.Bool.{and_parts as both_true, and_from as and_true, or_parts as both_false}
 
 -- two tests that hold together are the same
@@ -10,20 +10,10 @@ same_test false false f g = refl
 
 -- four tests, and five, in another order
 pub cross : (a b c d : Bool) → ((a && b) && (c && d)) ≡ ((a && c) && (b && d))
-cross false b c d = refl
-cross true true c d = refl
-cross true false true d = refl
-cross true false false d = refl
+cross a b c d = grind arith
 
 pub cross_five : (a b c d e : Bool) → ((a && b) && ((c && d) && e)) ≡ ((c && (a && d)) && (b && e))
-cross_five false b false d e = refl
-cross_five false b true d e = refl
-cross_five true true false d e = refl
-cross_five true false false d e = refl
-cross_five true true true d e = refl
-cross_five true false true true e = refl
-cross_five true false true false e = refl
+cross_five a b c d e = grind arith
 
 pub first_of_three : (a b c : Bool) → ((a && b) && c) ≡ (a && (b && c))
-first_of_three false b c = refl
-first_of_three true b c = refl
+first_of_three a b c = grind arith

@@ -1,5 +1,5 @@
 -- What makes a recipe's acts well formed: their names differ, and what they name is declared.
-use Rattle.std.proofs.Common.{◌≡◌, Bool, true, false, ◌&&◌, List, [], ◌∷◌, ap, refl}
+use Rattle.std.proofs.Common.{arith, ◌≡◌, Bool, true, ◌&&◌, List, [], ◌∷◌, ap, refl}
 use Rattle.std.specs.List.{list_all}
 use Rattle.batch_recipe.specs.Conditions.{Name}
 use Rattle.batch_recipe.specs.WellFormed.{act_names, follows_no_par, is_well_formed, is_work}
@@ -9,8 +9,7 @@ use Rattle.batch_reader.specs.Naming.{names_differ, acts_are_declared}
 use Rattle.batch_reader.proofs.Truth.{both_true}
 
 alone : (a b : Bool) → ((a && true) && b) ≡ (a && b)
-alone true b = refl
-alone false b = refl
+alone a b = grind arith
 
 -- a test that all elements pass adds nothing
 all_pass : (p q : Act → Bool) (xs : List Act) → list_all q xs ≡ true → list_all (λ x. p x && q x) xs ≡ list_all p xs

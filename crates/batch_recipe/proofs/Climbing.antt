@@ -131,9 +131,6 @@ module _ (r : Recipe) where
       let at' : length h.low.place - (up + 1) ≡ depth = omega (arith, size) in
       ap (λ (x : Node). slice_get x.place depth) (node_is node low h.low low_is h.low_is) ∙ (ap (slice_get h.low.place) (sym at') ∙ child_is node at up h e is)
 
-  pub low_size : (node at up m : ℕ) (h : IsAbove node at up) → ((x : Node) → slice_get ns node ≡ Some x → length x.place ≡ m) → length h.low.place ≡ m
-  low_size node at up m h all = all h.low h.low_is
-
   -- the first node has one number
   pub top_size : (node at up : ℕ) → IsAbove node at up → at ≡ 0 → (low : Node) → slice_get ns node ≡ Some low → length low.place ≡ up + 1
   top_size node at up h top low low_is =

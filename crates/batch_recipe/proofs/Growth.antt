@@ -6,7 +6,7 @@ use Rattle.std.proofs.lemmas.List.Folds.{find_at}
 use Rattle.std.proofs.lemmas.Option.{slice_get_past}
 use Rattle.batch_recipe.specs.Conditions.{Name}
 use Rattle.batch_recipe.specs.Diagram as chart
-use Rattle.batch_recipe.specs.Diagram.{Diagram, diagram_of, diagrams_of, cases_of}
+use Rattle.batch_recipe.specs.Diagram.{Diagram, diagram_of, cases_of}
 use Rattle.batch_recipe.specs.Procedure.{table_at, level_below}
 use Rattle.batch_recipe.specs.Growing.{Head, Labels, LabelConditions, entry, topped, bare, grown, grown_cases, grown_act, grown_named, levels_from, number_in, unit_number, conditions_along_cases, conditions_named, told_from, named_from, branch_entries, branch_conditions, chart_entries, chart_conditions, act_entries, act_conditions, HasBegun, HasEnded, HasGrown, HasAdded}
 use Rattle.batch_recipe.specs.declared.act.Act.{Act}
@@ -63,12 +63,6 @@ levels_cons Phases = refl
 
 -- a label
 module _ (acts : Acts) (level : Option LabelTable) (name : Name) where
-  pub no_level : (o n j u i : ℕ) → level ≡ None → chart_entries acts level o n j u i (chart.label name) ≡ bare n u i
-  no_level o n j u i is = rw is refl
-
-  pub no_level_told : level ≡ None → chart_conditions acts level (chart.label name) ≡ []
-  no_level_told is = rw is refl
-
   module _ (table : LabelTable) (at : level ≡ Some table) where
     pub no_number : (o n j u i : ℕ) → number_in (table_at acts table) name ≡ None → chart_entries acts level o n j u i (chart.label name) ≡ bare n u i
     no_number o n j u i e = rw (at, levels_cons table, grown_named, e) refl
@@ -77,12 +71,6 @@ module _ (acts : Acts) (level : Option LabelTable) (name : Name) where
     no_number_told e = rw (at, levels_cons table, conditions_named, e) refl
 
     module _ (k : ℕ) (e : number_in (table_at acts table) name ≡ Some k) where
-      pub no_act : (o n j u i : ℕ) → slice_get (table_at acts table) k ≡ None → chart_entries acts level o n j u i (chart.label name) ≡ bare n u i
-      no_act o n j u i f = rw (at, levels_cons table, grown_named, e, f) refl
-
-      pub no_act_told : slice_get (table_at acts table) k ≡ None → chart_conditions acts level (chart.label name) ≡ []
-      no_act_told f = rw (at, levels_cons table, conditions_named, e, f) refl
-
       pub some_act : (o n j u i : ℕ) (a : Act) (below : Option LabelTable) → below ≡ level_below table → slice_get (table_at acts table) k ≡ Some a
           → chart_entries acts level o n j u i (chart.label name) ≡ act_entries acts below (kind.Act table k) (unit_number table k o) n j u i a
       some_act o n j u i a below b f = rw (at, levels_cons table, grown_named, e, f, b) refl

@@ -53,8 +53,7 @@ mutual
   pub rest-bounded_each : (cs : Trees) (rs : Rests) → AreBranches cs rs → AreBounded rs
   rest-bounded_each no_trees no_rests h = tt
   rest-bounded_each (tree c cs) (rest r rs) h = (rest-bounded c r h.0, rest-bounded_each cs rs h.1)
-  rest-bounded_each no_trees (rest r rs) h = absurd h
-  rest-bounded_each (tree c cs) no_rests h = absurd h
+  rest-bounded_each cs rs h = absurd (grind arith)
 
   pub rest-bounded_chosen : (ch : Choices) (r : Rest) → IsChosen ch r → IsBounded r
   rest-bounded_chosen (otherwise c) r h = rest-bounded c r h

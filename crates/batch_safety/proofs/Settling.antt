@@ -6,9 +6,10 @@ use Rattle.batch_recipe.specs.Conditions.{Name}
 use Rattle.batch_recipe.specs.Tree.{Step, Task}
 use Rattle.batch_model.specs.Rest.{Rest, asking, acts}
 use Rattle.batch_model.specs.Plant.{Setup, Batch, BatchAct, Share, units_in, acts_in, Plant, is_same_act, holders}
-use Rattle.batch_model.specs.Moves.{Move, grant, act_move, state_move, batch_moves, possible, least, next, is_earlier, is_served, when}
+use Rattle.batch_model.specs.Moves.{Move, grant, act_move, state_move, batch_moves, possible, next, is_served, when}
 use Rattle.batch_model.specs.Runs.{Out}
 use Rattle.batch_model.specs.Records.{holders_told, scene_of, Link, IsLink, IsChain, StandsUnder}
+use Rattle.batch_machine.proofs.Ordering.{none_least}
 use Rattle.batch_laws.proofs.Facts.{awaiting, need}
 use Rattle.batch_model.specs.Cleared.{Ranking}
 use Rattle.batch_laws.proofs.Members.{flat_map-Has, Has-map, map-Has}
@@ -22,18 +23,6 @@ use Rattle.batch_model.specs.Standing.{IsStanding}
 use Rattle.batch_recipe.specs.declared.need.Need.{Need}
 
 -- No move
-
-none_least : (ms : List Move) → least ms ≡ None → ms ≡ []
-none_least [] e = refl
-none_least (m ∷ ms) e = absurd (go (least ms) e)
-  where
-    pick : (t : Bool) (l : Move) → ◌≡◌ {A = Option Move} (elim t [ true ↦ Some l | false ↦ Some m ]) None → ⊥
-    pick true l h = cc
-    pick false l h = cc
-
-    go : (o : Option Move) → ◌≡◌ {A = Option Move} (elim o [ None ↦ Some m | Some l ↦ elim (is_earlier l m) [ true ↦ Some l | false ↦ Some m ] ]) None → ⊥
-    go None h = cc
-    go (Some l) h = pick (is_earlier l m) l h
 
 filter_map-Has : {X Y : Type 0} (h : X → Option Y) (xs : List X) (x : X) (y : Y) → Has xs x → h x ≡ Some y → Has (filter_map h xs) y
 filter_map-Has h [] x y m e = absurd m

@@ -47,20 +47,12 @@ outer u s r q e = cc
 
 mutual
   acts-inside : (r : Rest) (s : Step) (q x : Rest) → Has (acts r) (open_act s q) → Has (acts q) x → Has (acts r) x
-  acts-inside (ready u v n) s q x (inl e) h = absurd cc
-  acts-inside (ready u v n) s q x (inr e) h = absurd e
-  acts-inside (asking u v n) s q x (inl e) h = absurd cc
-  acts-inside (asking u v n) s q x (inr e) h = absurd e
   acts-inside (open_act u r) s q x (inl e) h = inr (subst (λ z. Has (acts z) x) (sym (inner u s r q e)) h)
   acts-inside (open_act u r) s q x (inr e) h = inr (acts-inside r s q x e h)
-  acts-inside (live u y t) s q x (inl e) h = absurd cc
-  acts-inside (live u y t) s q x (inr e) h = absurd e
-  acts-inside (freeing u n) s q x (inl e) h = absurd cc
-  acts-inside (freeing u n) s q x (inr e) h = absurd e
   acts-inside (in_seq r cs) s q x e h = acts-inside r s q x e h
   acts-inside (in_par rs) s q x e h = acts-inside_each rs s q x e h
   acts-inside (in_loop n c body r) s q x e h = acts-inside r s q x e h
-  acts-inside done s q x e h = absurd e
+  acts-inside r s q x e h = absurd (grind arith)
 
   acts-inside_each : (rs : Rests) (s : Step) (q x : Rest) → Has (acts_of_each rs) (open_act s q) → Has (acts q) x → Has (acts_of_each rs) x
   acts-inside_each no_rests s q x e h = absurd e
@@ -70,24 +62,15 @@ mutual
 
 mutual
   place-inside : (p : Place) (c : Tree) (r : Rest) → IsPlaced p c → IsRestOf c r → (s : Step) (q x : Rest) → Has (acts r) (open_act s q) → Has (acts q) x → IsAtOrAbove s.place (place_of x)
-  place-inside p (act a w) (ready u v n) pl h s q x (inl e) i = absurd cc
-  place-inside p (act a w) (ready u v n) pl h s q x (inr e) i = absurd e
-  place-inside p (act a w) (asking u v n) pl h s q x (inl e) i = absurd cc
-  place-inside p (act a w) (asking u v n) pl h s q x (inr e) i = absurd e
   place-inside p (act a w) (open_act u r) pl h s q x (inl e) i =
       subst (λ z. IsAtOrAbove z (place_of x)) (sym (ap (λ z. z.place) (sym (outer u s r q e)) ∙ ap (λ z. z.place) h.0 ∙ pl.0))
       (under p 0 (place_of x) (acts-below p w r pl.1 h.1 x (subst (λ z. Has (acts z) x) (sym (inner u s r q e)) i)))
   place-inside p (act a w) (open_act u r) pl h s q x (inr e) i = place-inside_below p w r pl.1 h.1 s q x e i
-  place-inside p (act a w) (live u y t) pl h s q x (inl e) i = absurd cc
-  place-inside p (act a w) (live u y t) pl h s q x (inr e) i = absurd e
-  place-inside p (act a w) (freeing u n) pl h s q x (inl e) i = absurd cc
-  place-inside p (act a w) (freeing u n) pl h s q x (inr e) i = absurd e
   place-inside p (seq cs) (in_seq r ds) pl h s q x e i = place-inside_among p 0 cs r ds pl h s q x e i
   place-inside p (par cs) (in_par rs) pl h s q x e i = place-inside_side_by_side p 0 cs rs pl h s q x e i
   place-inside p (sel ch) r pl h s q x e i = place-inside_chosen p 0 ch r pl h s q x e i
   place-inside p (loop n c body) (in_loop m d b r) pl h s q x e i = place-inside (child p 0) body r pl h.3 s q x e i
-  place-inside p c done pl h s q x e i = absurd e
-  place-inside p _ _ pl h s q x e i = absurd h
+  place-inside p c r pl h s q x e i = absurd (grind arith)
 
   place-inside_below : (p : Place) (w : Task) (r : Rest) → IsPlacedBelow p w → IsRestBelow w r → (s : Step) (q x : Rest) → Has (acts r) (open_act s q) → Has (acts q) x → IsAtOrAbove s.place (place_of x)
   place-inside_below p (runs y) r pl h s q x e i = absurd h
@@ -99,12 +82,10 @@ mutual
   place-inside_among p i (tree c cs) r ds pl (inr h) s q x e j = place-inside_among p (i + 1) cs r ds pl.1 h s q x e j
 
   place-inside_side_by_side : (p : Place) (i : ℕ) (cs : Trees) (rs : Rests) → ArePlaced p i cs → AreBranches cs rs → (s : Step) (q x : Rest) → Has (acts_of_each rs) (open_act s q) → Has (acts q) x → IsAtOrAbove s.place (place_of x)
-  place-inside_side_by_side p i no_trees no_rests pl h s q x e j = absurd e
   place-inside_side_by_side p i (tree c cs) (rest r more) pl h s q x e j =
       ⊎_elim (λ m. place-inside (child p i) c r pl.0 h.0 s q x m j) (λ m. place-inside_side_by_side p (i + 1) cs more pl.1 h.1 s q x m j)
       (Has-split (acts r) (acts_of_each more) (open_act s q) e)
-  place-inside_side_by_side p i no_trees (rest r more) pl h s q x e j = absurd h
-  place-inside_side_by_side p i (tree c cs) no_rests pl h s q x e j = absurd h
+  place-inside_side_by_side p i cs rs pl h s q x e j = absurd (grind arith)
 
   place-inside_chosen : (p : Place) (i : ℕ) (ch : Choices) (r : Rest) → IsChoicePlaced p i ch → IsChosen ch r → (s : Step) (q x : Rest) → Has (acts r) (open_act s q) → Has (acts q) x → IsAtOrAbove s.place (place_of x)
   place-inside_chosen p i (otherwise c) r pl h s q x e j = place-inside (child p i) c r pl h s q x e j

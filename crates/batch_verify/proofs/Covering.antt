@@ -1,5 +1,5 @@
 -- Each node of a tried binding's tree is like one of a numbered binding's.
-use Rattle.std.proofs.Common.{◌≡◌, ℕ, zero, suc, ◌+◌, ◌<◌, ◌++◌, ◌⊎◌, inl, inr, ◌||◌, ◌&&◌, List, [], ◌∷◌, length, slice_get, Option, Some, None, refl, sym, ap, ap₂, ◌∙◌, subst, arith}
+use Rattle.std.proofs.Common.{◌≡◌, ℕ, zero, suc, ◌+◌, ◌<◌, ◌++◌, ◌⊎◌, inl, inr, ◌||◌, ◌&&◌, List, [], ◌∷◌, length, slice_get, Option, Some, None, refl, sym, ap, ap₂, ◌∙◌, subst}
 use Rattle.std.proofs.lemmas.List.{length-map}
 use Rattle.batch_recipe.specs.ActsAtNodes.{IsNoAct}
 use Rattle.batch_recipe.specs.Conditions.{Name}
@@ -15,6 +15,7 @@ use Rattle.batch_model.specs.Plant.{Setup}
 use Rattle.batch_model.specs.Cleared.{Ranking, Level, in_procedure, Part, part, parts, parts_of_each, parts_of_choices, surely_runs, some_surely_runs, each_surely_runs, TurnsRun}
 use Rattle.batch_model.specs.Setups.{labels, labels_of_each, labels_of_cases}
 use Rattle.batch_model.proofs.Parts.{parts-nodes}
+use Rattle.batch_recipe.proofs.Slices.{slice_get-left, slice_get-right, slice_get-split}
 use Rattle.batch_verify.specs.Covering.{IsAlike, IsCovered}
 use Rattle.batch_verify.specs.Refusals.{Breaks, MeetsRules, RisesBy, IsSound}
 use Rattle.batch_verify.specs.declared.rule.Rule.{Rule}
@@ -24,27 +25,6 @@ use Rattle.batch_verify.proofs.Sizes.{size_of}
 use Rattle.batch_verify.proofs.Verdicts.{bare_needs, bare_known, bare_within, bare_offered, bare_on_procedure}
 
 -- Lists
-
-pub get_left : {X : Type 0} (xs ys : List X) (k : ℕ) (x : X) → slice_get xs k ≡ Some x → slice_get (xs ++ ys) k ≡ Some x
-get_left [] ys k x e = absurd cc
-get_left (y ∷ xs) ys zero x e = e
-get_left (y ∷ xs) ys (suc k) x e = get_left xs ys k x e
-
-pub get_right : {X : Type 0} (xs ys : List X) (k : ℕ) (x : X) → slice_get ys k ≡ Some x → slice_get (xs ++ ys) (length xs + k) ≡ Some x
-get_right [] ys k x e = subst (λ n. slice_get ys n ≡ Some x) (omega arith) e
-get_right (y ∷ xs) ys k x e = let same : suc (length xs + k) ≡ suc (length xs) + k = omega arith in subst (λ n. slice_get (y ∷ (xs ++ ys)) n ≡ Some x) same (get_right xs ys k x e)
-
--- an element of the one list or of the other
-pub get_split : {X : Type 0} (xs ys : List X) (k : ℕ) (x : X) → slice_get (xs ++ ys) k ≡ Some x
-    → (slice_get xs k ≡ Some x) ⊎ ((m : ℕ) × (k ≡ length xs + m) × (slice_get ys m ≡ Some x))
-get_split [] ys k x e = inr (k, omega arith, e)
-get_split (y ∷ xs) ys zero x e = inl e
-get_split {X = X} (y ∷ xs) ys (suc k) x e = go (get_split xs ys k x e)
-  where
-    go : ((slice_get xs k ≡ Some x) ⊎ ((m : ℕ) × (k ≡ length xs + m) × (slice_get ys m ≡ Some x)))
-        → (slice_get xs k ≡ Some x) ⊎ ((m : ℕ) × (suc k ≡ suc (length xs) + m) × (slice_get ys m ≡ Some x))
-    go (inl h) = inl h
-    go (inr h) = inr (h.0, omega (arith, h.1), h.2)
 
 pub Each_left : {X : Type 0} (P : X → Type 0) (xs ys : List X) → Each P (xs ++ ys) → Each P xs
 Each_left P [] ys h = tt
@@ -175,7 +155,7 @@ module _ (setup : Setup) (count : ℕ) (some : 0 < count) (F : Name → Place �
     number = h.number;
     below = h.below;
     other = h.other;
-    found = get_left (lists h.number) (more h.number) k h.other h.found;
+    found = slice_get-left (lists h.number) (more h.number) k h.other h.found;
     alike = h.alike;
   }
 
@@ -184,13 +164,13 @@ module _ (setup : Setup) (count : ℕ) (some : 0 < count) (F : Name → Place �
     number = h.number;
     below = h.below;
     other = h.other;
-    found = subst (λ n. slice_get (lists h.number ++ more h.number) (n + m) ≡ Some h.other) (sym (sizes h.number)) (get_right (lists h.number) (more h.number) m h.other h.found);
+    found = subst (λ n. slice_get (lists h.number ++ more h.number) (n + m) ≡ Some h.other) (sym (sizes h.number)) (slice_get-right (lists h.number) (more h.number) m ∙ h.found);
     alike = h.alike;
   }
 
   joined : (xs ys : List Part) (lists more : ℕ → List Part) → ((j : ℕ) → length xs ≡ length (lists j)) → (k : ℕ) (x : Part) → slice_get (xs ++ ys) k ≡ Some x
       → ((k : ℕ) (x : Part) → slice_get xs k ≡ Some x → Covered lists k x) → ((k : ℕ) (x : Part) → slice_get ys k ≡ Some x → Covered more k x) → Covered (λ j. lists j ++ more j) k x
-  joined xs ys lists more sizes k x e first then = go (get_split xs ys k x e)
+  joined xs ys lists more sizes k x e first then = go (slice_get-split xs ys k x e)
     where
       go : (slice_get xs k ≡ Some x) ⊎ ((m : ℕ) × (k ≡ length xs + m) × (slice_get ys m ≡ Some x)) → Covered (λ j. lists j ++ more j) k x
       go (inl h) = left_covered lists more k x (first k x h)

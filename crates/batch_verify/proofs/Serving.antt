@@ -2,6 +2,7 @@
 use Rattle.std.proofs.Common.{◌≡◌, ℕ, ◌+◌, Bool, true, false, IsTrue, List, [], ◌∷◌, Option, Some, None, refl, sym, ap, ◌∙◌, subst, inl, inr}
 use Rattle.std.specs.Prelude.{option_and_then}
 use Rattle.std.specs.Cmp.Lexicographic.{bytes_decides}
+use Rattle.std.proofs.lemmas.Bool.{or_cases}
 use Rattle.batch_cell.specs.LookUps.{units_of, resources_of}
 use Rattle.batch_cell.specs.declared.cell.Cell as equipment
 use Rattle.batch_recipe.specs.Conditions.{Name, same_name}
@@ -26,7 +27,6 @@ use Rattle.batch_verify.specs.Refusals.{MeetsRules, IsTriedFor, IsVerdictOn}
 use Rattle.batch_verify.proofs.Bound.{chart as procedure_diagram, label_of, procedure_is, procedure_labels, procedure_of, lower}
 use Rattle.batch_verify.proofs.Covering.{Each_left, Each_right}
 use Rattle.batch_verify.proofs.Entering.{unit_is_resource}
-use Rattle.batch_verify.proofs.RunningApart.{or_cases}
 use Rattle.batch_verify.proofs.Served.{served_is_tried}
 use Rattle.batch_verify.proofs.Tried.{nobody-apart, numbered-tried}
 

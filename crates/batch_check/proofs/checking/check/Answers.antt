@@ -6,7 +6,8 @@ use Rattle.batch_check.specs.ByName.{IsCertificateOf}
 use Rattle.batch_check.specs.Clearing.{IsLeastClearance}
 use Rattle.batch_check.specs.TightRanks.{RanksTightly}
 use Rattle.batch_check.proofs.Told.{TellsRanks-certificate}
-use Rattle.batch_check.proofs.Verdicts.{recipe_fault_none, circle_fault_none, least_clearance, candidates_known, few_recipes, needs_known}
+use Rattle.batch_verify.proofs.RecipeLemmas.{set_length}
+use Rattle.batch_check.proofs.Verdicts.{recipe_fault_none, circle_fault_none, least_clearance, candidates_known, needs_known}
 use Rattle.batch_check.proofs.checking.check.Goals as goal
 
 pub returns-in_err-check_each-clause-none : goal.returns-in_err-check_each-clause-none
@@ -57,4 +58,4 @@ returns-clause-tight c =
     (c.in_ok-ranks.ensures.least.tight (candidates_known cell c.args.recipes.now c.args.recipes.now c.in_ok-check_each.ensures.sound) (needs_known cell c.args.recipes.now c.args.recipes.now c.in_ok-check_each.ensures.sound))
 
 pub check_each-requires : goal.check_each-requires
-check_each-requires c = few_recipes c.args.cell.now c.args.recipes.now ((c.is_recipe_set.ensures c.args.cell.now).0 c.if-not-is_recipe_set.false)
+check_each-requires c = set_length c.args.cell.now c.args.recipes.now ((c.is_recipe_set.ensures c.args.cell.now).0 c.if-not-is_recipe_set.false)

@@ -3,14 +3,14 @@ use Rattle.batch_cell.specs.LookUps.{resources_of}
 use Rattle.batch_check.specs.Edges.{Stands}
 use Rattle.batch_check.specs.LeastRanking.{HasEndsBelow}
 use Rattle.batch_check.proofs.Recipes.{edges_with, standing_within}
-use Rattle.batch_check.proofs.Verdicts.{few_recipes}
+use Rattle.batch_verify.proofs.RecipeLemmas.{set_length}
 use Rattle.batch_check.proofs.graph.graph_of.Goals as goal
 
 pub edges_of-requires : goal.edges_of-requires
-edges_of-requires c = few_recipes c.args.cell.now c.args.recipes.now ((c.is_recipe_set.ensures c.args.cell.now).0 c.if-not-is_recipe_set.false)
+edges_of-requires c = set_length c.args.cell.now c.args.recipes.now ((c.is_recipe_set.ensures c.args.cell.now).0 c.if-not-is_recipe_set.false)
 
 pub ranks_of-requires : goal.ranks_of-requires
-ranks_of-requires c = few_recipes c.args.cell.now c.args.recipes.now ((c.is_recipe_set.ensures c.args.cell.now).0 c.if-not-is_recipe_set.false)
+ranks_of-requires c = set_length c.args.cell.now c.args.recipes.now ((c.is_recipe_set.ensures c.args.cell.now).0 c.if-not-is_recipe_set.false)
 
 pub take-requires : goal.take-requires
 take-requires c =
