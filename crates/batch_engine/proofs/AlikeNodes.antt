@@ -1,5 +1,5 @@
 -- What is told of a node is the same whatever units take the roles.
-use Rattle.std.proofs.Common.{◌≡◌, ◌≢◌, refl, sym, ◌∙◌, ap, subst, ℕ, zero, suc, List, [], ◌∷◌, Option, Some, None, length, map}
+use Rattle.std.proofs.Common.{arith, ◌≡◌, ◌≢◌, refl, sym, ◌∙◌, ap, subst, ℕ, zero, suc, List, [], ◌∷◌, Option, Some, None, length, map}
 use Rattle.std.specs.Prelude.{slice_get}
 use Rattle.std.specs.List.{AllByRecursion}
 use Rattle.std.proofs.lemmas.List.{length-map}
@@ -102,20 +102,10 @@ handed_of_tree bound trees unit p a (Follows chart) e = rw e refl
 handed_of_tree bound trees unit p a (Runs phase values) e = rw e refl
 
 no_name : (t : Tree) → IsNoAct t → name_in t ≡ []
-no_name (act s task) h = absurd h
-no_name skip h = refl
-no_name (seq ts) h = refl
-no_name (par ts) h = refl
-no_name (sel cs) h = refl
-no_name (loop n c t) h = refl
+no_name t h = grind arith
 
 no_handed : (t : Tree) → IsNoAct t → handed_in t ≡ []
-no_handed (act s task) h = absurd h
-no_handed skip h = refl
-no_handed (seq ts) h = refl
-no_handed (par ts) h = refl
-no_handed (sel cs) h = refl
-no_handed (loop n c t) h = refl
+no_handed t h = grind arith
 
 module _ (bound : Binding) (acts : Acts) where
   name_at_node : (a : Option Act) (at : Node) → IsActAt bound acts a at → name_in at.here ≡ act_name (Some a)
@@ -128,17 +118,15 @@ module _ (bound : Binding) (acts : Acts) where
 
   names_agree : (list : ActList) (ns : List Node) (k : ℕ) → AreActsAt bound acts list ns → name_of (slice_get ns k) ≡ act_name (slice_get list k)
   names_agree [] [] k h = refl
-  names_agree [] (at ∷ ns) k h = absurd h
-  names_agree (b ∷ list) [] k h = absurd h
   names_agree (b ∷ list) (at ∷ ns) zero h = name_at_node b at h.0
   names_agree (b ∷ list) (at ∷ ns) (suc k) h = names_agree list ns k h.1
+  names_agree list ns k h = absurd (grind arith)
 
   handed_agree : (list : ActList) (ns : List Node) (k : ℕ) → AreActsAt bound acts list ns → handed_of (slice_get ns k) ≡ act_handed (slice_get list k)
   handed_agree [] [] k h = refl
-  handed_agree [] (at ∷ ns) k h = absurd h
-  handed_agree (b ∷ list) [] k h = absurd h
   handed_agree (b ∷ list) (at ∷ ns) zero h = handed_at_node b at h.0
   handed_agree (b ∷ list) (at ∷ ns) (suc k) h = handed_agree list ns k h.1
+  handed_agree list ns k h = absurd (grind arith)
 
 pub name-alike : (bound : Binding) (acts : Acts) (k : ℕ) → name_of (slice_get (procedure_nodes acts) k) ≡ name_of (slice_get (bound_nodes bound acts) k)
 name-alike bound acts k =

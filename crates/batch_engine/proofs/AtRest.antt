@@ -1,5 +1,5 @@
 -- A batch that was stopped or aborted has no move.
-use Rattle.std.proofs.Common.{◌≡◌, refl, ℕ, zero, suc, List, [], ◌∷◌, ◌++◌, Option, Some, None, true, take}
+use Rattle.std.proofs.Common.{arith, ◌≡◌, refl, ℕ, zero, suc, List, [], ◌∷◌, ◌++◌, Option, Some, None, true, take}
 use Rattle.std.specs.Prelude.{slice_get}
 use Rattle.std.specs.List.{filter_map}
 use Rattle.batch_matrix.specs.declared.state.State.{State}
@@ -89,16 +89,7 @@ module _ (c : Setup) (s : Plant) (b : Batch) where
   in-state : (x : State) → is_stopped x ≡ true → IsFitting x (facts b.rest) → batch_moves c s (record b { state = x }) ≡ []
   in-state Stopped e f = no-moves (act_move c s (record b { state = Stopped })) stopped-act (acts b.rest) (none-of-acts b.rest f)
   in-state Aborted e f = no-moves (act_move c s (record b { state = Aborted })) aborted-act (acts b.rest) (none-of-acts b.rest f)
-  in-state Idle e f = absurd cc
-  in-state Running e f = absurd cc
-  in-state Pausing e f = absurd cc
-  in-state Paused e f = absurd cc
-  in-state Holding e f = absurd cc
-  in-state Held e f = absurd cc
-  in-state Restarting e f = absurd cc
-  in-state Stopping e f = absurd cc
-  in-state Aborting e f = absurd cc
-  in-state Complete e f = absurd cc
+  in-state x h e = absurd (grind arith)
 
   pub stopped-moves : is_stopped b.state ≡ true → IsFitting b.state (facts b.rest) → batch_moves c s b ≡ []
   stopped-moves e f = in-state b.state e f

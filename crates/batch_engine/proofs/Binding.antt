@@ -45,10 +45,7 @@ names-kept cell [] = refl
 names-kept cell (role ∷ roles) = ap (λ (ns : List Name). role.name ∷ ns) (names-kept cell roles)
 
 regroup : (a b d l : Bool) → (not a && (b && (d && l))) ≡ ((not a && d) && (b && l))
-regroup true b d l = refl
-regroup false true d l = refl
-regroup false false true l = refl
-regroup false false false l = refl
+regroup a b d l = grind arith
 
 of-roles : (names : List Name) (pairs : List (Name × Name)) → are_of_roles names pairs ≡ (are_distinct (map (λ (p : Name × Name). p.0) pairs) && list_all (λ (p : Name × Name). is_among names p.0) pairs)
 of-roles names [] = refl

@@ -1,7 +1,8 @@
 -- Moves of a batch in two plants that serve the same acts of it.
-use Rattle.std.proofs.Common.{◌≡◌, ⊎_elim, refl, sym, ◌∙◌, ap, subst, subst₂, ℕ, ◌+◌, List, [], ◌∷◌, ◌++◌, Bool, true, false, ◌&&◌, filter_map, Option, Some, None, inl, inr, slice_get}
+use Rattle.std.proofs.Common.{arith, ◌≡◌, ⊎_elim, refl, sym, ◌∙◌, ap, subst, subst₂, ℕ, ◌+◌, List, [], ◌∷◌, ◌++◌, Bool, true, false, ◌&&◌, filter_map, Option, Some, None, inl, inr, slice_get}
 use Rattle.std.specs.Prelude.{nat_le, option_to_list}
 use Rattle.std.specs.List.{cons_option}
+use Rattle.std.specs.Cmp.Derive.{both_true}
 use Rattle.std.proofs.lemmas.Bool.{and_parts}
 use Rattle.batch_recipe.specs.Conditions.{Name, same_name}
 use Rattle.batch_recipe.specs.Tree.{Place, Step, Task}
@@ -106,11 +107,6 @@ first_in line a = elim line [ [] ↦ false | x ∷ xs ↦ is_same_act x.act a ]
 abbrev pub serves : ℕ → ℕ → ℕ → List Share → BatchAct → Bool
 serves held units capacity line a = nat_le (held + units) capacity && first_in line a
 
-and-true : (a b : Bool) → a ≡ true → b ≡ true → (a && b) ≡ true
-and-true true true e f = refl
-and-true true false e f = absurd cc
-and-true false b e f = absurd cc
-
 -- an act that joins the end of a line is first in no other act's stead
 joined : (line : List Share) (x : Share) (a : BatchAct) → (a.0 ≡ x.act.0 → ⊥) → first_in (line ++ x ∷ []) a ≡ true → first_in line a ≡ true
 joined [] x a other e = absurd (other (ap (λ (z : BatchAct). z.0) (sym (same_act x.act a e))))
@@ -176,7 +172,7 @@ module _ (c : Setup) (outs : List Out) (s : Plant) (told : IsTold outs s) where
           let now : serves (units_in (holders s need.resource)) need.units (c.capacity need.resource) (s.line need.resource ++ share ∷ []) (n, place) ≡ true =
           subst₂ (λ h l. serves h need.units (c.capacity need.resource) l (n, place) ≡ true) same line e in
           let parts = and_parts (nat_le (units_in (holders s need.resource) + need.units) (c.capacity need.resource)) (first_in (s.line need.resource ++ share ∷ []) (n, place)) now in
-          and-true (nat_le (units_in (holders s need.resource) + need.units) (c.capacity need.resource)) (first_in (s.line need.resource) (n, place)) parts.0
+          both_true parts.0
           (joined (s.line need.resource) share (n, place) other parts.1)
       go false f =
           as-before (after s m) need (n, place) same

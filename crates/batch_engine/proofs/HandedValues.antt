@@ -62,12 +62,7 @@ handed_of_tree trees unit p a (Follows chart) e = rw e refl
 handed_of_tree trees unit p a (Runs phase values) e = rw e refl
 
 no_handed : (t : Tree) → IsNoAct t → handed_in t ≡ []
-no_handed (act s task) h = absurd h
-no_handed skip h = refl
-no_handed (seq ts) h = refl
-no_handed (par ts) h = refl
-no_handed (sel cs) h = refl
-no_handed (loop n c t) h = refl
+no_handed t h = grind arith
 
 handed_at_node : (acts : Acts) (a : Option Act) (at : Node) → IsActAt unbound acts a at → handed_in at.here ≡ act_handed a
 handed_at_node acts None at h = no_handed at.here h
@@ -75,10 +70,9 @@ handed_at_node acts (Some a) at h = ap handed_in h.here_is ∙ handed_of_tree (n
 
 handed_agree : (acts : Acts) (list : ActList) (ns : List Node) (k : ℕ) (a : Option Act) → AreActsAt unbound acts list ns → slice_get list k ≡ Some a → handed_of (slice_get ns k) ≡ act_handed a
 handed_agree acts [] [] k a h e = let bad : None ≡ Some a = e in absurd cc
-handed_agree acts [] (at ∷ ns) k a h e = absurd h
-handed_agree acts (b ∷ list) [] k a h e = absurd h
 handed_agree acts (b ∷ list) (at ∷ ns) zero a h e = let same : Some b ≡ Some a = e in let is : b ≡ a = cc in handed_at_node acts b at h.0 ∙ ap act_handed is
 handed_agree acts (b ∷ list) (at ∷ ns) (suc k) a h e = handed_agree acts list ns k a h.1 e
+handed_agree acts list ns k a h e = absurd (grind arith)
 
 pub act-handed : (r : Recipe) (k : ℕ) (a : Option Act) → slice_get (procedure_acts r.acts) k ≡ Some a → handed_of (node_of k r) ≡ act_handed a
 act-handed r k a e = handed_agree r.acts (procedure_acts r.acts) (procedure_nodes r.acts) k a (procedure_acts_are unbound r.acts) e
@@ -160,14 +154,12 @@ stood-work vs acts a below w (inl h) = (act_names acts.unit_procedures.items, ap
 stood-work vs acts a below w (inr h) = named-work vs acts h.0 h.1.0 a w h.1.1.0
 
 acts-stand : (acts : Acts) (list : ActList) (ns : List Node) (k : ℕ) (a : Act) → AreActsAt unbound acts list ns → slice_get list k ≡ Some (Some a) → (below : Option LabelTable) × StandsIn acts a below
-acts-stand acts [] [] k a h e = absurd cc
-acts-stand acts [] (at ∷ ns) k a h e = absurd h
-acts-stand acts (b ∷ list) [] k a h e = absurd h
 acts-stand acts (b ∷ list) (at ∷ ns) zero a h e =
     let is : b ≡ Some a = cc in
     let node = subst (λ (z : Option Act). IsActAt unbound acts z at) is h.0 in
     (node.below, node.stands)
 acts-stand acts (b ∷ list) (at ∷ ns) (suc k) a h e = acts-stand acts list ns k a h.1 e
+acts-stand acts list ns k a h e = absurd (grind arith)
 
 pub few-handed : (r : Recipe) (k : ℕ) (a : Act) (phase : Name) (values : Vec Name) → slice_get (procedure_acts r.acts) k ≡ Some (Some a) → a.work ≡ Runs phase values → length values.items ≤ MAX_VALUES
 few-handed r k a phase values e f =

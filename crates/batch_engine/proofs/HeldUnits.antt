@@ -83,13 +83,7 @@ module _ (v : EngineView) (k : IsKept v) (hs : List ℕ) (are : AreNoted v hs) (
 -- What is noted at a step
 
 quiet : (t : Tree) (b : Model.Batch) (m : ChartMove.Move) (number : Name → Option ℕ) (hs : List ℕ) → noted number (move_of t b m) hs ≡ hs
-quiet t b (Send k c) number hs = refl
-quiet t b (State x) number hs = refl
-quiet t b (Release k i) number hs = refl
-quiet t b (Begin k) number hs = refl
-quiet t b (Start k) number hs = refl
-quiet t b (End k) number hs = refl
-quiet t b (Ask k i) number hs = refl
+quiet t b m number hs = grind arith
 
 -- a move of a chart is no grant
 pub noted-own : (v : EngineView) (i : ℕ) (made : ChartMove.Move) → IsStep v (IsNext v) (Own i made) → (hs : List ℕ) (m : Move) → IsNext v m → hs ≡ noted (number_of v.cleared) m hs

@@ -2,6 +2,7 @@
 use Rattle.std.proofs.Common.{◌≡◌, ◌<◌, ◌+◌, refl, sym, ◌∙◌, ap, ap₂, subst, ℕ, zero, suc, List, [], ◌∷◌, Bool, true, false, ◌&&◌, Option, Some, None, inl, inr, arith, length, map, filter, take, flat_map, get_or, nat_eq}
 use Rattle.std.proofs.lemmas.Bool.{and_parts}
 use Rattle.std.specs.Prelude.{slice_get, option_map, Contains}
+use Rattle.std.specs.Cmp.Derive.{both_true}
 use Rattle.batch_recipe.specs.Conditions.{Name, same_name}
 use Rattle.batch_recipe.specs.Tree.{Place, Tree}
 use Rattle.batch_recipe.specs.declared.need.Need.{Need}
@@ -50,18 +51,8 @@ pub same-next : (v : EngineView) (m l : Moves.Move) → IsNext v m → IsNext v 
 same-next v m l e f = let g : ◌≡◌ {A = Option Moves.Move} (Some m) (Some l) = sym e ∙ f in cc
 
 -- a chart's move is of its batch
-of-batch : (t : Tree) (b : Model.Batch) (m : Move) → batch_of (move_of t b m) ≡ b.number
-of-batch t b (Send k c) = refl
-of-batch t b (State x) = refl
-of-batch t b (Release k i) = refl
-of-batch t b (Begin k) = refl
-of-batch t b (Start k) = refl
-of-batch t b (End k) = refl
-of-batch t b (Ask k i) = refl
-
-IsRunMove : Move → Type 0
-IsRunMove (State x) = ⊥
-IsRunMove _ = Unit {0}
+pub of-batch : (t : Tree) (b : Model.Batch) (m : Move) → batch_of (move_of t b m) ≡ b.number
+of-batch t b m = grind arith
 
 -- what a move but a change of state makes of a batch is what it makes of its rest
 abbrev pub Runs : Move → Type 0
@@ -87,22 +78,10 @@ quiet-runs (End k) h = tt
 quiet-runs (Ask k i) h = tt
 
 quiet-line : (t : Tree) (b : Model.Batch) (m : Move) → IsQuiet m → (line : Name → List Share) (name : Name) → line name ≡ line_after (move_of t b m) line name
-quiet-line t b (Send k c) h line name = refl
-quiet-line t b (State x) h line name = refl
-quiet-line t b (Release k i) h line name = absurd h
-quiet-line t b (Begin k) h line name = refl
-quiet-line t b (Start k) h line name = refl
-quiet-line t b (End k) h line name = refl
-quiet-line t b (Ask k i) h line name = absurd h
+quiet-line t b m h line name = grind arith
 
 quiet-holders : (t : Tree) (b : Model.Batch) (m : Move) → IsQuiet m → (name : Name) (hs : List Share) → hs ≡ holders_after name hs (move (move_of t b m))
-quiet-holders t b (Send k c) h name hs = refl
-quiet-holders t b (State x) h name hs = refl
-quiet-holders t b (Release k i) h name hs = absurd h
-quiet-holders t b (Begin k) h name hs = refl
-quiet-holders t b (Start k) h name hs = refl
-quiet-holders t b (End k) h name hs = refl
-quiet-holders t b (Ask k i) h name hs = absurd h
+quiet-holders t b m h name hs = grind arith
 
 -- Has and Contains
 Has-Contains : {X : Type 0} (xs : List X) (x : X) → Has xs x → Contains xs x
@@ -247,11 +226,6 @@ module _ (v : EngineView) (k : IsKept v) (i : ℕ) (b : Batch) (at : slice_get v
       untest : (m n : ℕ) → nat_eq m n ≡ true → m ≡ n
       untest m n e = grind arith
 
-      both-true : (x y : Bool) → x ≡ true → y ≡ true → (x && y) ≡ true
-      both-true true true e f = refl
-      both-true true false e f = absurd cc
-      both-true false y e f = absurd cc
-
       no : (t : Bool) → (t ≡ true → ⊥) → t ≡ false
       no true h = absurd (h refl)
       no false h = refl
@@ -259,7 +233,7 @@ module _ (v : EngineView) (k : IsKept v) (i : ℕ) (b : Batch) (at : slice_get v
       go : (t : Bool) → is_same_act (act_of v.cleared v.batches x) (b.number, place_at (tree_of v.cleared b) node) ≡ t → is_claim b.number node x ≡ t
       go true e =
           let n : batch_node x ≡ (b.number, node) = act-claim v k i b at x node few (same_act (act_of v.cleared v.batches x) (b.number, place_at (tree_of v.cleared b) node) e) in
-          both-true (nat_eq x.batch b.number) (nat_eq x.node node) (test x.batch b.number (ap (λ (z : ℕ × ℕ). z.0) n)) (test x.node node (ap (λ (z : ℕ × ℕ). z.1) n))
+          both_true (test x.batch b.number (ap (λ (z : ℕ × ℕ). z.0) n)) (test x.node node (ap (λ (z : ℕ × ℕ). z.1) n))
       go false e =
           no (is_claim b.number node x) (λ h.
           let s : (nat_eq x.batch b.number ≡ true) × (nat_eq x.node node ≡ true) = and_parts (nat_eq x.batch b.number) (nat_eq x.node node) h in

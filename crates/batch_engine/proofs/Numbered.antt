@@ -159,12 +159,7 @@ Each-mapped P f [] h = tt
 Each-mapped P f (x ∷ xs) h = (h.0, Each-mapped P f xs h.1)
 
 needs-same : (t : Tree) → nodes_spec.needs_of t ≡ (step_of t).needs
-needs-same (act s w) = refl
-needs-same skip = refl
-needs-same (seq ts) = refl
-needs-same (par ts) = refl
-needs-same (sel cs) = refl
-needs-same (loop n c t) = refl
+needs-same t = grind arith
 
 module _ (c : ClearedSet) (cleared : CanBeCleared (setup c)) (r : Model.Recipe) (control : IsControl (setup c) r) where
   pub node-named : (k : ℕ) → k < node_count r.procedure → IsNamed c (node_at r.procedure k).here
@@ -228,12 +223,7 @@ module _ (c : ClearedSet) (cleared : CanBeCleared (setup c)) (r : Model.Recipe) 
           let same : (let x : Name × Name = (p.unit, p.name) in x) ≡ names = cc in
           ap (λ (x : Name × Name). position (same_name x.0) (units_of c.cell)) (sym same) ∙ u.1
           ∙ sym (ap (λ (x : PhaseNumber). let o : Option ℕ = Some x.unit in o) (numbered-phase c.cell p.unit p.name h))
-      go (act s (follows name t)) h f = absurd cc
-      go skip h f = absurd cc
-      go (seq ts) h f = absurd cc
-      go (par ts) h f = absurd cc
-      go (sel cs) h f = absurd cc
-      go (loop n q t) h f = absurd cc
+      go t h e = absurd (grind arith)
 
 -- A cell has few resources
 

@@ -55,21 +55,10 @@ named-task cell (act s (runs p)) unit phase e =
     let u : p.unit ≡ unit = ap name_first e in
     let n : p.name ≡ phase = ap name_second e in
     ap₂ (phase_number cell) (sym u) (sym n)
-named-task cell (act s (follows name t)) unit phase e = absurd cc
-named-task cell skip unit phase e = absurd cc
-named-task cell (seq ts) unit phase e = absurd cc
-named-task cell (par ts) unit phase e = absurd cc
-named-task cell (sel cs) unit phase e = absurd cc
-named-task cell (loop n c t) unit phase e = absurd cc
+named-task cell t unit phase h = absurd (grind arith)
 
 pub unnamed-task : (cell : Cell) (t : Tree) → phase_named t ≡ None → NO_PHASE ≡ phase_in cell t
-unnamed-task cell (act s (runs p)) e = absurd cc
-unnamed-task cell (act s (follows name t)) e = refl
-unnamed-task cell skip e = refl
-unnamed-task cell (seq ts) e = refl
-unnamed-task cell (par ts) e = refl
-unnamed-task cell (sel cs) e = refl
-unnamed-task cell (loop n c t) e = refl
+unnamed-task cell t h = grind arith
 
 -- the phase of this name on the unit with this number is that of the node, where it is so named
 pub phase-taken : (cell : Cell) (t : Tree) (unit phase : Name) (number : ℕ) → phase_named t ≡ Some (unit, phase) → position (same_name unit) (units_of cell) ≡ Some number
@@ -80,18 +69,14 @@ phase-taken cell t unit phase number e f = ap (phase_on cell number) e ∙ ap (p
 
 module _ (bound : Binding) (acts : Acts) where
   acts-agree : (list : ActList) (ns : List Node) (k : ℕ) (a : Act) (d : Node) → AreActsAt bound acts list ns → slice_get list k ≡ Some (Some a) → IsActAt bound acts (Some a) (get_or ns k d)
-  acts-agree [] [] k a d h e = absurd cc
-  acts-agree [] (at ∷ ns) k a d h e = absurd h
-  acts-agree (b ∷ list) [] k a d h e = absurd h
   acts-agree (b ∷ list) (at ∷ ns) zero a d h e = let is : b ≡ Some a = cc in subst (λ (z : Option Act). IsActAt bound acts z at) is h.0
   acts-agree (b ∷ list) (at ∷ ns) (suc k) a d h e = acts-agree list ns k a d h.1 e
+  acts-agree list ns k a d h e = absurd (grind arith)
 
   none-agree : (list : ActList) (ns : List Node) (k : ℕ) (d : Node) → AreActsAt bound acts list ns → slice_get list k ≡ Some None → IsNoAct (get_or ns k d).here
-  none-agree [] [] k d h e = absurd cc
-  none-agree [] (at ∷ ns) k d h e = absurd h
-  none-agree (b ∷ list) [] k d h e = absurd h
   none-agree (b ∷ list) (at ∷ ns) zero d h e = let is : b ≡ None = cc in subst (λ (z : Option Act). IsActAt bound acts z at) is h.0
   none-agree (b ∷ list) (at ∷ ns) (suc k) d h e = none-agree list ns k d h.1 e
+  none-agree list ns k d h e = absurd (grind arith)
 
   pub act-here : (k : ℕ) (a : Act) → slice_get (procedure_acts acts) k ≡ Some (Some a) → IsOfAct bound a (node_at (bound_tree bound acts) k).here
   act-here k a e =
@@ -197,20 +182,10 @@ no-act-numbered cell roles bound t x h e f =
     }
   where
     none : (t : Tree) → IsNoAct t → (step_of t).needs ≡ []
-    none (act s w) h = absurd h
-    none skip h = refl
-    none (seq ts) h = refl
-    none (par ts) h = refl
-    none (sel cs) h = refl
-    none (loop n c t) h = refl
+    none t h = grind arith
 
     nothing : (t : Tree) → IsNoAct t → NO_PHASE ≡ phase_in cell t
-    nothing (act s w) h = absurd h
-    nothing skip h = refl
-    nothing (seq ts) h = refl
-    nothing (par ts) h = refl
-    nothing (sel cs) h = refl
-    nothing (loop n c t) h = refl
+    nothing t h = grind arith
 
 pub act-numbered : (cell : Cell) (r : Recipe) (k : ℕ) (a : Act) (x : ActNumbers) → slice_get (procedure_acts r.acts) k ≡ Some (Some a) → AreNeeds cell (roles_of r) a.unit a.needs.items x.needs.items
     → ((bound : Binding) → IsTaskNumbered cell (roles_of r) bound (node_at (bound_tree bound r.acts) k).here x.task)

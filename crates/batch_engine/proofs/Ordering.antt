@@ -89,24 +89,10 @@ module _ (v : EngineView) (k : IsKept v) (i : ℕ) (command : Command) (n : ℕ)
       }
 
 plain-becomes : (command : Command) → IsPlain command → (b : Model.Batch) → (let d : Model.Batch = record b { state = target command } in d) ≡ commanded command b
-plain-becomes Start h b = refl
-plain-becomes Pause h b = refl
-plain-becomes Resume h b = refl
-plain-becomes Hold h b = refl
-plain-becomes Restart h b = refl
-plain-becomes Stop h b = absurd h
-plain-becomes Abort h b = absurd h
-plain-becomes Reset h b = absurd h
+plain-becomes command h b = grind arith
 
 plain-lines : (command : Command) → IsPlain command → (n : ℕ) (line : Name → List Share) (name : Name) → line name ≡ lines_under command n line name
-plain-lines Start h n line name = refl
-plain-lines Pause h n line name = refl
-plain-lines Resume h n line name = refl
-plain-lines Hold h n line name = refl
-plain-lines Restart h n line name = refl
-plain-lines Stop h n line name = absurd h
-plain-lines Abort h n line name = absurd h
-plain-lines Reset h n line name = absurd h
+plain-lines command h n line name = grind arith
 
 -- a command that changes the state alone
 pub enter-made : (v : EngineView) → IsKept v → (i : ℕ) (command : Command) (n : ℕ) (o : IsOrder v i command n) → IsPlain command
@@ -119,24 +105,10 @@ enter-made v k i command n o plain =
 -- Stop and abort
 
 asks-becomes : (command : Command) → EndsAsks command → (b : Model.Batch) → (let d : Model.Batch = record b { state = target command; rest = withdrawn b.rest } in d) ≡ commanded command b
-asks-becomes Stop h b = refl
-asks-becomes Abort h b = refl
-asks-becomes Start h b = absurd h
-asks-becomes Pause h b = absurd h
-asks-becomes Resume h b = absurd h
-asks-becomes Hold h b = absurd h
-asks-becomes Restart h b = absurd h
-asks-becomes Reset h b = absurd h
+asks-becomes command h b = grind arith
 
 asks-lines : (command : Command) → EndsAsks command → (n : ℕ) (line : Name → List Share) (name : Name) → filter (λ a. not (nat_eq a.act.0 n)) (line name) ≡ lines_under command n line name
-asks-lines Stop h n line name = refl
-asks-lines Abort h n line name = refl
-asks-lines Start h n line name = absurd h
-asks-lines Pause h n line name = absurd h
-asks-lines Resume h n line name = absurd h
-asks-lines Hold h n line name = absurd h
-asks-lines Restart h n line name = absurd h
-asks-lines Reset h n line name = absurd h
+asks-lines command h n line name = grind arith
 
 acts-filtered : (act : Claim → Share) (n : ℕ) (xs : List Claim) → ((x : Claim) → nat_eq (act x).act.0 n ≡ is_of_batch n x) → map act (filter (λ c. not (is_of_batch n c)) xs) ≡ filter (λ a. not (nat_eq a.act.0 n)) (map act xs)
 acts-filtered act n [] h = refl
@@ -146,8 +118,7 @@ acts-filtered act n (x ∷ xs) h = go (not (is_of_batch n x)) (not (nat_eq (act 
         → map act (cond t (x ∷ filter (λ c. not (is_of_batch n c)) xs) (filter (λ c. not (is_of_batch n c)) xs)) ≡ cond u (act x ∷ filter (λ a. not (nat_eq a.act.0 n)) (map act xs)) (filter (λ a. not (nat_eq a.act.0 n)) (map act xs))
     go true true e f = ap (λ ys. act x ∷ ys) f
     go false false e f = f
-    go true false e f = absurd cc
-    go false true e f = absurd cc
+    go t u h e = absurd (grind arith)
 
 at-mapped : (f : List Claim → List Claim) → f [] ≡ [] → (xss : List (List Claim)) (q : ℕ) → get_or (map f xss) q [] ≡ f (get_or xss q [])
 at-mapped f e [] q = sym e

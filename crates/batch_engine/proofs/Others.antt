@@ -40,14 +40,7 @@ room m n b e = go (nat_le m n) refl e
     go false f g = grind arith
 
 commanded-number : (command : Command) (b : Batch) → (commanded command b).number ≡ b.number
-commanded-number Start b = refl
-commanded-number Pause b = refl
-commanded-number Resume b = refl
-commanded-number Hold b = refl
-commanded-number Restart b = refl
-commanded-number Stop b = refl
-commanded-number Abort b = refl
-commanded-number Reset b = refl
+commanded-number command b = grind arith
 
 -- a change of batch n leaves the others
 Has-other : (n : ℕ) (f : Batch → Batch) (bs : List Batch) (b : Batch) → ((c : Batch) → (f c).number ≡ c.number)
@@ -193,10 +186,9 @@ module _ (c : Setup) (s : Plant) where
 
 leads-few : (c : Setup) (s t : Plant) (es : List Event) (outs : List Out) → length s.batches ≤ c.batch_limit → Leads c s es outs t → length t.batches ≤ c.batch_limit
 leads-few c s t [] [] k h = subst (λ (z : Plant). length z.batches ≤ c.batch_limit) h k
-leads-few c s t (e ∷ es) [] k h = absurd h
 leads-few c s t es (move m ∷ outs) k h = leads-few c (after s m) t es outs (changed-few c s (batch_of m) (batch_after m) k) h.1
-leads-few c s t [] (reply r ∷ outs) k h = absurd h
 leads-few c s t (e ∷ es) (reply r ∷ outs) k h = leads-few c h.0 t es outs ((reacts-leaves c s e r h.0 h.1).few k) h.2
+leads-few c s t es outs h e = absurd (grind arith)
 
 -- there are never more batches than may be
 pub batches-are-few : (c : Setup) (events : List Event) (outs : List Out) (s : Plant) → Leads c opening events outs s → length s.batches ≤ c.batch_limit
@@ -206,18 +198,7 @@ batches-are-few c events outs s h = leads-few c opening s events outs (omega ari
 
 -- where no asks are withdrawn, the lines stay
 lines-stay : (q : Name) (line : List Share) (r : Reply) → withdraws r ≡ false → waiters_after q line (reply r) ≡ line
-lines-stay q line (created n name size told) e = refl
-lines-stay q line (ordered Start n x) e = refl
-lines-stay q line (ordered Pause n x) e = refl
-lines-stay q line (ordered Resume n x) e = refl
-lines-stay q line (ordered Hold n x) e = refl
-lines-stay q line (ordered Restart n x) e = refl
-lines-stay q line (ordered Stop n x) e = absurd cc
-lines-stay q line (ordered Abort n x) e = absurd cc
-lines-stay q line (ordered Reset n x) e = refl
-lines-stay q line (removed n) e = refl
-lines-stay q line (reported unit name word n p x) e = refl
-lines-stay q line (refused x) e = refl
+lines-stay q line r h = grind arith
 
 module _ (c : Setup) (outs : List Out) (s : Plant) (told : IsTold outs s) (settled : next c s ≡ None) where
   -- after an event no batch has a move but the one that the reply names, and where asks were withdrawn, those that are served

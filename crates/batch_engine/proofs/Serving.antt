@@ -1,6 +1,7 @@
 -- Whom the arbiter would serve is whom the plant serves.
-use Rattle.std.proofs.Common.{◌≡◌, ◌+◌, refl, sym, ◌∙◌, ap, ap₂, subst, ℕ, List, [], ◌∷◌, Bool, true, false, ◌&&◌, cond, Option, Some, None, inl, get_or, map}
+use Rattle.std.proofs.Common.{arith, ◌≡◌, ◌+◌, refl, sym, ◌∙◌, ap, ap₂, subst, ℕ, List, [], ◌∷◌, Bool, true, false, ◌&&◌, cond, Option, Some, None, inl, get_or, map}
 use Rattle.std.specs.Prelude.{nat_le, option_map}
+use Rattle.std.specs.Cmp.Derive.{both_true}
 use Rattle.std.proofs.lemmas.List.Sums.{sum_by-cons}
 use Rattle.std.proofs.lemmas.Bool.{and_parts}
 use Rattle.batch_recipe.specs.Conditions.{Name}
@@ -28,11 +29,6 @@ serves held units capacity line a = nat_le (held + units) capacity && elim line 
 IsFor : ℕ → ℕ → Option Claim → Type 0
 IsFor n node o = option_map batch_node o ≡ Some (n, node)
 
-and-true : (a b : Bool) → a ≡ true → b ≡ true → (a && b) ≡ true
-and-true true true e f = refl
-and-true true false e f = absurd cc
-and-true false b e f = absurd cc
-
 module _ (act : Claim → BatchAct) where
   abbrev share : Claim → Share
   share x = record { act = act x; units = x.units }
@@ -51,7 +47,7 @@ module _ (act : Claim → BatchAct) where
       go true q f =
           let at : batch_node x ≡ (n, node) = cc in
           let is : is_same_act (act x) a ≡ true = subst (λ z. is_same_act (act x) z ≡ true) (same x at) (act_self (act x)) in
-          and-true (nat_le (held_units shares + units) capacity) (is_same_act (act x) a) (subst (λ u. nat_le (held_units shares + u) capacity ≡ true) (much x (inl refl) at) q) is
+          both_true (subst (λ u. nat_le (held_units shares + u) capacity ≡ true) (much x (inl refl) at) q) is
 
   pub next-serves : (capacity units : ℕ) (shares line : List Claim) (n node : ℕ) (a : BatchAct)
       → ((x : Claim) → act x ≡ a → batch_node x ≡ (n, node)) → ((x : Claim) → Has line x → batch_node x ≡ (n, node) → x.units ≡ units)

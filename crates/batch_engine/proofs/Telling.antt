@@ -36,13 +36,7 @@ place-seen (n ∷ ns) zero = refl
 place-seen (n ∷ ns) (suc k) = place-seen ns k
 
 name-here : (t : Tree) → Names.name_in t ≡ Tree.name_in (task_of t)
-name-here (act s (runs p)) = refl
-name-here (act s (follows name t)) = refl
-name-here skip = refl
-name-here (seq ts) = refl
-name-here (par ts) = refl
-name-here (sel cs) = refl
-name-here (loop n c t) = refl
+name-here t = grind arith
 
 name-seen : (ns : List Node) (k : ℕ) → Names.name_of (slice_get ns k) ≡ Tree.name_in (task_of (get_or ns k (record { place = []; asked = []; here = skip })).here)
 name-seen [] k = refl
@@ -50,13 +44,7 @@ name-seen (n ∷ ns) zero = name-here n.here
 name-seen (n ∷ ns) (suc k) = name-seen ns k
 
 handed-here : (t : Tree) → Names.handed_in t ≡ (Tree.phase_in (task_of t)).handed
-handed-here (act s (runs p)) = refl
-handed-here (act s (follows name t)) = refl
-handed-here skip = refl
-handed-here (seq ts) = refl
-handed-here (par ts) = refl
-handed-here (sel cs) = refl
-handed-here (loop n c t) = refl
+handed-here t = grind arith
 
 handed-seen : (ns : List Node) (k : ℕ) → Names.handed_of (slice_get ns k) ≡ (Tree.phase_in (task_of (get_or ns k (record { place = []; asked = []; here = skip })).here)).handed
 handed-seen [] k = refl

@@ -39,6 +39,7 @@ use Rattle.batch_engine.specs.Marks.{IsUnmarked}
 use Rattle.batch_engine.specs.Steps.{IsNext, IsStep, Makes, MakesNext, index_of}
 use Rattle.batch_engine.specs.Surface.{reply_of}
 use Rattle.batch_engine.specs.View.{EngineView, setup, batch_of, line_at, names_of, number_of, plant_of, tree_of}
+use Rattle.batch_engine.proofs.Made.{of-batch}
 use Rattle.batch_engine.proofs.BatchPlaces.{chosen-false, later-number, Has-batch_of}
 use Rattle.batch_engine.proofs.Cells.{length-capacities}
 use Rattle.batch_engine.proofs.Finding.{named as named-resource, Has-get, batch-runs, serves-first, tree-placed}
@@ -137,15 +138,6 @@ served-at w k i b at step task held need q here got number served =
     (b, at, (n.0, serves-first w k i b at n.0 held q n.1 (subst (λ (z : Need). number_of w.cleared z.resource ≡ Some q) n.5 number) s))
 
 -- The move of a step
-
-of-batch : (t : Tree) (b : Model.Batch) (m : Move) → Moves.batch_of (move_of t b m) ≡ b.number
-of-batch t b (Send k c) = refl
-of-batch t b (State x) = refl
-of-batch t b (Release k i) = refl
-of-batch t b (Begin k) = refl
-of-batch t b (Start k) = refl
-of-batch t b (End k) = refl
-of-batch t b (Ask k i) = refl
 
 abbrev pub StepMove : EngineView → ℕ → Type 0
 StepMove v i = (m : Moves.Move) × IsNext v m × ((b : Batch) × (slice_get v.batches i ≡ Some b) × (Moves.batch_of m ≡ b.number))
@@ -256,18 +248,10 @@ settled-marked v settled marks i less unmarked =
 -- Events
 
 same-named : (c : ClearedSet) (r : Reply) → named (reply_of c r) ≡ named_by r
-same-named c (Replies.Created n recipe size units) = refl
-same-named c (Replies.Ordered command n x) = refl
-same-named c (Replies.Removed n) = refl
-same-named c (Replies.Reported unit phase word n recipe k x) = refl
-same-named c (Replies.Refused x) = refl
+same-named c r = grind arith
 
 same-withdraws : (c : ClearedSet) (r : Reply) → withdraws (reply_of c r) ≡ withdraws_by r
-same-withdraws c (Replies.Created n recipe size units) = refl
-same-withdraws c (Replies.Ordered command n x) = refl
-same-withdraws c (Replies.Removed n) = refl
-same-withdraws c (Replies.Reported unit phase word n recipe k x) = refl
-same-withdraws c (Replies.Refused x) = refl
+same-withdraws c r = grind arith
 
 -- after an event no unmarked batch has a move
 pub marked-answered : (v w : EngineView) → IsKept v → IsKept w → next (setup v.cleared) (plant_of v) ≡ None → (e : Events.Event) (r : Reply) → IsAnswered v e r w

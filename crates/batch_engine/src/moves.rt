@@ -35,9 +35,8 @@ impl Control {
         requires number { IsNumberAt self.old index node need resource units }
         ensures { MakesNext self.old self.new }
     {
-        let number = self.batches[index].number;
-        self.arbiter.ask(resource, units, number, node);
         let batch = &mut self.batches[index];
+        self.arbiter.ask(resource, units, batch.number, node);
         let chart = self.cleared.recipe(batch.recipe);
         batch
             .running
@@ -50,9 +49,8 @@ impl Control {
         requires number { IsNumberAt self.old index node need resource units }
         ensures { MakesNext self.old self.new }
     {
-        let number = self.batches[index].number;
-        self.arbiter.release(resource, number, node);
         let batch = &mut self.batches[index];
+        self.arbiter.release(resource, batch.number, node);
         let chart = self.cleared.recipe(batch.recipe);
         batch
             .running
