@@ -1,4 +1,4 @@
-//! Tests of desks and their hub over documents, and of plants that run in threads, by public names alone. Nothing stands on this crate.
+//! Tests of desks and their hub over documents, of plants that run in threads, and of the program over streams that fail, by public names alone. Nothing stands on this crate.
 #![tactic(auto)]
 
 #[cfg(test)]
@@ -27,6 +27,8 @@ mod loops;
 mod plants;
 #[cfg(test)]
 mod ports;
+#[cfg(test)]
+mod program;
 #[cfg(test)]
 mod script;
 #[cfg(test)]

@@ -1,5 +1,5 @@
 //! Single calls of the engine: what it tells of acts and values, and events at any point.
-use crate::documents::{A, CELL1, F, K, L, S, W};
+use crate::documents::{A, F, K, L, S, W};
 use crate::script::assert_told;
 use std::test::Fail;
 
@@ -8,10 +8,9 @@ fn event_while_moves_pend(rt: HostRuntime) -> Result<(), Fail> {
     assert_told(
         &rt,
         rt.alloc(),
-        CELL1,
-        &[A],
-        "create A 1000
-settled
+        A,
+        "create A 1000",
+        "settled
 move
 accept start 1
 settled
@@ -28,8 +27,7 @@ state 1 0.0.0.0
 moves
 settled
 ",
-        "created 1 A 1000
-settled: true
+        "settled: true
 no move
 ok start 1 running
 settled: false
@@ -60,13 +58,12 @@ fn resumed_before_its_phase(rt: HostRuntime) -> Result<(), Fail> {
     assert_told(
         &rt,
         rt.alloc(),
-        CELL1,
-        &[A],
+        A,
         "create A 1000
 start 1
 pause 1
-report R1 ADD paused
-accept resume 1
+report R1 ADD paused",
+        "accept resume 1
 state 1 0
 state 1 0.0
 state 1 0.0.0
@@ -77,19 +74,7 @@ state 1 0
 state 1 0.0
 state 1 0.0.0.0
 ",
-        "created 1 A 1000
-ok start 1 running
-begin 1 0 A
-ask 1 0.0 R1
-grant 1 0.0 R1
-begin 1 0.0 MAKE
-begin 1 0.0.0 CHARGE
-start 1 0.0.0.0 R1 ADD
-ok pause 1 pausing
-send 1 0.0.0.0 R1 ADD pause
-ok report R1 ADD paused 1 0.0.0.0 pausing
-state 1 paused
-ok resume 1 running
+        "ok resume 1 running
 state 1 0: Some(Running)
 state 1 0.0: Some(Paused)
 state 1 0.0.0: Some(Paused)
@@ -109,11 +94,10 @@ fn states_above_live_phases(rt: HostRuntime) -> Result<(), Fail> {
     assert_told(
         &rt,
         rt.alloc(),
-        CELL1,
-        &[W],
+        W,
         "create W 1000
-start 1
-state 1 0
+start 1",
+        "state 1 0
 state 1 0.0
 state 1 0.0.0
 state 1 0.0.0.0
@@ -135,16 +119,7 @@ state 1 0.0.0
 state 1 0.0.0.0.0
 state 1 0.0.0.0.1
 ",
-        "created 1 W 1000
-ok start 1 running
-begin 1 0 W
-ask 1 0.0 R1
-grant 1 0.0 R1
-begin 1 0.0 MAKE
-begin 1 0.0.0 COOK
-start 1 0.0.0.0.0 R1 ADD
-start 1 0.0.0.0.1 R1 HEAT
-state 1 0: Some(Running)
+        "state 1 0: Some(Running)
 state 1 0.0: Some(Running)
 state 1 0.0.0: Some(Running)
 state 1 0.0.0.0: None
@@ -175,13 +150,12 @@ fn states_of_acts_without_live_phases(rt: HostRuntime) -> Result<(), Fail> {
     assert_told(
         &rt,
         rt.alloc(),
-        CELL1,
-        &[S],
+        S,
         "create S 1000
 start 1
 hold 1
-report R1 ADD done
-state 1 0
+report R1 ADD done",
+        "state 1 0
 state 1 0.0
 state 1 0.0.0
 state 1 0.0.0.0
@@ -194,19 +168,7 @@ state 2 0.0
 state 2 0.0.0
 state 3 0
 ",
-        "created 1 S 1000
-ok start 1 running
-begin 1 0 S
-ask 1 0.0 R1
-grant 1 0.0 R1
-begin 1 0.0 MAKE
-begin 1 0.0.0 COOK
-start 1 0.0.0.0.0 R1 ADD
-ok hold 1 holding
-send 1 0.0.0.0.0 R1 ADD hold
-ok report R1 ADD done 1 0.0.0.0.0 holding
-state 1 held
-state 1 0: Some(Held)
+        "state 1 0: Some(Held)
 state 1 0.0: Some(Held)
 state 1 0.0.0: Some(Held)
 state 1 0.0.0.0: None
@@ -229,12 +191,11 @@ fn report_twice(rt: HostRuntime) -> Result<(), Fail> {
     assert_told(
         &rt,
         rt.alloc(),
-        CELL1,
-        &[A],
+        A,
         "create A 1000
 start 1
-report R1 ADD done
-state 1 0
+report R1 ADD done",
+        "state 1 0
 state 1 0.0
 state 1 0.0.0
 state 1 0.0.0.0
@@ -247,21 +208,7 @@ state 1 0.0
 state 1 0.0.0
 state 1 0.0.0.0
 ",
-        "created 1 A 1000
-ok start 1 running
-begin 1 0 A
-ask 1 0.0 R1
-grant 1 0.0 R1
-begin 1 0.0 MAKE
-begin 1 0.0.0 CHARGE
-start 1 0.0.0.0 R1 ADD
-ok report R1 ADD done 1 0.0.0.0 running
-end 1 0.0.0
-end 1 0.0
-release 1 0.0 R1
-end 1 0
-state 1 complete
-state 1 0: Some(Complete)
+        "state 1 0: Some(Complete)
 state 1 0.0: Some(Idle)
 state 1 0.0.0: Some(Idle)
 state 1 0.0.0.0: Some(Idle)
@@ -282,15 +229,13 @@ fn scaled_value_of_a_batch(rt: HostRuntime) -> Result<(), Fail> {
     assert_told(
         &rt,
         rt.alloc(),
-        CELL1,
-        &[F],
-        "create F 500
-value 1 QTY
+        F,
+        "create F 500",
+        "value 1 QTY
 value 1 X
 value 2 QTY
 ",
-        "created 1 F 500
-value 1 QTY: Some(167)
+        "value 1 QTY: Some(167)
 value 1 X: None
 value 2 QTY: None
 ",
@@ -303,31 +248,18 @@ fn output_of_a_batch(rt: HostRuntime) -> Result<(), Fail> {
     assert_told(
         &rt,
         rt.alloc(),
-        CELL1,
-        &[L],
+        L,
         "create L 1000
 start 1
 report R1 ADD done
-report R1 ADD done
-value 1 X
+report R1 ADD done",
+        "value 1 X
 report R1 ADD done X=1
 value 1 X
 reset 1
 value 1 X
 ",
-        "created 1 L 1000
-ok start 1 running
-begin 1 0 L
-ask 1 0.0 R1
-grant 1 0.0 R1
-begin 1 0.0 MAKE
-begin 1 0.0.0 CHARGE
-start 1 0.0.0.0.0 R1 ADD
-ok report R1 ADD done 1 0.0.0.0.0 running
-start 1 0.0.0.0.0 R1 ADD
-ok report R1 ADD done 1 0.0.0.0.0 running
-start 1 0.0.0.0.0 R1 ADD
-value 1 X: Some(0)
+        "value 1 X: Some(0)
 ok report R1 ADD done 1 0.0.0.0.0 running
 end 1 0.0.0
 end 1 0.0
@@ -347,12 +279,11 @@ fn refused_outputs_are_not_set(rt: HostRuntime) -> Result<(), Fail> {
     assert_told(
         &rt,
         rt.alloc(),
-        CELL1,
-        &[K],
+        K,
         "create K 1000
 start 1
-report R1 ADD done X=2
-report R1 HEAT done X=7 Y=1
+report R1 ADD done X=2",
+        "report R1 HEAT done X=7 Y=1
 value 1 X
 report R1 HEAT done Y=1 X=7
 value 1 X
@@ -366,17 +297,7 @@ state 1 0.0.0.0.1.0
 report R1 HEAT done X=1000000000000
 value 1 X
 ",
-        "created 1 K 1000
-ok start 1 running
-begin 1 0 K
-ask 1 0.0 R1
-grant 1 0.0 R1
-begin 1 0.0 MAKE
-begin 1 0.0.0 CHARGE
-start 1 0.0.0.0.0 R1 ADD
-ok report R1 ADD done 1 0.0.0.0.0 running
-start 1 0.0.0.0.1.0 R1 HEAT
-refused E6
+        "refused E6
 value 1 X: Some(2)
 refused E6
 value 1 X: Some(2)

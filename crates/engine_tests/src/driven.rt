@@ -3,7 +3,7 @@ use crate::documents::{A, CELL1};
 use crate::drivers::{Answer, Scripted};
 use crate::simulator::steady;
 use crate::stage::Stage;
-use batch_sim::SteadyUnit;
+use batch_sim::{SteadyUnit, UnitDriver};
 use std::alloc::Global;
 use std::process::Abort;
 use std::test::Fail;
@@ -17,10 +17,20 @@ pub(crate) fn steady_stage(alloc: Global) -> Result<Stage<SteadyUnit>, Fail> {
     Stage::new(alloc, CELL1, &[A], units)
 }
 
-/// What is told of the script where the units work steadily.
+/// What is told of the script once a phase of R1 runs.
+fn told_after_start<D: UnitDriver>(
+    alloc: Global,
+    stage: &mut Stage<D>,
+    script: &str,
+) -> Result<String, Fail> {
+    let _ = stage.told(alloc, START)?;
+    stage.told(alloc, script)
+}
+
+/// What is told of the script where the units work steadily, and a phase of R1 runs.
 fn steady_told(alloc: Global, script: &str) -> Result<String, Fail> {
     let mut stage = steady_stage(alloc)?;
-    stage.told(alloc, script)
+    told_after_start(alloc, &mut stage, script)
 }
 
 /// That what is told of the script where the units work steadily is the text expected.
@@ -41,16 +51,6 @@ fn scripted(alloc: Global, answers: &[&'static [Answer]]) -> Result<Vec<Scripted
         units.push(Scripted::new(*list))?;
     }
     Ok(units)
-}
-
-/// What is told of the script once a phase of R1 runs.
-fn told_after_start(
-    alloc: Global,
-    stage: &mut Stage<Scripted>,
-    script: &str,
-) -> Result<String, Fail> {
-    let _ = stage.told(alloc, START)?;
-    stage.told(alloc, script)
 }
 
 /// What is told of the script where the units answer so, and a phase of R1 runs.

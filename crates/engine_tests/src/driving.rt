@@ -1,4 +1,4 @@
-//! Driving the demo cell, whose units work steadily: a phase runs two ticks.
+//! Driving the demo cell, whose units work steadily: a phase runs two ticks. One of R1 runs at first.
 use crate::driven::assert_steady;
 use std::test::Fail;
 
@@ -8,22 +8,12 @@ fn two_ticks_a_phase(rt: HostRuntime) -> Result<(), Fail> {
     assert_steady(
         &rt,
         rt.alloc(),
-        "create A 1000
-start 1
-drive 1
+        "drive 1
 drive 1
 settled
 drive 100
 ",
-        "created 1 A 1000
-ok start 1 running
-begin 1 0 A
-ask 1 0.0 R1
-grant 1 0.0 R1
-begin 1 0.0 MAKE
-begin 1 0.0.0 CHARGE
-start 1 0.0.0.0 R1 ADD
-driven
+        "driven
 ok report R1 ADD done 1 0.0.0.0 running
 end 1 0.0.0
 end 1 0.0
@@ -44,22 +34,12 @@ fn second_batch_is_driven(rt: HostRuntime) -> Result<(), Fail> {
         &rt,
         rt.alloc(),
         "create A 1000
-create A 1000
-start 1
 start 2
 drive 0
 drive 2
 drive 2
 ",
-        "created 1 A 1000
-created 2 A 1000
-ok start 1 running
-begin 1 0 A
-ask 1 0.0 R1
-grant 1 0.0 R1
-begin 1 0.0 MAKE
-begin 1 0.0.0 CHARGE
-start 1 0.0.0.0 R1 ADD
+        "created 2 A 1000
 ok start 2 running
 begin 2 0 A
 ask 2 0.0 R1
@@ -92,23 +72,13 @@ fn pause_and_resume(rt: HostRuntime) -> Result<(), Fail> {
     assert_steady(
         &rt,
         rt.alloc(),
-        "create A 1000
-start 1
-drive 1
+        "drive 1
 pause 1
 drive 10
 resume 1
 drive 1
 ",
-        "created 1 A 1000
-ok start 1 running
-begin 1 0 A
-ask 1 0.0 R1
-grant 1 0.0 R1
-begin 1 0.0 MAKE
-begin 1 0.0.0 CHARGE
-start 1 0.0.0.0 R1 ADD
-driven
+        "driven
 ok pause 1 pausing
 send 1 0.0.0.0 R1 ADD pause
 ok report R1 ADD paused 1 0.0.0.0 pausing
@@ -132,24 +102,14 @@ fn hold_restart_and_stop(rt: HostRuntime) -> Result<(), Fail> {
     assert_steady(
         &rt,
         rt.alloc(),
-        "create A 1000
-start 1
-hold 1
+        "hold 1
 drive 10
 restart 1
 drive 1
 stop 1
 drive 1
 ",
-        "created 1 A 1000
-ok start 1 running
-begin 1 0 A
-ask 1 0.0 R1
-grant 1 0.0 R1
-begin 1 0.0 MAKE
-begin 1 0.0.0 CHARGE
-start 1 0.0.0.0 R1 ADD
-ok hold 1 holding
+        "ok hold 1 holding
 send 1 0.0.0.0 R1 ADD hold
 ok report R1 ADD held 1 0.0.0.0 holding
 state 1 held

@@ -1,48 +1,103 @@
-//! A writer that takes a byte a call, and fails at one call.
+//! Readers and writers that give and take in pieces, and fail at one call.
 use std::alloc::Global;
 use std::io;
-use std::io::{ErrorKind, Write};
+use std::io::{ErrorKind, Read, Write};
 
-/// Takes one byte a call, and refuses one call of write or of flush, each counted for itself from 1; 0 refuses none.
+/// Gives its bytes one a call, and fails at one call in this way. Calls are counted from 1.
+#[derive(Drop)]
+pub(crate) struct OneByOne<'a> {
+    bytes: &'a [u8],
+    calls: usize,
+    fails_at: usize,
+    fault: ErrorKind,
+}
+
+impl<'a> OneByOne<'a> {
+    /// No call fails.
+    pub(crate) fn of(bytes: &'a [u8]) -> OneByOne<'a> {
+        OneByOne::failing(bytes, 0, ErrorKind::Other)
+    }
+
+    pub(crate) fn failing(bytes: &'a [u8], fails_at: usize, fault: ErrorKind) -> OneByOne<'a> {
+        OneByOne {
+            bytes,
+            calls: 0,
+            fails_at,
+            fault,
+        }
+    }
+}
+
+impl<'a> Read for OneByOne<'a> {
+    fn read(&mut self, buf: &mut [u8]) -> io::Result<usize> {
+        self.calls = self.calls.saturating_add(1);
+        if self.calls == self.fails_at {
+            return Err(io::Error::from(self.fault));
+        }
+        let count = self.bytes.len().min(buf.len()).min(1);
+        let (front, rest) = self.bytes.split_at(count);
+        buf[..count].copy_from_slice(front);
+        self.bytes = rest;
+        Ok(count)
+    }
+}
+
+/// How a writer fails.
+#[derive(Clone, Copy, Debug)]
+pub(crate) enum Failure {
+    /// A call is refused.
+    Refuses,
+    /// A call takes nothing.
+    TakesNone,
+    /// Handing on is refused.
+    KeepsBack,
+}
+
+/// Takes one byte a call, and fails at one call in this way. Calls that hand on are counted for themselves, from 1.
 #[derive(Drop)]
 pub(crate) struct Narrow {
     pub(crate) taken: Vec<u8>,
-    writes: usize,
-    flushes: usize,
-    refused_write: usize,
-    refused_flush: usize,
+    calls: usize,
+    handed_on: usize,
+    fails_at: usize,
+    failure: Failure,
 }
 
 impl Narrow {
-    pub(crate) fn refusing(alloc: Global, refused_write: usize, refused_flush: usize) -> Narrow {
+    pub(crate) fn failing(alloc: Global, fails_at: usize, failure: Failure) -> Narrow {
         Narrow {
             taken: Vec::new(alloc),
-            writes: 0,
-            flushes: 0,
-            refused_write,
-            refused_flush,
+            calls: 0,
+            handed_on: 0,
+            fails_at,
+            failure,
         }
     }
 }
 
 impl Write for Narrow {
     fn write(&mut self, buf: &[u8]) -> io::Result<usize> {
-        self.writes = self.writes.saturating_add(1);
-        if self.writes == self.refused_write {
-            return Err(io::Error::from(ErrorKind::Other));
+        self.calls = self.calls.saturating_add(1);
+        match (self.failure, buf.first()) {
+            (Failure::Refuses, _) if self.calls == self.fails_at => {
+                Err(io::Error::from(ErrorKind::Other))
+            }
+            (Failure::TakesNone, _) if self.calls == self.fails_at => Ok(0),
+            (_, Some(byte)) => {
+                self.taken.push(*byte)?;
+                Ok(1)
+            }
+            (_, None) => Ok(0),
         }
-        let Some(byte) = buf.first() else {
-            return Ok(0);
-        };
-        self.taken.push(*byte)?;
-        Ok(1)
     }
 
     fn flush(&mut self) -> io::Result<()> {
-        self.flushes = self.flushes.saturating_add(1);
-        if self.flushes == self.refused_flush {
-            return Err(io::Error::from(ErrorKind::Other));
+        self.handed_on = self.handed_on.saturating_add(1);
+        match self.failure {
+            Failure::KeepsBack if self.handed_on == self.fails_at => {
+                Err(io::Error::from(ErrorKind::Other))
+            }
+            _ => Ok(()),
         }
-        Ok(())
     }
 }

@@ -1,4 +1,4 @@
-//! Tests of the engine over documents, of its lines, and of units that it drives, by public names alone. Nothing stands on this crate.
+//! Tests of the engine by its calls, of serving, and of units that it drives, by public names alone. Nothing stands on this crate.
 #![tactic(auto)]
 
 #[cfg(test)]
@@ -18,35 +18,23 @@ mod driving;
 #[cfg(test)]
 mod ends;
 #[cfg(test)]
-mod event_lines;
+mod faults;
 #[cfg(test)]
 mod judge;
-#[cfg(test)]
-mod known_places;
-#[cfg(test)]
-mod limits;
 #[cfg(test)]
 mod paint;
 #[cfg(test)]
 mod paint_plant;
 #[cfg(test)]
-mod places;
-#[cfg(test)]
 mod record_lines;
 #[cfg(test)]
 mod records;
 #[cfg(test)]
-mod refusals;
-#[cfg(test)]
 mod reports;
-#[cfg(test)]
-mod roles;
-#[cfg(test)]
-mod runs;
 #[cfg(test)]
 mod script;
 #[cfg(test)]
-mod several;
+mod serving;
 #[cfg(test)]
 mod simulator;
 #[cfg(test)]

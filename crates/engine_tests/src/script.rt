@@ -1,4 +1,5 @@
 //! Scripts of an engine: event lines, and questions between them, whose answers are one text.
+use crate::documents::CELL1;
 use crate::records::{accept, engine_of, moves, next_move, record};
 use batch_engine::Engine;
 use batch_text::{Name, Place};
@@ -66,26 +67,22 @@ fn answers(alloc: Global, engine: &mut Engine, script: &str) -> Result<String, F
     Ok(told)
 }
 
-/// What is told of a script by an engine in which nothing has happened.
-pub(crate) fn told(
-    alloc: Global,
-    cell: &str,
-    recipes: &[&str],
-    script: &str,
-) -> Result<String, Fail> {
-    let mut engine = engine_of(alloc, cell, recipes)?;
+/// What is told of a script by an engine of the demo cell, behind the event lines before it.
+fn told(alloc: Global, recipe: &str, before: &str, script: &str) -> Result<String, Fail> {
+    let mut engine = engine_of(alloc, CELL1, &[recipe])?;
+    let _ = record(alloc, &mut engine, before)?;
     answers(alloc, &mut engine, script)
 }
 
-/// That what is told of the script is the text expected.
+/// That what is told of the script, behind the event lines before it, is the text expected.
 pub(crate) fn assert_told(
     rt: &impl Abort,
     alloc: Global,
-    cell: &str,
-    recipes: &[&str],
+    recipe: &str,
+    before: &str,
     script: &str,
     expected: &str,
 ) -> Result<(), Fail> {
-    assert_eq!(rt; told(alloc, cell, recipes, script)?.as_str(), expected);
+    assert_eq!(rt; told(alloc, recipe, before, script)?.as_str(), expected);
     Ok(())
 }

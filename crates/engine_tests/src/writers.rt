@@ -1,6 +1,6 @@
 //! Driving to a writer that fails.
 use crate::driven::{START, steady_stage};
-use crate::ends::Narrow;
+use crate::ends::{Failure, Narrow};
 use batch_drive::DriveFault;
 use std::alloc::Global;
 use std::test::Fail;
@@ -37,7 +37,7 @@ fn is_ended(
 /// The first call of a writer of one byte a call at which a refusal doesn't leave the bytes before it.
 fn first_wrong_write(alloc: Global) -> Result<Option<usize>, Fail> {
     for call in 1..=END.len() {
-        let writer = Narrow::refusing(alloc, call, 0);
+        let writer = Narrow::failing(alloc, call, Failure::Refuses);
         if !is_ended(alloc, writer, 2, Err(DriveFault::Write), &END[..call - 1])? {
             return Ok(Some(call));
         }
@@ -61,7 +61,7 @@ fn is_handed_on(
 ) -> Result<bool, Fail> {
     is_ended(
         alloc,
-        Narrow::refusing(alloc, 0, refused),
+        Narrow::failing(alloc, refused, Failure::KeepsBack),
         rounds,
         ending,
         taken,

@@ -1,13 +1,8 @@
 //! Runs of a cleared set, from the bytes of an input to those of the record.
 use crate::documents::{A, CELL1};
 use crate::ends::{Failure, Narrow, OneByOne};
-use batch_cell::Cell;
-use batch_check::check;
-use batch_engine::Engine;
-use batch_reader::{read_cell, read_recipe};
-use batch_recipe::Recipe;
+use crate::records::cleared_of;
 use batch_serve::{SetFault, serve_set};
-use batch_verify::{Cleared, verify};
 use std::alloc::Global;
 use std::io::Read;
 use std::process::Abort;
@@ -56,35 +51,6 @@ start 1 0.0.0.0 R1 ADD
     }
 }
 
-fn cell_of(alloc: Global, document: &str) -> Result<Cell, Fail> {
-    read_cell(alloc, document.as_bytes()).map_err(|_| Fail::from("no cell"))
-}
-
-fn recipe_of(alloc: Global, document: &str) -> Result<Recipe, Fail> {
-    read_recipe(alloc, document.as_bytes()).map_err(|_| Fail::from("no recipe"))
-}
-
-/// The recipe alone.
-fn recipes_of(alloc: Global, document: &str) -> Result<Vec<Recipe>, Fail> {
-    let mut recipes = Vec::new(alloc);
-    recipes.push(recipe_of(alloc, document)?)?;
-    Ok(recipes)
-}
-
-/// Recipe A, cleared for the demo cell.
-fn cleared(alloc: Global) -> Result<Cleared, Fail> {
-    let cell = cell_of(alloc, CELL1)?;
-    let recipes = recipes_of(alloc, A)?;
-    let certificate = check(alloc, &cell, &recipes)?;
-    verify(alloc, cell, recipes, &certificate).map_err(|_| Fail::from("not cleared"))
-}
-
-/// An engine in which nothing has happened.
-pub(crate) fn engine(alloc: Global) -> Result<Engine, Fail> {
-    let cleared = cleared(alloc)?;
-    Engine::new(alloc, cleared).map_err(|_| Fail::from("no engine"))
-}
-
 /// How a run ended, and its record.
 #[derive(Drop)]
 pub(crate) struct Outcome {
@@ -116,7 +82,7 @@ pub(crate) fn run<R: Read + Drop>(
     reader: R,
     max_reads: u64,
 ) -> Result<Outcome, Fail> {
-    let cleared = cleared(alloc)?;
+    let cleared = cleared_of(alloc, CELL1, &[A])?;
     let mut reader = reader;
     let mut record = Vec::new(alloc);
     let ending = serve_set(alloc, cleared, &mut reader, &mut record, max_reads);
@@ -125,7 +91,7 @@ pub(crate) fn run<R: Read + Drop>(
 
 /// Serves the input, which comes byte by byte, to a writer that fails.
 pub(crate) fn run_into(alloc: Global, fails_at: usize, failure: Failure) -> Result<Outcome, Fail> {
-    let cleared = cleared(alloc)?;
+    let cleared = cleared_of(alloc, CELL1, &[A])?;
     let mut reader = OneByOne::of(INPUT);
     let mut writer = Narrow::failing(alloc, fails_at, failure);
     let ending = serve_set(alloc, cleared, &mut reader, &mut writer, MANY_READS);
