@@ -5,7 +5,7 @@ use Rattle.batch_recipe.specs.Diagram.{Diagram, label, skip, seq, par, sel, loop
 use Rattle.batch_recipe.specs.Needs.{one_unit}
 use Rattle.batch_recipe.specs.declared.need.Need.{Need}
 use Rattle.batch_model.specs.Plant.{Recipe, Master, plain, Setup}
-use Rattle.batch_rows.specs.RowDocuments.{r1, r2, hdr, steam, add, make, charge, Entry, phase_step, chart_act, recipe_with, recipe_with_x, add_step, making, x_above_0, x_is_1, recipe_p, recipe_q, recipe_j, cell, narrow_cell, recipe_y, master_b, master_c, in_role}
+use Rattle.batch_rows.specs.RowDocuments.{r1, r2, hdr, add, make, charge, Entry, phase_step, chart_act, recipe_with, recipe_with_x, add_step, making, x_above_0, x_is_1, recipe_p, recipe_q, recipe_j, cell, narrow_cell, recipe_y, master_b, master_c, in_role}
 use Rattle.batch_rows.specs.RowDemo as demo
 use Rattle.batch_model.specs.Cleared.{Ranking, IsCleared, CanBeCleared}
 

@@ -7,10 +7,10 @@ use Rattle.batch_matrix.specs.declared.command.Command.TheVariants.{Start, Pause
 use Rattle.batch_matrix.specs.declared.report.Report.{Report}
 use Rattle.batch_recipe.specs.Tree.{Place}
 use Rattle.batch_rows.specs.RowDemo as demo
-use Rattle.batch_model.specs.Plant.{Plant, Batch}
+use Rattle.batch_model.specs.Plant.{Plant, Batch, opening}
 use Rattle.batch_model.specs.Moves.{send, state, begin, end}
-use Rattle.batch_model.specs.Events.{create, order, remove, created, ordered, removed, reported, refused, full, not_idle, unknown_batch, report_not_expected, moves_pending, new_batch, react}
-use Rattle.batch_model.specs.Runs.{reply, move, run}
+use Rattle.batch_model.specs.Events.{create, order, remove, created, ordered, removed, reported, refused, full, not_idle, unknown_batch, report_not_expected, moves_pending, new_batch, no_memory, react}
+use Rattle.batch_model.specs.Runs.{Reacts, reply, move, run}
 use Rattle.batch_model.specs.ActStates.{state_of}
 use Rattle.batch_rows.specs.RowDocuments.{r1, r2, hdr, steam, add, heat, drain, name_a, make, charge, cook, cell, narrow_cell, small_cell}
 use Rattle.batch_rows.specs.RowParts.{p0, p00, p000, p001, p0000, p00000, p00001, p000010, p000011, create_a, says, add_done, on, starts, refuses, entered, opened, created_a, opened_a, finished_a, settled_after, asks, grants, releases}
@@ -315,3 +315,20 @@ abbrev pub EventWhileMovesPend : Type 0
 EventWhileMovesPend =
     let started = (react cell (settled_after cell (create_a ∷ [])) (order Start 1)).1 in
     react cell started (order Hold 1) ≡ (refused moves_pending, started)
+
+-- Want of memory may refuse a create that would make a batch, and changes nothing; no other event, and no create that has a fault
+
+abbrev pub MemoryRefusesACreate : Type 0
+MemoryRefusesACreate = Reacts cell opening create_a (refused no_memory) opening
+
+abbrev pub MemoryMakesNoBatch : Type 0
+MemoryMakesNoBatch = Reacts cell opening create_a (refused no_memory) (react cell opening create_a).1 → ⊥
+
+abbrev pub MemoryHidesNoBadSize : Type 0
+MemoryHidesNoBadSize = Reacts cell opening (create name_a 0 []) (refused no_memory) opening → ⊥
+
+abbrev pub MemoryHidesNoUnknownRecipe : Type 0
+MemoryHidesNoUnknownRecipe = Reacts cell opening (create (codes "ZZ") 1000 []) (refused no_memory) opening → ⊥
+
+abbrev pub MemoryRefusesNoStart : Type 0
+MemoryRefusesNoStart = Reacts cell (react cell opening create_a).1 (order Start 1) (refused no_memory) (react cell opening create_a).1 → ⊥

@@ -1,7 +1,7 @@
 -- worked rows: what records tell, records that aren't safe, each for one reason, and what waiting steps wait for.
 use Rattle.std.specs.Prelude.{◌≡◌, ℕ, List, [], ◌∷◌, codes}
 use Rattle.batch_matrix.specs.declared.state.State.{State}
-use Rattle.batch_matrix.specs.declared.state.State.TheVariants.{Running, Holding, Held, Stopping, Stopped, Aborting, Aborted}
+use Rattle.batch_matrix.specs.declared.state.State.TheVariants.{Running, Holding, Stopping, Aborting}
 use Rattle.batch_matrix.specs.declared.command.Command.TheVariants.{Start, Hold, Stop, Abort}
 use Rattle.batch_matrix.specs.declared.report.Report.{Report}
 use Rattle.batch_recipe.specs.Conditions.{Name}

@@ -50,6 +50,11 @@ ghost use Rattle.batch_rows.specs.RowsOfCommands.{
   LastNumberIsGiven,
   NoNumberBeyondLast,
   EventWhileMovesPend,
+  MemoryRefusesACreate,
+  MemoryMakesNoBatch,
+  MemoryHidesNoBadSize,
+  MemoryHidesNoUnknownRecipe,
+  MemoryRefusesNoStart,
 };
 ghost use Rattle.batch_rows.specs.RowsOfReports.{
   ReportTwice,
@@ -241,6 +246,15 @@ pub fn scaled_quantity()
 /// Events that are refused for want of a batch, a recipe or a live phase, or by the batch's state.
 pub fn refused_events()
     ensures { RefusedEvents }
+{}
+
+/// Want of memory refuses a create that would make a batch, and changes nothing; it refuses nothing else.
+pub fn want_of_memory()
+    ensures refuses { MemoryRefusesACreate }
+    ensures changes_nothing { MemoryMakesNoBatch }
+    ensures bad_size { MemoryHidesNoBadSize }
+    ensures unknown_recipe { MemoryHidesNoUnknownRecipe }
+    ensures command { MemoryRefusesNoStart }
 {}
 
 /// Of two phases beneath an act, the state that stands first is shown.
