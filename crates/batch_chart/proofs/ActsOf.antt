@@ -16,9 +16,10 @@ use Rattle.batch_chart.specs.NodesOf.{nodes_of, node_at, place_at, step_at, task
 use Rattle.batch_chart.proofs.Numbering.{Sits, sits-append, sits-self, order-at}
 use Rattle.batch_chart.proofs.Stepping.{all-has}
 use Rattle.batch_chart.proofs.NodesStand.{get-or}
+use Rattle.batch_chart.specs.declared.sign.TheConstants.{IS_ACT}
+use Rattle.batch_chart.specs.Noting.{signs_of}
+use Rattle.batch_chart.specs.Signs.{shows}
 use Rattle.batch_chart.proofs.Found.{acts-all, AllActs}
-use Rattle.batch_chart.specs.Finding.{wants}
-use Rattle.batch_chart.specs.Finding as wanted
 
 pub record IsActOf (ls : List Node) (a : Rest) : Type 0 where
   pub number : ℕ
@@ -72,8 +73,7 @@ module _ (ls : List Node) where
           | inl f ↦ act-of c r a n (child q i) above parts.0 p.0 h.0 f
           | inr f ↦ each-of cs rs a (n + length (nodes.nodes (child q i) above c)) q above (i + 1) parts.1 p.1 h.1 f
         ]
-    each-of no_trees (rest r rs) a n q above i g p h m = absurd h
-    each-of (tree c cs) no_rests a n q above i g p h m = absurd h
+    each-of x y a n q above i g p h m = absurd h
 
     chosen-of : (ch : Choices) (r : Rest) (a : Rest) (n : ℕ) (q : Place) (above : List Name) (i : ℕ) → Sits ls n (nodes_of_choices q above i ch) → IsChoicePlaced q i ch → IsChosen ch r → Has (acts r) a → IsActOf ls a
     chosen-of (otherwise c) r a n q above i g p h m = act-of c r a n (child q i) above g p h m
@@ -122,7 +122,7 @@ act-place s w done r h m = inr refl
 act-place x1 x2 x3 x4 x5 x6 = absurd (grind arith)
 
 not-done : (a : Rest) (r : Rest) → AllActs (acts r) → Has (acts r) a → a ≡ done → ⊥
-not-done a r all h e = (let d : true ≡ false = sym (all-has (acts r) a all h 0) ∙ ap (wants wanted.Any 0) e in cc)
+not-done a r all h e = (let d : true ≡ false = sym (all-has (acts r) a all h) ∙ ap (λ z. shows IS_ACT (signs_of z)) e in cc)
 
 -- any act stands at the place of a node
 pub stands-at : (t : Tree) (r a : Rest) → IsPlaced (0 ∷ []) t → IsRestOf t r → Has (acts r) a → (k : ℕ) × (k < node_count t) × (place_of a ≡ place_at t k)

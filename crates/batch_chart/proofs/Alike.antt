@@ -1,5 +1,5 @@
 -- Two trees at the same nodes show the same.
-use Rattle.std.proofs.Common.{◌≡◌, ◌≢◌, ℕ, zero, suc, ◌+◌, List, [], ◌∷◌, ◌++◌, length, Bool, true, false, Some, None, arith, refl, sym, ◌∙◌, ap, ap₂, subst, nat_eq}
+use Rattle.std.proofs.Common.{◌≡◌, ◌≢◌, ℕ, suc, ◌+◌, List, [], ◌∷◌, ◌++◌, length, Bool, true, false, Some, None, arith, refl, sym, ◌∙◌, ap, ap₂, subst, nat_eq}
 use Rattle.std.specs.Prelude.{Option, map}
 use Rattle.batch_recipe.specs.Conditions.{Name}
 use Rattle.batch_recipe.specs.Nodes.{node_count}
@@ -10,7 +10,7 @@ use Rattle.batch_model.specs.Moves.{is_empty}
 use Rattle.batch_recipe.specs.declared.entry.Entry.{Entry}
 use Rattle.batch_recipe.specs.declared.recipe.Recipe.{Recipe}
 use Rattle.batch_chart.specs.declared.stage.Stage.{Stage}
-use Rattle.batch_chart.specs.declared.stage.Stage.TheVariants.{Finished, Ready, Asking, Open, Live, Freeing, Turning}
+use Rattle.batch_chart.specs.declared.stage.Stage.TheVariants.{Ready, Asking, Open, Live, Freeing}
 use Rattle.batch_chart.specs.Stages.{stage_at, is_finished, is_begun, turns_of}
 use Rattle.batch_chart.specs.Meaning.{meaning, act_as}
 use Rattle.batch_chart.specs.Outlined.{end_at, Stands, StandsAct, AreStanding, AreChoices}
@@ -45,26 +45,20 @@ empty-marks (a ∷ l) (b ∷ m) e = refl
 empty-marks x1 x2 x3 = absurd (grind arith)
 
 alike-phase : (n : ℕ) (s u : Step) (p q : Phase) (x : Stage) → length s.needs ≡ length u.needs → marks (entries n (act_as s (runs p) done x) []) ≡ marks (entries n (act_as u (runs q) done x) [])
-alike-phase n s u p q Finished e = refl
 alike-phase n s u p q (Ready k) e = ap (λ z. (n, ready_signs z k) ∷ []) e
 alike-phase n s u p q (Asking k) e = ap (λ z. (n, asking_signs z k) ∷ []) e
-alike-phase n s u p q Open e = refl
 alike-phase n s u p q (Live x) e = ap (λ z. (n, live_signs z x) ∷ []) e
-alike-phase n s u p q (Freeing zero) e = refl
 alike-phase n s u p q (Freeing (suc k)) e = ap (λ z. (n, freeing_signs z (suc k)) ∷ []) e
-alike-phase n s u p q (Turning k) e = refl
+alike-phase n s u p q x e = refl
 
 alike-act : (n : ℕ) (s u : Step) (name other : Name) (c d : Tree) (r t : Rest) (l m : List (ℕ × Rest)) (x : Stage) → length s.needs ≡ length u.needs → marks l ≡ marks m → is_empty (acts r) ≡ is_empty (acts t)
     → marks (entries n (act_as s (follows name c) r x) l) ≡ marks (entries n (act_as u (follows other d) t x) m)
-alike-act n s u name other c d r t l m Finished e f g = refl
 alike-act n s u name other c d r t l m (Ready k) e f g = ap (λ z. (n, ready_signs z k) ∷ []) e
 alike-act n s u name other c d r t l m (Asking k) e f g = ap (λ z. (n, asking_signs z k) ∷ []) e
 alike-act n s u name other c d r t l m Open e f g =
     ap (λ z. (n, open_signs z (is_empty (acts r))) ∷ marks l) e ∙ ap (λ z. (n, open_signs (length u.needs) z) ∷ marks l) g ∙ ap (λ z. (n, open_signs (length u.needs) (is_empty (acts t))) ∷ z) f
-alike-act n s u name other c d r t l m (Live x) e f g = refl
-alike-act n s u name other c d r t l m (Freeing zero) e f g = refl
 alike-act n s u name other c d r t l m (Freeing (suc k)) e f g = ap (λ z. (n, freeing_signs z (suc k)) ∷ []) e
-alike-act n s u name other c d r t l m (Turning k) e f g = refl
+alike-act n s u name other c d r t l m x e f g = refl
 
 alike-if : (b : Bool) (l m j k : List (ℕ × Rest)) → marks l ≡ marks m → marks j ≡ marks k
     → marks (elim b as (λ _. List (ℕ × Rest)) [ true ↦ l | false ↦ j ]) ≡ marks (elim b as (λ _. List (ℕ × Rest)) [ true ↦ m | false ↦ k ])

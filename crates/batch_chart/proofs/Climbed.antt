@@ -34,7 +34,7 @@ use Rattle.batch_chart.proofs.Advanced.{over-at, unbegun-act, advanced-act_chart
 
 -- tests of rows
 
-both-true : (b x : Bool) → elim b as (λ _. Bool) [ true ↦ x | false ↦ false ] ≡ true → (b ≡ true) × (x ≡ true)
+pub both-true : (b x : Bool) → elim b as (λ _. Bool) [ true ↦ x | false ↦ false ] ≡ true → (b ≡ true) × (x ≡ true)
 both-true true x e = (refl, e)
 both-true false x e = absurd (cc)
 

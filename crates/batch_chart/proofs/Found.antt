@@ -9,12 +9,15 @@ use Rattle.batch_model.specs.Plant.{held_by, held_in}
 use Rattle.batch_model.specs.Moves.{is_empty}
 use Rattle.batch_chart.specs.declared.stage.Stage.{Stage}
 use Rattle.batch_chart.specs.declared.stage.Stage.TheVariants.{Finished, Ready, Asking, Open, Live, Freeing, Turning}
-use Rattle.batch_chart.specs.Finding as wanted
 use Rattle.batch_chart.specs.Stages.{stage_at, is_finished, is_begun, turns_of}
 use Rattle.batch_chart.specs.Meaning.{meaning, meaning_below, meaning_each, act_as, loop_as, branch, chosen}
-use Rattle.batch_chart.specs.Finding.{wants, first_of}
+use Rattle.batch_chart.specs.Nexts.{first_of}
 use Rattle.batch_chart.specs.Numbered.{entries, entries_in, numbered, numbered_below, numbered_each, numbered_branch, numbered_chosen}
+use Rattle.batch_chart.specs.declared.sign.TheConstants.{HOLDS, IS_ACT}
+use Rattle.batch_chart.specs.Noting.{signs_of}
+use Rattle.batch_chart.specs.Signs.{shows}
 use Rattle.batch_chart.proofs.Choosing.{chosen-true}
+use Rattle.batch_chart.proofs.Sought.{showing, ready-shows, asking-shows, open-shows, live-shows, freeing-shows, ready-holds, asking-holds, open-holds, live-holds, freeing-holds}
 
 has-numbers : (l m : List (ℕ × Rest)) → map (λ a. a.1) (l ++ m) ≡ map (λ a. a.1) l ++ map (λ a. a.1) m
 has-numbers [] m = refl
@@ -81,10 +84,10 @@ abbrev pub nothing : Option ℕ → Bool
 nothing None = true
 nothing (Some k) = false
 
--- every act is one
+-- every act shows that it is one
 abbrev pub AllActs : List Rest → Type 0
 AllActs [] = ⊤
-AllActs (a ∷ l) = ((n : ℕ) → wants wanted.Any n a ≡ true) × AllActs l
+AllActs (a ∷ l) = (shows IS_ACT (signs_of a) ≡ true) × AllActs l
 
 all-append : (l m : List Rest) → AllActs l → AllActs m → AllActs (l ++ m)
 all-append [] m h k = k
@@ -92,11 +95,11 @@ all-append (a ∷ l) m h k = (h.0, all-append l m h.1 k)
 
 mutual
   pub acts-all : (r : Rest) → AllActs (acts r)
-  acts-all (ready s w k) = (λ n. refl, tt)
-  acts-all (asking s w k) = (λ n. refl, tt)
-  acts-all (open_act s r) = (λ n. refl, acts-all r)
-  acts-all (live s p x) = (λ n. refl, tt)
-  acts-all (freeing s k) = (λ n. refl, tt)
+  acts-all (ready s w k) = (ready-shows IS_ACT (length s.needs) k, tt)
+  acts-all (asking s w k) = (asking-shows IS_ACT (length s.needs) k, tt)
+  acts-all (open_act s r) = (open-shows IS_ACT (length s.needs) (is_empty (acts r)), acts-all r)
+  acts-all (live s p x) = (live-shows IS_ACT (length s.needs) x, tt)
+  acts-all (freeing s k) = (freeing-shows IS_ACT (length s.needs) k, tt)
   acts-all (in_seq r cs) = acts-all r
   acts-all (in_par rs) = acts-all_each rs
   acts-all (in_loop n c body r) = acts-all r
@@ -106,46 +109,41 @@ mutual
   acts-all_each no_rests = tt
   acts-all_each (rest r rs) = all-append (acts r) (acts_of_each rs) (acts-all r) (acts-all_each rs)
 
-any-nothing : (l : List (ℕ × Rest)) (as' : List Rest) → map (λ a. a.1) l ≡ as' → AllActs as' → nothing (first_of (wants wanted.Any) l) ≡ is_empty as'
+any-nothing : (l : List (ℕ × Rest)) (as' : List Rest) → map (λ a. a.1) l ≡ as' → AllActs as' → nothing (first_of (showing IS_ACT) l) ≡ is_empty as'
 any-nothing [] [] e h = refl
-any-nothing [] (b ∷ as') e h = absurd (cc)
-any-nothing (a ∷ l) [] e h = absurd (cc)
 any-nothing (a ∷ l) (b ∷ as') e h =
     let same : a.1 ≡ b = cc in
-    ap nothing (chosen-true (wants wanted.Any a.0 a.1) (Some a.0) (first_of (wants wanted.Any) l) (ap (wants wanted.Any a.0) same ∙ h.0 a.0))
+    ap nothing (chosen-true (showing IS_ACT a.0 a.1) (Some a.0) (first_of (showing IS_ACT) l) (ap (showing IS_ACT a.0) same ∙ h.0))
+any-nothing x y e h = absurd (cc)
 
-pub nothing-any : (c : Tree) (n : ℕ) (xs : List Stage) → nothing (first_of (wants wanted.Any) (numbered c n xs)) ≡ is_empty (acts (meaning c n xs))
+pub nothing-any : (c : Tree) (n : ℕ) (xs : List Stage) → nothing (first_of (showing IS_ACT) (numbered c n xs)) ≡ is_empty (acts (meaning c n xs))
 nothing-any c n xs = any-nothing (numbered c n xs) (acts (meaning c n xs)) (numbered-acts xs c n) (acts-all (meaning c n xs))
 
 holds_some : (k : ℕ) (l : List Need) → (nat_lt 0 k && nat_lt 0 (length l)) ≡ not (is_empty (take k l))
 holds_some zero l = refl
-holds_some (suc k) [] = search rules
-holds_some (suc k) (x ∷ l) = search rules
+holds_some x y = search rules
 
 holds_all : (l : List Need) → nat_lt 0 (length l) ≡ not (is_empty l)
 holds_all [] = refl
 holds_all (x ∷ l) = search rules
 
-holding-act : (n : ℕ) (a : Rest) → wants wanted.Holding n a ≡ not (is_empty (held_by a))
-holding-act n (ready s w k) = holds_some k s.needs
-holding-act n (asking s w k) = holds_some k s.needs
-holding-act n (open_act s r) = holds_all s.needs
-holding-act n (live s p x) = holds_all s.needs
-holding-act n (freeing s k) = holds_some k s.needs
-holding-act n (in_seq r cs) = refl
-holding-act n (in_par rs) = refl
-holding-act n (in_loop i c body r) = refl
-holding-act n done = refl
+holding-act : (n : ℕ) (a : Rest) → showing HOLDS n a ≡ not (is_empty (held_by a))
+holding-act n (ready s w k) = ready-holds (length s.needs) k ∙ holds_some k s.needs
+holding-act n (asking s w k) = asking-holds (length s.needs) k ∙ holds_some k s.needs
+holding-act n (open_act s r) = open-holds (length s.needs) (is_empty (acts r)) ∙ holds_all s.needs
+holding-act n (live s p x) = live-holds (length s.needs) x ∙ holds_all s.needs
+holding-act n (freeing s k) = freeing-holds (length s.needs) k ∙ holds_some k s.needs
+holding-act n r = refl
 
 held-first : (x y : List Need) (n : ℕ) (o : Option ℕ) → nothing o ≡ is_empty y → nothing (elim (not (is_empty x)) as (λ _. Option ℕ) [ true ↦ Some n | false ↦ o ]) ≡ is_empty (x ++ y)
 held-first [] y n o e = e
 held-first (z ∷ x) y n o e = refl
 
-holding-nothing : (l : List (ℕ × Rest)) → nothing (first_of (wants wanted.Holding) l) ≡ is_empty (flat_map held_by (map (λ a. a.1) l))
+holding-nothing : (l : List (ℕ × Rest)) → nothing (first_of (showing HOLDS) l) ≡ is_empty (flat_map held_by (map (λ a. a.1) l))
 holding-nothing [] = refl
 holding-nothing (a ∷ l) =
-    ap (λ b. nothing (elim b as (λ _. Option ℕ) [ true ↦ Some a.0 | false ↦ first_of (wants wanted.Holding) l ])) (holding-act a.0 a.1)
-    ∙ held-first (held_by a.1) (flat_map held_by (map (λ a. a.1) l)) a.0 (first_of (wants wanted.Holding) l) (holding-nothing l)
+    ap (λ b. nothing (elim b as (λ _. Option ℕ) [ true ↦ Some a.0 | false ↦ first_of (showing HOLDS) l ])) (holding-act a.0 a.1)
+    ∙ held-first (held_by a.1) (flat_map held_by (map (λ a. a.1) l)) a.0 (first_of (showing HOLDS) l) (holding-nothing l)
 
-pub nothing-holds : (c : Tree) (n : ℕ) (xs : List Stage) → nothing (first_of (wants wanted.Holding) (numbered c n xs)) ≡ is_empty (held_in (meaning c n xs))
+pub nothing-holds : (c : Tree) (n : ℕ) (xs : List Stage) → nothing (first_of (showing HOLDS) (numbered c n xs)) ≡ is_empty (held_in (meaning c n xs))
 nothing-holds c n xs = holding-nothing (numbered c n xs) ∙ ap (λ l. is_empty (flat_map held_by l)) (numbered-acts xs c n)

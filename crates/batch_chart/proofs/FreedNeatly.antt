@@ -1,9 +1,6 @@
 -- An act that has ended leaves a chart whose signs go by the stages.
-use Rattle.std.proofs.Common.{◌≡◌, ◌≢◌, ◌⊎◌, inl, inr, ◌<◌, ◌≤◌, ℕ, ◌+◌, List, length, Bool, true, false, arith, refl, sym, ◌∙◌, subst, ap, length-set, get_or-set_same, get_or-set_other, nat_eq}
+use Rattle.std.proofs.Common.{zero, suc, ◌≡◌, ◌≢◌, ◌⊎◌, inl, inr, ◌<◌, ◌≤◌, ℕ, ◌+◌, List, length, true, false, arith, refl, sym, ◌∙◌, subst, ap, length-set, get_or-set_same, get_or-set_other, nat_eq}
 use Rattle.std.specs.Prelude.{slice_set}
-use Rattle.std.proofs.lemmas.Bool.{cases_lt}
-use Rattle.std.proofs.lemmas.List.{get_or_past}
-use Rattle.batch_chart.proofs.Choosing.{chosen-true, chosen-false}
 use Rattle.std.proofs.lemmas.Bool.Decides.{eqb_tells}
 use Rattle.batch_recipe.specs.Conditions.{ValueList}
 use Rattle.batch_recipe.specs.Nodes.{node_count}
@@ -30,6 +27,8 @@ use Rattle.batch_chart.proofs.Standing.{count-pos, stood, some-stands}
 use Rattle.batch_chart.proofs.Stepping.{act-here}
 use Rattle.batch_chart.proofs.Telling.{nests, nests-below}
 use Rattle.batch_chart.proofs.Upkept.{plain-neat}
+use Rattle.batch_chart.proofs.Wanting.{more-not_zero}
+use Rattle.batch_chart.proofs.Withdrawn.{replaced-sign, replaced-length}
 
 -- where going on upwards has stopped, or has come to the root
 
@@ -48,26 +47,11 @@ module _ (ns : List Entry) (doc : Recipe) (t : Tree) (laid : IsLaid ns doc t) wh
 -- clearing, node by node
 
 cleared-sign : (signs : List ℕ) (n k : ℕ) → (k ≡ n → sign_at (replaced signs n 0) k ≡ 0) × (k ≢ n → sign_at (replaced signs n 0) k ≡ sign_at signs k)
-cleared-sign signs n k = go (eqb_tells (sign_at signs n) 0)
+cleared-sign signs n k = (λ e. (replaced-sign signs n 0 k).0 e ∙ gone (sign_at signs n), (replaced-sign signs n 0 k).1)
   where
-    go : ((nat_eq (sign_at signs n) 0 ≡ true) × (sign_at signs n ≡ 0)) ⊎ ((nat_eq (sign_at signs n) 0 ≡ false) × (sign_at signs n ≢ 0))
-        → (k ≡ n → sign_at (replaced signs n 0) k ≡ 0) × (k ≢ n → sign_at (replaced signs n 0) k ≡ sign_at signs k)
-    go (inl q) =
-        let same : replaced signs n 0 ≡ signs = chosen-true (nat_eq (sign_at signs n) 0) signs (slice_set signs n 0) q.0 in
-        ((λ e. ap (λ z. sign_at z k) same ∙ ap (sign_at signs) e ∙ q.1), (λ ne. ap (λ z. sign_at z k) same))
-    go (inr q) =
-        let other : replaced signs n 0 ≡ slice_set signs n 0 = chosen-false (nat_eq (sign_at signs n) 0) signs (slice_set signs n 0) q.0 in
-        let lt : n < length signs = elim (cases_lt n (length signs)) [ inl l ↦ l | inr l ↦ absurd (q.1 (get_or_past {X = ℕ} signs n 0 l)) ] in (
-          (λ e. ap (λ z. sign_at z k) other ∙ ap (sign_at (slice_set signs n 0)) e ∙ get_or-set_same signs n 0 0 lt),
-          (λ ne. ap (λ z. sign_at z k) other ∙ get_or-set_other signs n k 0 0 ne),
-        )
-
-replaced-length : (signs : List ℕ) (n v : ℕ) → length (replaced signs n v) ≡ length signs
-replaced-length signs n v = go (nat_eq (sign_at signs n) 0)
-  where
-    go : (b : Bool) → length (elim b as (λ _. List ℕ) [ true ↦ signs | false ↦ slice_set signs n v ]) ≡ length signs
-    go true = refl
-    go false = length-set signs n v
+    gone : (s : ℕ) → elim (nat_eq s 0) as (λ _. ℕ) [ true ↦ s | false ↦ 0 ] ≡ 0
+    gone zero = refl
+    gone (suc s) = ap (λ b. elim b as (λ _. ℕ) [ true ↦ suc s | false ↦ 0 ]) (more-not_zero s)
 
 pub cleared-none : (n : ℕ) (xs : List Stage) (old : List ℕ) → HasCleared n n xs xs old old
 cleared-none n xs old = record { count = refl; outside = λ k q. refl; signs = λ k q. refl; blank = λ k a b. absurd (omega arith) }

@@ -10,15 +10,14 @@ use Rattle.batch_recipe.specs.Tree.{Step, Task, runs, follows, Tree, act}
 use Rattle.batch_model.specs.Lists.{Has}
 use Rattle.batch_model.specs.Moves.{is_empty}
 use Rattle.batch_model.specs.Plant.{held_in}
-use Rattle.batch_model.specs.Rest.{Rest, ready, asking, open_act, live, freeing, in_seq, in_par, in_loop, done}
+use Rattle.batch_model.specs.Rest.{Rest, ready, open_act, freeing, acts}
 use Rattle.batch_recipe.specs.declared.entry.Entry.{Entry}
 use Rattle.batch_recipe.specs.declared.recipe.Recipe.{Recipe}
 use Rattle.batch_chart.specs.declared.sign.TheConstants.{HOLDS}
 use Rattle.batch_chart.specs.declared.stage.Stage.{Stage}
 use Rattle.batch_chart.specs.declared.stage.Stage.TheVariants.{Finished, Ready, Asking, Open, Live, Freeing, Turning}
-use Rattle.batch_chart.specs.Finding as wanted
 use Rattle.batch_chart.specs.Outlined.{end_at, kind_at, Stands}
-use Rattle.batch_chart.specs.Finding.{Wanted, wants, first_of}
+use Rattle.batch_chart.specs.Nexts.{first_of}
 use Rattle.batch_chart.specs.Meaning.{meaning, meaning_below, act_as}
 use Rattle.batch_chart.specs.Neat.{AreNeat}
 use Rattle.batch_chart.specs.Nexts.{IsFoundFirst, SomeNoted, GivesAs, GivesNone, IsFirstGiving}
@@ -35,11 +34,10 @@ use Rattle.batch_chart.proofs.Named.{entry-or-not, sign-entry, beyond, first-non
 use Rattle.batch_chart.proofs.Neat.{neat-part}
 use Rattle.batch_chart.proofs.Picking.{RiseIn, rise, sign-before, first-shown, first-same, picks, noted-alike, shown-not, shown-so}
 use Rattle.batch_chart.proofs.Shown.{link}
-use Rattle.batch_chart.proofs.Sought.{Says, says-all, said-holding}
+use Rattle.batch_chart.proofs.Sought.{Says, says-all, showing, said-showing, gives_back, ready-holds, open-holds, freeing-holds}
 use Rattle.batch_chart.proofs.Standing.{stood}
-use Rattle.batch_chart.proofs.Stepping.{Fits, entry-at}
+use Rattle.batch_chart.proofs.Stepping.{Fits, fits-count, act-fits, entry-at}
 use Rattle.batch_chart.proofs.Telling.{told-part}
-use Rattle.batch_chart.proofs.Upkept.{fits-count}
 
 -- the search, step by step
 
@@ -107,16 +105,11 @@ first-true : (a b : Bool) → (a && b) ≡ true → a ≡ true
 first-true true b e = refl
 first-true false b e = absurd (cc)
 
-releasing-holds : (n : ℕ) (r : Rest) → wants wanted.Holding n r ≡ false → wants wanted.Releasing n r ≡ false
-releasing-holds n (ready s w k) e = holds-less (nat_lt 0 k) (nat_lt 0 (length s.needs)) (gives (length s.needs) k) e (gives-both (length s.needs) k)
-releasing-holds n (asking s w k) e = refl
-releasing-holds n (open_act s r) e = ap (λ z. z && is_empty (held_in r)) e
-releasing-holds n (live s p x) e = refl
-releasing-holds n (freeing s k) e = holds-less (nat_lt 0 k) (nat_lt 0 (length s.needs)) (gives (length s.needs) k) e (gives-both (length s.needs) k)
-releasing-holds n (in_seq r cs) e = refl
-releasing-holds n (in_par rs) e = refl
-releasing-holds n (in_loop i c body r) e = refl
-releasing-holds n done e = refl
+releasing-holds : (n : ℕ) (r : Rest) → showing HOLDS n r ≡ false → gives_back n r ≡ false
+releasing-holds n (ready s w k) e = holds-less (nat_lt 0 k) (nat_lt 0 (length s.needs)) (gives (length s.needs) k) (sym (ready-holds (length s.needs) k) ∙ e) (gives-both (length s.needs) k)
+releasing-holds n (open_act s r) e = ap (λ z. z && is_empty (held_in r)) (sym (open-holds (length s.needs) (is_empty (acts r))) ∙ e)
+releasing-holds n (freeing s k) e = holds-less (nat_lt 0 k) (nat_lt 0 (length s.needs)) (gives (length s.needs) k) (sym (freeing-holds (length s.needs) k) ∙ e) (gives-both (length s.needs) k)
+releasing-holds n r e = refl
 
 -- the first of some that pass
 
@@ -155,26 +148,26 @@ module _ (ns : List Entry) (doc : Recipe) (xs : List Stage) (signs : List ℕ) (
     own : (e : ℕ × Rest) → Has l e → sign_at signs e.0 ≡ signs_of e.1
     own e i = let r = in-range l n (n + node_count c) rises e i in sym (links e.0 r.0 r.1) ∙ sign-entry l n (n + node_count c) rises e i
 
-    module _ (w : Wanted) (m : ℕ) (says : Says w m) where
-      -- whether anything below a node is wanted is told by the signs there
-      pub below-told : (b : Bool) → TellsNone signs m n (n + node_count c) b → nothing (first_of (wants w) l) ≡ b
-      below-told true none = passes-none (wants w) l (λ e i.
+    module _ (p : ℕ → Rest → Bool) (m : ℕ) (says : Says p m) where
+      -- whether anything below a node passes is told by the signs there
+      pub below-told : (b : Bool) → TellsNone signs m n (n + node_count c) b → nothing (first_of p l) ≡ b
+      below-told true none = passes-none p l (λ e i.
           (let r = in-range l n (n + node_count c) rises e i in
           says e.0 e.1 ∙ shown-not m (signs_of e.1) (ap (λ z. bit_and z m) (sym (own e i)) ∙ none e.0 r.0 r.1)))
       below-told false some = elim (entry-or-not l some.0) [
-        | inl q ↦ passes-some (wants w) l (some.0, q.0) q.1 (shown (wants w some.0 q.0) q.0 refl (own (some.0, q.0) q.1) (says some.0 q.0))
+        | inl q ↦ passes-some p l (some.0, q.0) q.1 (shown (p some.0 q.0) q.0 refl (own (some.0, q.0) q.1) (says some.0 q.0))
         | inr q ↦ absurd (some.3 (ap (λ z. bit_and z m) (sym (links some.0 some.1 some.2) ∙ q) ∙ none-shown m))
       ]
         where
-          shown : (d : Bool) (r : Rest) → wants w some.0 r ≡ d → sign_at signs some.0 ≡ signs_of r → wants w some.0 r ≡ shows m (signs_of r) → wants w some.0 r ≡ true
+          shown : (d : Bool) (r : Rest) → p some.0 r ≡ d → sign_at signs some.0 ≡ signs_of r → p some.0 r ≡ shows m (signs_of r) → p some.0 r ≡ true
           shown true r e f g = e
           shown false r e f g = absurd (some.3 (ap (λ z. bit_and z m) f ∙ shown-so m (signs_of r) (sym g ∙ e)))
 
       -- and so is the first
-      pub below-first : (j : ℕ) → j < n + node_count c → IsNextShown signs m n (Some j) → Some j ≡ first_of (wants w) l
+      pub below-first : (j : ℕ) → j < n + node_count c → IsNextShown signs m n (Some j) → Some j ≡ first_of p l
       below-first j lt h =
           first-shown m 0 (n + node_count c) l n rises (Some j) (omega arith, λ z. h.2 (ap (λ y. bit_and y m) (sym (links j h.0 lt)) ∙ z), λ k le less. before k less)
-          ∙ sym (first-same (wants w) (picks m 0 (n + node_count c)) (says-all w m says) l)
+          ∙ sym (first-same p (picks m 0 (n + node_count c)) (says-all p m says) l)
         where
           before : (k : ℕ) → k < j → bit_and (sign_in k l 0) m ≡ 0
           before k less = elim (cases_lt k n) [
@@ -183,7 +176,7 @@ module _ (ns : List Entry) (doc : Recipe) (xs : List Stage) (signs : List ℕ) (
           ]
 
   held-told : (c : Tree) (n : ℕ) → Stands ns doc n c → (b : Bool) → TellsNone signs HOLDS n (n + node_count c) b → is_empty (held_in (meaning c n xs)) ≡ b
-  held-told c n s b h = sym (nothing-holds c n xs) ∙ below-told c n s wanted.Holding HOLDS said-holding b h
+  held-told c n s b h = sym (nothing-holds c n xs) ∙ below-told c n s (showing HOLDS) HOLDS (said-showing HOLDS) b h
 
   module _ (t : Tree) (laid : IsLaid ns doc t) (noted : (k : ℕ) → sign_at signs k ≡ sign_in k (numbered t 0 xs) 0) where
     abbrev l-all : List (ℕ × Rest)
@@ -195,7 +188,7 @@ module _ (ns : List Entry) (doc : Recipe) (xs : List Stage) (signs : List ℕ) (
     own-all : (e : ℕ × Rest) → Has l-all e → sign_at signs e.0 ≡ signs_of e.1
     own-all e i = noted e.0 ∙ sign-entry l-all 0 (0 + node_count t) rises-all e i
 
-    gives-as : (k : ℕ) (s : Step) (w : Task) (x : Stage) (b : Bool) → Stands ns doc k (act s w) → Fits (kind_at ns k) s w → GivesAs ns signs k x b → (wants wanted.Holding k (act_as s w (meaning_below w (k + 1) xs) x) ≡ true) → wants wanted.Releasing k (act_as s w (meaning_below w (k + 1) xs) x) ≡ b
+    gives-as : (k : ℕ) (s : Step) (w : Task) (x : Stage) (b : Bool) → Stands ns doc k (act s w) → Fits (kind_at ns k) s w → GivesAs ns signs k x b → (showing HOLDS k (act_as s w (meaning_below w (k + 1) xs) x) ≡ true) → gives_back k (act_as s w (meaning_below w (k + 1) xs) x) ≡ b
     gives-as k s w Finished b st f g h = sym g
     gives-as k s w (Ready i) b st f g h = ap (λ z. gives z i) (fits-count (kind_at ns k) s w f) ∙ sym g
     gives-as k s w (Asking i) b st f g h = sym g
@@ -207,44 +200,40 @@ module _ (ns : List Entry) (doc : Recipe) (xs : List Stage) (signs : List ℕ) (
     gives-as k s (runs p) Open b st f g h = absurd (let z : ◌≡◌ {A = Bool} false true = h in cc)
     gives-as k s (follows name c) Open b st f g h =
         let e : end_at ns k ≡ k + 1 + node_count c = omega (arith, st.0.2) in
-        ap (λ z. z && is_empty (held_in (meaning c (k + 1) xs))) h ∙ held-told c (k + 1) st.1 b (subst (λ z. TellsNone signs HOLDS (k + 1) z b) e g)
-
-    act-fits : (k : ℕ) (s : Step) (w : Task) → Stands ns doc k (act s w) → Fits (kind_at ns k) s w
-    act-fits k s (runs p) st = subst (λ v. Fits v s (runs p)) (sym st.1.1) refl
-    act-fits k s (follows name c) st = subst (λ v. Fits v s (follows name c)) (sym st.0.1) refl
+        ap (λ z. z && is_empty (held_in (meaning c (k + 1) xs))) (sym (open-holds (length s.needs) (is_empty (acts (meaning c (k + 1) xs)))) ∙ h) ∙ held-told c (k + 1) st.1 b (subst (λ z. TellsNone signs HOLDS (k + 1) z b) e g)
 
     -- an entry's act gives back just as the signs and its stage say
-    told-entry : (e : ℕ × Rest) → Has l-all e → (b : Bool) → ((bit_and (sign_at signs e.0) HOLDS ≡ 0 → ⊥) → GivesAs ns signs e.0 (stage_at xs e.0) b) → wants wanted.Holding e.0 e.1 ≡ true → wants wanted.Releasing e.0 e.1 ≡ b
+    told-entry : (e : ℕ × Rest) → Has l-all e → (b : Bool) → ((bit_and (sign_at signs e.0) HOLDS ≡ 0 → ⊥) → GivesAs ns signs e.0 (stage_at xs e.0) b) → showing HOLDS e.0 e.1 ≡ true → gives_back e.0 e.1 ≡ b
     told-entry e i b g h =
         let z = entry-at ns doc t laid xs e i in
-        let shown : bit_and (sign_at signs e.0) HOLDS ≡ 0 → ⊥ = λ y. (let u : ◌≡◌ {A = Bool} false true = sym (said-holding e.0 e.1 ∙ shown-not HOLDS (signs_of e.1) (ap (λ v. bit_and v HOLDS) (sym (own-all e i)) ∙ y)) ∙ h in absurd (cc)) in
-        ap (wants wanted.Releasing e.0) z.is ∙ gives-as e.0 z.step z.task (stage_at xs e.0) b z.stands (act-fits e.0 z.step z.task z.stands) (g shown) (ap (wants wanted.Holding e.0) (sym z.is) ∙ h)
+        let shown : bit_and (sign_at signs e.0) HOLDS ≡ 0 → ⊥ = λ y. (let u : ◌≡◌ {A = Bool} false true = sym (shown-not HOLDS (signs_of e.1) (ap (λ v. bit_and v HOLDS) (sym (own-all e i)) ∙ y)) ∙ h in absurd (cc)) in
+        ap (gives_back e.0) z.is ∙ gives-as e.0 z.step z.task (stage_at xs e.0) b z.stands (act-fits ns doc e.0 z.step z.task z.stands) (g shown) (ap (showing HOLDS e.0) (sym z.is) ∙ h)
 
     abbrev test : ℕ → Bool
-    test = tested (wants wanted.Releasing) l-all
+    test = tested gives_back l-all
 
     test-false : (k : ℕ) → ((bit_and (sign_at signs k) HOLDS ≡ 0 → ⊥) → GivesAs ns signs k (stage_at xs k) false) → test k ≡ false
-    test-false k g = tested-none (wants wanted.Releasing) l-all k (λ r i. go r i (wants wanted.Holding k r) refl)
+    test-false k g = tested-none gives_back l-all k (λ r i. go r i (showing HOLDS k r) refl)
       where
-        go : (r : Rest) → Has l-all (k, r) → (d : Bool) → wants wanted.Holding k r ≡ d → wants wanted.Releasing k r ≡ false
+        go : (r : Rest) → Has l-all (k, r) → (d : Bool) → showing HOLDS k r ≡ d → gives_back k r ≡ false
         go r i true e = told-entry (k, r) i false g e
         go r i false e = releasing-holds k r e
 
-    giving-first : (o : Option ℕ) → IsFirstGiving ns xs signs o → o ≡ first_of (wants wanted.Releasing) l-all
+    giving-first : (o : Option ℕ) → IsFirstGiving ns xs signs o → o ≡ first_of gives_back l-all
     giving-first None h =
-        first-none (wants wanted.Releasing) test l-all (tested-entry (wants wanted.Releasing) l-all 0 (0 + node_count t) rises-all)
+        first-none gives_back test l-all (tested-entry gives_back l-all 0 (0 + node_count t) rises-all)
         (λ k. test-false k (λ u. elim (cases_lt k (length signs)) [ inl q ↦ h k q u | inr q ↦ absurd (u (ap (λ z. bit_and z HOLDS) (get_or_past {X = ℕ} signs k 0 q) ∙ none-shown HOLDS)) ]))
     giving-first (Some j) h = elim (entry-or-not l-all j) [
       | inl q ↦
-          first-some (wants wanted.Releasing) test l-all 0 (0 + node_count t) rises-all (tested-entry (wants wanted.Releasing) l-all 0 (0 + node_count t) rises-all) j
-          (sym (tested-entry (wants wanted.Releasing) l-all 0 (0 + node_count t) rises-all (j, q.0) q.1) ∙ told-entry (j, q.0) q.1 true (λ u. h.2) (holding q.0 q.1 (wants wanted.Holding j q.0) refl))
+          first-some gives_back test l-all 0 (0 + node_count t) rises-all (tested-entry gives_back l-all 0 (0 + node_count t) rises-all) j
+          (sym (tested-entry gives_back l-all 0 (0 + node_count t) rises-all (j, q.0) q.1) ∙ told-entry (j, q.0) q.1 true (λ u. h.2) (holding q.0 q.1 (showing HOLDS j q.0) refl))
           (λ k lt. test-false k (λ u. h.3 k lt u)) q.0 q.1
       | inr q ↦ absurd (h.1 (ap (λ z. bit_and z HOLDS) (noted j ∙ q) ∙ none-shown HOLDS))
     ]
       where
-        holding : (r : Rest) → Has l-all (j, r) → (d : Bool) → wants wanted.Holding j r ≡ d → wants wanted.Holding j r ≡ true
+        holding : (r : Rest) → Has l-all (j, r) → (d : Bool) → showing HOLDS j r ≡ d → showing HOLDS j r ≡ true
         holding r i true e = e
-        holding r i false e = absurd (h.1 (ap (λ z. bit_and z HOLDS) (own-all (j, r) i) ∙ shown-so HOLDS (signs_of r) (sym (said-holding j r) ∙ e)))
+        holding r i false e = absurd (h.1 (ap (λ z. bit_and z HOLDS) (own-all (j, r) i) ∙ shown-so HOLDS (signs_of r) e))
 
-pub found-giving : (ns : List Entry) (doc : Recipe) (xs : List Stage) (signs : List ℕ) → SomeNoted ns doc xs signs → (o : Option ℕ) → IsFirstGiving ns xs signs o → IsFoundFirst ns doc xs (wants wanted.Releasing) o
+pub found-giving : (ns : List Entry) (doc : Recipe) (xs : List Stage) (signs : List ℕ) → SomeNoted ns doc xs signs → (o : Option ℕ) → IsFirstGiving ns xs signs o → IsFoundFirst ns doc xs gives_back o
 found-giving ns doc xs signs some o h = record { means = λ t laid. giving-first ns doc xs signs some.3 some.4 t laid (noted-alike ns doc xs signs some.0 t some.1 laid some.2) o h }

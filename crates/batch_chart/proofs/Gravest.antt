@@ -6,7 +6,7 @@ use Rattle.std.proofs.Math.Bool.{cond}
 use denote.Enum.Bare.{same_true, true_same}
 use Rattle.std.proofs.lemmas.Bool.Decides.{nat_tests}
 use Rattle.batch_matrix.specs.declared.state.State.{State}
-use Rattle.batch_matrix.specs.declared.state.State.TheVariants.{Idle, Running, Pausing, Paused, Holding, Held, Restarting, Stopping, Stopped, Aborting, Aborted, Complete}
+use Rattle.batch_matrix.specs.declared.state.State.TheVariants.{Running, Pausing, Paused, Holding, Held, Restarting, Stopping, Aborting}
 use Rattle.batch_matrix.specs.contracts.state.State.{the_type}
 use Rattle.batch_matrix.specs.Matrix.{same_state}
 use Rattle.batch_model.specs.ActStates.{gravity, gravest}
@@ -146,10 +146,7 @@ module _ (x : State) (ys : List State) where
   found-grave Held e n lt = pass Aborting from_stopping (Some Held) (n Aborting (omega arith)) (pass Stopping from_holding (Some Held) (n Stopping (omega arith)) (pass Holding from_restarting (Some Held) (n Holding (omega arith)) (pass Restarting from_pausing (Some Held) (n Restarting (omega arith)) (pass Pausing from_held (Some Held) (n Pausing (omega arith)) (take-it Held from_paused e)))))
   found-grave Paused e n lt = pass Aborting from_stopping (Some Paused) (n Aborting (omega arith)) (pass Stopping from_holding (Some Paused) (n Stopping (omega arith)) (pass Holding from_restarting (Some Paused) (n Holding (omega arith)) (pass Restarting from_pausing (Some Paused) (n Restarting (omega arith)) (pass Pausing from_held (Some Paused) (n Pausing (omega arith)) (pass Held from_paused (Some Paused) (n Held (omega arith)) (take-it Paused from_running e))))))
   found-grave Running e n lt = pass Aborting from_stopping (Some Running) (n Aborting (omega arith)) (pass Stopping from_holding (Some Running) (n Stopping (omega arith)) (pass Holding from_restarting (Some Running) (n Holding (omega arith)) (pass Restarting from_pausing (Some Running) (n Restarting (omega arith)) (pass Pausing from_held (Some Running) (n Pausing (omega arith)) (pass Held from_paused (Some Running) (n Held (omega arith)) (pass Paused from_running (Some Running) (n Paused (omega arith)) (take-it Running [] e)))))))
-  found-grave Idle e n lt = absurd (omega (arith, lt))
-  found-grave Stopped e n lt = absurd (omega (arith, lt))
-  found-grave Aborted e n lt = absurd (omega (arith, lt))
-  found-grave Complete e n lt = absurd (omega (arith, lt))
+  found-grave x e n lt = absurd (omega (arith, lt))
 
   found-none : ((z : State) → gravity z < 9 → among z ≡ false) → find among gravest_states ≡ None
   found-none n = pass Aborting from_stopping None (n Aborting (omega arith)) (pass Stopping from_holding None (n Stopping (omega arith)) (pass Holding from_restarting None (n Holding (omega arith)) (pass Restarting from_pausing None (n Restarting (omega arith)) (pass Pausing from_held None (n Pausing (omega arith)) (pass Held from_paused None (n Held (omega arith)) (pass Paused from_running None (n Paused (omega arith)) (pass Running [] None (n Running (omega arith)) refl)))))))

@@ -12,7 +12,7 @@ use Rattle.batch_model.specs.Settled.{IsAdvanced, AreAdvanced}
 use Rattle.batch_recipe.specs.declared.entry.Entry.{Entry}
 use Rattle.batch_recipe.specs.declared.recipe.Recipe.{Recipe}
 use Rattle.batch_chart.specs.declared.stage.Stage.{Stage}
-use Rattle.batch_chart.specs.declared.stage.Stage.TheVariants.{Finished, Ready, Asking, Open, Live, Freeing, Turning}
+use Rattle.batch_chart.specs.declared.stage.Stage.TheVariants.{Open, Freeing}
 use Rattle.batch_chart.specs.Stages.{stage_at, is_finished, is_begun, turns_of}
 use Rattle.batch_chart.specs.Meaning.{meaning, meaning_each, act_as, loop_as, branch, chosen, AgreeOutside}
 use Rattle.batch_chart.specs.Outlined.{end_at, Stands, AreStanding, AreChoices}
@@ -29,8 +29,7 @@ module _ (vs : ValueList) where
   went-if : (b e : Bool) (r q s t : Rest) → e ≡ b → Went vs r s → Went vs q t → Went vs (elim e as (λ _. Rest) [ true ↦ r | false ↦ q ]) (elim b as (λ _. Rest) [ true ↦ s | false ↦ t ])
   went-if true true r q s t e f g = f
   went-if false false r q s t e f g = g
-  went-if true false r q s t e f g = absurd (cc)
-  went-if false true r q s t e f g = absurd (cc)
+  went-if x y r q s t e f g = absurd (cc)
 
   went-seq : (r q : Rest) (ts : Trees) → Went vs r q → Went vs (in_seq r ts) (in_seq q ts)
   went-seq r q ts f h = sym (chosen-false (is_done r) (reach_first vs ts) (in_seq r ts) h.0) ∙ ap (λ z. continued vs z ts) (f h.1)
@@ -53,13 +52,9 @@ module _ (vs : ValueList) where
   went-act s m c r q x y e f = subst (λ z. Went vs (act_as s (follows m c) r z) (act_as s (follows m c) q x)) (sym e) (go x)
     where
       go : (x : Stage) → Went vs (act_as s (follows m c) r x) (act_as s (follows m c) q x)
-      go Finished h = refl
-      go (Ready k) h = refl
-      go (Asking k) h = refl
       go Open h = ap (open_act s) (f h)
-      go (Live x) h = refl
       go (Freeing k) h = went-freed s k
-      go (Turning k) h = refl
+      go x h = refl
 
 module _ (ns : List Entry) (doc : Recipe) (vs : ValueList) (p : ℕ) (xs ys : List Stage) (outside : AgreeOutside p (end_at ns p) xs ys) (kept : is_finished (stage_at ys p) ≡ is_finished (stage_at xs p))
     (here : (c : Tree) → Stands ns doc p c → meaning c p ys ≡ advance vs (meaning c p xs)) where

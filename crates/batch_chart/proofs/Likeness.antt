@@ -13,7 +13,7 @@ use Rattle.batch_model.specs.Settled.{IsAdvanced, AreAdvanced}
 use Rattle.batch_recipe.specs.declared.entry.Entry.{Entry}
 use Rattle.batch_recipe.specs.declared.recipe.Recipe.{Recipe}
 use Rattle.batch_chart.specs.declared.stage.Stage.{Stage}
-use Rattle.batch_chart.specs.declared.stage.Stage.TheVariants.{Finished, Ready, Asking, Open, Live, Freeing, Turning}
+use Rattle.batch_chart.specs.declared.stage.Stage.TheVariants.{Open, Freeing}
 use Rattle.batch_chart.specs.Stages.{stage_at, is_finished, is_begun, turns_of}
 use Rattle.batch_chart.specs.Meaning.{meaning, meaning_each, act_as, loop_as, branch, chosen, AgreeOutside}
 use Rattle.batch_chart.specs.Outlined.{end_at, Stands, AreStanding, AreChoices}
@@ -59,22 +59,13 @@ like-freed s t zero = (refl, λ h. tt)
 like-freed s t (suc k) = (refl, λ h. tt)
 
 like-phase : (s t : Step) (p q : Phase) (r u : Rest) (x : Stage) → Alike (act_as s (runs p) r x) (act_as t (runs q) u x)
-like-phase s t p q r u Finished = (refl, λ h. tt)
-like-phase s t p q r u (Ready k) = (refl, λ h. tt)
-like-phase s t p q r u (Asking k) = (refl, λ h. tt)
-like-phase s t p q r u Open = (refl, λ h. tt)
-like-phase s t p q r u (Live x) = (refl, λ h. tt)
 like-phase s t p q r u (Freeing k) = like-freed s t k
-like-phase s t p q r u (Turning k) = (refl, λ h. tt)
+like-phase s t p q r u x = (refl, λ h. tt)
 
 like-act : (s t : Step) (m n : Name) (c d : Tree) (r u : Rest) (x : Stage) → Alike r u → Alike (act_as s (follows m c) r x) (act_as t (follows n d) u x)
-like-act s t m n c d r u Finished a = (refl, λ h. tt)
-like-act s t m n c d r u (Ready k) a = (refl, λ h. tt)
-like-act s t m n c d r u (Asking k) a = (refl, λ h. tt)
 like-act s t m n c d r u Open a = (refl, a.1)
-like-act s t m n c d r u (Live x) a = (refl, λ h. tt)
 like-act s t m n c d r u (Freeing k) a = like-freed s t k
-like-act s t m n c d r u (Turning k) a = (refl, λ h. tt)
+like-act s t m n c d r u x a = (refl, λ h. tt)
 
 -- what else stands at a node of the kind
 

@@ -9,7 +9,7 @@ use Rattle.batch_recipe.specs.Conditions.{Name}
 use Rattle.batch_recipe.specs.Tree.{Step, Phase, Task, runs, follows, Tree}
 use Rattle.batch_recipe.specs.declared.need.Need.{Need}
 use Rattle.batch_model.specs.Plant.{Batch, held_in}
-use Rattle.batch_model.specs.Rest.{Rest, ready, asking, open_act, live, freeing, in_seq, in_par, in_loop, done, Rests, no_rests, rest, acts, acts_of_each, is_done, all_done}
+use Rattle.batch_model.specs.Rest.{Rest, ready, open_act, live, freeing, in_seq, in_par, in_loop, Rests, no_rests, rest, acts, acts_of_each, is_done, all_done}
 use Rattle.batch_model.specs.Settled.{IsAdvanced, AreAdvanced}
 use Rattle.batch_model.specs.Moves.{Move, send, begin, start, end, ask, release, kind_of, handed_values, passed_on, is_running, is_stopping, is_stopped, is_empty, is_quiet, when, beginning, entering, giving_back}
 use Rattle.batch_chart.specs.NodesOf.{no_need}
@@ -48,15 +48,10 @@ empty-append (x ∷ l) m = refl
 -- what remains has no act just where it is done
 mutual
   pub empty-done : (r : Rest) → IsAdvanced r → is_done r ≡ is_empty (acts r)
-  empty-done (ready s w k) h = refl
-  empty-done (asking s w k) h = refl
-  empty-done (open_act s r) h = refl
-  empty-done (live s p x) h = refl
-  empty-done (freeing s k) h = refl
   empty-done (in_seq r cs) h = sym h.0 ∙ empty-done r h.1
   empty-done (in_par rs) h = sym h.0 ∙ empty-all rs h.1
   empty-done (in_loop n c body r) h = sym h.0 ∙ empty-done r h.1
-  empty-done done h = refl
+  empty-done x h = refl
 
   empty-all : (rs : Rests) → AreAdvanced rs → all_done rs ≡ is_empty (acts_of_each rs)
   empty-all no_rests h = refl
@@ -64,7 +59,7 @@ mutual
 
 -- Needs by number
 
-less : (k n : ℕ) → nat_lt k n ≡ true → k < n
+pub less : (k n : ℕ) → nat_lt k n ≡ true → k < n
 less k n e = grind (arith, nat_tests)
 
 not-less : (k n : ℕ) → nat_lt k n ≡ false → n ≤ k

@@ -9,14 +9,13 @@ use Rattle.batch_recipe.specs.Conditions.{Name, same_name}
 use Rattle.batch_recipe.specs.Nodes.{node_count}
 use Rattle.batch_recipe.specs.Tree.{Step, Phase, Task, runs, follows, Tree, act}
 use Rattle.batch_model.specs.Lists.{Has}
-use Rattle.batch_model.specs.Rest.{Rest, ready, asking, open_act, live, freeing, in_seq, in_par, in_loop, done}
+use Rattle.batch_model.specs.Rest.{Rest, live}
 use Rattle.batch_recipe.specs.declared.entry.Entry.{Entry}
 use Rattle.batch_recipe.specs.declared.recipe.Recipe.{Recipe}
 use Rattle.batch_chart.specs.declared.sign.TheConstants.{LIVES}
 use Rattle.batch_chart.specs.declared.stage.Stage.{Stage}
-use Rattle.batch_chart.specs.Finding as wanted
 use Rattle.batch_chart.specs.Outlined.{kind_at, Stands}
-use Rattle.batch_chart.specs.Finding.{wants, first_of}
+use Rattle.batch_chart.specs.Nexts.{first_of}
 use Rattle.batch_chart.specs.Meaning.{meaning_below}
 use Rattle.batch_chart.specs.Nexts.{IsFoundFirst, SomeNoted, has_name, is_named, names_at, IsFirstNamed}
 use Rattle.batch_chart.specs.Noting.{signs_of, sign_in}
@@ -28,7 +27,7 @@ use Rattle.batch_chart.proofs.Choosing.{chosen-true, chosen-false}
 use Rattle.batch_chart.proofs.Live.{looks, live-known}
 use Rattle.batch_chart.proofs.Wanting.{none-shown, nothing-shown}
 use Rattle.batch_chart.proofs.Picking.{RiseIn, rise, sign-here, sign-other, shown-not, shown-so, noted-alike}
-use Rattle.batch_chart.proofs.Sought.{said-live}
+use Rattle.batch_chart.proofs.Sought.{any_live, said-live}
 use Rattle.batch_chart.proofs.Stepping.{entry-at}
 
 -- the first number that passes a test is that of the first entry which does, where the test tells entries
@@ -87,7 +86,7 @@ module _ (ns : List Entry) (doc : Recipe) (xs : List Stage) (signs : List ℕ) (
       ap (λ z. is_named z doc phase) h.1.1 ∙ ap (λ z. has_name z phase) h.2 ∙ ap (λ (z : Phase). same_name z.name phase) same
   phase-named k s (follows name c) p h e = absurd (cc)
 
-  other-told : (e : ℕ × Rest) → Has (numbered t 0 xs) e → wants wanted.Live 0 e.1 ≡ false → false ≡ names_at ns doc signs from phase e.0
+  other-told : (e : ℕ × Rest) → Has (numbered t 0 xs) e → any_live 0 e.1 ≡ false → false ≡ names_at ns doc signs from phase e.0
   other-told e h f =
       and-not (nat_le from e.0) (is_named (kind_at ns e.0) doc phase)
       ∙ ap (λ z. nat_le from e.0 && (z && is_named (kind_at ns e.0) doc phase)) (sym (ap (shows LIVES) (own-sign e h) ∙ sym (said-live 0 e.1) ∙ f))
@@ -99,14 +98,7 @@ module _ (ns : List Entry) (doc : Recipe) (xs : List Stage) (signs : List ℕ) (
       let name = phase-named e.0 g.step g.task p g.stands known.1 in
       let shown : shows LIVES (sign_at signs e.0) ≡ true = ap (shows LIVES) (own-sign e h ∙ ap signs_of q) ∙ sym (said-live 0 (live s p x)) in
       sym (ap (λ z. nat_le from e.0 && (z && is_named (kind_at ns e.0) doc phase)) shown ∙ ap (λ z. nat_le from e.0 && z) name)
-  told e h (ready s w i) q = other-told e h (ap (wants wanted.Live 0) q)
-  told e h (asking s w i) q = other-told e h (ap (wants wanted.Live 0) q)
-  told e h (open_act s r) q = other-told e h (ap (wants wanted.Live 0) q)
-  told e h (freeing s i) q = other-told e h (ap (wants wanted.Live 0) q)
-  told e h (in_seq r cs) q = other-told e h (ap (wants wanted.Live 0) q)
-  told e h (in_par rs) q = other-told e h (ap (wants wanted.Live 0) q)
-  told e h (in_loop i c body r) q = other-told e h (ap (wants wanted.Live 0) q)
-  told e h done q = other-told e h (ap (wants wanted.Live 0) q)
+  told e h r q = other-told e h (ap (any_live 0) q)
 
   -- nothing is named where no sign is
   unsigned : (k : ℕ) → sign_at signs k ≡ 0 → names_at ns doc signs from phase k ≡ false
@@ -171,5 +163,4 @@ module _ (ns : List Entry) (doc : Recipe) (signs : List ℕ) (from : ℕ) (phase
     where
       not-there : (a b : Bool) → (a && (b && is_named (kind_at ns j) doc phase)) ≡ false
       not-there true true = sym u
-      not-there true false = refl
-      not-there false b = refl
+      not-there x y = refl

@@ -3,11 +3,11 @@ use Rattle.std.proofs.Common.{◌≡◌, ◌⊎◌, inl, inr, ◌<◌, ◌≤◌
 use Rattle.std.proofs.lemmas.Bool.{cases_lt}
 use Rattle.std.proofs.lemmas.Bool.Decides.{eqb_tells}
 use Rattle.batch_recipe.specs.Nodes.{node_count}
-use Rattle.batch_recipe.specs.Tree.{runs, follows, Tree, act, skip, seq, par, sel, loop}
+use Rattle.batch_recipe.specs.Tree.{follows, Tree, act}
 use Rattle.batch_recipe.specs.declared.entry.Entry.{Entry}
 use Rattle.batch_recipe.specs.declared.recipe.Recipe.{Recipe}
 use Rattle.batch_chart.specs.declared.stage.Stage.{Stage}
-use Rattle.batch_chart.specs.declared.stage.Stage.TheVariants.{Finished, Ready, Asking, Open, Live, Freeing, Turning}
+use Rattle.batch_chart.specs.declared.stage.Stage.TheVariants.{Finished, Open}
 use Rattle.batch_chart.specs.Outlined.{end_at, Stands}
 use Rattle.batch_chart.specs.Meaning.{AgreeOutside, AgreeWithin}
 use Rattle.batch_chart.specs.Neat.{runs_below, is_single, AllFinished, IsLone, act_shows, shown_of, IsNeat, AreNeat, AreBlank, SignsOutside}
@@ -26,22 +26,12 @@ finished-stops x1 = grind arith
 
 unbegun-still : (needs : ℕ) (x : Stage) (a b : Bool) → (x ≡ Open → a ≡ b) → act_shows needs x a ≡ act_shows needs x b
 unbegun-still needs Open a b h = ap (act_shows needs Open) (h refl)
-unbegun-still needs Finished a b h = refl
-unbegun-still needs (Ready k) a b h = refl
-unbegun-still needs (Asking k) a b h = refl
-unbegun-still needs (Live x) a b h = refl
-unbegun-still needs (Freeing k) a b h = refl
-unbegun-still needs (Turning k) a b h = refl
+unbegun-still needs x a b h = refl
 
 -- whether its chart is over concerns an act that follows one alone
 pub shows-same : (c : Tree) (x : Stage) (a b : Bool) → (1 < node_count c → a ≡ b) → shown_of c x a ≡ shown_of c x b
-shows-same (act s (runs p)) x a b h = refl
 shows-same (act s (follows name c)) x a b h = unbegun-still (length s.needs) x a b (λ e. h (omega (arith, count-pos c)))
-shows-same skip x a b h = refl
-shows-same (seq ts) x a b h = refl
-shows-same (par ts) x a b h = refl
-shows-same (sel ch) x a b h = refl
-shows-same (loop k p body) x a b h = refl
+shows-same y x a b h = refl
 
 pub finished-part : (n m i j : ℕ) (xs : List Stage) → n ≤ i → j ≤ m → AllFinished n m xs → AllFinished i j xs
 finished-part n m i j xs a b h k p q = h k (omega arith) (omega arith)
@@ -52,7 +42,7 @@ blank-part n m i j xs signs a b h k p q = h k (omega arith) (omega arith)
 pub blank-same : (n m : ℕ) (xs ys : List Stage) (old new : List ℕ) → ((k : ℕ) → n ≤ k → k < m → (stage_at ys k ≡ stage_at xs k) × (sign_at new k ≡ sign_at old k)) → AreBlank n m xs old → AreBlank n m ys new
 blank-same n m xs ys old new same h k p q = let s = same k p q in let b = h k p q in (s.0 ∙ b.0, s.1 ∙ b.1)
 
-unfinished-not : (x : Stage) → x ≡ Finished → is_finished x ≡ false → ⊥
+pub unfinished-not : (x : Stage) → x ≡ Finished → is_finished x ≡ false → ⊥
 unfinished-not x e u = let f : ◌≡◌ {A = Bool} true false = sym (ap is_finished e) ∙ u in absurd (cc)
 
 module _ (ns : List Entry) (doc : Recipe) where

@@ -91,13 +91,11 @@ module _ (ns : List Entry) (doc : Recipe) where
 
   -- how many needs an act at a node has
   needs-here : (k : ℕ) (c : Tree) → Stands ns doc k c → needs_of (kind_at ns k) ≡ length (step_of c).needs
-  needs-here k (act s (runs p)) h = ap needs_of h.1.1
   needs-here k (act s (follows name c)) h = ap needs_of h.0.1
   needs-here k skip h = ap needs_of h.1
   needs-here k (seq ts) h = ap needs_of h.0.1
   needs-here k (par ts) h = ap needs_of h.0.1
-  needs-here k (sel ch) h = ap needs_of h.1.1
-  needs-here k (loop i p body) h = ap needs_of h.1.1
+  needs-here k x h = ap needs_of h.1.1
 
   pub needs-known : (t : Tree) → IsLaid ns doc t → (k : ℕ) → needs_of (kind_at ns k) ≡ length (step_of (node_at t k).here).needs
   needs-known t laid k = elim (cases_lt k (length ns)) [
@@ -159,12 +157,10 @@ module _ (bound : Binding) (ns : List Entry) (doc : Recipe) where
   phase-here : (k : ℕ) (c : Tree) → StandsOn (Some bound) ns doc k c → phase_of (entry_at ns k) ≡ phase_named c
   phase-here k (act s (runs p)) h =
       ap (λ κ. phase_kind κ (unit_under ns k)) h.1.1 ∙ (ap (λ o. names_by o (phase_name doc h.0)) h.3 ∙ ap (λ o. names_by (Some p.unit) o) h.2)
-  phase-here k (act s (follows name c)) h = ap (λ κ. phase_kind κ (unit_under ns k)) h.0.1
   phase-here k skip h = ap (λ κ. phase_kind κ (unit_under ns k)) h.1
-  phase-here k (seq ts) h = ap (λ κ. phase_kind κ (unit_under ns k)) h.0.1
-  phase-here k (par ts) h = ap (λ κ. phase_kind κ (unit_under ns k)) h.0.1
   phase-here k (sel ch) h = ap (λ κ. phase_kind κ (unit_under ns k)) h.1.1
   phase-here k (loop n p body) h = ap (λ κ. phase_kind κ (unit_under ns k)) h.1.1
+  phase-here k x h = ap (λ κ. phase_kind κ (unit_under ns k)) h.0.1
 
   pub phase-known : (t : Tree) → IsLaid ns doc t → StandsOn (Some bound) ns doc 0 t → (k : ℕ) → phase_of (entry_at ns k) ≡ phase_named (node_at t k).here
   phase-known t laid h k = elim (cases_lt k (length ns)) [
@@ -182,9 +178,4 @@ module _ (bound : Binding) (ns : List Entry) (doc : Recipe) where
     where
       none : (κ : Kind) (o : ℕ) → ((j i : ℕ) → κ ≡ kind.Phase j i → ⊥) → phase_kind κ o ≡ None
       none (kind.Phase j i) o other = absurd (other j i refl)
-      none (kind.Act j) o other = refl
-      none kind.Skip o other = refl
-      none kind.Seq o other = refl
-      none kind.Par o other = refl
-      none (kind.Sel i) o other = refl
-      none (kind.Loop j i) o other = refl
+      none x o other = refl

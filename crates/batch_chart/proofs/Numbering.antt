@@ -57,12 +57,11 @@ all-get P (y ∷ ls) (suc i) x h e = all-get P ls i x h.1 e
 
 pub order-at : (ls : List Node) → AreInOrder ls → (i j : ℕ) (x y : Node) → i < j → slice_get ls i ≡ Some x → slice_get ls j ≡ Some y → is_before x.place y.place ≡ true
 order-at [] h i j x y lt e f = absurd (cc)
-order-at (z ∷ ls) h zero zero x y lt e f = absurd (omega arith)
 order-at (z ∷ ls) h zero (suc j) x y lt e f =
     let same : z ≡ x = cc in
     subst (λ a. is_before a.place y.place ≡ true) same (all-get (λ m. is_before z.place m.place ≡ true) ls j y h.0 f)
-order-at (z ∷ ls) h (suc i) zero x y lt e f = absurd (omega arith)
 order-at (z ∷ ls) h (suc i) (suc j) x y lt e f = order-at ls h.1 i j x y (omega arith) e f
+order-at z h u zero x y lt e f = absurd (omega arith)
 
 pub not-same : (q p : Place) → q ≢ p → same_place q p ≡ false
 not-same q p ne = go (same_place q p) refl

@@ -12,18 +12,17 @@ use Rattle.batch_recipe.specs.declared.recipe.Recipe.{Recipe}
 use Rattle.batch_chart.specs.declared.sign.TheConstants.{IS_ACT}
 use Rattle.batch_chart.specs.declared.stage.Stage.{Stage}
 use Rattle.batch_chart.specs.declared.stage.Stage.TheVariants.{Finished}
-use Rattle.batch_chart.specs.Finding as wanted
 use Rattle.batch_chart.specs.Climbing.{all_finished, AreFinished}
 use Rattle.batch_chart.specs.Outlined.{Stands, AreStanding}
-use Rattle.batch_chart.specs.Finding.{wants}
 use Rattle.batch_chart.specs.Meaning.{meaning}
 use Rattle.batch_chart.specs.Neat.{AllFinished, AreNeat, shown_of}
 use Rattle.batch_chart.specs.Noting.{signs_of, sign_in}
 use Rattle.batch_chart.specs.Numbered.{numbered}
-use Rattle.batch_chart.specs.Signs.{sign_at, NoneShows, TellsNone}
+use Rattle.batch_chart.specs.Signs.{shows, sign_at, NoneShows, TellsNone}
 use Rattle.batch_chart.specs.Stages.{stage_at, is_finished}
 use Rattle.batch_chart.specs.Told.{AreTold}
 use Rattle.batch_chart.proofs.Advanced.{finished-stage}
+use Rattle.batch_chart.proofs.Climbed.{both-true}
 use Rattle.batch_chart.proofs.Found.{AllActs, acts-all, numbered-acts}
 use Rattle.batch_chart.proofs.Wanting.{none-shown}
 use Rattle.batch_chart.proofs.MoveKinds.{empty-done}
@@ -31,7 +30,6 @@ use Rattle.batch_chart.proofs.Neat.{finished-shows, neat-part, neat-finished}
 use Rattle.batch_chart.proofs.Picking.{RiseIn, rise, sign-here, shown-not}
 use Rattle.batch_chart.proofs.RisenNeatly.{finished-row}
 use Rattle.batch_chart.proofs.Shown.{link}
-use Rattle.batch_chart.proofs.Sought.{says-any}
 use Rattle.batch_chart.proofs.Standing.{count-pos, stood-each, some-each}
 use Rattle.batch_chart.proofs.Telling.{told-part}
 
@@ -47,12 +45,12 @@ module _ (ns : List Entry) (doc : Recipe) (xs : List Stage) (signs : List ℕ) w
       go [] e r h f all = (let q : ◌≡◌ {A = Bool} true false = ap is_empty e ∙ f in absurd (cc))
       go (a ∷ l) e r h f all =
           let shown : bit_and (signs_of a.1) IS_ACT ≡ 0 = ap (λ z. bit_and z IS_ACT) (sym (sign-here (n + node_count c) a l 0 r.2) ∙ h a.0 r.0 r.1) ∙ none a.0 r.0 r.1 in
-          let not_one : wants wanted.Any 0 a.1 ≡ false = says-any 0 a.1 ∙ shown-not IS_ACT (signs_of a.1) shown in
+          let not_one : shows IS_ACT (signs_of a.1) ≡ false = shown-not IS_ACT (signs_of a.1) shown in
           first (acts (meaning c n xs)) e all not_one
         where
-          first : (as' : List Rest) → map (λ (e : ℕ × Rest). e.1) (a ∷ l) ≡ as' → AllActs as' → wants wanted.Any 0 a.1 ≡ false → ⊥
+          first : (as' : List Rest) → map (λ (e : ℕ × Rest). e.1) (a ∷ l) ≡ as' → AllActs as' → shows IS_ACT (signs_of a.1) ≡ false → ⊥
           first [] e all g = absurd (cc)
-          first (b ∷ as') e all g = (let same : a.1 ≡ b = cc in let q : ◌≡◌ {A = Bool} false true = sym g ∙ ap (wants wanted.Any 0) same ∙ all.0 0 in absurd (cc))
+          first (b ∷ as') e all g = (let same : a.1 ≡ b = cc in let q : ◌≡◌ {A = Bool} false true = sym g ∙ ap (λ z. shows IS_ACT (signs_of z)) same ∙ all.0 in absurd (cc))
 
   none-left : (ts : Trees) (n m : ℕ) → AreStanding ns doc n m ts → AreNeat ns doc n m xs signs → AreTold ns doc n m xs → NoneShows signs IS_ACT n m → AllFinished n m xs
   none-left no_trees n m h neat told none = λ k a b. absurd (omega (arith, h))
@@ -76,15 +74,11 @@ module _ (ns : List Entry) (doc : Recipe) (xs : List Stage) (signs : List ℕ) w
   all-none no_trees n m h neat f = λ k a b. absurd (omega (arith, h))
   all-none (tree c ts) n m h neat f =
       let le : n + node_count c ≤ m = omega (arith, stood-each ns doc (n + node_count c) m ts h.1) in
-      let q = both (is_finished (stage_at xs n)) (all_finished ts (n + node_count c) xs) f in
+      let q = both-true (is_finished (stage_at xs n)) (all_finished ts (n + node_count c) xs) f in
       λ k a b. elim (cases_lt k (n + node_count c)) [
         | inl lt ↦ neat-finished ns doc n c xs signs h.0 (neat n c (omega arith) (omega (arith, le, count-pos c)) h.0) (finished-stage (stage_at xs n) q.0) k a lt
         | inr ge ↦ all-none ts (n + node_count c) m h.1 (neat-part ns doc n m (n + node_count c) m xs signs (omega arith) (omega arith) neat) q.1 k ge b
       ]
-    where
-      both : (b x : Bool) → elim b as (λ _. Bool) [ true ↦ x | false ↦ false ] ≡ true → (b ≡ true) × (x ≡ true)
-      both true x e = (refl, e)
-      both false x e = absurd (cc)
 
   -- so the signs tell whether anything is left of it
   pub over-tells : (n m : ℕ) (b : Bool) → ((ts : Trees) × AreStanding ns doc n m ts) → AreNeat ns doc n m xs signs → AreTold ns doc n m xs → TellsNone signs IS_ACT n m b → (b ≡ true → AllFinished n m xs) × AreFinished ns doc n m xs b

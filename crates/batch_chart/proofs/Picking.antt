@@ -1,4 +1,4 @@
--- The first act that shows a sign is the first that is wanted.
+-- The first act that shows a sign is the first that passes the test which the sign tells.
 use Rattle.std.proofs.Common.{◌≡◌, ◌≢◌, inl, inr, ◌<◌, ◌≤◌, ℕ, zero, suc, ◌+◌, List, [], ◌∷◌, ◌++◌, length, Bool, true, false, ◌&&◌, Some, None, arith, refl, sym, ◌∙◌, ap, nat_eq, nat_le}
 use Rattle.std.specs.Prelude.{Option, not, ⊤}
 use Rattle.std.specs.Int.Bits.{bit_and}
@@ -7,13 +7,13 @@ use Rattle.std.proofs.lemmas.Bool.{cases_lt}
 use Rattle.std.proofs.lemmas.Bool.Decides.{eqb_tells, nat_tests}
 use Rattle.batch_recipe.specs.Nodes.{node_count, count_of_each, count_of_choices, count_within}
 use Rattle.batch_recipe.specs.Tree.{Task, runs, follows, Tree, act, skip, seq, par, sel, loop, Trees, no_trees, tree, Choices, otherwise, choice}
-use Rattle.batch_model.specs.Rest.{Rest, ready, asking, open_act, live, freeing, in_seq, in_par, in_loop, done}
+use Rattle.batch_model.specs.Rest.{Rest, open_act, done}
 use Rattle.batch_recipe.specs.declared.entry.Entry.{Entry}
 use Rattle.batch_recipe.specs.declared.recipe.Recipe.{Recipe}
 use Rattle.batch_chart.specs.declared.stage.Stage.{Stage}
 use Rattle.batch_chart.specs.Stages.{stage_at, is_finished, is_begun, turns_of}
 use Rattle.batch_chart.specs.Meaning.{act_as, meaning_below}
-use Rattle.batch_chart.specs.Finding.{Wanted, wants, first_of}
+use Rattle.batch_chart.specs.Nexts.{first_of}
 use Rattle.batch_chart.specs.Numbered.{entries, entries_in, numbered, numbered_below, numbered_each, numbered_branch, numbered_chosen}
 use Rattle.batch_chart.specs.Signs.{shows, sign_at, IsNextShown}
 use Rattle.batch_chart.specs.Noting.{signs_of, sign_in, AreNoted}
@@ -22,7 +22,7 @@ use Rattle.batch_chart.specs.Running.{IsLaid}
 use Rattle.batch_chart.proofs.Alike.{alike, same-signs}
 use Rattle.batch_chart.proofs.Choosing.{chosen-true, chosen-false}
 use Rattle.batch_chart.proofs.Wanting.{none-shown, more-not_zero}
-use Rattle.batch_chart.proofs.Sought.{Says, says-all}
+use Rattle.batch_chart.proofs.Sought.{Says, says-all, showing, said-showing}
 
 -- the numbers rise from n on, and stay below m
 abbrev pub RiseIn : ℕ → ℕ → List (ℕ × Rest) → Type 0
@@ -38,15 +38,9 @@ rise-append n i m [] r a b h k = rise-wider i m n m r a (omega arith) k
 rise-append n i m (e ∷ l) r a b h k = (h.0, omega (arith, b, h.1), rise-append (e.0 + 1) i m l r (omega (arith, h.1)) b h.2 k)
 
 rise-act : (n m : ℕ) (a : Rest) (below : List (ℕ × Rest)) → n < m → RiseIn (n + 1) m below → RiseIn n m (entries n a below)
-rise-act n m (ready s w k) below l h = (omega arith, l, tt)
-rise-act n m (asking s w k) below l h = (omega arith, l, tt)
 rise-act n m (open_act s r) below l h = (omega arith, l, h)
-rise-act n m (live s p x) below l h = (omega arith, l, tt)
-rise-act n m (freeing s k) below l h = (omega arith, l, tt)
-rise-act n m (in_seq r cs) below l h = (omega arith, l, tt)
-rise-act n m (in_par rs) below l h = (omega arith, l, tt)
-rise-act n m (in_loop i p body r) below l h = (omega arith, l, tt)
 rise-act n m done below l h = tt
+rise-act n m x below l h = (omega arith, l, tt)
 
 rise-if : (n m : ℕ) (b : Bool) (l r : List (ℕ × Rest)) → RiseIn n m l → RiseIn n m r → RiseIn n m (elim b as (λ _. List (ℕ × Rest)) [ true ↦ l | false ↦ r ])
 rise-if n m true l r h k = h
@@ -105,7 +99,7 @@ module _ (xs : List Stage) where
 same-number : (n : ℕ) → nat_eq n n ≡ true
 same-number n = grind (arith, nat_tests)
 
-other-number : (n k : ℕ) → n ≢ k → nat_eq n k ≡ false
+pub other-number : (n k : ℕ) → n ≢ k → nat_eq n k ≡ false
 other-number n k ne = elim (eqb_tells n k) [ inl q ↦ absurd (ne q.1) | inr q ↦ q.0 ]
 
 -- before the first number nothing is shown
@@ -209,14 +203,17 @@ module _ (ns : List Entry) (doc : Recipe) (xs : List Stage) (ms : List ℕ) wher
   in-all m from None f same h = λ k le. ap (λ z. bit_and z m) (sym (same k)) ∙ elim (cases_lt k (length ms)) [ inl q ↦ h k le q | inr q ↦ past k q m ]
   in-all m from (Some j) f same h = (h.0, λ z. h.2 (ap (λ y. bit_and y m) (same j) ∙ z), λ k le lt. ap (λ z. bit_and z m) (sym (same k)) ∙ h.3 k le lt)
 
-  -- the first node that shows a sign is that of the first act that is wanted, where the sign tells those
-  pub found-from : (w : Wanted) (m from : ℕ) (o : Option ℕ) → ((n : ℕ) (r : Rest) → wants w n r ≡ (nat_le from n && shows m (signs_of r))) → SomeNoted ns doc xs ms → IsNextShown ms m from o → IsFoundFirst ns doc xs (wants w) o
-  found-from w m from o says some h =
+  -- the first node that shows a sign is that of the first act that passes a test, where the sign tells it
+  pub found-from : (p : ℕ → Rest → Bool) (m from : ℕ) (o : Option ℕ) → ((n : ℕ) (r : Rest) → p n r ≡ (nat_le from n && shows m (signs_of r))) → SomeNoted ns doc xs ms → IsNextShown ms m from o → IsFoundFirst ns doc xs p o
+  found-from p m from o says some h =
       record {
         means = λ t laid.
             first-shown m from (0 + node_count t) (numbered t 0 xs) 0 (rise xs t 0) o (in-all m from o (λ k. sign_in k (numbered t 0 xs) 0) (noted-alike some.0 t some.1 laid some.2) h)
-            ∙ sym (first-same (wants w) (picks m from (0 + node_count t)) says (numbered t 0 xs));
+            ∙ sym (first-same p (picks m from (0 + node_count t)) says (numbered t 0 xs));
       }
 
-  pub found : (w : Wanted) (m : ℕ) (o : Option ℕ) → Says w m → SomeNoted ns doc xs ms → IsNextShown ms m 0 o → IsFoundFirst ns doc xs (wants w) o
-  found w m o says = found-from w m 0 o (says-all w m says)
+  pub found : (p : ℕ → Rest → Bool) (m : ℕ) (o : Option ℕ) → Says p m → SomeNoted ns doc xs ms → IsNextShown ms m 0 o → IsFoundFirst ns doc xs p o
+  found p m o says = found-from p m 0 o (says-all p m says)
+
+  pub found-showing : (m : ℕ) (o : Option ℕ) → SomeNoted ns doc xs ms → IsNextShown ms m 0 o → IsFoundFirst ns doc xs (showing m) o
+  found-showing m o = found (showing m) m o (said-showing m)

@@ -20,7 +20,7 @@ use Rattle.batch_chart.specs.Signs.{sign_at}
 use Rattle.batch_chart.specs.Stages.{stage_at, is_finished, turns_of, closed_as, looped_as}
 use Rattle.batch_chart.proofs.Advanced.{finished-stage}
 use Rattle.batch_chart.proofs.Agreeing.{stage-set_same, stage-set_other}
-use Rattle.batch_chart.proofs.Neat.{blank-neat, blank-part, blank-same, neat-one, neat-join, neat-same, neat-finished, signs-join, signs-wider, signs-same}
+use Rattle.batch_chart.proofs.Neat.{unfinished-not, blank-neat, blank-part, blank-same, neat-one, neat-join, neat-same, neat-finished, signs-join, signs-wider, signs-same}
 use Rattle.batch_chart.proofs.Reached.{within-set, outside-set, outside-same}
 use Rattle.batch_chart.proofs.Standing.{count-pos, stood, PhaseAt, phase_at, phase-at, ActAt, act_at, act-at, SeqAt, seq_at, seq-at, ParAt, par_at, par-at, SelAt, sel_at, sel-at, LoopAt, loop_at, loop-at, below-end, first-end, first-standing, choice-standing, choice-end}
 use Rattle.batch_chart.proofs.Telling.{AreNested, nests, nests-each, nests-choices, nests-below}
@@ -192,9 +192,6 @@ neatly-end ns doc n m single over xs old e = record {
   over = λ h o. (o, λ k a b. absurd (omega (arith, e)));
   lone = λ one h i a b. absurd (omega (arith, e));
 }
-
-unfinished-not : (x : Stage) → x ≡ Finished → is_finished x ≡ false → ⊥
-unfinished-not x e u = let f : ◌≡◌ {A = Bool} true false = sym (ap is_finished e) ∙ u in absurd (cc)
 
 both-true : (a b : Bool) → (a && b) ≡ true → (a ≡ true) × (b ≡ true)
 both-true true true e = (refl, refl)

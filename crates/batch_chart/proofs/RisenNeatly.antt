@@ -9,7 +9,7 @@ use Rattle.batch_chart.specs.declared.node.Kind.{Kind}
 use Rattle.batch_chart.specs.declared.node.Kind.TheVariants.{Act, Seq, Par, Sel, Loop}
 use Rattle.batch_recipe.specs.declared.recipe.Recipe.{Recipe}
 use Rattle.batch_chart.specs.declared.stage.Stage.{Stage}
-use Rattle.batch_chart.specs.declared.stage.Stage.TheVariants.{Finished, Ready, Asking, Open, Live, Freeing, Turning}
+use Rattle.batch_chart.specs.declared.stage.Stage.TheVariants.{Finished, Open}
 use Rattle.batch_chart.specs.Climbing.{all_finished, AreFinished, IsNeatlyRisen, HasPassedNeatly}
 use Rattle.batch_chart.specs.Outlined.{end_at, kind_at, Stands, AreStanding, HasTree}
 use Rattle.batch_chart.specs.Meaning.{AgreeOutside}
@@ -22,23 +22,15 @@ use Rattle.batch_chart.proofs.Agreeing.{stage-set_same}
 use Rattle.batch_chart.proofs.Advanced.{begun-open, finished-stage}
 use Rattle.batch_chart.proofs.Choosing.{chosen-true}
 use Rattle.batch_chart.proofs.Climbed.{only-child, loop-child}
-use Rattle.batch_chart.proofs.Neat.{finished-shows, finished-stops, blank-neat, blank-part, neat-one, neat-join, neat-same, neat-agree, neat-finished, neat-blank, signs-wider, signs-same}
+use Rattle.batch_chart.proofs.Neat.{unfinished-not, finished-shows, finished-stops, blank-neat, blank-part, neat-one, neat-join, neat-same, neat-agree, neat-finished, neat-blank, signs-wider, signs-same}
 use Rattle.batch_chart.proofs.Reached.{within-set, outside-set, finished-closed}
 use Rattle.batch_chart.proofs.ReachedNeatly.{over-own, closed-own, shut-by}
 use Rattle.batch_chart.proofs.Standing.{count-pos, stood, stood-each, some-stands, nested, ActAt, act_at, act-at, SeqAt, seq_at, seq-at, ParAt, par_at, par-at, SelAt, sel_at, sel-at, LoopAt, loop_at, loop-at}
 use Rattle.batch_chart.proofs.Telling.{AreNested, nests, nests-below}
 
-unfinished-not : (x : Stage) → x ≡ Finished → is_finished x ≡ false → ⊥
-unfinished-not x e u = let f : ◌≡◌ {A = Bool} true false = sym (ap is_finished e) ∙ u in absurd (cc)
-
 pub runs-unfinished : (c : Tree) (x : Stage) → runs_below c x ≡ true → is_finished x ≡ false
 runs-unfinished c Finished e = let f : ◌≡◌ {A = Bool} false true = sym (finished-stops c) ∙ e in absurd (cc)
-runs-unfinished c (Ready k) e = refl
-runs-unfinished c (Asking k) e = refl
-runs-unfinished c Open e = refl
-runs-unfinished c (Live x) e = refl
-runs-unfinished c (Freeing k) e = refl
-runs-unfinished c (Turning k) e = refl
+runs-unfinished c x e = refl
 
 -- a loop that isn't over has turns
 pub loop-runs : (κ : Kind) (x : Stage) (i : ℕ) {k : ℕ} → κ ≡ Loop k i → is_over_at κ x ≡ false → None ≡ turns_of x → ⊥

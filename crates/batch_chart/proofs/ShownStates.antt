@@ -1,28 +1,27 @@
 -- The states that acts show, as the stages tell them.
 use Rattle.std.proofs.Common.{◌≡◌, ◌≢◌, ◌⊎◌, inl, inr, ◌<◌, ◌≤◌, ℕ, suc, ◌+◌, List, [], ◌∷◌, length, Bool, true, false, Some, None, nat_eq, arith, refl, sym, ◌∙◌, subst, ap, ap₂}
-use Rattle.std.specs.Prelude.{Option, not, map, find, ◌||◌, ⊤}
+use Rattle.std.specs.Prelude.{Option, not, map, find, ⊤}
 use Rattle.std.proofs.Math.Bool.{cond}
 use Rattle.std.proofs.lemmas.Bool.Decides.{eqb_tells}
 use Rattle.batch_matrix.specs.declared.state.State.{State}
 use Rattle.batch_matrix.specs.declared.state.State.TheVariants.{Idle}
 use Rattle.batch_matrix.specs.Matrix.{same_state}
 use Rattle.batch_recipe.specs.Nodes.{node_count}
-use Rattle.batch_recipe.specs.Tree.{Place, Step, Phase, Task, runs, follows, Tree, act, skip, seq, par, sel, loop, Trees, no_trees, tree, Choices, otherwise, choice}
+use Rattle.batch_recipe.specs.Tree.{Place, Step, Task, runs, follows, Tree, act, skip, seq, par, sel, loop, Trees, no_trees, tree, Choices, otherwise, choice}
 use Rattle.batch_recipe.proofs.Order.{in_order}
 use Rattle.batch_model.specs.ActStates.{root, steps, act_state, state_in}
 use Rattle.batch_model.specs.Lists.{Has}
 use Rattle.batch_model.specs.Moves.{is_empty}
 use Rattle.batch_model.proofs.Members.{Has-split}
 use Rattle.batch_model.specs.Plant.{Batch, phase_states}
-use Rattle.batch_model.specs.Rest.{same_place, Rest, ready, asking, open_act, live, freeing, in_seq, in_par, in_loop, done, acts, is_done, place_of}
+use Rattle.batch_model.specs.Rest.{same_place, Rest, live, acts, is_done, place_of}
 use Rattle.batch_recipe.specs.declared.entry.Entry.{Entry}
 use Rattle.batch_chart.specs.declared.node.Kind.{Kind}
 use Rattle.batch_chart.specs.declared.node.Kind.TheVariants as kind
 use Rattle.batch_recipe.specs.declared.recipe.Recipe.{Recipe}
 use Rattle.batch_chart.specs.declared.stage.Stage.{Stage}
 use Rattle.batch_chart.specs.declared.stage.Stage.TheVariants as stage
-use Rattle.batch_chart.specs.Finding as wanted
-use Rattle.batch_chart.specs.Finding.{Wanted, wants, first_of}
+use Rattle.batch_chart.specs.Nexts.{first_of}
 use Rattle.batch_chart.specs.Stages.{stage_at, is_begun, is_finished, turns_of}
 use Rattle.batch_chart.specs.Meaning.{act_as, meaning, meaning_below}
 use Rattle.batch_chart.specs.Outlined.{end_at, kind_at, is_act_kind, Stands, StandsAct, AreStanding, AreChoices}
@@ -39,11 +38,12 @@ use Rattle.batch_chart.specs.Showing.{is_among, shown_by, StandsBelow, IsFirstSh
 use Rattle.batch_chart.proofs.Found.{nothing, numbered-acts}
 use Rattle.batch_chart.proofs.Giving.{below-told, below-first}
 use Rattle.batch_chart.proofs.Named.{entry-or-not}
-use Rattle.batch_chart.proofs.Picking.{noted-alike}
-use Rattle.batch_chart.proofs.Sought.{Says, said-live, said-in, says-any, open-shows}
+use Rattle.batch_chart.proofs.Picking.{noted-alike, other-number}
+use Rattle.batch_chart.proofs.Sought.{Says, any_live, live_as, said-live, said-in, live-shows, open-shows}
 use Rattle.batch_chart.proofs.Wanting.{tells-none, nothing-shown}
 use Rattle.batch_chart.proofs.Gravest.{gravest_states, gravest-is}
-use Rattle.batch_chart.proofs.Joining.{no-live, known}
+use Rattle.batch_chart.proofs.Joining.{live-nothing, no-live, known}
+use Rattle.batch_chart.proofs.Live.{live-known}
 use Rattle.batch_chart.proofs.NodesStand.{node-got, node-stands}
 use Rattle.batch_chart.proofs.Numbering.{told, has-entry, if-begun, either, if-turning}
 use Rattle.batch_chart.proofs.StepsOf.{steps-of, own_step, step_in, unreached, step-found}
@@ -53,29 +53,6 @@ use Rattle.batch_chart.proofs.Waiting.{carries}
 flip : (a b : Bool) → not a ≡ b → a ≡ not b
 flip a b e = grind arith
 
--- a live phase in a state is found where one has it
-
-in-step : (t : Bool) (n : ℕ) (o : Option ℕ) (u : Bool) → nothing o ≡ not u → nothing (elim t as (λ _. Option ℕ) [ true ↦ Some n | false ↦ o ]) ≡ not (t || u)
-in-step true n o u e = refl
-in-step false n o u e = e
-
-in-live : (y : State) (l : List (ℕ × Rest)) → nothing (first_of (wants (wanted.In y)) l) ≡ not (is_among (phase_states (map (λ (z : ℕ × Rest). z.1) l)) y)
-in-live y [] = refl
-in-live y ((k, ready s w i) ∷ l) = in-live y l
-in-live y ((k, asking s w i) ∷ l) = in-live y l
-in-live y ((k, open_act s r) ∷ l) = in-live y l
-in-live y ((k, live s p x) ∷ l) = in-step (same_state x y) k (first_of (wants (wanted.In y)) l) (is_among (phase_states (map (λ (z : ℕ × Rest). z.1) l)) y) (in-live y l)
-in-live y ((k, freeing s i) ∷ l) = in-live y l
-in-live y ((k, in_seq r cs) ∷ l) = in-live y l
-in-live y ((k, in_par rs) ∷ l) = in-live y l
-in-live y ((k, in_loop n c body r) ∷ l) = in-live y l
-in-live y ((k, done) ∷ l) = in-live y l
-
--- a live act is that of a live stage
-live-stage : (y : Stage) (s : Step) (w : Task) (r : Rest) (u : Step) (p : Phase) (x : State) → act_as s w r y ≡ live u p x → y ≡ stage.Live x
-live-stage (stage.Live z) s (runs v) r u p x e = let f : z ≡ x = cc in ap stage.Live f
-live-stage x1 x2 x3 x4 x5 x6 x7 x8 = absurd (grind arith)
-
 -- an act at one of these stages runs
 abbrev IsUp : Stage → Type 0
 IsUp stage.Open = ⊤
@@ -84,22 +61,15 @@ IsUp _ = ⊥
 
 -- one that runs shows that it is an act
 signed : (s : Step) (w : Task) (r : Rest) (x : Stage) (over : Bool) → is_finished x ≡ is_done (act_as s w r x) → IsUp x → shows IS_ACT (step_shows (length s.needs) w x over) ≡ true
-signed s (runs p) r (stage.Live y) over t u = sym (says-any 0 (live s p y))
-signed s (follows name c) r stage.Open over t u = open-shows (length s.needs) over
+signed s (runs p) r (stage.Live y) over t u = live-shows IS_ACT (length s.needs) y
+signed s (follows name c) r stage.Open over t u = open-shows IS_ACT (length s.needs) over
 signed x1 x2 x3 x4 x5 x6 x7 = absurd (grind arith)
-
-no-number : (n k : ℕ) → n ≢ k → nat_eq n k ≡ false
-no-number n k ne = elim (eqb_tells n k) [ inl q ↦ absurd (ne q.1) | inr q ↦ q.0 ]
 
 -- no act has a kind that isn't one of an act
 unfit : (κ : Kind) (s : Step) (w : Task) → is_act_kind κ ≡ false → Fits κ s w → ⊥
 unfit (kind.Phase j i) s w e h = cc
 unfit (kind.Act j) s w e h = cc
-unfit kind.Skip s w e h = h
-unfit kind.Seq s w e h = h
-unfit kind.Par s w e h = h
-unfit (kind.Sel i) s w e h = h
-unfit (kind.Loop i j) s w e h = h
+unfit x s w e h = h
 
 -- what an act shows at its stage
 
@@ -169,7 +139,7 @@ module _ (ns : List Entry) (doc : Recipe) (xs : List Stage) where
     pub within : k < length ns
     pub staged : stage_at xs k ≡ stage.Live own
 
-  first-live : (l : List (ℕ × Rest)) → ((e : ℕ × Rest) → Has l e → IsStaged e) → (k : ℕ) → Some k ≡ first_of (wants wanted.Live) l → IsFirstLive l k
+  first-live : (l : List (ℕ × Rest)) → ((e : ℕ × Rest) → Has l e → IsStaged e) → (k : ℕ) → Some k ≡ first_of any_live l → IsFirstLive l k
   first-live [] g k e = absurd (cc)
   first-live ((j, live s p x) ∷ l) g k e =
       let same : j ≡ k = cc in
@@ -179,19 +149,9 @@ module _ (ns : List Entry) (doc : Recipe) (xs : List Stage) where
         others = phase_states (map (λ (z : ℕ × Rest). z.1) l);
         states = refl;
         within = subst (λ i. i < length ns) same h.0;
-        staged = subst (λ i. stage_at xs i ≡ stage.Live x) same (live-stage (stage_at xs j) h.1.0 h.1.1 h.1.2 s p x (sym h.1.3));
+        staged = subst (λ i. stage_at xs i ≡ stage.Live x) same (live-known (stage_at xs j) h.1.0 h.1.1 h.1.2 s p x (sym h.1.3)).2;
       }
-  first-live ((j, ready s w i) ∷ l) g k e = skipped (first-live l (λ e h. g e (inr h)) k e)
-    where
-      skipped : IsFirstLive l k → IsFirstLive ((j, ready s w i) ∷ l) k
-      skipped h = record { own = h.own; others = h.others; states = h.states; within = h.within; staged = h.staged }
-  first-live ((j, asking s w i) ∷ l) g k e = (let h = first-live l (λ e h. g e (inr h)) k e in record { own = h.own; others = h.others; states = h.states; within = h.within; staged = h.staged })
-  first-live ((j, open_act s r) ∷ l) g k e = (let h = first-live l (λ e h. g e (inr h)) k e in record { own = h.own; others = h.others; states = h.states; within = h.within; staged = h.staged })
-  first-live ((j, freeing s i) ∷ l) g k e = (let h = first-live l (λ e h. g e (inr h)) k e in record { own = h.own; others = h.others; states = h.states; within = h.within; staged = h.staged })
-  first-live ((j, in_seq r cs) ∷ l) g k e = (let h = first-live l (λ e h. g e (inr h)) k e in record { own = h.own; others = h.others; states = h.states; within = h.within; staged = h.staged })
-  first-live ((j, in_par rs) ∷ l) g k e = (let h = first-live l (λ e h. g e (inr h)) k e in record { own = h.own; others = h.others; states = h.states; within = h.within; staged = h.staged })
-  first-live ((j, in_loop i c body r) ∷ l) g k e = (let h = first-live l (λ e h. g e (inr h)) k e in record { own = h.own; others = h.others; states = h.states; within = h.within; staged = h.staged })
-  first-live ((j, done) ∷ l) g k e = (let h = first-live l (λ e h. g e (inr h)) k e in record { own = h.own; others = h.others; states = h.states; within = h.within; staged = h.staged })
+  first-live (d ∷ l) g k e = (let h = first-live l (λ e h. g e (inr h)) k e in record { own = h.own; others = h.others; states = h.states; within = h.within; staged = h.staged })
 
   module _ (signs : List ℕ) (noted : SomeNoted ns doc xs signs) (n : ℕ) where
     abbrev states_in : Tree → List State
@@ -200,14 +160,14 @@ module _ (ns : List Entry) (doc : Recipe) (xs : List Stage) where
     mapped-states : (c : Tree) → phase_states (map (λ (z : ℕ × Rest). z.1) (numbered c (n + 1) xs)) ≡ states_in c
     mapped-states c = ap phase_states (numbered-acts xs c (n + 1))
 
-    told-below : (c : Tree) → StandsBelow ns doc n c → (w : Wanted) (m : ℕ) → Says w m → (b : Bool) → TellsNone signs m (n + 1) (end_at ns n) b → nothing (first_of (wants w) (numbered c (n + 1) xs)) ≡ b
-    told-below c h w m says b t = below-told ns doc xs signs noted.3 noted.4 c (n + 1) h.1 w m says b (subst (λ z. TellsNone signs m (n + 1) z b) h.0 t)
+    told-below : (c : Tree) → StandsBelow ns doc n c → (p : ℕ → Rest → Bool) (m : ℕ) → Says p m → (b : Bool) → TellsNone signs m (n + 1) (end_at ns n) b → nothing (first_of p (numbered c (n + 1) xs)) ≡ b
+    told-below c h p m says b t = below-told ns doc xs signs noted.3 noted.4 c (n + 1) h.1 p m says b (subst (λ z. TellsNone signs m (n + 1) z b) h.0 t)
 
     -- whether a state is among them is told by its sign
     found-among : (y : State) (b : Bool) (c : Tree) → TellsNone signs (state_sign y) (n + 1) (end_at ns n) b → StandsBelow ns doc n c → is_among (states_in c) y ≡ not b
     found-among y b c t h =
         flip (is_among (states_in c) y) b
-        (sym (ap (λ l. not (is_among l y)) (mapped-states c)) ∙ sym (in-live y (numbered c (n + 1) xs)) ∙ told-below c h (wanted.In y) (state_sign y) (said-in y) b t)
+        (sym (ap (λ l. not (is_among l y)) (mapped-states c)) ∙ sym (live-nothing (λ x. same_state x y) (numbered c (n + 1) xs)) ∙ told-below c h (live_as y) (state_sign y) (said-in y) b t)
 
     pub shown-none : (states : List State) → length states ≡ 0 → IsFirstShown ns doc n xs states None
     shown-none [] e = record { means = λ c h. refl }
@@ -231,7 +191,7 @@ module _ (ns : List Entry) (doc : Recipe) (xs : List Stage) where
     shows-batch : (x : State) → TellsNone signs LIVES (n + 1) (end_at ns n) true → IsShown ns doc n xs x x
     shows-batch x t = record {
       means = λ c h.
-          sym (ap (shown_by x) (no-states (states_in c) (sym (told-below c h wanted.Live LIVES said-live true t) ∙ no-live (numbered c (n + 1) xs) ∙ ap is_empty (mapped-states c))));
+          sym (ap (shown_by x) (no-states (states_in c) (sym (told-below c h any_live LIVES said-live true t) ∙ no-live (numbered c (n + 1) xs) ∙ ap is_empty (mapped-states c))));
     }
 
     pub shows-none : (x : State) → IsNextShown signs LIVES (n + 1) None → IsShown ns doc n xs x x
@@ -244,7 +204,7 @@ module _ (ns : List Entry) (doc : Recipe) (xs : List Stage) where
       live-at : (c : Tree) → StandsBelow ns doc n c → IsFirstLive (numbered c (n + 1) xs) k
       live-at c h =
           first-live (numbered c (n + 1) xs) (λ e m. staged c (n + 1) e h.1 m) k
-          (below-first ns doc xs signs noted.3 noted.4 c (n + 1) h.1 wanted.Live LIVES said-live k (subst (λ z. k < z) h.0 lt) found)
+          (below-first ns doc xs signs noted.3 noted.4 c (n + 1) h.1 any_live LIVES said-live k (subst (λ z. k < z) h.0 lt) found)
 
       gravest-of : (x : State) (o : Option State) (c : Tree) → StandsBelow ns doc n c → IsFirstShown ns doc n xs gravest_states o → (h : IsFirstLive (numbered c (n + 1) xs) k)
           → shown_by x (states_in c) ≡ elim o as (λ _. State) [ Some w ↦ w | None ↦ h.own ]
@@ -319,13 +279,11 @@ module _ (ns : List Entry) (doc : Recipe) (xs : List Stage) where
         ∙ step-found (nodes_of t) k (node_at t k) (in_order (0 ∷ []) [] t).1 (carries t (0 ∷ []) [] laid.placed) (node-got ns doc t laid k lt)
 
     shown-kind : (k : ℕ) (c : Tree) → Stands ns doc k c → unreached (own_step c) ≡ elim (is_act_kind (kind_at ns k)) as (λ _. Option State) [ true ↦ Some Idle | false ↦ None ]
-    shown-kind k (act s (runs p)) h = sym (ap (λ z. elim (is_act_kind z) as (λ _. Option State) [ true ↦ Some Idle | false ↦ None ]) h.1.1)
     shown-kind k (act s (follows name c)) h = sym (ap (λ z. elim (is_act_kind z) as (λ _. Option State) [ true ↦ Some Idle | false ↦ None ]) h.0.1)
     shown-kind k skip h = sym (ap (λ z. elim (is_act_kind z) as (λ _. Option State) [ true ↦ Some Idle | false ↦ None ]) h.1)
     shown-kind k (seq ts) h = sym (ap (λ z. elim (is_act_kind z) as (λ _. Option State) [ true ↦ Some Idle | false ↦ None ]) h.0.1)
     shown-kind k (par ts) h = sym (ap (λ z. elim (is_act_kind z) as (λ _. Option State) [ true ↦ Some Idle | false ↦ None ]) h.0.1)
-    shown-kind k (sel ch) h = sym (ap (λ z. elim (is_act_kind z) as (λ _. Option State) [ true ↦ Some Idle | false ↦ None ]) h.1.1)
-    shown-kind k (loop i p body) h = sym (ap (λ z. elim (is_act_kind z) as (λ _. Option State) [ true ↦ Some Idle | false ↦ None ]) h.1.1)
+    shown-kind k x h = sym (ap (λ z. elim (is_act_kind z) as (λ _. Option State) [ true ↦ Some Idle | false ↦ None ]) h.1.1)
 
     module _ (b : Batch) (k : ℕ) (lt : k < length ns) (tree_is : b.recipe.procedure ≡ t) (rest_is : b.rest ≡ meaning t 0 xs) where
       pub at-root : k ≡ 0 → state_in b (place_at t k) ≡ Some b.state
@@ -348,7 +306,7 @@ module _ (ns : List Entry) (doc : Recipe) (xs : List Stage) where
               | Some a ↦ Some (act_state b.state a)
               | None ↦ unreached (find (λ (s : Step). same_place s.place (place_at t k)) (steps b.recipe.procedure))
             ]
-          ]) (is-root k lt ∙ no-number k 0 ne)
+          ]) (is-root k lt ∙ other-number k 0 ne)
           ∙ ap₂ (λ l u. elim (find (there (place_at t k)) l) as (λ _. Option State) [ Some a ↦ Some (act_state b.state a) | None ↦ u ])
           (ap acts rest_is ∙ sym (numbered-acts xs t 0))
           (ap (λ z. unreached (find (λ (s : Step). same_place s.place (place_at t k)) (steps z))) tree_is ∙ step-at k lt)
@@ -425,10 +383,9 @@ module _ (ns : List Entry) (doc : Recipe) (xs : List Stage) where
         ap (shows IS_ACT) (neat.shown ∙ ap (λ z. step_shows (length s.needs) w z (is_finished (stage_at xs (k + 1)))) at)
         ∙ signed s w (meaning_below w (k + 1) xs) x (is_finished (stage_at xs (k + 1))) (ap is_finished (sym at) ∙ told.finished ∙ ap (λ z. is_done (act_as s w (meaning_below w (k + 1) xs) z)) at) up
     is-signed skip h neat told e x at up = absurd (let q : ◌≡◌ {A = Bool} false true = sym (ap is_act_kind h.1) ∙ e in cc)
-    is-signed (seq ts) h neat told e x at up = absurd (let q : ◌≡◌ {A = Bool} false true = sym (ap is_act_kind h.0.1) ∙ e in cc)
-    is-signed (par ts) h neat told e x at up = absurd (let q : ◌≡◌ {A = Bool} false true = sym (ap is_act_kind h.0.1) ∙ e in cc)
     is-signed (sel ch) h neat told e x at up = absurd (let q : ◌≡◌ {A = Bool} false true = sym (ap is_act_kind h.1.1) ∙ e in cc)
     is-signed (loop i p body) h neat told e x at up = absurd (let q : ◌≡◌ {A = Bool} false true = sym (ap is_act_kind h.1.1) ∙ e in cc)
+    is-signed y h neat told e x at up = absurd (let q : ◌≡◌ {A = Bool} false true = sym (ap is_act_kind h.0.1) ∙ e in cc)
 
     -- the whole answer, at the root and below it
     module _ (x : State) where

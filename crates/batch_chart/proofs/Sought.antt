@@ -1,15 +1,14 @@
--- What is wanted shows the signs that are sought.
-use Rattle.std.proofs.Common.{◌≡◌, ℕ, length, Bool, true, false, ◌&&◌, arith, refl, sym, ◌∙◌, ap, ap₂, nat_lt, nat_le}
+-- What acts show, form by form, and the tests of acts that signs tell.
+use Rattle.std.proofs.Common.{◌≡◌, ℕ, length, Bool, true, false, ◌&&◌, arith, refl, sym, ◌∙◌, ap, nat_lt, nat_le}
 use Rattle.std.specs.Prelude.{not, ◌||◌}
-use Rattle.std.specs.Int.Bits.{bit_or}
 use Rattle.std.proofs.lemmas.Bool.Decides.{nat_tests}
 use Rattle.batch_matrix.specs.declared.command.Command.{Command}
 use Rattle.batch_matrix.specs.declared.state.State.{State}
 use Rattle.batch_matrix.specs.Matrix.{accepts, same_state}
-use Rattle.batch_model.specs.Rest.{Rest, ready, asking, open_act, live, freeing, in_seq, in_par, in_loop, done, acts}
+use Rattle.batch_model.specs.Plant.{held_in}
+use Rattle.batch_model.specs.Rest.{Rest, ready, asking, open_act, live, freeing, acts}
 use Rattle.batch_model.specs.Moves.{is_empty}
-use Rattle.batch_chart.specs.declared.sign.TheConstants.{HOLDS, IS_ACT, LIVES}
-use Rattle.batch_chart.specs.Finding.{Wanted, wants, Any, Holding, LiveIn, Live, In, NotIn, Accepting, Freeing, Ending, Entering, Asking, Waiting}
+use Rattle.batch_chart.specs.declared.sign.TheConstants.{HOLDS, LIVES, WAITS}
 use Rattle.batch_chart.specs.Signs.{shows}
 use Rattle.batch_chart.specs.Noting.{but, gives, flag, state_sign, ready_signs, asking_signs, freeing_signs, live_signs, open_signs, signs_of, accepting}
 use Rattle.batch_chart.proofs.Wanting.{shows-or, nothing-shown}
@@ -18,46 +17,64 @@ shows-flag : (m s : ℕ) (b : Bool) → shows m (flag b s) ≡ (b && shows m s)
 shows-flag m s true = refl
 shows-flag m s false = nothing-shown m
 
-shows-three : (m a b s : ℕ) (x : Bool) → shows m (bit_or (bit_or a b) (flag x s)) ≡ ((shows m a || shows m b) || (x && shows m s))
-shows-three m a b s x = shows-or m (bit_or a b) (flag x s) ∙ ap₂ (λ y z. y || z) (shows-or m a b) (shows-flag m s x)
-
-shows-flags : (m a s t : ℕ) (x y : Bool) → shows m (bit_or (bit_or a (flag x s)) (flag y t)) ≡ ((shows m a || (x && shows m s)) || (y && shows m t))
-shows-flags m a s t x y = shows-three m a (flag x s) t y ∙ ap (λ z. (shows m a || z) || (y && shows m t)) (shows-flag m s x)
-
-shows-ready : (m needs k : ℕ) → shows m (ready_signs needs k)
+pub ready-shows : (m needs k : ℕ) → shows m (ready_signs needs k)
     ≡ (((shows m 64 || (nat_lt k needs && shows m 1)) || (nat_le needs k && shows m 2)) || ((nat_lt 0 k && nat_lt 0 needs) && shows m 32))
-shows-ready m needs k =
-    shows-or m (bit_or (bit_or 64 (flag (nat_lt k needs) 1)) (flag (nat_le needs k) 2)) (flag (nat_lt 0 k && nat_lt 0 needs) 32)
-    ∙ ap₂ (λ y z. y || z) (shows-flags m 64 1 2 (nat_lt k needs) (nat_le needs k)) (shows-flag m 32 (nat_lt 0 k && nat_lt 0 needs))
+ready-shows m needs k = simp (shows-or, shows-flag)
 
--- one flag of several tells, or all
+pub asking-shows : (m needs k : ℕ) → shows m (asking_signs needs k) ≡ ((shows m 64 || (nat_lt k needs && shows m 4)) || ((nat_lt 0 k && nat_lt 0 needs) && shows m 32))
+asking-shows m needs k = simp (shows-or, shows-flag)
 
-ready-all : (x y z : Bool) → true ≡ (((true || (x && false)) || (y && false)) || (z && false))
-ready-all x y z = refl
+pub open-shows : (m needs : ℕ) (over : Bool) → shows m (open_signs needs over) ≡ ((shows m 64 || (over && shows m 8)) || (nat_lt 0 needs && shows m 32))
+open-shows m needs over = simp (shows-or, shows-flag)
 
-flags-all : (x y : Bool) → true ≡ ((true || (x && false)) || (y && false))
-flags-all x y = refl
+pub live-shows : (m needs : ℕ) (x : State) → shows m (live_signs needs x) ≡ ((shows m 64 || shows m (state_sign x)) || (nat_lt 0 needs && shows m 32))
+live-shows m needs x = simp (shows-or, shows-flag)
 
-ready-first : (x y z : Bool) → x ≡ (((false || (x && true)) || (y && false)) || (z && false))
-ready-first x y z = grind arith
+pub freeing-shows : (m needs k : ℕ) → shows m (freeing_signs needs k) ≡ ((shows m 64 || (gives needs k && shows m 16)) || ((nat_lt 0 k && nat_lt 0 needs) && shows m 32))
+freeing-shows m needs k = simp (shows-or, shows-flag)
 
-ready-second : (x y z : Bool) → y ≡ (((false || (x && false)) || (y && true)) || (z && false))
-ready-second x y z = grind arith
+-- Tests of acts by number
 
-ready-third : (x y z : Bool) → z ≡ (((false || (x && false)) || (y && false)) || (z && true))
-ready-third x y z = grind arith
+-- those that show one of the signs
+abbrev pub showing : ℕ → ℕ → Rest → Bool
+showing m n r = shows m (signs_of r)
 
-ready-none : (x y z : Bool) → false ≡ (((false || (x && false)) || (y && false)) || (z && false))
-ready-none x y z = grind arith
+-- live phases in one of these states
+abbrev pub of_states : (State → Bool) → ℕ → Rest → Bool
+of_states q n (live s p x) = q x
+of_states q n _ = false
 
-flags-first : (x y : Bool) → x ≡ ((false || (x && true)) || (y && false))
-flags-first x y = grind arith
+abbrev pub any_live : ℕ → Rest → Bool
+any_live = of_states (λ x. true)
 
-flags-second : (x y : Bool) → y ≡ ((false || (x && false)) || (y && true))
-flags-second x y = grind arith
+abbrev pub live_as : State → ℕ → Rest → Bool
+live_as y = of_states (λ x. same_state x y)
 
-flags-none : (x y : Bool) → false ≡ ((false || (x && false)) || (y && false))
-flags-none x y = grind arith
+abbrev pub live_but : State → ℕ → Rest → Bool
+live_but y = of_states (λ x. not (same_state x y))
+
+-- those in line, from a number on
+
+abbrev pub waits : Rest → Bool
+waits (asking s w k) = nat_lt k (length s.needs)
+waits _ = false
+
+abbrev pub waits_from : ℕ → ℕ → Rest → Bool
+waits_from from n r = nat_le from n && waits r
+
+-- those that can give back a need while the batch stops
+abbrev pub gives_back : ℕ → Rest → Bool
+gives_back n (ready s w k) = gives (length s.needs) k
+gives_back n (open_act s r) = nat_lt 0 (length s.needs) && is_empty (held_in r)
+gives_back n (freeing s k) = gives (length s.needs) k
+gives_back n _ = false
+
+-- the signs tell the test
+abbrev pub Says : (ℕ → Rest → Bool) → ℕ → Type 0
+Says p m = (n : ℕ) (r : Rest) → p n r ≡ shows m (signs_of r)
+
+pub said-showing : (m : ℕ) → Says (showing m) m
+said-showing m n r = refl
 
 -- Signs of states
 
@@ -79,6 +96,9 @@ high-in x = record { act = grind arith; lacks = grind arith; fits = grind arith;
 high-but : (x : State) → IsHigh (but x)
 high-but x = record { act = grind arith; lacks = grind arith; fits = grind arith; waits = grind arith; over = grind arith; frees = grind arith; holds = grind arith }
 
+high-lives : IsHigh LIVES
+high-lives = record { act = refl; lacks = refl; fits = refl; waits = refl; over = refl; frees = refl; holds = refl }
+
 accepts-shown : (x : State) (c : Command) → accepts x c ≡ shows (accepting c) (state_sign x)
 accepts-shown x c = grind arith
 
@@ -91,99 +111,42 @@ in-shown y x = grind arith
 but-shown : (y x : State) → not (same_state x y) ≡ shows (but y) (state_sign x)
 but-shown y x = grind arith
 
--- a mask of states' signs
-
-none-ready : (a b c d x y z : Bool) → a ≡ false → b ≡ false → c ≡ false → d ≡ false → false ≡ (((a || (x && b)) || (y && c)) || (z && d))
-none-ready a b c d x y z e f g h = grind arith
-
-none-flags : (a b c x y : Bool) → a ≡ false → b ≡ false → c ≡ false → false ≡ ((a || (x && b)) || (y && c))
-none-flags a b c x y e f g = grind arith
-
-one-state : (a b c x : Bool) → a ≡ false → c ≡ false → b ≡ ((a || b) || (x && c))
-one-state a b c x e f = grind arith
-
-high-ready : (m : ℕ) → IsHigh m → (needs k : ℕ) → false ≡ shows m (ready_signs needs k)
-high-ready m h needs k = none-ready (shows m 64) (shows m 1) (shows m 2) (shows m 32) (nat_lt k needs) (nat_le needs k) (nat_lt 0 k && nat_lt 0 needs) h.act h.lacks h.fits h.holds ∙ sym (shows-ready m needs k)
-
-high-asking : (m : ℕ) → IsHigh m → (needs k : ℕ) → false ≡ shows m (asking_signs needs k)
-high-asking m h needs k = none-flags (shows m 64) (shows m 4) (shows m 32) (nat_lt k needs) (nat_lt 0 k && nat_lt 0 needs) h.act h.waits h.holds ∙ sym (shows-flags m 64 4 32 (nat_lt k needs) (nat_lt 0 k && nat_lt 0 needs))
-
-high-freeing : (m : ℕ) → IsHigh m → (needs k : ℕ) → false ≡ shows m (freeing_signs needs k)
-high-freeing m h needs k = none-flags (shows m 64) (shows m 16) (shows m 32) (gives needs k) (nat_lt 0 k && nat_lt 0 needs) h.act h.frees h.holds ∙ sym (shows-flags m 64 16 32 (gives needs k) (nat_lt 0 k && nat_lt 0 needs))
-
-high-open : (m : ℕ) → IsHigh m → (needs : ℕ) (over : Bool) → false ≡ shows m (open_signs needs over)
-high-open m h needs over = none-flags (shows m 64) (shows m 8) (shows m 32) over (nat_lt 0 needs) h.act h.over h.holds ∙ sym (shows-flags m 64 8 32 over (nat_lt 0 needs))
-
-high-live : (m : ℕ) → IsHigh m → (needs : ℕ) (x : State) → shows m (state_sign x) ≡ shows m (live_signs needs x)
-high-live m h needs x = one-state (shows m 64) (shows m (state_sign x)) (shows m 32) (nat_lt 0 needs) h.act h.holds ∙ sym (shows-three m 64 (state_sign x) 32 (nat_lt 0 needs))
-
-high-lives : IsHigh LIVES
-high-lives = record { act = refl; lacks = refl; fits = refl; waits = refl; over = refl; frees = refl; holds = refl }
-
-abbrev pub Says : Wanted → ℕ → Type 0
-Says w m = (n : ℕ) (r : Rest) → wants w n r ≡ shows m (signs_of r)
+open-high : (m : ℕ) → IsHigh m → (needs : ℕ) (over : Bool) → shows m (open_signs needs over) ≡ false
+open-high m h needs over = open-shows m needs over ∙ grind (arith, h.act, h.over, h.holds)
 
 -- live phases in some states are those that show one of the states' signs
-said-states : (q : State → Bool) (m : ℕ) → IsHigh m → ((x : State) → q x ≡ shows m (state_sign x)) → Says (LiveIn q) m
-said-states q m h e n (ready s w k) = high-ready m h (length s.needs) k
-said-states q m h e n (asking s w k) = high-asking m h (length s.needs) k
-said-states q m h e n (open_act s r) = high-open m h (length s.needs) (is_empty (acts r))
-said-states q m h e n (live s p x) = e x ∙ high-live m h (length s.needs) x
-said-states q m h e n (freeing s k) = high-freeing m h (length s.needs) k
-said-states q m h e n (in_seq r cs) = sym (nothing-shown m)
-said-states q m h e n (in_par rs) = sym (nothing-shown m)
-said-states q m h e n (in_loop i c body r) = sym (nothing-shown m)
-said-states q m h e n done = sym (nothing-shown m)
+said-states : (q : State → Bool) (m : ℕ) → IsHigh m → ((x : State) → q x ≡ shows m (state_sign x)) → Says (of_states q) m
+said-states q m h e n (ready s w k) = sym (ready-shows m (length s.needs) k ∙ grind (arith, h.act, h.lacks, h.fits, h.holds))
+said-states q m h e n (asking s w k) = sym (asking-shows m (length s.needs) k ∙ grind (arith, h.act, h.waits, h.holds))
+said-states q m h e n (open_act s r) = sym (open-high m h (length s.needs) (is_empty (acts r)))
+said-states q m h e n (live s p x) = e x ∙ sym (live-shows m (length s.needs) x ∙ grind (arith, h.act, h.holds))
+said-states q m h e n (freeing s k) = sym (freeing-shows m (length s.needs) k ∙ grind (arith, h.act, h.frees, h.holds))
+said-states q m h e n r = sym (nothing-shown m)
 
-pub said-live : Says Live LIVES
+pub said-live : Says any_live LIVES
 said-live = said-states (λ x. true) LIVES high-lives lives-shown
 
-pub said-accepting : (c : Command) → Says (Accepting c) (accepting c)
+pub said-accepting : (c : Command) → Says (of_states (λ x. accepts x c)) (accepting c)
 said-accepting c = said-states (λ x. accepts x c) (accepting c) (high-accepting c) (λ x. accepts-shown x c)
 
-pub said-in : (y : State) → Says (In y) (state_sign y)
+pub said-in : (y : State) → Says (live_as y) (state_sign y)
 said-in y = said-states (λ x. same_state x y) (state_sign y) (high-in y) (in-shown y)
 
-pub said-but : (y : State) → Says (NotIn y) (but y)
+pub said-but : (y : State) → Says (live_but y) (but y)
 said-but y = said-states (λ x. not (same_state x y)) (but y) (high-but y) (but-shown y)
 
-pub open-shows : (needs : ℕ) (over : Bool) → shows IS_ACT (open_signs needs over) ≡ true
-open-shows needs over = shows-flags 64 64 8 32 over (nat_lt 0 needs) ∙ sym (flags-all over (nat_lt 0 needs))
+-- no state has one of the other signs
 
-pub says-any : (n : ℕ) (r : Rest) → wants Any n r ≡ shows 64 (signs_of r)
-says-any n (ready s w k) = ready-all (nat_lt k (length s.needs)) (nat_le (length s.needs) k) (nat_lt 0 k && nat_lt 0 (length s.needs)) ∙ sym (shows-ready 64 (length s.needs) k)
-says-any n (asking s w k) = flags-all (nat_lt k (length s.needs)) (nat_lt 0 k && nat_lt 0 (length s.needs)) ∙ sym (shows-flags 64 64 4 32 (nat_lt k (length s.needs)) (nat_lt 0 k && nat_lt 0 (length s.needs)))
-says-any n (open_act s r) = flags-all (is_empty (acts r)) (nat_lt 0 (length s.needs)) ∙ sym (shows-flags 64 64 8 32 (is_empty (acts r)) (nat_lt 0 (length s.needs)))
-says-any n (live s p x) = sym (shows-three 64 64 (state_sign x) 32 (nat_lt 0 (length s.needs)))
-says-any n (freeing s k) = flags-all (gives (length s.needs) k) (nat_lt 0 k && nat_lt 0 (length s.needs)) ∙ sym (shows-flags 64 64 16 32 (gives (length s.needs) k) (nat_lt 0 k && nat_lt 0 (length s.needs)))
-says-any n (in_seq r cs) = refl
-says-any n (in_par rs) = refl
-says-any n (in_loop i q body r) = refl
-says-any n done = refl
-
--- no state has one of the low signs
-low-state : (m : ℕ) → ((x : State) → shows m (state_sign x) ≡ false) → shows m 64 ≡ false → (needs : ℕ) (x : State) → (nat_lt 0 needs && shows m 32) ≡ shows m (live_signs needs x)
-low-state m h e needs x = go (shows m 64) (shows m (state_sign x)) (nat_lt 0 needs && shows m 32) e (h x) ∙ sym (shows-three m 64 (state_sign x) 32 (nat_lt 0 needs))
-  where
-    go : (a b c : Bool) → a ≡ false → b ≡ false → c ≡ ((a || b) || c)
-    go x1 x2 x3 x4 x5 = grind arith
-
-and-true : (b : Bool) → b ≡ (b && true)
-and-true b = grind arith
-
-and-false : (b : Bool) → false ≡ (b && false)
-and-false b = grind arith
-
-low-1 : (x : State) → shows 1 (state_sign x) ≡ false
+pub low-1 : (x : State) → shows 1 (state_sign x) ≡ false
 low-1 x = grind arith
 
 low-4 : (x : State) → shows 4 (state_sign x) ≡ false
 low-4 x = grind arith
 
-low-8 : (x : State) → shows 8 (state_sign x) ≡ false
+pub low-8 : (x : State) → shows 8 (state_sign x) ≡ false
 low-8 x = grind arith
 
-low-10 : (x : State) → shows 10 (state_sign x) ≡ false
+pub low-10 : (x : State) → shows 10 (state_sign x) ≡ false
 low-10 x = grind arith
 
 low-16 : (x : State) → shows 16 (state_sign x) ≡ false
@@ -192,78 +155,53 @@ low-16 x = grind arith
 low-32 : (x : State) → shows 32 (state_sign x) ≡ false
 low-32 x = grind arith
 
-pub said-holding : Says Holding HOLDS
-said-holding n (ready s w k) = ready-third (nat_lt k (length s.needs)) (nat_le (length s.needs) k) (nat_lt 0 k && nat_lt 0 (length s.needs)) ∙ sym (shows-ready 32 (length s.needs) k)
-said-holding n (asking s w k) = flags-second (nat_lt k (length s.needs)) (nat_lt 0 k && nat_lt 0 (length s.needs)) ∙ sym (shows-flags 32 64 4 32 (nat_lt k (length s.needs)) (nat_lt 0 k && nat_lt 0 (length s.needs)))
-said-holding n (open_act s r) = flags-second (is_empty (acts r)) (nat_lt 0 (length s.needs)) ∙ sym (shows-flags 32 64 8 32 (is_empty (acts r)) (nat_lt 0 (length s.needs)))
-said-holding n (live s p x) = and-true (nat_lt 0 (length s.needs)) ∙ low-state 32 low-32 refl (length s.needs) x
-said-holding n (freeing s k) = flags-second (gives (length s.needs) k) (nat_lt 0 k && nat_lt 0 (length s.needs)) ∙ sym (shows-flags 32 64 16 32 (gives (length s.needs) k) (nat_lt 0 k && nat_lt 0 (length s.needs)))
-said-holding n (in_seq r cs) = refl
-said-holding n (in_par rs) = refl
-said-holding n (in_loop i q body r) = refl
-said-holding n done = refl
+pub open-lacks : (needs : ℕ) (over : Bool) → shows 1 (open_signs needs over) ≡ false
+open-lacks needs over = open-shows 1 needs over ∙ grind arith
 
-pub said-freeing : Says Freeing 16
-said-freeing n (ready s w k) = ready-none (nat_lt k (length s.needs)) (nat_le (length s.needs) k) (nat_lt 0 k && nat_lt 0 (length s.needs)) ∙ sym (shows-ready 16 (length s.needs) k)
-said-freeing n (asking s w k) = flags-none (nat_lt k (length s.needs)) (nat_lt 0 k && nat_lt 0 (length s.needs)) ∙ sym (shows-flags 16 64 4 32 (nat_lt k (length s.needs)) (nat_lt 0 k && nat_lt 0 (length s.needs)))
-said-freeing n (open_act s r) = flags-none (is_empty (acts r)) (nat_lt 0 (length s.needs)) ∙ sym (shows-flags 16 64 8 32 (is_empty (acts r)) (nat_lt 0 (length s.needs)))
-said-freeing n (live s p x) = and-false (nat_lt 0 (length s.needs)) ∙ low-state 16 low-16 refl (length s.needs) x
-said-freeing n (freeing s k) = flags-first (gives (length s.needs) k) (nat_lt 0 k && nat_lt 0 (length s.needs)) ∙ sym (shows-flags 16 64 16 32 (gives (length s.needs) k) (nat_lt 0 k && nat_lt 0 (length s.needs)))
-said-freeing n (in_seq r cs) = refl
-said-freeing n (in_par rs) = refl
-said-freeing n (in_loop i q body r) = refl
-said-freeing n done = refl
+pub open-frees : (needs : ℕ) (over : Bool) → shows 16 (open_signs needs over) ≡ false
+open-frees needs over = open-shows 16 needs over ∙ grind arith
 
-pub said-ending : Says Ending 8
-said-ending n (ready s w k) = ready-none (nat_lt k (length s.needs)) (nat_le (length s.needs) k) (nat_lt 0 k && nat_lt 0 (length s.needs)) ∙ sym (shows-ready 8 (length s.needs) k)
-said-ending n (asking s w k) = flags-none (nat_lt k (length s.needs)) (nat_lt 0 k && nat_lt 0 (length s.needs)) ∙ sym (shows-flags 8 64 4 32 (nat_lt k (length s.needs)) (nat_lt 0 k && nat_lt 0 (length s.needs)))
-said-ending n (open_act s r) = flags-first (is_empty (acts r)) (nat_lt 0 (length s.needs)) ∙ sym (shows-flags 8 64 8 32 (is_empty (acts r)) (nat_lt 0 (length s.needs)))
-said-ending n (live s p x) = and-false (nat_lt 0 (length s.needs)) ∙ low-state 8 low-8 refl (length s.needs) x
-said-ending n (freeing s k) = flags-none (gives (length s.needs) k) (nat_lt 0 k && nat_lt 0 (length s.needs)) ∙ sym (shows-flags 8 64 16 32 (gives (length s.needs) k) (nat_lt 0 k && nat_lt 0 (length s.needs)))
-said-ending n (in_seq r cs) = refl
-said-ending n (in_par rs) = refl
-said-ending n (in_loop i q body r) = refl
-said-ending n done = refl
+pub live-frees : (needs : ℕ) (x : State) → shows 16 (live_signs needs x) ≡ false
+live-frees needs x = live-shows 16 needs x ∙ grind (arith, low-16 x)
 
-pub said-entering : Says Entering 10
-said-entering n (ready s w k) = ready-second (nat_lt k (length s.needs)) (nat_le (length s.needs) k) (nat_lt 0 k && nat_lt 0 (length s.needs)) ∙ sym (shows-ready 10 (length s.needs) k)
-said-entering n (asking s w k) = flags-none (nat_lt k (length s.needs)) (nat_lt 0 k && nat_lt 0 (length s.needs)) ∙ sym (shows-flags 10 64 4 32 (nat_lt k (length s.needs)) (nat_lt 0 k && nat_lt 0 (length s.needs)))
-said-entering n (open_act s r) = flags-first (is_empty (acts r)) (nat_lt 0 (length s.needs)) ∙ sym (shows-flags 10 64 8 32 (is_empty (acts r)) (nat_lt 0 (length s.needs)))
-said-entering n (live s p x) = and-false (nat_lt 0 (length s.needs)) ∙ low-state 10 low-10 refl (length s.needs) x
-said-entering n (freeing s k) = flags-none (gives (length s.needs) k) (nat_lt 0 k && nat_lt 0 (length s.needs)) ∙ sym (shows-flags 10 64 16 32 (gives (length s.needs) k) (nat_lt 0 k && nat_lt 0 (length s.needs)))
-said-entering n (in_seq r cs) = refl
-said-entering n (in_par rs) = refl
-said-entering n (in_loop i q body r) = refl
-said-entering n done = refl
+pub freeing-frees : (needs k : ℕ) → shows 16 (freeing_signs needs k) ≡ gives needs k
+freeing-frees needs k = freeing-shows 16 needs k ∙ first (gives needs k) (nat_lt 0 k && nat_lt 0 needs)
+  where
+    first : (x y : Bool) → ((false || (x && true)) || (y && false)) ≡ x
+    first x y = grind arith
 
-pub said-asking : Says Asking 1
-said-asking n (ready s w k) = ready-first (nat_lt k (length s.needs)) (nat_le (length s.needs) k) (nat_lt 0 k && nat_lt 0 (length s.needs)) ∙ sym (shows-ready 1 (length s.needs) k)
-said-asking n (asking s w k) = flags-none (nat_lt k (length s.needs)) (nat_lt 0 k && nat_lt 0 (length s.needs)) ∙ sym (shows-flags 1 64 4 32 (nat_lt k (length s.needs)) (nat_lt 0 k && nat_lt 0 (length s.needs)))
-said-asking n (open_act s r) = flags-none (is_empty (acts r)) (nat_lt 0 (length s.needs)) ∙ sym (shows-flags 1 64 8 32 (is_empty (acts r)) (nat_lt 0 (length s.needs)))
-said-asking n (live s p x) = and-false (nat_lt 0 (length s.needs)) ∙ low-state 1 low-1 refl (length s.needs) x
-said-asking n (freeing s k) = flags-none (gives (length s.needs) k) (nat_lt 0 k && nat_lt 0 (length s.needs)) ∙ sym (shows-flags 1 64 16 32 (gives (length s.needs) k) (nat_lt 0 k && nat_lt 0 (length s.needs)))
-said-asking n (in_seq r cs) = refl
-said-asking n (in_par rs) = refl
-said-asking n (in_loop i q body r) = refl
-said-asking n done = refl
+-- who holds something
 
-from-none : (a : Bool) → false ≡ (a && false)
-from-none true = refl
-from-none false = refl
+pub ready-holds : (needs k : ℕ) → shows HOLDS (ready_signs needs k) ≡ (nat_lt 0 k && nat_lt 0 needs)
+ready-holds needs k = ready-shows 32 needs k ∙ grind arith
 
-pub said-waiting : (from n : ℕ) (r : Rest) → wants (Waiting from) n r ≡ (nat_le from n && shows 4 (signs_of r))
-said-waiting from n (ready s w k) = from-none (nat_le from n) ∙ ap (λ z. nat_le from n && z) (ready-none (nat_lt k (length s.needs)) (nat_le (length s.needs) k) (nat_lt 0 k && nat_lt 0 (length s.needs)) ∙ sym (shows-ready 4 (length s.needs) k))
-said-waiting from n (asking s w k) = ap (λ z. nat_le from n && z) (flags-first (nat_lt k (length s.needs)) (nat_lt 0 k && nat_lt 0 (length s.needs)) ∙ sym (shows-flags 4 64 4 32 (nat_lt k (length s.needs)) (nat_lt 0 k && nat_lt 0 (length s.needs))))
-said-waiting from n (open_act s r) = from-none (nat_le from n) ∙ ap (λ z. nat_le from n && z) (flags-none (is_empty (acts r)) (nat_lt 0 (length s.needs)) ∙ sym (shows-flags 4 64 8 32 (is_empty (acts r)) (nat_lt 0 (length s.needs))))
-said-waiting from n (live s p x) = from-none (nat_le from n) ∙ ap (λ z. nat_le from n && z) (and-false (nat_lt 0 (length s.needs)) ∙ low-state 4 low-4 refl (length s.needs) x)
-said-waiting from n (freeing s k) = from-none (nat_le from n) ∙ ap (λ z. nat_le from n && z) (flags-none (gives (length s.needs) k) (nat_lt 0 k && nat_lt 0 (length s.needs)) ∙ sym (shows-flags 4 64 16 32 (gives (length s.needs) k) (nat_lt 0 k && nat_lt 0 (length s.needs))))
-said-waiting from n (in_seq r cs) = from-none (nat_le from n)
-said-waiting from n (in_par rs) = from-none (nat_le from n)
-said-waiting from n (in_loop i q body r) = from-none (nat_le from n)
-said-waiting from n done = from-none (nat_le from n)
+pub asking-holds : (needs k : ℕ) → shows HOLDS (asking_signs needs k) ≡ (nat_lt 0 k && nat_lt 0 needs)
+asking-holds needs k = asking-shows 32 needs k ∙ grind arith
+
+pub open-holds : (needs : ℕ) (over : Bool) → shows HOLDS (open_signs needs over) ≡ nat_lt 0 needs
+open-holds needs over = open-shows 32 needs over ∙ grind arith
+
+pub live-holds : (needs : ℕ) (x : State) → shows HOLDS (live_signs needs x) ≡ nat_lt 0 needs
+live-holds needs x = live-shows 32 needs x ∙ grind (arith, low-32 x)
+
+pub freeing-holds : (needs k : ℕ) → shows HOLDS (freeing_signs needs k) ≡ (nat_lt 0 k && nat_lt 0 needs)
+freeing-holds needs k = freeing-shows 32 needs k ∙ grind arith
+
+-- who stands in line
+
+waits-shown : (r : Rest) → shows WAITS (signs_of r) ≡ waits r
+waits-shown (ready s w k) = ready-shows 4 (length s.needs) k ∙ grind arith
+waits-shown (asking s w k) = asking-shows 4 (length s.needs) k ∙ grind arith
+waits-shown (open_act s r) = open-shows 4 (length s.needs) (is_empty (acts r)) ∙ grind arith
+waits-shown (live s p x) = live-shows 4 (length s.needs) x ∙ grind (arith, low-4 x)
+waits-shown (freeing s k) = freeing-shows 4 (length s.needs) k ∙ grind arith
+waits-shown r = refl
+
+pub said-waiting : (from n : ℕ) (r : Rest) → waits_from from n r ≡ (nat_le from n && shows WAITS (signs_of r))
+said-waiting from n r = ap (λ z. nat_le from n && z) (sym (waits-shown r))
 
 from-first : (n : ℕ) (b : Bool) → b ≡ (nat_le 0 n && b)
 from-first n b = grind (arith, nat_tests)
 
-pub says-all : (w : Wanted) (m : ℕ) → Says w m → (n : ℕ) (r : Rest) → wants w n r ≡ (nat_le 0 n && shows m (signs_of r))
-says-all w m h n r = h n r ∙ from-first n (shows m (signs_of r))
+pub says-all : (p : ℕ → Rest → Bool) (m : ℕ) → Says p m → (n : ℕ) (r : Rest) → p n r ≡ (nat_le 0 n && shows m (signs_of r))
+says-all p m h n r = h n r ∙ from-first n (shows m (signs_of r))

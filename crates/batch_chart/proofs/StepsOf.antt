@@ -62,11 +62,7 @@ own-place m s h e = go m.here refl e
   where
     go : (c : Tree) → m.here ≡ c → own_step c ≡ Some s → s.place ≡ m.place
     go (act u w) f e = (let g : u ≡ s = cc in h s w (f ∙ ap (λ z. act z w) g))
-    go skip f e = absurd (cc)
-    go (seq ts) f e = absurd (cc)
-    go (par ts) f e = absurd (cc)
-    go (sel ch) f e = absurd (cc)
-    go (loop i p body) f e = absurd (cc)
+    go x f e = absurd (cc)
 
 -- a node at another place gives none at this one
 passed-by : (p : Place) (m : nodes.Node) (l : List Step) → CarriesPlace m → same_place m.place p ≡ false → find (at_place p) (cons_option (step_in m) l) ≡ find (at_place p) l

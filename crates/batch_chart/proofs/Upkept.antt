@@ -4,14 +4,13 @@ use Rattle.std.specs.Prelude.{slice_set, ⊤}
 use Rattle.batch_matrix.specs.declared.state.State.{State}
 use Rattle.batch_matrix.specs.declared.command.Command.{Command}
 use Rattle.batch_recipe.specs.Nodes.{node_count}
-use Rattle.batch_recipe.specs.Tree.{Step, Task, runs, follows, Tree, act}
+use Rattle.batch_recipe.specs.Tree.{Task, follows, Tree, act}
 use Rattle.batch_recipe.specs.declared.entry.Entry.{Entry}
 use Rattle.batch_chart.specs.declared.node.Kind.{Kind}
-use Rattle.batch_chart.specs.declared.node.Kind.TheVariants.{Skip, Act, Seq, Par, Sel, Loop}
-use Rattle.batch_chart.specs.declared.node.Kind.TheVariants as kind
+use Rattle.batch_chart.specs.declared.node.Kind.TheVariants.{Act}
 use Rattle.batch_recipe.specs.declared.recipe.Recipe.{Recipe}
 use Rattle.batch_chart.specs.declared.stage.Stage.{Stage}
-use Rattle.batch_chart.specs.declared.stage.Stage.TheVariants.{Finished, Ready, Asking, Open, Live, Freeing, Turning}
+use Rattle.batch_chart.specs.declared.stage.Stage.TheVariants.{Ready, Asking, Open, Live, Freeing}
 use Rattle.batch_chart.specs.declared.chart_move.Move.{Move}
 use Rattle.batch_chart.specs.declared.chart_move.Move.TheVariants as move
 use Rattle.batch_chart.specs.Stages.{stage_at, is_finished, is_begun}
@@ -20,13 +19,13 @@ use Rattle.batch_chart.specs.Meaning.{AgreeOutside}
 use Rattle.batch_chart.specs.Neat.{AllFinished, act_shows, shown_of, step_shows, IsNeat, AreNeat, SignsOutside, IsReachedNeatly, AreBlank}
 use Rattle.batch_chart.specs.Needs.{needs_of}
 use Rattle.batch_chart.specs.Noting.{stage_signs, open_signs, HasCome}
-use Rattle.batch_chart.specs.Running.{Allows, CanRelease, HasMore, IsLaid, IsLiveAt, IsAskingAt, SomeLives}
+use Rattle.batch_chart.specs.Running.{Allows, CanRelease, IsLaid, IsLiveAt, IsAskingAt, SomeLives}
 use Rattle.batch_chart.specs.Signs.{sign_at}
 use Rattle.batch_chart.specs.Upkeep.{IsKeptUp}
 use Rattle.batch_chart.proofs.Agreeing.{stage-set_same, stage-set_other}
 use Rattle.batch_chart.proofs.Neat.{finished-shows, neat-after, neat-one, neat-part, neat-same}
 use Rattle.batch_chart.proofs.Standing.{count-pos, stood, some-stands, ActAt, act_at, act-at}
-use Rattle.batch_chart.proofs.Stepping.{Fits, act-here}
+use Rattle.batch_chart.proofs.Stepping.{fits-count, more-act, act-here}
 use Rattle.batch_chart.proofs.Telling.{nests, nests-below}
 
 -- something is left of an act at this stage, and nothing runs below it
@@ -45,17 +44,6 @@ plain-begun x1 x2 = grind arith
 
 plain-shows : (needs : ℕ) (w : Task) (x : Stage) (b : Bool) → IsPlain x → stage_signs needs x ≡ step_shows needs w x b
 plain-shows x1 x2 x3 x4 x5 = grind arith
-
-pub fits-count : (κ : Kind) (s : Step) (w : Task) → Fits κ s w → length s.needs ≡ needs_of κ
-fits-count (kind.Phase j d) s (runs p) f = f
-fits-count (kind.Phase j d) s (follows name c) f = absurd f
-fits-count (Act j) s (runs p) f = absurd f
-fits-count (Act j) s (follows name c) f = f
-fits-count Skip s w f = absurd f
-fits-count Seq s w f = absurd f
-fits-count Par s w f = absurd f
-fits-count (Sel d) s w f = absurd f
-fits-count (Loop j d) s w f = absurd f
 
 pub same-kept : (ns : List Entry) (doc : Recipe) (xs : List Stage) (ms : List ℕ) → IsKeptUp ns doc xs xs ms ms
 same-kept ns doc xs ms = record { count = refl; keeps = λ h. h }
@@ -121,9 +109,6 @@ module _ (ns : List Entry) (doc : Recipe) (xs ys : List Stage) (old new : List �
     keeps = come-neat ns doc lives.0 lives.1 k lt acting xs ys old new x v (lives.2.fits ∙ sym lives.1.count) count from to was h;
   }
 
-  more-acting : (κ : Kind) (i : ℕ) → HasMore κ i → is_act_kind κ ≡ true
-  more-acting x1 x2 x3 = grind arith
-
   at-node : (n k : ℕ) (v : Stage) → n ≡ k → HasCome ns n v xs ys old new → HasCome ns k v xs ys old new
   at-node n k v e h = subst (λ z. HasCome ns z v xs ys old new) e h
 
@@ -141,7 +126,7 @@ module _ (ns : List Entry) (doc : Recipe) (xs ys : List Stage) (old new : List �
     pub keeps-ask : (k n i : ℕ) → m ≡ move.Ask k i → n ≡ k → HasCome ns n (Asking i) xs ys old new → IsKeptUp ns doc xs ys old new
     keeps-ask k n i e f h =
         let a = subst (Allows ns xs) e allowed in
-        come-kept k (Ready i) (Asking i) a.0 (more-acting (kind_at ns k) i a.1) tt tt a.2 (at-node n k (Asking i) f h)
+        come-kept k (Ready i) (Asking i) a.0 (more-act (kind_at ns k) i a.1) tt tt a.2 (at-node n k (Asking i) f h)
 
     pub keeps-release : (k n i r : ℕ) → m ≡ move.Release k i → n ≡ k → stage_at xs n ≡ Ready r → HasCome ns n (Ready i) xs ys old new → IsKeptUp ns doc xs ys old new
     keeps-release k n i r e f s h =
@@ -245,7 +230,4 @@ release-acts ns xs k n i f a =
     go κ (Ready h) c = (c.0, refl)
     go κ (Freeing h) c = (c.0, refl)
     go κ Open c = (ap is_act_kind c, refl)
-    go κ Finished c = absurd c
-    go κ (Asking h) c = absurd c
-    go κ (Live y) c = absurd c
-    go κ (Turning h) c = absurd c
+    go κ x c = absurd c

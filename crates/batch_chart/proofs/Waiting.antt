@@ -18,27 +18,23 @@ use Rattle.batch_recipe.specs.declared.entry.Entry.{Entry}
 use Rattle.batch_recipe.specs.declared.recipe.Recipe.{Recipe}
 use Rattle.batch_chart.specs.declared.stage.Stage.{Stage}
 use Rattle.batch_chart.specs.declared.stage.Stage.TheVariants as stage
-use Rattle.batch_chart.specs.Finding as wanted
 use Rattle.batch_chart.specs.Stages.{stage_at}
 use Rattle.batch_chart.specs.Meaning.{meaning, meaning_below, act_as}
-use Rattle.batch_chart.specs.Outlined.{kind_at, is_act_kind}
-use Rattle.batch_chart.specs.Finding.{wants, first_of}
+use Rattle.batch_chart.specs.Outlined.{kind_at}
+use Rattle.batch_chart.specs.Nexts.{first_of}
 use Rattle.batch_chart.specs.Numbered.{numbered}
 use Rattle.batch_chart.specs.NodesOf.{nodes_of, node_at, place_at, step_at, task_at}
 use Rattle.batch_chart.specs.Nexts.{IsFoundFirst}
 use Rattle.batch_chart.specs.Running.{IsLaid, IsAlive, SomeLives, IsAskingAt}
 use Rattle.batch_chart.specs.Charts.{AsksAt, IsFirstWaiting}
 use Rattle.batch_chart.specs.NodesOf.{step_of}
-use Rattle.batch_chart.specs.Needs.{needs_of}
-use Rattle.batch_chart.specs.declared.node.Kind.{Kind}
-use Rattle.batch_chart.specs.declared.node.Kind.TheVariants as kind
-use Rattle.batch_chart.proofs.Stepping.{Fits}
 use Rattle.batch_chart.proofs.Choosing.{chosen-true, chosen-false}
 use Rattle.batch_chart.proofs.Found.{numbered-acts}
 use Rattle.batch_chart.proofs.Numbering.{order-at}
-use Rattle.batch_chart.proofs.Stepping.{number-at-place, act-place, entry-undone}
+use Rattle.batch_chart.proofs.Stepping.{fits-act, fits-count, number-at-place, act-place, entry-undone}
 use Rattle.batch_chart.proofs.NodesStand.{node-got}
 use Rattle.batch_chart.proofs.Joining.{known, first-has}
+use Rattle.batch_chart.proofs.Sought.{waits_from}
 
 -- Each act among the nodes carries the place of its node
 
@@ -116,20 +112,16 @@ module _ (ns : List Entry) (doc : Recipe) (xs : List Stage) (t : Tree) (laid : I
     where
       place : (c : Tree) → (node_at t k).here ≡ c → i < length (step_at t k).needs → (step_at t k).place ≡ place_at t k
       place (act s w) e l = ap (λ (z : Step). z.place) (ap step_of e) ∙ Each-Has CarriesPlace (nodes_of t) (node_at t k) (carries t (0 ∷ []) [] laid.placed) (get-has (nodes_of t) k (node_at t k) (node-got ns doc t laid k (omega (arith, laid.count, lt)))) s w e
-      place skip e l = absurd (let q : i < 0 = subst (λ z. i < length (step_of z).needs) e l in omega (arith, q))
-      place (seq ts) e l = absurd (let q : i < 0 = subst (λ z. i < length (step_of z).needs) e l in omega (arith, q))
-      place (par ts) e l = absurd (let q : i < 0 = subst (λ z. i < length (step_of z).needs) e l in omega (arith, q))
-      place (sel ch) e l = absurd (let q : i < 0 = subst (λ z. i < length (step_of z).needs) e l in omega (arith, q))
-      place (loop n c body) e l = absurd (let q : i < 0 = subst (λ z. i < length (step_of z).needs) e l in omega (arith, q))
+      place x e l = absurd (let q : i < 0 = subst (λ z. i < length (step_of z).needs) e l in omega (arith, q))
 
   -- an act of the tree in line is a numbered one
   asks-here : (k i : ℕ) → AsksAt t (meaning t 0 xs) k i → Has (numbered t 0 xs) (k, asking (step_at t k) (task_at t k) i)
   asks-here k i h = number-at-place ns doc t laid xs k (asking (step_at t k) (task_at t k) i) (omega (arith, laid.count, h.0)) h.2 (own-place k i h.0 h.1)
 
-  before-none : (from k : ℕ) → IsFoundFirst ns doc xs (wants (wanted.Waiting from)) (Some k) → (j i : ℕ) → from ≤ j → j < k → AsksAt t (meaning t 0 xs) j i → ⊥
+  before-none : (from k : ℕ) → IsFoundFirst ns doc xs (waits_from from) (Some k) → (j i : ℕ) → from ≤ j → j < k → AsksAt t (meaning t 0 xs) j i → ⊥
   before-none from k found j i f l h =
       let entry : ℕ × Rest = (j, asking (step_at t j) (task_at t j) i) in
-      let m = passes-first (wants (wanted.Waiting from)) (numbered t 0 xs) k
+      let m = passes-first (waits_from from) (numbered t 0 xs) k
       (subst Rises (sym (numbered-acts xs t 0)) (acts-rise (0 ∷ []) t (meaning t 0 xs) laid.placed alive.stands))
       (found.means t laid) (j, asking (step_at t j) (task_at t j) i) (asks-here j i h) (wants-it from j i (length (step_at t j).needs) f h.1) in
       elim m.3 [
@@ -148,9 +140,9 @@ module _ (ns : List Entry) (doc : Recipe) (xs : List Stage) (t : Tree) (laid : I
           let d : true ≡ false = sym (subst (λ q. is_before q (place_at t j) ≡ true) placed s) ∙ before-asym (place_at t j) (place_at t k) order in
           cc
 
-  after-none : (from : ℕ) → IsFoundFirst ns doc xs (wants (wanted.Waiting from)) None → (j i : ℕ) → from ≤ j → AsksAt t (meaning t 0 xs) j i → ⊥
+  after-none : (from : ℕ) → IsFoundFirst ns doc xs (waits_from from) None → (j i : ℕ) → from ≤ j → AsksAt t (meaning t 0 xs) j i → ⊥
   after-none from found j i f h =
-      none-passes (wants (wanted.Waiting from)) (numbered t 0 xs) (found.means t laid) (j, asking (step_at t j) (task_at t j) i) (asks-here j i h) (wants-it from j i (length (step_at t j).needs) f h.1)
+      none-passes (waits_from from) (numbered t 0 xs) (found.means t laid) (j, asking (step_at t j) (task_at t j) i) (asks-here j i h) (wants-it from j i (length (step_at t j).needs) f h.1)
 
   abbrev Sees : ℕ → ℕ → Step → Task → Stage → Type 0
   Sees from n s w y = (i : ℕ) × (y ≡ stage.Asking i) × (from ≤ n) × (i < length s.needs)
@@ -158,14 +150,9 @@ module _ (ns : List Entry) (doc : Recipe) (xs : List Stage) (t : Tree) (laid : I
   both : (from n i k : ℕ) → (nat_le from n && nat_lt i k) ≡ true → (from ≤ n) × (i < k)
   both from n i k e = (grind (arith, nat_tests), grind (arith, nat_tests))
 
-  sees : (from n : ℕ) (s : Step) (w : Task) (r : Rest) (y : Stage) → wants (wanted.Waiting from) n (act_as s w r y) ≡ true → Sees from n s w y
+  sees : (from n : ℕ) (s : Step) (w : Task) (r : Rest) (y : Stage) → waits_from from n (act_as s w r y) ≡ true → Sees from n s w y
   sees from n s w r (stage.Asking i) e = (i, refl, (both from n i (length s.needs) e).0, (both from n i (length s.needs) e).1)
   sees x1 x2 x3 x4 x5 x6 x7 = absurd (grind arith)
-
-  fits-act : (κ : Kind) (s : Step) (w : Task) → Fits κ s w → (is_act_kind κ ≡ true) × (length s.needs ≡ needs_of κ)
-  fits-act (kind.Phase j d) s (runs p) h = (refl, h)
-  fits-act (kind.Act j) s (follows name c) h = (refl, h)
-  fits-act x1 x2 x3 x4 = absurd (grind arith)
 
   record Found (from k : ℕ) : Type 0 where
     pub need : ℕ
@@ -174,16 +161,15 @@ module _ (ns : List Entry) (doc : Recipe) (xs : List Stage) (t : Tree) (laid : I
     pub asks : AsksAt t (meaning t 0 xs) k need
     pub waits : IsAskingAt ns xs k
 
-  found-at : (from k : ℕ) → IsFoundFirst ns doc xs (wants (wanted.Waiting from)) (Some k) → Found from k
+  found-at : (from k : ℕ) → IsFoundFirst ns doc xs (waits_from from) (Some k) → Found from k
   found-at from k found =
-      let m = first-has (wants (wanted.Waiting from)) (numbered t 0 xs) k (found.means t laid) in
+      let m = first-has (waits_from from) (numbered t 0 xs) k (found.means t laid) in
       go m.0 m.1 m.2 m.3
     where
-      go : (x : ℕ × Rest) → Has (numbered t 0 xs) x → x.0 ≡ k → wants (wanted.Waiting from) x.0 x.1 ≡ true → Found from k
+      go : (x : ℕ × Rest) → Has (numbered t 0 xs) x → x.0 ≡ k → waits_from from x.0 x.1 ≡ true → Found from k
       go x hx e test =
           let g = known ns doc xs t laid x hx in
-          let v = sees from x.0 g.step g.task (meaning_below g.task (x.0 + 1) xs) (stage_at xs x.0) (ap (wants (wanted.Waiting from) x.0) (sym g.is) ∙ test) in
-          let f = fits-act (kind_at ns x.0) g.step g.task g.fits in
+          let v = sees from x.0 g.step g.task (meaning_below g.task (x.0 + 1) xs) (stage_at xs x.0) (ap (waits_from from x.0) (sym g.is) ∙ test) in
           let a : x.1 ≡ asking g.step g.task v.0 = g.is ∙ ap (act_as g.step g.task (meaning_below g.task (x.0 + 1) xs)) v.1 in
           subst (Found from) e record {
             need = v.0;
@@ -194,11 +180,11 @@ module _ (ns : List Entry) (doc : Recipe) (xs : List Stage) (t : Tree) (laid : I
               subst (λ (s : Step). v.0 < length s.needs) (sym g.own_step) v.3,
               subst (Has (acts (meaning t 0 xs))) (a ∙ ap₂ (λ s w. asking s w v.0) (sym g.own_step) (sym g.own_task)) g.among,
             );
-            waits = (v.0, g.within, f.0, omega (arith, v.3, f.1), v.1);
+            waits = (v.0, g.within, fits-act (kind_at ns x.0) g.step g.task g.fits, omega (arith, v.3, fits-count (kind_at ns x.0) g.step g.task g.fits), v.1);
           }
 
 module _ (ns : List Entry) (doc : Recipe) (xs : List Stage) (from : ℕ) (lives : SomeLives ns doc xs) where
-  pub waiting-some : (k n i : ℕ) → IsFoundFirst ns doc xs (wants (wanted.Waiting from)) (Some k) → n ≡ k → stage_at xs n ≡ stage.Asking i → IsFirstWaiting ns doc xs from (Some (k, i))
+  pub waiting-some : (k n i : ℕ) → IsFoundFirst ns doc xs (waits_from from) (Some k) → n ≡ k → stage_at xs n ≡ stage.Asking i → IsFirstWaiting ns doc xs from (Some (k, i))
   waiting-some k n i found same was =
       let f = found-at ns doc xs lives.0 lives.1 lives.2 from k found in
       record {
@@ -215,9 +201,9 @@ module _ (ns : List Entry) (doc : Recipe) (xs : List Stage) (from : ℕ) (lives 
         small = omega (arith, f.asks.0, lives.1.small);
       }
 
-  pub waiting-none : IsFoundFirst ns doc xs (wants (wanted.Waiting from)) None → IsFirstWaiting ns doc xs from None
+  pub waiting-none : IsFoundFirst ns doc xs (waits_from from) None → IsFirstWaiting ns doc xs from None
   waiting-none found =
       record { some = tt; before = tt; none = λ e t laid alive j i a h. after-none ns doc xs t laid alive from found j i a h; waits = tt; small = tt }
 
-  pub waiting-never : (k n : ℕ) → IsFoundFirst ns doc xs (wants (wanted.Waiting from)) (Some k) → n ≡ k → ((i : ℕ) → stage_at xs n ≡ stage.Asking i → ⊥) → ⊥
+  pub waiting-never : (k n : ℕ) → IsFoundFirst ns doc xs (waits_from from) (Some k) → n ≡ k → ((i : ℕ) → stage_at xs n ≡ stage.Asking i → ⊥) → ⊥
   waiting-never k n found same never = (let f = found-at ns doc xs lives.0 lives.1 lives.2 from k found in never f.need (ap (stage_at xs) same ∙ f.is))

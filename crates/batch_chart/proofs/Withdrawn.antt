@@ -53,12 +53,9 @@ shows-again (sel ch) (Asking k) b = refl
 shows-again (loop i p body) (Asking k) b = refl
 
 runs-again : (c : Tree) (x : Stage) → runs_below c (again x) ≡ runs_below c x
-runs-again (act s w) x = begun-again x
 runs-again skip x = refl
-runs-again (seq ts) x = begun-again x
-runs-again (par ts) x = begun-again x
-runs-again (sel ch) x = begun-again x
 runs-again (loop i p body) x = ap (λ o. not (is_none o)) (turns-again x)
+runs-again y x = begun-again x
 
 module _ (ns : List Entry) (doc : Recipe) (xs zs : List Stage) (old new : List ℕ) (stages : (k : ℕ) → stage_at zs k ≡ again (stage_at xs k)) (signs : (k : ℕ) → sign_at new k ≡ withdrawn_sign (stage_at xs k) (sign_at old k)) where
   status : (k : ℕ) → is_finished (stage_at zs k) ≡ is_finished (stage_at xs k)
@@ -79,7 +76,7 @@ module _ (ns : List Entry) (doc : Recipe) (xs zs : List Stage) (old new : List �
 
 -- withdrawing, node by node
 
-replaced-sign : (signs : List ℕ) (n v k : ℕ) → (k ≡ n → sign_at (replaced signs n v) k ≡ elim (nat_eq (sign_at signs n) 0) as (λ _. ℕ) [ true ↦ sign_at signs n | false ↦ v ]) × (k ≢ n → sign_at (replaced signs n v) k ≡ sign_at signs k)
+pub replaced-sign : (signs : List ℕ) (n v k : ℕ) → (k ≡ n → sign_at (replaced signs n v) k ≡ elim (nat_eq (sign_at signs n) 0) as (λ _. ℕ) [ true ↦ sign_at signs n | false ↦ v ]) × (k ≢ n → sign_at (replaced signs n v) k ≡ sign_at signs k)
 replaced-sign signs n v k = go (eqb_tells (sign_at signs n) 0)
   where
     go : ((nat_eq (sign_at signs n) 0 ≡ true) × (sign_at signs n ≡ 0)) ⊎ ((nat_eq (sign_at signs n) 0 ≡ false) × (sign_at signs n ≢ 0))
@@ -94,7 +91,7 @@ replaced-sign signs n v k = go (eqb_tells (sign_at signs n) 0)
           (λ ne. ap (λ z. sign_at z k) other ∙ get_or-set_other signs n k v 0 ne),
         )
 
-replaced-length : (signs : List ℕ) (n v : ℕ) → length (replaced signs n v) ≡ length signs
+pub replaced-length : (signs : List ℕ) (n v : ℕ) → length (replaced signs n v) ≡ length signs
 replaced-length signs n v = go (nat_eq (sign_at signs n) 0)
   where
     go : (b : Bool) → length (elim b as (λ _. List ℕ) [ true ↦ signs | false ↦ slice_set signs n v ]) ≡ length signs
@@ -119,13 +116,8 @@ signs-asking xs old new n held v h e is = record {
 }
 
 other-sign : (x : Stage) (s : ℕ) → ((k : ℕ) → x ≡ Asking k → ⊥) → s ≡ withdrawn_sign x s
-other-sign Finished s h = refl
-other-sign (Ready k) s h = refl
 other-sign (Asking k) s h = absurd (h k refl)
-other-sign Open s h = refl
-other-sign (Live y) s h = refl
-other-sign (Freeing k) s h = refl
-other-sign (Turning k) s h = refl
+other-sign x s h = refl
 
 pub signs-other : (xs : List Stage) (old new : List ℕ) (n : ℕ) → AreSoFar xs old new n → ((k : ℕ) → stage_at xs n ≡ Asking k → ⊥) → AreSoFar xs old new (n + 1)
 signs-other xs old new n h e = record {
