@@ -15,7 +15,6 @@ use Rattle.batch_verify.specs.ClearedSet.{ClearedSet}
 use Rattle.batch_chart.specs.NodesOf.{need_at, place_at}
 use Rattle.batch_chart.specs.Seen.{move_of}
 use Rattle.batch_chart.specs.declared.chart_move.Move as ChartMove
-use Rattle.batch_chart.specs.declared.chart_move.Move.TheVariants.{Send, State, Release, Begin, Start, End, Ask}
 use Rattle.batch_engine.specs.Answered.{IsAnswered}
 use Rattle.batch_engine.specs.Kept.{IsKept}
 use Rattle.batch_engine.specs.Marked.{AreNotedBy, AreNoted}

@@ -24,11 +24,8 @@ use Rattle.batch_laws.proofs.Telling.{tells_the_plant}
 use Rattle.batch_verify.specs.ClearedSet.{ClearedSet}
 use Rattle.batch_arbiter.specs.Allocation.{next_grant, batch_node, resource_count}
 use Rattle.batch_chart.specs.Seen.{move_of}
-use Rattle.batch_chart.specs.declared.chart_move.Move.{Move}
-use Rattle.batch_chart.specs.declared.chart_move.Move.TheVariants.{Send, State, Release, Begin, Start, End, Ask}
 use Rattle.batch_engine.specs.declared.batch.Batch.{Batch}
 use Rattle.batch_engine.specs.declared.reply.Reply.{Reply}
-use Rattle.batch_engine.specs.declared.reply.Reply.TheVariants as Replies
 use Rattle.batch_engine.specs.declared.step.Step as steps
 use Rattle.batch_engine.specs.declared.step.Step.TheVariants.{Own, Grant}
 use Rattle.batch_engine.specs.Answered.{IsAnswered}
