@@ -11,7 +11,7 @@ use Rattle.batch_engine.specs.View.{EngineView, batch_of, number_of, tree_of}
 use Rattle.batch_engine.proofs.Answering.{step-about, step-can, step-is}
 use Rattle.batch_engine.proofs.Made.{Becomes, ask-made, known}
 use Rattle.batch_engine.proofs.RoomForAsk.{room-for-ask}
-use Rattle.batch_engine.proofs.Seats.{IsRead, IsSeat, batch-within, chart-within, closed-makes, counted-set, read-there, seat-of}
+use Rattle.batch_engine.proofs.Seats.{IsRead, IsSeat, closed-makes, counted-set, read-there, seat-of}
 use Rattle.batch_engine.proofs.Stepping.{changed}
 use Rattle.batch_engine.proofs.control.Control.ask.Goals as goal
 use Rattle.batch_engine.proofs.control.Control.ask.Goals.{After-index_mut-batch, After-recipe-chart, After-make}
@@ -66,12 +66,6 @@ ask-requires-clause-room c =
     let b : Batch = c.index_mut-batch.result.now in
     subst (λ (z : EngineView). 0 < z.allocation.room) (sym c.self.view_is)
     (room-for-ask v (read s).kept c.args.index b (read s).at c.args.node c.args.need c.args.resource (about s) (number s) (step-is v c.args.index b (read s).at (Chart.Ask c.args.node c.args.need) c.requires.step))
-
-pub index_mut-batch-requires : goal.index_mut-batch-requires
-index_mut-batch-requires c = batch-within c.self.view_is c.requires.step.here.at
-
-pub recipe-chart-requires : goal.recipe-chart-requires
-recipe-chart-requires c = chart-within c.self.view_is (read (goal.at.recipe-chart-requires c).After-index_mut-batch)
 
 pub make-requires-clause-running : goal.make-requires-clause-running
 make-requires-clause-running c = (seat (goal.at.make-requires-clause-running c).After-recipe-chart).running

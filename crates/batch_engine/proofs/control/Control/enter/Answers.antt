@@ -4,7 +4,7 @@ use Rattle.batch_engine.specs.declared.batch.Batch.{Batch}
 use Rattle.batch_engine.specs.View.{EngineView}
 use Rattle.batch_engine.proofs.OrderAnswers.{order-at}
 use Rattle.batch_engine.proofs.Ordering.{Ordered, enter-made}
-use Rattle.batch_engine.proofs.Seats.{IsRead, batch-within, closed-ordered, counted-set, read-there}
+use Rattle.batch_engine.proofs.Seats.{IsRead, closed-ordered, counted-set, read-there}
 use Rattle.batch_engine.proofs.Stepping.{changed}
 use Rattle.batch_engine.proofs.control.Control.enter.Goals as goal
 use Rattle.batch_engine.proofs.control.Control.enter.Goals.{After-index_mut-batch}
@@ -26,6 +26,3 @@ invariant_of-self c =
 
 pub returns : goal.returns
 returns c = closed-ordered c.args.index (own (goal.at.returns c).After-index_mut-batch) (λ a. a) c.self.view_is refl (made (goal.at.returns c).After-index_mut-batch)
-
-pub index_mut-batch-requires : goal.index_mut-batch-requires
-index_mut-batch-requires c = batch-within c.self.view_is c.requires.order.at

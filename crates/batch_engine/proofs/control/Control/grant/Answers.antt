@@ -10,7 +10,7 @@ use Rattle.batch_engine.specs.Steps.{IsGrantStep, IsNext}
 use Rattle.batch_engine.specs.View.{EngineView, number_of, tree_of}
 use Rattle.batch_engine.proofs.Answering.{same-at}
 use Rattle.batch_engine.proofs.Made.{Becomes, grant-made}
-use Rattle.batch_engine.proofs.Seats.{IsRead, IsSeat, batch-within, chart-within, closed-makes, counted-set, read-there, seat-of}
+use Rattle.batch_engine.proofs.Seats.{IsRead, IsSeat, closed-makes, counted-set, read-there, seat-of}
 use Rattle.batch_engine.proofs.Stepping.{changed}
 use Rattle.batch_engine.proofs.control.Control.grant.Goals as goal
 use Rattle.batch_engine.proofs.control.Control.grant.Goals.{After-index_mut-batch, After-recipe-chart, After-grant}
@@ -20,12 +20,6 @@ read c = read-there c.self.view_is c.self.invariant.kept c.requires.here.at c.in
 
 same : (c : After-index_mut-batch) → c.requires.batch ≡ c.index_mut-batch.result.now
 same c = same-at c.args.self.now.batches c.args.index c.requires.batch c.index_mut-batch.result.now c.requires.here.at (read c).at
-
-pub index_mut-batch-requires : goal.index_mut-batch-requires
-index_mut-batch-requires c = batch-within c.self.view_is c.requires.here.at
-
-pub recipe-chart-requires : goal.recipe-chart-requires
-recipe-chart-requires c = chart-within c.self.view_is (read (goal.at.recipe-chart-requires c).After-index_mut-batch)
 
 seat : (c : After-recipe-chart) → IsSeat c.args.self.now c.args.index c.index_mut-batch.result.now c.recipe-chart.result.now
 seat c = seat-of c.self.view_is (read-there c.self.view_is c.self.invariant.kept c.requires.here.at c.index_mut-batch.ensures.value) c.recipe-chart.ensures

@@ -10,7 +10,7 @@ use Rattle.batch_engine.specs.Steps.{IsNext}
 use Rattle.batch_engine.specs.View.{EngineView, batch_of, number_of, tree_of}
 use Rattle.batch_engine.proofs.Answering.{step-about, step-can, step-is}
 use Rattle.batch_engine.proofs.Made.{Becomes, held-share, known, release-made}
-use Rattle.batch_engine.proofs.Seats.{IsRead, IsSeat, batch-within, chart-within, closed-makes, counted-set, read-there, seat-of}
+use Rattle.batch_engine.proofs.Seats.{IsRead, IsSeat, closed-makes, counted-set, read-there, seat-of}
 use Rattle.batch_engine.proofs.Stepping.{changed}
 use Rattle.batch_engine.proofs.control.Control.release.Goals as goal
 use Rattle.batch_engine.proofs.control.Control.release.Goals.{After-index_mut-batch, After-recipe-chart, After-make}
@@ -60,12 +60,6 @@ release-requires-clause-held c =
     let b : Batch = c.index_mut-batch.result.now in
     subst (λ (z : EngineView). IsHeld z.allocation c.args.resource b.number c.args.node) (sym c.self.view_is)
     (held-share c.args.self.now (read s).kept c.args.index b (read s).at c.args.node c.args.need c.args.resource (about s) (number s))
-
-pub index_mut-batch-requires : goal.index_mut-batch-requires
-index_mut-batch-requires c = batch-within c.self.view_is c.requires.step.here.at
-
-pub recipe-chart-requires : goal.recipe-chart-requires
-recipe-chart-requires c = chart-within c.self.view_is (read (goal.at.recipe-chart-requires c).After-index_mut-batch)
 
 pub make-requires-clause-running : goal.make-requires-clause-running
 make-requires-clause-running c = (seat (goal.at.make-requires-clause-running c).After-recipe-chart).running

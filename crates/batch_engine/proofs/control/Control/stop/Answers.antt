@@ -7,7 +7,7 @@ use Rattle.batch_engine.specs.View.{EngineView, tree_of}
 use Rattle.batch_engine.proofs.Finding.{batch-runs}
 use Rattle.batch_engine.proofs.OrderAnswers.{order-at}
 use Rattle.batch_engine.proofs.Ordering.{Ordered, stop-made}
-use Rattle.batch_engine.proofs.Seats.{IsRead, batch-within, closed-ordered, counted-set, read-there}
+use Rattle.batch_engine.proofs.Seats.{IsRead, closed-ordered, counted-set, read-there}
 use Rattle.batch_engine.proofs.Stepping.{changed}
 use Rattle.batch_engine.proofs.control.Control.stop.Goals as goal
 use Rattle.batch_engine.proofs.control.Control.stop.Goals.{After-stop_all}
@@ -33,6 +33,3 @@ invariant_of-self c =
 
 pub returns : goal.returns
 returns c = closed-ordered c.args.index (own (goal.at.returns c).After-stop_all) (withdrawn c.args.number) c.self.view_is c.withdraw.ensures (made (goal.at.returns c).After-stop_all)
-
-pub index_mut-batch-requires : goal.index_mut-batch-requires
-index_mut-batch-requires c = batch-within c.self.view_is c.requires.order.at
