@@ -9,7 +9,7 @@ use Rattle.batch_recipe.specs.Expanding.{Binding, unbound, act_tree_with, named_
 use Rattle.batch_recipe.specs.Nodes.{Node, node_count}
 use Rattle.batch_recipe.specs.Places.{IsNodeAt, NoNodeAt}
 use Rattle.batch_recipe.specs.Procedure.{bound_nodes, bound_tree, procedure_nodes, tables_from}
-use Rattle.batch_recipe.specs.Tree.{Place, Tree, act, skip, seq, par, sel, loop}
+use Rattle.batch_recipe.specs.Tree.{Place, Tree}
 use Rattle.batch_recipe.specs.declared.act.Act.{Act}
 use Rattle.batch_recipe.specs.declared.act.Work.{Work}
 use Rattle.batch_recipe.specs.declared.act.Work.TheVariants.{Follows, Runs}

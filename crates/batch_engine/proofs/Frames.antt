@@ -1,5 +1,5 @@
 -- Moves of a batch in two plants that serve the same acts of it.
-use Rattle.std.proofs.Common.{arith, ◌≡◌, ⊎_elim, refl, sym, ◌∙◌, ap, subst, subst₂, ℕ, ◌+◌, List, [], ◌∷◌, ◌++◌, Bool, true, false, ◌&&◌, filter_map, Option, Some, None, inl, inr, slice_get}
+use Rattle.std.proofs.Common.{◌≡◌, ⊎_elim, refl, sym, ◌∙◌, ap, subst, subst₂, ℕ, ◌+◌, List, [], ◌∷◌, ◌++◌, Bool, true, false, ◌&&◌, filter_map, Option, Some, None, inl, inr, slice_get}
 use Rattle.std.specs.Prelude.{nat_le, option_to_list}
 use Rattle.std.specs.List.{cons_option}
 use Rattle.std.specs.Cmp.Derive.{both_true}

@@ -11,7 +11,7 @@ use Rattle.batch_recipe.specs.Diagram.{diagram_of}
 use Rattle.batch_recipe.specs.Expanding.{act_named, act_tree, named_tree, unbound}
 use Rattle.batch_recipe.specs.Nodes.{Node}
 use Rattle.batch_recipe.specs.Procedure.{procedure_nodes, table_at, tables_from}
-use Rattle.batch_recipe.specs.Tree.{Place, Tree, act, skip, seq, par, sel, loop}
+use Rattle.batch_recipe.specs.Tree.{Place, Tree}
 use Rattle.batch_recipe.specs.WellFormed.{act_names, are_distinct, follows_no_par, is_among, is_chart, is_well_formed, is_work, value_names}
 use Rattle.batch_recipe.specs.declared.act.Act.{Act}
 use Rattle.batch_recipe.specs.declared.act.TheConstants.{MAX_VALUES}

@@ -1,5 +1,5 @@
 -- The engine makes the next move.
-use Rattle.std.proofs.Common.{◌≡◌, ◌<◌, ◌+◌, refl, sym, ◌∙◌, ap, ap₂, subst, ℕ, zero, suc, List, [], ◌∷◌, Bool, true, false, ◌&&◌, Option, Some, None, inl, inr, arith, length, map, filter, take, flat_map, get_or, nat_eq}
+use Rattle.std.proofs.Common.{◌≡◌, ◌<◌, ◌+◌, refl, sym, ◌∙◌, ap, ap₂, subst, ℕ, zero, suc, List, [], ◌∷◌, Bool, true, false, Option, Some, None, inl, inr, arith, length, map, filter, take, flat_map, get_or, nat_eq}
 use Rattle.std.proofs.lemmas.Bool.{and_parts}
 use Rattle.std.specs.Prelude.{slice_get, option_map, Contains}
 use Rattle.std.specs.Cmp.Derive.{both_true}
@@ -10,9 +10,9 @@ use Rattle.batch_matrix.specs.declared.state.State as states
 use Rattle.batch_model.specs.Lists.{Has}
 use Rattle.batch_model.specs.Rest.{Rest, ready, asking, acts, advance, changed_at, place_of}
 use Rattle.batch_model.specs.Plant as Model
-use Rattle.batch_model.specs.Plant.{BatchAct, Share, Plant, is_same_act, held_by, holders}
+use Rattle.batch_model.specs.Plant.{BatchAct, Share, is_same_act, held_by, holders}
 use Rattle.batch_model.specs.Moves as Moves
-use Rattle.batch_model.specs.Moves.{batch_of, batch_after, line_after, after, next}
+use Rattle.batch_model.specs.Moves.{batch_of, batch_after, line_after, after}
 use Rattle.batch_model.specs.Runs.{move}
 use Rattle.batch_model.specs.Records.{holders_after}
 use Rattle.batch_machine.proofs.Batches.{one_batch}

@@ -13,7 +13,7 @@ use Rattle.batch_cell.specs.declared.module.Module.{Module}
 use Rattle.batch_cell.specs.declared.shared.Shared.{Shared}
 use Rattle.batch_cell.specs.declared.unit.Unit.{Unit}
 use Rattle.batch_recipe.specs.Conditions.{Name, same_name}
-use Rattle.batch_recipe.specs.Nodes.{Node, node_count, nodes}
+use Rattle.batch_recipe.specs.Nodes.{Node, node_count}
 use Rattle.batch_recipe.specs.Nodes as nodes_spec
 use Rattle.batch_recipe.specs.Tree.{Phase, Tree, act, skip, seq, par, sel, loop, runs, follows}
 use Rattle.batch_recipe.specs.WellFormed.{is_among}

@@ -10,7 +10,7 @@ use Rattle.batch_recipe.specs.Conditions.{Name, same_name}
 use Rattle.batch_recipe.specs.Expanding.{Binding, act_tree_with, asked_by, named_tree_with, unit_chosen, unit_with}
 use Rattle.batch_recipe.specs.Nodes.{Node}
 use Rattle.batch_recipe.specs.Procedure.{bound_nodes, bound_tree, tables_from}
-use Rattle.batch_recipe.specs.Tree.{Place, Tree, act, skip, seq, par, sel, loop, runs, follows}
+use Rattle.batch_recipe.specs.Tree.{Place, Tree, act, skip, runs}
 use Rattle.batch_recipe.specs.WellFormed.{is_among}
 use Rattle.batch_recipe.specs.declared.act.Act.{Act}
 use Rattle.batch_recipe.specs.declared.act.UnitChoice.{UnitChoice}

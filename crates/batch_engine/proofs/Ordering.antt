@@ -4,7 +4,7 @@ use Rattle.std.specs.Prelude.{sum_by}
 use Rattle.std.proofs.lemmas.List.{length-map}
 use Rattle.std.proofs.lemmas.List.Sums.{sum_by-cons}
 use Rattle.batch_matrix.specs.declared.command.Command.{Command}
-use Rattle.batch_matrix.specs.declared.command.Command.TheVariants.{Start, Pause, Resume, Hold, Restart, Stop, Abort, Reset}
+use Rattle.batch_matrix.specs.declared.command.Command.TheVariants.{Reset}
 use Rattle.batch_matrix.specs.Matrix.{target}
 use Rattle.batch_recipe.specs.Conditions.{Name}
 use Rattle.batch_matrix.specs.declared.state.State.TheVariants.{Idle}
@@ -13,7 +13,7 @@ use Rattle.batch_model.specs.Rest.{withdrawn, reach}
 use Rattle.batch_recipe.specs.Values.{with_outputs_zero}
 use Rattle.batch_engine.specs.View.{tree_of, recipe_made}
 use Rattle.batch_model.specs.Plant as Model
-use Rattle.batch_model.specs.Plant.{Share, Plant, batch_at, in_batch}
+use Rattle.batch_model.specs.Plant.{Share, Plant, in_batch}
 use Rattle.batch_model.specs.Moves.{Move}
 use Rattle.batch_model.specs.Events.{order, ordered, refused, moves_pending, unknown_batch, command_not_accepted, commanded, lines_under, ordering, judged, react, Answer}
 use Rattle.batch_model.specs.Runs.{Reacts}

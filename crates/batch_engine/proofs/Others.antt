@@ -4,7 +4,6 @@ use Rattle.std.specs.Prelude.{nat_le}
 use Rattle.std.proofs.lemmas.List.{length-append, length-map}
 use Rattle.batch_matrix.specs.declared.state.State.TheVariants.{Idle}
 use Rattle.batch_matrix.specs.declared.command.Command.{Command}
-use Rattle.batch_matrix.specs.declared.command.Command.TheVariants.{Start, Pause, Resume, Hold, Restart, Stop, Abort, Reset}
 use Rattle.batch_matrix.specs.declared.report.Report.{Report}
 use Rattle.batch_matrix.specs.declared.report.PhaseEnd.{PhaseEnd}
 use Rattle.batch_matrix.specs.Matrix.{same_state, accepts, target, after_report}
@@ -13,7 +12,7 @@ use Rattle.batch_recipe.specs.Values.{are_outputs}
 use Rattle.batch_model.specs.Lists.{Has}
 use Rattle.batch_model.specs.Plant.{Formula, size_out_of_range, value_out_of_range, scaled, Recipe, Master, Setup, Batch, Share, Plant, opening, batch_at, in_batch}
 use Rattle.batch_model.specs.Moves.{Move, next, after, batch_of, batch_after, batch_moves}
-use Rattle.batch_model.specs.Events.{Event, create, order, remove, report, Reply, created, ordered, removed, reported, refused, unknown_recipe, unknown_batch, command_not_accepted, no_live_phase, report_not_expected, bad_output, bad_binding, full, not_idle, moves_pending, Answer, is_full, new_batch, creating, creating_for, binding, is_binding, bound_by, roles_told, commanded, lines_under, ordering, without_batch, removing, LivePhase, live_phase, batch_state_after, outputs_of, batch_reported, reporting, judged, react}
+use Rattle.batch_model.specs.Events.{Event, create, order, remove, report, Reply, ordered, removed, reported, refused, unknown_recipe, unknown_batch, command_not_accepted, no_live_phase, report_not_expected, bad_output, bad_binding, full, not_idle, moves_pending, Answer, is_full, new_batch, creating, creating_for, binding, is_binding, bound_by, roles_told, commanded, lines_under, ordering, without_batch, removing, LivePhase, live_phase, batch_state_after, outputs_of, batch_reported, reporting, judged, react}
 use Rattle.batch_model.specs.Runs.{Out, reply, move, Reacts, Leads}
 use Rattle.batch_model.specs.Records.{waiters_after}
 use Rattle.batch_model.specs.declared.limits.TheConstants.{LAST_NUMBER}

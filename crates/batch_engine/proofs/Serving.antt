@@ -1,5 +1,5 @@
 -- Whom the arbiter would serve is whom the plant serves.
-use Rattle.std.proofs.Common.{arith, ◌≡◌, ◌+◌, refl, sym, ◌∙◌, ap, ap₂, subst, ℕ, List, [], ◌∷◌, Bool, true, false, ◌&&◌, cond, Option, Some, None, inl, get_or, map}
+use Rattle.std.proofs.Common.{◌≡◌, ◌+◌, refl, sym, ◌∙◌, ap, ap₂, subst, ℕ, List, [], ◌∷◌, Bool, true, false, ◌&&◌, cond, Option, Some, None, inl, get_or, map}
 use Rattle.std.specs.Prelude.{nat_le, option_map}
 use Rattle.std.specs.Cmp.Derive.{both_true}
 use Rattle.std.proofs.lemmas.List.Sums.{sum_by-cons}
@@ -11,7 +11,7 @@ use Rattle.batch_model.specs.Plant.{BatchAct, Share, units_in, holders, is_same_
 use Rattle.batch_model.specs.Moves.{is_served}
 use Rattle.batch_cell.specs.LookUps.{capacities_of}
 use Rattle.batch_laws.proofs.Entries.{act_self, same_act, units-cons}
-use Rattle.batch_arbiter.specs.Allocation.{Claim, Allocation, line_of, shares_of, held_units, next_in, next_grant, batch_node}
+use Rattle.batch_arbiter.specs.Allocation.{Claim, Allocation, line_of, shares_of, held_units, next_in, batch_node}
 use Rattle.batch_engine.specs.View.{EngineView, setup, act_of, acts_of, number_of, line_in, line_at, plant_of}
 use Rattle.batch_engine.specs.Kept.{IsKept}
 use Rattle.batch_engine.proofs.Told.{told}

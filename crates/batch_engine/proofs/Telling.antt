@@ -8,7 +8,7 @@ use Rattle.batch_recipe.specs.Conditions.{Name}
 use Rattle.batch_recipe.specs.Nodes.{Node}
 use Rattle.batch_recipe.specs.Expanding.{Binding}
 use Rattle.batch_recipe.specs.Procedure.{bound_nodes, bound_tree}
-use Rattle.batch_recipe.specs.Tree.{Phase, Tree, act, skip, seq, par, sel, loop, runs, follows}
+use Rattle.batch_recipe.specs.Tree.{Phase, Tree, skip}
 use Rattle.batch_recipe.specs.declared.need.Need.{Need}
 use Rattle.batch_recipe.specs.declared.recipe.Recipe.{Recipe}
 use Rattle.batch_model.specs.Moves as Moves

@@ -24,11 +24,8 @@ use Rattle.batch_laws.proofs.Telling.{tells_the_plant}
 use Rattle.batch_verify.specs.ClearedSet.{ClearedSet}
 use Rattle.batch_arbiter.specs.Allocation.{next_grant, batch_node, resource_count}
 use Rattle.batch_chart.specs.Seen.{move_of}
-use Rattle.batch_chart.specs.declared.chart_move.Move.{Move}
-use Rattle.batch_chart.specs.declared.chart_move.Move.TheVariants.{Send, State, Release, Begin, Start, End, Ask}
 use Rattle.batch_engine.specs.declared.batch.Batch.{Batch}
 use Rattle.batch_engine.specs.declared.reply.Reply.{Reply}
-use Rattle.batch_engine.specs.declared.reply.Reply.TheVariants as Replies
 use Rattle.batch_engine.specs.declared.step.Step as steps
 use Rattle.batch_engine.specs.declared.step.Step.TheVariants.{Own, Grant}
 use Rattle.batch_engine.specs.Answered.{IsAnswered}
@@ -143,7 +140,7 @@ abbrev pub StepMove : EngineView → ℕ → Type 0
 StepMove v i = (m : Moves.Move) × IsNext v m × ((b : Batch) × (slice_get v.batches i ≡ Some b) × (Moves.batch_of m ≡ b.number))
 
 pub step-move : (v : EngineView) (s : steps.Step) → IsStep v (IsNext v) s → StepMove v (index_of s)
-step-move v (Own i m) g = (move_of (tree_of v.cleared g.batch) (batch_of v.cleared g.batch) m, g.is, (g.batch, g.here.at, of-batch (tree_of v.cleared g.batch) (batch_of v.cleared g.batch) m))
+step-move v (Own i m q u) g = (move_of (tree_of v.cleared g.0.batch) (batch_of v.cleared g.0.batch) m, g.0.is, (g.0.batch, g.0.here.at, of-batch (tree_of v.cleared g.0.batch) (batch_of v.cleared g.0.batch) m))
 step-move v (Grant i node resource units) g = (_, g.is, (g.batch, g.here.at, refl))
 
 -- What stays unmarked after a move

@@ -111,11 +111,8 @@ impl Control {
     {
         self.is_kept();
         match step {
-            Step::Own { index, made } => match made {
-                Move::Release { node, need } => {
-                    let (resource, _units) = self.resource_at(index, node, need);
-                    Some(resource)
-                }
+            Step::Own { made, resource, .. } => match made {
+                Move::Release { .. } => Some(resource),
                 _ => None,
             },
             Step::Grant { resource, .. } => Some(resource),

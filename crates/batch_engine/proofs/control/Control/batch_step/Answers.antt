@@ -1,66 +1,66 @@
 use Rattle.std.proofs.Common.{◌≡◌, ◌∙◌, refl, sym, subst, Option, Some, None}
-use Rattle.std.specs.Prelude.{slice_get}
 use Rattle.batch_model.specs.Moves as Moves
 use Rattle.batch_chart.specs.OwnMoves.{own_next}
 use Rattle.batch_chart.specs.Seen.{move_of}
-use Rattle.batch_recipe.specs.declared.recipe.Recipe as document
 use Rattle.batch_engine.specs.declared.batch.Batch.{Batch}
-use Rattle.batch_engine.specs.View.{EngineView, batch_of, setup, plant_of, tree_of}
-use Rattle.batch_engine.specs.Kept.{IsKept}
-use Rattle.batch_engine.specs.Steps.{IsFirstGrant, IsBatchStep}
+use Rattle.batch_engine.specs.Steps.{IsBatchStep, IsFirstGrant}
+use Rattle.batch_engine.specs.View.{EngineView, batch_of, plant_of, setup, tree_of}
+use Rattle.batch_engine.proofs.Answering.{has-need}
 use Rattle.batch_engine.proofs.AtRest.{stopped-moves}
 use Rattle.batch_engine.proofs.BatchPlaces.{Has-batch_of}
+use Rattle.batch_engine.proofs.Finding.{has, one-batch}
+use Rattle.batch_engine.proofs.Seats.{IsRead, IsSeat, read-at, seat-of}
 use Rattle.batch_engine.proofs.Told.{safe}
-use Rattle.batch_engine.proofs.Finding.{chart-here, got-batch, got-chart, has, batch-runs, one-batch, runs-here}
-use Rattle.batch_engine.proofs.Upcoming.{own-least, grant-least, no-move}
+use Rattle.batch_engine.proofs.Upcoming.{grant-least, no-move, own-least}
 use Rattle.batch_engine.proofs.control.Control.batch_step.Goals as goal
+use Rattle.batch_engine.proofs.control.Control.batch_step.Goals.{After-recipe-chart}
+
+seat : (c : After-recipe-chart) → IsSeat c.args.self.now c.args.index c.index-batch.result.now c.recipe-chart.result.now
+seat c = seat-of c.self.view_is (read-at c.self.view_is c.self.invariant.kept c.requires c.index-batch.ensures) c.recipe-chart.ensures
+
+pub wanted-resource-requires : goal.wanted-resource-requires
+wanted-resource-requires c =
+    let s = seat (goal.at.wanted-resource-requires c).After-recipe-chart in
+    let b : Batch = c.index-batch.result.now in
+    has-need c.args.self.now c.args.index b s.at c.in-Some.made (c.in-Some.ensures.about (tree_of c.args.self.now.cleared b) s.chart s.runs)
 
 pub returns-in-Some : goal.returns-in-Some
 returns-in-Some c =
     let v : EngineView = c.args.self.now in
     let b : Batch = c.index-batch.result.now in
-    let x : document.Recipe = c.recipe-chart.result.now in
-    let kept : IsKept v = subst IsKept c.self.view_is c.self.invariant.kept in
-    let at : slice_get v.batches c.args.index ≡ Some b = got-batch v _ c.args.index b c.self.view_is c.requires c.index-batch.ensures in
-    let listed : slice_get v.cleared.recipes b.recipe ≡ Some x = got-chart v _ b.recipe x c.self.view_is c.recipe-chart.ensures in
-    let next : Some (move_of (tree_of v.cleared b) (batch_of v.cleared b) c.in-Some.made) ≡ own_next (batch_of v.cleared b) =
-    c.in-Some.ensures.next (tree_of v.cleared b) (batch_of v.cleared b) (chart-here v kept c.args.index b at x listed) (batch-runs v kept c.args.index b at).runs refl refl in (
+    let s = seat (goal.at.returns-in-Some c).After-recipe-chart in (
       refl,
-      record {
-        batch = b;
-        chart = x;
-        here = record { at = at; listed = listed };
-        can = c.in-Some.ensures.possible;
-        about = c.in-Some.ensures.about (tree_of v.cleared b) (chart-here v kept c.args.index b at x listed) (batch-runs v kept c.args.index b at).runs;
-        is = own-least v c.args.index b (move_of (tree_of v.cleared b) (batch_of v.cleared b) c.in-Some.made) at (sym next);
-      },
+      (
+        record {
+          batch = b;
+          chart = c.recipe-chart.result.now;
+          here = record { at = s.at; listed = s.listed };
+          can = c.in-Some.ensures.possible;
+          about = c.in-Some.ensures.about (tree_of v.cleared b) s.chart s.runs;
+          is = own-least v c.args.index b (move_of (tree_of v.cleared b) (batch_of v.cleared b) c.in-Some.made) s.at
+              (sym (c.in-Some.ensures.next (tree_of v.cleared b) (batch_of v.cleared b) s.chart s.runs refl refl));
+        },
+        c.wanted-resource.ensures,
+      ),
     )
 
 pub returns-in_err-node : goal.returns-in_err-node
 returns-in_err-node c =
     let v : EngineView = c.args.self.now in
     let b : Batch = c.index-batch.result.now in
-    let x : document.Recipe = c.recipe-chart.result.now in
-    let kept : IsKept v = subst IsKept c.self.view_is c.self.invariant.kept in
-    let at : slice_get v.batches c.args.index ≡ Some b = got-batch v _ c.args.index b c.self.view_is c.requires c.index-batch.ensures in
-    let listed : slice_get v.cleared.recipes b.recipe ≡ Some x = got-chart v _ b.recipe x c.self.view_is c.recipe-chart.ensures in
-    let own : ◌≡◌ {A = Option Moves.Move} None (own_next (batch_of v.cleared b)) =
-    c.in_default.ensures.next (tree_of v.cleared b) (batch_of v.cleared b) (chart-here v kept c.args.index b at x listed) (batch-runs v kept c.args.index b at).runs refl refl in
+    let s = seat (goal.at.returns-in_err-node c).After-recipe-chart in
     let grants : IsFirstGrant v c.args.index None = subst (IsFirstGrant v c.args.index) c.in_err-node.was c.first_grant.ensures in
-    subst (IsBatchStep v c.args.index) (sym c.from_residual.ensures) (no-move v c.args.index b at (sym own) (grants b at))
+    subst (IsBatchStep v c.args.index) (sym c.from_residual.ensures)
+    (no-move v c.args.index b s.at (sym (c.in_default.ensures.next (tree_of v.cleared b) (batch_of v.cleared b) s.chart s.runs refl refl)) (grants b s.at))
 
 pub returns : goal.returns
 returns c =
     let v : EngineView = c.args.self.now in
     let b : Batch = c.index-batch.result.now in
-    let x : document.Recipe = c.recipe-chart.result.now in
-    let kept : IsKept v = subst IsKept c.self.view_is c.self.invariant.kept in
-    let at : slice_get v.batches c.args.index ≡ Some b = got-batch v _ c.args.index b c.self.view_is c.requires c.index-batch.ensures in
-    let listed : slice_get v.cleared.recipes b.recipe ≡ Some x = got-chart v _ b.recipe x c.self.view_is c.recipe-chart.ensures in
-    let own : ◌≡◌ {A = Option Moves.Move} None (own_next (batch_of v.cleared b)) =
-    c.in_default.ensures.next (tree_of v.cleared b) (batch_of v.cleared b) (chart-here v kept c.args.index b at x listed) (batch-runs v kept c.args.index b at).runs refl refl in
+    let s = seat (goal.at.returns c).After-recipe-chart in
+    let own : ◌≡◌ {A = Option Moves.Move} None (own_next (batch_of v.cleared b)) = c.in_default.ensures.next (tree_of v.cleared b) (batch_of v.cleared b) s.chart s.runs refl refl in
     let g : IsFirstGrant v c.args.index (Some (c.in_ok-node.node, c.in_ok-node.resource, c.in_ok-node.units)) = subst (IsFirstGrant v c.args.index) c.in_ok-node.was c.first_grant.ensures in
-    let own_there : own_next (batch_of v.cleared g.batch) ≡ None = one-batch v kept c.args.index b at (λ z. own_next (batch_of v.cleared z)) None g.batch g.here.at (sym own) in (
+    let own_there : own_next (batch_of v.cleared g.batch) ≡ None = one-batch v s.kept c.args.index b s.at (λ z. own_next (batch_of v.cleared z)) None g.batch g.here.at (sym own) in (
       refl,
       record {
         batch = g.batch;
@@ -77,24 +77,16 @@ returns c =
     )
 
 pub next_move-requires : goal.next_move-requires
-next_move-requires c =
-    let v : EngineView = c.args.self.now in
-    let b : Batch = c.index-batch.result.now in
-    let x : document.Recipe = c.recipe-chart.result.now in
-    let kept : IsKept v = subst IsKept c.self.view_is c.self.invariant.kept in
-    let at : slice_get v.batches c.args.index ≡ Some b = got-batch v _ c.args.index b c.self.view_is c.requires c.index-batch.ensures in
-    let listed : slice_get v.cleared.recipes b.recipe ≡ Some x = got-chart v _ b.recipe x c.self.view_is c.recipe-chart.ensures in
-    runs-here v kept c.args.index b at x listed
+next_move-requires c = (seat (goal.at.next_move-requires c).After-recipe-chart).running
 
 pub returns-then-is_stopped : goal.returns-then-is_stopped
 returns-then-is_stopped c =
     let v : EngineView = c.args.self.now in
     let b : Batch = c.index-batch.result.now in
-    let kept : IsKept v = subst IsKept c.self.view_is c.self.invariant.kept in
-    let at : slice_get v.batches c.args.index ≡ Some b = got-batch v _ c.args.index b c.self.view_is c.requires c.index-batch.ensures in
+    let r : IsRead v c.args.index b = read-at c.self.view_is c.self.invariant.kept c.requires c.index-batch.ensures in
     record {
       batch = b;
-      at = at;
+      at = r.at;
       none = stopped-moves (setup v.cleared) (plant_of v) (batch_of v.cleared b) (sym c.is_stopped.ensures ∙ c.if-is_stopped.true)
-          ((safe v kept).sound (batch_of v.cleared b) (Has-batch_of v.cleared v.batches b (has v kept c.args.index b at))).fits;
+          ((safe v r.kept).sound (batch_of v.cleared b) (Has-batch_of v.cleared v.batches b (has v r.kept c.args.index b r.at))).fits;
     }

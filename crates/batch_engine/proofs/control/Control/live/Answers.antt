@@ -1,4 +1,4 @@
-use Rattle.std.proofs.Common.{◌≡◌, sym, ◌∙◌, ap, subst, ℕ, List, Option, Some, None, inl, inr, arith, get_or}
+use Rattle.std.proofs.Common.{◌≡◌, sym, ◌∙◌, ap, subst, ℕ, List, Some, None, inl, inr, arith, get_or}
 use Rattle.std.specs.Prelude.{slice_get, position}
 use Rattle.std.proofs.lemmas.Bool.{cases_eq}
 use Rattle.std.proofs.lemmas.Option.{slice_get-get_or}
@@ -16,10 +16,11 @@ use Rattle.batch_engine.proofs.LiveNodes.{live-node}
 use Rattle.batch_engine.proofs.Reporting.{live-here, live-nowhere}
 use Rattle.batch_engine.proofs.Unmarked.{found-within, known-resource}
 use Rattle.batch_engine.proofs.control.Control.live.Goals as goal
+use Rattle.batch_engine.proofs.control.Control.live.Goals.{After-resource_of}
 
 -- the number of the unit, as the plant has it
-unit-is : (v w : EngineView) (cell : Cell) (unit : Name) (o : Option ℕ) → w ≡ v → cell ≡ w.cleared.cell → o ≡ position (same_name unit) (resources_of cell) → number_of v.cleared unit ≡ o
-unit-is v w cell unit o e f h = sym (h ∙ ap (λ (z : Cell). position (same_name unit) (resources_of z)) (f ∙ ap (λ (z : EngineView). z.cleared.cell) e))
+searched : (c : After-resource_of) → number_of c.args.self.now.cleared c.args.unit.now ≡ c.resource_of.result
+searched c = sym (c.resource_of.ensures ∙ ap (λ (z : Cell). position (same_name c.args.unit.now) (resources_of z)) (c.cell.ensures.value ∙ ap (λ (z : EngineView). z.cleared.cell) c.self.view_is))
 
 -- the batch that is noted for it
 noted-is : (v : EngineView) (hs : List ℕ) → IsKept v → AreNoted v hs → (unit : Name) (q i : ℕ) → number_of v.cleared unit ≡ Some q → i ≡ q → slice_get hs q ≡ Some (get_or hs i 0)
@@ -29,7 +30,7 @@ noted-is v hs k are unit q i e f =
 pub returns-in_err-resource : goal.returns-in_err-resource
 returns-in_err-resource c =
     let v : EngineView = c.args.self.now in
-    let none : number_of v.cleared c.args.unit.now ≡ None = unit-is v _ c.cell.result.now c.args.unit.now c.resource_of.result c.self.view_is c.cell.ensures.value c.resource_of.ensures ∙ c.in_err-resource.was in
+    let none : number_of v.cleared c.args.unit.now ≡ None = searched (goal.at.returns-in_err-resource c).After-resource_of ∙ c.in_err-resource.was in
     subst (IsLivePhase v c.args.unit.now c.args.phase.now) (sym c.from_residual.ensures)
     (live-nowhere v c.args.unit.now c.args.phase.now v.batches (live-no_unit v c.is_kept.ensures c.args.holders.now c.requires c.args.unit.now c.args.phase.now none))
 
@@ -40,8 +41,7 @@ pub returns-in_err-index : goal.returns-in_err-index
 returns-in_err-index c =
     let v : EngineView = c.args.self.now in
     let hs : List ℕ = c.args.holders.now in
-    let unit : number_of v.cleared c.args.unit.now ≡ Some c.in_ok-resource.resource =
-    unit-is v _ c.cell.result.now c.args.unit.now c.resource_of.result c.self.view_is c.cell.ensures.value c.resource_of.ensures ∙ c.in_ok-resource.was in
+    let unit : number_of v.cleared c.args.unit.now ≡ Some c.in_ok-resource.resource = searched (goal.at.returns-in_err-index c).After-resource_of ∙ c.in_ok-resource.was in
     subst (IsLivePhase v c.args.unit.now c.args.phase.now) (sym c.from_residual-in_err-index.ensures)
     (live-nowhere v c.args.unit.now c.args.phase.now v.batches
     (live-no_batch v c.is_kept.ensures hs c.requires c.args.unit.now c.args.phase.now c.in_ok-resource.resource (get_or hs c.from.result 0) unit
@@ -52,8 +52,7 @@ returns-in_err-node c =
     let v : EngineView = c.args.self.now in
     let hs : List ℕ = c.args.holders.now in
     let i : ℕ = c.in_ok-index.index in
-    let unit : number_of v.cleared c.args.unit.now ≡ Some c.in_ok-resource.resource =
-    unit-is v _ c.cell.result.now c.args.unit.now c.resource_of.result c.self.view_is c.cell.ensures.value c.resource_of.ensures ∙ c.in_ok-resource.was in
+    let unit : number_of v.cleared c.args.unit.now ≡ Some c.in_ok-resource.resource = searched (goal.at.returns-in_err-node c).After-resource_of ∙ c.in_ok-resource.was in
     let elsewhere =
     live-elsewhere v c.is_kept.ensures hs c.requires c.args.unit.now c.args.phase.now c.in_ok-resource.resource (get_or hs c.from.result 0) unit
     (noted-is v hs c.is_kept.ensures c.requires c.args.unit.now c.in_ok-resource.resource c.from.result unit c.from.ensures) i (sym c.index_of.ensures ∙ c.in_ok-index.was) in
@@ -70,8 +69,7 @@ returns c =
     let hs : List ℕ = c.args.holders.now in
     let kept : IsKept v = c.is_kept.ensures in
     let i : ℕ = c.in_ok-index.index in
-    let unit : number_of v.cleared c.args.unit.now ≡ Some c.in_ok-resource.resource =
-    unit-is v _ c.cell.result.now c.args.unit.now c.resource_of.result c.self.view_is c.cell.ensures.value c.resource_of.ensures ∙ c.in_ok-resource.was in
+    let unit : number_of v.cleared c.args.unit.now ≡ Some c.in_ok-resource.resource = searched (goal.at.returns c).After-resource_of ∙ c.in_ok-resource.was in
     let elsewhere =
     live-elsewhere v kept hs c.requires c.args.unit.now c.args.phase.now c.in_ok-resource.resource (get_or hs c.from.result 0) unit
     (noted-is v hs kept c.requires c.args.unit.now c.in_ok-resource.resource c.from.result unit c.from.ensures) i (sym c.index_of.ensures ∙ c.in_ok-index.was) in

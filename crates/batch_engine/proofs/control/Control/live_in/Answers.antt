@@ -1,22 +1,31 @@
-use Rattle.std.proofs.Common.{◌≡◌, sym, ◌∙◌, ap, subst, ℕ, List, Bool, true, false, Some, None, arith}
-use Rattle.std.specs.Prelude.{slice_get, position}
+use Rattle.std.proofs.Common.{◌≡◌, sym, ◌∙◌, ap, ℕ, List, Some, None, arith}
+use Rattle.std.specs.Prelude.{position}
 use Rattle.batch_cell.specs.LookUps.{units_of}
-use Rattle.batch_recipe.specs.Conditions.{Name, same_name}
+use Rattle.batch_chart.specs.Charts.{remains_from}
+use Rattle.batch_chart.specs.NodesOf.{node_at, phase_at, phase_named}
+use Rattle.batch_chart.proofs.Live.{from-first}
 use Rattle.batch_model.specs.Events.{live_in}
 use Rattle.batch_model.specs.Rest.{acts}
-use Rattle.batch_chart.specs.Charts.{remains, remains_from}
-use Rattle.batch_chart.specs.NodesOf.{node_at, phase_at, phase_named}
-use Rattle.batch_recipe.specs.declared.recipe.Recipe as document
-use Rattle.batch_chart.proofs.Live.{from-first}
+use Rattle.batch_recipe.specs.Conditions.{Name, same_name}
+use Rattle.batch_verify.proofs.Finding.{found_below}
 use Rattle.batch_engine.specs.declared.batch.Batch.{Batch}
 use Rattle.batch_engine.specs.View.{EngineView, batch_of, tree_of}
-use Rattle.batch_engine.specs.Kept.{IsKept}
 use Rattle.batch_engine.proofs.Answering.{at-same}
-use Rattle.batch_engine.proofs.Finding.{chart-here, got-batch, got-chart, batch-runs, runs-here}
 use Rattle.batch_engine.proofs.LivePhases.{found-on, passed-over, phase-within}
-use Rattle.batch_verify.proofs.Finding.{found_below}
+use Rattle.batch_engine.proofs.Seats.{IsSeat, read-at, seat-of}
 use Rattle.batch_engine.proofs.Taken.{unit-is_resource}
 use Rattle.batch_engine.proofs.control.Control.live_in.Goals as goal
+use Rattle.batch_engine.proofs.control.Control.live_in.Goals.{After-phase_at, After-recipe-chart}
+
+seat : (c : After-recipe-chart) → IsSeat c.args.self.now c.args.index c.index-batch.result.now c.recipe-chart.result.now
+seat c = seat-of c.self.view_is (read-at c.self.view_is c.self.invariant.kept c.requires c.index-batch.ensures) c.recipe-chart.ensures
+
+-- the number of the unit that the live phase is of
+own : (c : After-phase_at) → IsSeat c.args.self.now c.args.index c.index-batch.result.now c.recipe-chart.result.now
+    → position (same_name (phase_at (tree_of c.args.self.now.cleared c.index-batch.result.now) c.in-Some.node).unit) (units_of c.args.self.now.cleared.cell) ≡ Some c.phase_at.result.unit
+own c s =
+    let t = tree_of c.args.self.now.cleared c.index-batch.result.now in
+    c.phase_at.ensures.unit c.index-batch.result.now s.at ((phase_at t c.in-Some.node).unit, c.args.phase.now) (c.in-Some.ensures.runs t s.chart s.runs)
 
 pub loop-node-init : goal.loop-node-init
 loop-node-init c =
@@ -25,85 +34,49 @@ loop-node-init c =
     (omega arith, λ name number. ap (live_in (batch_of v.cleared b) name c.args.phase.now) (sym (from-first (tree_of v.cleared b) b.running.stages.items)))
 
 pub live-requires : goal.live-requires
-live-requires c =
-    let v : EngineView = c.args.self.now in
-    let kept : IsKept v = subst IsKept c.self.view_is c.self.invariant.kept in
-    let i : ℕ = c.args.index in
-    let phase : Name = c.args.phase.now in
-    let b : Batch = c.index-batch.result.now in
-    let at : slice_get v.batches i ≡ Some b = got-batch v _ i b c.self.view_is c.requires c.index-batch.ensures in
-    let x : document.Recipe = c.recipe-chart.result.now in
-    let listed : slice_get v.cleared.recipes b.recipe ≡ Some x = got-chart v _ b.recipe x c.self.view_is c.recipe-chart.ensures in
-    let t = tree_of v.cleared b in
-    let chart = chart-here v kept i b at x listed in
-    let runs = (batch-runs v kept i b at).runs in
-    runs-here v kept i b at x listed
+live-requires c = (seat (goal.at.live-requires c).After-recipe-chart).running
 
 pub phase_at-requires : goal.phase_at-requires
 phase_at-requires c =
-    let v : EngineView = c.args.self.now in
-    let kept : IsKept v = subst IsKept c.self.view_is c.self.invariant.kept in
-    let i : ℕ = c.args.index in
-    let phase : Name = c.args.phase.now in
-    let b : Batch = c.index-batch.result.now in
-    let at : slice_get v.batches i ≡ Some b = got-batch v _ i b c.self.view_is c.requires c.index-batch.ensures in
-    let x : document.Recipe = c.recipe-chart.result.now in
-    let listed : slice_get v.cleared.recipes b.recipe ≡ Some x = got-chart v _ b.recipe x c.self.view_is c.recipe-chart.ensures in
-    let t = tree_of v.cleared b in
-    let chart = chart-here v kept i b at x listed in
-    let runs = (batch-runs v kept i b at).runs in
-    let node : ℕ = c.in-Some.node in
-    let named : phase_named (node_at t node).here ≡ Some ((phase_at t node).unit, phase) = c.in-Some.ensures.runs t chart runs in
-    (b, at, phase-within t node ((phase_at t node).unit, phase) named)
+    let s = seat (goal.at.phase_at-requires c).After-recipe-chart in
+    let t = tree_of c.args.self.now.cleared c.index-batch.result.now in
+    let named : phase_named (node_at t c.in-Some.node).here ≡ Some ((phase_at t c.in-Some.node).unit, c.args.phase.now) = c.in-Some.ensures.runs t s.chart s.runs in
+    (c.index-batch.result.now, s.at, phase-within t c.in-Some.node ((phase_at t c.in-Some.node).unit, c.args.phase.now) named)
 
 pub returns-then-phase_at-unit : goal.returns-then-phase_at-unit
 returns-then-phase_at-unit c =
+    let w = goal.at.returns-then-phase_at-unit c in
     let v : EngineView = c.args.self.now in
-    let kept : IsKept v = subst IsKept c.self.view_is c.self.invariant.kept in
-    let i : ℕ = c.args.index in
-    let phase : Name = c.args.phase.now in
     let b : Batch = c.index-batch.result.now in
-    let at : slice_get v.batches i ≡ Some b = got-batch v _ i b c.self.view_is c.requires c.index-batch.ensures in
-    let x : document.Recipe = c.recipe-chart.result.now in
-    let listed : slice_get v.cleared.recipes b.recipe ≡ Some x = got-chart v _ b.recipe x c.self.view_is c.recipe-chart.ensures in
-    let t = tree_of v.cleared b in
-    let chart = chart-here v kept i b at x listed in
-    let runs = (batch-runs v kept i b at).runs in
     let node : ℕ = c.in-Some.node in
-    let named : phase_named (node_at t node).here ≡ Some ((phase_at t node).unit, phase) = c.in-Some.ensures.runs t chart runs in
+    let s = seat w.After-recipe-chart in
+    let t = tree_of v.cleared b in
     let units : List Name = units_of v.cleared.cell in
-    let own : position (same_name (phase_at t node).unit) units ≡ Some c.phase_at.result.unit = c.phase_at.ensures.unit b at ((phase_at t node).unit, phase) named in λ name number. (
+    let is : position (same_name (phase_at t node).unit) units ≡ Some c.phase_at.result.unit = own w.After-phase_at s in λ name number. (
       b,
-      x,
-      record { at = at; listed = listed },
-      c.loop-node.invariant.1 name number ∙ c.in-Some.ensures.found t (batch_of v.cleared b) name chart runs
-          ∙ found-on t (batch_of v.cleared b) (remains_from t b.running) name phase node c.in-Some.state units c.phase_at.result.unit own
-          ((unit-is_resource v.cleared name c.args.unit c.phase_at.result.unit number (found_below (same_name (phase_at t node).unit) units c.phase_at.result.unit own)).0 (omega (arith, c.if-phase_at-unit.true))),
+      c.recipe-chart.result.now,
+      record { at = s.at; listed = s.listed },
+      c.loop-node.invariant.1 name number ∙ c.in-Some.ensures.found t (batch_of v.cleared b) name s.chart s.runs
+          ∙ found-on t (batch_of v.cleared b) (remains_from t b.running) name c.args.phase.now node c.in-Some.state units c.phase_at.result.unit is
+          ((unit-is_resource v.cleared name c.args.unit c.phase_at.result.unit number (found_below (same_name (phase_at t node).unit) units c.phase_at.result.unit is)).0 (omega (arith, c.if-phase_at-unit.true))),
       c.in-Some.ensures.live,
     )
 
 pub loop-node-preserved : goal.loop-node-preserved
 loop-node-preserved c =
+    let w = goal.at.loop-node-preserved c in
     let v : EngineView = c.args.self.now in
-    let kept : IsKept v = subst IsKept c.self.view_is c.self.invariant.kept in
-    let i : ℕ = c.args.index in
-    let phase : Name = c.args.phase.now in
     let b : Batch = c.index-batch.result.now in
-    let at : slice_get v.batches i ≡ Some b = got-batch v _ i b c.self.view_is c.requires c.index-batch.ensures in
-    let x : document.Recipe = c.recipe-chart.result.now in
-    let listed : slice_get v.cleared.recipes b.recipe ≡ Some x = got-chart v _ b.recipe x c.self.view_is c.recipe-chart.ensures in
-    let t = tree_of v.cleared b in
-    let chart = chart-here v kept i b at x listed in
-    let runs = (batch-runs v kept i b at).runs in
     let node : ℕ = c.in-Some.node in
-    let named : phase_named (node_at t node).here ≡ Some ((phase_at t node).unit, phase) = c.in-Some.ensures.runs t chart runs in
+    let s = seat w.After-recipe-chart in
+    let t = tree_of v.cleared b in
     let units : List Name = units_of v.cleared.cell in
-    let own : position (same_name (phase_at t node).unit) units ≡ Some c.phase_at.result.unit = c.phase_at.ensures.unit b at ((phase_at t node).unit, phase) named in (
+    let is : position (same_name (phase_at t node).unit) units ≡ Some c.phase_at.result.unit = own w.After-phase_at s in (
       omega (arith, c.in-Some.ensures.later.1),
-      λ name number. c.loop-node.invariant.1 name number ∙ c.in-Some.ensures.found t (batch_of v.cleared b) name chart runs
-          ∙ passed-over t (batch_of v.cleared b) (remains_from t b.running) name phase node c.in-Some.state units c.phase_at.result.unit own
+      λ name number. c.loop-node.invariant.1 name number ∙ c.in-Some.ensures.found t (batch_of v.cleared b) name s.chart s.runs
+          ∙ passed-over t (batch_of v.cleared b) (remains_from t b.running) name c.args.phase.now node c.in-Some.state units c.phase_at.result.unit is
           (λ unit. absurd (
-          let same : c.args.unit ≡ c.phase_at.result.unit = (unit-is_resource v.cleared name c.args.unit c.phase_at.result.unit number (found_below (same_name (phase_at t node).unit) units c.phase_at.result.unit own)).1 unit in
+          let same : c.args.unit ≡ c.phase_at.result.unit = (unit-is_resource v.cleared name c.args.unit c.phase_at.result.unit number (found_below (same_name (phase_at t node).unit) units c.phase_at.result.unit is)).1 unit in
           omega (arith, c.if-phase_at-unit.false, same)
           )),
     )
@@ -111,15 +84,7 @@ loop-node-preserved c =
 pub returns : goal.returns
 returns c =
     let v : EngineView = c.args.self.now in
-    let kept : IsKept v = subst IsKept c.self.view_is c.self.invariant.kept in
-    let i : ℕ = c.args.index in
-    let phase : Name = c.args.phase.now in
     let b : Batch = c.index-batch.result.now in
-    let at : slice_get v.batches i ≡ Some b = got-batch v _ i b c.self.view_is c.requires c.index-batch.ensures in
-    let x : document.Recipe = c.recipe-chart.result.now in
-    let listed : slice_get v.cleared.recipes b.recipe ≡ Some x = got-chart v _ b.recipe x c.self.view_is c.recipe-chart.ensures in
-    let t = tree_of v.cleared b in
-    let chart = chart-here v kept i b at x listed in
-    let runs = (batch-runs v kept i b at).runs in
-    λ name number d e. at-same v.batches i b d (λ (z : Batch). live_in (batch_of v.cleared z) name phase (acts (batch_of v.cleared z).rest) ≡ None) at e
-    (c.loop-node.invariant.1 name number ∙ c.in_default.ensures.found t (batch_of v.cleared b) name chart runs)
+    let s = seat (goal.at.returns c).After-recipe-chart in
+    λ name number d e. at-same v.batches c.args.index b d (λ (z : Batch). live_in (batch_of v.cleared z) name c.args.phase.now (acts (batch_of v.cleared z).rest) ≡ None) s.at e
+    (c.loop-node.invariant.1 name number ∙ c.in_default.ensures.found (tree_of v.cleared b) (batch_of v.cleared b) name s.chart s.runs)

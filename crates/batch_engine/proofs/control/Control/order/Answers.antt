@@ -1,43 +1,27 @@
-use Rattle.std.proofs.Common.{◌≡◌, refl, sym, ◌∙◌, ap, subst, ℕ, Some, None, true, false}
-use Rattle.std.specs.Prelude.{slice_get}
-use Rattle.std.proofs.lemmas.Option.{slice_get_within}
-use Rattle.batch_matrix.specs.declared.state.State.{State}
+use Rattle.std.proofs.Common.{◌≡◌, refl, sym, ◌∙◌, subst, ℕ, Some, None}
+use Rattle.batch_matrix.specs.Matrix.{after, target}
 use Rattle.batch_matrix.specs.declared.command.Command.{Command}
 use Rattle.batch_matrix.specs.declared.command.Command.TheVariants.{Start, Pause, Resume, Hold, Restart, Stop, Abort, Reset}
-use Rattle.batch_matrix.specs.Matrix.{accepts, target}
-use Rattle.batch_engine.specs.declared.batch.Batch.{Batch}
-use Rattle.batch_engine.specs.View.{EngineView, batch_of}
+use Rattle.batch_matrix.specs.declared.state.State.{State}
+use Rattle.batch_model.specs.Moves.{next}
 use Rattle.batch_engine.specs.Orders.{IsOrder, IsPlain}
+use Rattle.batch_engine.specs.View.{EngineView, batch_of, plant_of, setup}
+use Rattle.batch_engine.specs.declared.batch.Batch.{Batch}
 use Rattle.batch_engine.proofs.Accepted.{accepted, not-accepted}
-use Rattle.batch_engine.proofs.Answering.{same-at}
-use Rattle.batch_engine.proofs.Finding.{got-batch}
-use Rattle.batch_engine.proofs.Seeking.{Found, found-at, none-found}
-use Rattle.batch_engine.proofs.OrderAnswers.{order-unknown, order-refused}
+use Rattle.batch_engine.proofs.OrderAnswers.{order-refused, order-unknown}
+use Rattle.batch_engine.proofs.Seats.{IsFound, found-here}
+use Rattle.batch_engine.proofs.Seeking.{none-found}
 use Rattle.batch_engine.proofs.control.Control.order.Goals as goal
+use Rattle.batch_engine.proofs.control.Control.order.Goals.{After-index}
 
-pub returns-in_default : goal.returns-in_default
-returns-in_default c =
-    let v : EngineView = c.args.self.now in
-    record { cleared = refl; reacts = order-unknown v c.args.command c.args.number c.requires (none-found v c.args.number (sym c.index_of.ensures ∙ c.in_default.is)) }
+found : (c : After-index) → IsFound c.args.self.now c.args.number c.in-Some.index c.index.result.now
+found c = found-here c.self.view_is c.self.invariant.kept (sym c.index_of.ensures ∙ c.in-Some.is) c.index.ensures
 
-pub returns-in_default-after : goal.returns-in_default-after
-returns-in_default-after c =
-    let v : EngineView = c.args.self.now in
-    let f : Found v c.args.number c.in-Some.index = found-at v c.args.number c.in-Some.index (sym c.index_of.ensures ∙ c.in-Some.is) in
-    let b : Batch = c.index.result.now in
-    let at : slice_get v.batches c.in-Some.index ≡ Some b = got-batch v _ c.in-Some.index b c.self.view_is (slice_get_within v.batches c.in-Some.index f.batch f.at) c.index.ensures in
-    let same : f.batch ≡ b = same-at v.batches c.in-Some.index f.batch b f.at at in
-    let off : accepts f.batch.state c.args.command ≡ false =
-    not-accepted f.batch.state c.args.command (ap (λ (z : Batch). Rattle.batch_matrix.specs.Matrix.after z.state c.args.command) same ∙ sym c.after.ensures ∙ c.in_default-after.is) in
-    record {
-      cleared = refl;
-      reacts = subst (λ (x : State). Rattle.batch_model.specs.Runs.Reacts (Rattle.batch_engine.specs.View.setup v.cleared) (Rattle.batch_engine.specs.View.plant_of v) (Rattle.batch_model.specs.Events.order c.args.command c.args.number) (Rattle.batch_model.specs.Events.refused (Rattle.batch_model.specs.Events.command_not_accepted x)) (Rattle.batch_engine.specs.View.plant_of v))
-          (ap (λ (z : Batch). z.state) same) (order-refused v c.args.command c.args.number (batch_of v.cleared f.batch) c.requires f.is off);
-    }
-
-made-order : (v : EngineView) (i : ℕ) (command : Command) (n : ℕ) (f : Found v n i) → Rattle.batch_model.specs.Moves.next (Rattle.batch_engine.specs.View.setup v.cleared) (Rattle.batch_engine.specs.View.plant_of v) ≡ None
-    → accepts f.batch.state command ≡ true → IsOrder v i command n
-made-order v i command n f settled yes' = record { batch = f.batch; at = f.at; number = f.number; found = f.is; settled = settled; accepted = yes' }
+made-order : (v : EngineView) (i : ℕ) (command : Command) (n : ℕ) (b : Batch) → IsFound v n i b → next (setup v.cleared) (plant_of v) ≡ None → (x : State) → after b.state command ≡ Some x
+    → IsOrder v i command n × (x ≡ target command)
+made-order v i command n b f settled x e =
+    let go = accepted b.state command x e in
+    (record { batch = b; at = f.at; number = f.number; found = f.is; settled = settled; accepted = go.0 }, go.1)
 
 plain : (command : Command) → (command ≡ Stop → ⊥) → (command ≡ Abort → ⊥) → (command ≡ Reset → ⊥) → IsPlain command
 plain Start f g h = tt
@@ -49,36 +33,35 @@ plain Stop f g h = f refl
 plain Abort f g h = g refl
 plain Reset f g h = h refl
 
+pub returns-in_default : goal.returns-in_default
+returns-in_default c =
+    let v : EngineView = c.args.self.now in
+    record { cleared = refl; reacts = order-unknown v c.args.command c.args.number c.requires (none-found v c.args.number (sym c.index_of.ensures ∙ c.in_default.is)) }
+
+pub returns-in_default-after : goal.returns-in_default-after
+returns-in_default-after c =
+    let v : EngineView = c.args.self.now in
+    let b : Batch = c.index.result.now in
+    record {
+      cleared = refl;
+      reacts = order-refused v c.args.command c.args.number (batch_of v.cleared b) c.requires (found (goal.at.returns-in_default-after c).After-index).is
+          (not-accepted b.state c.args.command (sym c.after.ensures ∙ c.in_default-after.is));
+    }
+
 pub stop-requires-clause-order : goal.stop-requires-clause-order
 stop-requires-clause-order c =
-    let v : EngineView = c.args.self.now in
-    let f : Found v c.args.number c.in-Some.index = found-at v c.args.number c.in-Some.index (sym c.index_of.ensures ∙ c.in-Some.is) in
-    let b : Batch = c.index.result.now in
-    let at : slice_get v.batches c.in-Some.index ≡ Some b = got-batch v _ c.in-Some.index b c.self.view_is (slice_get_within v.batches c.in-Some.index f.batch f.at) c.index.ensures in
-    let same : f.batch ≡ b = same-at v.batches c.in-Some.index f.batch b f.at at in
-    let go = accepted f.batch.state c.args.command c.in-Some-after.next (ap (λ (z : Batch). Rattle.batch_matrix.specs.Matrix.after z.state c.args.command) same ∙ sym c.after.ensures ∙ c.in-Some-after.is) in
-    made-order v c.in-Some.index c.args.command c.args.number f c.requires go.0
+    (made-order c.args.self.now c.in-Some.index c.args.command c.args.number c.index.result.now (found (goal.at.stop-requires-clause-order c).After-index) c.requires c.in-Some-after.next (sym c.after.ensures ∙ c.in-Some-after.is)).0
 
 pub reset-requires : goal.reset-requires
 reset-requires c =
-    let v : EngineView = c.args.self.now in
-    let f : Found v c.args.number c.in-Some.index = found-at v c.args.number c.in-Some.index (sym c.index_of.ensures ∙ c.in-Some.is) in
-    let b : Batch = c.index.result.now in
-    let at : slice_get v.batches c.in-Some.index ≡ Some b = got-batch v _ c.in-Some.index b c.self.view_is (slice_get_within v.batches c.in-Some.index f.batch f.at) c.index.ensures in
-    let same : f.batch ≡ b = same-at v.batches c.in-Some.index f.batch b f.at at in
-    let go = accepted f.batch.state c.args.command c.in-Some-after.next (ap (λ (z : Batch). Rattle.batch_matrix.specs.Matrix.after z.state c.args.command) same ∙ sym c.after.ensures ∙ c.in-Some-after.is) in
-    record { order = subst (λ (z : Command). IsOrder v c.in-Some.index z c.args.number) c.in-Reset.is (made-order v c.in-Some.index c.args.command c.args.number f c.requires go.0) }
+    let o = made-order c.args.self.now c.in-Some.index c.args.command c.args.number c.index.result.now (found (goal.at.reset-requires c).After-index) c.requires c.in-Some-after.next (sym c.after.ensures ∙ c.in-Some-after.is) in
+    record { order = subst (λ (z : Command). IsOrder c.args.self.now c.in-Some.index z c.args.number) c.in-Reset.is o.0 }
 
 pub enter-requires : goal.enter-requires
 enter-requires c =
-    let v : EngineView = c.args.self.now in
-    let f : Found v c.args.number c.in-Some.index = found-at v c.args.number c.in-Some.index (sym c.index_of.ensures ∙ c.in-Some.is) in
-    let b : Batch = c.index.result.now in
-    let at : slice_get v.batches c.in-Some.index ≡ Some b = got-batch v _ c.in-Some.index b c.self.view_is (slice_get_within v.batches c.in-Some.index f.batch f.at) c.index.ensures in
-    let same : f.batch ≡ b = same-at v.batches c.in-Some.index f.batch b f.at at in
-    let go = accepted f.batch.state c.args.command c.in-Some-after.next (ap (λ (z : Batch). Rattle.batch_matrix.specs.Matrix.after z.state c.args.command) same ∙ sym c.after.ensures ∙ c.in-Some-after.is) in
+    let o = made-order c.args.self.now c.in-Some.index c.args.command c.args.number c.index.result.now (found (goal.at.enter-requires c).After-index) c.requires c.in-Some-after.next (sym c.after.ensures ∙ c.in-Some-after.is) in
     record {
-      order = made-order v c.in-Some.index c.args.command c.args.number f c.requires go.0;
+      order = o.0;
       plain = plain c.args.command c.in_default-command.not-Stop c.in_default-command.not-Abort c.in_default-command.not-Reset;
-      target = go.1;
+      target = o.1;
     }

@@ -1,78 +1,48 @@
-use Rattle.std.proofs.Common.{refl, ◌≡◌, sym, ap, subst, Some}
-use Rattle.std.specs.Prelude.{slice_get}
-use Rattle.std.proofs.lemmas.Option.{slice_get_within}
-use Rattle.batch_model.specs.Moves as Moves
-use Rattle.batch_arbiter.specs.Allocation.{Allocation}
+use Rattle.std.proofs.Common.{refl}
 use Rattle.batch_chart.specs.Seen.{move_of}
-use Rattle.batch_recipe.specs.declared.recipe.Recipe as document
+use Rattle.batch_model.specs.Moves as Moves
 use Rattle.batch_engine.specs.declared.batch.Batch.{Batch}
+use Rattle.batch_engine.specs.Steps.{IsNext}
 use Rattle.batch_engine.specs.View.{EngineView, batch_of, tree_of}
-use Rattle.batch_engine.specs.Kept.{IsKept}
-use Rattle.batch_engine.specs.Steps.{IsOwnStep, IsNext}
-use Rattle.batch_engine.proofs.Finding.{chart-here, got-batch, got-chart, batch-runs, runs-here}
-use Rattle.batch_engine.proofs.Stepping.{changed}
+use Rattle.batch_engine.proofs.Answering.{step-can, step-is}
 use Rattle.batch_engine.proofs.Made.{Becomes, run-quiet}
-use Rattle.batch_engine.proofs.Answering.{step-is, step-can, closed-kept, closed-makes}
-use Rattle.batch_engine.proofs.Filing.{own-numbers-set}
-use Rattle.batch_engine.proofs.Room.{needs-set}
+use Rattle.batch_engine.proofs.Seats.{IsSeat, closed-makes, counted-set, read-there, seat-of}
+use Rattle.batch_engine.proofs.Stepping.{changed}
 use Rattle.batch_engine.proofs.control.Control.run.Goals as goal
+use Rattle.batch_engine.proofs.control.Control.run.Goals.{After-make, After-recipe-chart}
+
+seat : (c : After-recipe-chart) → IsSeat c.args.self.now c.args.index c.index_mut-batch.result.now c.recipe-chart.result.now
+seat c = seat-of c.self.view_is (read-there c.self.view_is c.self.invariant.kept c.requires.step.here.at c.index_mut-batch.ensures.value) c.recipe-chart.ensures
+
+abbrev move : After-make → Moves.Move
+move c = move_of (tree_of c.args.self.now.cleared c.index_mut-batch.result.now) (batch_of c.args.self.now.cleared c.index_mut-batch.result.now) c.args.made
+
+abbrev own : After-make → Batch
+own c = record (c.index_mut-batch.result.now) { running = c.make.new.self }
+
+made : (c : After-make) → IsSeat c.args.self.now c.args.index c.index_mut-batch.result.now c.recipe-chart.result.now → IsNext c.args.self.now (move c)
+    × Becomes c.args.self.now (changed c.args.self.now c.args.index (own c) c.args.self.now.allocation) (move c)
+made c s =
+    let v : EngineView = c.args.self.now in
+    let b : Batch = c.index_mut-batch.result.now in
+    let is : IsNext v (move c) = step-is v c.args.index b s.at c.args.made c.requires.step in
+    (is, run-quiet v s.kept c.args.index b s.at c.args.made c.make.new.self c.requires.quiet (c.make.ensures (tree_of v.cleared b) s.chart s.runs) is)
 
 pub make-requires-clause-running : goal.make-requires-clause-running
-make-requires-clause-running c =
-    let v : EngineView = c.args.self.now in
-    let kept : IsKept v = subst IsKept c.self.view_is c.self.invariant.kept in
-    let b : Batch = c.index_mut-batch.result.now in
-    let g : IsOwnStep v (IsNext v) c.args.index c.args.made = c.requires.step in
-    let at : slice_get v.batches c.args.index ≡ Some b = got-batch v _ c.args.index b c.self.view_is (slice_get_within v.batches c.args.index g.batch g.here.at) c.index_mut-batch.ensures.value in
-    let x : document.Recipe = c.recipe-chart.result.now in
-    let listed : slice_get v.cleared.recipes b.recipe ≡ Some x = got-chart v _ b.recipe x c.self.view_is c.recipe-chart.ensures in
-    runs-here v kept c.args.index b at x listed
+make-requires-clause-running c = (seat (goal.at.make-requires-clause-running c).After-recipe-chart).running
 
 pub make-requires-clause-possible : goal.make-requires-clause-possible
 make-requires-clause-possible c =
-    let v : EngineView = c.args.self.now in
-    let kept : IsKept v = subst IsKept c.self.view_is c.self.invariant.kept in
-    let b : Batch = c.index_mut-batch.result.now in
-    let g : IsOwnStep v (IsNext v) c.args.index c.args.made = c.requires.step in
-    let at : slice_get v.batches c.args.index ≡ Some b = got-batch v _ c.args.index b c.self.view_is (slice_get_within v.batches c.args.index g.batch g.here.at) c.index_mut-batch.ensures.value in
-    let x : document.Recipe = c.recipe-chart.result.now in
-    let listed : slice_get v.cleared.recipes b.recipe ≡ Some x = got-chart v _ b.recipe x c.self.view_is c.recipe-chart.ensures in
-    step-can v c.args.index b at c.args.made g x listed
+    let s = seat (goal.at.make-requires-clause-possible c).After-recipe-chart in
+    step-can c.args.self.now c.args.index c.index_mut-batch.result.now s.at c.args.made c.requires.step c.recipe-chart.result.now s.listed
 
 pub invariant_of-self : goal.invariant_of-self
 invariant_of-self c =
-    let v : EngineView = c.args.self.now in
-    let kept : IsKept v = subst IsKept c.self.view_is c.self.invariant.kept in
-    let b : Batch = c.index_mut-batch.result.now in
-    let g : IsOwnStep v (IsNext v) c.args.index c.args.made = c.requires.step in
-    let at : slice_get v.batches c.args.index ≡ Some b = got-batch v _ c.args.index b c.self.view_is (slice_get_within v.batches c.args.index g.batch g.here.at) c.index_mut-batch.ensures.value in
-    let x : document.Recipe = c.recipe-chart.result.now in
-    let listed : slice_get v.cleared.recipes b.recipe ≡ Some x = got-chart v _ b.recipe x c.self.view_is c.recipe-chart.ensures in
-    let m : Moves.Move = move_of (tree_of v.cleared b) (batch_of v.cleared b) c.args.made in
-    let is : IsNext v m = step-is v c.args.index b at c.args.made g in
-    let made = c.make.ensures (tree_of v.cleared b) (chart-here v kept c.args.index b at x listed) (batch-runs v kept c.args.index b at).runs in
-    let r : Becomes v (changed v c.args.index (record b { running = c.make.new.self }) v.allocation) m = run-quiet v kept c.args.index b at c.args.made c.make.new.self c.requires.quiet made is in
-    let a : Becomes v (changed v c.args.index (record b { running = c.make.new.self }) c.self.inside.arbiter) m =
-    subst (λ (z : Allocation). Becomes v (changed v c.args.index (record b { running = c.make.new.self }) z) m) (sym (ap (λ (z : EngineView). z.allocation) c.self.view_is)) r in
-    record {
-      kept = closed-kept v _ c.args.index (record b { running = c.make.new.self }) c.self.inside.arbiter m c.self.view_is a;
-      numbers = own-numbers-set c.self.inside.batches c.args.index b (record b { running = c.make.new.self }) c.index_mut-batch.ensures.value refl c.self.invariant.numbers;
-      needs_are = needs-set c.self.inside.cleared c.self.inside.batches c.args.index b (record b { running = c.make.new.self }) c.index_mut-batch.ensures.value refl c.self.inside.needs c.self.invariant.needs_are;
-    }
+    let w = goal.at.invariant_of-self c in
+    counted-set c.args.index (own w.After-make) (λ a. a) c.self.view_is c.self.invariant c.index_mut-batch.ensures.value refl refl refl (made w.After-make (seat w.After-recipe-chart)).1.kept
 
 pub returns : goal.returns
 returns c =
-    let v : EngineView = c.args.self.now in
-    let kept : IsKept v = subst IsKept c.self.view_is c.self.invariant.kept in
-    let b : Batch = c.index_mut-batch.result.now in
-    let g : IsOwnStep v (IsNext v) c.args.index c.args.made = c.requires.step in
-    let at : slice_get v.batches c.args.index ≡ Some b = got-batch v _ c.args.index b c.self.view_is (slice_get_within v.batches c.args.index g.batch g.here.at) c.index_mut-batch.ensures.value in
-    let x : document.Recipe = c.recipe-chart.result.now in
-    let listed : slice_get v.cleared.recipes b.recipe ≡ Some x = got-chart v _ b.recipe x c.self.view_is c.recipe-chart.ensures in
-    let m : Moves.Move = move_of (tree_of v.cleared b) (batch_of v.cleared b) c.args.made in
-    let is : IsNext v m = step-is v c.args.index b at c.args.made g in
-    let made = c.make.ensures (tree_of v.cleared b) (chart-here v kept c.args.index b at x listed) (batch-runs v kept c.args.index b at).runs in
-    let r : Becomes v (changed v c.args.index (record b { running = c.make.new.self }) v.allocation) m = run-quiet v kept c.args.index b at c.args.made c.make.new.self c.requires.quiet made is in
-    let a : Becomes v (changed v c.args.index (record b { running = c.make.new.self }) c.self.inside.arbiter) m =
-    subst (λ (z : Allocation). Becomes v (changed v c.args.index (record b { running = c.make.new.self }) z) m) (sym (ap (λ (z : EngineView). z.allocation) c.self.view_is)) r in
-    closed-makes v _ c.args.index (record b { running = c.make.new.self }) c.self.inside.arbiter m c.self.view_is a is
+    let w = goal.at.returns c in
+    let m = made w.After-make (seat w.After-recipe-chart) in
+    closed-makes c.args.index (own w.After-make) (λ a. a) c.self.view_is refl m.1 m.0

@@ -1,0 +1,150 @@
+-- A batch that is looked up at an index of an engine, and the recipe of its chart. Of the engine v a call sees its fields as w.
+use Rattle.std.proofs.Common.{◌≡◌, ◌<◌, refl, sym, ◌∙◌, ap, subst, ℕ, List, Some, arith, get_or, length, nat_eq}
+use Rattle.std.specs.Prelude.{position, slice_get}
+use Rattle.std.proofs.lemmas.Option.{slice_get_read, slice_get_within}
+use Rattle.batch_cell.specs.declared.cell.Cell.{Cell}
+use Rattle.batch_model.specs.Moves as Moves
+use Rattle.batch_model.specs.Moves.{after}
+use Rattle.batch_model.specs.Events.{order, ordered}
+use Rattle.batch_model.specs.Plant.{batch_at}
+use Rattle.batch_model.specs.Runs.{Reacts}
+use Rattle.batch_matrix.specs.Matrix.{target}
+use Rattle.batch_matrix.specs.declared.command.Command.{Command}
+use Rattle.batch_recipe.specs.Conditions.{Name}
+use Rattle.batch_recipe.specs.Expanding.{Binding}
+use Rattle.batch_recipe.specs.Nodes.{node_count}
+use Rattle.batch_recipe.specs.Tree.{Tree}
+use Rattle.batch_recipe.specs.declared.recipe.Recipe as document
+use Rattle.batch_verify.specs.ClearedSet.{ClearedSet}
+use Rattle.batch_arbiter.specs.Allocation.{Allocation}
+use Rattle.batch_chart.specs.Charts.{IsChartOf, IsRunning, IsRunningOf}
+use Rattle.batch_chart.specs.NodesOf.{node_at}
+use Rattle.batch_engine.specs.Batches.{BatchList, with_batch_at}
+use Rattle.batch_engine.specs.declared.batch.Batch.{Batch}
+use Rattle.batch_engine.specs.declared.numbers.ActNumbers.{ActNumbers}
+use Rattle.batch_engine.specs.declared.numbers.RecipeNumbers.{RecipeNumbers}
+use Rattle.batch_engine.specs.Names.{roles_at}
+use Rattle.batch_engine.specs.Numbered.{AreActsNumbered, IsActNumbered}
+use Rattle.batch_engine.specs.View.{EngineView, batch_of, bound_to, plant_of, seen, setup, tree_of}
+use Rattle.batch_engine.specs.Kept.{IsCounted, IsKept}
+use Rattle.batch_engine.specs.Orders.{IsOrdered}
+use Rattle.batch_engine.specs.Steps.{IsNext, Makes}
+use Rattle.batch_engine.proofs.Answering.{at-same, same-at}
+use Rattle.batch_engine.proofs.BatchPlaces.{made_by}
+use Rattle.batch_engine.proofs.Filing.{own-numbers-set}
+use Rattle.batch_engine.proofs.Finding.{batch-runs, chart-here, got-batch, got-chart, in-charts, runs-here}
+use Rattle.batch_engine.proofs.Made.{Becomes, same-next}
+use Rattle.batch_engine.proofs.NumbersFound.{got-numbers, in-numbers, numbers-here}
+use Rattle.batch_engine.proofs.Ordering.{Ordered}
+use Rattle.batch_engine.proofs.Room.{needs-set}
+use Rattle.batch_engine.proofs.Seeking.{found-at}
+use Rattle.batch_engine.proofs.Stepping.{changed}
+
+-- the batch at an index, and what is kept of the engine
+pub record IsRead (v : EngineView) (i : ℕ) (b : Batch) : Type 0 where
+  pub kept : IsKept v
+  pub at : slice_get v.batches i ≡ Some b
+
+pub read-at : {v w : EngineView} {i : ℕ} {b : Batch} → w ≡ v → IsKept w → i < length v.batches → b ≡ get_or w.batches i b → IsRead v i b
+read-at {v} {w} {i} {b} e k few h = record { kept = subst IsKept e k; at = got-batch v w i b e few h }
+
+-- where it is known that a batch stands
+pub read-there : {v w : EngineView} {i : ℕ} {b d : Batch} → w ≡ v → IsKept w → slice_get v.batches i ≡ Some d → b ≡ get_or w.batches i b → IsRead v i b
+read-there {v} {w} {i} {b} {d} e k there h = read-at e k (slice_get_within v.batches i d there) h
+
+pub batch-within : {v w : EngineView} {i : ℕ} {b : Batch} → w ≡ v → slice_get v.batches i ≡ Some b → i < length w.batches
+batch-within {v} {w} {i} {b} e at = subst (λ (z : EngineView). i < length z.batches) (sym e) (slice_get_within v.batches i b at)
+
+pub chart-within : {v w : EngineView} {i : ℕ} {b : Batch} → w ≡ v → IsRead v i b → b.recipe < length w.cleared.recipes
+chart-within {v} {w} {i} {b} e r = subst (λ (z : EngineView). b.recipe < length z.cleared.recipes) (sym e) (in-charts v r.kept i b r.at)
+
+-- the batch, and the recipe that its chart runs
+pub record IsSeat (v : EngineView) (i : ℕ) (b : Batch) (x : document.Recipe) : Type 0 where
+  pub kept : IsKept v
+  pub at : slice_get v.batches i ≡ Some b
+  pub listed : slice_get v.cleared.recipes b.recipe ≡ Some x
+  pub chart : IsChartOf (tree_of v.cleared b) x
+  pub runs : IsRunningOf (tree_of v.cleared b) b.running
+  pub running : IsRunning x b.running
+
+pub seat-of : {v w : EngineView} {i : ℕ} {b : Batch} {x : document.Recipe} → w ≡ v → IsRead v i b → slice_get w.cleared.recipes b.recipe ≡ Some x → IsSeat v i b x
+seat-of {v} {w} {i} {b} {x} e r h =
+    let listed : slice_get v.cleared.recipes b.recipe ≡ Some x = got-chart v w b.recipe x e h in
+    record {
+      kept = r.kept;
+      at = r.at;
+      listed = listed;
+      chart = chart-here v r.kept i b r.at x listed;
+      runs = (batch-runs v r.kept i b r.at).runs;
+      running = runs-here v r.kept i b r.at x listed;
+    }
+
+-- The batch with a number
+
+pub record IsFound (v : EngineView) (n i : ℕ) (b : Batch) : Type 0 where
+  pub kept : IsKept v
+  pub at : slice_get v.batches i ≡ Some b
+  pub number : b.number ≡ n
+  pub is : batch_at (plant_of v) n ≡ Some (batch_of v.cleared b)
+
+pub found-here : {v w : EngineView} {n i : ℕ} {b : Batch} → w ≡ v → IsKept w → position (λ (d : Batch). nat_eq d.number n) v.batches ≡ Some i → b ≡ get_or w.batches i b → IsFound v n i b
+found-here {v} {w} {n} {i} {b} e k p h =
+    let f = found-at v n i p in
+    let r : IsRead v i b = read-there e k f.at h in
+    let same : f.batch ≡ b = same-at v.batches i f.batch b f.at r.at in
+    record {
+      kept = r.kept;
+      at = r.at;
+      number = subst (λ (z : Batch). z.number ≡ n) same f.number;
+      is = subst (λ (z : Batch). batch_at (plant_of v) n ≡ Some (batch_of v.cleared z)) same f.is;
+    }
+
+-- The act at a node of the batch
+
+pub node-here : {v : EngineView} {i node : ℕ} {b d : Batch} → IsRead v i b → slice_get v.batches i ≡ Some d → node < node_count (tree_of v.cleared d) → node < node_count (tree_of v.cleared b)
+node-here {v} {i} {node} {b} {d} r there few = at-same v.batches i d b (λ (z : Batch). node < node_count (tree_of v.cleared z)) there r.at few
+
+-- what is read of the numbers of its recipe
+pub acts-here : {v w : EngineView} {i q : ℕ} {b : Batch} {x : RecipeNumbers} → w ≡ v → IsRead v i b → q ≡ b.recipe → x ≡ get_or w.numbers q x
+    → AreActsNumbered v.cleared.cell (roles_at v.cleared b.recipe) (bound_to v.cleared b.recipe b.units) (tree_of v.cleared b) x
+acts-here {v} {w} {i} {q} {b} {x} e r is h = numbers-here v r.kept b.recipe x (got-numbers v w q b.recipe x e is (in-numbers v r.kept i b r.at) h) (bound_to v.cleared b.recipe b.units)
+
+pub act-here : {c : Cell} {roles : List Name} {bound : Binding} {t : Tree} {x : RecipeNumbers} {node k : ℕ} {a : ActNumbers} → AreActsNumbered c roles bound t x → node < node_count t → k ≡ node → a ≡ get_or x.acts.items k a
+    → IsActNumbered c roles bound (node_at t node).here a
+act-here {c} {roles} {bound} {t} {x} {node} {k} {a} numbered few is h =
+    numbered.each node a (slice_get_read x.acts.items (length x.acts.items) node a refl (omega (arith, few, numbered.count)) (h ∙ ap (λ j. get_or x.acts.items j a) is))
+
+-- Once another batch of its number, its recipe and its units stands there
+
+-- what is kept of the fields, where the arbiter became what f makes of it
+pub counted-set : {v : EngineView} {c : ClearedSet} {ns : List RecipeNumbers} {r : BatchList} {n needs : ℕ} {a a' : Allocation} {b : Batch} (i : ℕ) (b' : Batch) (f : Allocation → Allocation)
+    → seen c ns r.batches n a ≡ v → IsCounted r needs (seen c ns r.batches n a) → b ≡ get_or r.batches i b → b'.number ≡ b.number → made_by b' ≡ made_by b
+    → a' ≡ f a → IsKept (changed v i b' (f v.allocation)) → IsCounted (with_batch_at i r b') needs (changed (seen c ns r.batches n a) i b' a')
+counted-set {v} {c} {ns} {r} {n} {needs} {a} {a'} {b} i b' f e h at number made is k =
+    record {
+      kept = subst (λ (z : Allocation). IsKept (changed (seen c ns r.batches n a) i b' z)) (sym is) (subst (λ (z : EngineView). IsKept (changed z i b' (f z.allocation))) (sym e) k);
+      numbers = own-numbers-set r i b b' at number h.numbers;
+      needs_are = needs-set c r i b b' at made needs h.needs_are;
+    }
+
+-- the plant
+plant-set : (v w : EngineView) (i : ℕ) (b' : Batch) (a' : Allocation) (f : Allocation → Allocation) → w ≡ v → a' ≡ f w.allocation → plant_of (changed w i b' a') ≡ plant_of (changed v i b' (f v.allocation))
+plant-set v w i b' a' f e is = ap (λ (z : Allocation). plant_of (changed w i b' z)) is ∙ ap (λ (z : EngineView). plant_of (changed z i b' (f z.allocation))) e
+
+-- by the next move
+pub closed-makes : {v w : EngineView} {a' : Allocation} {m : Moves.Move} (i : ℕ) (b' : Batch) (f : Allocation → Allocation) → w ≡ v → a' ≡ f w.allocation
+    → Becomes v (changed v i b' (f v.allocation)) m → IsNext v m → (l : Moves.Move) → IsNext v l → Makes v (changed w i b' a') l
+closed-makes {v} {w} {a'} {m} i b' f e is r next l also =
+    record {
+      cleared = ap (λ (z : EngineView). z.cleared) e;
+      plant = plant-set v w i b' a' f e is ∙ r.plant ∙ ap (after (plant_of v)) (same-next v m l next also);
+    }
+
+-- by an order
+pub closed-ordered : {v w : EngineView} {a' : Allocation} {command : Command} {n : ℕ} (i : ℕ) (b' : Batch) (f : Allocation → Allocation) → w ≡ v → a' ≡ f w.allocation
+    → Ordered v (changed v i b' (f v.allocation)) command n → IsOrdered v command n (changed w i b' a')
+closed-ordered {v} {w} {a'} {command} {n} i b' f e is r =
+    record {
+      cleared = ap (λ (z : EngineView). z.cleared) e;
+      reacts = subst (Reacts (setup v.cleared) (plant_of v) (order command n) (ordered command n (target command))) (sym (plant-set v w i b' a' f e is)) r.reacts;
+    }
