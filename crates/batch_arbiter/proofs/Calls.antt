@@ -25,10 +25,7 @@ pub len-fits : (es : List Entry) (ls : List Ends) (k unused room : ℕ) → k < 
 len-fits es ls k unused room h linked = omega (arith, get_or-le-sum_by (λ (l : Ends). l.len) ls k no_list h, linked.by_parts.total)
 
 pub unused-within : (es : List Entry) (ls : List Ends) (unused room : ℕ) → 0 < room → IsLinked es ls unused room → unused < length es
-unused-within es ls unused room some linked =
-    let more : room ≡ suc (room - 1) = omega arith in
-    let l : IsLinkedBy linked.parts es ls unused (suc (room - 1)) = subst (λ (x : ℕ). IsLinkedBy linked.parts es ls unused x) more linked.by_parts in
-    l.spare.0
+unused-within es ls unused room some linked = grind arith
 
 pub joins : (es : List Entry) (ls : List Ends) (k unused room : ℕ) (e : Entry) → k < length ls → 0 < room → IsLinked es ls unused room → e.next ≡ unused
     → IsLinked (set es (ends_at ls k).end e) (set ls k (joined_ends (ends_at ls k) unused)) (at es unused).next (room - 1)
@@ -50,11 +47,7 @@ first-within es ls k unused room known some linked =
 -- a list that has claims, by its first
 pub first-seen : (es : List Entry) (ls : List Ends) (k unused room : ℕ) → k < length ls → 0 < (ends_at ls k).len → IsLinked es ls unused room
     → get_or (map (claims_of es) ls) k [] ≡ claim_of (at es (ends_at ls k).first) ∷ drop 1 (get_or (map (claims_of es) ls) k [])
-first-seen es ls k unused room known some linked =
-    let more : (ends_at ls k).len ≡ suc ((ends_at ls k).len - 1) = omega arith in
-    list-seen es ls k known
-    ∙ claims-first linked.parts es ls k unused room ((ends_at ls k).len - 1) (record (at es 0) { next = unused }) known linked.by_parts more refl
-    ∙ ap (λ cs. claim_of (at es (ends_at ls k).first) ∷ drop 1 cs) (sym (list-seen es ls k known))
+first-seen es ls k unused room known some linked = grind (arith, list-seen es ls k known, claims-first)
 
 pub leaves : (es : List Entry) (ls : List Ends) (k unused room : ℕ) (e : Entry) → k < length ls → 0 < (ends_at ls k).len → IsLinked es ls unused room → e.next ≡ unused
     → IsLinked (set es (ends_at ls k).first e) (set ls k (left_ends (ends_at ls k) (at es (ends_at ls k).first).next ((ends_at ls k).len - 1))) (ends_at ls k).first (room + 1)

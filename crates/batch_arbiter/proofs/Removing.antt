@@ -1,12 +1,12 @@
 -- What it does to a list when the first claim of an act leaves it.
-use Rattle.std.proofs.Common.{ℕ, ◌≡◌, ◌+◌, ◌-◌, ◌<◌, List, [], length, get_or, sym, ap, ◌∙◌, subst, arith, suc, zero, set, map, false}
+use Rattle.std.proofs.Common.{ℕ, ◌≡◌, ◌+◌, ◌-◌, ◌<◌, List, [], length, get_or, sym, ap, ◌∙◌, subst, arith, suc, set, map, false}
 use Rattle.std.specs.Prelude.{slice_get, MatchOption}
 use Rattle.std.specs.List.{remove}
 use Rattle.std.proofs.lemmas.List.Sums.{sum_by-remove}
 use Rattle.batch_arbiter.specs.declared.entry.Entry.{Entry}
 use Rattle.batch_arbiter.specs.declared.ends.Ends.{Ends}
 use Rattle.batch_arbiter.specs.Allocation.{Claim, is_claim, held_units, without_first}
-use Rattle.batch_arbiter.specs.Linked.{at, ends_at, claim_of, claims_from, claims_of, free, claim_in, marked, IsLinkedBy, IsLinked, IsBefore, behind}
+use Rattle.batch_arbiter.specs.Linked.{at, ends_at, claim_of, claims_of, free, claim_in, marked, IsLinkedBy, IsLinked, IsBefore, behind}
 use Rattle.batch_arbiter.proofs.Linking.{behind-within}
 use Rattle.batch_arbiter.proofs.Pooling.{IsLinkedBy-step, claims-step}
 use Rattle.batch_arbiter.proofs.Leaving.{left_ends, behind-suc, unlinked, claims-unlinked}
@@ -17,12 +17,7 @@ use Rattle.batch_arbiter.proofs.Seeking.{claims-behind, IsFirst-before}
 -- the first claim of the list isn't the act's
 pub later-seen : (es : List Entry) (ls : List Ends) (k batch node : ℕ) → k < length ls → MatchOption (slice_get (get_or (map (claims_of es) ls) k []) 0) ⊥ (λ c. is_claim batch node c ≡ false)
     → is_claim batch node (claim_of (at es (ends_at ls k).first)) ≡ false
-later-seen es ls k batch node known later =
-    go (ends_at ls k).len (subst (λ (cs : List Claim). MatchOption (slice_get cs 0) ⊥ (λ c. is_claim batch node c ≡ false)) (list-seen es ls k known) later)
-  where
-    go : (n : ℕ) → MatchOption (slice_get (claims_from es n (ends_at ls k).first) 0) ⊥ (λ c. is_claim batch node c ≡ false) → is_claim batch node (claim_of (at es (ends_at ls k).first)) ≡ false
-    go zero h = absurd h
-    go (suc n) h = h
+later-seen es ls k batch node known later = grind (arith, list-seen es ls k known)
 
 -- the entry behind
 pub behind-before : (es : List Entry) (l : Ends) (batch node b : ℕ) → (s : IsBefore es l batch node b) → (at es b).next ≡ behind es (suc s.place) l.first

@@ -8,8 +8,7 @@ use Rattle.batch_arbiter.specs.Allocation.{Claim, is_of_batch}
 use Rattle.batch_arbiter.specs.Linked.{Lists, list_at, with_list}
 
 neither : (a b : Bool) → a || b ≡ false → (a ≡ false) × (b ≡ false)
-neither true b e = absurd (let no : ⊥ = cc in no)
-neither false b e = (refl, e)
+neither a b e = grind arith
 
 abbrev pub staying : ℕ → List Claim → List Claim
 staying batch claims = filter (λ c. not (is_of_batch batch c)) claims

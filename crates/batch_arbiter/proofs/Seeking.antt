@@ -1,5 +1,5 @@
 -- The claims of a list by their places, for searches along it.
-use Rattle.std.proofs.Common.{ℕ, ◌≡◌, ◌+◌, ◌-◌, ◌<◌, List, length, get_or, refl, sym, ap, ◌∙◌, subst, arith, suc, zero, true, false, below_more}
+use Rattle.std.proofs.Common.{ℕ, ◌≡◌, ◌+◌, ◌-◌, ◌<◌, List, length, get_or, sym, ap, ◌∙◌, subst, arith, suc, true, false, below_more}
 use Rattle.std.specs.List.{list_any}
 use Rattle.batch_arbiter.specs.declared.entry.Entry.{Entry}
 use Rattle.batch_arbiter.specs.declared.ends.Ends.{Ends}
@@ -11,9 +11,8 @@ use Rattle.batch_arbiter.proofs.Calls.{length-claims}
 use Rattle.batch_arbiter.proofs.Positions.{IsFirst}
 
 pub claims-behind : (es : List Entry) (n first k : ℕ) (d : Claim) → k < n → get_or (claims_from es n first) k d ≡ claim_of (at es (behind es k first))
-claims-behind es zero first k d h = absurd (omega arith)
-claims-behind es (suc n) first zero d h = refl
 claims-behind es (suc n) first (suc k) d h = claims-behind es n (at es first).next k d (omega arith)
+claims-behind es n first k d h = grind arith
 
 pub none-behind : (es : List Entry) (l : Ends) (batch node : ℕ) → ((m : ℕ) → m < l.len → is_claim_behind es l batch node m ≡ false) → HasNone batch node (claims_of es l)
 none-behind es l batch node none k d h =
@@ -27,18 +26,14 @@ pub record Seeks (es : List Entry) (l : Ends) (batch node counter before : ℕ) 
   pub others : (m : ℕ) → m < counter → is_claim_behind es l batch node m ≡ false
 
 pub before-within : (es : List Entry) (l : Ends) (batch node counter before : ℕ) → Seeks es l batch node counter before → IsSomeList es l → counter < l.len → before < length es
-before-within es l batch node counter before s it lt =
-    subst (λ (x : ℕ). x < length es) (sym s.is) (behind-within it.part it.parts es (counter - 1) l.len l.first l.end (omega (arith, lt)) it.linked).0
+before-within es l batch node counter before s it lt = grind (arith, behind-within)
 
 -- the entry behind it
 pub next-behind : (es : List Entry) (l : Ends) (batch node counter before : ℕ) → Seeks es l batch node counter before → (at es before).next ≡ behind es counter l.first
-next-behind es l batch node counter before s =
-    let more : suc (counter - 1) ≡ counter = omega (arith, s.begun) in
-    ap (λ x. (at es x).next) s.is ∙ sym (behind-suc es (counter - 1) l.first) ∙ ap (λ x. behind es x l.first) more
+next-behind es l batch node counter before s = grind (arith, behind-suc es (counter - 1) l.first)
 
 pub next-within : (es : List Entry) (l : Ends) (batch node counter before : ℕ) → Seeks es l batch node counter before → IsSomeList es l → counter < l.len → (at es before).next < length es
-next-within es l batch node counter before s it lt =
-    subst (λ (x : ℕ). x < length es) (sym (next-behind es l batch node counter before s)) (behind-within it.part it.parts es counter l.len l.first l.end lt it.linked).0
+next-within es l batch node counter before s it lt = grind (arith, next-behind es l batch node counter before s, behind-within it.part it.parts es counter l.len l.first l.end lt it.linked)
 
 pub Seeks-found : (es : List Entry) (l : Ends) (batch node counter before : ℕ) → Seeks es l batch node counter before → counter < l.len → is_claim batch node (claim_of (at es (at es before).next)) ≡ true → IsBefore es l batch node before
 Seeks-found es l batch node counter before s lt here =

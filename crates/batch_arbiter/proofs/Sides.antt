@@ -1,6 +1,6 @@
 -- The lists of the pool as shares and lines: what an edit of one list does to the allocation.
-use Rattle.std.proofs.Common.{ℕ, ◌≡◌, ◌≢◌, ◌+◌, ◌-◌, ◌<◌, ◌≤◌, ◌^◌, List, [], ◌∷◌, ◌++◌, length, take, drop, refl, sym, ap, ◌∙◌, subst, arith, Bool, true, false, cond, set, Option, Some, None, inl, inr}
-use Rattle.std.specs.Prelude.{nat_le, slice_index, replicate}
+use Rattle.std.proofs.Common.{ℕ, ◌≡◌, ◌≢◌, ◌+◌, ◌-◌, ◌<◌, ◌≤◌, ◌^◌, List, [], ◌∷◌, ◌++◌, length, drop, sym, ap, ◌∙◌, subst, arith, set, Some, inl, inr}
+use Rattle.std.specs.Prelude.{slice_index, replicate}
 use Rattle.std.specs.List.{All}
 use Rattle.std.proofs.lemmas.Bool.{cases_eq, leb-true}
 use Rattle.std.proofs.lemmas.List.{length-set, get_or-set_same, get_or-set_other, get_or-take, get_or-drop, take-set-le, drop-set-lt, drop-set-add, take-replicate, drop-replicate, length-replicate, get_or-replicate}
@@ -19,28 +19,20 @@ line-seen capacities p r = get_or-drop (length capacities) p.lists r []
 -- another list of shares
 pub seen-share : (capacities : List ℕ) (p : Lists) (r room : ℕ) (claims : List Claim) → r < length capacities
     → seen capacities (with_list p r claims room) ≡ record (seen capacities p) { shares = set (seen capacities p).shares r claims; room = room }
-seen-share capacities p r room claims h =
-    ap (λ xs. record { capacities = capacities; shares = xs; lines = drop (length capacities) (set p.lists r claims); room = room }) (take-set-lt (length capacities) p.lists r claims h)
-    ∙ ap (λ xs. record { capacities = capacities; shares = set (take (length capacities) p.lists) r claims; lines = xs; room = room }) (drop-set-lt (length capacities) p.lists r claims h)
+seen-share capacities p r room claims h = grind (arith, take-set-lt (length capacities) p.lists r claims h, drop-set-lt (length capacities) p.lists r claims h)
 
 -- another line
 pub seen-line : (capacities : List ℕ) (p : Lists) (r room : ℕ) (claims : List Claim)
     → seen capacities (with_list p (length capacities + r) claims room) ≡ record (seen capacities p) { lines = set (seen capacities p).lines r claims; room = room }
-seen-line capacities p r room claims =
-    ap (λ xs. record { capacities = capacities; shares = xs; lines = drop (length capacities) (set p.lists (length capacities + r) claims); room = room }) (take-set-le (length capacities) p.lists (length capacities + r) claims (omega arith))
-    ∙ ap (λ xs. record { capacities = capacities; shares = take (length capacities) p.lists; lines = xs; room = room }) (drop-set-add (length capacities) p.lists r claims)
+seen-line capacities p r room claims = grind (arith, drop-set-add (length capacities) p.lists r claims, take-set-le)
 
 pub seen-ask : (capacities : List ℕ) (p : Lists) (r : ℕ) (c : Claim)
     → seen capacities (with_list p (length capacities + r) (list_at p (length capacities + r) ++ c ∷ []) (p.room - 1)) ≡ asked r c (seen capacities p)
-seen-ask capacities p r c =
-    seen-line capacities p r (p.room - 1) (list_at p (length capacities + r) ++ c ∷ [])
-    ∙ ap (λ cs. record (seen capacities p) { lines = set (seen capacities p).lines r (cs ++ c ∷ []); room = p.room - 1 }) (sym (line-seen capacities p r))
+seen-ask capacities p r c = grind (arith, seen-line capacities p r (p.room - 1) (list_at p (length capacities + r) ++ c ∷ []), line-seen capacities p r)
 
 pub seen-release : (capacities : List ℕ) (p : Lists) (r batch node : ℕ) → r < length capacities
     → seen capacities (with_list p r (without_first (is_claim batch node) (list_at p r)) (p.room + 1)) ≡ released r batch node (seen capacities p)
-seen-release capacities p r batch node h =
-    seen-share capacities p r (p.room + 1) (without_first (is_claim batch node) (list_at p r)) h
-    ∙ ap (λ cs. record (seen capacities p) { shares = set (seen capacities p).shares r (without_first (is_claim batch node) cs); room = p.room + 1 }) (sym (shares-seen capacities p r h))
+seen-release capacities p r batch node h = grind (arith, seen-share capacities p r (p.room + 1) (without_first (is_claim batch node) (list_at p r)) h, shares-seen capacities p r h)
 
 -- nobody holds or waits for anything
 pub seen-new : (capacities : List ℕ) (p : Lists) (m : ℕ) → m ≡ length capacities + length capacities → p ≡ record { lists = replicate m []; room = 0 } → seen capacities p ≡ idle capacities
@@ -64,14 +56,7 @@ IsSound-new capacities held p m none twice new counted =
 
 -- what is granted next is free
 next-free : (capacity : ℕ) (shares line : List Claim) (c : Claim) → next_in capacity shares line ≡ Some c → held_units shares + c.units ≤ capacity
-next-free capacity shares [] c e = absurd (let no : ⊥ = cc in no)
-next-free capacity shares (d ∷ later) c e = go (nat_le (held_units shares + d.units) capacity) refl e
-  where
-    go : (b : Bool) → nat_le (held_units shares + d.units) capacity ≡ b → ◌≡◌ {A = Option Claim} (cond b (Some d) None) (Some c) → held_units shares + c.units ≤ capacity
-    go true t h =
-        let same : d ≡ c = cc in
-        subst (λ (x : Claim). held_units shares + x.units ≤ capacity) same (leb-true _ _ t)
-    go false t h = absurd (let no : ⊥ = cc in no)
+next-free capacity shares line c e = grind (arith, leb-true)
 
 -- the oldest ask leaves its line and joins the shares
 module _ (capacities held : List ℕ) (p q s : Lists) (r : ℕ) (c : Claim) (known : r < length capacities) (sound : StandsInPool capacities held p) (next : next_grant (seen capacities p) r ≡ Some c) (left : q ≡ with_list p (length capacities + r) (drop 1 (list_at p (length capacities + r))) (p.room + 1)) (joined : s ≡ with_list q r (list_at q r ++ c ∷ []) (q.room - 1)) where

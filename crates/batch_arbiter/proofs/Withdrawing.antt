@@ -62,6 +62,4 @@ module _ (n batch i : ℕ) (p : Lists) (twice : length p.lists ≡ n + n) (withi
 -- shares and lines that stand one after the other
 sides : (capacities : List ℕ) (shares lines : List (List Claim)) (room : ℕ) → length shares ≡ length capacities
     → seen capacities (record { lists = shares ++ lines; room = room }) ≡ record { capacities = capacities; shares = shares; lines = lines; room = room }
-sides capacities shares lines room e =
-    ap (λ xs. record { capacities = capacities; shares = xs; lines = drop (length capacities) (shares ++ lines); room = room }) (take_at shares lines (length capacities) e)
-    ∙ ap (λ xs. record { capacities = capacities; shares = shares; lines = xs; room = room }) (drop_at shares lines (length capacities) e)
+sides capacities shares lines room e = grind (arith, take_at shares lines (length capacities) e, drop_at shares lines (length capacities) e)

@@ -85,14 +85,12 @@ items_assoc None xs ys = refl
 items_assoc (Some ns) xs ys = ap (λ (l : List (Option ℕ)). Some l) (append_assoc ns xs ys)
 
 items_none : (o : Option (List (Option ℕ))) → o ≡ option_map (λ (ns : List (Option ℕ)). ns ++ []) o
-items_none None = refl
-items_none (Some ns) = ap (λ (l : List (Option ℕ)). Some l) (sym (append-nil ns))
+items_none o = grind (arith, append-nil)
 
 -- the needs that were kept before these
 kept_before : (o kept : Option (List (Option ℕ))) (own : List (Option ℕ)) (needs : List (Option ℕ)) → kept ≡ option_map (λ (ns : List (Option ℕ)). ns ++ own) o → kept ≡ Some needs
     → (ns : List (Option ℕ)) × (o ≡ Some ns) × (needs ≡ ns ++ own)
-kept_before None kept own needs extended is = let bad : None ≡ Some needs = sym extended ∙ is in absurd cc
-kept_before (Some ns) kept own needs extended is = (ns, refl, (let e : Some needs ≡ Some (ns ++ own) = sym is ∙ extended in cc))
+kept_before o kept own needs extended is = grind arith
 
 -- the path goes on by needs of its own
 pub IsPathOf-append : (above own : List (Option ℕ)) (path next : Path) (edges : EdgeSet) → GoesOn path own edges next → IsPathOf above path → IsPathOf (above ++ own) next

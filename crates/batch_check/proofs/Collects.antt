@@ -61,11 +61,7 @@ pub record KeepsPaths (cell : Cell) (top : Path) (nodes : List Node) (old edges 
 
 module _ (cell : Cell) (number : ℕ) (kept : Option (List (Option ℕ))) (top : Path) (is_top : IsTop number kept top) where
   no_needs : (needs : List (Option ℕ)) → kept_by top ≡ Some needs → needs ≡ []
-  no_needs needs is = go kept is_top.empty (sym is_top.kept_is ∙ is)
-    where
-      go : (o : Option (List (Option ℕ))) → (o ≡ None) ⊎ (o ≡ Some []) → o ≡ Some needs → needs ≡ []
-      go o (inl none) at = let bad : None ≡ Some needs = sym none ∙ at in absurd cc
-      go o (inr empty) at = let e : Some needs ≡ Some [] = sym at ∙ empty in cc
+  no_needs needs is = grind arith
 
   above_all : IsPathOf [] top
   above_all = record { ends = sym is_top.last_is; kept = no_needs }

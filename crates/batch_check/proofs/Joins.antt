@@ -22,9 +22,7 @@ pub Contains-none : {X : Type 0} (x : X) → Contains [] x → ⊥
 Contains-none x h = absurd (omega (arith, h.1))
 
 pub Contains-one : {X : Type 0} (x y : X) → Contains (x ∷ []) y → x ≡ y
-Contains-one {X} x y h =
-    let first : h.0 ≡ 0 = omega (arith, h.1) in
-    subst (λ k. get_or (x ∷ []) k y ≡ y) first h.2
+Contains-one {X} x y h = grind arith
 
 -- Sets that grow
 

@@ -1,5 +1,5 @@
 -- A cell's resources by name and by number.
-use Rattle.std.proofs.Common.{◌≡◌, ◌≢◌, ℕ, ◌<◌, Bool, true, false, cond, List, [], ◌∷◌, ◌++◌, map, filter, length, get_or, slice_get, position, Some, None, Option, All, AllPairs, ◌↔◌, refl, sym, ap, ◌∙◌, arith, nat_lt, lt-ltb}
+use Rattle.std.proofs.Common.{◌≡◌, ◌≢◌, ℕ, ◌<◌, Bool, true, false, cond, List, [], ◌∷◌, ◌++◌, map, filter, length, get_or, slice_get, position, Some, All, AllPairs, ◌↔◌, refl, sym, ap, ◌∙◌, arith, nat_lt, lt-ltb}
 use Rattle.std.specs.List.{AllByRecursion, IsDistinct, position_or_len}
 use Rattle.std.proofs.lemmas.Option.{get_or_from_slice_get, slice_get_within}
 use Rattle.std.proofs.lemmas.Bool.{false_from_ne_true}
@@ -62,10 +62,7 @@ position_of_own names i differ below =
     rw at (rw inside refl)
 
 pub rank_in-name : (c : Cell) (ranks : List ℕ) (resource : ℕ) → resource < length (resources_of c) → rank_in c ranks (name_in c resource) ≡ get_or ranks resource 0
-rank_in-name c ranks resource below = go (position (same_name (name_in c resource)) (resources_of c)) (position_of_own (resources_of c) resource (resources_differ c) below)
-  where
-    go : (o : Option ℕ) → o ≡ Some resource → (elim o [ None ↦ 0 | Some number ↦ get_or ranks number 0 ]) ≡ get_or ranks resource 0
-    go o is = rw is refl
+rank_in-name c ranks resource below = grind (arith, position_of_own (resources_of c) resource (resources_differ c) below, resources_differ c)
 
 pub ranks_rise_by_name : (c : Cell) (ranks : List ℕ) (edges : List Edge) → HasEndsBelow (length (resources_of c)) edges
     → (All (λ e. get_or ranks e.earlier 0 < get_or ranks e.later 0) edges ↔ All (λ e. rank_in c ranks (name_in c e.earlier) < rank_in c ranks (name_in c e.later)) edges)

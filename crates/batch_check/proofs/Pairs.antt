@@ -22,12 +22,7 @@ is_pair-own : (e : Edge) (i j : ℕ) → e.earlier ≡ i → e.later ≡ j → i
 is_pair-own e i j p q = rw (eq-eqb e.earlier i p, eq-eqb e.later j q) refl
 
 is_pair-other : (e : Edge) (i j : ℕ) → (e.earlier ≡ i → e.later ≡ j → ⊥) → is_pair e i j ≡ false
-is_pair-other e i j h = go (nat_eq e.earlier i) (nat_eq e.later j) refl refl
-  where
-    go : (a b : Bool) → nat_eq e.earlier i ≡ a → nat_eq e.later j ≡ b → (a && b) ≡ false
-    go true true p q = absurd (h (eqb-true e.earlier i p) (eqb-true e.later j q))
-    go true false p q = refl
-    go false b p q = refl
+is_pair-other e i j h = grind (arith, eqb-true)
 
 -- the table says which pairs have an edge
 abbrev IsExact : ℕ → List Bool → List Edge → Type 0

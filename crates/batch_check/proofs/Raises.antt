@@ -8,10 +8,7 @@ use Rattle.batch_check.specs.Raising.{IsProgress, IsCaused, RisesOr}
 
 -- no rank falls in a raise
 raised_at : (ranks : List ℕ) (i v k : ℕ) → i < length ranks → get_or ranks i 0 ≤ v → get_or ranks k 0 ≤ get_or (set ranks i v) k 0
-raised_at ranks i v k within above = elim (cases_eq k i) [
-  | inl e ↦ rw e (rw (get_or-set_same ranks i v 0 within) above)
-  | inr ne ↦ rw (get_or-set_other ranks i k v 0 ne) (omega arith)
-]
+raised_at ranks i v k within above = grind (arith, cases_eq k i, get_or-set_same ranks i v 0 within, get_or-set_other)
 
 pub RisesOr-raise : (k v i : ℕ) (ranks : List ℕ) (e : Edge) → i < length ranks → get_or ranks i 0 ≤ v → k ≤ v → RisesOr k ranks e → RisesOr k (set ranks i v) e
 RisesOr-raise k v i ranks e within above enough h = elim (cases_eq e.earlier i) [

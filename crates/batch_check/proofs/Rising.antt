@@ -49,10 +49,9 @@ module _ (rank : Ranking) where
   -- a path that rises from one need to the next rises from each to each later one
   pub rises_at : (asked : List Name) (i j : ℕ) (a b : Name) → RiseStrictly rank asked → i < j → slice_get asked i ≡ Some a → slice_get asked j ≡ Some b → rank a < rank b
   rises_at [] i j a b h ij at_i at_j = let bad : None ≡ Some a = at_i in absurd cc
-  rises_at (x ∷ xs) zero zero a b h ij at_i at_j = absurd (omega arith)
   rises_at (x ∷ xs) zero (suc j) a b h ij at_i at_j = let same : x ≡ a = let e : Some x ≡ Some a = at_i in cc in subst (λ n. rank n < rank b) same (above_all x xs j b h at_j)
-  rises_at (x ∷ xs) (suc i) zero a b h ij at_i at_j = absurd (omega arith)
   rises_at (x ∷ xs) (suc i) (suc j) a b h ij at_i at_j = rises_at xs i j a b (tail x xs h) (omega arith) at_i at_j
+  rises_at asked i j a b h ij at_i at_j = grind arith
 
   -- ranks that rise along all paths rise along each edge that stands
   pub standing_rises : (c : Cell) (recipes : List Recipe) → RiseAlongPaths c rank recipes → (e : Edge) → Stands c recipes e → rank (name_in c e.earlier) < rank (name_in c e.later)
@@ -124,8 +123,7 @@ module _ (c : Cell) (edges : List Edge) (ranks : List ℕ) (rising : All (λ e. 
 -- no name has a rank above that of each resource
 rank_bounded : (c : Cell) (ranks : List ℕ) (most : ℕ) → ((k : ℕ) → k < length (resources_of c) → get_or ranks k 0 ≤ most) → (name : Name) (o : Option ℕ)
     → position (same_name name) (resources_of c) ≡ o → rank_in c ranks name ≤ most
-rank_bounded c ranks most h name None e = rw (e, rank_in) (omega arith)
-rank_bounded c ranks most h name (Some k) e = rw (e, rank_in) (h k (position-Some (same_name name) (resources_of c) k name e).0)
+rank_bounded c ranks most h name o e = grind (arith, position-Some)
 
 pub least_ranks_rise : (c : Cell) (recipes : List Recipe) (edges : List Edge) (ranks : List ℕ) → NeedResources c recipes → AreEdgesOf c recipes edges
     → IsLeastRanking (length (resources_of c)) edges ranks → RiseLeast c recipes (rank_in c ranks)

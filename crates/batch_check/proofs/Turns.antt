@@ -2,7 +2,7 @@
 use Rattle.std.proofs.Common.{◌≡◌, ◌≢◌, ℕ, ◌+◌, ◌<◌, ◌≤◌, suc, true, List, [], ◌∷◌, ◌++◌, map, length, take, drop, drop-cons, get_or, All, AllPairs, Contains, refl, sym, ap, ◌∙◌, subst, arith, below_more, eqb, is_lt, length-append}
 use Rattle.std.specs.Cmp.{unsigned_Decides}
 use Rattle.std.specs.declared.cmp.Ordering.{Ordering}
-use Rattle.std.specs.declared.cmp.Ordering.TheVariants.{Less, Equal, Greater}
+use Rattle.std.specs.declared.cmp.Ordering.TheVariants.{Less}
 use Rattle.std.proofs.lemmas.Bool.{false≢true}
 use Rattle.std.proofs.lemmas.Cmp.{tied_itself, nat_list_cmp_total, nat_eq_equiv}
 use Rattle.std.proofs.lemmas.List.{get_or-map, length-map, take-append-drop, get_or_default}
@@ -24,9 +24,7 @@ pub not_below_itself : (x : Name) → IsBelow x x → ⊥
 not_below_itself x below = false≢true (sym (ap is_lt (tied_itself nat_list_cmp_total x)) ∙ ap is_lt below)
 
 pub below_from_lt : (o : Ordering) → is_lt o ≡ true → o ≡ Less
-below_from_lt Less h = refl
-below_from_lt Equal h = absurd (false≢true h)
-below_from_lt Greater h = absurd (false≢true h)
+below_from_lt o h = grind (arith, false≢true)
 
 module _ (c : Cell) (edges : List Edge) where
   abbrev name_at : ℕ → Name
@@ -93,10 +91,7 @@ pub IsCircle-turned : (edges circle : List Edge) (place : ℕ) → IsEdgeCircle 
 IsCircle-turned edges circle place h = IsCircle-swapped edges (take place circle) (drop place circle) (subst (IsEdgeCircle edges) (sym (take-append-drop place circle)) h)
 
 pub length-turned : (circle : List Edge) (place : ℕ) → length (drop place circle ++ take place circle) ≡ length circle
-length-turned circle place =
-    let swapped : length (drop place circle ++ take place circle) ≡ length (drop place circle) + length (take place circle) = length-append (drop place circle) (take place circle) in
-    let whole : length (take place circle ++ drop place circle) ≡ length (take place circle) + length (drop place circle) = length-append (take place circle) (drop place circle) in
-    omega (arith, swapped, whole, ap length (take-append-drop place circle))
+length-turned circle place = grind (arith, length-append (drop place circle) (take place circle), length-append (take place circle) (drop place circle), take-append-drop place circle)
 
 pub BeginsWithLeastName-turned : (c : Cell) (circle : List Edge) (place : ℕ) (d : Edge) → place < length circle
     → All (λ e. ¬ (IsBelow (name_in c e.earlier) (name_in c (get_or circle place d).earlier))) circle → BeginsWithLeastName c (drop place circle ++ take place circle)

@@ -1,5 +1,5 @@
 -- From what is found of recipes to what it means for clearance.
-use Rattle.std.proofs.Common.{◌≡◌, ◌≢◌, ℕ, ◌+◌, ◌<◌, ◌++◌, List, [], ◌∷◌, take, get_or, option_map, map, length, slice_get, IsTrue, Some, None, inl, inr, refl, sym, ap, ◌∙◌, subst}
+use Rattle.std.proofs.Common.{arith, ◌≡◌, ◌≢◌, ℕ, ◌+◌, ◌<◌, ◌++◌, List, [], ◌∷◌, take, get_or, option_map, map, length, slice_get, IsTrue, Some, None, inl, inr, refl, sym, ap, ◌∙◌, subst}
 use Rattle.batch_cell.specs.LookUps.{resources_of}
 use Rattle.batch_cell.specs.declared.cell.Cell as equipment
 use Rattle.batch_recipe.specs.Conditions.{Name}
@@ -19,7 +19,6 @@ use Rattle.batch_model.proofs.Parts.{parts-nodes}
 use Rattle.batch_verify.specs.Refusals.{rank_in, IsSound, Breaks, IsFirstBroken, IsTried, IsTriedFor}
 use Rattle.batch_verify.specs.Verifying.{IsRecipeSet}
 use Rattle.batch_verify.specs.declared.rule.Rule.{Rule}
-use Rattle.batch_verify.specs.declared.rule.Rule.TheVariants.{UnknownResource, ShareAboveCapacity, PhaseNotOffered, SamePhaseInParallel, LoopWithoutPhase, RankNotRising}
 use Rattle.batch_verify.specs.declared.rule.Broken.{Broken}
 use Rattle.batch_check.specs.declared.fault.CheckFault.{CheckFault}
 use Rattle.batch_check.specs.declared.fault.CheckFault.TheVariants.{Recipes, Recipe as in_recipe, Circle, Memory}
@@ -34,12 +33,7 @@ use Rattle.batch_verify.proofs.Serving.{has_candidates}
 -- A fault leaves no clearance
 
 unsound_rule : (setup : Setup) (rank : Ranking) (x : Part) (rule : Rule) → Breaks setup None x rule → IsClear setup rank x → ⊥
-unsound_rule setup rank x UnknownResource b clear = b (clear.known, clear.on_unit)
-unsound_rule setup rank x ShareAboveCapacity b clear = b.1 clear.within
-unsound_rule setup rank x PhaseNotOffered b clear = b.1 clear.offered
-unsound_rule setup rank x SamePhaseInParallel b clear = b.2 clear.apart
-unsound_rule setup rank x LoopWithoutPhase b clear = b.3 clear.turning
-unsound_rule setup rank x RankNotRising b clear = b.1 tt
+unsound_rule setup rank x rule b clear = grind arith
 
 unsound_recipe : (setup : Setup) (rank : Ranking) (xs : List Part) (k : ℕ) (b : Broken) → IsFirstBroken setup None xs k b → Each (IsClear setup rank) xs → ⊥
 unsound_recipe setup rank [] k b h clear = h

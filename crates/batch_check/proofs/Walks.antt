@@ -43,11 +43,7 @@ Leads-take first last zero (e ∷ es) h w = (w.0, refl)
 Leads-take first last (suc i) (e ∷ es) h w = (w.0, Leads-take e.later last i es (omega arith) w.1)
 
 AllPairs-take : (n : ℕ) (walk : List Edge) → AllPairs (λ e f. e.later ≢ f.later) walk → AllPairs (λ e f. e.later ≢ f.later) (take n walk)
-AllPairs-take n walk h = λ i j d ij j_in.
-    let in_take : (j < n) × (j < length walk) = (omega (arith, length-take n walk), omega (arith, length-take n walk)) in
-    let at_i : get_or (take n walk) i d ≡ get_or walk i d = get_or-take n walk i d (omega arith) in
-    let at_j : get_or (take n walk) j d ≡ get_or walk j d = get_or-take n walk j d in_take.0 in
-    rw (at_i, at_j) (h i j d ij in_take.1)
+AllPairs-take n walk h = grind (arith, length-take n walk, get_or-take)
 
 -- what the walk keeps
 pub record Walks (edges : List Edge) (ranks : List ℕ) (walk : List Edge) (at : ℕ) : Type 0 where

@@ -1,5 +1,5 @@
 -- What is kept is kept along a whole record.
-use Rattle.std.proofs.Common.{Some, ◌≡◌, refl, sym, subst, subst₂, zero-le, List, [], ◌∷◌, ◌++◌, append-nil, append_assoc}
+use Rattle.std.proofs.Common.{arith, Some, ◌≡◌, refl, sym, subst, subst₂, zero-le, List, [], ◌∷◌, ◌++◌, append-nil, append_assoc}
 use Rattle.batch_model.specs.Plant.{Setup, Plant, opening}
 use Rattle.batch_model.specs.Moves.{Move, next, after}
 use Rattle.batch_model.specs.Events.{Event}
@@ -39,11 +39,10 @@ moved-stands d rank cleared s m sd e = possible-stands d s m (placed-trees d ran
 pub kept-along : (d : Setup) (rank : Ranking) → AreClearedDown d rank → (told : List Out) (s : Plant) → IsStanding d s → IsKept d rank told s → (es : List Event) (outs : List Out) (t : Plant) → Leads d s es outs t
     → IsKept d rank (told ++ outs) t
 kept-along d rank cleared told s sd k [] [] t l = subst₂ (λ y z. IsKept d rank y z) (sym (append-nil told)) l k
-kept-along d rank cleared told s sd k (v ∷ es) [] t l = absurd l
 kept-along d rank cleared told s sd k es (move m ∷ outs) t l =
     subst (λ z. IsKept d rank z t) (append_assoc told (move m ∷ []) outs)
     (let td = moved-stands d rank cleared s m sd l.0 in kept-along d rank cleared (told ++ move m ∷ []) (after s m) td (move-step d rank told s sd k m l.0 td).0 es outs t l.1)
-kept-along d rank cleared told s sd k [] (reply r ∷ outs) t l = absurd l
 kept-along d rank cleared told s sd k (v ∷ es) (reply r ∷ outs) t l =
     subst (λ z. IsKept d rank z t) (append_assoc told (reply r ∷ []) outs)
     (kept-along d rank cleared (told ++ reply r ∷ []) l.0 (reacts-stands d s l.0 v r sd l.1) (reply-step d rank cleared told s sd k v r l.0 l.1) es outs t l.2)
+kept-along d rank cleared told s sd k es outs t l = grind arith

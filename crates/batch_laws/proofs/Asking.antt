@@ -1,5 +1,5 @@
 -- An act that asks, and the fact that says so.
-use Rattle.std.proofs.Common.{◌≡◌, ⊎_elim, refl, sym, ap, subst, ℕ, List, [], ◌∷◌, ◌++◌, take, slice_get, Option, Some, None, inl, inr}
+use Rattle.std.proofs.Common.{arith, ◌≡◌, ⊎_elim, refl, sym, ap, subst, ℕ, List, [], ◌∷◌, ◌++◌, take, slice_get, Option, Some, inl, inr}
 use Rattle.batch_model.specs.Lists.{Has}
 use Rattle.batch_recipe.specs.Tree.{Place, Step, Task}
 use Rattle.batch_recipe.specs.declared.need.Need.{Need}
@@ -18,9 +18,8 @@ asking-right : (xs ys : List Rest) (q : Place) (x : Need) → AskingAct ys q x �
 asking-right xs ys q x h = (h.0, h.1, h.2, Has-right xs ys (asking h.0 h.1 h.2) h.3, h.4, h.5)
 
 awaited-place : (p : Place) (o : Option Need) (q : Place) (x : Need) → Has (awaited_at p o) (q, awaiting x) → p ≡ q
-awaited-place p None q x h = absurd h
 awaited-place p (Some r) q x (inl e) = ap (λ z. z.0) e
-awaited-place p (Some r) q x (inr h) = absurd h
+awaited-place p o q x h = grind arith
 
 mutual
   pub awaiting-act : (r : Rest) (q : Place) (x : Need) → Has (facts r) (q, awaiting x) → AskingAct (acts r) q x

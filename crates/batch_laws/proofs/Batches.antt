@@ -1,5 +1,5 @@
 -- A change of one act of one batch, among the entries of all batches.
-use Rattle.std.proofs.Common.{arith, ◌≡◌, refl, sym, ◌∙◌, ap, ap₂, subst, ℕ, ◌<◌, List, [], ◌∷◌, ◌++◌, Bool, true, false, cond, map, filter, flat_map, take, slice_get, Option, Some, None, inl, inr, ◌⊎◌, ⊎_elim, bytes_eq, nat_eq, append-nil, append_assoc}
+use Rattle.std.proofs.Common.{arith, ◌≡◌, refl, sym, ◌∙◌, ap, ap₂, subst, ℕ, ◌<◌, List, [], ◌∷◌, ◌++◌, Bool, true, false, map, filter, flat_map, take, slice_get, Option, inl, inr, ◌⊎◌, ⊎_elim, bytes_eq, nat_eq, append-nil, append_assoc}
 use Rattle.std.proofs.lemmas.List.{map-append}
 use Rattle.std.proofs.lemmas.Grind.{flat_map-append}
 use Rattle.batch_model.specs.Lists.{Has}
@@ -22,20 +22,13 @@ of_resource q r = bytes_eq q r.resource
 held-holders : (n : ℕ) (q : Name) (p : Place) (needs : List Need)
     → map (λ r. share (n, p) r.units) (filter (of_resource q) needs) ≡ holders_among q (map (entry n) (held_at p needs))
 held-holders n q p [] = refl
-held-holders n q p (r ∷ needs) = go (bytes_eq q r.resource) (held-holders n q p needs)
-  where
-    go : (b : Bool) → map (λ z. share (n, p) z.units) (filter (of_resource q) needs) ≡ holders_among q (map (entry n) (held_at p needs))
-        → map (λ z. share (n, p) z.units) (cond b (r ∷ filter (of_resource q) needs) (filter (of_resource q) needs))
-        ≡ elim b [ true ↦ share (n, p) r.units ∷ [] | false ↦ [] ] ++ holders_among q (map (entry n) (held_at p needs))
-    go true h = ap (λ z. share (n, p) r.units ∷ z) h
-    go false h = h
+held-holders n q p (r ∷ needs) = grind (arith, held-holders n q p needs)
 
 abbrev holders_at : ℕ → Name → Rest → List Share
 holders_at n q a = map (λ r. share (n, place_of a) r.units) (filter (of_resource q) (held_by a))
 
 awaited-holders : (n : ℕ) (q : Name) (p : Place) (o : Option Need) → holders_among q (map (entry n) (awaited_at p o)) ≡ []
-awaited-holders n q p None = refl
-awaited-holders n q p (Some r) = refl
+awaited-holders n q p o = grind arith
 
 append-holders : (n : ℕ) (q : Name) (xs ys : List Standing)
     → holders_among q (map (entry n) (xs ++ ys)) ≡ holders_among q (map (entry n) xs) ++ holders_among q (map (entry n) ys)
@@ -59,9 +52,7 @@ mutual
 
   acts_of_each-holders : (n : ℕ) (q : Name) (rs : Rests) → flat_map (holders_at n q) (acts_of_each rs) ≡ holders_among q (map (entry n) (facts_of_each rs))
   acts_of_each-holders n q no_rests = refl
-  acts_of_each-holders n q (rest r rs) =
-      flat_map-append (holders_at n q) (acts r) (acts_of_each rs)
-      ∙ ap₂ (λ xs ys. xs ++ ys) (acts-holders n q r) (acts_of_each-holders n q rs) ∙ sym (append-holders n q (facts r) (facts_of_each rs))
+  acts_of_each-holders n q (rest r rs) = grind (arith, acts_of_each-holders n q rs, acts-holders n q r, append-holders n q (facts r) (facts_of_each rs), flat_map-append)
 
 batches-holders : (q : Name) (bs : List Batch) → flat_map (λ b. flat_map (holders_at b.number q) (acts b.rest)) bs ≡ holders_among q (entries bs)
 batches-holders q [] = refl
@@ -107,18 +98,7 @@ same-batch next (d ∷ bs) b c h (inr i) (inr j) e = same-batch next bs b c h.2 
 -- after the change of b there are the changed b and the others
 pub Has-only : (next : ℕ) (bs : List Batch) (b : Batch) (g : Batch → Batch) (c : Batch) → NumbersDiffer next bs → Has bs b → Has (map (only b.number g) bs) c
     → (c ≡ g b) ⊎ (Has bs c × (c.number ≡ b.number → ⊥))
-Has-only next bs b g c h i k =
-    let m = Has-map (only b.number g) bs c k in go m.0 m.1 m.2 (nat_eq m.0.number b.number) refl
-  where
-    go : (d : Batch) → Has bs d → only b.number g d ≡ c → (t : Bool) → nat_eq d.number b.number ≡ t → (c ≡ g b) ⊎ (Has bs c × (c.number ≡ b.number → ⊥))
-    go d j e true f =
-        let same : d.number ≡ b.number = nat_same d.number b.number f in
-        inl (sym e ∙ only-hit b.number g d same ∙ ap g (same-batch next bs d b h j i same))
-    go d j e false f =
-        let apart : d.number ≡ b.number → ⊥ = λ p. (let t : nat_eq d.number b.number ≡ true = subst (λ z. nat_eq d.number z ≡ true) p (nat_self d.number) in
-        let u : ◌≡◌ {A = Bool} true false = sym t ∙ f in absurd cc) in
-        let q : d ≡ c = sym (only-miss b.number g d apart) ∙ e in
-        inr (subst (Has bs) q j, subst (λ z. z.number ≡ b.number → ⊥) q apart)
+Has-only next bs b g c h i k = grind (arith, Has-map, nat_same, only-hit, same-batch, nat_self, only-miss)
 
 -- no entry is of the act
 abbrev pub AreOthers : BatchAct → List Entry → Type 0
@@ -185,14 +165,7 @@ plant-frame next (c ∷ bs) b a h (inr k) f =
 
 -- an entry is a fact of a batch
 pub entry-of : (bs : List Batch) (a : BatchAct) (f : Fact) → Has (entries bs) (a, f) → (b : Batch) × Has bs b × (b.number ≡ a.0) × Has (facts b.rest) (a.1, f)
-entry-of bs a f h =
-    let k = Has-flat_map entries_of bs (a, f) h in
-    let m = Has-map (entry k.0.number) (facts k.0.rest) (a, f) k.2 in (
-      k.0,
-      k.1,
-      ap (λ z. z.0.0) m.2,
-      subst (Has (facts k.0.rest)) (ap₂ (λ x y. let z : Standing = (x, y) in z) (ap (λ z. z.0.1) m.2) (ap (λ z. z.1) m.2)) m.1,
-    )
+entry-of bs a f h = grind (arith, Has-flat_map entries_of bs (a, f) h, Has-map)
 
 pub of-entry : (bs : List Batch) (b : Batch) (p : Place) (f : Fact) → Has bs b → Has (facts b.rest) (p, f) → Has (entries bs) ((b.number, p), f)
 of-entry bs b p f h k = flat_map-Has entries_of bs b ((b.number, p), f) h (map-Has (entry b.number) (facts b.rest) (p, f) k)

@@ -1,5 +1,5 @@
 -- A path has one unit procedure, so that clearance for every binding is clearance of each unit procedure on each unit.
-use Rattle.std.proofs.Common.{◌≡◌, refl, sym, ◌∙◌, ap, subst, ℕ, ◌+◌, List, [], ◌∷◌, true, false, ◌&&◌, not, IsTrue, Option, Some, None, inl, inr}
+use Rattle.std.proofs.Common.{arith, ◌≡◌, refl, sym, ◌∙◌, ap, subst, ℕ, ◌+◌, List, [], ◌∷◌, true, false, ◌&&◌, not, IsTrue, Option, Some, None, inl, inr}
 use Rattle.std.proofs.lemmas.Bool.{and_parts}
 use Rattle.std.specs.List.{list_all}
 use Rattle.batch_cell.specs.declared.cell.Cell as equipment
@@ -192,8 +192,7 @@ module _ (setup : Setup) (rank : Ranking) (roles : List Declared) (units : List 
         (expanded (label_of unbound) (child (0 ∷ []) 0) (diagram_of c)) (expanded (label_of bound) (child (0 ∷ []) 0) (diagram_of c)) h.0,
     for_all bound s (child (0 ∷ []) 0) (resources_of a.needs.items) (diagram_of c) n h.1,
   )
-  whole-for_all a None (Runs phase values) e f n h bound s = absurd cc
-  whole-for_all a (Some choice) w e f n h bound s = absurd cc
+  whole-for_all a o w e f n h bound s = grind arith
 
   pub whole-by_itself : (a : Act) (o : Option UnitChoice) (w : Work) → o ≡ None → elim w [ Follows c ↦ true | Runs phase values ↦ false ] ≡ true → AreNamed (labels_in w)
       → Always (λ bound. parts is_procedure (0 ∷ []) [] (root_of bound a o w)) → OnEach a o w
@@ -202,8 +201,7 @@ module _ (setup : Setup) (rank : Ranking) (roles : List Declared) (units : List 
         (expanded (label_of some.0) (child (0 ∷ []) 0) (diagram_of c)) (expanded (label_of unbound) (child (0 ∷ []) 0) (diagram_of c)) (h some.0 some.1).0,
     by_itself (child (0 ∷ []) 0) (resources_of a.needs.items) (diagram_of c) n (λ bound s. (h bound s).1),
   )
-  whole-by_itself a None (Runs phase values) e f n h = absurd cc
-  whole-by_itself a (Some choice) w e f n h = absurd cc
+  whole-by_itself a o w e f n h = grind arith
 
 -- Documents
 

@@ -1,5 +1,5 @@
 -- One act of one batch changes: what each kind of change keeps.
-use Rattle.std.proofs.Common.{◌≡◌, ◌⊎◌, ⊎_elim, refl, sym, ◌∙◌, ap, subst, subst₂, ℕ, ◌+◌, ◌≤◌, arith, List, [], ◌∷◌, ◌++◌, Bool, true, false, map, Option, Some, inl, inr, bytes_eq, append-nil}
+use Rattle.std.proofs.Common.{◌≡◌, ◌⊎◌, ⊎_elim, sym, ◌∙◌, ap, subst, subst₂, ℕ, ◌+◌, ◌≤◌, arith, List, [], ◌∷◌, ◌++◌, false, map, Option, Some, inl, inr, bytes_eq, append-nil}
 use Rattle.std.proofs.lemmas.List.{map-append}
 use Rattle.batch_matrix.specs.declared.state.State.{State}
 use Rattle.batch_model.specs.Lists.{Has}
@@ -82,17 +82,14 @@ split-framed f h t b e m =
     (Has-split f ((h ++ t) ++ b) e m)
 
 pub join-framed : (f h t b : List Entry) (e : Entry) → Has f e ⊎ (Has h e ⊎ Has b e) → Has (framed f h t b) e
-join-framed f h t b e (inl x) = Has-left f ((h ++ t) ++ b) e x
-join-framed f h t b e (inr (inl x)) = Has-right f ((h ++ t) ++ b) e (Has-left (h ++ t) b e (Has-left h t e x))
-join-framed f h t b e (inr (inr x)) = Has-right f ((h ++ t) ++ b) e (Has-right (h ++ t) b e x)
+join-framed f h t b e k = grind (arith, Has-left, Has-right)
 
 tail-framed : (f h t b : List Entry) (e : Entry) → Has t e → Has (framed f h t b) e
 tail-framed f h t b e x = Has-right f ((h ++ t) ++ b) e (Has-left (h ++ t) b e (Has-right h t e x))
 
 holders-framed : (q : Name) (f h t b : List Entry)
     → holders_among q (framed f h t b) ≡ holders_among q f ++ ((holders_among q h ++ holders_among q t) ++ holders_among q b)
-holders-framed q f h t b =
-    holders-append q f ((h ++ t) ++ b) ∙ ap (λ z. holders_among q f ++ z) (holders-append q (h ++ t) b ∙ ap (λ z. z ++ holders_among q b) (holders-append q h t))
+holders-framed q f h t b = grind (arith, holders-append q f ((h ++ t) ++ b), holders-append q (h ++ t) b, holders-append q h t)
 
 -- what an act's facts become: its holdings by name, a tail before, and a tail after
 pub data Tail : Type 0 where
@@ -119,18 +116,10 @@ held-entry n p names e h =
     (m.0, m.1, sym j.2 ∙ sym (ap (entry n) m.2))
 
 tail-holder : (n : ℕ) (p : Place) (r : Need) → holders_among r.resource (map (entry n) (tail_at p (also (holding r)))) ≡ share (n, p) r.units ∷ []
-tail-holder n p r = go (bytes_eq r.resource r.resource) (name_self r.resource)
-  where
-    go : (c : Bool) → c ≡ true → ◌++◌ {A = Share} (elim c [ true ↦ share (n, p) r.units ∷ [] | false ↦ [] ]) [] ≡ share (n, p) r.units ∷ []
-    go true m = refl
-    go false m = absurd cc
+tail-holder n p r = grind (arith, name_self r.resource)
 
 pub tail-no_holder : (n : ℕ) (p : Place) (q : Name) (r : Need) → bytes_eq q r.resource ≡ false → holders_among q (map (entry n) (tail_at p (also (holding r)))) ≡ []
-tail-no_holder n p q r e = go (bytes_eq q r.resource) e
-  where
-    go : (c : Bool) → c ≡ false → ◌++◌ {A = Share} (elim c [ true ↦ share (n, p) r.units ∷ [] | false ↦ [] ]) [] ≡ []
-    go true m = absurd cc
-    go false m = refl
+tail-no_holder n p q r e = grind arith
 
 -- none of the needs is of the resource of r
 abbrev pub Lacks : List Need → Need → Type 0
@@ -148,23 +137,11 @@ module _ (n : ℕ) (p : Place) (names : List Need) (t u : Tail) (before after : 
 
   -- an entry of another act stays
   pub others-stay : (e : Entry) → Has before e → (e.0 ≡ (n, p) → ⊥) → Has after e
-  others-stay e h d =
-      ⊎_elim (λ m. m) (λ m. let j = Has-map (entry n) (tail_at p t) e m in absurd (d (own t j.0 j.1 j.2))) (stays e h)
-    where
-      own : (v : Tail) (z : Standing) → Has (tail_at p v) z → entry n z ≡ e → e.0 ≡ (n, p)
-      own nothing z l q = absurd l
-      own (also f) z (inl l) q = sym (ap (λ w. w.0) q) ∙ ap (λ w. let c : BatchAct = (n, w.0) in c) (sym l)
-      own (also f) z (inr l) q = absurd l
+  others-stay e h d = grind (arith, stays e h, Has-map)
 
   -- where neither tail holds anything the holders stay the same
   pub same-holders : (q : Name) → holders_among q (map (entry n) (tail_at p t)) ≡ [] → holders_among q (map (entry n) (tail_at p u)) ≡ [] → holders_among q after ≡ holders_among q before
-  same-holders q e g =
-      let f : List Share = holders_among q x.front in
-      let h : List Share = holders_among q (map (entry n) (held_at p names)) in
-      let b : List Share = holders_among q x.back in
-      ap (holders_among q) x.is ∙ holders-framed q x.front (map (entry n) (held_at p names)) (map (entry n) (tail_at p u)) x.back
-      ∙ ap (λ z. f ++ ((h ++ z) ++ b)) (g ∙ sym e)
-      ∙ sym (ap (holders_among q) x.was ∙ holders-framed q x.front (map (entry n) (held_at p names)) (map (entry n) (tail_at p t)) x.back)
+  same-holders q e g = grind (arith, holders-framed)
 
   -- what is held
   pub holders-before : (q : Name) → holders_among q before ≡ holders_among q x.front ++ ((holders_among q (map (entry n) (held_at p names)) ++ holders_among q (map (entry n) (tail_at p t))) ++ holders_among q x.back)
@@ -296,9 +273,4 @@ apart next bs b a g f vs names t u h i fr c e =
 -- fewer facts of the act are fewer facts of the batch
 pub fewer-facts : (b : Batch) (a : Rest) (g : Batch → Batch) (f : Rest → Rest) (vs : ValueList) → Frame b.rest a → IsChange b a g f vs
     → ((e : Standing) → Has (facts (f a)) e → Has (facts a) e) → (e : Standing) → Has (facts (g b).rest) e → Has (facts b.rest) e
-fewer-facts b a g f vs fr c less e h =
-    let k : Has (fr.0 ++ (facts (f a) ++ fr.1)) e = subst (λ z. Has z e) (change-facts b a g f vs c ∙ fr.3 f) h in
-    subst (λ z. Has z e) (sym fr.2)
-    (⊎_elim (frame-front fr.0 (facts a) fr.1 e)
-    (λ m. ⊎_elim (λ o. frame-middle fr.0 (facts a) fr.1 e (less e o)) (frame-back fr.0 (facts a) fr.1 e) m)
-    (Has-frame fr.0 (facts (f a)) fr.1 e k))
+fewer-facts b a g f vs fr c less e h = grind (arith, change-facts b a g f vs c, frame-front fr.0 (facts a) fr.1 e, frame-back fr.0 (facts a) fr.1 e, frame-middle, Has-frame)

@@ -1,5 +1,5 @@
 -- Clearance over all nodes makes clearance on the way down.
-use Rattle.std.proofs.Common.{◌≡◌, refl, sym, ◌∙◌, ap, subst, ℕ, ◌+◌, ◌<◌, arith, List, [], ◌∷◌, ◌++◌, Bool, true, false, map, IsTrue, inl, inr, bytes_eq}
+use Rattle.std.proofs.Common.{◌≡◌, refl, sym, ◌∙◌, ap, subst, ℕ, ◌+◌, ◌<◌, arith, List, [], ◌∷◌, ◌++◌, Bool, true, false, map, IsTrue, inl, inr}
 use Rattle.std.proofs.lemmas.Bool.{and_parts}
 use Rattle.std.proofs.lemmas.Slice.Eq.{bytes_eq-Decides}
 use Rattle.std.specs.List.{list_all}
@@ -48,13 +48,12 @@ mutual
 
 mutual
   below-unit : (unit : Name) (t : Tree) → IsOfLevel in_unit_procedure unit t → Each (RunsOn unit) (phases t)
-  below-unit unit (act s (runs x)) h = absurd h
   below-unit unit (act s (follows name t)) h = on-unit unit t h
   below-unit unit skip h = tt
   below-unit unit (seq ts) h = below-unit_each unit ts h
-  below-unit unit (par ts) h = absurd h.0
   below-unit unit (sel cs) h = below-unit_choices unit cs h
   below-unit unit (loop n c t) h = below-unit unit t h
+  below-unit unit t h = grind arith
 
   below-unit_each : (unit : Name) (ts : Trees) → AreOfLevel in_unit_procedure unit ts → Each (RunsOn unit) (phases_of_each ts)
   below-unit_each unit no_trees h = tt
@@ -79,20 +78,13 @@ rising-above rank x (y ∷ ys) h z (inr k) = let l : rank y < rank z = rising-ab
 -- what is asked for after a path is nowhere on it
 not-above : (rank : Ranking) (above needs : List Name) (own : Name) → RiseStrictly rank (above ++ (own ∷ needs)) → Has above own → ⊥
 not-above rank [] needs own h k = k
-not-above rank (x ∷ above) needs own h (inl e) =
-    let l : rank x < rank own = rising-above rank x (above ++ (own ∷ needs)) h own (Has-right above (own ∷ needs) own (inl refl)) in
-    let m : rank x ≡ rank own = ap rank e in
-    absurd (omega arith)
+not-above rank (x ∷ above) needs own h (inl e) = grind (arith, rising-above rank x (above ++ (own ∷ needs)) h own (Has-right above (own ∷ needs) own (inl refl)), Has-right above (own ∷ needs) own (inl refl))
 not-above rank (x ∷ above) needs own h (inr k) = not-above rank above needs own (rising-rest rank x (above ++ (own ∷ needs)) h) k
 
 -- Branches
 
 different : (a b : Name) → same_name a b ≡ false → a ≡ b → ⊥
-different a b e q = no_both (bytes_eq a b) ((bytes_eq-Decides a b).1 q) e
-  where
-    no_both : (t : Bool) → t ≡ true → t ≡ false → ⊥
-    no_both true u v = cc
-    no_both false u v = cc
+different a b e q = grind (arith, bytes_eq-Decides a b)
 
 branches-apart : (above : List Need) (xs ys : List Phase) → RunApart xs ys → AreApart above xs ys
 branches-apart above xs ys h x y k m u same =
@@ -145,14 +137,13 @@ module _ (setup : Setup) (rank : Ranking) where
   mutual
     in-unit_procedure : (unit : Name) (p : Place) (asked : List Name) (above : List Need) (t : Tree) → Has above (one_unit unit) → IsOfLevel in_unit_procedure unit t
         → Each Clear (parts in_unit_procedure p asked t) → RunsInUnits above t
-    in-unit_procedure unit p asked above (act s (runs x)) k h c = absurd h
     in-unit_procedure unit p asked above (act s (follows name t)) k h c =
         in-operation unit (child p 0) (asked ++ resources_of s.needs) (s.needs ++ above) t (Has-right s.needs above (one_unit unit) k) h c.1
     in-unit_procedure unit p asked above skip k h c = tt
     in-unit_procedure unit p asked above (seq ts) k h c = in-unit_procedure_each unit p asked above 0 ts k h c.1
-    in-unit_procedure unit p asked above (par ts) k h c = absurd h.0
     in-unit_procedure unit p asked above (sel cs) k h c = in-unit_procedure_choices unit p asked above 0 cs k h c.1
     in-unit_procedure unit p asked above (loop n q t) k h c = in-unit_procedure unit (child p 0) asked above t k h c.1
+    in-unit_procedure unit p asked above t k h c = grind arith
 
     in-unit_procedure_each : (unit : Name) (p : Place) (asked : List Name) (above : List Need) (i : ℕ) (ts : Trees) → Has above (one_unit unit) → AreOfLevel in_unit_procedure unit ts
         → Each Clear (parts_of_each in_unit_procedure p asked i ts) → RunInUnits above ts

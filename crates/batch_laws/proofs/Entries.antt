@@ -1,5 +1,5 @@
 -- Holders among entries, and what a record tells of them.
-use Rattle.std.proofs.Common.{◌≡◌, refl, sym, ◌∙◌, ap, ap₂, subst, ℕ, ◌+◌, ◌≤◌, ◌<◌, arith, List, [], ◌∷◌, ◌++◌, Bool, true, false, cond, not, filter, inl, inr, ◌⊎◌, ⊎_elim, length, sum_by, bytes_eq, nat_eq}
+use Rattle.std.proofs.Common.{◌≡◌, refl, sym, ◌∙◌, ap, ap₂, ℕ, ◌+◌, ◌≤◌, ◌<◌, arith, List, [], ◌∷◌, ◌++◌, Bool, true, false, cond, not, filter, inl, inr, ◌⊎◌, ⊎_elim, length, sum_by, bytes_eq, nat_eq}
 use Rattle.std.proofs.lemmas.List.Sums.{sum_by-append, sum_by-cons, length-filter, count_by-le-length}
 use Rattle.std.proofs.lemmas.Slice.Eq.{bytes_eq-Decides}
 use Rattle.std.proofs.lemmas.Grind.{flat_map-append}
@@ -18,11 +18,7 @@ pub nat_self : (n : ℕ) → nat_eq n n ≡ true
 nat_self n = grind arith
 
 pub nat_differs : (m n : ℕ) → (m ≡ n → ⊥) → nat_eq m n ≡ false
-nat_differs m n d = go (nat_eq m n) refl
-  where
-    go : (b : Bool) → nat_eq m n ≡ b → b ≡ false
-    go true e = absurd (d (nat_same m n e))
-    go false e = refl
+nat_differs m n d = grind (arith, nat_same)
 
 pub name_self : (r : Name) → bytes_eq r r ≡ true
 name_self r = (bytes_eq-Decides r r).1 refl
@@ -42,56 +38,26 @@ act_self a = and_from (nat_eq a.0 a.0) (bytes_eq a.1 a.1) (nat_self a.0) (name_s
 
 pub Has-filter : {X : Type 0} (p : X → Bool) (xs : List X) (x : X) → Has (filter p xs) x → Has xs x × (p x ≡ true)
 Has-filter p [] x h = absurd h
-Has-filter p (y ∷ xs) x h = go (p y) refl h (Has-filter p xs x)
-  where
-    go : (b : Bool) → p y ≡ b → Has (cond b (y ∷ filter p xs) (filter p xs)) x → (Has (filter p xs) x → Has xs x × (p x ≡ true)) → Has (y ∷ xs) x × (p x ≡ true)
-    go true e (inl q) f = (inl q, ap p (sym q) ∙ e)
-    go true e (inr k) f = let m = f k in (inr m.0, m.1)
-    go false e k f = let m = f k in (inr m.0, m.1)
+Has-filter p (y ∷ xs) x h = grind (arith, Has-filter p xs x)
 
 pub filter-Has : {X : Type 0} (p : X → Bool) (xs : List X) (x : X) → Has xs x → p x ≡ true → Has (filter p xs) x
 filter-Has p [] x h e = absurd h
-filter-Has p (y ∷ xs) x (inl q) e = go (p y) (ap p q ∙ e)
-  where
-    go : (b : Bool) → b ≡ true → Has (cond b (y ∷ filter p xs) (filter p xs)) x
-    go true f = inl q
-    go false f = absurd cc
-filter-Has p (y ∷ xs) x (inr h) e = go (p y) (filter-Has p xs x h e)
-  where
-    go : (b : Bool) → Has (filter p xs) x → Has (cond b (y ∷ filter p xs) (filter p xs)) x
-    go true f = inr f
-    go false f = f
+filter-Has p (y ∷ xs) x (inl q) e = grind arith
+filter-Has p (y ∷ xs) x (inr h) e = grind (arith, filter-Has p xs x h e)
 
 length-filter_le : {X : Type 0} (p : X → Bool) (xs : List X) → length (filter p xs) ≤ length xs
 length-filter_le p xs = omega (arith, length-filter p xs, count_by-le-length p xs)
 
 pub length-filter_lt : {X : Type 0} (p : X → Bool) (xs : List X) (x : X) → Has xs x → p x ≡ false → length (filter p xs) < length xs
 length-filter_lt p [] x h e = absurd h
-length-filter_lt p (y ∷ xs) x (inl q) e = go (p y) (ap p q ∙ e) (length-filter_le p xs)
-  where
-    go : (b : Bool) → b ≡ false → length (filter p xs) ≤ length xs → length (cond b (y ∷ filter p xs) (filter p xs)) < length (y ∷ xs)
-    go true f h = absurd cc
-    go false f h = omega arith
-length-filter_lt p (y ∷ xs) x (inr k) e = go (p y) (length-filter_lt p xs x k e)
-  where
-    go : (b : Bool) → length (filter p xs) < length xs → length (cond b (y ∷ filter p xs) (filter p xs)) < length (y ∷ xs)
-    go true h = omega arith
-    go false h = omega arith
+length-filter_lt p (y ∷ xs) x (inl q) e = grind (arith, length-filter_le p xs)
+length-filter_lt p (y ∷ xs) x (inr k) e = grind (arith, length-filter_lt p xs x k e)
 
 pub Has-without : (a : BatchAct) (xs : List Share) (x : Share) → Has (without a xs) x → Has xs x × (x.act ≡ a → ⊥)
-Has-without a xs x h =
-    let k = Has-filter (λ b. not (is_same_act b.act a)) xs x h in (
-      k.0,
-      λ e. absurd (let f : not (is_same_act x.act a) ≡ false = not_from_true (is_same_act x.act a) (subst (λ z. is_same_act x.act z ≡ true) e (act_self x.act)) in
-          let g : not (is_same_act x.act a) ≡ true = k.1 in let t : ◌≡◌ {A = Bool} true false = sym g ∙ f in cc),
-    )
+Has-without a xs x h = grind (arith, act_self x.act, Has-filter, not_from_true)
 
 pub differs : (x a : BatchAct) → (x ≡ a → ⊥) → not (is_same_act x a) ≡ true
-differs x a d = go (is_same_act x a) refl
-  where
-    go : (b : Bool) → is_same_act x a ≡ b → not b ≡ true
-    go true e = absurd (d (same_act x a e))
-    go false e = refl
+differs x a d = grind (arith, same_act)
 
 pub without-Has : (a : BatchAct) (xs : List Share) (x : Share) → Has xs x → (x.act ≡ a → ⊥) → Has (without a xs) x
 without-Has a xs x h d = filter-Has (λ b. not (is_same_act b.act a)) xs x h (differs x.act a d)
@@ -118,11 +84,7 @@ Has-holders q (e ∷ es) a h =
 
 pub holders-Has : (q : Name) (es : List Entry) (a : Share) → Has es (a.act, holding (need q a.units)) → Has (holders_among q es) a
 holders-Has q [] a h = absurd h
-holders-Has q (e ∷ es) a (inl p) = Has-left (holder_of q e) (holders_among q es) a (subst (λ z. Has (holder_of q z) a) (sym p) (go (bytes_eq q q) (name_self q)))
-  where
-    go : (b : Bool) → b ≡ true → Has (elim b [ true ↦ a ∷ [] | false ↦ [] ]) a
-    go true f = inl refl
-    go false f = absurd cc
+holders-Has q (e ∷ es) a (inl p) = grind (arith, name_self q, Has-left)
 holders-Has q (e ∷ es) a (inr k) = Has-right (holder_of q e) (holders_among q es) a (holders-Has q es a k)
 
 pub holders-append : (q : Name) (xs ys : List Entry) → holders_among q (xs ++ ys) ≡ holders_among q xs ++ holders_among q ys
@@ -177,19 +139,7 @@ module _ (amount : Share → ℕ) where
   -- taking away what is there once takes away its amount
   pub sums-without_once : (a : Share) (xs : List Share) → IsOnce xs → Has xs a → amount a + sum_by amount (without a.act xs) ≡ sum_by amount xs
   sums-without_once a [] h k = absurd k
-  sums-without_once a (x ∷ xs) h (inl e) = go (is_same_act x.act a.act) (subst (λ z. is_same_act x.act z.act ≡ true) e (act_self x.act))
-    where
-      others : sum_by amount (filter (λ b. not (is_same_act b.act a.act)) xs) ≡ sum_by amount xs
-      others = sums-kept (λ b. not (is_same_act b.act a.act)) xs (λ y k. differs y.act a.act (λ q. h.0 y k (q ∙ sym (ap (λ z. z.act) e))))
-
-      go : (t : Bool) → t ≡ true
-          → amount a + sum_by amount (cond (not t) (x ∷ filter (λ b. not (is_same_act b.act a.act)) xs) (filter (λ b. not (is_same_act b.act a.act)) xs)) ≡ sum_by amount (x ∷ xs)
-      go true f =
-          let l : sum_by amount (x ∷ xs) ≡ amount x + sum_by amount xs = sums-cons x xs in
-          let q : amount x ≡ amount a = ap amount e in
-          let o : sum_by amount (filter (λ b. not (is_same_act b.act a.act)) xs) ≡ sum_by amount xs = others in
-          omega arith
-      go false f = absurd cc
+  sums-without_once a (x ∷ xs) h (inl e) = grind (arith, act_self x.act, sums-cons x xs, sums-kept, differs)
   sums-without_once a (x ∷ xs) h (inr k) = go (not (is_same_act x.act a.act)) (differs x.act a.act (λ q. h.0 a k (sym q))) (sums-without_once a xs h.1 k)
     where
       go : (t : Bool) → t ≡ true → amount a + sum_by amount (filter (λ b. not (is_same_act b.act a.act)) xs) ≡ sum_by amount xs

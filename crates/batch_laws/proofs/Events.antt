@@ -40,11 +40,7 @@ Answered d rank outs a = IsKept d rank (outs ++ reply a.0 ∷ []) a.1
 
 pub find-Has : {X : Type 0} (p : X → Bool) (xs : List X) (x : X) → find p xs ≡ Some x → Has xs x × (p x ≡ true)
 find-Has p [] x e = absurd (let f : ◌≡◌ {A = Option _} None (Some x) = e in cc)
-find-Has p (y ∷ xs) x e = go (p y) refl e (find-Has p xs x)
-  where
-    go : (t : Bool) → p y ≡ t → cond t (Some y) (find p xs) ≡ Some x → (find p xs ≡ Some x → Has xs x × (p x ≡ true)) → Has (y ∷ xs) x × (p x ≡ true)
-    go true q f h = (let w : y ≡ x = cc in (inl w, subst (λ z. p z ≡ true) w q))
-    go false q f h = let w = h f in (inr w.0, w.1)
+find-Has p (y ∷ xs) x e = grind (arith, find-Has p xs x)
 
 -- a refusal changes nothing
 pub kept-refused : (d : Setup) (rank : Ranking) (outs : List Out) (s : Plant) (x : Refusal) → IsKept d rank outs s → IsKept d rank (outs ++ reply (refused x) ∷ []) s
@@ -142,10 +138,7 @@ order-own c n x was = tells-own n (Some x) (Some was)
 
 -- a batch that may be reset has no facts
 reset-nothing : (x : State) (es : List Standing) → accepts x Reset ≡ true → IsFitting x es → es ≡ []
-reset-nothing Stopped es e h = h
-reset-nothing Aborted es e h = h
-reset-nothing Complete es e h = h
-reset-nothing x es e h = absurd (grind arith)
+reset-nothing x es e h = grind arith
 
 kept-holders : (n : ℕ) (q : Name) (es : List Standing) → holders_among q (map (entry n) (filter is_kept es)) ≡ holders_among q (map (entry n) es)
 kept-holders n q [] = refl

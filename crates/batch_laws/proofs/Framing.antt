@@ -1,5 +1,5 @@
 -- A change of one act changes the facts of that act alone.
-use Rattle.std.proofs.Common.{◌+◌, ◌≡◌, refl, sym, ◌∙◌, ap, ap₂, subst, ℕ, arith, List, [], ◌++◌, Bool, true, false, inl, inr, ⊎_elim, bytes_eq, append-nil, append_assoc}
+use Rattle.std.proofs.Common.{◌+◌, ◌≡◌, refl, sym, ◌∙◌, ap, ap₂, subst, ℕ, arith, List, [], ◌++◌, true, false, inl, inr, ⊎_elim, bytes_eq, append-nil, append_assoc}
 use Rattle.std.proofs.lemmas.Slice.Eq.{bytes_eq-Decides}
 use Rattle.batch_model.specs.Lists.{Has}
 use Rattle.batch_recipe.specs.Tree.{Place, Step, Tree, act, seq, par, sel, loop, Task, runs, follows, Trees, no_trees, tree, Choices, otherwise, choice}
@@ -17,18 +17,10 @@ use Rattle.batch_recipe.specs.declared.need.Need.{Need}
 use Rattle.batch_recipe.specs.Needs.{resources_of}
 
 pub hit : (x : Place) (q r : Rest) → elim (bytes_eq x x) [ true ↦ q | false ↦ r ] ≡ q
-hit x q r = go (bytes_eq x x) ((bytes_eq-Decides x x).1 refl)
-  where
-    go : (b : Bool) → b ≡ true → elim b [ true ↦ q | false ↦ r ] ≡ q
-    go true e = refl
-    go false e = absurd cc
+hit x q r = grind (arith, bytes_eq-Decides x x)
 
 pub miss : (x y : Place) → (x ≡ y → ⊥) → (q r : Rest) → elim (bytes_eq x y) [ true ↦ q | false ↦ r ] ≡ r
-miss x y d q r = go (bytes_eq x y) refl
-  where
-    go : (b : Bool) → bytes_eq x y ≡ b → elim b [ true ↦ q | false ↦ r ] ≡ r
-    go true e = absurd (d ((bytes_eq-Decides x y).0 e))
-    go false e = refl
+miss x y d q r = grind (arith, bytes_eq-Decides x y)
 
 mutual
   -- where no act stands nothing changes
@@ -136,7 +128,6 @@ mutual
   frame-among p i (tree c cs) r ds pl (inr h) a e = frame-among p (i + 1) cs r ds pl.1 h a e
 
   pub frame-side_by_side : (p : Place) (i : ℕ) (cs : Trees) (rs : Rests) → ArePlaced p i cs → AreBranches cs rs → (a : Rest) → Has (acts_of_each rs) a → FrameOfEach rs a
-  frame-side_by_side p i no_trees no_rests pl h a e = absurd e
   frame-side_by_side p i (tree c cs) (rest r more) pl h a e =
       ⊎_elim
       (λ m.
@@ -158,8 +149,7 @@ mutual
       (unchanged (place_of a) f r (λ b k q. apart (place_of b) (under_child p i (place_of b) (acts-under (child p i) c r pl.0 h.0 b k)) q)))
       (frame-side_by_side p (i + 1) cs more pl.1 h.1 a m))
       (Has-split (acts r) (acts_of_each more) a e)
-  frame-side_by_side p i no_trees (rest r more) pl h a e = absurd h
-  frame-side_by_side p i (tree c cs) no_rests pl h a e = absurd h
+  frame-side_by_side p i cs rs pl h a e = grind arith
 
   pub frame-chosen : (p : Place) (i : ℕ) (ch : Choices) (r : Rest) → IsChoicePlaced p i ch → IsChosen ch r → (a : Rest) → Has (acts r) a → Frame r a
   frame-chosen p i (otherwise c) r pl h a e = frame (child p i) c r pl h a e
@@ -211,11 +201,9 @@ mutual
   needs-rise_among rank low (tree c cs) r ds rs (inr h) a e = needs-rise_among rank low cs r ds rs.1 h a e
 
   pub needs-rise_side_by_side : (rank : Ranking) (low : ℕ) (cs : Trees) (r : Rests) → RiseDown rank low cs → AreBranches cs r → (a : Rest) → Has (acts_of_each r) a → NeedsRise rank a
-  needs-rise_side_by_side rank low no_trees no_rests rs h a e = absurd e
   needs-rise_side_by_side rank low (tree c cs) (rest r more) rs h a e =
       ⊎_elim (needs-rise rank low c r rs.0 h.0 a) (needs-rise_side_by_side rank low cs more rs.1 h.1 a) (Has-split (acts r) (acts_of_each more) a e)
-  needs-rise_side_by_side rank low no_trees (rest r more) rs h a e = absurd h
-  needs-rise_side_by_side rank low (tree c cs) no_rests rs h a e = absurd h
+  needs-rise_side_by_side rank low cs r rs h a e = grind arith
 
   pub needs-rise_chosen : (rank : Ranking) (low : ℕ) (ch : Choices) (r : Rest) → ChoicesRiseDown rank low ch → IsChosen ch r → (a : Rest) → Has (acts r) a → NeedsRise rank a
   needs-rise_chosen rank low (otherwise c) r rs h a e = needs-rise rank low c r rs h a e

@@ -111,7 +111,4 @@ pub fit-running : (x : State) (es : List Standing) → is_running x ≡ true →
 fit-running x es h = grind arith
 
 pub at_rest-nothing : (x : State) (es : List Standing) → IsAtRest x → IsFitting x es → es ≡ []
-at_rest-nothing Complete es r h = h
-at_rest-nothing Stopped es r h = h
-at_rest-nothing Aborted es r h = h
-at_rest-nothing x es r h = absurd (grind arith)
+at_rest-nothing x es r h = grind arith

@@ -1,5 +1,5 @@
 -- Each kind of change keeps what is kept.
-use Rattle.std.proofs.Common.{◌≡◌, ⊎_elim, refl, sym, ◌∙◌, ap, ap₂, subst, subst₂, ℕ, ◌+◌, ◌≤◌, arith, le_trans, List, [], ◌∷◌, ◌++◌, Bool, true, false, not, map, filter, Option, Some, inl, inr, bytes_eq, nat_eq, append-nil}
+use Rattle.std.proofs.Common.{◌≡◌, ⊎_elim, refl, sym, ◌∙◌, ap, ap₂, subst, subst₂, ℕ, ◌+◌, ◌≤◌, arith, le_trans, List, [], ◌∷◌, ◌++◌, Bool, true, false, not, map, filter, Option, Some, inl, inr, bytes_eq, append-nil}
 use Rattle.batch_matrix.specs.declared.state.State.{State}
 use Rattle.batch_matrix.specs.declared.report.Report.{Report}
 use Rattle.batch_model.specs.Lists.{Has}
@@ -31,46 +31,32 @@ entries-only n g (c ∷ bs) f = ap₂ (λ xs ys. xs ++ ys) (f c (inl refl)) (ent
 -- a change of the batch that changes no facts
 entries-same : (next : ℕ) (bs : List Batch) (b : Batch) (g : Batch → Batch) → NumbersDiffer next bs → Has bs b → (g b).number ≡ b.number → facts (g b).rest ≡ facts b.rest
     → entries (map (only b.number g) bs) ≡ entries bs
-entries-same next bs b g h i e f = entries-only b.number g bs (λ c j. go c j (nat_eq c.number b.number) refl)
-  where
-    here : entries_of (g b) ≡ entries_of b
-    here = ap₂ (λ n es. map (entry n) es) e f
-
-    go : (c : Batch) → Has bs c → (t : Bool) → nat_eq c.number b.number ≡ t → entries_of (elim t [ true ↦ g c | false ↦ c ]) ≡ entries_of c
-    go c j true q = subst (λ z. entries_of (g z) ≡ entries_of z) (same-batch next bs b c h i j (sym (nat_same c.number b.number q))) here
-    go c j false q = refl
+entries-same next bs b g h i e f = grind (arith, entries-only, same-batch, nat_same)
 
 tail-awaiting : (n : ℕ) (p : Place) (x : Phase) (q : Need) (a : BatchAct) → Has (map (entry n) (tail_at p (also (performing x)))) (a, awaiting q) → ⊥
-tail-awaiting n p x q a (inl e) = awaiting-performing q x (sym (ap (λ z. z.1) e))
-tail-awaiting n p x q a (inr e) = e
+tail-awaiting n p x q a h = grind (arith, awaiting-performing)
 
 tail-held_awaiting : (n : ℕ) (p : Place) (r q : Need) (a : BatchAct) → Has (map (entry n) (tail_at p (also (holding r)))) (a, awaiting q) → ⊥
-tail-held_awaiting n p r q a (inl e) = holding-awaiting r q (ap (λ z. z.1) e)
-tail-held_awaiting n p r q a (inr e) = e
+tail-held_awaiting n p r q a h = grind (arith, holding-awaiting)
 
 tail-held_performing : (n : ℕ) (p : Place) (r : Need) (x : Phase) (a : BatchAct) → Has (map (entry n) (tail_at p (also (holding r)))) (a, performing x) → ⊥
-tail-held_performing n p r x a (inl e) = holding-performing r x (ap (λ z. z.1) e)
-tail-held_performing n p r x a (inr e) = e
+tail-held_performing n p r x a h = grind (arith, holding-performing)
 
 tail-awaited_performing : (n : ℕ) (p : Place) (r : Need) (x : Phase) (a : BatchAct) → Has (map (entry n) (tail_at p (also (awaiting r)))) (a, performing x) → ⊥
-tail-awaited_performing n p r x a (inl e) = awaiting-performing r x (ap (λ z. z.1) e)
-tail-awaited_performing n p r x a (inr e) = e
+tail-awaited_performing n p r x a h = grind (arith, awaiting-performing)
 
 tail-awaited : (n : ℕ) (p : Place) (r q : Need) (a : BatchAct) → Has (map (entry n) (tail_at p (also (awaiting r)))) (a, awaiting q) → r ≡ q
-tail-awaited n p r q a (inl e) = same_awaiting r q (ap (λ z. z.1) e)
-tail-awaited n p r q a (inr e) = absurd e
+tail-awaited n p r q a h = grind (arith, same_awaiting)
 
 same_performing : (x y : Phase) → performing x ≡ performing y → x ≡ y
 same_performing x y e = cc
 
 tail-performing : (n : ℕ) (p : Place) (x y : Phase) (a : BatchAct) → Has (map (entry n) (tail_at p (also (performing x)))) (a, performing y)
     → ◌≡◌ {A = Active} (record { act = (n, p); phase = x }) (record { act = a; phase = y })
-tail-performing n p x y a (inl e) = ap₂ (λ u v. let w : Active = record { act = u; phase = v } in w) (ap (λ z. z.0) e) (same_performing x y (ap (λ z. z.1) e))
-tail-performing n p x y a (inr e) = absurd e
+tail-performing n p x y a h = grind (arith, same_performing)
 
 tail-asked : (n : ℕ) (p : Place) (r q : Need) (a : BatchAct) → Has (map (entry n) (tail_at p (also (awaiting r)))) (a, awaiting q) → ((n, p) ≡ a) × (r ≡ q)
-tail-asked n p r q a (inl e) = (ap (λ z. z.0) e, same_awaiting r q (ap (λ z. z.1) e))
-tail-asked n p r q a (inr e) = absurd e
+tail-asked n p r q a h = grind (arith, same_awaiting)
 
 -- the line tells nothing of the states of other batches, and gives batch n this state
 abbrev pub TellsState : Out → ℕ → State → State → Type 0

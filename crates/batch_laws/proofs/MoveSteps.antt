@@ -38,10 +38,9 @@ take-next zero (x ∷ xs) r e = (let q : x ≡ r = cc in ap (λ z. z ∷ []) q)
 take-next (suc k) (x ∷ xs) r e = ap (λ z. x ∷ z) (take-next k xs r e)
 
 take-whole : (k : ℕ) (xs : List Need) → slice_get xs k ≡ None → take k xs ≡ xs
-take-whole zero [] e = refl
-take-whole (suc k) [] e = refl
 take-whole zero (x ∷ xs) e = absurd cc
 take-whole (suc k) (x ∷ xs) e = ap (λ z. x ∷ z) (take-whole k xs e)
+take-whole k xs e = grind arith
 
 pub take-length : (xs : List Need) → take (length xs) xs ≡ xs
 take-length [] = refl
@@ -54,8 +53,7 @@ held-next : (p : Place) (k : ℕ) (xs : List Need) (r : Need) → slice_get xs k
 held-next p k xs r e = ap (held_at p) (take-next k xs r e) ∙ held-append p (take k xs) (r ∷ [])
 
 pub freed-facts : (s : Step) (k : ℕ) → facts (freed s k) ≡ held_at s.place (take k s.needs)
-freed-facts s zero = refl
-freed-facts s (suc k) = refl
+freed-facts s k = grind arith
 
 -- what a move must bring about
 abbrev pub Stepped : Setup → Ranking → List Out → Plant → Move → Type 0

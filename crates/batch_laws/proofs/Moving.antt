@@ -1,5 +1,5 @@
 -- The next move keeps what is kept.
-use Rattle.std.proofs.Common.{arith, ◌≡◌, refl, sym, subst, ℕ, List, [], Bool, true, false, ◌&&◌, Option, Some, None, option_and_then, option_to_list, inl, inr, nat_eq, ◌++◌, filter_map}
+use Rattle.std.proofs.Common.{arith, ◌≡◌, refl, subst, ℕ, List, [], Bool, true, false, ◌&&◌, Option, Some, None, option_and_then, option_to_list, inl, inr, nat_eq, ◌++◌, filter_map}
 use Rattle.std.proofs.lemmas.Bool.{and_parts}
 use Rattle.batch_matrix.specs.declared.state.State.{State}
 use Rattle.batch_matrix.specs.declared.state.State.TheVariants.{Running, Pausing, Paused, Holding, Held, Restarting, Stopping, Stopped, Aborting, Aborted, Complete}
@@ -27,26 +27,16 @@ use Rattle.batch_laws.proofs.Invariant.{standing-of}
 -- A line that tells the state of one batch
 
 pub tells-other : (n m : ℕ) (new old : Option State) → (m ≡ n → ⊥) → ◌≡◌ {A = Option State} (elim (nat_eq n m) [ true ↦ new | false ↦ old ]) old
-tells-other n m new old d = go (nat_eq n m) (nat_differs n m (λ e. d (sym e)))
-  where
-    go : (t : Bool) → t ≡ false → ◌≡◌ {A = Option State} (elim t [ true ↦ new | false ↦ old ]) old
-    go true e = absurd cc
-    go false e = refl
+tells-other n m new old d = grind (arith, nat_differs)
 
 pub tells-own : (n : ℕ) (new old : Option State) → ◌≡◌ {A = Option State} (elim (nat_eq n n) [ true ↦ new | false ↦ old ]) new
-tells-own n new old = go (nat_eq n n) (nat_self n)
-  where
-    go : (t : Bool) → t ≡ true → ◌≡◌ {A = Option State} (elim t [ true ↦ new | false ↦ old ]) new
-    go true e = refl
-    go false e = absurd cc
+tells-own n new old = grind (arith, nat_self n)
 
 same_some : (x y : State) → ◌≡◌ {A = Option State} (Some x) (Some y) → x ≡ y
 same_some x y e = cc
 
 nothing_left : (r : Rest) → (is_quiet r && is_empty (held_in r)) ≡ true → ((p : Place) (x : _) → Has (facts r) (p, Rattle.batch_laws.proofs.Facts.awaiting x) → ⊥) → facts r ≡ []
-nothing_left r e h =
-    let q = and_parts (is_quiet r) (is_empty (held_in r)) e in
-    no_facts (facts r) h (quiet-performs_nothing r q.0) (holding-nothing r q.1)
+nothing_left r e h = grind (arith, and_parts (is_quiet r) (is_empty (held_in r)) e, no_facts, quiet-performs_nothing, holding-nothing)
 
 -- what a state ends as fits what it waited for
 abbrev FitsReached : Rest → State → Type 0

@@ -1,8 +1,8 @@
 -- All facts of a rest stand at or below the place of its chart.
-use Rattle.std.proofs.Common.{◌+◌, ◌≡◌, sym, ◌∙◌, ap, ℕ, ◌≤◌, arith, List, [], ◌∷◌, ◌++◌, take, slice_get, Option, Some, None, inl, inr, ⊎_elim, append_assoc, append-nil}
+use Rattle.std.proofs.Common.{◌+◌, ◌≡◌, sym, ◌∙◌, ap, ℕ, ◌≤◌, arith, List, [], ◌∷◌, ◌++◌, take, slice_get, Option, Some, inl, inr, ⊎_elim, append_assoc, append-nil}
 use Rattle.batch_model.specs.Lists.{Has}
 use Rattle.batch_recipe.specs.Tree.{Place, Tree, act, seq, par, sel, loop, Task, runs, follows, Trees, no_trees, tree, Choices, otherwise, choice}
-use Rattle.batch_model.specs.Rest.{Rest, ready, asking, open_act, live, freeing, in_seq, in_par, in_loop, done, Rests, no_rests, rest, acts, acts_of_each, place_of}
+use Rattle.batch_model.specs.Rest.{Rest, ready, asking, open_act, live, freeing, in_seq, in_par, in_loop, done, Rests, rest, acts, acts_of_each, place_of}
 use Rattle.batch_recipe.specs.Nodes.{child}
 use Rattle.batch_model.specs.Records.{IsAtOrAbove}
 use Rattle.batch_laws.proofs.Facts.{holding, performing, Standing, held_at, awaited_at, facts, facts_of_each}
@@ -36,9 +36,8 @@ pub held-place : (p : Place) (names : List Need) (e : Standing) → Has (held_at
 held-place p names e h = let k = Has-map (λ r. let s : Standing = (p, holding r) in s) names e h in ap (λ s. s.0) (sym k.2)
 
 awaited-place : (p : Place) (o : Option Need) (e : Standing) → Has (awaited_at p o) e → e.0 ≡ p
-awaited-place p None e h = absurd h
 awaited-place p (Some r) e (inl q) = ap (λ s. s.0) (sym q)
-awaited-place p (Some r) e (inr q) = absurd q
+awaited-place p o e h = grind arith
 
 mutual
   pub facts-under : (p : Place) (c : Tree) (r : Rest) → IsPlaced p c → IsRestOf c r → (e : Standing) → Has (facts r) e → IsAtOrAbove p e.0
@@ -59,8 +58,7 @@ mutual
   facts-under p (par cs) (in_par rs) pl h e k = let m = facts-side_by_side p 0 cs rs pl h e k in under p m.0 e.0 m.2
   facts-under p (sel ch) r pl h e k = let m = facts-chosen p 0 ch r pl h e k in under p m.0 e.0 m.2
   facts-under p (loop n c body) (in_loop m d b r) pl h e k = under p 0 e.0 (under_child p 0 e.0 (facts-under (child p 0) body r pl h.3 e k))
-  facts-under p c done pl h e k = absurd k
-  facts-under p _ _ pl h e k = absurd h
+  facts-under p c r pl h e k = grind arith
 
   pub facts-below : (p : Place) (w : Task) (r : Rest) → IsPlacedBelow p w → IsRestBelow w r → (e : Standing) → Has (facts r) e → IsUnderChild p 0 e.0
   facts-below p (runs x) r pl h e k = absurd h
@@ -72,12 +70,11 @@ mutual
   facts-among p i (tree c cs) r ds pl (inr h) e k = let m = facts-among p (i + 1) cs r ds pl.1 h e k in (m.0, omega (arith, m.1), m.2)
 
   pub facts-side_by_side : (p : Place) (i : ℕ) (cs : Trees) (rs : Rests) → ArePlaced p i cs → AreBranches cs rs → (e : Standing) → Has (facts_of_each rs) e → IsUnderLater p i e.0
-  facts-side_by_side p i no_trees no_rests pl h e k = absurd k
   facts-side_by_side p i (tree c cs) (rest r rs) pl h e k =
       ⊎_elim (λ m. (i, omega arith, under_child p i e.0 (facts-under (child p i) c r pl.0 h.0 e m)))
       (λ m. let n = facts-side_by_side p (i + 1) cs rs pl.1 h.1 e m in (n.0, omega (arith, n.1), n.2))
       (Has-split (facts r) (facts_of_each rs) e k)
-  facts-side_by_side p i cs rs pl h e k = absurd (grind arith)
+  facts-side_by_side p i cs rs pl h e k = grind arith
 
   pub facts-chosen : (p : Place) (i : ℕ) (ch : Choices) (r : Rest) → IsChoicePlaced p i ch → IsChosen ch r → (e : Standing) → Has (facts r) e → IsUnderLater p i e.0
   facts-chosen p i (otherwise c) r pl h e k = (i, omega arith, under_child p i e.0 (facts-under (child p i) c r pl h e k))
@@ -113,13 +110,11 @@ mutual
   acts-among p i (tree c cs) r ds pl (inr h) a k = let m = acts-among p (i + 1) cs r ds pl.1 h a k in (m.0, omega (arith, m.1), m.2)
 
   pub acts-side_by_side : (p : Place) (i : ℕ) (cs : Trees) (rs : Rests) → ArePlaced p i cs → AreBranches cs rs → (a : Rest) → Has (acts_of_each rs) a → IsUnderLater p i (place_of a)
-  acts-side_by_side p i no_trees no_rests pl h a k = absurd k
   acts-side_by_side p i (tree c cs) (rest r rs) pl h a k =
       ⊎_elim (λ m. (i, omega arith, under_child p i (place_of a) (acts-under (child p i) c r pl.0 h.0 a m)))
       (λ m. let n = acts-side_by_side p (i + 1) cs rs pl.1 h.1 a m in (n.0, omega (arith, n.1), n.2))
       (Has-split (acts r) (acts_of_each rs) a k)
-  acts-side_by_side p i no_trees (rest r rs) pl h a k = absurd h
-  acts-side_by_side p i (tree c cs) no_rests pl h a k = absurd h
+  acts-side_by_side p i cs rs pl h a k = grind arith
 
   pub acts-chosen : (p : Place) (i : ℕ) (ch : Choices) (r : Rest) → IsChoicePlaced p i ch → IsChosen ch r → (a : Rest) → Has (acts r) a → IsUnderLater p i (place_of a)
   acts-chosen p i (otherwise c) r pl h a k = (i, omega arith, under_child p i (place_of a) (acts-under (child p i) c r pl h a k))

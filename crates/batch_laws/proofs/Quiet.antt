@@ -69,8 +69,7 @@ live-state (done ∷ as') s x t (inr h) = live-state as' s x t h
 live-state (done ∷ as') s x t (inl e) = absurd cc
 
 empty-none : {X : Type 0} (xs : List X) (x : X) → is_empty xs ≡ true → Has xs x → ⊥
-empty-none [] x e h = h
-empty-none (y ∷ xs) x e h = absurd cc
+empty-none xs x e h = grind arith
 
 pub quiet-performs_nothing : (r : Rest) → is_quiet r ≡ true → (q : Place) (x : Phase) → Has (facts r) (q, performing x) → ⊥
 quiet-performs_nothing r e q x h =

@@ -1,9 +1,9 @@
 -- What is asked for has a higher rank than what is held at or above it.
-use Rattle.std.proofs.Common.{◌+◌, ◌≡◌, sym, ap, subst, ℕ, zero, suc, ◌≤◌, ◌<◌, arith, List, [], ◌∷◌, take, slice_get, Option, Some, None, inl, inr, ⊎_elim}
+use Rattle.std.proofs.Common.{◌+◌, ◌≡◌, sym, ap, subst, ℕ, zero, suc, ◌≤◌, ◌<◌, arith, List, [], ◌∷◌, take, slice_get, Option, Some, inl, inr, ⊎_elim}
 use Rattle.batch_model.specs.Lists.{Has}
 use Rattle.batch_recipe.specs.Conditions.{Name}
 use Rattle.batch_recipe.specs.Tree.{Place, Phase, Tree, act, seq, par, sel, loop, Task, runs, follows, Trees, no_trees, tree, Choices, otherwise, choice}
-use Rattle.batch_model.specs.Rest.{Rest, ready, asking, open_act, live, freeing, in_seq, in_par, in_loop, done, Rests, no_rests, rest}
+use Rattle.batch_model.specs.Rest.{Rest, ready, asking, open_act, live, freeing, in_seq, in_par, in_loop, Rests, rest}
 use Rattle.batch_recipe.specs.Nodes.{child}
 use Rattle.batch_model.specs.Records.{IsAtOrAbove}
 use Rattle.batch_laws.proofs.Facts.{Fact, holding, awaiting, performing, Standing, held_at, awaited_at, facts, facts_of_each}
@@ -52,10 +52,9 @@ Has-get (suc k) (q ∷ names) r e = inr (Has-get k names r e)
 -- the first k needs have lower ranks than the next
 pub rises-next : (rank : Ranking) (low k : ℕ) (names : List Need) (x y : Need) → Rises rank low (resources_of names) → Has (take k names) x → slice_get names k ≡ Some y
     → rank x.resource < rank y.resource
-rises-next rank low zero names x y h k e = absurd k
-rises-next rank low (suc n) [] x y h k e = absurd k
 rises-next rank low (suc n) (q ∷ names) x y h (inl p) e = subst (λ z. rank z.resource < rank y.resource) p (rises-above rank (rank q.resource) names y h.1 (Has-get n names y e))
 rises-next rank low (suc n) (q ∷ names) x y h (inr k) e = rises-next rank (rank q.resource) n names x y h.1 k e
+rises-next rank low k names x y h m e = grind arith
 
 same_fact : (p q : Place) (a b : Fact) → ◌≡◌ {A = Standing} (p, a) (q, b) → a ≡ b
 same_fact p q a b e = ap (λ s. s.1) e
@@ -76,42 +75,29 @@ pub awaiting-performing : (x : Need) (y : Phase) → awaiting x ≡ performing y
 awaiting-performing x y e = cc
 
 pub held-holding : (p : Place) (names : List Need) (q : Place) (x : Need) → Has (held_at p names) (q, holding x) → Has names x
-held-holding p names q x h =
-    let k = Has-map (λ r. let s : Standing = (p, holding r) in s) names (q, holding x) h in
-    subst (Has names) (same_holding k.0 x (same_fact p q (holding k.0) (holding x) k.2)) k.1
+held-holding p names q x h = grind (arith, holding x, Has-map, same_holding, same_fact)
 
 pub held-awaiting : (p : Place) (names : List Need) (q : Place) (x : Need) → Has (held_at p names) (q, awaiting x) → ⊥
-held-awaiting p names q x h =
-    let k = Has-map (λ r. let s : Standing = (p, holding r) in s) names (q, awaiting x) h in
-    holding-awaiting k.0 x (same_fact p q (holding k.0) (awaiting x) k.2)
+held-awaiting p names q x h = grind (arith, Has-map, holding, same_fact)
 
 pub held-performing : (p : Place) (names : List Need) (q : Place) (x : Phase) → Has (held_at p names) (q, performing x) → ⊥
-held-performing p names q x h =
-    let k = Has-map (λ r. let s : Standing = (p, holding r) in s) names (q, performing x) h in
-    holding-performing k.0 x (same_fact p q (holding k.0) (performing x) k.2)
+held-performing p names q x h = grind (arith, Has-map, holding, same_fact)
 
 pub awaited-awaiting : (p : Place) (o : Option Need) (q : Place) (x : Need) → Has (awaited_at p o) (q, awaiting x) → o ≡ Some x
-awaited-awaiting p None q x h = absurd h
 awaited-awaiting p (Some r) q x (inl e) = ap Some (same_awaiting r x (same_fact p q (awaiting r) (awaiting x) e))
-awaited-awaiting p (Some r) q x (inr h) = absurd h
+awaited-awaiting p o q x h = grind arith
 
 pub awaited-holding : (p : Place) (o : Option Need) (q : Place) (x : Need) → Has (awaited_at p o) (q, holding x) → ⊥
-awaited-holding p None q x h = h
-awaited-holding p (Some r) q x (inl e) = holding-awaiting x r (sym (same_fact p q (awaiting r) (holding x) e))
-awaited-holding p (Some r) q x (inr h) = h
+awaited-holding p o q x h = grind (arith, same_fact, holding)
 
 pub awaited-performing : (p : Place) (o : Option Need) (q : Place) (x : Phase) → Has (awaited_at p o) (q, performing x) → ⊥
-awaited-performing p None q x h = h
-awaited-performing p (Some r) q x (inl e) = awaiting-performing r x (same_fact p q (awaiting r) (performing x) e)
-awaited-performing p (Some r) q x (inr h) = h
+awaited-performing p o q x h = grind (arith, same_fact)
 
 pub lone-holding : (p : Place) (y : Phase) (q : Place) (x : Need) → Has {X = Standing} ((p, performing y) ∷ []) (q, holding x) → ⊥
-lone-holding p y q x (inl e) = holding-performing x y (sym (same_fact p q (performing y) (holding x) e))
-lone-holding p y q x (inr h) = h
+lone-holding p y q x h = grind (arith, same_fact, holding)
 
 pub lone-awaiting : (p : Place) (y : Phase) (q : Place) (x : Need) → Has {X = Standing} ((p, performing y) ∷ []) (q, awaiting x) → ⊥
-lone-awaiting p y q x (inl e) = awaiting-performing x y (sym (same_fact p q (performing y) (awaiting x) e))
-lone-awaiting p y q x (inr h) = h
+lone-awaiting p y q x h = grind (arith, same_fact)
 
 -- every resource that a rest holds or awaits has a rank above the bound of its chart
 mutual
@@ -137,8 +123,7 @@ mutual
   awaited-above rank low (par cs) (in_par r) rs h q x k = awaited-above_side_by_side rank low cs r rs h q x k
   awaited-above rank low (sel ch) r rs h q x k = awaited-above_chosen rank low ch r rs h q x k
   awaited-above rank low (loop n c body) (in_loop m d b r) rs h q x k = awaited-above rank low body r rs h.3 q x k
-  awaited-above rank low c done rs h q x k = absurd k
-  awaited-above rank low _ _ rs h q x k = absurd h
+  awaited-above rank low c r rs h q x k = absurd (grind arith)
 
   pub awaited-above_below : (rank : Ranking) (low : ℕ) (w : Task) (r : Rest) → RisesBelow rank low w → IsRestBelow w r → (q : Place) (x : Need) → Has (facts r) (q, awaiting x) → low < rank x.resource
   awaited-above_below rank low (runs y) r rs h q x k = absurd h
@@ -150,7 +135,6 @@ mutual
   awaited-above_among rank low (tree c cs) r ds rs (inr h) q x k = awaited-above_among rank low cs r ds rs.1 h q x k
 
   pub awaited-above_side_by_side : (rank : Ranking) (low : ℕ) (cs : Trees) (r : Rests) → RiseDown rank low cs → AreBranches cs r → (q : Place) (x : Need) → Has (facts_of_each r) (q, awaiting x) → low < rank x.resource
-  awaited-above_side_by_side rank low no_trees no_rests rs h q x k = absurd k
   awaited-above_side_by_side rank low (tree c cs) (rest r more) rs h q x k =
       ⊎_elim (awaited-above rank low c r rs.0 h.0 q x) (awaited-above_side_by_side rank low cs more rs.1 h.1 q x) (Has-split (facts r) (facts_of_each more) (q, awaiting x) k)
   awaited-above_side_by_side rank low cs r rs h q x k = absurd (grind arith)
@@ -189,8 +173,7 @@ mutual
   rank-rises rank low p (par cs) (in_par r) pl rs h qh qw x y hk wk ab = rank-rises_side_by_side rank low p 0 cs r pl rs h qh qw x y hk wk ab
   rank-rises rank low p (sel ch) r pl rs h qh qw x y hk wk ab = rank-rises_chosen rank low p 0 ch r pl rs h qh qw x y hk wk ab
   rank-rises rank low p (loop n c body) (in_loop m d b r) pl rs h qh qw x y hk wk ab = rank-rises rank low (child p 0) body r pl rs h.3 qh qw x y hk wk ab
-  rank-rises rank low p c done pl rs h qh qw x y hk wk ab = absurd hk
-  rank-rises rank low p _ _ pl rs h qh qw x y hk wk ab = absurd h
+  rank-rises rank low p c r pl rs h qh qw x y hk wk ab = absurd (grind arith)
 
   pub rank-rises_below : (rank : Ranking) (low : ℕ) (p : Place) (w : Task) (r : Rest) → IsPlacedBelow p w → RisesBelow rank low w → IsRestBelow w r
       → (qh qw : Place) (x y : Need) → Has (facts r) (qh, holding x) → Has (facts r) (qw, awaiting y) → IsAtOrAbove qh qw → rank x.resource < rank y.resource
@@ -205,7 +188,6 @@ mutual
 
   pub rank-rises_side_by_side : (rank : Ranking) (low : ℕ) (p : Place) (i : ℕ) (cs : Trees) (r : Rests) → ArePlaced p i cs → RiseDown rank low cs → AreBranches cs r
       → (qh qw : Place) (x y : Need) → Has (facts_of_each r) (qh, holding x) → Has (facts_of_each r) (qw, awaiting y) → IsAtOrAbove qh qw → rank x.resource < rank y.resource
-  rank-rises_side_by_side rank low p i no_trees no_rests pl rs h qh qw x y hk wk ab = absurd hk
   rank-rises_side_by_side rank low p i (tree c cs) (rest r more) pl rs h qh qw x y hk wk ab =
       let here : (q : Place) (f : Fact) → Has (facts r) (q, f) → IsUnderChild p i q = λ q f m. under_child p i q (facts-under (child p i) c r pl.0 h.0 (q, f) m) in
       let there : (q : Place) (f : Fact) → Has (facts_of_each more) (q, f) → IsUnderLater p (i + 1) q = λ q f m. facts-side_by_side p (i + 1) cs more pl.1 h.1 (q, f) m in

@@ -1,10 +1,10 @@
 -- Reaching a chart and advancing change no facts; withdrawing takes the asks away.
-use Rattle.std.proofs.Common.{arith, ◌≡◌, refl, sym, ◌∙◌, ap, ap₂, ℕ, zero, suc, pred, List, [], ◌∷◌, ◌++◌, Bool, true, false, filter, take, slice_get, Option, Some, None, append-nil}
+use Rattle.std.proofs.Common.{arith, ◌≡◌, refl, sym, ◌∙◌, ap, ap₂, ℕ, pred, List, [], ◌∷◌, ◌++◌, Bool, true, false, filter, take, slice_get, Option, append-nil}
 use Rattle.std.proofs.lemmas.List.Elements.{filter-append}
 use Rattle.std.proofs.lemmas.Bool.{and_parts}
 use Rattle.batch_recipe.specs.Conditions.{ValueList, holds}
 use Rattle.batch_recipe.specs.declared.condition.Cond.{Cond}
-use Rattle.batch_recipe.specs.Tree.{Place, Tree, act, skip, seq, par, sel, loop, Trees, no_trees, tree, Choices, otherwise, choice}
+use Rattle.batch_recipe.specs.Tree.{Place, Tree, seq, par, sel, loop, Trees, no_trees, tree, Choices, otherwise, choice}
 use Rattle.batch_model.specs.Rest.{Rest, ready, asking, open_act, live, freeing, in_seq, in_par, in_loop, done, Rests, no_rests, rest, is_done, all_done, joined, turning, reach, reach_first, reach_each, reach_chosen, turned, advance, advance_each, withdrawn, withdrawn_each}
 use Rattle.batch_laws.proofs.Facts.{holding, awaiting, performing, Standing, held_at, awaited_at, facts, facts_of_each}
 use Rattle.batch_recipe.specs.declared.need.Need.{Need}
@@ -19,39 +19,25 @@ all_done-facts (rest r rs) e =
     ap (λ xs. xs ++ facts_of_each rs) (done-facts r h.0) ∙ all_done-facts rs h.1
 
 joined-facts : (rs : Rests) → facts (joined rs) ≡ facts_of_each rs
-joined-facts rs = go (all_done rs) refl
-  where
-    go : (b : Bool) → all_done rs ≡ b → facts (elim b [ true ↦ done | false ↦ in_par rs ]) ≡ facts_of_each rs
-    go false e = refl
-    go true e = sym (all_done-facts rs e)
+joined-facts rs = grind (arith, all_done-facts)
 
 turning-facts : (n : ℕ) (c : Cond) (body : Tree) (r : Rest) → facts (turning n c body r) ≡ facts r
-turning-facts n c body r = go (is_done r) refl
-  where
-    go : (b : Bool) → is_done r ≡ b → facts (elim b [ true ↦ done | false ↦ in_loop n c body r ]) ≡ facts r
-    go false e = refl
-    go true e = sym (done-facts r e)
+turning-facts n c body r = grind (arith, done-facts)
 
 in_order-facts : (r after : Rest) (cs : Trees) → facts after ≡ [] → facts (elim (is_done r) [ true ↦ after | false ↦ in_seq r cs ]) ≡ facts r
-in_order-facts r after cs h = go (is_done r) refl
-  where
-    go : (b : Bool) → is_done r ≡ b → facts (elim b [ true ↦ after | false ↦ in_seq r cs ]) ≡ facts r
-    go false e = refl
-    go true e = h ∙ sym (done-facts r e)
+in_order-facts r after cs h = grind (arith, done-facts)
 
 either-facts : (b : Bool) (q r : Rest) → facts q ≡ [] → facts r ≡ [] → facts (elim b [ true ↦ q | false ↦ r ]) ≡ []
-either-facts true q r h k = h
-either-facts false q r h k = k
+either-facts b q r h k = grind arith
 
 mutual
   -- nothing stands of a chart that has just been reached
   pub reach-facts : (vs : ValueList) (c : Tree) → facts (reach vs c) ≡ []
-  reach-facts vs (act s w) = refl
-  reach-facts vs skip = refl
   reach-facts vs (seq cs) = reach_first-facts vs cs
   reach-facts vs (par cs) = joined-facts (reach_each vs cs) ∙ reach_each-facts vs cs
   reach-facts vs (sel ch) = reach_chosen-facts vs ch
   reach-facts vs (loop n c body) = turning-facts (pred n) c body (reach vs body) ∙ reach-facts vs body
+  reach-facts vs c = grind arith
 
   pub reach_first-facts : (vs : ValueList) (cs : Trees) → facts (reach_first vs cs) ≡ []
   reach_first-facts vs no_trees = refl
@@ -66,28 +52,16 @@ mutual
   reach_chosen-facts vs (choice p c ch) = either-facts (holds vs p) (reach vs c) (reach_chosen vs ch) (reach-facts vs c) (reach_chosen-facts vs ch)
 
 turned-facts : (vs : ValueList) (n : ℕ) (c : Cond) (body : Tree) (r : Rest) → facts (turned vs n c body r) ≡ facts r
-turned-facts vs zero c body r = turning-facts 0 c body r
-turned-facts vs (suc n) c body r = go (is_done r) refl
-  where
-    go : (b : Bool) → is_done r ≡ b
-        → facts (elim b [ false ↦ in_loop (suc n) c body r | true ↦ elim (holds vs c) [ true ↦ done | false ↦ turning n c body (reach vs body) ] ]) ≡ facts r
-    go false e = refl
-    go true e =
-        either-facts (holds vs c) done (turning n c body (reach vs body)) refl (turning-facts n c body (reach vs body) ∙ reach-facts vs body)
-        ∙ sym (done-facts r e)
+turned-facts vs n c body r = grind (arith, turning-facts, either-facts, reach-facts, done-facts)
 
 mutual
   -- a rest that advances gains and loses no fact
   pub advance-facts : (vs : ValueList) (r : Rest) → facts (advance vs r) ≡ facts r
-  advance-facts vs (ready s w k) = refl
-  advance-facts vs (asking s w k) = refl
   advance-facts vs (open_act s r) = ap (λ xs. held_at s.place s.needs ++ xs) (advance-facts vs r)
-  advance-facts vs (live s p x) = refl
-  advance-facts vs (freeing s k) = refl
   advance-facts vs (in_seq r cs) = in_order-facts (advance vs r) (reach_first vs cs) cs (reach_first-facts vs cs) ∙ advance-facts vs r
   advance-facts vs (in_par rs) = joined-facts (advance_each vs rs) ∙ advance_each-facts vs rs
   advance-facts vs (in_loop n c body r) = turned-facts vs n c body (advance vs r) ∙ advance-facts vs r
-  advance-facts vs done = refl
+  advance-facts vs r = grind arith
 
   pub advance_each-facts : (vs : ValueList) (rs : Rests) → facts_of_each (advance_each vs rs) ≡ facts_of_each rs
   advance_each-facts vs no_rests = refl
@@ -104,20 +78,13 @@ held-kept p [] = refl
 held-kept p (r ∷ names) = ap (λ xs. (p, holding r) ∷ xs) (held-kept p names)
 
 awaited-kept : (p : Place) (o : Option Need) → filter is_kept (awaited_at p o) ≡ []
-awaited-kept p None = refl
-awaited-kept p (Some r) = refl
+awaited-kept p o = grind arith
 
 mutual
   pub withdrawn-facts : (r : Rest) → facts (withdrawn r) ≡ filter is_kept (facts r)
   withdrawn-facts (ready s w k) = sym (held-kept s.place (take k s.needs))
-  withdrawn-facts (asking s w k) =
-      sym
-      (filter-append is_kept (held_at s.place (take k s.needs)) (awaited_at s.place (slice_get s.needs k))
-      ∙ ap₂ (λ xs ys. xs ++ ys) (held-kept s.place (take k s.needs)) (awaited-kept s.place (slice_get s.needs k))
-      ∙ append-nil (held_at s.place (take k s.needs)))
-  withdrawn-facts (open_act s r) =
-      ap (λ xs. held_at s.place s.needs ++ xs) (withdrawn-facts r)
-      ∙ sym (filter-append is_kept (held_at s.place s.needs) (facts r) ∙ ap (λ xs. xs ++ filter is_kept (facts r)) (held-kept s.place s.needs))
+  withdrawn-facts (asking s w k) = grind (arith, held-kept s.place (take k s.needs), awaited-kept s.place (slice_get s.needs k), append-nil (held_at s.place (take k s.needs)), filter-append)
+  withdrawn-facts (open_act s r) = grind (arith, withdrawn-facts r, held-kept s.place s.needs, filter-append)
   withdrawn-facts (live s p x) =
       sym (filter-append is_kept (held_at s.place s.needs) ((s.place, performing p) ∷ []) ∙ ap (λ xs. xs ++ (s.place, performing p) ∷ []) (held-kept s.place s.needs))
   withdrawn-facts (freeing s k) = sym (held-kept s.place (take k s.needs))

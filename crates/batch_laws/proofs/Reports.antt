@@ -1,5 +1,5 @@
 -- Each report keeps what is kept, and so does each event.
-use Rattle.std.proofs.Common.{arith, ◌≡◌, refl, sym, ◌∙◌, ap, subst, subst₂, ℕ, List, [], ◌∷◌, ◌++◌, Bool, true, false, not, ◌&&◌, filter, find, Option, Some, None, inl, inr, nat_eq, length, bytes_eq}
+use Rattle.std.proofs.Common.{arith, ◌≡◌, refl, sym, ◌∙◌, ap, subst, subst₂, ℕ, List, [], ◌∷◌, ◌++◌, Bool, true, false, ◌&&◌, find, Option, Some, None, inl, inr, nat_eq, length, bytes_eq}
 use Rattle.batch_matrix.specs.declared.state.State.{State}
 use Rattle.batch_matrix.specs.declared.state.State.TheVariants.{Running, Paused, Holding, Held, Stopped, Aborted}
 use Rattle.batch_matrix.specs.declared.command.Command.TheVariants.{Hold}
@@ -100,11 +100,7 @@ live_phase-found (b ∷ bs) unit name l e = go (live_in b unit name (acts b.rest
     go None q f h = let m = h f in (m.0, inr m.1, m.2)
 
 not_ending : (word : Report) (unit name : Name) (n : ℕ) (p : Place) (x : State) (xs : List Active) → ends_phase word ≡ false → active_after xs (reply (reported unit name word n p x)) ≡ xs
-not_ending word unit name n p x xs e = go (ends_phase word) e
-  where
-    go : (t : Bool) → t ≡ false → ◌≡◌ {A = List Active} (elim t [ true ↦ filter (λ a. not (Rattle.batch_model.specs.Plant.is_same_act a.act (n, p))) xs | false ↦ xs ]) xs
-    go true q = absurd cc
-    go false q = refl
+not_ending word unit name n p x xs e = grind arith
 
 module _ (d : Setup) (rank : Ranking) (outs : List Out) (s : Plant) (sd : IsStanding d s) (k : IsKept d rank outs s) (b : Batch) (i : Has s.batches b)
     (unit name : Name) (word : Report) (outputs : ValueList) (p : Step) (x : Phase) (t : State) (j : Has (acts b.rest) (live p x t)) where

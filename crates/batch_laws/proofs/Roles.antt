@@ -1,5 +1,5 @@
 -- Which bindings of roles serve, and which units may so be chosen.
-use Rattle.std.proofs.Common.{◌≡◌, refl, sym, ◌∙◌, ap, subst, List, [], ◌∷◌, Bool, true, false, ◌||◌, not, map, IsTrue, inl, inr, bytes_eq, Some, None}
+use Rattle.std.proofs.Common.{arith, ◌≡◌, refl, sym, ◌∙◌, ap, subst, List, [], ◌∷◌, Bool, true, false, ◌||◌, not, map, IsTrue, inl, inr, bytes_eq, Some, None}
 use Rattle.std.specs.Prelude.{Option, option_and_then}
 use Rattle.std.specs.List.{list_any}
 use Rattle.std.proofs.lemmas.Bool.{and_parts}
@@ -23,11 +23,7 @@ abbrev pub with_role : Name → Name → Binding → Binding
 with_role role unit bound other = elim (same_name other role) [ true ↦ unit | false ↦ bound other ]
 
 pub with_role-own : (role unit : Name) (bound : Binding) → with_role role unit bound role ≡ unit
-with_role-own role unit bound = go (bytes_eq role role) (name_self role)
-  where
-    go : (t : Bool) → t ≡ true → elim t [ true ↦ unit | false ↦ bound role ] ≡ unit
-    go true e = refl
-    go false e = absurd cc
+with_role-own role unit bound = grind (arith, name_self role)
 
 module _ (names_role : Name → Bool) where
   -- each of these roles that is named is taken by a unit that may take it
@@ -76,11 +72,7 @@ module _ (cell : equipment.Cell) where
   declared-among [] d h = absurd h
   declared-among (x ∷ roles) d (inl e) =
       ap (λ z. z || is_among (names_of roles) d.name) (subst (λ z. bytes_eq z.name x.name ≡ true) e (name_self x.name))
-  declared-among (x ∷ roles) d (inr h) = go (bytes_eq d.name x.name) (declared-among roles d h)
-    where
-      go : (t : Bool) → is_among (names_of roles) d.name ≡ true → (t || is_among (names_of roles) d.name) ≡ true
-      go true e = refl
-      go false e = e
+  declared-among (x ∷ roles) d (inr h) = grind (arith, declared-among roles d h)
 
   -- names of roles differ
   pub one-declared : (roles : List RecipeRole) → are_distinct (names_of roles) ≡ true
@@ -130,11 +122,7 @@ has_role units role name = is_role role (option_and_then role_of (act_named unit
 list_any-Has : (p : Name → Bool) (names : List Name) (name : Name) → Has names name → p name ≡ true → list_any p names ≡ true
 list_any-Has p [] name h e = absurd h
 list_any-Has p (x ∷ names) name (inl q) e = ap (λ z. z || list_any p names) (ap p q ∙ e)
-list_any-Has p (x ∷ names) name (inr h) e = go (p x) (list_any-Has p names name h e)
-  where
-    go : (t : Bool) → list_any p names ≡ true → (t || list_any p names) ≡ true
-    go true e = refl
-    go false e = e
+list_any-Has p (x ∷ names) name (inr h) e = grind (arith, list_any-Has p names name h e)
 
 -- the role of a unit procedure that a label names is one that the chart names
 pub named-role : (units : List Act) (names : List Name) (name : Name) → Has names name → (a : Act) → act_named units name ≡ Some a

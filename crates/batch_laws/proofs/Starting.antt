@@ -1,5 +1,5 @@
 -- A phase that starts was idle, and its unit offers it.
-use Rattle.std.proofs.Common.{◌≡◌, ⊎_elim, refl, sym, ◌∙◌, ap, ap₂, subst, ℕ, ◌+◌, ◌≤◌, arith, List, [], ◌∷◌, ◌++◌, Bool, true, false, map, inl, inr, bytes_eq, nat_eq, IsTrue}
+use Rattle.std.proofs.Common.{◌≡◌, ⊎_elim, refl, sym, ◌∙◌, ap, ap₂, subst, ℕ, ◌+◌, ◌≤◌, arith, List, [], ◌∷◌, ◌++◌, Bool, true, false, map, inl, inr, nat_eq, IsTrue}
 use Rattle.std.proofs.lemmas.List.{same_from_push}
 use Rattle.batch_laws.proofs.Units as units
 use Rattle.batch_model.specs.Lists.{Has, Each}
@@ -9,7 +9,7 @@ use Rattle.batch_model.specs.Plant.{Setup, Batch, BatchAct, Share, units_in, Pla
 use Rattle.batch_model.specs.Moves.{start}
 use Rattle.batch_model.specs.Runs.{Out, move}
 use Rattle.batch_model.specs.Records.{active_told, StartsIdle, IsOnUnit}
-use Rattle.batch_laws.proofs.Facts.{holding, awaiting, performing, Standing, facts, entry, entries_of, entries, holder_of, holders_among, share}
+use Rattle.batch_laws.proofs.Facts.{holding, performing, Standing, facts, entry, entries_of, entries, holder_of, holders_among, share}
 use Rattle.batch_model.specs.Cleared.{Ranking, phases}
 use Rattle.batch_laws.proofs.ClearedDown.{IsOfferedPhase}
 use Rattle.batch_model.proofs.Members.{Each-Has}
@@ -29,17 +29,7 @@ starts-nothing d outs o h before n p x vs e = absurd (h n p x vs (same_from_push
 
 shares-holders : (n : ℕ) (u : Name) (es : List Standing) → units_in (holders_among u (map (entry n) es)) ≡ shares u es
 shares-holders n u [] = refl
-shares-holders n u (e ∷ es) =
-    units-append (holder_of u (entry n e)) (holders_among u (map (entry n) es)) ∙ ap₂ (λ a b. a + b) (one e) (shares-holders n u es)
-  where
-    pick : (a : Share) (t : Bool) → units_in (elim t [ true ↦ a ∷ [] | false ↦ [] ]) ≡ elim t [ true ↦ a.units | false ↦ 0 ]
-    pick a true = units-one a
-    pick a false = refl
-
-    one : (z : Standing) → units_in (holder_of u (entry n z)) ≡ units.share u z.1
-    one (p, holding r) = pick (share (n, p) r.units) (bytes_eq u r.resource)
-    one (p, awaiting r) = refl
-    one (p, performing x) = refl
+shares-holders n u (e ∷ es) = grind (arith, shares-holders n u es, units-append (holder_of u (entry n e)) (holders_among u (map (entry n) es)), units-one, holding)
 
 batch-shares : (u : Name) (bs : List Batch) (b : Batch) → Has bs b → shares u (facts b.rest) ≤ units_in (holders_among u (entries bs))
 batch-shares u [] b h = absurd h
@@ -63,12 +53,8 @@ member-units (x ∷ xs) a (inr k) = let c : units_in (x ∷ xs) ≡ x.units + un
 alone : (xs : List Share) (a b : BatchAct) → units_in xs ≤ 1 → Has xs (share a 1) → Has xs (share b 1) → a ≡ b
 alone [] a b l h k = absurd h
 alone (x ∷ xs) a b l (inl e) (inl f) = ap (λ z. z.act) (sym e ∙ f)
-alone (x ∷ xs) a b l (inl e) (inr k) =
-    absurd (let c : units_in (x ∷ xs) ≡ x.units + units_in xs = units-cons x xs in let q : x.units ≡ 1 = ap (λ z. z.units) e in
-    let m : 1 ≤ units_in xs = member-units xs (share b 1) k in omega arith)
-alone (x ∷ xs) a b l (inr h) (inl f) =
-    absurd (let c : units_in (x ∷ xs) ≡ x.units + units_in xs = units-cons x xs in let q : x.units ≡ 1 = ap (λ z. z.units) f in
-    let m : 1 ≤ units_in xs = member-units xs (share a 1) h in omega arith)
+alone (x ∷ xs) a b l (inl e) (inr k) = grind (arith, units-cons x xs, member-units xs (share b 1) k)
+alone (x ∷ xs) a b l (inr h) (inl f) = grind (arith, units-cons x xs, member-units xs (share a 1) h)
 alone (x ∷ xs) a b l (inr h) (inr k) =
     alone xs a b (let c : units_in (x ∷ xs) ≡ x.units + units_in xs = units-cons x xs in let m : units_in xs ≤ 1 = omega arith in m) h k
 

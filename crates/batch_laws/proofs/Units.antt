@@ -1,10 +1,10 @@
 -- The unit of a live phase is held above it, and a phase that is live twice in a batch has its unit held twice.
-use Rattle.std.proofs.Common.{◌≡◌, refl, sym, ◌∙◌, ap, subst, ℕ, ◌+◌, ◌≤◌, arith, List, [], ◌∷◌, ◌++◌, Bool, true, false, take, slice_get, Option, inl, inr, ◌⊎◌, ⊎_elim, bytes_eq, append-nil}
+use Rattle.std.proofs.Common.{◌≡◌, refl, sym, ◌∙◌, ap, subst, ℕ, ◌+◌, ◌≤◌, arith, List, [], ◌∷◌, ◌++◌, true, false, take, slice_get, Option, inl, inr, ◌⊎◌, ⊎_elim, bytes_eq, append-nil}
 use Rattle.std.proofs.lemmas.Slice.Eq.{bytes_eq-Decides}
 use Rattle.batch_model.specs.Lists.{Has}
 use Rattle.batch_recipe.specs.Conditions.{Name}
 use Rattle.batch_recipe.specs.Tree.{Place, Phase, Tree, act, seq, par, sel, loop, Task, runs, follows, Trees, no_trees, tree, Choices, otherwise, choice}
-use Rattle.batch_model.specs.Rest.{Rest, ready, asking, open_act, live, freeing, in_seq, in_par, in_loop, done, Rests, no_rests, rest}
+use Rattle.batch_model.specs.Rest.{Rest, ready, asking, open_act, live, freeing, in_seq, in_par, in_loop, Rests, rest}
 use Rattle.batch_recipe.specs.Nodes.{child}
 use Rattle.batch_model.specs.Records.{IsAtOrAbove}
 use Rattle.batch_laws.proofs.Facts.{Fact, holding, awaiting, performing, Standing, held_at, awaited_at, facts, facts_of_each}
@@ -23,21 +23,17 @@ same_performing : (x y : Phase) → performing x ≡ performing y → x ≡ y
 same_performing x y e = cc
 
 pub lone-performing : (p : Place) (y : Phase) (q : Place) (x : Phase) → Has {X = Standing} ((p, performing y) ∷ []) (q, performing x) → (p ≡ q) × (y ≡ x)
-lone-performing p y q x (inl e) = (ap (λ s. s.0) e, same_performing y x (ap (λ s. s.1) e))
-lone-performing p y q x (inr h) = absurd h
+lone-performing p y q x h = grind (arith, same_performing)
 
 -- of a live act's facts
 live-performing : (p : Place) (names : List Need) (y : Phase) (q : Place) (x : Phase) → Has (held_at p names ++ (p, performing y) ∷ []) (q, performing x) → (p ≡ q) × (y ≡ x)
-live-performing p names y q x k =
-    ⊎_elim (λ m. absurd (held-performing p names q x m)) (lone-performing p y q x) (Has-split (held_at p names) ((p, performing y) ∷ []) (q, performing x) k)
+live-performing p names y q x k = grind (arith, lone-performing p y q x, Has-split (held_at p names) ((p, performing y) ∷ []) (q, performing x) k, held-performing)
 
 asking-performing : (p : Place) (names : List Need) (o : Option Need) (q : Place) (x : Phase) → Has (held_at p names ++ awaited_at p o) (q, performing x) → ⊥
-asking-performing p names o q x k =
-    ⊎_elim (held-performing p names q x) (awaited-performing p o q x) (Has-split (held_at p names) (awaited_at p o) (q, performing x) k)
+asking-performing p names o q x k = grind (arith, held-performing p names q x, awaited-performing p o q x, Has-split (held_at p names) (awaited_at p o) (q, performing x) k)
 
 open-performing : (p : Place) (names : List Need) (r : Rest) (q : Place) (x : Phase) → Has (held_at p names ++ facts r) (q, performing x) → Has (facts r) (q, performing x)
-open-performing p names r q x k =
-    ⊎_elim (λ m. absurd (held-performing p names q x m)) (λ m. m) (Has-split (held_at p names) (facts r) (q, performing x) k)
+open-performing p names r q x k = grind (arith, Has-split (held_at p names) (facts r) (q, performing x) k, held-performing)
 
 mutual
   -- a live phase is one of the chart's
@@ -52,8 +48,7 @@ mutual
   performed-phase (par cs) (in_par r) h q x k = performed-side_by_side cs r h q x k
   performed-phase (sel ch) r h q x k = performed-chosen ch r h q x k
   performed-phase (loop n c body) (in_loop m d b r) h q x k = performed-phase body r h.3 q x k
-  performed-phase c done h q x k = absurd k
-  performed-phase _ _ h q x k = absurd h
+  performed-phase c r h q x k = absurd (grind arith)
 
   pub performed-below : (w : Task) (r : Rest) → IsRestBelow w r → (q : Place) (x : Phase) → Has (facts r) (q, performing x) → Has (phases_within w) x
   performed-below (runs y) r h q x k = absurd h
@@ -65,7 +60,6 @@ mutual
   performed-among (tree c cs) r ds (inr h) q x k = Has-right (phases c) (phases_of_each cs) x (performed-among cs r ds h q x k)
 
   pub performed-side_by_side : (cs : Trees) (r : Rests) → AreBranches cs r → (q : Place) (x : Phase) → Has (facts_of_each r) (q, performing x) → Has (phases_of_each cs) x
-  performed-side_by_side no_trees no_rests h q x k = absurd k
   performed-side_by_side (tree c cs) (rest r more) h q x k =
       ⊎_elim (λ m. Has-left (phases c) (phases_of_each cs) x (performed-phase c r h.0 q x m)) (λ m. Has-right (phases c) (phases_of_each cs) x (performed-side_by_side cs more h.1 q x m))
       (Has-split (facts r) (facts_of_each more) (q, performing x) k)
@@ -90,8 +84,7 @@ held_above-right : (xs ys : List Standing) (unit : Name) (q : Place) → IsHeldA
 held_above-right xs ys unit q h = (h.0, Has-right xs ys (h.0, holding (one_unit unit)) h.1, h.2, h.3)
 
 in_branch : {A B C : Type 0} → (B → C) → A ⊎ B → A ⊎ C
-in_branch f (inl a) = inl a
-in_branch f (inr b) = inr (f b)
+in_branch f h = grind arith
 
 mutual
   -- the unit of a live phase is needed above the chart, or held above the phase
@@ -123,8 +116,7 @@ mutual
   unit-held above p (par cs) (in_par r) pl iu h q x k = unit-held_side_by_side above p 0 cs r pl iu h q x k
   unit-held above p (sel ch) r pl iu h q x k = unit-held_chosen above p 0 ch r pl iu h q x k
   unit-held above p (loop n c body) (in_loop m d b r) pl iu h q x k = unit-held above (child p 0) body r pl iu h.3 q x k
-  unit-held above p c done pl iu h q x k = absurd k
-  unit-held above p _ _ pl iu h q x k = absurd h
+  unit-held above p c r pl iu h q x k = absurd (grind arith)
 
   pub unit-held_below : (needs above : List Need) (p : Place) (w : Task) (r : Rest) → IsPlacedBelow p w → RunsInUnitsBelow needs above w → IsRestBelow w r
       → (q : Place) (x : Phase) → Has (facts r) (q, performing x) → Has (needs ++ above) (one_unit x.unit) ⊎ IsHeldAbove (facts r) x.unit q
@@ -139,7 +131,6 @@ mutual
 
   pub unit-held_side_by_side : (above : List Need) (p : Place) (i : ℕ) (cs : Trees) (r : Rests) → ArePlaced p i cs → RunSideBySide above cs → AreBranches cs r
       → (q : Place) (x : Phase) → Has (facts_of_each r) (q, performing x) → Has above (one_unit x.unit) ⊎ IsHeldAbove (facts_of_each r) x.unit q
-  unit-held_side_by_side above p i no_trees no_rests pl iu h q x k = absurd k
   unit-held_side_by_side above p i (tree c cs) (rest r more) pl iu h q x k =
       ⊎_elim
       (λ m. in_branch (held_above-left (facts r) (facts_of_each more) x.unit q) (unit-held above (child p i) c r pl.0 iu.0 h.0 q x m))
@@ -169,11 +160,7 @@ shares-append u [] ys = omega arith
 shares-append u (e ∷ xs) ys = let h : shares u (xs ++ ys) ≡ shares u xs + shares u ys = shares-append u xs ys in omega arith
 
 share-self : (u : Name) → share u (holding (one_unit u)) ≡ 1
-share-self u = go (bytes_eq u u) ((bytes_eq-Decides u u).1 refl)
-  where
-    go : (b : Bool) → b ≡ true → ◌≡◌ {A = ℕ} (elim b [ true ↦ 1 | false ↦ 0 ]) 1
-    go true e = refl
-    go false e = absurd cc
+share-self u = grind (arith, bytes_eq-Decides u u)
 
 pub Has-shares : (u : Name) (q : Place) (es : List Standing) → Has es (q, holding (one_unit u)) → 1 ≤ shares u es
 Has-shares u q [] h = absurd h
@@ -198,8 +185,7 @@ mutual
   twice-held above p (par cs) (in_par r) pl iu h q o x y e d k m = twice-held_side_by_side above p 0 cs r pl iu h q o x y e d k m
   twice-held above p (sel ch) r pl iu h q o x y e d k m = twice-held_chosen above p 0 ch r pl iu h q o x y e d k m
   twice-held above p (loop n c body) (in_loop i j b r) pl iu h q o x y e d k m = twice-held above (child p 0) body r pl iu h.3 q o x y e d k m
-  twice-held above p c done pl iu h q o x y e d k m = absurd k
-  twice-held above p _ _ pl iu h q o x y e d k m = absurd h
+  twice-held above p c r pl iu h q o x y e d k m = absurd (grind arith)
 
   pub twice-held_below : (needs above : List Need) (p : Place) (w : Task) (r : Rest) → IsPlacedBelow p w → RunsInUnitsBelow needs above w → IsRestBelow w r
       → (q o : Place) (x y : Phase) → IsSamePhase x y → (q ≡ o → ⊥) → Has (facts r) (q, performing x) → Has (facts r) (o, performing y) → 2 ≤ shares x.unit (facts r)
@@ -214,7 +200,6 @@ mutual
 
   pub twice-held_side_by_side : (above : List Need) (p : Place) (i : ℕ) (cs : Trees) (r : Rests) → ArePlaced p i cs → RunSideBySide above cs → AreBranches cs r
       → (q o : Place) (x y : Phase) → IsSamePhase x y → (q ≡ o → ⊥) → Has (facts_of_each r) (q, performing x) → Has (facts_of_each r) (o, performing y) → 2 ≤ shares x.unit (facts_of_each r)
-  twice-held_side_by_side above p i no_trees no_rests pl iu h q o x y e d k m = absurd k
   twice-held_side_by_side above p i (tree c cs) (rest r more) pl iu h q o x y e d k m =
       let a : shares x.unit (facts r ++ facts_of_each more) ≡ shares x.unit (facts r) + shares x.unit (facts_of_each more) = shares-append x.unit (facts r) (facts_of_each more) in
       let once : (z z' : Phase) (g g' : Place) → IsSamePhase z z' → z.unit ≡ x.unit → Has (facts r) (g, performing z) → Has (facts_of_each more) (g', performing z') → 2 ≤ shares x.unit (facts r ++ facts_of_each more)

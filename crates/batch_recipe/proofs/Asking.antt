@@ -1,12 +1,12 @@
 -- What the node of an entry asks for.
-use Rattle.std.proofs.Common.{◌≡◌, ℕ, zero, suc, List, [], ◌∷◌, Option, Some, None, slice_get, ap, refl, subst}
+use Rattle.std.proofs.Common.{arith, ◌≡◌, ℕ, zero, suc, List, [], ◌∷◌, Option, Some, None, slice_get, subst}
 use Rattle.batch_recipe.specs.ActsAtNodes.{ActList, procedure_acts, AreActsAt, IsActAt, IsNoAct}
 use Rattle.batch_recipe.specs.Expanding.{Binding}
 use Rattle.batch_recipe.specs.Links.{asked_at}
 use Rattle.batch_recipe.specs.Nodes.{Node, needs_of}
 use Rattle.batch_recipe.specs.Outlines.{act_of}
 use Rattle.batch_recipe.specs.Procedure.{bound_nodes}
-use Rattle.batch_recipe.specs.Tree.{Tree, act, skip, seq, par, sel, loop}
+use Rattle.batch_recipe.specs.Tree.{Tree}
 use Rattle.batch_recipe.specs.declared.act.Act.{Act}
 use Rattle.batch_recipe.specs.declared.acts.Acts.{Acts}
 use Rattle.batch_recipe.specs.declared.entry.Entry.{Entry}
@@ -29,16 +29,10 @@ module _ (bound : Binding) (acts : Acts) where
   acts_at (a ∷ list) (y ∷ xs) h (suc k) o x is at = acts_at list xs h.1 k o x is at
 
   no_needs : (t : Tree) → IsNoAct t → needs_of t ≡ []
-  no_needs (act s w) h = absurd h
-  no_needs skip h = refl
-  no_needs (seq ts) h = refl
-  no_needs (par ts) h = refl
-  no_needs (sel cs) h = refl
-  no_needs (loop n c t) h = refl
+  no_needs t h = grind arith
 
   needs_are : (o : Option Act) (x : Node) → IsActAt bound acts o x → needs_of x.here ≡ asked_at bound o
-  needs_are None x h = no_needs x.here h
-  needs_are (Some a) x h = ap needs_of h.here_is
+  needs_are o x h = grind (arith, no_needs)
 
 -- the node's own needs are those of its act, whatever units take the roles
 pub own_needs : (r : Recipe) (bound : Binding) (k : ℕ) (e : Entry) (x : Node) → slice_get r.outline.entries.items k ≡ Some e → slice_get (bound_nodes bound r.acts) k ≡ Some x

@@ -1,11 +1,10 @@
 -- Nodes stand at the same places whatever units take the roles.
-use Rattle.std.proofs.Common.{◌≡◌, refl, sym, ◌∙◌, ap, ap₂, ℕ, ◌+◌, List, [], ◌∷◌, ◌++◌, map, Option, Some, None}
+use Rattle.std.proofs.Common.{arith, ◌≡◌, refl, sym, ◌∙◌, ap, ap₂, ℕ, ◌+◌, List, [], ◌∷◌, ◌++◌, map, Option, Some, None}
 use Rattle.std.proofs.lemmas.List.{map-append}
 use Rattle.batch_recipe.specs.Conditions.{Name}
 use Rattle.batch_recipe.specs.Diagram as chart
 use Rattle.batch_recipe.specs.Diagram.{Diagram, Diagrams, Cases, diagram_of}
-use Rattle.batch_recipe.specs.Expanding.{Binding, unbound, unit_with, unit_below, asked_by, expanded, expanded_each, expanded_cases, task_of, act_named, act_tree_with, named_tree_with}
-use Rattle.batch_recipe.specs.Needs.{resources_of}
+use Rattle.batch_recipe.specs.Expanding.{Binding, unbound, expanded, expanded_each, expanded_cases, task_of, act_named, act_tree_with, named_tree_with}
 use Rattle.batch_recipe.specs.Nodes.{Node, child, nodes, nodes_within, nodes_of_each, nodes_of_choices}
 use Rattle.batch_recipe.specs.Procedure.{bound_tree, procedure_nodes, tables_from}
 use Rattle.batch_recipe.specs.Tree.{Place, Tree, skip}
@@ -60,12 +59,7 @@ module _ (f g : Labels) (alike : AreAlike f g) where
 module _ (bound : Binding) where
   act-places : (f g : Name → Labels) → ((unit unit' : Name) → AreAlike (f unit) (g unit')) → (unit unit' : Name) (a : Act) (p : Place) (above other : List Name)
       → places (nodes p above (act_tree_with bound f unit a p)) ≡ places (nodes p other (act_tree_with unbound g unit' a p))
-  act-places f g alike unit unit' a p above other =
-      ap (λ ps. p ∷ ps)
-      (task-places (f (unit_below unit (unit_with bound a.unit))) (g (unit_below unit' (unit_with unbound a.unit)))
-      (alike (unit_below unit (unit_with bound a.unit)) (unit_below unit' (unit_with unbound a.unit)))
-      (unit_below unit (unit_with bound a.unit)) (unit_below unit' (unit_with unbound a.unit)) a.name p a.work
-      (above ++ resources_of (asked_by (unit_with bound a.unit) a.needs.items)) (other ++ resources_of (asked_by (unit_with unbound a.unit) a.needs.items)))
+  act-places f g alike unit unit' a p above other = grind (arith, task-places)
 
   label-places : (tables : List (List Act)) (unit unit' : Name) → AreAlike (named_tree_with bound tables unit) (named_tree_with unbound tables unit')
   label-places [] unit unit' name p above other = refl

@@ -133,6 +133,4 @@ module _ (r : Recipe) where
 
   -- the first node has one number
   pub top_size : (node at up : ℕ) → IsAbove node at up → at ≡ 0 → (low : Node) → slice_get ns node ≡ Some low → length low.place ≡ up + 1
-  top_size node at up h top low low_is =
-      let one : length h.high.place ≡ 1 = ap (λ (x : Node). length x.place) (sym (node_is 0 (get_or ns 0 h.high) h.high refl (ap (slice_get ns) (sym top) ∙ h.high_is))) in
-      omega (arith, one, ap length h.placed, length-append h.high.place h.rest, h.long, ap (λ (x : Node). length x.place) (node_is node low h.low low_is h.low_is))
+  top_size node at up h top low low_is = grind (arith, length-append h.high.place h.rest, node_is node low h.low low_is h.low_is)

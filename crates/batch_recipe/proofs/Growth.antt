@@ -1,6 +1,6 @@
 -- What comes to an outline: a node with those below it, and branches one after another.
 use Rattle.std.proofs.Common.{◌≡◌, ℕ, suc, ◌+◌, ◌<◌, ◌≤◌, List, [], ◌∷◌, ◌++◌, map, get_or, drop, length, Option, Some, None, Result, Ok, Err, Bool, position, slice_get, sym, ap, ◌∙◌, refl, subst, arith, add-one, drop-cons, drop_of_length-le, length-append, append_assoc, append-nil}
-use Rattle.std.specs.List.{find, position_or_len}
+use Rattle.std.specs.List.{find}
 use Rattle.std.proofs.lemmas.Grind.{common_steps}
 use Rattle.std.proofs.lemmas.List.Folds.{find_at}
 use Rattle.std.proofs.lemmas.Option.{slice_get_past}
@@ -12,7 +12,6 @@ use Rattle.batch_recipe.specs.Growing.{Head, Labels, LabelConditions, entry, top
 use Rattle.batch_recipe.specs.declared.act.Act.{Act}
 use Rattle.batch_recipe.specs.declared.acts.Acts.{Acts}
 use Rattle.batch_recipe.specs.declared.acts.LabelTable.{LabelTable}
-use Rattle.batch_recipe.specs.declared.acts.LabelTable.TheVariants.{UnitProcedures, Operations, Phases}
 use Rattle.batch_recipe.specs.declared.chart.Chart.{Chart}
 use Rattle.batch_recipe.specs.declared.condition.Cond.{Cond}
 use Rattle.batch_recipe.specs.declared.entry.Entry.{Entry}
@@ -24,14 +23,10 @@ use Rattle.batch_recipe.specs.declared.recipe.TheConstants.{MAX_NODES}
 -- the first that passes, by its number
 module _ {X : Type 0} (p : X → Bool) (xs : List X) where
   pub found_at : (i : ℕ) → position p xs ≡ Some i → find p xs ≡ slice_get xs i
-  found_at i e =
-      let at : position_or_len p xs ≡ i = grind (arith, common_steps) in
-      find_at p xs ∙ ap (slice_get xs) at
+  found_at i e = grind (arith, find_at p xs, common_steps)
 
   pub not_found : position p xs ≡ None → find p xs ≡ None
-  not_found e =
-      let past : length xs ≤ position_or_len p xs = grind (arith, common_steps) in
-      find_at p xs ∙ slice_get_past xs (position_or_len p xs) past
+  not_found e = grind (arith, find_at p xs, common_steps, slice_get_past)
 
 -- A node was begun, those below it came, and it has its end.
 module _ (before begun grown_to ended : List Entry) (k : Head) (n u i : ℕ) (below : ℕ → ℕ → List Entry) (b : HasBegun before k u i begun (Ok n)) where
@@ -57,9 +52,7 @@ module _ (before begun grown_to ended : List Entry) (k : Head) (n u i : ℕ) (be
   node_failed Memory h = tt
 
 levels_cons : (level : LabelTable) → levels_from (Some level) ≡ level ∷ levels_from (level_below level)
-levels_cons UnitProcedures = refl
-levels_cons Operations = refl
-levels_cons Phases = refl
+levels_cons level = grind arith
 
 -- a label
 module _ (acts : Acts) (level : Option LabelTable) (name : Name) where
@@ -85,16 +78,11 @@ cut {X} xs i x in' is = rw add-one (drop-cons xs i x in' ∙ ap (λ (y : X). y �
 -- a tree has a node
 pub some_grown : (told : LabelConditions) (named : Labels) → ((name : Name) (n j u i : ℕ) → 0 < length (named name n j u i)) → (n j u i : ℕ) (d : Diagram) → 0 < length (grown told named n j u i d)
 some_grown told named some n j u i (chart.label name) = some name n j u i
-some_grown told named some n j u i chart.skip = omega arith
-some_grown told named some n j u i (chart.seq ds) = omega arith
-some_grown told named some n j u i (chart.par ds) = omega arith
-some_grown told named some n j u i (chart.sel cs) = omega arith
-some_grown told named some n j u i (chart.loop turns c d) = omega arith
+some_grown told named some n j u i d = grind arith
 
 named_found : (acts : Acts) (levels : List LabelTable) (level : LabelTable) (k : ℕ) (found : Option Act) (o n j u i : ℕ)
     → 0 < length {A = Entry} (elim found [ None ↦ bare n u i | Some a ↦ grown_act (conditions_named acts levels) (grown_named acts levels (unit_number level k o)) (kind.Act level k) (unit_number level k o) n j u i a ])
-named_found acts levels level k None o n j u i = omega arith
-named_found acts levels level k (Some a) o n j u i = omega arith
+named_found acts levels level k found o n j u i = grind arith
 
 named_number : (acts : Acts) (levels : List LabelTable) (level : LabelTable) (number : Option ℕ) (o n j u i : ℕ)
     → 0 < length {A = Entry} (elim number [
@@ -104,8 +92,7 @@ named_number : (acts : Acts) (levels : List LabelTable) (level : LabelTable) (nu
         | Some a ↦ grown_act (conditions_named acts levels) (grown_named acts levels (unit_number level k o)) (kind.Act level k) (unit_number level k o) n j u i a
       ]
     ])
-named_number acts levels level None o n j u i = omega arith
-named_number acts levels level (Some k) o n j u i = named_found acts levels level k (slice_get (table_at acts level) k) o n j u i
+named_number acts levels level number o n j u i = grind (arith, named_found)
 
 pub some_named : (acts : Acts) (levels : List LabelTable) (o : ℕ) (name : Name) (n j u i : ℕ) → 0 < length (grown_named acts levels o name n j u i)
 some_named acts [] o name n j u i = omega arith
@@ -203,14 +190,10 @@ module _ (acts : Acts) (level : Option LabelTable) (o u : ℕ) where
     KeepsGrowing-room = omega (arith, h.counted, h.some, h.small, ap length h.now_is, length-append before h.done)
 
     pub KeepsGrowing-all : length parts ≤ index → (now ≡ before ++ each (length before) (length cbefore) 0 parts) × (length now ≤ MAX_NODES)
-    KeepsGrowing-all past =
-        let last : each (length before) (length cbefore) 0 parts ≡ h.done = h.all ∙ (ap (λ ps. h.done ++ each (length now) (length cnow) index ps) (drop_of_length-le parts past) ∙ append-nil h.done) in
-        (h.now_is ∙ ap (λ xs. before ++ xs) (sym last), h.small)
+    KeepsGrowing-all past = grind (arith, drop_of_length-le parts past, append-nil h.done)
 
     pub KeepsGrowing-told : length parts ≤ index → cnow ≡ cbefore ++ each_told parts
-    KeepsGrowing-told past =
-        let last : each_told parts ≡ h.told = h.all_told ∙ (ap (λ ps. h.told ++ each_told ps) (drop_of_length-le parts past) ∙ append-nil h.told) in
-        h.told_is ∙ ap (λ xs. cbefore ++ xs) (sym last)
+    KeepsGrowing-told past = grind (arith, drop_of_length-le parts past, append-nil h.told)
 
   module _ (choices : List (Cond × Chart)) (last : Chart) (before now : List Entry) (cbefore cnow : List Cond) (index child : ℕ) (h : KeepsChoosing choices last before cbefore index child now cnow) (after : List Entry) where
     module _ (choice : Cond × Chart) (in' : index < length choices) (is : choice ≡ get_or choices index choice) where

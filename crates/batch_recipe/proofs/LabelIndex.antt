@@ -1,5 +1,5 @@
 -- The number of an act by its name, in the table and in an index of its names.
-use Rattle.std.proofs.Common.{◌≡◌, ◌+◌, List, [], ◌∷◌, Bool, cond, not, Some, None, map, refl, sym, ap, ap₂, ◌∙◌}
+use Rattle.std.proofs.Common.{arith, ◌≡◌, ◌+◌, List, [], ◌∷◌, Bool, cond, not, Some, None, map, refl, sym, ap, ap₂, ◌∙◌}
 use Rattle.std.specs.Borrow.{Bor}
 use Rattle.std.specs.Prelude.{nat_lt, position}
 use Rattle.std.specs.List.{position_or_len}
@@ -24,8 +24,7 @@ number_by_names table name =
 
 pub number_in_index : (table : List Act) (keys : List (Bor Name)) (name : Name) → names_at keys ≡ act_names table
     → position (λ (k : Bor Name). same_name name k.now) keys ≡ number_in table name
-number_in_index table keys name e =
-    sym (position-map (same_name name) (λ (k : Bor Name). k.now) keys) ∙ ap (position (same_name name)) e ∙ sym (number_by_names table name)
+number_in_index table keys name e = grind (arith, number_by_names table name, position-map)
 
 pub same_numbers : (xs ys : List Act) (name : Name) → act_names xs ≡ act_names ys → number_in xs name ≡ number_in ys name
 same_numbers xs ys name e = number_by_names xs name ∙ ap (position (same_name name)) e ∙ sym (number_by_names ys name)

@@ -31,17 +31,15 @@ AreLabelled f p _ _ = ⊥
 
 joined : (f : Labelling) (p : Place) (os us : ActList) (xs ys : List Node) → AreLabelled f p os xs → AreLabelled f p us ys → AreLabelled f p (os ++ us) (xs ++ ys)
 joined f p [] us [] ys h g = g
-joined f p [] us (x ∷ xs) ys h g = absurd h
-joined f p (o ∷ os) us [] ys h g = absurd h
 joined f p (o ∷ os) us (x ∷ xs) ys h g = (h.0, joined f p os us xs ys h.1 g)
+joined f p os us xs ys h g = grind arith
 
 -- seen from the parent of child i
 under : (f g : Labelling) (p : Place) (i : ℕ) → ((q : Place) → f (i ∷ q) ≡ g q) → (os : ActList) (xs : List Node) → AreLabelled g (child p i) os xs → AreLabelled f p os xs
 under f g p i same [] [] h = tt
-under f g p i same [] (x ∷ xs) h = absurd h
-under f g p i same (o ∷ os) [] h = absurd h
 under f g p i same (o ∷ os) (x ∷ xs) h =
     ((i ∷ h.0.0, h.0.1 ∙ append_assoc p (i ∷ []) h.0.0, λ a is. same h.0.0 ∙ h.0.2 a is), under f g p i same os xs h.1)
+under f g p i same os xs h = grind arith
 
 -- a node that is no act
 bare : (f : Labelling) (p : Place) (above : List Name) (t : Tree) → IsLabelled f p None (node p above t)

@@ -50,17 +50,14 @@ module _ (ns : List Node) where
 
   linked_both : (n m : ℕ) (xs ys : List Node) (ss rr : List Shape) → length xs ≡ m → AreLinked n xs ss → AreLinked (n + m) ys rr → AreLinked n (xs ++ ys) (ss ++ rr)
   linked_both n m [] ys [] rr size h g = let same : n + m ≡ n = omega (arith, size) in subst (λ k. AreLinked k ys rr) same g
-  linked_both n m [] ys (s ∷ ss) rr size h g = absurd h
-  linked_both n m (x ∷ xs) ys [] rr size h g = absurd h
   linked_both n m (x ∷ xs) ys (s ∷ ss) rr size h g =
       let same : n + m ≡ n + 1 + length xs = omega (arith, size) in
       (h.0, linked_both (n + 1) (length xs) xs ys ss rr refl h.1 (subst (λ k. AreLinked k ys rr) same g))
+  linked_both n m xs ys ss rr size h g = grind arith
 
   linked_at : (n : ℕ) (xs : List Node) (ss : List Shape) → AreLinked n xs ss → (j : ℕ) (s : Shape) → slice_get ss j ≡ Some s
       → (x : Node) × (slice_get xs j ≡ Some x) × IsLinked (n + j) x s
   linked_at n [] [] h j s is = let bad : None ≡ Some s = is in cc
-  linked_at n [] (r ∷ ss) h j s is = absurd h
-  linked_at n (x ∷ xs) [] h j s is = absurd h
   linked_at n (x ∷ xs) (r ∷ ss) h zero s is =
       let e : r ≡ s = some_same r s is in
       let same : n ≡ n + 0 = omega arith in
@@ -72,6 +69,7 @@ module _ (ns : List Node) where
       let g = linked_at (n + 1) xs ss h.1 j s is in
       let same : n + 1 + j ≡ n + suc j = omega arith in
       (g.0, g.1, subst (λ k. IsLinked k g.0 s) same g.2)
+  linked_at n xs ss h j s is = grind arith
 
   -- below the node y with the number u, whose tree is `of`, and which ends no earlier than what still comes
   record Below (u n m : ℕ) (p : Place) (above : List Name) (of : Tree) : Type 0 where

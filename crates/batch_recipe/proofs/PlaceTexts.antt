@@ -9,17 +9,13 @@ use Rattle.batch_recipe.specs.Texts.{dot_text, place_text}
 take_next : (p : Place) (d n : ℕ) → slice_get p d ≡ Some n → (d < length p) × (take (d + 1) p ≡ take d p ++ n ∷ [])
 take_next [] d n h = let bad : None ≡ Some n = h in absurd cc
 take_next (m ∷ p) zero n h = let same : Some m ≡ Some n = h in let e : m ≡ n = cc in (omega arith, ap (λ k. k ∷ []) e)
-take_next (m ∷ p) (suc d) n h =
-    let rest = take_next p d n h in
-    let e : suc d + 1 ≡ suc (d + 1) = omega arith in
-    (omega (arith, rest.0), ap (λ i. take i (m ∷ p)) e ∙ ap (λ xs. m ∷ xs) rest.1)
+take_next (m ∷ p) (suc d) n h = grind (arith, take_next p d n h)
 
 place_text_more : (p : Place) (n : ℕ) → place_text (p ++ n ∷ []) ≡ place_text p ++ (dot_text (length p) ++ decimal n)
-place_text_more [] n = refl
-place_text_more (m ∷ []) n = refl
 place_text_more (m ∷ k ∷ p) n =
     ap (λ t. decimal m ++ (codes "." ++ t)) (place_text_more (k ∷ p) n)
     ∙ sym (append_assoc (decimal m) (codes "." ++ place_text (k ∷ p)) (codes "." ++ decimal n))
+place_text_more p n = grind arith
 
 -- the text tells the numbers above depth d
 abbrev pub Tells : Place → ℕ → List ℕ → Type 0

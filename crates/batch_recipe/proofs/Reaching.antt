@@ -143,10 +143,7 @@ module _ (r : Recipe) where
   pub below_place : (b m : ℕ) (z : Node) → m < b → slice_get (ns r) m ≡ Some z → (k : ℕ) (x : Node) → slice_get (ns r) k ≡ Some x → (rest : Place) → z.place ≡ x.place ++ rest
       → (k ≤ m) × (m + node_count z.here ≤ k + node_count x.here)
   below_place zero m z less at k x is rest placed = absurd (omega (arith, less))
-  below_place (suc b) m z less at k x is [] placed =
-      let same : m ≡ k = alike m k z x at is (placed ∙ append-nil x.place) in
-      let one : z ≡ x = node_is k z x (ap (slice_get (ns r)) (sym same) ∙ at) is in
-      (omega (arith, same), omega (arith, same, ap (λ (n : Node). node_count n.here) one))
+  below_place (suc b) m z less at k x is [] placed = grind (arith, alike m k z x at is (placed ∙ append-nil x.place), append-nil x.place, node_is)
   below_place (suc b) m z less at k x is (c ∷ rest) placed =
       let some = long_enough k x is in
       let h = parent_of m z at (omega (arith, some, ap length placed, length-append x.place (c ∷ rest))) in

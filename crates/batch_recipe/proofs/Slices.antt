@@ -15,7 +15,4 @@ pub slice_get-split : {X : Type 0} (xs ys : List X) (k : ℕ) (x : X) → slice_
     → (slice_get xs k ≡ Some x) ⊎ ((j : ℕ) × (k ≡ length xs + j) × (slice_get ys j ≡ Some x))
 slice_get-split [] ys k x h = inr (k, (let e : k ≡ 0 + k = omega arith in e), h)
 slice_get-split (y ∷ xs) ys zero x h = inl h
-slice_get-split (y ∷ xs) ys (suc k) x h = elim (slice_get-split xs ys k x h) [
-  | inl left ↦ inl left
-  | inr right ↦ inr (right.0, (let e : suc k ≡ length (y ∷ xs) + right.0 = omega (arith, right.1) in e), right.2)
-]
+slice_get-split (y ∷ xs) ys (suc k) x h = grind (arith, slice_get-split xs ys k x h)

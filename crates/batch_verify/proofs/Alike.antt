@@ -1,5 +1,5 @@
 -- Trees of one recipe run the same phases, whatever units take the roles.
-use Rattle.std.proofs.Common.{◌≡◌, ℕ, zero, suc, ◌+◌, ◌++◌, false, ◌&&◌, ◌||◌, List, [], ◌∷◌, Option, Some, None, slice_get, sym, ap, ap₂, ◌∙◌, refl, subst}
+use Rattle.std.proofs.Common.{arith, ◌≡◌, ℕ, zero, suc, ◌+◌, ◌++◌, false, ◌&&◌, ◌||◌, List, [], ◌∷◌, Option, Some, None, slice_get, sym, ap, ap₂, ◌∙◌, refl, subst}
 use Rattle.batch_recipe.specs.Conditions.{Name, same_name}
 use Rattle.batch_recipe.specs.Diagram.{Diagram, label, skip, seq, par, sel, loop, Diagrams, none, more, Cases, otherwise, when, diagram_of}
 use Rattle.batch_recipe.specs.Expanding.{Binding, expanded, expanded_each, expanded_cases, task_of, act_named, act_tree_with, named_tree_with, unit_with, unit_below}
@@ -7,7 +7,7 @@ use Rattle.batch_recipe.specs.Needs.{resources_of}
 use Rattle.batch_recipe.specs.Nodes.{child}
 use Rattle.batch_recipe.specs.Procedure.{bound_tree, tables_from}
 use Rattle.batch_recipe.specs.Tree as tree
-use Rattle.batch_recipe.specs.Tree.{Place, Phase, Tree, Step, Task, Trees, Choices}
+use Rattle.batch_recipe.specs.Tree.{Place, Phase, Tree, Task, Trees, Choices}
 use Rattle.batch_recipe.specs.declared.act.Act.{Act}
 use Rattle.batch_recipe.specs.declared.act.Work.{Work}
 use Rattle.batch_recipe.specs.declared.act.Work.TheVariants.{Follows, Runs}
@@ -50,22 +50,19 @@ abbrev mutual
 mutual
   pub same_runs : (t u : Tree) → AreAlike t u → surely_runs t ≡ surely_runs u
   same_runs (tree.act s w) (tree.act r v) h = task_same_runs w v h
-  same_runs tree.skip tree.skip h = refl
   same_runs (tree.seq ts) (tree.seq us) h = each_same_runs ts us h
   same_runs (tree.par ts) (tree.par us) h = each_same_runs ts us h
   same_runs (tree.sel cs) (tree.sel ds) h = choices_same_runs cs ds h
   same_runs (tree.loop n c t) (tree.loop m d u) h = same_runs t u h
-  same_runs _ _ h = absurd h
+  same_runs t u h = grind arith
 
   task_same_runs : (w v : Task) → TasksAlike w v → task_surely_runs w ≡ task_surely_runs v
-  task_same_runs (tree.runs one) (tree.runs other) h = refl
   task_same_runs (tree.follows name t) (tree.follows other u) h = same_runs t u h
-  task_same_runs _ _ h = absurd h
+  task_same_runs w v h = grind arith
 
   each_same_runs : (ts us : Trees) → EachAlike ts us → some_surely_runs ts ≡ some_surely_runs us
-  each_same_runs tree.no_trees tree.no_trees h = refl
   each_same_runs (tree.tree t ts) (tree.tree u us) h = ap₂ (λ a b. a || b) (same_runs t u h.0) (each_same_runs ts us h.1)
-  each_same_runs _ _ h = absurd h
+  each_same_runs ts us h = grind arith
 
   choices_same_runs : (cs ds : Choices) → ChoicesAlike cs ds → each_surely_runs cs ≡ each_surely_runs ds
   choices_same_runs (tree.otherwise t) (tree.otherwise u) h = same_runs t u h
@@ -78,12 +75,11 @@ same_both ps qs rs ss e f = phase_names-append ps rs ∙ (ap₂ (λ xs ys. xs ++
 mutual
   same_names : (t u : Tree) → AreAlike t u → phase_names (phases t) ≡ phase_names (phases u)
   same_names (tree.act s w) (tree.act r v) h = task_same_names w v h
-  same_names tree.skip tree.skip h = refl
   same_names (tree.seq ts) (tree.seq us) h = each_same_names ts us h
   same_names (tree.par ts) (tree.par us) h = each_same_names ts us h
   same_names (tree.sel cs) (tree.sel ds) h = choices_same_names cs ds h
   same_names (tree.loop n c t) (tree.loop m d u) h = same_names t u h
-  same_names _ _ h = absurd h
+  same_names t u h = grind arith
 
   task_same_names : (w v : Task) → TasksAlike w v → phase_names (phases_within w) ≡ phase_names (phases_within v)
   task_same_names (tree.runs one) (tree.runs other) h = ap (λ name. name ∷ []) h
@@ -91,10 +87,9 @@ mutual
   task_same_names _ _ h = absurd h
 
   each_same_names : (ts us : Trees) → EachAlike ts us → phase_names (phases_of_each ts) ≡ phase_names (phases_of_each us)
-  each_same_names tree.no_trees tree.no_trees h = refl
   each_same_names (tree.tree t ts) (tree.tree u us) h =
       same_both (phases t) (phases u) (phases_of_each ts) (phases_of_each us) (same_names t u h.0) (each_same_names ts us h.1)
-  each_same_names _ _ h = absurd h
+  each_same_names ts us h = grind arith
 
   choices_same_names : (cs ds : Choices) → ChoicesAlike cs ds → phase_names (phases_of_choices cs) ≡ phase_names (phases_of_choices ds)
   choices_same_names (tree.otherwise t) (tree.otherwise u) h = same_names t u h

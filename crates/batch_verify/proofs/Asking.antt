@@ -39,8 +39,7 @@ above None n h = tt
 above (Some m) n h = ltb-true m n h
 
 not_above : (last : Option ℕ) (n : ℕ) → is_above last n ≡ false → IsAbove last n → ⊥
-not_above None n h a = let bad : true ≡ false = h in cc
-not_above (Some m) n h a = absurd (omega (arith, ltb-false m n h, a))
+not_above last n h a = grind (arith, ltb-false)
 
 module _ (rank : Ranking) where
   after_first : (last : Option ℕ) (x : Name) (xs : List Name) (r : Result (Option ℕ) Rule) → IsAbove last (rank x) → IsRise rank (Some (rank x)) xs r → IsRise rank last (x ∷ xs) r
@@ -52,19 +51,13 @@ module _ (rank : Ranking) where
   from_first last x xs (Err rule) a h = (h.0, (λ rises. h.1 (a, rises)))
 
   refused : (last : Option ℕ) (x : Name) (xs : List Name) (r : Result (Option ℕ) Rule) → (IsAbove last (rank x) → ⊥) → IsRise rank last (x ∷ xs) r → r ≡ Err RankNotRising
-  refused last x xs (Ok next) below h = absurd (below h.0.0)
-  refused last x xs (Err rule) below h = ap Err h.0
+  refused last x xs r below h = grind arith
 
   -- what rises so is the climb
   pub climb_is : (last : Option ℕ) (xs : List Name) (r : Result (Option ℕ) Rule) → IsRise rank last xs r → r ≡ climb rank last xs
   climb_is last [] (Ok next) h = ap Ok h.1
   climb_is last [] (Err rule) h = absurd (h.1 tt)
-  climb_is last (x ∷ xs) r h = by (climb_is (Some (rank x)) xs r) (is_above last (rank x)) refl
-    where
-      by : (IsRise rank (Some (rank x)) xs r → r ≡ climb rank (Some (rank x)) xs) → (t : Bool) → is_above last (rank x) ≡ t
-          → r ≡ (if t then climb rank (Some (rank x)) xs else Err RankNotRising)
-      by others true e = others (from_first last x xs r (above last (rank x) e) h)
-      by others false e = refused last x xs r (not_above last (rank x) e) h
+  climb_is last (x ∷ xs) r h = grind (arith, climb_is (Some (rank x)) xs r, above, refused)
 
   climb_rises : (last : Option ℕ) (xs : List Name) → IsRise rank last xs (climb rank last xs)
   climb_rises last [] = (tt, refl)
@@ -82,8 +75,7 @@ module _ (rank : Ranking) where
 
   -- the first rank isn't above that of the path
   pub first_refused : (last : Option ℕ) (xs : List Name) (first : ℕ) → Some first ≡ first_rank (Some rank) xs → (IsAbove last first → ⊥) → RisesAfter rank last xs → ⊥
-  first_refused last [] first some below rises = cc
-  first_refused last (x ∷ xs) first some below rises = let same : first ≡ rank x = cc in below (subst (λ n. IsAbove last n) (sym same) rises.0)
+  first_refused last xs first some below rises = grind arith
 
   -- the first rank is above that of the path
   pub first_after : (last : Option ℕ) (xs : List Name) (first : ℕ) (r : Result (Option ℕ) Rule) → Some first ≡ first_rank (Some rank) xs → IsAbove last first → r ≡ climb rank None xs → IsRise rank last xs r

@@ -1,5 +1,5 @@
 -- The nodes of a recipe in a tried binding are like those in the numbered ones.
-use Rattle.std.proofs.Common.{◌≡◌, ℕ, zero, suc, ◌<◌, true, false, not, List, [], ◌∷◌, slice_get, Option, Some, None, refl, sym, ap, ap₂, ◌∙◌, subst, inl, inr}
+use Rattle.std.proofs.Common.{arith, ◌≡◌, ℕ, zero, suc, ◌<◌, true, not, List, [], ◌∷◌, slice_get, Option, Some, None, refl, sym, ap, ◌∙◌, subst, inl, inr}
 use Rattle.std.proofs.lemmas.Bool.{and_parts}
 use Rattle.batch_cell.specs.declared.cell.Cell as equipment
 use Rattle.batch_recipe.specs.Conditions.{Name}
@@ -41,18 +41,10 @@ use mathlib.Core.Path.{fun_ext}
 -- An act that follows a chart without a unit of its own
 
 no_unit : (a : Act) → not (has_unit a) ≡ true → a.unit ≡ None
-no_unit a h = go a.unit h
-  where
-    go : (o : Option UnitChoice) → not (elim o [ None ↦ false | Some unit ↦ true ]) ≡ true → o ≡ None
-    go None h = refl
-    go (Some unit) h = let bad : false ≡ true = h in absurd cc
+no_unit a h = grind arith
 
 own_chart : (a : Act) → has_chart a ≡ true → (chart : Chart) × (a.work ≡ Follows chart)
-own_chart a h = go a.work refl h
-  where
-    go : (w : Work) → a.work ≡ w → elim w [ Follows c ↦ true | Runs phase values ↦ false ] ≡ true → (chart : Chart) × (a.work ≡ Follows chart)
-    go (Follows c) e h = (c, e)
-    go (Runs phase values) e h = let bad : false ≡ true = h in absurd cc
+own_chart a h = grind arith
 
 each_of_all : {X : Type 0} (P : X → Type 0) (xs : List X) → ((x : X) → Has xs x → P x) → Each P xs
 each_of_all P [] h = tt
@@ -114,8 +106,7 @@ module _ (acts : Acts) (kinds : are_kinds acts ≡ true) where
       (task_of (named_tree_with bound (tables_from acts (Some UnitProcedures)) (unit_below [] (unit_with bound own))) (unit_below [] (unit_with bound own)) acts.procedure.name (0 ∷ []) work)
 
   pub procedure_is : (bound : Binding) → bound_tree bound acts ≡ procedure_of bound
-  procedure_is bound =
-      ap₂ (shape bound) (no_unit acts.procedure ((and_parts (not (has_unit acts.procedure)) (has_chart acts.procedure) (procedure_kind acts kinds)).0)) procedure_chart.1
+  procedure_is bound = grind (arith, no_unit, and_parts)
 
 -- The procedure's own node
 

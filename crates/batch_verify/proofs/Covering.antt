@@ -1,5 +1,5 @@
 -- Each node of a tried binding's tree is like one of a numbered binding's.
-use Rattle.std.proofs.Common.{◌≡◌, ℕ, zero, suc, ◌+◌, ◌<◌, ◌++◌, ◌⊎◌, inl, inr, ◌||◌, ◌&&◌, List, [], ◌∷◌, length, slice_get, Option, Some, None, refl, sym, ap, ap₂, ◌∙◌, subst}
+use Rattle.std.proofs.Common.{arith, ◌≡◌, ℕ, zero, suc, ◌+◌, ◌<◌, ◌++◌, ◌⊎◌, inl, inr, ◌||◌, ◌&&◌, List, [], ◌∷◌, length, slice_get, Option, Some, None, refl, sym, ap, ap₂, ◌∙◌, subst}
 use Rattle.std.proofs.lemmas.List.{length-map}
 use Rattle.batch_recipe.specs.ActsAtNodes.{IsNoAct}
 use Rattle.batch_recipe.specs.Conditions.{Name}
@@ -35,8 +35,7 @@ Each_right P [] ys h = h
 Each_right P (x ∷ xs) ys h = Each_right P xs ys h.1
 
 pub parts_count : (l : Level) (p : Place) (above : List Name) (t : Tree) → length (parts l p above t) ≡ node_count t
-parts_count l p above t =
-    sym (length-map (parts l p above t) (λ (x : Part). x.node)) ∙ ap length (parts-nodes l p above t) ∙ counted_nodes p above t
+parts_count l p above t = grind (arith, parts-nodes l p above t, counted_nodes p above t, length-map)
 
 -- Nodes outside unit procedures
 

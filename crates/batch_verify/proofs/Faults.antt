@@ -123,10 +123,7 @@ module _ (r : Recipe) where
   )
   fault_as x y to from (Some rules.SamePhaseInParallel) h = λ a. h (apart_back y x to a)
   fault_as x y to from (Some rules.LoopWithoutPhase) h = (apart_back x y from h.0, λ t. h.1 (turns_as x.node.here y.node.here to.1 t))
-  fault_as x y to from (Some rules.UnknownResource) h = absurd h
-  fault_as x y to from (Some rules.ShareAboveCapacity) h = absurd h
-  fault_as x y to from (Some rules.PhaseNotOffered) h = absurd h
-  fault_as x y to from (Some rules.RankNotRising) h = absurd h
+  fault_as x y to from fault h = grind arith
 
   part_is : (a b : Part) → Some a ≡ Some b → a ≡ b
   part_is a b e = cc

@@ -8,7 +8,6 @@ use Rattle.batch_verify.specs.Comparing.{earlier_of, is_before}
 use Rattle.batch_verify.specs.Covering.{IsCovered}
 use Rattle.batch_verify.specs.Refusals.{Breaks, MeetsRules, IsFirstBroken, IsVerdict, IsNotAfter, rule_number}
 use Rattle.batch_verify.specs.declared.rule.Rule.{Rule}
-use Rattle.batch_verify.specs.declared.rule.Rule.TheVariants.{UnknownResource, ShareAboveCapacity, PhaseNotOffered, SamePhaseInParallel, LoopWithoutPhase, RankNotRising}
 use Rattle.batch_verify.specs.declared.rule.Broken.{Broken}
 use Rattle.batch_verify.proofs.NameLemmas.{Each-at}
 
@@ -42,60 +41,11 @@ is_before_false a b e = go (nat_lt a.node b.node) refl (nat_eq a.node b.node) re
 module _ (setup : Setup) (ranking : Option Ranking) where
   -- a node breaks one rule first
   one_rule : (x : Part) (one other : Rule) → Breaks setup ranking x one → Breaks setup ranking x other → rule_number one ≤ rule_number other
-  one_rule x UnknownResource UnknownResource b c = omega arith
-  one_rule x UnknownResource ShareAboveCapacity b c = omega arith
-  one_rule x UnknownResource PhaseNotOffered b c = omega arith
-  one_rule x UnknownResource SamePhaseInParallel b c = omega arith
-  one_rule x UnknownResource LoopWithoutPhase b c = omega arith
-  one_rule x UnknownResource RankNotRising b c = omega arith
-  one_rule x ShareAboveCapacity UnknownResource b c = absurd (c b.0)
-  one_rule x ShareAboveCapacity ShareAboveCapacity b c = omega arith
-  one_rule x ShareAboveCapacity PhaseNotOffered b c = omega arith
-  one_rule x ShareAboveCapacity SamePhaseInParallel b c = omega arith
-  one_rule x ShareAboveCapacity LoopWithoutPhase b c = omega arith
-  one_rule x ShareAboveCapacity RankNotRising b c = omega arith
-  one_rule x PhaseNotOffered UnknownResource b c = absurd (c b.0.0)
-  one_rule x PhaseNotOffered ShareAboveCapacity b c = absurd (c.1 b.0.1)
-  one_rule x PhaseNotOffered PhaseNotOffered b c = omega arith
-  one_rule x PhaseNotOffered SamePhaseInParallel b c = omega arith
-  one_rule x PhaseNotOffered LoopWithoutPhase b c = omega arith
-  one_rule x PhaseNotOffered RankNotRising b c = omega arith
-  one_rule x SamePhaseInParallel UnknownResource b c = absurd (c b.0.0)
-  one_rule x SamePhaseInParallel ShareAboveCapacity b c = absurd (c.1 b.0.1)
-  one_rule x SamePhaseInParallel PhaseNotOffered b c = absurd (c.1 b.1)
-  one_rule x SamePhaseInParallel SamePhaseInParallel b c = omega arith
-  one_rule x SamePhaseInParallel LoopWithoutPhase b c = omega arith
-  one_rule x SamePhaseInParallel RankNotRising b c = omega arith
-  one_rule x LoopWithoutPhase UnknownResource b c = absurd (c b.0.0)
-  one_rule x LoopWithoutPhase ShareAboveCapacity b c = absurd (c.1 b.0.1)
-  one_rule x LoopWithoutPhase PhaseNotOffered b c = absurd (c.1 b.1)
-  one_rule x LoopWithoutPhase SamePhaseInParallel b c = absurd (c.2 b.2)
-  one_rule x LoopWithoutPhase LoopWithoutPhase b c = omega arith
-  one_rule x LoopWithoutPhase RankNotRising b c = omega arith
-  one_rule x RankNotRising UnknownResource b c = absurd (c (b.0.known, b.0.on_unit))
-  one_rule x RankNotRising ShareAboveCapacity b c = absurd (c.1 b.0.within)
-  one_rule x RankNotRising PhaseNotOffered b c = absurd (c.1 b.0.offered)
-  one_rule x RankNotRising SamePhaseInParallel b c = absurd (c.2 b.0.apart)
-  one_rule x RankNotRising LoopWithoutPhase b c = absurd (c.3 b.0.turning)
-  one_rule x RankNotRising RankNotRising b c = omega arith
+  one_rule x one other b c = grind arith
 
   -- a node that breaks a rule doesn't meet the rules
   pub no_break : (x : Part) (rule : Rule) → Breaks setup ranking x rule → MeetsRules setup ranking x → ⊥
-  no_break x rule b h = by_ranking setup ranking x rule b h
-    where
-      by_ranking : (setup : Setup) (ranking : Option Ranking) (x : Part) (rule : Rule) → Breaks setup ranking x rule → MeetsRules setup ranking x → ⊥
-      by_ranking setup None x UnknownResource b h = b (h.known, h.on_unit)
-      by_ranking setup None x ShareAboveCapacity b h = b.1 h.within
-      by_ranking setup None x PhaseNotOffered b h = b.1 h.offered
-      by_ranking setup None x SamePhaseInParallel b h = b.2 h.apart
-      by_ranking setup None x LoopWithoutPhase b h = b.3 h.turning
-      by_ranking setup None x RankNotRising b h = b.1 tt
-      by_ranking setup (Some rank) x UnknownResource b h = b (h.known, h.on_unit)
-      by_ranking setup (Some rank) x ShareAboveCapacity b h = b.1 h.within
-      by_ranking setup (Some rank) x PhaseNotOffered b h = b.1 h.offered
-      by_ranking setup (Some rank) x SamePhaseInParallel b h = b.2 h.apart
-      by_ranking setup (Some rank) x LoopWithoutPhase b h = b.3 h.turning
-      by_ranking setup (Some rank) x RankNotRising b h = b.1 h.rising
+  no_break x rule b h = grind arith
 
   -- the node that is the first to break a rule
   pub record IsBrokenNode (xs : List Part) (k : ℕ) (broken : Broken) : Type 0 where

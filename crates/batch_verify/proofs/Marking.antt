@@ -1,16 +1,13 @@
 -- Phase steps whose phases were gathered once, and the acts that run none.
-use Rattle.std.proofs.Common.{◌≡◌, ℕ, Bool, true, false, not, ◌&&◌, ◌||◌, List, [], get_or, set, slice_get, sym, ◌∙◌, refl, subst, ◌⊎◌, inl, inr, zero, suc, ◌∷◌}
+use Rattle.std.proofs.Common.{arith, ◌≡◌, ℕ, Bool, true, false, ◌||◌, List, [], get_or, set, slice_get, sym, ◌∙◌, refl, subst, ◌⊎◌, inl, inr, zero, suc, ◌∷◌}
 use Rattle.std.specs.List.{list_all}
 use Rattle.std.proofs.lemmas.List.{get_or-set_other, length-set}
 use Rattle.std.proofs.lemmas.Bool.{cases_eq, and_parts}
 use Rattle.batch_recipe.specs.Conditions.{Name}
 use Rattle.batch_recipe.specs.Outlines.{act_of}
-use Rattle.batch_recipe.specs.WellFormed.{are_kinds, has_chart, has_unit, is_among}
+use Rattle.batch_recipe.specs.WellFormed.{are_kinds, has_chart, is_among}
 use Rattle.batch_recipe.specs.declared.act.Act.{Act}
-use Rattle.batch_recipe.specs.declared.act.Work.{Work}
-use Rattle.batch_recipe.specs.declared.act.Work.TheVariants.{Follows, Runs}
 use Rattle.batch_recipe.specs.declared.acts.Acts.{Acts}
-use Rattle.batch_recipe.specs.declared.acts.LabelTable.TheVariants.{UnitProcedures, Operations, Phases}
 use Rattle.batch_recipe.specs.declared.entry.Kind.{Kind}
 use Rattle.batch_recipe.specs.declared.entry.Kind.TheVariants as kind
 use Rattle.batch_verify.specs.NodePhases.{phase_at, phase_run, AreMarked, IsNoStep}
@@ -49,11 +46,7 @@ AreMarked-more steps marks before after number h g = record {
     by k is (inr other) = Gathers-stay before part after (phase_at (slice_get steps k)) g (h.there k (sym (get_or-set_other marks number k true false other) ∙ is))
 
 runs_none : (a : Act) → has_chart a ≡ true → phase_run a.work ≡ []
-runs_none a h = by a.work h
-  where
-    by : (w : Work) → elim w [ Follows c ↦ true | Runs phase values ↦ false ] ≡ true → phase_run w ≡ []
-    by (Follows c) e = refl
-    by (Runs phase values) e = let bad : false ≡ true = e in cc
+runs_none a h = grind arith
 
 none_in : (p : Act → Bool) → ((a : Act) → p a ≡ true → has_chart a ≡ true) → (acts : List Act) → list_all p acts ≡ true → (number : ℕ) → phase_at (slice_get acts number) ≡ []
 none_in p charted [] h number = refl
@@ -62,21 +55,4 @@ none_in p charted (a ∷ acts) h (suc number) = none_in p charted acts (and_part
 
 -- an act that is no phase step runs no phase itself
 pub others_run_none : (acts : Acts) → are_kinds acts ≡ true → (k : Kind) → IsNoStep k → phase_at (act_of acts k) ≡ []
-others_run_none acts kinds kind.Skip h = refl
-others_run_none acts kinds kind.Procedure h =
-    let first = and_parts (not (has_unit acts.procedure) && has_chart acts.procedure) _ kinds in
-    runs_none acts.procedure (and_parts (not (has_unit acts.procedure)) (has_chart acts.procedure) first.0).1
-others_run_none acts kinds (kind.Act UnitProcedures number) h =
-    let first = and_parts (not (has_unit acts.procedure) && has_chart acts.procedure) _ kinds in
-    let second = and_parts (list_all (λ u. has_unit u && has_chart u) acts.unit_procedures.items) _ first.1 in
-    none_in (λ u. has_unit u && has_chart u) (λ a e. (and_parts (has_unit a) (has_chart a) e).1) acts.unit_procedures.items second.0 number
-others_run_none acts kinds (kind.Act Operations number) h =
-    let first = and_parts (not (has_unit acts.procedure) && has_chart acts.procedure) _ kinds in
-    let second = and_parts (list_all (λ u. has_unit u && has_chart u) acts.unit_procedures.items) _ first.1 in
-    let third = and_parts (list_all (λ o. not (has_unit o) && has_chart o) acts.operations.items) _ second.1 in
-    none_in (λ o. not (has_unit o) && has_chart o) (λ a e. (and_parts (not (has_unit a)) (has_chart a) e).1) acts.operations.items third.0 number
-others_run_none acts kinds (kind.Act Phases number) h = absurd (h number refl)
-others_run_none acts kinds kind.Seq h = refl
-others_run_none acts kinds kind.Par h = refl
-others_run_none acts kinds kind.Sel h = refl
-others_run_none acts kinds (kind.Loop turns) h = refl
+others_run_none acts kinds k h = grind (arith, and_parts, runs_none, none_in)

@@ -9,7 +9,6 @@ use Rattle.batch_recipe.specs.Procedure.{procedure_nodes}
 use Rattle.batch_recipe.specs.Tree.{Place, Tree, act, skip, seq, par, sel, loop, Task, runs, follows, Trees, no_trees, tree, Choices, otherwise, choice}
 use Rattle.batch_recipe.specs.declared.act.Act.{Act}
 use Rattle.batch_recipe.specs.declared.act.Work.{Work}
-use Rattle.batch_recipe.specs.declared.act.Work.TheVariants.{Follows, Runs}
 use Rattle.batch_recipe.specs.declared.acts.Acts.{Acts}
 use Rattle.batch_recipe.proofs.Below.{stands}
 use Rattle.batch_recipe.proofs.Linking.{AreFrom}
@@ -71,42 +70,31 @@ mutual
       ∙ sym (run_along-append (nodes (child p i) above t) (nodes_of_choices p above (i + 1) cs)))
 
 work_runs : (trees : Name → Place → Tree) (unit name : Name) (p : Place) (work : Work) → run_by (task_of trees unit name p work) ≡ phase_run work
-work_runs trees unit name p (Follows c) = refl
-work_runs trees unit name p (Runs phase values) = refl
+work_runs trees unit name p work = grind arith
 
 none_runs : (t : Tree) → IsNoAct t → run_at t ≡ []
-none_runs (act s w) h = absurd h
-none_runs skip h = refl
-none_runs (seq ts) h = refl
-none_runs (par ts) h = refl
-none_runs (sel cs) h = refl
-none_runs (loop n c t) h = refl
+none_runs t h = grind arith
 
 module _ (acts : Acts) where
   -- what is run at a node is what its act runs
   node_runs : (o : Option Act) (x : Node) → IsActAt unbound acts o x → run_at x.here ≡ phase_at o
-  node_runs None x h = none_runs x.here h
-  node_runs (Some a) x h = ap run_at h.here_is ∙ work_runs _ _ _ _ a.work
+  node_runs o x h = grind (arith, none_runs, work_runs)
 
   nodes_run : (list : ActList) (xs : List Node) → AreActsAt unbound acts list xs → run_along xs ≡ phases_along list
-  nodes_run [] [] h = refl
-  nodes_run [] (x ∷ xs) h = absurd h
-  nodes_run (o ∷ list) [] h = absurd h
   nodes_run (o ∷ list) (x ∷ xs) h = ap₂ (λ ys zs. ys ++ zs) (node_runs o x h.0) (nodes_run list xs h.1)
+  nodes_run list xs h = grind arith
 
   taken : (n : ℕ) (list : ActList) (xs : List Node) → AreActsAt unbound acts list xs → AreActsAt unbound acts (take n list) (take n xs)
   taken zero list xs h = tt
   taken (suc n) [] [] h = tt
-  taken (suc n) [] (x ∷ xs) h = absurd h
-  taken (suc n) (o ∷ list) [] h = absurd h
   taken (suc n) (o ∷ list) (x ∷ xs) h = (h.0, taken n list xs h.1)
+  taken n list xs h = grind arith
 
   dropped : (n : ℕ) (list : ActList) (xs : List Node) → AreActsAt unbound acts list xs → AreActsAt unbound acts (drop n list) (drop n xs)
   dropped zero list xs h = h
   dropped (suc n) [] [] h = tt
-  dropped (suc n) [] (x ∷ xs) h = absurd h
-  dropped (suc n) (o ∷ list) [] h = absurd h
   dropped (suc n) (o ∷ list) (x ∷ xs) h = dropped n list xs h.1
+  dropped n list xs h = grind arith
 
 node_is : (a b : Node) → Some a ≡ Some b → a ≡ b
 node_is a b e = cc

@@ -1,5 +1,5 @@
 -- Units that are known to offer what phase steps run.
-use Rattle.std.proofs.Common.{◌≡◌, ◌≢◌, ◌⊎◌, ◌<◌, ◌≤◌, ℕ, List, length, Option, Some, None, Result, Ok, Err, get_or, set, true, sym, ap, ◌∙◌, subst, arith, inl, inr}
+use Rattle.std.proofs.Common.{◌≡◌, ◌≢◌, ◌⊎◌, ◌<◌, ◌≤◌, ℕ, List, length, Option, Some, None, Result, get_or, set, true, sym, ap, ◌∙◌, subst, arith, inl, inr}
 use Rattle.std.specs.Prelude.{IfOk}
 use Rattle.std.proofs.lemmas.Bool.{cases_eq, cases_lt}
 use Rattle.std.proofs.lemmas.List.{get_or-set_other, get_or-set_same, get_or_past, length-set}
@@ -39,8 +39,4 @@ AreOffered-with c acts units _ unit h offers = h
 pub offered_by_name : (c : equipment.Cell) (acts : Acts) (k : Kind) (a : Act) → act_of acts k ≡ Some a
     → (r : Result Path Rule) → IfOk r (λ within. offers_work c within.unit a.work ≡ true)
     → IfOk r (λ within. (b : Act) → act_of acts k ≡ Some b → offers_work c within.unit b.work ≡ true)
-offered_by_name c acts k a is (Ok within) h = λ b b_is. let same : Some a ≡ Some b = sym is ∙ b_is in subst (λ (x : Act). offers_work c within.unit x.work ≡ true) (some_is a b same) h
-  where
-    some_is : (x y : Act) → Some x ≡ Some y → x ≡ y
-    some_is x y e = cc
-offered_by_name c acts k a is (Err rule) h = tt
+offered_by_name c acts k a is r h = grind arith

@@ -1,11 +1,11 @@
 -- Whether a node surely runs a phase, by what it is and what is known of the nodes below it.
-use Rattle.std.proofs.Common.{◌≡◌, ◌≢◌, ◌⊎◌, inl, inr, ℕ, ◌+◌, ◌<◌, ◌≤◌, List, Bool, true, false, length, Some, slice_get, sym, ap, ◌∙◌, subst, arith}
+use Rattle.std.proofs.Common.{◌≡◌, ◌≢◌, ◌⊎◌, ℕ, ◌+◌, ◌<◌, ◌≤◌, List, Bool, true, false, length, Some, slice_get, sym, ap, ◌∙◌, subst, arith}
 use Rattle.batch_recipe.specs.Children.{AreHere, AreCasesHere, HasBelow}
 use Rattle.batch_recipe.specs.Expanding.{unbound}
 use Rattle.batch_recipe.specs.Links.{IsEntryOf, form_at}
 use Rattle.batch_recipe.specs.Nodes.{Node, node_count}
 use Rattle.batch_recipe.specs.Outlines.{Form, an_act, a_skip, a_seq, a_par, a_sel, a_loop, form_of}
-use Rattle.batch_recipe.specs.Tree.{Tree, act, skip, seq, par, sel, loop, runs, follows, Trees, Choices}
+use Rattle.batch_recipe.specs.Tree.{Tree, Trees, Choices}
 use Rattle.batch_recipe.specs.declared.entry.Entry.{Entry}
 use Rattle.batch_recipe.specs.declared.recipe.Recipe.{Recipe}
 use Rattle.batch_recipe.proofs.Below.{some_count, has_below, ends_within}
@@ -27,15 +27,7 @@ module _ (r : Recipe) (known : List Bool) (node end : ℕ) where
   module _ (is_known : RunsFrom (ns r) known (node + 1)) (b : Bool) where
     -- then it is so of the tree that stands there
     runs_so : (t : Tree) → node + node_count t ≡ end → HasBelow (ns r) node t → Says b (form_at t) → b ≡ surely_runs t
-    runs_so (act s (runs phase)) ends h (inl g) = g.1
-    runs_so (act s (runs phase)) ends h (inr g) = absurd (g.0 (omega (arith, ends)))
-    runs_so (act s (follows name t)) ends h (inl g) = absurd (omega (arith, ends, g.0, some_count t))
-    runs_so (act s (follows name t)) ends h (inr g) = known_at r known (node + 1) is_known (node + 1) (omega arith) b g.1 t h
-    runs_so skip ends h g = g
-    runs_so (seq ts) ends h g = g ts (subst (λ m. AreHere (ns r) (node + 1) m ts) ends h)
-    runs_so (par ts) ends h g = g ts (subst (λ m. AreHere (ns r) (node + 1) m ts) ends h)
-    runs_so (sel cs) ends h g = g cs (subst (λ m. AreCasesHere (ns r) (node + 1) m cs) ends h)
-    runs_so (loop n c t) ends h g = known_at r known (node + 1) is_known (node + 1) (omega arith) b g t h
+    runs_so t e h g = grind (arith, some_count, known_at)
 
 -- of the entry that stands for a node
 module _ (r : Recipe) (node : ℕ) (e : Entry) (read : slice_get r.outline.entries.items node ≡ Some e) where
@@ -51,12 +43,7 @@ module _ (r : Recipe) (node : ℕ) (e : Entry) (read : slice_get r.outline.entri
   chart_within long = omega (arith, long, it.shaped.ended, some_count it.at.here, end_within)
 
   long_loop : (t : Tree) → form_at t ≡ a_loop → 1 < node_count t
-  long_loop (act s w) f = absurd cc
-  long_loop skip f = absurd cc
-  long_loop (seq ts) f = absurd cc
-  long_loop (par ts) f = absurd cc
-  long_loop (sel cs) f = absurd cc
-  long_loop (loop n c t) f = omega (arith, some_count t)
+  long_loop t f = grind (arith, some_count)
 
   pub body_within : form_of e.kind ≡ a_loop → node + 1 < length (ns r)
   body_within f = omega (arith, long_loop it.at.here (sym it.shaped.formed ∙ f), it.shaped.ended, end_within)

@@ -1,5 +1,5 @@
 -- A recipe that breaks no rule in any tried binding has candidates, and is cleared.
-use Rattle.std.proofs.Common.{◌≡◌, ℕ, ◌+◌, Bool, true, false, IsTrue, List, [], ◌∷◌, Option, Some, None, refl, sym, ap, ◌∙◌, subst, inl, inr}
+use Rattle.std.proofs.Common.{arith, ◌≡◌, ℕ, ◌+◌, Bool, true, false, IsTrue, List, [], ◌∷◌, Option, Some, None, refl, sym, ap, ◌∙◌, subst, inl, inr}
 use Rattle.std.specs.Prelude.{option_and_then}
 use Rattle.std.specs.Cmp.Lexicographic.{bytes_decides}
 use Rattle.std.proofs.lemmas.Bool.{or_cases}
@@ -38,12 +38,11 @@ module _ (F : Name → Place → Tree) (P : Part → Type 0) (above : List Name)
   mutual
     pub at_label : (p : Place) (d : Diagram) → Each P (parts in_procedure p above (expanded F p d)) → Has (labels d) name → Somewhere
     at_label p (chart.label own) h (inl e) = (p, subst (λ n. Each P (parts in_procedure p above (F n p))) e h)
-    at_label p (chart.label own) h (inr m) = absurd m
-    at_label p chart.skip h m = absurd m
     at_label p (chart.seq ds) h m = at_branch p 0 ds h.1 m
     at_label p (chart.par ds) h m = at_branch p 0 ds h.1 m
     at_label p (chart.sel cs) h m = at_case p 0 cs h.1 m
     at_label p (chart.loop turns until d) h m = at_label (child p 0) d h.1 m
+    at_label p d h m = grind arith
 
     at_branch : (p : Place) (i : ℕ) (ds : Diagrams) → Each P (parts_of_each in_procedure p above i (expanded_each F p i ds)) → Has (labels_of_each ds) name → Somewhere
     at_branch p i chart.none h m = absurd m

@@ -71,16 +71,14 @@ module _ (ws : List Way) where
 
   both_under : (xs ys : List Way) (ss rr : List Shape) → AreUnder xs ss → AreUnder ys rr → AreUnder (xs ++ ys) (ss ++ rr)
   both_under [] ys [] rr h g = g
-  both_under [] ys (s ∷ ss) rr h g = absurd h
-  both_under (x ∷ xs) ys [] rr h g = absurd h
   both_under (x ∷ xs) ys (s ∷ ss) rr h g = (h.0, both_under xs ys ss rr h.1 g)
+  both_under xs ys ss rr h g = grind arith
 
   under_at : (xs : List Way) (ss : List Shape) → AreUnder xs ss → (j : ℕ) (s : Shape) → slice_get ss j ≡ Some s → (w : Way) × (slice_get xs j ≡ Some w) × IsUnder w s
   under_at [] [] h j s is = let bad : None ≡ Some s = is in cc
-  under_at [] (r ∷ ss) h j s is = absurd h
-  under_at (x ∷ xs) [] h j s is = absurd h
   under_at (x ∷ xs) (r ∷ ss) h zero s is = let e : r ≡ s = cc in (x, refl, subst (λ (q : Shape). IsUnder x q) e h.0)
   under_at (x ∷ xs) (r ∷ ss) h (suc j) s is = under_at xs ss h.1 j s is
+  under_at xs ss h j s is = grind arith
 
   mutual
     -- the tree stands at n, as child i of the node u

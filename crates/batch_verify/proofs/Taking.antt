@@ -1,5 +1,5 @@
 -- Who takes a role in a numbered binding, and how many there are.
-use Rattle.std.proofs.Common.{◌≡◌, ℕ, true, false, ◌≤◌, max, List, length, filter, position, Some, None, sym, ap, ◌∙◌, arith}
+use Rattle.std.proofs.Common.{◌≡◌, ℕ, true, false, ◌≤◌, max, List, length, position, Some, None, sym, ap, ◌∙◌, arith}
 use Rattle.std.specs.List.{slice_index_or}
 use Rattle.std.proofs.lemmas.Bool.{false_from_ne_true}
 use Rattle.std.proofs.Math.Nat.{le-max_left, le-max_right, max-le}
@@ -7,7 +7,6 @@ use Rattle.std.proofs.lemmas.List.{length-map}
 use Rattle.std.proofs.lemmas.List.Sums.{length-filter, count_by-le-length}
 use Rattle.batch_cell.specs.LookUps.{units_of, resources_of, units_of_class, is_of_class}
 use Rattle.batch_cell.specs.declared.cell.Cell as equipment
-use Rattle.batch_cell.specs.declared.unit.Unit.{Unit}
 use Rattle.batch_recipe.specs.Conditions.{Name, same_name}
 use Rattle.batch_recipe.specs.WellFormed.{is_among}
 use Rattle.batch_verify.specs.Bindings.{nobody}
@@ -18,12 +17,7 @@ use Rattle.batch_verify.proofs.RankLemmas.{is_none-some}
 use Rattle.batch_verify.proofs.Tried.{nobody-apart}
 
 pub max_joined : (a b c : ℕ) → max (max a b) c ≡ max a (max b c)
-max_joined a b c =
-    let left : max (max a b) c ≤ max a (max b c) =
-    max-le (max-le (le-max_left a (max b c)) (omega (arith, le-max_left b c, le-max_right a (max b c)))) (omega (arith, le-max_right b c, le-max_right a (max b c))) in
-    let right : max a (max b c) ≤ max (max a b) c =
-    max-le (omega (arith, le-max_left a b, le-max_left (max a b) c)) (max-le (omega (arith, le-max_right a b, le-max_left (max a b) c)) (le-max_right (max a b) c)) in
-    omega (arith, left, right)
+max_joined a b c = grind (arith, le-max_left a (max b c), le-max_left b c, le-max_right a (max b c), le-max_right b c, le-max_left a b, le-max_left (max a b) c, le-max_right a b, le-max_right (max a b) c, max-le)
 
 -- nobody is no resource, by number
 pub nobody_unknown : (names : List Name) → position (same_name (nobody names)) names ≡ None
@@ -42,10 +36,4 @@ module _ (c : equipment.Cell) where
   nobody_ranked ranks = ap (λ o. elim o [ None ↦ 0 | Some number ↦ slice_index_or ranks number 0 ]) (nobody_unknown (resources_of c))
 
   pub few_candidates : (class : Name) → length (units_of_class c class) ≤ length c.units.items
-  few_candidates class =
-      omega (
-        arith,
-        length-map (filter (is_of_class class) c.units.items) (λ (u : Unit). u.name),
-        length-filter (is_of_class class) c.units.items,
-        count_by-le-length (is_of_class class) c.units.items,
-      )
+  few_candidates class = grind (arith, length-filter (is_of_class class) c.units.items, count_by-le-length (is_of_class class) c.units.items, length-map)

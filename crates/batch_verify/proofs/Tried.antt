@@ -212,9 +212,7 @@ module _ (c : equipment.Cell) where
       label_names : (names : List Name) (name : Name) (a : Act) (role : Name) → Has names name → act_named recipe.acts.unit_procedures.items name ≡ Some a → a.unit ≡ Some (by_role role)
           → name_role recipe.acts.unit_procedures.items names role ≡ true
       label_names [] name a role m found takes = absurd m
-      label_names (first ∷ names) name a role (inl e) found takes =
-          or_left (is_role (role_by first) role) (name_role recipe.acts.unit_procedures.items names role)
-          (ap (λ n. is_role (role_by n) role) e ∙ ap (λ o. is_role (option_and_then role_of o) role) found ∙ ap (λ o. is_role (role_in o) role) takes ∙ itself role)
+      label_names (first ∷ names) name a role (inl e) found takes = grind (arith, itself role, or_left)
       label_names (first ∷ names) name a role (inr m) found takes =
           or_right (is_role (role_by first) role) (name_role recipe.acts.unit_procedures.items names role) (label_names names name a role m found takes)
 

@@ -1,5 +1,5 @@
 -- The act of each node, where its way says.
-use Rattle.std.proofs.Common.{◌≡◌, ℕ, zero, suc, ◌+◌, ◌++◌, true, List, [], ◌∷◌, Option, Some, None, slice_get, sym, ap₂, refl, subst}
+use Rattle.std.proofs.Common.{arith, ◌≡◌, ℕ, zero, suc, ◌+◌, ◌++◌, true, List, [], ◌∷◌, Option, Some, None, slice_get, sym, ap₂, refl, subst}
 use Rattle.batch_recipe.specs.ActsAtNodes.{ActList, acts_along, acts_along_each, acts_along_cases, acts_below, acts_from, acts_named, procedure_acts, IsNoAct}
 use Rattle.batch_recipe.specs.Conditions.{Name}
 use Rattle.batch_recipe.specs.Diagram.{Diagram, label, skip, seq, par, sel, loop, Diagrams, none, more, Cases, otherwise, when, diagram_of}
@@ -9,17 +9,15 @@ use Rattle.batch_recipe.specs.Nodes.{child}
 use Rattle.batch_recipe.specs.Procedure.{table_at, tables_from, level_below}
 use Rattle.batch_recipe.specs.Tree as tree
 use Rattle.batch_recipe.specs.Tree.{Place, Tree, Step, Task}
-use Rattle.batch_recipe.specs.WellFormed.{has_unit, has_chart, are_kinds}
+use Rattle.batch_recipe.specs.WellFormed.{are_kinds}
 use Rattle.batch_recipe.specs.declared.act.Act.{Act}
-use Rattle.batch_recipe.specs.declared.act.UnitChoice.{UnitChoice}
 use Rattle.batch_recipe.specs.declared.act.Work.{Work}
 use Rattle.batch_recipe.specs.declared.act.Work.TheVariants.{Follows, Runs}
 use Rattle.batch_recipe.specs.declared.acts.Acts.{Acts}
 use Rattle.batch_recipe.specs.declared.acts.LabelTable as table
 use Rattle.batch_recipe.specs.declared.acts.LabelTable.TheVariants.{UnitProcedures, Operations, Phases}
-use Rattle.std.proofs.Common.{false, not}
 use Rattle.std.proofs.lemmas.Bool.{and_parts}
-use Rattle.batch_model.specs.Cleared.{Level, is_procedure, in_procedure, in_unit_procedure, in_operation, below, Part, part, parts, parts_within, parts_of_each, parts_of_choices}
+use Rattle.batch_model.specs.Cleared.{Level, is_procedure, below, Part, part, parts, parts_within, parts_of_each, parts_of_choices}
 use Rattle.batch_verify.specs.Walking.{is_of_level, level_of}
 use Rattle.batch_verify.specs.Ways.{Spot, Way, way, ways, ways_within, ways_of_each, ways_of_choices, spot_below, spot_within, unit_within, bound_ways, bound_parts}
 use Rattle.batch_verify.proofs.Levels.{below_is, named_kind, procedure_kind}
@@ -49,39 +47,14 @@ AreOn bound _ _ _ = ⊥
 -- A unit procedure's first need is its unit, and no other act has one.
 unit_is : (bound : Binding) (l : Level) (a : Act) → is_of_level l a ≡ true → (unit : Name)
     → unit_within l unit (asked_by (unit_with bound a.unit) a.needs.items) ≡ unit_below unit (unit_with bound a.unit)
-unit_is bound is_procedure a kind unit = go a.unit ((and_parts (not (has_unit a)) (has_chart a) kind).0)
-  where
-    go : (o : Option UnitChoice) → not (elim o [ None ↦ false | Some own ↦ true ]) ≡ true → unit ≡ unit_below unit (unit_with bound o)
-    go None h = refl
-    go (Some own) h = let bad : false ≡ true = h in cc
-unit_is bound in_procedure a kind unit = go a.unit ((and_parts (has_unit a) (has_chart a) kind).0)
-  where
-    go : (o : Option UnitChoice) → elim o [ None ↦ false | Some own ↦ true ] ≡ true
-        → unit_within in_procedure unit (asked_by (unit_with bound o) a.needs.items) ≡ unit_below unit (unit_with bound o)
-    go None h = let bad : false ≡ true = h in cc
-    go (Some own) h = refl
-unit_is bound in_unit_procedure a kind unit = go a.unit ((and_parts (not (has_unit a)) (has_chart a) kind).0)
-  where
-    go : (o : Option UnitChoice) → not (elim o [ None ↦ false | Some own ↦ true ]) ≡ true → unit ≡ unit_below unit (unit_with bound o)
-    go None h = refl
-    go (Some own) h = let bad : false ≡ true = h in cc
-unit_is bound in_operation a kind unit = go a.unit ((and_parts (not (has_unit a)) (not (has_chart a)) kind).0)
-  where
-    go : (o : Option UnitChoice) → not (elim o [ None ↦ false | Some own ↦ true ]) ≡ true → unit ≡ unit_below unit (unit_with bound o)
-    go None h = refl
-    go (Some own) h = let bad : false ≡ true = h in cc
+unit_is bound l a kind unit = grind (arith, and_parts)
 
 module _ (bound : Binding) (acts : Acts) (kinds : are_kinds acts ≡ true) where
   both : (ws : List Way) (xs : List Part) (os : ActList) (vs : List Way) (ys : List Part) (ps : ActList) → AreOn bound ws xs os → AreOn bound vs ys ps
       → AreOn bound (ws ++ vs) (xs ++ ys) (os ++ ps)
   both [] [] [] vs ys ps h g = g
-  both [] [] (o ∷ os) vs ys ps h g = absurd h
-  both [] (x ∷ xs) [] vs ys ps h g = absurd h
-  both [] (x ∷ xs) (o ∷ os) vs ys ps h g = absurd h
-  both (w ∷ ws) [] [] vs ys ps h g = absurd h
-  both (w ∷ ws) [] (o ∷ os) vs ys ps h g = absurd h
-  both (w ∷ ws) (x ∷ xs) [] vs ys ps h g = absurd h
   both (w ∷ ws) (x ∷ xs) (o ∷ os) vs ys ps h g = (h.0, both ws xs os vs ys ps h.1 g)
+  both ws xs os vs ys ps h g = grind arith
 
   -- the nodes that a label expands to, on a unit
   abbrev Labels : Spot → (Name → Place → Tree) → (Name → ActList) → Type 0
@@ -183,17 +156,9 @@ module _ (bound : Binding) (acts : Acts) (kinds : are_kinds acts ≡ true) where
   on_at : (ws : List Way) (xs : List Part) (os : ActList) → AreOn bound ws xs os → (k : ℕ) (w : Way) (o : Option Act) → slice_get ws k ≡ Some w → slice_get os k ≡ Some o
       → (x : Part) × (slice_get xs k ≡ Some x) × IsOn bound w x o
   on_at [] [] [] h k w o is at = let bad : None ≡ Some w = is in cc
-  on_at [] [] (q ∷ os) h k w o is at = absurd h
-  on_at [] (x ∷ xs) [] h k w o is at = absurd h
-  on_at [] (x ∷ xs) (q ∷ os) h k w o is at = absurd h
-  on_at (v ∷ ws) [] [] h k w o is at = absurd h
-  on_at (v ∷ ws) [] (q ∷ os) h k w o is at = absurd h
-  on_at (v ∷ ws) (x ∷ xs) [] h k w o is at = absurd h
-  on_at (v ∷ ws) (x ∷ xs) (q ∷ os) h zero w o is at =
-      let e : v ≡ w = cc in
-      let f : q ≡ o = cc in
-      (x, refl, subst (λ (u : Way). IsOn bound u x o) e (subst (λ (r : Option Act). IsOn bound v x r) f h.0))
+  on_at (v ∷ ws) (x ∷ xs) (q ∷ os) h zero w o is at = grind arith
   on_at (v ∷ ws) (x ∷ xs) (q ∷ os) h (suc k) w o is at = on_at ws xs os h.1 k w o is at
+  on_at ws xs os h k w o is at = grind arith
 
   -- the node with this number stands on its way
   pub part_on : (k : ℕ) (w : Way) (o : Option Act) → slice_get (bound_ways bound acts) k ≡ Some w → slice_get (procedure_acts acts) k ≡ Some o

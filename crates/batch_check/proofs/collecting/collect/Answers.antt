@@ -25,9 +25,7 @@ abbrev entry : After-path_above-above → Entry
 entry c = get_or c.deref-entry-items.result.now c.loop-node.node (record { kind = kind.Skip; end = 0; parent = 0; child = 0; needs = 0; detail = 0 })
 
 is_entry : (c : After-path_above-above) → slice_get c.args.site.now.recipe.now.outline.entries.items c.loop-node.node ≡ Some (entry c)
-is_entry c =
-    ap (λ es. slice_get es c.loop-node.node) (sym c.deref-entry-items.ensures.value)
-    ∙ slice_get-get_or c.deref-entry-items.result.now c.loop-node.node (record { kind = kind.Skip; end = 0; parent = 0; child = 0; needs = 0; detail = 0 }) c.loop-node-test.true
+is_entry c = grind (arith, slice_get-get_or)
 
 above_is : (c : After-path_above-above) → c.path_above-above.result.now ≡ get_or c.loop-node.paths.items (entry c).parent c.top-top.result
 above_is c = c.path_above-above.ensures ∙ ap (λ (paths : List Path). get_or paths (entry c).parent c.top-top.result) c.deref.ensures.value

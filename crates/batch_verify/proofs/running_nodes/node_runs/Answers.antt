@@ -22,8 +22,7 @@ told_here c = told c.args.recipe.now c.args.node c.index-entry.result.now (was_r
 
 -- a node of either of these kinds is an act
 act_form : (k : Kind) → (k ≡ kind.Procedure) ⊎ ((level : LabelTable) × (number : ℕ) × (k ≡ kind.Act level number)) → form_of k ≡ an_act
-act_form k (inl is) = ap form_of is
-act_form k (inr h) = ap form_of h.2
+act_form k h = grind arith
 
 pub index-entry-requires : goal.index-entry-requires
 index-entry-requires c = omega (arith, c.from.ensures, as_many c.args.recipe.now, c.requires.within)

@@ -21,8 +21,7 @@ returns-then-runs-from c =
     (bool_at c.args.runs.now c.loop-node.node c.from.result true (omega (arith, c.requires.known.0, c.requires.within, c.loop-node-test.true)) c.from.ensures c.if-runs-from.true)
 
 was_read : (c : After-index) → slice_get c.args.recipe.now.outline.entries.items c.loop-node.node ≡ Some c.index.result.now
-was_read c =
-    read_at c.args.recipe.now c.loop-node.node c.from-in-loop-node.result c.index.result.now (omega (arith, c.requires.within, c.loop-node-test.true)) c.from-in-loop-node.ensures c.index.ensures
+was_read c = grind (arith, read_at)
 
 pub loop-node-preserved : goal.loop-node-preserved
 loop-node-preserved c =
