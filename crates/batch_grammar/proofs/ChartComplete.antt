@@ -12,7 +12,7 @@ use Rattle.batch_recipe.specs.declared.condition.Cond.{Cond}
 use Rattle.batch_recipe.specs.Diagram.{Diagram, Diagrams, Cases, diagrams_of, cases_of}
 use Rattle.batch_recipe.specs.Diagram as chart
 use Rattle.batch_grammar.specs.declared.firsts.Firsts.{Firsts}
-use Rattle.batch_grammar.specs.ChartGrammar.{Offsets, joined, ranged, opens_par, Skips, here, ReadsOp, ReadsTerm, ReadsCond, Reads, ReadsBranches, ReadsCases, IsWideChart}
+use Rattle.batch_grammar.specs.ChartGrammar.{Offsets, joined, ranged, opens_par, Skips, ReadsOp, ReadsTerm, ReadsCond, Reads, ReadsBranches, ReadsCases, IsWideChart}
 use Rattle.batch_grammar.specs.ChartGrammar as spec
 use Rattle.batch_grammar.specs.ChartMachine.{Frame, in_seq, in_par, in_case, in_else, in_loop, Test, of_sel, of_loop, Want, a_chart, open_seq, open_par, open_sel, open_loop, a_turns, after_turns, a_name, an_operator, an_operand, after_condition, after_else, after_chart, State, between, start, finish, step, steps, begin, no_firsts, first_or, noted, condition_of, take_word, take_chart_word, take_name_word, take_operand_word, deeper}
 use Rattle.batch_grammar.proofs.ChartBytes.{letter-not_equals, digit-not_equals}
@@ -125,9 +125,7 @@ room frames depth h = grind (arith, nat_tests)
 keyword : (bytes : List ℕ) (w : Want) {s : List ℕ} (s1 : List ℕ) (total depth : ℕ) (frames : List Frame) (o : Firsts)
     → Skips s (bytes ++ s1) → IsName bytes → IsFree s1 → length frames + suc depth ≡ MAX_DEPTH → take_word a_chart bytes (length frames) ≡ deeper (length frames) w
     → runs total s (between a_chart frames o) ≡ runs total s1 (between w frames o)
-keyword bytes w s1 total depth frames o skips name free deep e =
-    let fits = room frames depth deep in
-    runs-word_token bytes s1 w total a_chart frames o skips name refl free (e ∙ rw fits refl)
+keyword bytes w s1 total depth frames o skips name free deep e = grind (arith, room frames depth deep, runs-word_token)
 
 -- ---- charts
 
@@ -245,16 +243,12 @@ complete (spec.whole {text = text} {t = t} {d = tree} {offsets = offsets} reads 
 
 -- the chart of a text, where there is one, and whether a number is out of range
 pub one_chart : {text : List ℕ} {f g : Offsets} {a b : Diagram} → IsWideChart text a f → IsWideChart text b g → (a ≡ b) × (noted no_firsts f ≡ noted no_firsts g)
-one_chart {f = f} {g = g} {a = a} {b = b} x y =
-    let same = sym (complete x) ∙ complete y in
-    let pair : ◌≡◌ {A = Diagram × Firsts} (a, noted no_firsts f) (b, noted no_firsts g) = cc in
-    (ap (λ p. p.0) pair, ap (λ p. p.1) pair)
+one_chart {f = f} {g = g} {a = a} {b = b} x y = grind (arith, complete x, complete y)
 
 -- ---- fronts of texts
 
 both : (o : Option State) (f g : State → Option (Diagram × Firsts)) (h : State → Option State) → ((x : State) → f x ≡ option_and_then g (h x)) → option_and_then f o ≡ option_and_then g (option_and_then h o)
-both None f g h e = refl
-both (Some x) f g h e = e x
+both o f g h e = grind arith
 
 -- a front of what is left, and then the rest
 pub runs-steps : (s t : List ℕ) (place total : ℕ) (st : State) → place + length (s ++ t) ≡ total → runs total (s ++ t) st ≡ option_and_then (runs total t) (steps place s st)
@@ -274,10 +268,4 @@ no_chart_begins front rest offsets tree stops wide =
 -- where the machine does not end well, the text is of no chart
 pub no_chart : (text : List ℕ) (offsets : Offsets) (tree : Diagram) (st : State) → steps 0 text start ≡ Some st → finish (length text) st ≡ None → IsWideChart text tree offsets → ⊥
 unfolding runs
-no_chart text offsets tree st goes stops wide =
-    let total = length text in
-    let here : total - length {A = ℕ} [] ≡ total = omega arith in
-    let e : ◌≡◌ {A = Option (Diagram × Firsts)} (Some (tree, noted no_firsts offsets)) None =
-    sym (complete wide) ∙ ap (λ s. runs total s start) (sym (append-nil text)) ∙ runs-steps text [] 0 total start (omega (arith, length-append text []))
-    ∙ ap (option_and_then (runs total [])) goes ∙ ap (λ p. finish p st) here ∙ stops in
-    cc
+no_chart text offsets tree st goes stops wide = grind (arith, complete wide, append-nil text, runs-steps text, length-append text)

@@ -1,5 +1,5 @@
 -- What the grammar says of a chart.
-use Rattle.std.proofs.Common.{◌≡◌, ℕ, zero, suc, ◌-◌, ◌<◌, ◌≤◌, List, [], ◌∷◌, ◌++◌, Bool, true, false, ◌&&◌, ◌↔◌, length, refl, sym, ap, ◌∙◌, subst, arith}
+use Rattle.std.proofs.Common.{◌≡◌, ℕ, zero, suc, ◌-◌, ◌<◌, ◌≤◌, List, [], ◌∷◌, ◌++◌, Bool, true, ◌&&◌, ◌↔◌, length, refl, sym, ap, ◌∙◌, subst, arith}
 use Rattle.std.specs.Prelude.{nat_le, nat_lt, slice_index_or, if◌then◌else◌}
 use Rattle.std.specs.List.{list_all, AllByRecursion}
 use Rattle.std.proofs.lemmas.List.Folds.{list_all-append}
@@ -13,7 +13,7 @@ use Rattle.batch_recipe.specs.declared.condition.Term.{Term}
 use Rattle.batch_recipe.specs.declared.scaling.TheConstants.{MAX_VALUE}
 use Rattle.batch_recipe.specs.Diagram.{Diagram, seq, sel, Diagrams, none, more, Cases, when}
 use Rattle.batch_recipe.specs.WellFormed.{is_among, is_condition, is_chart, are_charts, are_cases, has_no_par}
-use Rattle.batch_grammar.specs.ChartGrammar.{Offsets, joined, ranged, IsLabel, ReadsTerm, ReadsCond, Reads, ReadsBranches, ReadsCases, IsWideChart, IsChartWithPars, IsChart}
+use Rattle.batch_grammar.specs.ChartGrammar.{Offsets, IsLabel, ReadsTerm, ReadsCond, Reads, ReadsBranches, ReadsCases, IsChartWithPars, IsChart}
 use Rattle.batch_grammar.specs.ChartGrammar as spec
 use Rattle.batch_grammar.specs.ChartForm.{labels_of, labels_of_all, labels_of_cases, names_compared, values_of, values_of_all, values_of_cases, IsFormed}
 
@@ -43,12 +43,10 @@ agree_both a b x y f g = (
 )
 
 and_with_true : (x : Bool) → x ≡ (x && true)
-and_with_true true = refl
-and_with_true false = refl
+and_with_true x = grind arith
 
 term_no_pars : {total : ℕ} {s t : List ℕ} {x : Term} {o : Offsets} → ReadsTerm total s t x o → o.pars ≡ []
-term_no_pars (spec.named skips is_label) = refl
-term_no_pars (spec.number digits skips number) = refl
+term_no_pars h = grind arith
 
 condition_no_pars : {total : ℕ} {s t : List ℕ} {c : Cond} {o : Offsets} → ReadsCond total s t c o → o.pars ≡ []
 condition_no_pars (spec.condition skips is_label op x) = term_no_pars x
@@ -135,8 +133,7 @@ mutual
 -- ---- limits
 
 in_range : (b : Bool) (n : ℕ) → (if b then [] else n ∷ []) ≡ [] → b ≡ true
-in_range true n h = refl
-in_range false n h = absurd cc
+in_range b n h = grind arith
 
 -- every name of two lists, and of each
 each : (p : Name → Bool) (xs ys : List Name) → list_all p (xs ++ ys) ≡ true → (list_all p xs ≡ true) × (list_all p ys ≡ true)
@@ -147,14 +144,10 @@ count none = 0
 count (more d ds) = suc (count ds)
 
 some_branch : {total depth : ℕ} {s t : List ℕ} {ds : Diagrams} {o : Offsets} → ReadsBranches total depth s t ds o → 1 ≤ count ds
-some_branch (spec.last reads closes) = omega arith
-some_branch (spec.next reads comma branches) = omega arith
+some_branch h = grind arith
 
 deeper : (depth : ℕ) (a : ℕ → Bool) → a depth ≡ true → (nat_lt 0 (suc depth) && a (suc depth - 1)) ≡ true
-deeper depth a h =
-    let room : nat_lt 0 (suc depth) ≡ true = grind (arith, nat_tests) in
-    let down : suc depth - 1 ≡ depth = omega arith in
-    rw (room, down) h
+deeper depth a h = grind (arith, nat_tests)
 
 module _ (labels values : List Name) where
   -- the names of a chart are declared

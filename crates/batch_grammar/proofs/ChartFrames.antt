@@ -5,7 +5,7 @@ use Rattle.std.specs.Global.{Global}
 use Rattle.batch_recipe.specs.declared.condition.Cond.{Cond}
 use Rattle.batch_recipe.specs.declared.chart.Chart.{Chart, the_lemmas}
 use Rattle.batch_recipe.specs.declared.chart.Chart as Made
-use Rattle.batch_recipe.specs.Diagram.{Diagram, diagram_of, diagrams_of, cases_of}
+use Rattle.batch_recipe.specs.Diagram.{diagram_of, diagrams_of, cases_of}
 use Rattle.batch_recipe.specs.Diagram as chart
 use Rattle.batch_grammar.specs.declared.frame.Frame.{Frame}
 use Rattle.batch_grammar.specs.declared.frame.Frame.TheVariants as frame
@@ -26,9 +26,7 @@ no_frame (f ∷ fs) h = absurd cc
 
 -- the innermost frame, before those around it
 pub innermost : (frames : List Frame) (n : ℕ) (d : Frame) → n + 1 ≡ length frames → frames_view frames ≡ frame_view (get_or frames n d) ∷ frames_view (take n frames)
-innermost frames n d last =
-    let whole : frames ≡ take n frames ++ get_or frames n d ∷ [] = sym (take_all (n + 1) frames (omega (arith, last))) ∙ take_more frames n d (omega (arith, last)) in
-    ap frames_view whole ∙ frames_view_last (take n frames) (get_or frames n d)
+innermost frames n d last = grind (arith, frames_view_last (take n frames) (get_or frames n d), take_all, take_more)
 
 -- the innermost frame has changed, and those around it have not
 pub innermost_set : (frames : List Frame) (n : ℕ) (f : Frame) → n + 1 ≡ length frames → frames_view (set frames n f) ≡ frame_view f ∷ frames_view (take n frames)
@@ -59,9 +57,7 @@ comma_in_par frames n v w c last at added =
     rw (before, innermost_set frames n (frame.Par w) last, charts) refl
 
 pub cases_view_last : (cases : List (Cond × Chart)) (c : Cond) (t : Chart) → cases_view (cases ++ (c, t) ∷ []) ≡ cases_view cases ++ (c, diagram_of t) ∷ []
-cases_view_last cases c t =
-    let seen : Cond × Chart → Cond × Diagram = λ p. (p.0, diagram_of p.1) in
-    map-append seen cases ((c, t) ∷ [])
+cases_view_last cases c t = grind (arith, map-append)
 
 pub diagram_of_seq : (v : Box (Vec Chart Global) Global) → diagram_of (Made.Seq v) ≡ chart.seq (diagrams_of (diagrams_view v.value.items))
 diagram_of_seq v = search (rules, the_lemmas)

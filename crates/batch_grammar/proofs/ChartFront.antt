@@ -89,16 +89,7 @@ unfolding runs step begin finish in_token
 name_goes a_chart bytes frames takes e = let r = closing frames (chart.label bytes) in (32 ∷ r.0, λ total o. rw e (r.1 total o))
 name_goes (a_name test) bytes frames takes e = let r = from_operator test bytes frames in (32 ∷ r.0, λ total o. rw e (r.1 total o))
 name_goes (an_operand test n op) bytes frames takes e = let r = from_condition test (condition_of n op (term.Named bytes)) frames in (32 ∷ r.0, λ total o. rw e (r.1 total o))
-name_goes open_seq bytes frames takes e = absurd cc
-name_goes open_par bytes frames takes e = absurd cc
-name_goes open_sel bytes frames takes e = absurd cc
-name_goes open_loop bytes frames takes e = absurd cc
-name_goes a_turns bytes frames takes e = absurd cc
-name_goes (after_turns n) bytes frames takes e = absurd cc
-name_goes (an_operator test n) bytes frames takes e = absurd cc
-name_goes (after_condition test c) bytes frames takes e = absurd cc
-name_goes (after_else us) bytes frames takes e = absurd cc
-name_goes (after_chart t) bytes frames takes e = absurd cc
+name_goes w bytes frames takes e = grind arith
 
 word_goes : (w : Want) (bytes : List ℕ) (frames : List Frame) → takes_word w ≡ true → CanEnd (letters bytes) w frames
 word_goes w bytes frames takes =
@@ -126,17 +117,7 @@ digits_go a_turns bytes frames takes = let r = from_turns (number_of bytes) fram
 digits_go (an_operand test n op) bytes frames takes =
     let r = from_condition test (condition_of n op (term.Number (number_of bytes))) frames in
     (32 ∷ r.0, λ total o. r.1 total (noted o (number_offsets (an_operand test n op) (number_of bytes) (total - length (32 ∷ r.0) - length bytes))))
-digits_go a_chart bytes frames takes = absurd cc
-digits_go open_seq bytes frames takes = absurd cc
-digits_go open_par bytes frames takes = absurd cc
-digits_go open_sel bytes frames takes = absurd cc
-digits_go open_loop bytes frames takes = absurd cc
-digits_go (after_turns n) bytes frames takes = absurd cc
-digits_go (a_name test) bytes frames takes = absurd cc
-digits_go (an_operator test n) bytes frames takes = absurd cc
-digits_go (after_condition test c) bytes frames takes = absurd cc
-digits_go (after_else us) bytes frames takes = absurd cc
-digits_go (after_chart t) bytes frames takes = absurd cc
+digits_go w bytes frames takes = grind arith
 
 operator_goes : (w : Want) (frames : List Frame) → takes_operator w ≡ true → CanEnd less w frames × CanEnd more w frames × CanEnd slash w frames
 unfolding runs step begin finish in_token
@@ -145,18 +126,7 @@ operator_goes (an_operator test n) frames takes =
     let b = from_operand test n Greater frames in
     let c = from_operand test n NotEqual frames in
     ((32 ∷ a.0, a.1), (32 ∷ b.0, b.1), (61 ∷ c.0, c.1))
-operator_goes a_chart frames takes = absurd cc
-operator_goes open_seq frames takes = absurd cc
-operator_goes open_par frames takes = absurd cc
-operator_goes open_sel frames takes = absurd cc
-operator_goes open_loop frames takes = absurd cc
-operator_goes a_turns frames takes = absurd cc
-operator_goes (after_turns n) frames takes = absurd cc
-operator_goes (a_name test) frames takes = absurd cc
-operator_goes (an_operand test n op) frames takes = absurd cc
-operator_goes (after_condition test c) frames takes = absurd cc
-operator_goes (after_else us) frames takes = absurd cc
-operator_goes (after_chart t) frames takes = absurd cc
+operator_goes w frames takes = grind arith
 
 pub can_end : (l : Lexeme) (w : Want) (frames : List Frame) → IsFit l w → CanEnd l w frames
 can_end nothing w frames fit = from_between w frames

@@ -1,5 +1,5 @@
 -- The offsets that are told of a text are the only ones.
-use Rattle.std.proofs.Common.{◌≡◌, ℕ, ◌+◌, ◌<◌, ◌≤◌, List, ◌∷◌, ◌++◌, take, drop, Option, Some, sym, ap, ◌∙◌, subst, append_assoc, inl, inr, arith}
+use Rattle.std.proofs.Common.{◌≡◌, ℕ, ◌+◌, ◌<◌, ◌≤◌, List, ◌++◌, take, drop, sym, ap, ◌∙◌, subst, append_assoc, inl, inr, arith}
 use Rattle.std.proofs.lemmas.List.{take-append-drop, take-take}
 use Rattle.std.proofs.lemmas.Bool.{cases_lt}
 use Rattle.batch_recipe.specs.Diagram.{Diagram}
@@ -9,20 +9,13 @@ use Rattle.batch_grammar.proofs.ChartComplete.{one_chart}
 use Rattle.batch_grammar.proofs.ChartRead.{first_or-none}
 
 pub same_outside : (text : List ℕ) (a b : Diagram) (f g : Offsets) → IsWideChart text a f → IsWideChart text b g → first_of f.outside ≡ first_of g.outside
-same_outside text a b f g x y =
-    sym (first_or-none f.outside) ∙ ap (λ k. k.outside) (one_chart x y).1 ∙ first_or-none g.outside
+same_outside text a b f g x y = grind (arith, first_or-none f.outside, one_chart x y, first_or-none g.outside)
 
 pub same_par : (text : List ℕ) (a b : Diagram) (f g : Offsets) → IsWideChart text a f → IsWideChart text b g → first_of f.pars ≡ first_of g.pars
-same_par text a b f g x y =
-    sym (first_or-none f.pars) ∙ ap (λ k. k.par) (one_chart x y).1 ∙ first_or-none g.pars
+same_par text a b f g x y = grind (arith, first_or-none f.pars, one_chart x y, first_or-none g.pars)
 
 pub one_number : (text : List ℕ) (m n : ℕ) → IsOutsideAt text m → IsOutsideAt text n → m ≡ n
-one_number text m n x y =
-    let a = x.wide in
-    let b = y.wide in
-    let same : ◌≡◌ {A = Option ℕ} (Some m) (Some n) =
-    same_outside text a.0 b.0 (record { outside = m ∷ a.1; pars = a.2 }) (record { outside = n ∷ b.1; pars = b.2 }) a.3 b.3 in
-    cc
+one_number text m n x y = grind (arith, same_outside)
 
 -- the front of the text up to n is the one up to m, and more
 longer_front : (text rest : List ℕ) (m n : ℕ) → m ≤ n → take n text ++ rest ≡ take m text ++ (drop m (take n text) ++ rest)

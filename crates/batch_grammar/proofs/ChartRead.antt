@@ -1,5 +1,5 @@
 -- From the machine's answers to those of the reader of charts.
-use Rattle.std.proofs.Common.{◌≡◌, ℕ, suc, ◌+◌, ◌-◌, ◌<◌, ◌≤◌, List, [], ◌∷◌, ◌++◌, length, get_or, take, drop, Option, Some, None, option_and_then, refl, sym, ap, ◌∙◌, subst, append-nil, arith, length-append, length-take}
+use Rattle.std.proofs.Common.{◌≡◌, ℕ, suc, ◌+◌, ◌<◌, ◌≤◌, List, [], ◌∷◌, ◌++◌, length, get_or, take, drop, Option, Some, None, option_and_then, refl, sym, ap, ◌∙◌, subst, append-nil, arith, length-append, length-take}
 use Rattle.std.proofs.lemmas.List.{take_more, take-append-drop, take_all}
 use Rattle.batch_recipe.specs.Diagram.{Diagram}
 use Rattle.batch_grammar.specs.declared.firsts.Firsts.{Firsts}
@@ -20,8 +20,7 @@ pub record IsAfter (text : List ℕ) (place : ℕ) (st : State) : Type 0 where
 over : (o : Option State) (s t : List ℕ) (place after : ℕ)
     → ((x : State) → steps (place + 1) (s ++ t) x ≡ option_and_then (steps after t) (steps (place + 1) s x))
     → option_and_then (steps (place + 1) (s ++ t)) o ≡ option_and_then (steps after t) (option_and_then (steps (place + 1) s) o)
-over None s t place after h = refl
-over (Some x) s t place after h = h x
+over o s t place after h = grind arith
 
 steps-append : (s t : List ℕ) (place : ℕ) (st : State) → steps place (s ++ t) st ≡ option_and_then (steps (place + length s) t) (steps place s st)
 unfolding steps
@@ -33,19 +32,7 @@ steps-append (b ∷ s) t place st =
 steps-take : (text : List ℕ) (place : ℕ) (st : State) → place < length text → steps 0 (take place text) start ≡ Some st
     → steps 0 (take (place + 1) text) start ≡ step place (get_or text place 0) st
 unfolding steps
-steps-take text place st h goes =
-    let b = get_or text place 0 in
-    let len : length (take place text) ≡ place = omega (arith, length-take place text) in
-    let at : 0 + length (take place text) ≡ place = omega (arith, len) in
-    ap (λ l. steps 0 l start) (take_more text place 0 h)
-    ∙ steps-append (take place text) (b ∷ []) 0 start
-    ∙ ap (option_and_then (steps (0 + length (take place text)) (b ∷ []))) goes
-    ∙ ap (λ p. steps p (b ∷ []) st) at
-    ∙ kept (step place b st)
-  where
-    kept : (o : Option State) → option_and_then (λ x. Some x) o ≡ o
-    kept None = refl
-    kept (Some x) = refl
+steps-take text place st h goes = grind (arith, length-take place text, take_more text place 0 h, steps-append)
 
 pub after_next : (text : List ℕ) (place : ℕ) (st next : State) → place < length text → IsAfter text place st → step place (get_or text place 0) st ≡ Some next → IsAfter text (place + 1) next
 after_next text place st next h so_far e = record {
@@ -88,27 +75,19 @@ stops_at_end text st so_far e = record {
 
 ends_well : (text : List ℕ) (st : State) (found : Diagram × Firsts) → IsAfter text (length text) st → finish (length text) st ≡ Some found → runs (length text) text start ≡ Some found
 unfolding runs
-ends_well text st found so_far e =
-    let total = length text in
-    let here : total - length {A = ℕ} [] ≡ total = omega arith in
-    ap (λ s. runs total s start) (sym (append-nil text)) ∙ runs-steps text [] 0 total start (omega (arith, length-append text []))
-    ∙ ap (option_and_then (runs total [])) (whole_text text st so_far) ∙ ap (λ p. finish p st) here ∙ e
+ends_well text st found so_far e = grind (arith, append-nil text, runs-steps text, length-append text, whole_text text st so_far)
 
 pub first_or-none : (ns : List ℕ) → first_or None ns ≡ first_of ns
-first_or-none [] = refl
-first_or-none (n ∷ ns) = refl
+first_or-none ns = grind arith
 
 no_first : (ns : List ℕ) → first_of ns ≡ None → ns ≡ []
-no_first [] h = refl
-no_first (n ∷ ns) h = absurd cc
+no_first ns h = grind arith
 
 some_first : (ns : List ℕ) (n : ℕ) → first_of ns ≡ Some n → (others : List ℕ) × (ns ≡ n ∷ others)
-some_first [] n h = absurd cc
-some_first (m ∷ ns) n h = let same : m ≡ n = cc in (ns, ap (λ x. x ∷ ns) same)
+some_first ns n h = grind arith
 
 none_first : (ns : List ℕ) → ns ≡ [] → first_of ns ≡ None
-none_first [] h = refl
-none_first (n ∷ ns) h = absurd cc
+none_first ns h = grind arith
 
 -- the machine ends well, and no number was out of range
 pub reads_to_end : (text : List ℕ) (st : State) (tree : Diagram) (firsts : Firsts) → IsAfter text (length text) st → finish (length text) st ≡ Some (tree, firsts) → firsts.outside ≡ None

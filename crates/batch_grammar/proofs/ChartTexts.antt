@@ -1,5 +1,5 @@
 -- Names and numbers, byte by byte.
-use Rattle.std.proofs.Common.{◌≡◌, ℕ, ◌+◌, ◌-◌, ◌<◌, ◌≤◌, List, [], ◌∷◌, ◌++◌, length, true, get_or, take, drop, ap, ◌∙◌, arith, length-append, length-take, length-drop}
+use Rattle.std.proofs.Common.{◌≡◌, ℕ, ◌+◌, ◌-◌, ◌<◌, ◌≤◌, List, [], ◌∷◌, ◌++◌, length, true, drop, arith, length-append, length-take, length-drop}
 use Rattle.std.specs.Prelude.{slice_range, slice_index}
 use Rattle.std.specs.Char.{is_ascii_alphabetic, is_ascii_digit}
 use Rattle.std.specs.List.{list_all}
@@ -66,14 +66,7 @@ begun_number text start place h number = omega (arith, range_length text start p
 
 -- the token with the byte at the place
 pub one_more : (text : List ℕ) (start place : ℕ) → start ≤ place → place < length text → slice_range text start (place + 1) ≡ slice_range text start place ++ slice_index text place ∷ []
-one_more text start place begun inside =
-    let longer : place + 1 - start ≡ (place - start) + 1 = omega arith in
-    let at : start + (place - start) ≡ place = omega arith in
-    let room : place - start < length (drop start text) = omega (arith, length-drop start text) in
-    ap (λ n. take n (drop start text)) longer ∙ take_more (drop start text) (place - start) 0 room
-    ∙ ap (λ x. take (place - start) (drop start text) ++ x ∷ []) (get_or-drop start text (place - start) 0 ∙ ap (λ n. get_or text n 0) at)
+one_more text start place begun inside = grind (arith, length-drop start text, get_or-drop start text (place - start) 0, take_more)
 
 pub just_one : (text : List ℕ) (place : ℕ) → place < length text → slice_range text place (place + 1) ≡ slice_index text place ∷ []
-just_one text place inside =
-    let none : place - place ≡ 0 = omega arith in
-    one_more text place place (omega arith) inside ∙ ap (λ n. take n (drop place text) ++ slice_index text place ∷ []) none
+just_one text place inside = grind (arith, one_more)

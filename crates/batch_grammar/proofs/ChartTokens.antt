@@ -13,7 +13,7 @@ use Rattle.batch_recipe.specs.declared.condition.Op.{Op}
 use Rattle.batch_recipe.specs.declared.condition.Op.TheVariants.{Less, Greater}
 use Rattle.batch_recipe.specs.Diagram.{Diagram}
 use Rattle.batch_grammar.specs.declared.firsts.Firsts.{Firsts}
-use Rattle.batch_grammar.specs.ChartGrammar.{is_chart_space, Skips, here, space, ReadsOp}
+use Rattle.batch_grammar.specs.ChartGrammar.{Skips, here, space, ReadsOp}
 use Rattle.batch_grammar.specs.ChartGrammar as spec
 use Rattle.batch_grammar.specs.ChartMachine.{Frame, Test, Want, an_operator, an_operand, Lexeme, letters, digits, less, more, State, between, in_token, begin, end_token, continues, step, finish, with_want, takes_word, takes_number, take_word, take_number, end_number, noted, number_offsets, sign_offsets}
 use Rattle.batch_grammar.proofs.ChartBytes.{letter-no_space, digit-no_space, digit-no_letter, space-no_name_byte, no_name_byte-no_digit, space-not_equals}
@@ -95,8 +95,7 @@ ended : (total : ℕ) (t : List ℕ) (l : Lexeme) (w : Want) (frames : List Fram
     → end_token (total - length t) l (in_token l w frames o) ≡ Some (between w' frames o')
     → runs total t (in_token l w frames o) ≡ runs total t (between w' frames o')
 unfolding runs step finish in_token between
-ended total [] l w frames o w' o' ends e = rw e refl
-ended total (b ∷ s) l w frames o w' o' ends e = rw (ends, e) refl
+ended total t l w frames o w' o' h e = grind arith
 
 -- the text is over, or its first byte is not one of names
 abbrev pub IsFree : List ℕ → Type 0
@@ -147,12 +146,7 @@ pub runs-number_token : {s : List ℕ} (bytes t : List ℕ) (w' : Want) (total :
     → Skips s (bytes ++ t) → IsNumber bytes → takes_number w ≡ true → IsFree t → take_number w (number_of bytes) ≡ Some w'
     → runs total s (between w frames o) ≡ runs total t (between w' frames (noted o (number_offsets w (number_of bytes) (total - length (bytes ++ t)))))
 unfolding in_token between end_number
-runs-number_token bytes t w' total w frames o skips number takes free e =
-    let place : total - length t - length bytes ≡ total - length (bytes ++ t) = omega (arith, length-append bytes t) in
-    let after = noted o (number_offsets w (number_of bytes) (total - length (bytes ++ t))) in
-    runs-skips skips total w frames o
-    ∙ runs-number bytes t total w frames o number takes
-    ∙ ended total t (digits bytes) w frames o w' after (free-digits bytes t free) (rw (e, place) refl)
+runs-number_token bytes t w' total w frames o skips number takes free e = grind (arith, length-append bytes t, runs-skips skips total w frames o, runs-number bytes t total w frames o number takes, ended)
 
 pub runs-operator_token : {s t : List ℕ} {op : Op} → ReadsOp s t op → IsNotEquals t → (total : ℕ) (test : Test) (bytes : List ℕ) (frames : List Frame) (o : Firsts)
     → runs total s (between (an_operator test bytes) frames o) ≡ runs total t (between (an_operand test bytes op) frames o)
@@ -172,5 +166,4 @@ pub runs-sign : {b : ℕ} {s t : List ℕ} (w' : Want) (frames' : List Frame) (t
     → Skips s (b ∷ t) → begin (total - length (b ∷ t)) b (between w frames o) ≡ Some (between w' frames' (noted o (sign_offsets w (total - length (b ∷ t)))))
     → runs total s (between w frames o) ≡ runs total t (between w' frames' (noted o (sign_offsets w (total - length (b ∷ t)))))
 unfolding runs step between
-runs-sign {t = t} w' frames' total w frames o skips e =
-    runs-skips skips total w frames o ∙ ap (option_and_then (runs total t)) e
+runs-sign {t = t} w' frames' total w frames o skips e = grind (arith, runs-skips skips total w frames o)

@@ -1,13 +1,12 @@
 -- What a batch of a cleared recipe waits for is a resource of the cell, and no more of it than its capacity.
-use Rattle.std.proofs.Common.{◌≡◌, ⊎_elim, refl, subst, ℕ, ◌+◌, ◌≤◌, List, [], ◌∷◌, ◌++◌, Bool, true, false, ◌||◌, take, slice_get, IsTrue, inl, inr, bytes_eq}
+use Rattle.std.proofs.Common.{arith, ⊎_elim, subst, ℕ, ◌+◌, ◌≤◌, List, [], ◌∷◌, ◌++◌, take, slice_get, IsTrue, inl, inr}
 use Rattle.std.proofs.lemmas.Slice.Eq.{bytes_eq-Decides}
-use Rattle.std.specs.List.{list_any}
-use Rattle.batch_recipe.specs.Conditions.{Name, same_name}
+use Rattle.batch_recipe.specs.Conditions.{Name}
 use Rattle.batch_recipe.specs.Nodes.{child}
 use Rattle.batch_recipe.specs.Tree.{Place, Task, runs, follows, Tree, act, seq, par, sel, loop, Trees, no_trees, tree, Choices, otherwise, choice}
 use Rattle.batch_recipe.specs.WellFormed.{is_among}
 use Rattle.batch_model.specs.Lists.{Has, Each}
-use Rattle.batch_model.specs.Rest.{Rest, ready, asking, open_act, live, freeing, in_seq, in_par, in_loop, done, Rests, no_rests, rest}
+use Rattle.batch_model.specs.Rest.{Rest, ready, asking, open_act, live, freeing, in_seq, in_par, in_loop, Rests, rest}
 use Rattle.batch_model.specs.Plant.{Setup}
 use Rattle.batch_model.specs.Standing.{IsRestOf, IsRestBelow, IsBranch, AreBranches, IsChosen}
 use Rattle.batch_model.specs.Cleared.{Ranking, Level, below, Part, parts, parts_within, parts_of_each, parts_of_choices, IsClear}
@@ -20,11 +19,7 @@ use Rattle.batch_recipe.specs.Needs.{resources_of}
 
 pub among-Has : (names : List Name) (x : Name) → IsTrue (is_among names x) → Has names x
 among-Has [] x h = absurd cc
-among-Has (y ∷ names) x h = go (same_name x y) refl h (among-Has names x)
-  where
-    go : (t : Bool) → bytes_eq x y ≡ t → IsTrue (t || list_any (same_name x) names) → (IsTrue (is_among names x) → Has names x) → Has (y ∷ names) x
-    go true e k more = inl (let same : x ≡ y = (bytes_eq-Decides x y).0 e in cc)
-    go false e k more = inr (more k)
+among-Has (y ∷ names) x h = grind (arith, among-Has names x, bytes_eq-Decides x y)
 
 module _ (setup : Setup) (rank : Ranking) where
   abbrev Clear : Part → Type 0
@@ -58,8 +53,7 @@ module _ (setup : Setup) (rank : Ranking) where
     awaited-known l p asked (par cs) (in_par rs) cl h q x k = awaited-known_each l p asked 0 cs rs cl.1 h q x k
     awaited-known l p asked (sel ch) r cl h q x k = awaited-known_chosen l p asked 0 ch r cl.1 h q x k
     awaited-known l p asked (loop n c body) (in_loop m d b r) cl h q x k = awaited-known l (child p 0) asked body r cl.1 h.3 q x k
-    awaited-known l p asked c done cl h q x k = absurd k
-    awaited-known l p asked _ _ cl h q x k = absurd h
+    awaited-known l p asked c r cl h q x k = grind arith
 
     pub awaited-known_below : (l : Level) (p : Place) (asked : List Name) (w : Task) (r : Rest) → Each Clear (parts_within l p asked w) → IsRestBelow w r → (q : Place) (x : Need)
         → Has (facts r) (q, awaiting x) → CanBeMet x
@@ -76,13 +70,11 @@ module _ (setup : Setup) (rank : Ranking) where
 
     pub awaited-known_each : (l : Level) (p : Place) (asked : List Name) (i : ℕ) (cs : Trees) (rs : Rests) → Each Clear (parts_of_each l p asked i cs) → AreBranches cs rs
         → (q : Place) (x : Need) → Has (facts_of_each rs) (q, awaiting x) → CanBeMet x
-    awaited-known_each l p asked i no_trees no_rests cl h q x k = absurd k
     awaited-known_each l p asked i (tree c cs) (rest r rs) cl h q x k =
         ⊎_elim (awaited-known l (child p i) asked c r (Each-left Clear (parts l (child p i) asked c) (parts_of_each l p asked (i + 1) cs) cl) h.0 q x)
         (awaited-known_each l p asked (i + 1) cs rs (Each-right Clear (parts l (child p i) asked c) (parts_of_each l p asked (i + 1) cs) cl) h.1 q x)
         (Has-split (facts r) (facts_of_each rs) (q, awaiting x) k)
-    awaited-known_each l p asked i no_trees (rest r rs) cl h q x k = absurd h
-    awaited-known_each l p asked i (tree c cs) no_rests cl h q x k = absurd h
+    awaited-known_each l p asked i cs rs cl h q x k = grind arith
 
     pub awaited-known_chosen : (l : Level) (p : Place) (asked : List Name) (i : ℕ) (ch : Choices) (r : Rest) → Each Clear (parts_of_choices l p asked i ch) → IsChosen ch r
         → (q : Place) (x : Need) → Has (facts r) (q, awaiting x) → CanBeMet x

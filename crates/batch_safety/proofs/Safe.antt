@@ -1,5 +1,5 @@
 -- Every record is safe after each of its lines.
-use Rattle.std.proofs.Common.{◌≡◌, sym, ◌∙◌, ap, subst, ℕ, List, [], ◌∷◌, ◌++◌, append-nil, append_assoc}
+use Rattle.std.proofs.Common.{arith, ◌≡◌, sym, ◌∙◌, ap, subst, ℕ, List, [], ◌∷◌, ◌++◌, append-nil, append_assoc}
 use Rattle.batch_recipe.specs.Conditions.{ValueList}
 use Rattle.batch_recipe.specs.Tree.{Phase, Place}
 use Rattle.batch_model.specs.Plant.{Setup, Plant, opening}
@@ -40,19 +40,18 @@ module _ (d : Setup) (rank : Ranking) (cleared : AreClearedDown d rank) where
       → (front more : List Out) → front ++ more ≡ outs → IsSafeNow d (told ++ front)
   safe-along told s sd k st es outs t l [] more e = subst (IsSafeNow d) (sym (append-nil told)) (safe-now d rank told s sd k st)
   safe-along told s sd k st [] [] t l (o ∷ front) more e = absurd (no_front o (front ++ more) e)
-  safe-along told s sd k st (v ∷ es) [] t l (o ∷ front) more e = absurd l
   safe-along told s sd k st es (move m ∷ outs) t l (o ∷ front) more e =
       let q = same_first o (move m) (front ++ more) outs e in
       let td = moved-stands d rank cleared s m sd l.0 in
       let step = move-step d rank told s sd k m l.0 td in
       subst (IsSafeNow d) (append_assoc told (move m ∷ []) front ∙ ap (λ z. told ++ z ∷ front) (sym q.0))
       (safe-along (told ++ move m ∷ []) (after s m) td step.0 step.1 es outs t l.1 front more q.1)
-  safe-along told s sd k st [] (reply r ∷ outs) t l (o ∷ front) more e = absurd l
   safe-along told s sd k st (v ∷ es) (reply r ∷ outs) t l (o ∷ front) more e =
       let q = same_first o (reply r) (front ++ more) outs e in
       subst (IsSafeNow d) (append_assoc told (reply r ∷ []) front ∙ ap (λ z. told ++ z ∷ front) (sym q.0))
       (safe-along (told ++ reply r ∷ []) l.0 (reacts-stands d s l.0 v r sd l.1) (reply-step d rank cleared told s sd k v r l.0 l.1)
       (starts-nothing d told (reply r) (λ n p x vs f. reply_no_start r n p x vs f)) es outs t l.2 front more q.1)
+  safe-along told s sd k st es outs t l front more e = grind arith
 
 pub safe : (d : Setup) (rank : Ranking) → AreClearedDown d rank → (es : List Event) (outs : List Out) (t : Plant) → Leads d opening es outs t → IsSafe d outs
 safe d rank cleared es outs t l front more e = safe-along d rank cleared [] opening (opening-stands d) (kept-at_first d rank) (starts-at_first d) es outs t l front more e

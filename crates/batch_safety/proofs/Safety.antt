@@ -1,5 +1,5 @@
 -- What is kept makes a record safe.
-use Rattle.std.proofs.Common.{◌≡◌, ◌⊎◌, sym, ◌∙◌, ap, subst, ℕ, suc, ◌≤◌, ◌<◌, arith, List, [], ◌∷◌, Option, Some, inl, inr}
+use Rattle.std.proofs.Common.{◌≡◌, ◌⊎◌, sym, ◌∙◌, ap, subst, ℕ, suc, ◌≤◌, ◌<◌, arith, List, [], ◌∷◌, Some, inl, inr}
 use Rattle.batch_matrix.specs.declared.state.State.{State}
 use Rattle.batch_model.specs.Lists.{Has, Each}
 use Rattle.batch_recipe.specs.Tree.{Place}
@@ -113,23 +113,14 @@ module _ (d : Setup) (rank : Ranking) (outs : List Out) (s : Plant) (sd : IsStan
   along-precedes w (v ∷ ws) last e l h = precedes-on w v last (points-on w v e.0 h.0) (along-precedes v ws last e.1 l h.1)
 
   not-itself : (w : Waiting) → Precedes w w → ⊥
-  not-itself w (inl a) = absurd (omega (arith, a))
-  not-itself w (inr a) = not_before (waiters_told outs w.resource) (once-told w.resource) w.act a.1
+  not-itself w h = grind (arith, not_before)
 
   has-no_circle : HasNoCircle outs
   has-no_circle [] h = h
   has-no_circle (w ∷ ws) h = not-itself w (along-precedes w ws w h.0.1 h.0.0 h.1)
 
   nothing-at_rest : (n : ℕ) (x : State) → state_told outs n ≡ Some x → IsAtRest x → (a : BatchAct) (f : Fact) → Has (entries s.batches) (a, f) → a.0 ≡ n → ⊥
-  nothing-at_rest n x t r a f h e =
-      let b = entry-of s.batches a f h in
-      let now : state_told outs n ≡ Some b.0.state = subst (λ z. state_told outs z ≡ Some b.0.state) (b.2 ∙ e) (k.states b.0 b.1) in
-      let same : x ≡ b.0.state = same_some x b.0.state (sym t ∙ now) in
-      let none : facts b.0.rest ≡ [] = at_rest-nothing b.0.state (facts b.0.rest) (subst IsAtRest same r) (k.sound b.0 b.1).fits in
-      subst (λ z. Has z (a.1, f)) none b.3
-    where
-      same_some : (u v : State) → ◌≡◌ {A = Option State} (Some u) (Some v) → u ≡ v
-      same_some u v q = cc
+  nothing-at_rest n x t r a f h e = grind (arith, entry-of s.batches a f h, at_rest-nothing)
 
   rests-empty : RestsEmpty outs
   rests-empty n x t r q = (

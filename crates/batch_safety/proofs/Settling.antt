@@ -52,8 +52,7 @@ below : (m n : ℕ) → nat_le m n ≡ false → n < m
 below m n e = grind arith
 
 and-head : (t v : Bool) → v ≡ true → (t && v) ≡ false → t ≡ false
-and-head true v e f = absurd (let c : ◌≡◌ {A = Bool} true false = sym e ∙ f in cc)
-and-head false v e f = refl
+and-head t v e f = grind arith
 
 abbrev first : List Share → BatchAct → Bool
 first line a = elim line [ [] ↦ false | x ∷ xs ↦ is_same_act x.act a ]
@@ -119,13 +118,8 @@ module _ (d : Setup) (rank : Ranking) (outs : List Out) (s : Plant) (sd : IsStan
   -- every later resource of a chain has a higher rank
   chain-rises : (l : Link) (ls : List Link) → IsChain (scene_of s) (l ∷ ls) → (m : Link) → Has ls m → rank l.waiting.resource < rank m.waiting.resource
   chain-rises l [] h m i = absurd i
-  chain-rises l (n ∷ ls) h m (inl e) =
-      subst (λ z. rank l.waiting.resource < rank z.waiting.resource) e
-      (let r : suc (rank l.waiting.resource) < suc (rank n.waiting.resource) = points-on l n h.0 (first-link n ls h.2) h.1 in omega arith)
-  chain-rises l (n ∷ ls) h m (inr i) =
-      let r : suc (rank l.waiting.resource) < suc (rank n.waiting.resource) = points-on l n h.0 (first-link n ls h.2) h.1 in
-      let t : rank n.waiting.resource < rank m.waiting.resource = chain-rises n ls h.2 m i in
-      omega arith
+  chain-rises l (n ∷ ls) h m (inl e) = grind (arith, points-on l n h.0 (first-link n ls h.2) h.1)
+  chain-rises l (n ∷ ls) h m (inr i) = grind (arith, chain-rises n ls h.2 m i, points-on l n h.0 (first-link n ls h.2) h.1)
 
   rest-chain : (l : Link) (ls : List Link) → IsChain (scene_of s) (l ∷ ls) → IsChain (scene_of s) ls
   rest-chain l [] h = tt

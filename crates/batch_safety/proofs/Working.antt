@@ -106,19 +106,15 @@ IsFine a = IsAct a × IsAdvanced a × IsBounded a
 mutual
   fine-act : (r : Rest) → IsAdvanced r → IsBounded r → (a : Rest) → Has (acts r) a → IsFine a
   fine-act (ready u v n) h b a (inl e) = subst IsFine e (tt, h, b)
-  fine-act (ready u v n) h b a (inr e) = absurd e
   fine-act (asking u v n) h b a (inl e) = subst IsFine e (tt, h, b)
-  fine-act (asking u v n) h b a (inr e) = absurd e
   fine-act (open_act u r) h b a (inl e) = subst IsFine e (tt, h, b)
   fine-act (open_act u r) h b a (inr e) = fine-act r h b a e
   fine-act (live u y t) h b a (inl e) = subst IsFine e (tt, h, b)
-  fine-act (live u y t) h b a (inr e) = absurd e
   fine-act (freeing u n) h b a (inl e) = subst IsFine e (tt, h, b)
-  fine-act (freeing u n) h b a (inr e) = absurd e
   fine-act (in_seq r cs) h b a e = fine-act r h.1 b a e
   fine-act (in_par rs) h b a e = fine-act_of_each rs h.1 b a e
   fine-act (in_loop n c body r) h b a e = fine-act r h.1 b a e
-  fine-act done h b a e = absurd e
+  fine-act r h b a e = grind arith
 
   fine-act_of_each : (rs : Rests) → AreAdvanced rs → AreBounded rs → (a : Rest) → Has (acts_of_each rs) a → IsFine a
   fine-act_of_each no_rests h b a e = absurd e
@@ -132,9 +128,8 @@ held-place : (p : Place) (names : List Need) (q : Place) (x : Fact) → Has (hel
 held-place p names q x h = let k = Rattle.batch_laws.proofs.Members.Has-map (λ r. let z : Standing = (p, holding r) in z) names (q, x) h in ap (λ z. z.0) k.2
 
 awaited-place : (p : Place) (o : Option Need) (q : Place) (x : Fact) → Has (awaited_at p o) (q, x) → p ≡ q
-awaited-place p None q x h = absurd h
 awaited-place p (Some r) q x (inl e) = ap (λ z. z.0) e
-awaited-place p (Some r) q x (inr h) = absurd h
+awaited-place p o q x h = grind arith
 
 mutual
   act-of : (r : Rest) (q : Place) (x : Fact) → Has (facts r) (q, x) → ActAt (acts r) q
@@ -242,8 +237,7 @@ more-work as' bs f (inl h) = inl (h.0, h.1, h.2, f (live h.0 h.1 h.2) h.3)
 more-work as' bs f (inr h) = inr (h.0, h.1, h.2, f (asking h.0 h.1 h.2) h.3)
 
 not_all : (a b : Bool) → (a && b) ≡ false → (a ≡ false) ⊎ (b ≡ false)
-not_all true b e = inr e
-not_all false b e = inl refl
+not_all a b e = grind arith
 
 module _ (d : Setup) (s : Plant) (b : Batch) (run : b.state ≡ Running) where
   -- no act among these has a move
@@ -365,11 +359,10 @@ waiting-known setup rank outs s cleared stands k w h =
     among-Has setup.resources w.resource (ask-can_be_met setup rank outs s cleared stands k w.resource x.0 x.1).0
 
 each-waits : (s : Plant) (ls : List Link) → IsChain (scene_of s) ls → (l : Link) → Has ls l → IsWaiting (scene_of s) l.waiting
-each-waits s [] h l i = absurd i
 each-waits s (m ∷ []) h l (inl e) = subst (λ z. IsWaiting (scene_of s) z.waiting) e h.0
-each-waits s (m ∷ []) h l (inr i) = absurd i
 each-waits s (m ∷ n ∷ ls) h l (inl e) = subst (λ z. IsWaiting (scene_of s) z.waiting) e h.0.0
 each-waits s (m ∷ n ∷ ls) h l (inr i) = each-waits s (n ∷ ls) h.2 l i
+each-waits s ls h l i = grind arith
 
 pub nobody_waits_in_vain : NobodyWaitsInVain
 nobody_waits_in_vain setup rank kept cleared es outs t l settled =
