@@ -1,6 +1,9 @@
-//! Tests of desks and their hub over documents, of plants that run in threads, and of the program over streams that fail, by public names alone. Nothing stands on this crate.
+//! Tests of desks and their hub over documents, of plants that run in threads, of commands and the program over streams that fail, and of
+//! the reader of charts, by public names alone. Nothing stands on this crate.
 #![tactic(auto)]
 
+#[cfg(test)]
+mod charts;
 #[cfg(test)]
 mod documents;
 #[cfg(test)]
@@ -34,6 +37,8 @@ mod script;
 #[cfg(test)]
 mod seats;
 #[cfg(test)]
+mod shelf;
+#[cfg(test)]
 mod silent;
 #[cfg(test)]
 mod stage;
@@ -41,3 +46,5 @@ mod stage;
 mod threads;
 #[cfg(test)]
 mod turns;
+#[cfg(test)]
+mod writes;

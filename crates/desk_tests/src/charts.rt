@@ -1,5 +1,5 @@
 //! The reader of charts that the program doesn't call.
-use batch_grammar::read_chart;
+use batch_reader::read_chart;
 use std::alloc::Global;
 
 /// Whether the text is read as a chart.
