@@ -14,7 +14,7 @@ use Rattle.batch_engine.proofs.Finding.{batch-runs, tree-placed}
 use Rattle.batch_engine.proofs.HeldUnits.{live-elsewhere, live-no_batch, live-no_unit}
 use Rattle.batch_engine.proofs.LiveNodes.{live-node}
 use Rattle.batch_engine.proofs.Reporting.{live-here, live-nowhere}
-use Rattle.batch_engine.proofs.Unmarked.{found-within, known-resource}
+use Rattle.batch_engine.proofs.Unmarked.{known-resource}
 use Rattle.batch_engine.proofs.control.Control.live.Goals as goal
 use Rattle.batch_engine.proofs.control.Control.live.Goals.{After-resource_of}
 
@@ -33,9 +33,6 @@ returns-in_err-resource c =
     let none : number_of v.cleared c.args.unit.now ≡ None = searched (goal.at.returns-in_err-resource c).After-resource_of ∙ c.in_err-resource.was in
     subst (IsLivePhase v c.args.unit.now c.args.phase.now) (sym c.from_residual.ensures)
     (live-nowhere v c.args.unit.now c.args.phase.now v.batches (live-no_unit v c.is_kept.ensures c.args.holders.now c.requires c.args.unit.now c.args.phase.now none))
-
-pub live_in-requires : goal.live_in-requires
-live_in-requires c = found-within c.args.self.now (get_or c.args.holders.now c.from.result 0) c.in_ok-index.index (sym c.index_of.ensures ∙ c.in_ok-index.was)
 
 pub returns-in_err-index : goal.returns-in_err-index
 returns-in_err-index c =

@@ -19,7 +19,7 @@ use Rattle.batch_engine.specs.declared.reply.Reply.{Reply}
 use Rattle.batch_engine.proofs.Answering.{same-at}
 use Rattle.batch_engine.proofs.Finding.{in-charts, recipe-read}
 use Rattle.batch_engine.proofs.Reporting.{Reported, outputs-own, report-bad, report-made}
-use Rattle.batch_engine.proofs.Seats.{IsRead, IsSeat, batch-within, chart-within, counted-set, read-there, seat-of}
+use Rattle.batch_engine.proofs.Seats.{IsRead, IsSeat, chart-within, counted-set, read-there, seat-of}
 use Rattle.batch_engine.proofs.Stepping.{changed}
 use Rattle.batch_engine.proofs.Telling.{place-here}
 use Rattle.batch_engine.proofs.control.Control.report.Goals as goal
@@ -31,12 +31,6 @@ found-live v unit name e h = subst (IsLivePhase v unit name) e h
 -- the phase
 live : (c : In-Some) → LiveAt c.args.self.now c.args.report.now.unit c.args.report.now.phase c.in-Some.index c.in-Some.node c.in-Some.state
 live c = found-live c.args.self.now c.args.report.now.unit c.args.report.now.phase c.in-Some.is c.live.ensures
-
-pub phase_at-unit-requires : goal.phase_at-unit-requires
-phase_at-unit-requires c = let g = live (goal.at.phase_at-unit-requires c).In-Some in (g.batch, g.here.at, g.few)
-
-pub index-requires : goal.index-requires
-index-requires c = batch-within c.self.view_is (live (goal.at.index-requires c).In-Some).here.at
 
 -- its batch, and what the recipe says of the outputs
 read : (c : After-index) → IsRead c.args.self.now c.in-Some.index c.index.result.now
@@ -69,14 +63,8 @@ returns-then-not-are_outputs c =
           (ap (λ (z : Batch). are_outputs (recipe_made v.cleared z).outputs c.args.report.now.outputs.items) (same-at v.batches c.in-Some.index g.batch c.index.result.now g.here.at r.at) ∙ outputs w.After-are_outputs r ∙ c.if-not-are_outputs.true);
     }
 
-pub index_mut-batch-requires : goal.index_mut-batch-requires
-index_mut-batch-requires c = batch-within c.self.view_is (live (goal.at.index_mut-batch-requires c).In-Some).here.at
-
 read_mut : (c : After-index_mut-batch) → IsRead c.args.self.now c.in-Some.index c.index_mut-batch.result.now
 read_mut c = read-there c.self.view_is c.self.invariant.kept (found-live c.args.self.now c.args.report.now.unit c.args.report.now.phase c.in-Some.is c.live.ensures).here.at c.index_mut-batch.ensures.value
-
-pub recipe-chart-requires : goal.recipe-chart-requires
-recipe-chart-requires c = chart-within c.self.view_is (read_mut (goal.at.recipe-chart-requires c).After-index_mut-batch)
 
 seat : (c : After-recipe-chart) → IsRead c.args.self.now c.in-Some.index c.index_mut-batch.result.now → IsSeat c.args.self.now c.in-Some.index c.index_mut-batch.result.now c.recipe-chart.result.now
 seat c r = seat-of c.self.view_is r c.recipe-chart.ensures
