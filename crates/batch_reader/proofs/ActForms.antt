@@ -1,5 +1,5 @@
 -- Acts, without where their parts lie in memory: what a recipe's parts must be depends on no more.
-use Rattle.std.proofs.Common.{arith, ◌≡◌, ◌≤◌, nat_le, Bool, true, false, ◌&&◌, List, [], ◌∷◌, ◌++◌, map, length, Option, Some, None, option_map, refl, sym, ap, ◌∙◌, subst, cond, find}
+use Rattle.std.proofs.Common.{arith, ◌≡◌, ◌≤◌, nat_le, Bool, true, ◌&&◌, List, [], ◌∷◌, ◌++◌, map, length, Option, Some, None, option_map, refl, sym, ap, ◌∙◌, subst, find}
 use Rattle.std.proofs.Math.Path.{fun_ext}
 use Rattle.std.proofs.lemmas.List.{length-map}
 use Rattle.std.specs.List.{list_all}
@@ -10,7 +10,7 @@ use Rattle.batch_recipe.specs.Nodes.{Node, child, nodes}
 use Rattle.batch_recipe.specs.Procedure.{procedure_nodes, procedure_tree}
 use Rattle.batch_recipe.specs.Tree as tree
 use Rattle.batch_recipe.specs.Tree.{Place, Tree, Task, act, skip}
-use Rattle.batch_recipe.specs.WellFormed.{act_names, are_distinct, are_roles, follows_no_par, has_no_par, is_among, is_chart, is_role_among, is_well_formed, is_work, value_names}
+use Rattle.batch_recipe.specs.WellFormed.{act_names, are_distinct, are_roles, has_no_par, is_among, is_chart, is_well_formed, is_work, value_names}
 use Rattle.batch_recipe.specs.declared.act.Act.{Act}
 use Rattle.batch_recipe.specs.declared.act.TheConstants.{MAX_VALUES}
 use Rattle.batch_recipe.specs.declared.act.UnitChoice.{UnitChoice}
@@ -66,8 +66,7 @@ work_case labels values w = grind arith
 
 par_case : (w : Work)
     → ◌≡◌ {A = Bool} (elim w [ Follows c ↦ has_no_par (diagram_of c) | Runs phase handed ↦ true ]) (elim (work_form w) [ follows d ↦ has_no_par d | runs phase handed ↦ true ])
-par_case (Follows c) = refl
-par_case (Runs phase handed) = refl
+par_case w = grind arith
 
 and_same : {a b c d : Bool} → a ≡ b → c ≡ d → (a && c) ≡ (b && d)
 and_same e f = λ i. e i && f i
@@ -89,17 +88,7 @@ work_same values table a = work_case (act_names table) values a.work ∙ ap (λ 
 
 well_formed_form : (values : List Name) (a : Acts)
     → is_well_formed values a ≡ are_well_formed values (form a.procedure) (map form a.unit_procedures.items) (map form a.operations.items) (map form a.phases.items)
-well_formed_form values a =
-    let us : List Act = a.unit_procedures.items in
-    let os : List Act = a.operations.items in
-    let ss : List Act = a.phases.items in
-    and_same
-    (and_same refl (and_same (ap are_distinct (names_form us)) (and_same (ap are_distinct (names_form os)) (ap are_distinct (names_form ss)))))
-    (and_same (work_same values us a.procedure)
-    (and_same (all_form (λ u. is_work (act_names os) values u && follows_no_par u) (λ u. is_form_work (form_names (map form os)) values u && form_no_par u)
-    (λ u. and_same (work_same values os u) (par_case u.work)) us)
-    (and_same (all_form (is_work (act_names ss) values) (is_form_work (form_names (map form ss)) values) (work_same values ss) os)
-    (all_form (is_work [] values) (is_form_work [] values) (λ s. work_case [] values s.work) ss))))
+well_formed_form values a = grind (arith, and_same, names_form, work_same, all_form, par_case, work_case)
 
 -- ---- roles
 
@@ -110,9 +99,7 @@ abbrev are_form_roles : List RecipeRole → List ActForm → Bool
 are_form_roles roles us = are_distinct (map (λ role. role.name) roles) && list_all (is_form_role (map (λ role. role.name) roles)) us
 
 roles_form : (roles : List RecipeRole) (a : Acts) → are_roles roles a ≡ are_form_roles roles (map form a.unit_procedures.items)
-roles_form roles a =
-    let names : List Name = map (λ role. role.name) roles in
-    and_same refl (all_form (is_role_among names) (is_form_role names) (λ u. refl) a.unit_procedures.items)
+roles_form roles a = grind (arith, and_same, all_form)
 
 -- ---- the expanded tree
 
@@ -133,24 +120,18 @@ form_tree [] unit name p = skip
 form_tree (table ∷ tables) unit name p = elim (form_named table name) [ None ↦ skip | Some f ↦ form_act (form_tree tables) unit f p ]
 
 task_case : (acts : Name → Place → Tree) (unit name : Name) (p : Place) (w : Work) → task_of acts unit name p w ≡ form_task acts unit name p (work_form w)
-task_case acts unit name p (Follows c) = refl
-task_case acts unit name p (Runs phase handed) = refl
+task_case acts unit name p w = grind arith
 
 act_same : (acts : Name → Name → Place → Tree) (unit : Name) (a : Act) (p : Place) → act_tree acts unit a p ≡ form_act acts unit (form a) p
-act_same acts unit a p =
-    ap (act (record { place = p; needs = asked_by (own_unit a.unit) a.needs.items }))
-    (task_case (acts (unit_below unit (own_unit a.unit))) (unit_below unit (own_unit a.unit)) a.name p a.work)
+act_same acts unit a p = grind (arith, task_case (acts (unit_below unit (own_unit a.unit))) (unit_below unit (own_unit a.unit)) a.name p a.work)
 
 named_same : (xs : List Act) (name : Name) → option_map form (act_named xs name) ≡ form_named (map form xs) name
 named_same [] name = refl
-named_same (x ∷ xs) name =
-    let P : Bool → Type 0 = λ b. option_map form (cond b (Some x) (act_named xs name)) ≡ cond b (Some (form x)) (form_named (map form xs) name) in
-    elim (same_name x.name name) as P [ true ↦ refl | false ↦ named_same xs name ]
+named_same (x ∷ xs) name = grind (arith, named_same xs name)
 
 found_case : (acts forms : Name → Name → Place → Tree) → acts ≡ forms → (unit : Name) (p : Place) (o : Option Act)
     → ◌≡◌ {A = Tree} (elim o [ None ↦ skip | Some a ↦ act_tree acts unit a p ]) (elim (option_map form o) [ None ↦ skip | Some f ↦ form_act forms unit f p ])
-found_case acts forms same unit p None = refl
-found_case acts forms same unit p (Some a) = act_same acts unit a p ∙ ap (λ (F : Name → Name → Place → Tree). form_act F unit (form a) p) same
+found_case acts forms same unit p o = grind (arith, act_same)
 
 tree_same : (tables : List (List Act)) → named_tree tables ≡ form_tree (map (map form) tables)
 tree_same [] = fun_ext (λ unit. fun_ext (λ name. fun_ext (λ p. refl)))
@@ -175,8 +156,7 @@ same_length f xs ys e = sym (length-map xs f) ∙ ap length e ∙ length-map ys 
 module _ (a b : Acts) (procedure : form a.procedure ≡ form b.procedure) (unit_procedures : map form a.unit_procedures.items ≡ map form b.unit_procedures.items)
     (operations : map form a.operations.items ≡ map form b.operations.items) (phases : map form a.phases.items ≡ map form b.phases.items) where
   same_well_formed : (values : List Name) → is_well_formed values a ≡ is_well_formed values b
-  same_well_formed values =
-      well_formed_form values a ∙ (λ i. are_well_formed values (procedure i) (unit_procedures i) (operations i) (phases i)) ∙ sym (well_formed_form values b)
+  same_well_formed values = grind (arith, well_formed_form)
 
   same_roles : (roles : List RecipeRole) → are_roles roles a ≡ are_roles roles b
   same_roles roles = roles_form roles a ∙ ap (are_form_roles roles) unit_procedures ∙ sym (roles_form roles b)

@@ -1,5 +1,5 @@
 -- What a chart names, branch by branch.
-use Rattle.std.proofs.Common.{◌≡◌, ℕ, ◌-◌, nat_le, nat_lt, Bool, true, ◌&&◌, List, [], ◌∷◌, ◌++◌, map, refl, sym, ap, ◌∙◌}
+use Rattle.std.proofs.Common.{arith, ◌≡◌, ℕ, ◌-◌, nat_le, nat_lt, Bool, true, ◌&&◌, List, [], ◌∷◌, ◌++◌, map, refl, sym, ap, ◌∙◌}
 use Rattle.std.proofs.lemmas.List.Folds.{list_all-append}
 use Rattle.std.specs.List.{list_all}
 use Rattle.batch_grammar.specs.ChartForm.{labels_of, labels_of_all, labels_of_cases, names_compared, values_of, values_of_all, values_of_cases, IsFormed}
@@ -22,18 +22,13 @@ module _ (labels values : List Name) where
   declared_append : (ls ls2 vs vs2 : List Name)
       → (list_all (is_among labels) (ls ++ ls2) && list_all (is_among values) (vs ++ vs2))
       ≡ ((list_all (is_among labels) ls && list_all (is_among values) vs) && (list_all (is_among labels) ls2 && list_all (is_among values) vs2))
-  declared_append ls ls2 vs vs2 =
-      rw (list_all-append (is_among labels) ls ls2, list_all-append (is_among values) vs vs2)
-      (cross (list_all (is_among labels) ls) (list_all (is_among labels) ls2) (list_all (is_among values) vs) (list_all (is_among values) vs2))
+  declared_append ls ls2 vs vs2 = grind (arith, list_all-append, cross)
 
   -- the branches of a `seq` or `par`
   pub branches_declared : (charts : List Chart)
       → list_all (λ chart. is_declared labels values (diagram_of chart)) charts ≡ is_declared labels values (seq (diagrams_of (map diagram_of charts)))
   branches_declared [] = refl
-  branches_declared (c ∷ cs) =
-      let rest : Diagrams = diagrams_of (map diagram_of cs) in
-      ap (λ b. is_declared labels values (diagram_of c) && b) (branches_declared cs)
-      ∙ sym (declared_append (labels_of (diagram_of c)) (labels_of_all rest) (values_of (diagram_of c)) (values_of_all rest))
+  branches_declared (c ∷ cs) = grind (arith, branches_declared cs, declared_append)
 
   -- the branches of a `sel`
   pub cases_declared : (choices : List (Cond × Chart)) (last : Diagram)
@@ -65,13 +60,10 @@ module _ (labels values : List Name) where
 
   term_named : (t : Term) → elim t [ Named name ↦ is_among values name | Number n ↦ nat_le n MAX_VALUE ] ≡ true
       → list_all (is_among values) (elim t [ Named name ↦ name ∷ [] | Number n ↦ [] ]) ≡ true
-  term_named (Named name) h = and_true (is_among values name) true h refl
-  term_named (Number n) h = refl
+  term_named t h = grind (arith, and_true)
 
   condition_named : (c : Cond) → is_condition values c ≡ true → list_all (is_among values) (names_compared c) ≡ true
-  condition_named c h =
-      let p = both_true (is_among values c.name) _ h in
-      and_true (is_among values c.name) _ p.0 (term_named c.term p.1)
+  condition_named c h = grind (arith, both_true, and_true, term_named)
 
   mutual
     chart_named : (depth : ℕ) (d : Diagram) → is_chart labels values depth d ≡ true → AreDeclared (labels_of d) (values_of d)

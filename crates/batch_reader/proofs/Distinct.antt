@@ -1,5 +1,5 @@
 -- Names that differ, one after another.
-use Rattle.std.proofs.Common.{◌≡◌, ℕ, ◌+◌, ◌<◌, Bool, List, [], ◌∷◌, ◌++◌, length, take, drop, get_or, map, sym, ap, ◌∙◌, subst, append_assoc, take-append-drop}
+use Rattle.std.proofs.Common.{arith, ◌≡◌, ℕ, ◌+◌, ◌<◌, Bool, List, [], ◌∷◌, ◌++◌, length, take, drop, get_or, map, sym, ap, ◌∙◌, subst, append_assoc, take-append-drop}
 use Rattle.std.proofs.lemmas.Grind.{flat_map-append}
 use Rattle.std.proofs.lemmas.List.{take_more, flat_map_more, map-id}
 use Rattle.std.proofs.lemmas.List.Concat.{flat_map_single}
@@ -9,9 +9,7 @@ pub use Rattle.batch_cell.proofs.Distinct.{IsDistinct-front, IsDistinct-twice}
 -- what one more element adds to the names so far
 pub names_turn : {X K : Type 0} (g : X → List K) (base keys new : List K) (xs : List X) (i : ℕ) (d : X) → i < length xs
     → keys ≡ base ++ flat_map g (take i xs) → new ≡ keys ++ g (get_or xs i d) → new ≡ base ++ flat_map g (take (i + 1) xs)
-names_turn g base keys new xs i d below so_far added =
-    added ∙ ap (λ ks. ks ++ g (get_or xs i d)) so_far ∙ flat_map_more g base (take i xs) (get_or xs i d)
-    ∙ ap (λ ys. base ++ flat_map g ys) (sym (take_more xs i d below))
+names_turn g base keys new xs i d below so_far added = grind (arith, flat_map_more g base (take i xs) (get_or xs i d), take_more xs i d below)
 
 -- where the names so far and those of one more element don't differ, neither do all names
 pub names_refused : {X K : Type 0} (eq : K → K → Bool) (g : X → List K) (base keys ks : List K) (xs : List X) (i : ℕ) (d : X) → i < length xs
@@ -28,11 +26,7 @@ names_refused {X} {K} eq g base keys ks xs i d below so_far here twice h =
 -- where each element has one name
 pub name_refused : {X K : Type 0} (eq : K → K → Bool) (f : X → K) (base keys : List K) (k : K) (xs : List X) (i : ℕ) (d : X) → i < length xs
     → keys ≡ base ++ map f (take i xs) → k ≡ f (get_or xs i d) → (IsDistinct eq (keys ++ k ∷ []) → ⊥) → IsDistinct eq (base ++ map f xs) → ⊥
-name_refused {X} {K} eq f base keys k xs i d below so_far here twice h =
-    let g : X → List K = λ x. f x ∷ [] in
-    let P : List K → Type 0 = λ ys. IsDistinct eq (base ++ ys) in
-    names_refused eq g base keys (k ∷ []) xs i d below (so_far ∙ ap (λ ys. base ++ ys) (sym (flat_map_single f (take i xs)))) (ap (λ y. y ∷ []) here) twice
-    (subst P (sym (flat_map_single f xs)) h)
+name_refused {X} {K} eq f base keys k xs i d below so_far here twice h = grind (arith, flat_map_single f (take i xs), flat_map_single f xs, names_refused)
 
 -- where each element is a name
 pub item_refused : {K : Type 0} (eq : K → K → Bool) (base keys : List K) (k : K) (xs : List K) (i : ℕ) (d : K) → i < length xs

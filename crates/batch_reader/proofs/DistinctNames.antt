@@ -1,5 +1,5 @@
 -- Names that differ: as a reader's sets tell it, and as a recipe asks it.
-use Rattle.std.proofs.Common.{◌≡◌, ◌≢◌, Bool, true, false, not, List, [], ◌∷◌, ◌++◌, map, nat_eq, refl, sym, ap, subst, append_assoc}
+use Rattle.std.proofs.Common.{arith, ◌≡◌, ◌≢◌, Bool, true, false, not, List, [], ◌∷◌, ◌++◌, map, nat_eq, refl, sym, ap, subst, append_assoc}
 use Rattle.std.proofs.lemmas.List.{map-id}
 use Rattle.std.specs.Cmp.Lexicographic.{pointwise}
 use Rattle.std.specs.List.{AllByRecursion, IsDistinct}
@@ -17,8 +17,7 @@ apart name [] h = tt
 apart name (x ∷ xs) h = let p = both_false (same_name name x) (is_among xs name) h in (p.0, apart name xs p.1)
 
 not_true : (b : Bool) → not b ≡ true → b ≡ false
-not_true true h = sym h
-not_true false h = refl
+not_true b h = grind arith
 
 pub are_distinct-from_IsDistinct : (names : List Name) → IsDistinct (pointwise nat_eq) names → are_distinct names ≡ true
 unfolding IsDistinct

@@ -267,10 +267,8 @@ table_told_by kind ms keys place key same listed = table_told kind ms place key 
 
 -- the keys of modules
 pub free_module_keys : (unit : Option Data) → unit ≡ None → module_keys unit ≡ needed (codes "name") a_name ∷ []
-free_module_keys None h = refl
-free_module_keys (Some d) h = absurd (cc h)
+free_module_keys unit h = grind arith
 
 pub unit_module_keys : (unit : Option Data) → IsSome unit
     → module_keys unit ≡ needed (codes "name") a_name ∷ needed (codes "unit") a_name ∷ needed (codes "phases") (some_names 1 MAX_PHASES) ∷ []
-unit_module_keys None h = absurd (cc h)
-unit_module_keys (Some d) h = refl
+unit_module_keys unit h = grind arith

@@ -10,9 +10,8 @@ use Rattle.batch_reader.specs.Entries.{AllItems, IsTableOf, HasTables, items_at}
 AllItems-push : {X : Type 0} (R : Data → X → Type 0) (vs : List Value) (xs : List X) (v : Value) (x : X)
     → AllItems R (items_view vs) xs → R (view v) x → AllItems R (items_view (vs ++ v ∷ [])) (xs ++ x ∷ [])
 AllItems-push R [] [] v x h here = (here, tt)
-AllItems-push R [] (y ∷ ys) v x h here = absurd h
-AllItems-push R (w ∷ vs) [] v x h here = absurd h
 AllItems-push R (w ∷ vs) (y ∷ ys) v x h here = (h.0, AllItems-push R vs ys v x h.1 here)
+AllItems-push R vs xs v x h e = grind arith
 
 -- one more turn of a loop over the items
 pub AllItems-turn : {X : Type 0} (R : Data → X → Type 0) (vs : List Value) (xs : List X) (i : ℕ) (d : Value) (x : X)
@@ -39,9 +38,8 @@ AllItems_before R (v ∷ vs) (x ∷ xs) (suc i) h zero d below found = let same 
 AllItems_before R (v ∷ vs) (x ∷ xs) (suc i) h (suc n) d below found = AllItems_before R vs xs i h.1 n d (omega arith) found
 
 pub get_item-view : (vs : List Value) (i : ℕ) (d : Value) → i < length vs → get_item i (items_view vs) ≡ Some (view (get_or vs i d))
-get_item-view [] i d below = absurd (omega arith)
-get_item-view (v ∷ vs) zero d below = refl
 get_item-view (v ∷ vs) (suc i) d below = get_item-view vs i d (omega arith)
+get_item-view vs i d below = grind arith
 
 -- where an item says one thing at most, as far as f sees it, so do all items
 pub AllItems_same : {X Y : Type 0} (R : Data → X → Type 0) (f : X → Y) → ((d : Data) (x y : X) → R d x → R d y → f x ≡ f y)
@@ -71,16 +69,9 @@ IsTableOf_none R d none x h = cc (none, h.is_table)
 -- a table that stands for nothing
 pub IsTableOf_refused : {X : Type 0} (R : Members → X → Type 0) (d : Data) (ms : Members) → Some ms ≡ as_table d
     → ((x : X) → R ms x → ⊥) → (x : X) → IsTableOf R d x → ⊥
-IsTableOf_refused R d ms is_table none x h =
-    let same : h.members ≡ ms = cc (is_table, h.is_table) in
-    none x (rw same at h.stands_for)
+IsTableOf_refused R d ms is_table none x h = grind arith
 
 -- where a table stands for one value at most, as far as f sees it, so do the tables of an array
 pub HasTables_same : {X Y : Type 0} (R : Members → X → Type 0) (f : X → Y) → ((ms : Members) (x y : X) → R ms x → R ms y → f x ≡ f y)
     → (key : List ℕ) (ms : Members) (xs ys : List X) → HasTables R key ms xs → HasTables R key ms ys → map f xs ≡ map f ys
-HasTables_same R f one key ms xs ys h k =
-    let same : h.items ≡ k.items = cc (h.found, k.found) in
-    AllItems_same (IsTableOf R) f (λ d x y a b.
-    let table : a.members ≡ b.members = cc (a.is_table, b.is_table) in
-    one b.members x y (rw table at a.stands_for) b.stands_for)
-    k.items xs ys (rw same at h.tables) k.tables
+HasTables_same R f one key ms xs ys h k = grind (arith, AllItems_same)

@@ -1,5 +1,5 @@
 -- Keys of a table.
-use Rattle.std.proofs.Common.{◌≡◌, Bool, false, true, ◌&&◌, ◌||◌, List, [], ◌∷◌, ℕ, map, nat_eq, String, Global, string_bytes, Some, None, Ordering, Less, Equal, Greater, nat_cmp, refl, sym, ap, ◌∙◌}
+use Rattle.std.proofs.Common.{arith, ◌≡◌, Bool, false, true, ◌&&◌, ◌||◌, List, [], ◌∷◌, ℕ, map, nat_eq, String, Global, string_bytes, Some, None, Ordering, nat_cmp, refl, sym, ap, ◌∙◌}
 use Rattle.std.proofs.lemmas.Bool.{false≢true}
 use Rattle.std.proofs.lemmas.Map.Lookups.{exact_bytes}
 use Rattle.std.specs.Cmp.Lexicographic.{pointwise, slice_cmp}
@@ -25,9 +25,7 @@ has_only_keys-view known (e ∷ es) = ap (λ b. list_any (λ word. pointwise nat
 -- a key that isn't the first one is missing where it is missing among the others
 other_missing : (key l : List ℕ) (d : Data) (ms : Members) (o : Ordering) → slice_cmp nat_cmp key l ≡ o → (key ≡ l → ⊥) → get_member key ms ≡ None
     → match_ordering o (get_member key ms) (Some d) (get_member key ms) ≡ None
-other_missing key l d ms Less e other missing = missing
-other_missing key l d ms Equal e other missing = absurd (other (exact_bytes key l e))
-other_missing key l d ms Greater e other missing = missing
+other_missing key l d ms o e other missing = grind (arith, exact_bytes)
 
 -- a key that isn't known is missing
 pub unknown_missing : (known : List (List ℕ)) (key : List ℕ) (ms : Members) → has_only_keys known ms ≡ true

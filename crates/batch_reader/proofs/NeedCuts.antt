@@ -1,5 +1,5 @@
 -- What a text that is a need says, by where its first star stands.
-use Rattle.std.proofs.Common.{◌≡◌, ℕ, ◌+◌, ◌-◌, Bool, true, false, List, [], ◌∷◌, length, slice_index, take, drop, position, Option, Some, None, refl, sym, ◌∙◌, subst, arith}
+use Rattle.std.proofs.Common.{◌≡◌, ℕ, ◌+◌, ◌-◌, true, false, List, [], ◌∷◌, length, slice_index, take, drop, position, Option, Some, None, refl, sym, ◌∙◌, subst, arith}
 use Rattle.std.specs.Char.{is_ascii_alphabetic}
 use Rattle.std.specs.List.{list_all}
 use Rattle.std.proofs.lemmas.Bool.{and_parts, eqb-true, false≢true}
@@ -14,10 +14,7 @@ use Rattle.batch_reader.specs.NeedText.{IsNeedText, IsNeedCut, IsUnits, is_star}
 
 -- no byte of a name is a star
 not_star : (byte : ℕ) → is_name_byte byte ≡ true → is_star byte ≡ false
-not_star byte named = go (is_star byte) refl where
-  go : (b : Bool) → is_star byte ≡ b → is_star byte ≡ false
-  go false is = is
-  go true is = absurd (false≢true (subst (λ n. is_name_byte n ≡ true) (eqb-true byte 42 is) named))
+not_star byte named = grind (arith, false≢true, eqb-true)
 
 without_star : (text : List ℕ) → list_all is_name_byte text ≡ true → position is_star text ≡ None
 without_star [] named = refl

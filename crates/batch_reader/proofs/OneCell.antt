@@ -1,5 +1,5 @@
 -- A table stands for one unit, one module and one shared resource at most.
-use Rattle.std.proofs.Common.{◌≡◌, ℕ, ◌<◌, ◌≤◌, inl, inr, Bool, true, false, List, [], ◌++◌, map, length, get_or, Some, None, codes, nat_eq, sym, ap, ◌∙◌, subst, if◌then◌else◌, arith}
+use Rattle.std.proofs.Common.{◌≡◌, ℕ, ◌<◌, ◌≤◌, inl, inr, Bool, true, List, [], ◌++◌, map, length, get_or, Some, None, codes, nat_eq, sym, ap, ◌∙◌, subst, if◌then◌else◌, arith}
 use Rattle.std.proofs.lemmas.Bool.{false≢true}
 use Rattle.std.proofs.lemmas.List.{length-map, map-id, get_or-map}
 use Rattle.std.proofs.lemmas.List.Folds.{list_all-map, flat_map-map}
@@ -15,23 +15,18 @@ use Rattle.batch_cell.specs.declared.shared.Shared.{Shared}
 use Rattle.batch_cell.specs.declared.cell.Cell.{Cell}
 use Rattle.batch_reader.proofs.Items.{AllItems_same, HasTables_same}
 use Rattle.batch_reader.proofs.OneEntry.{HasName_unique, HasName_missing, IsNameItem_unique}
-use Rattle.batch_reader.specs.Entries.{HasName, HasNames, HasTables, IsNameItem}
+use Rattle.batch_reader.specs.Entries.{HasName, HasNames, HasTables}
 use Rattle.batch_reader.specs.CellDocument.{IsUnitTable, IsUnitModuleTable, IsModuleTable, IsSharedTable, IsSoundEquipment, IsCellTable}
 
 pub HasNames_unique : (key : List ℕ) (ms : Members) (xs ys : List (List ℕ)) → HasNames key ms xs → HasNames key ms ys → xs ≡ ys
-HasNames_unique key ms xs ys h k =
-    let same : h.items ≡ k.items = cc (h.found, k.found) in
-    sym (map-id xs) ∙ AllItems_same IsNameItem (λ n. n) IsNameItem_unique k.items xs ys (rw same at h.listed) k.listed ∙ map-id ys
+HasNames_unique key ms xs ys h k = grind (arith, map-id xs, map-id ys, AllItems_same, IsNameItem_unique)
 
 module_name : (ms : Members) (m : Module) → IsModuleTable ms m → HasName (codes "name") ms m.name
 module_name ms m (inl free) = free.name
 module_name ms m (inr own) = own.name
 
 same_unit : (ms : Members) (x y : Module) → IsModuleTable ms x → IsModuleTable ms y → x.unit ≡ y.unit
-same_unit ms x y (inl h) (inl k) = h.is_free ∙ sym k.is_free
-same_unit ms x y (inl h) (inr k) = absurd (HasName_missing _ ms k.unit h.no_unit k.has_unit)
-same_unit ms x y (inr h) (inl k) = absurd (HasName_missing _ ms h.unit k.no_unit h.has_unit)
-same_unit ms x y (inr h) (inr k) = h.belongs ∙ ap Some (HasName_unique _ ms h.unit k.unit h.has_unit k.has_unit) ∙ sym k.belongs
+same_unit ms x y h e = grind (arith, HasName_unique)
 
 same_phases : (ms : Members) (x y : Module) → IsModuleTable ms x → IsModuleTable ms y → x.phases.items ≡ y.phases.items
 same_phases ms x y (inl h) (inl k) = h.no_phase ∙ sym k.no_phase
@@ -61,9 +56,7 @@ same_declared : (units : List (List ℕ)) (ns : Members) (x y : Module) → IsMo
 same_declared units ns x y a b = ap (λ u. elim u [ None ↦ true | Some own ↦ list_any (pointwise nat_eq own) units ]) (same_unit ns x y a b)
 
 same_phases_for : (unit : List ℕ) (ns : Members) (x y : Module) → IsModuleTable ns x → IsModuleTable ns y → phases_for unit x ≡ phases_for unit y
-same_phases_for unit ns x y a b =
-    ap (λ u. if (elim u [ None ↦ false | Some own ↦ pointwise nat_eq own unit ]) then x.phases.items else []) (same_unit ns x y a b)
-    ∙ ap (λ ps. if (elim y.unit [ None ↦ false | Some own ↦ pointwise nat_eq own unit ]) then ps else []) (same_phases ns x y a b)
+same_phases_for unit ns x y a b = grind (arith, same_unit ns x y a b, same_phases ns x y a b)
 
 same_length : {X Y : Type 0} (f : X → Y) (xs ys : List X) → map f xs ≡ map f ys → length xs ≡ length ys
 same_length f xs ys e = sym (length-map xs f) ∙ ap length e ∙ length-map ys f

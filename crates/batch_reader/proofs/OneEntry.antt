@@ -1,5 +1,5 @@
 -- An entry of a table says one thing at most.
-use Rattle.std.proofs.Common.{◌≡◌, ℕ, ◌<◌, ◌≤◌, nat_lt, true, false, inl, inr, List, [], ◌∷◌, length, Option, Some, None, refl, sym, ap₂, subst, ◌∙◌, arith, nat_le, position}
+use Rattle.std.proofs.Common.{◌≡◌, ℕ, ◌<◌, ◌≤◌, true, List, [], ◌∷◌, length, Option, Some, None, refl, ap₂, arith, nat_le, position}
 use Rattle.std.proofs.lemmas.List.{map-id}
 use Rattle.std.proofs.lemmas.Bool.Decides.{nat_tests}
 use Rattle.std.specs.Option.{option_and_then}
@@ -15,16 +15,14 @@ use Rattle.batch_reader.specs.Faults.{few_names_fault}
 use Rattle.batch_reader.specs.TableFaults.{count_items}
 use Rattle.batch_reader.specs.declared.fault.EntryFault.TheVariants.{OutOfLimit, WrongKind}
 use Rattle.batch_recipe.specs.declared.need.Need.{Need}
-use Rattle.batch_reader.specs.NeedText.{IsNeedText, IsNeedCut, is_star}
+use Rattle.batch_reader.specs.NeedText.{IsNeedCut, is_star}
 use Rattle.batch_recipe.specs.Needs.{have_units}
 use Rattle.batch_recipe.specs.declared.need.TheConstants.{MAX_UNITS}
 
 -- a list has as many items as it says names
 AllItems_length : {X : Type 0} (R : Data → X → Type 0) (vs : List Value) (xs : List X) → AllItems R (items_view vs) xs → length vs ≡ length xs
-AllItems_length R [] [] h = refl
-AllItems_length R [] (x ∷ xs) h = absurd h
-AllItems_length R (v ∷ vs) [] h = absurd h
 AllItems_length R (v ∷ vs) (x ∷ xs) h = omega (arith, AllItems_length R vs xs h.1)
+AllItems_length R vs xs h = grind arith
 
 few_items : {X : Type 0} (R : Data → X → Type 0) (key : List ℕ) (ms : Members) (vs : List Value) (most : ℕ) (xs : List X) → items_at key ms ≡ Some (items_view vs)
     → length vs ≤ most → AllItems R (items_view vs) xs → HasFew R key ms most xs
@@ -33,10 +31,7 @@ few_items R key ms vs most xs found short listed =
 
 pub few_refused : {X : Type 0} (R : Data → X → Type 0) (key : List ℕ) (ms : Members) (vs : List Value) (most : ℕ) → items_at key ms ≡ Some (items_view vs)
     → most < length vs → (xs : List X) → HasFew R key ms most xs → ⊥
-few_refused R key ms vs most found many xs h =
-    let same : h.items ≡ items_view vs = cc (h.found, found) in
-    let count : length vs ≡ length xs = AllItems_length R vs xs (rw same at h.listed) in
-    omega (arith, h.few)
+few_refused R key ms vs most found many xs h = grind (arith, AllItems_length)
 
 pub few_names : (key : List ℕ) (ms : Members) (vs : List Value) (most : ℕ) (names : List (List ℕ)) → items_at key ms ≡ Some (items_view vs)
     → length vs ≤ most → AllItems IsNameItem (items_view vs) names → HasFewNames key ms most names
@@ -52,14 +47,10 @@ count_items-view (v ∷ vs) = omega (arith, count_items-view vs)
 
 -- what is told of a list of names, as its length says
 pub few_names_fault-long : (most : ℕ) (found : Option Items) (vs : List Value) → found ≡ Some (items_view vs) → most < length vs → OutOfLimit ≡ few_names_fault most found
-few_names_fault-long most found vs is_list many =
-    let long : nat_lt most (count_items (items_view vs)) ≡ true = rw (count_items-view vs) (grind (arith, nat_tests)) in
-    rw (is_list, long) refl
+few_names_fault-long most found vs is_list many = grind (arith, count_items-view vs, nat_tests)
 
 pub few_names_fault-short : (most : ℕ) (found : Option Items) (vs : List Value) → found ≡ Some (items_view vs) → length vs ≤ most → few_names_fault most found ≡ WrongKind
-few_names_fault-short most found vs is_list few =
-    let short : nat_lt most (count_items (items_view vs)) ≡ false = rw (count_items-view vs) (grind (arith, nat_tests)) in
-    rw (is_list, short) refl
+few_names_fault-short most found vs is_list few = grind (arith, count_items-view vs, nat_tests)
 
 -- where a text is one of no chart, a table with it has none
 pub chart_refused : (key : List ℕ) (ms : Members) (text : List ℕ) → option_and_then as_str (get_member key ms) ≡ Some text
@@ -83,10 +74,7 @@ pub HasName_missing : (key : List ℕ) (ms : Members) (name : List ℕ) → get_
 HasName_missing key ms name missing h = let found = rw missing at h.text in cc found
 
 pub HasNameOr_unique : (key : List ℕ) (ms : Members) (other m n : List ℕ) → HasNameOr key ms other m → HasNameOr key ms other n → m ≡ n
-HasNameOr_unique key ms other m n (inl h) (inl k) = HasName_unique key ms m n h k
-HasNameOr_unique key ms other m n (inl h) (inr k) = absurd (HasName_missing key ms m k.0 h)
-HasNameOr_unique key ms other m n (inr h) (inl k) = absurd (HasName_missing key ms n h.0 k)
-HasNameOr_unique key ms other m n (inr h) (inr k) = h.1 ∙ sym k.1
+HasNameOr_unique key ms other m n h e = grind (arith, HasName_unique)
 
 pub HasChart_unique : (key : List ℕ) (ms : Members) (a b : Diagram) → HasChart key ms a → HasChart key ms b → a ≡ b
 HasChart_unique key ms a b h k =
@@ -98,44 +86,34 @@ IsNameItem_unique d m n h k = cc (h.text, k.text)
 
 HasFew_unique : {X : Type 0} (R : Data → X → Type 0) → ((d : Data) (x y : X) → R d x → R d y → x ≡ y)
     → (key : List ℕ) (ms : Members) (most : ℕ) (xs ys : List X) → HasFew R key ms most xs → HasFew R key ms most ys → xs ≡ ys
-HasFew_unique R one key ms most xs ys h k =
-    let same : h.items ≡ k.items = cc (h.found, k.found) in
-    sym (map-id xs) ∙ AllItems_same R (λ n. n) one k.items xs ys (rw same at h.listed) k.listed ∙ map-id ys
+HasFew_unique R one key ms most xs ys h k = grind (arith, map-id xs, map-id ys, AllItems_same)
 
 pub HasFewNames_unique : (key : List ℕ) (ms : Members) (most : ℕ) (xs ys : List (List ℕ)) → HasFewNames key ms most xs → HasFewNames key ms most ys → xs ≡ ys
 HasFewNames_unique = HasFew_unique IsNameItem IsNameItem_unique
 
 -- a text says one need at most
 cut_unique : (star : Option ℕ) (text : List ℕ) (m n : Need) → IsNeedCut star text m → IsNeedCut star text n → m ≡ n
-cut_unique None text m n h k = same_need m n (h.1 ∙ sym k.1) (h.2 ∙ sym k.2)
-cut_unique (Some star) text m n h k = same_need m n (h.1 ∙ sym k.1) (h.2.value ∙ sym k.2.value)
+cut_unique star text m n h k = grind (arith, same_need)
 
 IsNeedItem_unique : (d : Data) (m n : Need) → IsNeedItem d m → IsNeedItem d n → m ≡ n
-IsNeedItem_unique d m n h k =
-    let same : h.text ≡ k.text = cc (h.found, k.found) in
-    cut_unique (position is_star k.text) k.text m n (subst (λ text. IsNeedText text m) same h.says) k.says
+IsNeedItem_unique d m n h k = grind (arith, cut_unique)
 
 pub HasFewNeeds_unique : (key : List ℕ) (ms : Members) (most : ℕ) (xs ys : List Need) → HasFewNeeds key ms most xs → HasFewNeeds key ms most ys → xs ≡ ys
 HasFewNeeds_unique = HasFew_unique IsNeedItem IsNeedItem_unique
 
 -- needs that texts say have units
 units_of_cut : (star : Option ℕ) (text : List ℕ) (need : Need) → IsNeedCut star text need → (1 ≤ need.units) × (need.units ≤ MAX_UNITS)
-units_of_cut None text need h = (omega (arith, h.2), omega (arith, h.2))
-units_of_cut (Some star) text need h = (h.2.some, h.2.few)
+units_of_cut star text need h = grind arith
 
 pub needs_have_units : (vs : List Value) (needs : List Need) → AllItems IsNeedItem (items_view vs) needs → have_units needs ≡ true
-needs_have_units [] [] h = refl
-needs_have_units [] (need ∷ needs) h = absurd h
-needs_have_units (v ∷ vs) [] h = absurd h
 needs_have_units (v ∷ vs) (need ∷ needs) h =
     let units = units_of_cut (position is_star h.0.text) h.0.text need h.0.says in
     let some : nat_le 1 need.units ≡ true = grind (arith, nat_tests, units.0) in
     let few : nat_le need.units MAX_UNITS ≡ true = grind (arith, nat_tests, units.1) in
     rw (some, few) (needs_have_units vs needs h.1)
+needs_have_units vs needs h = grind arith
 
 -- where the table at a key stands for nothing
 pub HasTable_refused : {X : Type 0} (R : Members → X → Type 0) (key : List ℕ) (ms inner : Members) → option_and_then as_table (get_member key ms) ≡ Some inner
     → ((x : X) → R inner x → ⊥) → (x : X) → HasTable R key ms x → ⊥
-HasTable_refused R key ms inner found none x h =
-    let same : h.members ≡ inner = cc (h.found, found) in
-    none x (rw same at h.stands_for)
+HasTable_refused R key ms inner found none x h = grind arith

@@ -1,5 +1,5 @@
 -- The tables of a recipe stand for one form of their parts at most.
-use Rattle.std.proofs.Common.{◌≡◌, ℕ, List, map, codes, sym, ap, ap₂, ◌∙◌}
+use Rattle.std.proofs.Common.{arith, ◌≡◌, ℕ, List, map, codes, sym, ap, ◌∙◌}
 use Rattle.std.proofs.lemmas.List.{map-id}
 use Rattle.toml.specs.Data.{Members}
 use Rattle.batch_recipe.specs.Conditions.{Name}
@@ -29,14 +29,10 @@ same_form : (a b : Act) → a.name ≡ b.name → a.unit ≡ b.unit → a.needs.
 same_form a b name unit needs work = cc
 
 same_unit_procedure : (ms : Members) (a b : Act) → IsUnitProcedureTable ms a → IsUnitProcedureTable ms b → form a ≡ form b
-same_unit_procedure ms a b h k =
-    same_form a b (HasLabel_unique _ ms a.name b.name h.name k.name) (same_unit ms a b h k)
-    (same_needs ms a b h.needs k.needs) (same_work ms a b h.course k.course)
+same_unit_procedure ms a b h k = grind (arith, same_unit ms a b h k, same_needs ms a b h.needs k.needs, same_work ms a b h.course k.course, same_form, HasLabel_unique)
 
 same_operation : (ms : Members) (a b : Act) → IsOperationTable ms a → IsOperationTable ms b → form a ≡ form b
-same_operation ms a b h k =
-    same_form a b (HasLabel_unique _ ms a.name b.name h.name k.name) (h.no_unit ∙ sym k.no_unit)
-    (same_needs ms a b h.needs k.needs) (same_work ms a b h.course k.course)
+same_operation ms a b h k = grind (arith, same_needs ms a b h.needs k.needs, same_work ms a b h.course k.course, same_form, HasLabel_unique)
 
 same_phase : (ms : Members) (a b : Act) → IsPhaseTable ms a → IsPhaseTable ms b → form a ≡ form b
 same_phase ms a b h k =
@@ -51,13 +47,7 @@ same_course : (ms : Members) (a b : Act) → IsProcedureTable ms a → IsProcedu
 same_course ms a b h k = (h.no_unit ∙ sym k.no_unit, same_needs ms a b h.needs k.needs, same_work ms a b h.course k.course)
 
 same_procedure : (ms : Members) (a b : Acts) → HasActs ms a → HasActs ms b → form a.procedure ≡ form b.procedure
-same_procedure ms a b h k =
-    let p : Act = a.procedure in
-    let q : Act = b.procedure in
-    let inner : h.procedure.members ≡ k.procedure.members = cc (h.procedure.found, k.procedure.found) in
-    let rest : (p.unit ≡ q.unit) × (p.needs.items ≡ q.needs.items) × (work_form p.work ≡ work_form q.work) =
-    same_course k.procedure.members p q (rw inner at h.procedure.stands_for) k.procedure.stands_for in
-    same_form p q (HasName_unique _ ms p.name q.name h.name k.name) rest.0 rest.1 rest.2
+same_procedure ms a b h k = grind (arith, same_course, same_form, HasName_unique)
 
 same_quantities : (key : List ℕ) (ms : Members) (xs ys : List Quantity) → HasTables IsQuantityTable key ms xs → HasTables IsQuantityTable key ms ys
     → map (λ q. q.name) xs ≡ map (λ q. q.name) ys
@@ -68,9 +58,7 @@ same_outputs ms xs ys h k =
     sym (map-id xs) ∙ HasTables_same IsOutputTable (λ name. name) (λ ns x y a b. HasLabel_unique _ ns x y a.name b.name) _ ms xs ys h k ∙ map-id ys
 
 same_role : (ms : Members) (x y : Role) → IsRoleTable ms x → IsRoleTable ms y → x ≡ y
-same_role ms x y h k =
-    ap₂ (λ name class. let role : Role = record { name = name; class = class } in role)
-    (HasName_unique _ ms x.name y.name h.name k.name) (HasName_unique _ ms x.class y.class h.class k.class)
+same_role ms x y h k = grind (arith, HasName_unique)
 
 same_roles : (ms : Members) (xs ys : List Role) → HasTables IsRoleTable (codes "role") ms xs → HasTables IsRoleTable (codes "role") ms ys → xs ≡ ys
 same_roles ms xs ys h k = sym (map-id xs) ∙ HasTables_same IsRoleTable (λ role. role) same_role _ ms xs ys h k ∙ map-id ys

@@ -119,5 +119,4 @@ large_told p outline.Memory many = tt
 
 pub large_refused : (acts : Acts) (fault : OutlineFault) → (IsErrOf {T = Recipe} (Err fault) outline.TooMany → MAX_NODES < length (procedure_nodes acts)) → (outline_fault fault ≡ Memory → ⊥)
     → length (procedure_nodes acts) ≤ MAX_NODES → ⊥
-large_refused acts outline.TooMany many known small = let large = many refl in omega (arith, large, small)
-large_refused acts outline.Memory many known small = known refl
+large_refused acts fault many known small = grind arith

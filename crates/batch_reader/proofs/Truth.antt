@@ -1,12 +1,10 @@
 -- Tests that hold together.
-use Rattle.std.proofs.Common.{arith, ◌≡◌, Bool, true, false, ◌&&◌, refl, sym}
+use Rattle.std.proofs.Common.{arith, ◌≡◌, Bool, true, ◌&&◌}
 pub use Rattle.std.proofs.lemmas.Bool.{and_parts as both_true, and_from as and_true, or_parts as both_false}
 
 -- two tests that hold together are the same
 pub same_test : (a b : Bool) → (a ≡ true → b ≡ true) → (b ≡ true → a ≡ true) → a ≡ b
-same_test true b f g = sym (f refl)
-same_test false true f g = g refl
-same_test false false f g = refl
+same_test a b f g = grind arith
 
 -- four tests, and five, in another order
 pub cross : (a b c d : Bool) → ((a && b) && (c && d)) ≡ ((a && c) && (b && d))

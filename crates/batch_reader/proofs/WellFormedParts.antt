@@ -1,5 +1,5 @@
 -- What makes a recipe's acts well formed: their names differ, and what they name is declared.
-use Rattle.std.proofs.Common.{arith, ◌≡◌, Bool, true, ◌&&◌, List, [], ◌∷◌, ap, refl}
+use Rattle.std.proofs.Common.{arith, ◌≡◌, Bool, true, ◌&&◌, List, [], ◌∷◌, refl}
 use Rattle.std.specs.List.{list_all}
 use Rattle.batch_recipe.specs.Conditions.{Name}
 use Rattle.batch_recipe.specs.WellFormed.{act_names, follows_no_par, is_well_formed, is_work}
@@ -20,8 +20,4 @@ all_pass p q (x ∷ xs) h =
 
 pub well_formed_parts : (values : List Name) (a : Acts) → list_all follows_no_par a.unit_procedures.items ≡ true
     → is_well_formed values a ≡ (names_differ values a && acts_are_declared values a)
-well_formed_parts values a no_par =
-    ap (λ b. names_differ values a
-    && (is_work (act_names a.unit_procedures.items) values a.procedure
-    && (b && (list_all (is_work (act_names a.phases.items) values) a.operations.items && list_all (is_work [] values) a.phases.items))))
-    (all_pass (is_work (act_names a.operations.items) values) follows_no_par a.unit_procedures.items no_par)
+well_formed_parts values a no_par = grind (arith, all_pass (is_work (act_names a.operations.items) values) follows_no_par a.unit_procedures.items no_par)

@@ -1,7 +1,5 @@
-use Rattle.std.proofs.Common.{◌≡◌, ℕ, ◌&&◌, true, false, List, [], ◌∷◌, Option, Some, None, nat_eq, inl, inr, refl, sym, ap, ◌∙◌, codes, arith}
-use Rattle.std.specs.Cmp.Lexicographic.{pointwise}
-use Rattle.std.specs.List.{list_any}
-use Rattle.batch_cell.specs.Equipment.{HasDeclaredUnits, has_declared_unit}
+use Rattle.std.proofs.Common.{◌≡◌, [], ◌∷◌, Some, inl, inr, refl, codes, arith}
+use Rattle.batch_cell.specs.Equipment.{HasDeclaredUnits}
 use Rattle.batch_cell.specs.declared.module.Module.{Module}
 use Rattle.toml.specs.Data.{no_members, table}
 use Rattle.batch_grammar.specs.ChartGrammar.{here, no_offsets, whole, skip as reads_skip}
@@ -12,11 +10,7 @@ use Rattle.batch_reader.proofs.laws.worked_faults.Goals as goal
 
 -- no unit of a cell without any is R9
 unit_is_missing : (m : Module) → m.unit ≡ Some (codes "R9") → HasDeclaredUnits [] (m ∷ []) → ⊥
-unit_is_missing m unit all =
-    let gone : has_declared_unit [] m ≡ false = ap (λ (u : Option (List ℕ)). elim u [ None ↦ true | Some own ↦ list_any (pointwise nat_eq own) [] ]) unit in
-    let test : (has_declared_unit [] m && true) ≡ true = all in
-    let both : true ≡ false = sym test ∙ ap (λ b. b && true) gone in
-    cc both
+unit_is_missing m unit all = grind arith
 
 pub returns-clause-missing : goal.returns-clause-missing
 returns-clause-missing c =
