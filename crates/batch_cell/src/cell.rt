@@ -25,7 +25,7 @@ pub const MAX_SHARED: usize = 64;
 /// A process cell: its equipment in order of declaration, and two indexes over it. `Cell::new` alone makes one.
 ///
 /// The resources are the units, the free modules and the shared resources, numbered from 0 in that order.
-#[derive(Debug, Drop)]
+#[derive(Drop)]
 pub struct Cell {
     pub name: Name,
     pub units: Vec<Unit>,

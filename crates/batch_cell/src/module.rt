@@ -8,7 +8,7 @@ use batch_text::Name;
 pub const MAX_PHASES: usize = 32;
 
 /// An equipment module. One that belongs to no unit is a free module: a resource of its own, without phases.
-#[derive(Debug, Drop)]
+#[derive(Drop)]
 pub struct Module {
     pub name: Name,
     /// The unit that the module belongs to.

@@ -8,7 +8,7 @@ use batch_text::Name;
 pub const MAX_CAPACITY: u32 = 1000;
 
 /// A shared resource, which stands outside the units.
-#[derive(Debug, Drop)]
+#[derive(Drop)]
 pub struct Shared {
     pub name: Name,
     /// How many steps may hold the resource at once.

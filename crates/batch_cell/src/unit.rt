@@ -5,7 +5,7 @@ ghost use Rattle.batch_cell.specs.LookUps.{is_of_class};
 use batch_text::Name;
 
 /// A unit of a cell.
-#[derive(Debug, Drop)]
+#[derive(Drop)]
 pub struct Unit {
     pub name: Name,
     /// The class of units that it is one of. Units of one class may take the same roles.

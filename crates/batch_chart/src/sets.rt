@@ -12,7 +12,7 @@ const SIGNS: usize = 32;
 
 /// For each sign the set of the nodes that show it, as bits, with a bit for each word that isn't 0. So the next node that shows one of some
 /// signs is found by three looks for each of them.
-#[derive(Debug, Drop)]
+#[derive(Drop)]
 pub struct Sets {
     /// For each 64 nodes and each sign a bit for each node that shows it.
     words: Vec<u64>,

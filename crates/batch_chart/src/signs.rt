@@ -8,7 +8,7 @@ use std::marker::Model;
 
 /// For each node a set of signs, as the bits of a word, and for each sign the set of the nodes that show it, by which it is told at once
 /// that no node has a sign, and the next one that has it is found in a few steps.
-#[derive(Debug, Drop)]
+#[derive(Drop)]
 pub struct Signs {
     nodes: Vec<u32>,
     sets: Sets,

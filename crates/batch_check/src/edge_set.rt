@@ -9,7 +9,7 @@ use crate::edge::Edge;
 use std::alloc::{AllocError, Global};
 
 /// Edges between the resources below a count, at most one for each pair of them, in the order in which they were added.
-#[derive(Debug, Drop)]
+#[derive(Drop)]
 pub(crate) struct EdgeSet {
     /// How many resources there are.
     pub(crate) count: u16,

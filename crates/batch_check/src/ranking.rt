@@ -9,7 +9,7 @@ use crate::raising::{Round, raise_all};
 use std::alloc::{AllocError, Global};
 
 /// What edges allow.
-#[derive(Debug, Drop)]
+#[derive(Drop)]
 pub(crate) enum Ranking {
     /// The rank of each resource, by number.
     Ranks(Vec<u32>),

@@ -3,7 +3,7 @@ ghost use Rattle.std.specs.Prelude.{◌≡◌};
 ghost use Rattle.batch_engine.specs.Numbered.{number_for};
 
 /// A resource that an act needs.
-#[derive(Clone, Copy, Debug)]
+#[derive(Clone, Copy)]
 pub enum ResourceNumber {
     /// That with this number.
     Resource(u16),
@@ -27,14 +27,14 @@ impl ResourceNumber {
 }
 
 /// So many units of a resource.
-#[derive(Clone, Copy, Debug)]
+#[derive(Clone, Copy)]
 pub struct NeedNumber {
     pub resource: ResourceNumber,
     pub units: u32,
 }
 
 /// A phase, by its number among those that its unit offers.
-#[derive(Clone, Copy, Debug)]
+#[derive(Clone, Copy)]
 pub struct PhaseNumber {
     pub unit: u16,
     pub phase: u16,
@@ -47,7 +47,7 @@ pub const NO_PHASE: PhaseNumber = PhaseNumber {
 };
 
 /// What an act runs.
-#[derive(Clone, Copy, Debug)]
+#[derive(Clone, Copy)]
 pub enum TaskNumber {
     /// This phase, or none.
     Phase(PhaseNumber),
@@ -56,14 +56,14 @@ pub enum TaskNumber {
 }
 
 /// What an act needs, in the order in which it asks, and what it runs.
-#[derive(Debug, Drop)]
+#[derive(Drop)]
 pub struct ActNumbers {
     pub needs: Vec<NeedNumber>,
     pub task: TaskNumber,
 }
 
 /// What the acts of a recipe need and run, by the numbers of their nodes.
-#[derive(Debug, Drop)]
+#[derive(Drop)]
 pub struct RecipeNumbers {
     pub acts: Vec<ActNumbers>,
     /// How many needs all of them have.

@@ -5,7 +5,7 @@ use batch_text::Name;
 pub const MAX_UNITS: u32 = 1_000;
 
 /// So many units of a resource's capacity, which are granted and given back at once.
-#[derive(Debug, Drop)]
+#[derive(Drop)]
 pub struct Need {
     /// The resource's name.
     pub resource: Name,

@@ -14,7 +14,7 @@ use crate::outline_fault::OutlineFault;
 use std::alloc::Global;
 
 /// The nodes of a recipe's expanded tree, by number.
-#[derive(Debug, Drop)]
+#[derive(Drop)]
 pub struct Outline {
     /// Node `k` is entry `k`.
     pub entries: Vec<Entry>,

@@ -18,7 +18,7 @@ use batch_text::Name;
 use std::alloc::Global;
 
 /// What a recipe is made of, each as `Recipe` says of its field of that name.
-#[derive(Debug, Drop)]
+#[derive(Drop)]
 pub struct RecipeParts {
     pub header: Header,
     pub basis: u64,

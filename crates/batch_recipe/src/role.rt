@@ -5,7 +5,7 @@ use batch_text::Name;
 pub const MAX_ROLES: usize = 4;
 
 /// A role, which a unit of the class takes when a batch is created.
-#[derive(Debug, Drop)]
+#[derive(Drop)]
 pub struct Role {
     pub name: Name,
     pub class: Name,

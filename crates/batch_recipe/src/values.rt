@@ -9,7 +9,7 @@ use batch_text::Name;
 use std::marker::Model;
 
 /// The values of a batch, by name: inputs, parameters and outputs.
-#[derive(Debug, Drop)]
+#[derive(Drop)]
 pub struct Values {
     /// Names and values in the order inputs, parameters, outputs.
     pub entries: Vec<(Name, u64)>,
