@@ -1,11 +1,8 @@
-"""The list of what each promise reaches, as it stands in docs/DEFINITIONS.md."""
+"""The list of what each promise reaches, as it stands in docs/DEFINITIONS.md, and what docs/PROOF.md says of it."""
 from itertools import groupby
 
 from reach import PROMISES, files_of, lines_of, reached_by_promise, used_first
-from sources import TOP, specs
-
-BEGINS, ENDS = "<!-- by tools/definitions: begins -->", "<!-- by tools/definitions: ends -->"
-DEFINITIONS = TOP / "docs" / "DEFINITIONS.md"
+from sources import specs
 
 
 def told(key, found):
@@ -31,12 +28,22 @@ def listing():
     return "\n".join([*lines, f"Together: {lines_of(found):,} lines, {len(found)} definitions, {len(files_of(found))} files."]) + "\n"
 
 
-def is_up_to_date():
-    return f"{BEGINS}\n{listing()}{ENDS}\n" in DEFINITIONS.read_text(encoding="utf-8")
+# Of these crates the headline is to reach no definition: they say how the engine works.
+UNBELIEVED = ["batch_arbiter", "batch_chart", "batch_laws", "batch_safety"]
 
 
-def written():
-    text = DEFINITIONS.read_text(encoding="utf-8")
-    before, _, rest = text.partition(BEGINS + "\n")
-    _, _, after = rest.partition(ENDS + "\n")
-    DEFINITIONS.write_text(f"{before}{BEGINS}\n{listing()}{ENDS}\n{after}", encoding="utf-8")
+def counted(found):
+    return f"{len(found)} definitions of {lines_of(found):,} lines in {len(files_of(found))} files"
+
+
+def headline():
+    """What docs/PROOF.md says of the headline's reach."""
+    found = reached_by_promise(tuple(PROMISES[-1][1]))
+    records = reached_by_promise(("batch_safety::records_are_safe",))
+    own = sorted({it.name for it in found if it.crate == "batch_engine"})
+    none = [it for it in UNBELIEVED if not any(said.crate == it for said in found)]
+    lines = lines_of(it for it in found if it.crate == "batch_engine")
+    return (
+        f"`serving_is_safe` and `run_program` reach {counted(found)}, and `records_are_safe` by itself, the promise for all records, {counted(records)}. "
+        f"Of batch_engine the headline reaches {lines} lines ({', '.join(f'`{it}`' for it in own)}); of {', '.join(none)} none.\n"
+    )

@@ -1,9 +1,11 @@
 -- Closing and sealing a port.
 use Rattle.std.proofs.Common.{◌≡◌, ℕ, ◌+◌, ◌<◌, List, [], ◌∷◌, ◌++◌, length, map, take, Option, Some, None, IfSome, IsSome, refl, sym, ◌∙◌, ap, arith, append-nil, inl, inr, set, get_or, slice_get, subst, Result, Ok, Err, OnOk, IfErr, false, suc, zero}
 use Rattle.std.specs.declared.alloc.Global.{Global}
-use Rattle.rtrb.specs.Ring.{all_sent}
+use Rattle.rtrb.specs.Ring.{all_sent, consumer_capacity, producer_capacity}
 use Rattle.rtrb.specs.declared.AnyItems.{AnyItems}
+use Rattle.rtrb.specs.declared.consumer.Consumer.{Consumer}
 use Rattle.rtrb.specs.declared.finished.Finished.{Finished}
+use Rattle.rtrb.specs.declared.producer.Producer.{Producer}
 use Rattle.std.specs.List.{All}
 use Rattle.batch_model.specs.Plant.{opening}
 use Rattle.batch_engine.specs.View.{plant_of}
@@ -16,7 +18,8 @@ use Rattle.batch_desk.specs.Due.{due, events_of, up_to}
 use Rattle.batch_desk.specs.declared.fault.HubFault.{HubFault}
 use Rattle.batch_desk.specs.declared.fault.HubFault.TheVariants.{Memory, UnknownPort, EventsRemain, Limit, Closed, NotSealable}
 use Rattle.batch_desk.specs.PortState.{PortState, IsSealable, sealed, IsNewPort, closed_at, close_at, port_rings}
-use Rattle.batch_desk.specs.Rings.{Ring}
+use Rattle.batch_desk.specs.Rings.{Ring, ring_of_consumer, ring_of_producer, sizes_of}
+use Rattle.batch_desk.specs.Plans.{sizes_made}
 use Rattle.batch_desk.specs.PortSteps.{StaysOpen}
 use Rattle.batch_engine.specs.View.{EngineView}
 use Rattle.batch_desk.specs.DeskState.{DeskState, desk_rings}
@@ -157,3 +160,9 @@ pub planned_more : {X Y : Type 0} (f : X → Y) (g : PortPlan → Y) (xs : List 
 planned_more f g xs x plans n d lt e same =
     map_push f xs x ∙ (ap (λ ys. ys ++ f x ∷ []) e ∙ (ap (λ y. map g (take n plans) ++ y ∷ []) same
     ∙ (sym (map_push g (take n plans) (get_or plans n d)) ∙ ap (map g) (sym (take_more plans n d lt)))))
+
+-- the rings of a new port have the places that were asked for
+pub sizes_new : (p : PortState) (events : Consumer Event Global AnyItems) (outs : Producer Out Global AnyItems) (m n : ℕ) → port_rings p ≡ (ring_of_consumer events, Some (ring_of_producer outs))
+    → consumer_capacity events ≡ m → producer_capacity outs ≡ n → sizes_made p ≡ (m, Some n)
+sizes_new p events outs m n rings many more =
+    ap sizes_of rings ∙ (ap (λ (k : ℕ). (k, Some outs.end.names.0)) (sym events.reads.2 ∙ many) ∙ ap (λ (k : ℕ). (m, Some k)) (sym outs.writes.2 ∙ more))

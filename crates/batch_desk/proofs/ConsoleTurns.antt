@@ -1,5 +1,5 @@
 -- What a console has sent and taken, one event or one out more.
-use Rattle.std.proofs.Common.{◌≡◌, ℕ, ◌+◌, ◌-◌, ◌<◌, ◌≤◌, List, [], ◌∷◌, ◌++◌, cond, eqb, refl, sym, ◌∙◌, ap, arith, append_assoc, append-nil}
+use Rattle.std.proofs.Common.{◌≡◌, ℕ, ◌+◌, ◌-◌, ◌<◌, ◌≤◌, List, [], ◌∷◌, ◌++◌, length, length-append, inr, true, false, cond, eqb, refl, sym, ◌∙◌, ap, arith, append_assoc, append-nil}
 use Rattle.std.proofs.lemmas.Bool.Decides.{nat_tests}
 use Rattle.std.proofs.lemmas.List.Elements.{All-push}
 use Rattle.std.proofs.lemmas.List.Sums.{sum_by_push, sum_by-append}
@@ -12,8 +12,8 @@ use Rattle.batch_engine.specs.declared.out.Out.{Out}
 use Rattle.batch_desk.specs.declared.step.Step.TheVariants as step
 use Rattle.batch_desk.specs.declared.console.Console.{Console}
 use Rattle.batch_desk.specs.DeskState.{DeskState, Sends}
-use Rattle.batch_desk.specs.Consoles.{IsConsoleEvent, completes, creates, creating, creations, starting, starts, telling_complete, telling_created}
-use Rattle.batch_desk.specs.ConsoleSteps.{Follows, GoesOn, Minds, learned}
+use Rattle.batch_desk.specs.Consoles.{IsConsoleEvent, completes, creates, creating, creations, refusals, starting, starts, telling_complete, telling_created, telling_refused}
+use Rattle.batch_desk.specs.ConsoleSteps.{Follows, GoesOn, IsTried, Minds, learned}
 use Rattle.batch_desk.proofs.Consoles.{learns}
 
 more_appended : {X : Type 0} (before more old new : List X) (x : X) → old ≡ before ++ more → new ≡ old ++ x ∷ [] → new ≡ before ++ (more ++ x ∷ [])
@@ -33,9 +33,9 @@ starts_create m recipe size roles es = sum_by_push (starting m) es (Create recip
 creates_create : (recipe : Name) (size : ℕ) (roles : Vec (Name × Name)) (es : List Event) → creates (es ++ Create recipe size roles ∷ []) ≡ creates es + 1
 creates_create recipe size roles es = sum_by_push creating es (Create recipe size roles)
 
-pub start_goes : (recipe : Name) (size n : ℕ) (c f : Console) (d e : DeskState) → c.step ≡ step.Start n → f.step ≡ step.Wait → f.last ≡ c.last → f.to_create ≡ c.to_create → f.to_complete ≡ c.to_complete
+pub start_goes : (recipe : Name) (size n : ℕ) (c f : Console) (d e : DeskState) → c.step ≡ step.Start n → f.step ≡ step.Wait → f.last ≡ c.last → f.to_create ≡ c.to_create → f.to_complete ≡ c.to_complete → f.refused ≡ c.refused
     → Sends d (Order command.Start n) e → GoesOn recipe size c d f e
-start_goes recipe size n c f d e here waits last creates-left completing sends batches before was =
+start_goes recipe size n c f d e here waits last creates-left completing same sends batches before was =
     let next = was.minds.next n here in
     record {
       is = record {
@@ -55,12 +55,14 @@ start_goes recipe size n c f d e here waits last creates-left completing sends b
         to_complete = completing ∙ was.minds.to_complete;
         above = λ m up. let a = was.minds.above m (omega (arith, last, up)) in let s = starts_start m n was.is.more in let b = next.0 in grind (arith, nat_tests);
         next = λ m at. cc;
+        refused = λ e. was.minds.refused (sym same ∙ e);
+        none_refused = λ e. was.minds.none_refused (sym same ∙ e);
       };
     }
 
-pub create_goes : (recipe : Name) (size : ℕ) (roles : Vec (Name × Name)) (c f : Console) (d e : DeskState) → roles.items ≡ [] → 0 < c.to_create → f.step ≡ step.Wait → f.last ≡ c.last → f.to_create ≡ c.to_create - 1 → f.to_complete ≡ c.to_complete
+pub create_goes : (recipe : Name) (size : ℕ) (roles : Vec (Name × Name)) (c f : Console) (d e : DeskState) → roles.items ≡ [] → 0 < c.to_create → f.step ≡ step.Wait → f.last ≡ c.last → f.to_create ≡ c.to_create - 1 → f.to_complete ≡ c.to_complete → f.refused ≡ c.refused
     → Sends d (Create recipe size roles) e → GoesOn recipe size c d f e
-create_goes recipe size roles c f d e none some waits last creates-left completing sends batches before was = record {
+create_goes recipe size roles c f d e none some waits last creates-left completing same sends batches before was = record {
   is = record {
     events = ap (λ (x : DeskState). x.events) sends.others ∙ was.is.events;
     outs = ap (λ (x : DeskState). x.outs) sends.others ∙ was.is.outs;
@@ -78,8 +80,14 @@ create_goes recipe size roles c f d e none some waits last creates-left completi
     to_complete = completing ∙ was.minds.to_complete;
     above = λ m up. omega (arith, was.minds.above m (omega (arith, last, up)), starts_create m recipe size roles was.is.more);
     next = λ m at. cc;
+    refused = λ e. was.minds.refused (sym same ∙ e);
+    none_refused = λ e. was.minds.none_refused (sym same ∙ e);
   };
 }
+
+-- an event was sent
+pub sent_more : (c f : Console) (d e : DeskState) (event : Event) → Sends d event e → IsTried c d f e
+sent_more c f d e event sends = inr (ap length sends.sent ∙ length-append d.sent (event ∷ []))
 
 -- where there was no place
 pub full_goes : (recipe : Name) (size : ℕ) (c : Console) (d e : DeskState) → e ≡ record d { free = 0 } → GoesOn recipe size c d c e
@@ -150,3 +158,16 @@ none_left recipe size batches before d c follows zero = omega (arith, completes_
 pub some_left : (recipe : Name) (size batches : ℕ) (before d : DeskState) (c : Console) → Follows recipe size batches before c d → completes before.taken + batches ≤ completes d.taken
     → c.to_complete ≡ 0
 some_left recipe size batches before d c follows all = omega (arith, completes_seen recipe size batches before d c follows, follows.minds.to_complete, all)
+
+-- an event was refused where this is kept in mind
+pub refusals_seen : (recipe : Name) (size batches : ℕ) (before d : DeskState) (c : Console) (follows : Follows recipe size batches before c d)
+    → refusals d.taken ≡ refusals before.taken + refusals follows.is.seen
+refusals_seen recipe size batches before d c follows = ap refusals follows.is.taken ∙ sum_by-append telling_refused before.taken follows.is.seen
+
+pub some_refused : (recipe : Name) (size batches : ℕ) (before d : DeskState) (c : Console) → Follows recipe size batches before c d → c.refused ≡ true
+    → refusals before.taken < refusals d.taken
+some_refused recipe size batches before d c follows is = omega (arith, refusals_seen recipe size batches before d c follows, follows.minds.refused is)
+
+pub none_refused : (recipe : Name) (size batches : ℕ) (before d : DeskState) (c : Console) → Follows recipe size batches before c d → c.refused ≡ false
+    → refusals d.taken ≡ refusals before.taken
+none_refused recipe size batches before d c follows is = omega (arith, refusals_seen recipe size batches before d c follows, follows.minds.none_refused is)

@@ -9,20 +9,24 @@ use Rattle.batch_engine.specs.declared.event.Event.{Event}
 use Rattle.batch_engine.specs.declared.line.Line.TheVariants.{Send, State, Release, Begin, Start, End, Ask, Grant}
 use Rattle.batch_engine.specs.declared.out.Out.{Out}
 use Rattle.batch_engine.specs.declared.out.Out.TheVariants.{Reply, Move}
+use Rattle.batch_engine.specs.declared.refusal.Refusal.{Refusal}
 use Rattle.batch_engine.specs.declared.reply.Reply.TheVariants.{Created, Ordered, Removed, Reported, Refused}
 use Rattle.batch_desk.specs.declared.step.Step.{Step}
 use Rattle.batch_desk.specs.declared.step.Step.TheVariants as step
 use Rattle.batch_desk.specs.declared.console.Console.{Console}
-use Rattle.batch_desk.specs.Consoles.{creations, telling_complete, telling_created}
+use Rattle.batch_desk.specs.Consoles.{creations, telling_complete, telling_created, telling_refused}
 use Rattle.batch_desk.specs.ConsoleSteps.{Minds, learned, step_after_start}
 
 others : (batches : ℕ) (c : Console) (sent : List Event) (taken : List Out) (out : Out) → ((n : ℕ) → telling_created n out ≡ 0) → telling_complete out ≡ 0
+    → telling_refused out ≡ 0
     → Minds batches c sent taken → Minds batches c sent (taken ++ out ∷ [])
-others batches c sent taken out uncreated incomplete was = record {
+others batches c sent taken out uncreated incomplete unrefused was = record {
   to_create = was.to_create;
   to_complete = omega (arith, was.to_complete, sum_by_push telling_complete taken out, incomplete);
   above = was.above;
   next = λ n e. let w = was.next n e in (w.0, w.1, omega (arith, sum_by_push (telling_created n) taken out, uncreated n, w.2));
+  refused = λ e. omega (arith, was.refused e, sum_by_push telling_refused taken out);
+  none_refused = λ e. omega (arith, was.none_refused e, sum_by_push telling_refused taken out, unrefused);
 }
 
 same_start : (m n : ℕ) → step.Start m ≡ step.Start n → m ≡ n
@@ -43,12 +47,16 @@ created batches c sent taken batch recipe size units true is was =
           let same = same_start batch n e in
           let told = told_created n batch recipe size units taken in
           (omega (arith, same), was.above n (omega (arith, same, above)), grind (arith, nat_tests));
+      refused = λ e. omega (arith, was.refused e, sum_by_push telling_refused taken (Reply (Created batch recipe size units)));
+      none_refused = λ e. omega (arith, was.none_refused e, sum_by_push telling_refused taken (Reply (Created batch recipe size units)));
     }
 created batches c sent taken batch recipe size units false is was = record {
   to_create = was.to_create;
   to_complete = omega (arith, was.to_complete, sum_by_push telling_complete taken (Reply (Created batch recipe size units)));
   above = was.above;
   next = λ n e. let w = was.next n e in (w.0, w.1, omega (arith, told_created n batch recipe size units taken, w.2));
+  refused = λ e. omega (arith, was.refused e, sum_by_push telling_refused taken (Reply (Created batch recipe size units)));
+  none_refused = λ e. omega (arith, was.none_refused e, sum_by_push telling_refused taken (Reply (Created batch recipe size units)));
 }
 
 same_step : (s : Step) (n : ℕ) → step_after_start s ≡ step.Start n → s ≡ step.Start n
@@ -65,6 +73,8 @@ started batches c sent taken batch now was =
       to_complete = omega (arith, was.to_complete, sum_by_push telling_complete taken out);
       above = was.above;
       next = λ n e. let w = was.next n (same_step c.step n e) in (w.0, w.1, omega (arith, sum_by_push (telling_created n) taken out, w.2));
+      refused = λ e. omega (arith, was.refused e, sum_by_push telling_refused taken out);
+      none_refused = λ e. omega (arith, was.none_refused e, sum_by_push telling_refused taken out);
     }
 
 completed : (batches : ℕ) (c : Console) (sent : List Event) (taken : List Out) (batch : ℕ) → Minds batches c sent taken
@@ -76,37 +86,55 @@ completed batches c sent taken batch was =
       to_complete = omega (arith, was.to_complete, sum_by_push telling_complete taken out);
       above = was.above;
       next = λ n e. let w = was.next n e in (w.0, w.1, omega (arith, sum_by_push (telling_created n) taken out, w.2));
+      refused = λ e. omega (arith, was.refused e, sum_by_push telling_refused taken out);
+      none_refused = λ e. omega (arith, was.none_refused e, sum_by_push telling_refused taken out);
+    }
+
+unlike : true ≡ false → ⊥
+unlike e = cc
+
+refused : (batches : ℕ) (c : Console) (sent : List Event) (taken : List Out) (refusal : Refusal) → Minds batches c sent taken
+    → Minds batches (record c { refused = true }) sent (taken ++ Reply (Refused refusal) ∷ [])
+refused batches c sent taken refusal was =
+    let out : Out = Reply (Refused refusal) in
+    record {
+      to_create = was.to_create;
+      to_complete = omega (arith, was.to_complete, sum_by_push telling_complete taken out);
+      above = was.above;
+      next = λ n e. let w = was.next n e in (w.0, w.1, omega (arith, sum_by_push (telling_created n) taken out, w.2));
+      refused = λ e. omega (arith, sum_by_push telling_refused taken out);
+      none_refused = λ e. absurd (unlike e);
     }
 
 pub learns : (batches : ℕ) (c : Console) (sent : List Event) (taken : List Out) (out : Out) → Minds batches c sent taken → Minds batches (learned out c) sent (taken ++ out ∷ [])
 learns batches c sent taken (Reply (Created batch recipe size units)) was = created batches c sent taken batch recipe size units (nat_lt c.last batch) refl was
 learns batches c sent taken (Reply (Ordered command.Start batch now)) was = started batches c sent taken batch now was
-learns batches c sent taken (Reply (Ordered command.Pause batch now)) was = others batches c sent taken (Reply (Ordered command.Pause batch now)) (λ n. refl) refl was
-learns batches c sent taken (Reply (Ordered command.Resume batch now)) was = others batches c sent taken (Reply (Ordered command.Resume batch now)) (λ n. refl) refl was
-learns batches c sent taken (Reply (Ordered command.Hold batch now)) was = others batches c sent taken (Reply (Ordered command.Hold batch now)) (λ n. refl) refl was
-learns batches c sent taken (Reply (Ordered command.Restart batch now)) was = others batches c sent taken (Reply (Ordered command.Restart batch now)) (λ n. refl) refl was
-learns batches c sent taken (Reply (Ordered command.Stop batch now)) was = others batches c sent taken (Reply (Ordered command.Stop batch now)) (λ n. refl) refl was
-learns batches c sent taken (Reply (Ordered command.Abort batch now)) was = others batches c sent taken (Reply (Ordered command.Abort batch now)) (λ n. refl) refl was
-learns batches c sent taken (Reply (Ordered command.Reset batch now)) was = others batches c sent taken (Reply (Ordered command.Reset batch now)) (λ n. refl) refl was
-learns batches c sent taken (Reply (Removed batch)) was = others batches c sent taken (Reply (Removed batch)) (λ n. refl) refl was
-learns batches c sent taken (Reply (Reported unit phase word batch recipe node now)) was = others batches c sent taken (Reply (Reported unit phase word batch recipe node now)) (λ n. refl) refl was
-learns batches c sent taken (Reply (Refused refusal)) was = others batches c sent taken (Reply (Refused refusal)) (λ n. refl) refl was
-learns batches c sent taken (Move (Send batch recipe node unit phase word)) was = others batches c sent taken (Move (Send batch recipe node unit phase word)) (λ n. refl) refl was
-learns batches c sent taken (Move (State batch state.Idle)) was = others batches c sent taken (Move (State batch state.Idle)) (λ n. refl) refl was
-learns batches c sent taken (Move (State batch state.Running)) was = others batches c sent taken (Move (State batch state.Running)) (λ n. refl) refl was
-learns batches c sent taken (Move (State batch state.Pausing)) was = others batches c sent taken (Move (State batch state.Pausing)) (λ n. refl) refl was
-learns batches c sent taken (Move (State batch state.Paused)) was = others batches c sent taken (Move (State batch state.Paused)) (λ n. refl) refl was
-learns batches c sent taken (Move (State batch state.Holding)) was = others batches c sent taken (Move (State batch state.Holding)) (λ n. refl) refl was
-learns batches c sent taken (Move (State batch state.Held)) was = others batches c sent taken (Move (State batch state.Held)) (λ n. refl) refl was
-learns batches c sent taken (Move (State batch state.Restarting)) was = others batches c sent taken (Move (State batch state.Restarting)) (λ n. refl) refl was
-learns batches c sent taken (Move (State batch state.Stopping)) was = others batches c sent taken (Move (State batch state.Stopping)) (λ n. refl) refl was
-learns batches c sent taken (Move (State batch state.Stopped)) was = others batches c sent taken (Move (State batch state.Stopped)) (λ n. refl) refl was
-learns batches c sent taken (Move (State batch state.Aborting)) was = others batches c sent taken (Move (State batch state.Aborting)) (λ n. refl) refl was
-learns batches c sent taken (Move (State batch state.Aborted)) was = others batches c sent taken (Move (State batch state.Aborted)) (λ n. refl) refl was
+learns batches c sent taken (Reply (Ordered command.Pause batch now)) was = others batches c sent taken (Reply (Ordered command.Pause batch now)) (λ n. refl) refl refl was
+learns batches c sent taken (Reply (Ordered command.Resume batch now)) was = others batches c sent taken (Reply (Ordered command.Resume batch now)) (λ n. refl) refl refl was
+learns batches c sent taken (Reply (Ordered command.Hold batch now)) was = others batches c sent taken (Reply (Ordered command.Hold batch now)) (λ n. refl) refl refl was
+learns batches c sent taken (Reply (Ordered command.Restart batch now)) was = others batches c sent taken (Reply (Ordered command.Restart batch now)) (λ n. refl) refl refl was
+learns batches c sent taken (Reply (Ordered command.Stop batch now)) was = others batches c sent taken (Reply (Ordered command.Stop batch now)) (λ n. refl) refl refl was
+learns batches c sent taken (Reply (Ordered command.Abort batch now)) was = others batches c sent taken (Reply (Ordered command.Abort batch now)) (λ n. refl) refl refl was
+learns batches c sent taken (Reply (Ordered command.Reset batch now)) was = others batches c sent taken (Reply (Ordered command.Reset batch now)) (λ n. refl) refl refl was
+learns batches c sent taken (Reply (Removed batch)) was = others batches c sent taken (Reply (Removed batch)) (λ n. refl) refl refl was
+learns batches c sent taken (Reply (Reported unit phase word batch recipe node now)) was = others batches c sent taken (Reply (Reported unit phase word batch recipe node now)) (λ n. refl) refl refl was
+learns batches c sent taken (Reply (Refused refusal)) was = refused batches c sent taken refusal was
+learns batches c sent taken (Move (Send batch recipe node unit phase word)) was = others batches c sent taken (Move (Send batch recipe node unit phase word)) (λ n. refl) refl refl was
+learns batches c sent taken (Move (State batch state.Idle)) was = others batches c sent taken (Move (State batch state.Idle)) (λ n. refl) refl refl was
+learns batches c sent taken (Move (State batch state.Running)) was = others batches c sent taken (Move (State batch state.Running)) (λ n. refl) refl refl was
+learns batches c sent taken (Move (State batch state.Pausing)) was = others batches c sent taken (Move (State batch state.Pausing)) (λ n. refl) refl refl was
+learns batches c sent taken (Move (State batch state.Paused)) was = others batches c sent taken (Move (State batch state.Paused)) (λ n. refl) refl refl was
+learns batches c sent taken (Move (State batch state.Holding)) was = others batches c sent taken (Move (State batch state.Holding)) (λ n. refl) refl refl was
+learns batches c sent taken (Move (State batch state.Held)) was = others batches c sent taken (Move (State batch state.Held)) (λ n. refl) refl refl was
+learns batches c sent taken (Move (State batch state.Restarting)) was = others batches c sent taken (Move (State batch state.Restarting)) (λ n. refl) refl refl was
+learns batches c sent taken (Move (State batch state.Stopping)) was = others batches c sent taken (Move (State batch state.Stopping)) (λ n. refl) refl refl was
+learns batches c sent taken (Move (State batch state.Stopped)) was = others batches c sent taken (Move (State batch state.Stopped)) (λ n. refl) refl refl was
+learns batches c sent taken (Move (State batch state.Aborting)) was = others batches c sent taken (Move (State batch state.Aborting)) (λ n. refl) refl refl was
+learns batches c sent taken (Move (State batch state.Aborted)) was = others batches c sent taken (Move (State batch state.Aborted)) (λ n. refl) refl refl was
 learns batches c sent taken (Move (State batch state.Complete)) was = completed batches c sent taken batch was
-learns batches c sent taken (Move (Release batch recipe node resource units)) was = others batches c sent taken (Move (Release batch recipe node resource units)) (λ n. refl) refl was
-learns batches c sent taken (Move (Begin batch recipe node)) was = others batches c sent taken (Move (Begin batch recipe node)) (λ n. refl) refl was
-learns batches c sent taken (Move (Start batch recipe node unit phase values)) was = others batches c sent taken (Move (Start batch recipe node unit phase values)) (λ n. refl) refl was
-learns batches c sent taken (Move (End batch recipe node)) was = others batches c sent taken (Move (End batch recipe node)) (λ n. refl) refl was
-learns batches c sent taken (Move (Ask batch recipe node resource units)) was = others batches c sent taken (Move (Ask batch recipe node resource units)) (λ n. refl) refl was
-learns batches c sent taken (Move (Grant batch recipe node resource units)) was = others batches c sent taken (Move (Grant batch recipe node resource units)) (λ n. refl) refl was
+learns batches c sent taken (Move (Release batch recipe node resource units)) was = others batches c sent taken (Move (Release batch recipe node resource units)) (λ n. refl) refl refl was
+learns batches c sent taken (Move (Begin batch recipe node)) was = others batches c sent taken (Move (Begin batch recipe node)) (λ n. refl) refl refl was
+learns batches c sent taken (Move (Start batch recipe node unit phase values)) was = others batches c sent taken (Move (Start batch recipe node unit phase values)) (λ n. refl) refl refl was
+learns batches c sent taken (Move (End batch recipe node)) was = others batches c sent taken (Move (End batch recipe node)) (λ n. refl) refl refl was
+learns batches c sent taken (Move (Ask batch recipe node resource units)) was = others batches c sent taken (Move (Ask batch recipe node resource units)) (λ n. refl) refl refl was
+learns batches c sent taken (Move (Grant batch recipe node resource units)) was = others batches c sent taken (Move (Grant batch recipe node resource units)) (λ n. refl) refl refl was

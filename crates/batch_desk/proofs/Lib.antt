@@ -11,4 +11,5 @@ pub mod Safe
 pub mod Consoles
 pub mod ConsoleTurns
 pub mod HubTurns
+pub mod Gates
 pub mod Settled

@@ -1,5 +1,5 @@
 -- private: what a console keeps in mind, and the steps of its turns.
-use Rattle.std.specs.Prelude.{◌≡◌, ℕ, ◌+◌, ◌-◌, ◌<◌, ◌≤◌, List, nat_lt, true, false}
+use Rattle.std.specs.Prelude.{◌≡◌, ℕ, ◌+◌, ◌-◌, ◌<◌, ◌≤◌, ◌⊎◌, List, length, nat_lt, true, false}
 use Rattle.batch_recipe.specs.Conditions.{Name}
 use Rattle.batch_matrix.specs.declared.command.Command.TheVariants as command
 use Rattle.batch_matrix.specs.declared.state.State.TheVariants.{Complete}
@@ -7,12 +7,12 @@ use Rattle.batch_engine.specs.declared.event.Event.{Event}
 use Rattle.batch_engine.specs.declared.line.Line.TheVariants.{State}
 use Rattle.batch_engine.specs.declared.out.Out.{Out}
 use Rattle.batch_engine.specs.declared.out.Out.TheVariants.{Reply, Move}
-use Rattle.batch_engine.specs.declared.reply.Reply.TheVariants.{Created, Ordered}
+use Rattle.batch_engine.specs.declared.reply.Reply.TheVariants.{Created, Ordered, Refused}
 use Rattle.batch_desk.specs.declared.step.Step.{Step}
 use Rattle.batch_desk.specs.declared.step.Step.TheVariants.{Create, Start, Wait}
 use Rattle.batch_desk.specs.declared.console.Console.{Console}
 use Rattle.batch_desk.specs.DeskState.{DeskState}
-use Rattle.batch_desk.specs.Consoles.{IsConsole, completes, creates, creations, starts}
+use Rattle.batch_desk.specs.Consoles.{IsConsole, completes, creates, creations, refusals, starts}
 
 -- what a console of so many batches keeps in mind agrees with what it sent and took: no batch above the last was started, and
 -- that which is to be started was created, and not started yet
@@ -21,6 +21,8 @@ pub record Minds (batches : ℕ) (c : Console) (sent : List Event) (taken : List
   pub to_complete : c.to_complete ≡ batches - completes taken
   pub above : (n : ℕ) → c.last < n → starts n sent ≡ 0
   pub next : (n : ℕ) → c.step ≡ Start n → (n ≤ c.last) × (starts n sent ≡ 0) × (1 ≤ creations n taken)
+  pub refused : c.refused ≡ true → 1 ≤ refusals taken
+  pub none_refused : c.refused ≡ false → refusals taken ≡ 0
 
 -- what has been sent and taken since `before` is a console's, and it keeps that in mind
 pub record Follows (recipe : Name) (size batches : ℕ) (before : DeskState) (c : Console) (d : DeskState) : Type 0 where
@@ -31,6 +33,10 @@ pub record Follows (recipe : Name) (size batches : ℕ) (before : DeskState) (c 
 abbrev pub GoesOn : Name → ℕ → Console → DeskState → Console → DeskState → Type 0
 GoesOn recipe size c d f e = (batches : ℕ) (before : DeskState) → Follows recipe size batches before c d → Follows recipe size batches before f e
 
+-- an event was sent, or the same is to be sent as before
+abbrev pub IsTried : Console → DeskState → Console → DeskState → Type 0
+IsTried c d f e = (f ≡ c) ⊎ (length e.sent ≡ length d.sent + 1)
+
 -- after a start is answered the next create follows
 abbrev pub step_after_start : Step → Step
 step_after_start Wait = Create
@@ -40,5 +46,6 @@ step_after_start step = step
 abbrev pub learned : Out → Console → Console
 learned (Reply (Created batch recipe size units)) c = elim (nat_lt c.last batch) [ true ↦ record c { step = Start batch; last = batch } | false ↦ c ]
 learned (Reply (Ordered command.Start batch state)) c = record c { step = step_after_start c.step }
+learned (Reply (Refused refusal)) c = record c { refused = true }
 learned (Move (State batch Complete)) c = record c { to_complete = c.to_complete - 1 }
 learned _ c = c

@@ -9,7 +9,7 @@ use Rattle.batch_engine.specs.declared.event.Event.TheVariants.{Create, Order}
 use Rattle.batch_engine.specs.declared.line.Line.TheVariants.{State}
 use Rattle.batch_engine.specs.declared.out.Out.{Out}
 use Rattle.batch_engine.specs.declared.out.Out.TheVariants.{Reply, Move}
-use Rattle.batch_engine.specs.declared.reply.Reply.TheVariants.{Created}
+use Rattle.batch_engine.specs.declared.reply.Reply.TheVariants.{Created, Refused}
 use Rattle.batch_desk.specs.DeskState.{DeskState}
 
 -- a create of this recipe in this size that binds no roles, or the start of a batch
@@ -38,6 +38,11 @@ abbrev pub telling_complete : Out → ℕ
 telling_complete (Move (State batch Complete)) = 1
 telling_complete _ = 0
 
+-- one for a reply that refuses an event
+abbrev pub telling_refused : Out → ℕ
+telling_refused (Reply (Refused refusal)) = 1
+telling_refused _ = 0
+
 -- how many creates there are, and how many starts of batch n
 abbrev pub creates : List Event → ℕ
 creates events = sum_by creating events
@@ -51,6 +56,10 @@ creations n outs = sum_by (telling_created n) outs
 
 abbrev pub completes : List Out → ℕ
 completes outs = sum_by telling_complete outs
+
+-- how many events were refused
+abbrev pub refusals : List Out → ℕ
+refusals outs = sum_by telling_refused outs
 
 -- a console has sent more events from its desk, and taken more outs: it sent creates of its recipe in its size, for as many
 -- batches at most, and the start of each batch at most once, and only where it was told that the batch was created

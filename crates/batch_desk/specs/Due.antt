@@ -1,4 +1,4 @@
--- trusted: what a port is due of the record.
+-- surface: what a port is due of the record.
 use Rattle.std.specs.Prelude.{ℕ, Bool, true, false, cond, eqb, List, [], ◌∷◌, Option, Some, None, take}
 use Rattle.batch_engine.specs.declared.event.Event.{Event}
 use Rattle.batch_engine.specs.declared.line.Line.{Line}

@@ -1,4 +1,4 @@
--- trusted: when a hub has nothing left to do for its first batches.
+-- surface: when a hub has nothing left to do for its first batches.
 use Rattle.std.specs.Prelude.{◌≡◌, ℕ, ◌≤◌, [], Some, IsNone}
 use Rattle.std.specs.List.{All}
 use Rattle.batch_matrix.specs.declared.state.State.TheVariants.{Complete}

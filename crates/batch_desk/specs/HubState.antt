@@ -1,4 +1,4 @@
--- trusted: the hub's account: its history and record, the engine that they lead to, and the ports.
+-- surface: the hub's account: its history and record, the engine that they lead to, and the ports.
 use Rattle.std.specs.Prelude.{◌≡◌, ℕ, ◌<◌, ◌≤◌, ◌++◌, List, map, length, Option, None, IfSome, slice_index_or}
 use Rattle.batch_model.specs.Plant.{opening}
 use Rattle.batch_model.specs.Moves.{next}

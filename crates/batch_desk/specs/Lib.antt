@@ -7,6 +7,7 @@ pub mod HubState
 pub mod Turns
 pub mod Ends
 pub mod HubDone
+pub mod Gates
 pub mod Consoles
 pub mod ConsoleSteps
 pub mod Laws

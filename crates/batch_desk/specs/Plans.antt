@@ -1,5 +1,5 @@
 -- surface: the plans of a hub's ports, and what a hub is made of them.
-use Rattle.std.specs.Prelude.{◌≡◌, ℕ, ◌≤◌, List, length, map}
+use Rattle.std.specs.Prelude.{◌≡◌, ℕ, ◌≤◌, List, length, map, Option, Some}
 use Rattle.std.specs.List.{All}
 use Rattle.batch_desk.specs.declared.fault.HubFault.{HubFault}
 use Rattle.batch_desk.specs.declared.fault.HubFault.TheVariants.{Memory, Limit}
@@ -7,6 +7,7 @@ use Rattle.batch_desk.specs.declared.plan.PortPlan.{PortPlan}
 use Rattle.batch_desk.specs.declared.scope.Scope.{Scope}
 use Rattle.batch_desk.specs.DeskState.{DeskState, IsNewDesk, desk_rings}
 use Rattle.batch_desk.specs.PortState.{PortState, IsNewPort, port_rings}
+use Rattle.batch_desk.specs.Rings.{sizes_of}
 
 -- rings of 1 to 4,096 places
 pub record IsPlanWithin (plan : PortPlan) : Type 0 where
@@ -28,6 +29,13 @@ port_planned plan = (plan.scope, plan.out_places)
 abbrev pub port_made : PortState → Scope × ℕ
 port_made p = (p.scope, p.free)
 
+-- how many places the rings of a port have
+abbrev pub sizes_planned : PortPlan → ℕ × Option ℕ
+sizes_planned plan = (plan.event_places, Some plan.out_places)
+
+abbrev pub sizes_made : PortState → ℕ × Option ℕ
+sizes_made p = sizes_of (port_rings p)
+
 abbrev pub places_planned : PortPlan → ℕ
 places_planned plan = plan.event_places
 
@@ -41,6 +49,7 @@ pub record AreOfPlans (plans : List PortPlan) (ports : List PortState) (desks : 
   pub rings : map port_rings ports ≡ map desk_rings desks
   pub scopes : map port_made ports ≡ map port_planned plans
   pub places : map places_free desks ≡ map places_planned plans
+  pub sizes : map sizes_made ports ≡ map sizes_planned plans
 
 -- why no hub was made
 abbrev pub RefusesNew : List PortPlan → HubFault → Type 0

@@ -1,4 +1,4 @@
--- trusted: what is seen of a port.
+-- surface: what is seen of a port.
 use Rattle.std.specs.Prelude.{◌≡◌, ℕ, Bool, true, false, List, [], Option, Some, None, IsSome}
 use Rattle.std.specs.declared.alloc.Global.{Global}
 use Rattle.rtrb.specs.Ring.{sent, known_free}

@@ -1,6 +1,6 @@
 //! What a console keeps in mind between its turns.
 ghost use Rattle.std.specs.Prelude.{◌≡◌, ◌<◌, ℕ, List, []};
-ghost use Rattle.batch_desk.specs.ConsoleSteps.{GoesOn, Minds, learned};
+ghost use Rattle.batch_desk.specs.ConsoleSteps.{GoesOn, IsTried, Minds, learned};
 ghost use Rattle.batch_desk.specs.declared.step.Step.TheVariants.{Start as ToStart};
 
 use crate::desk::Desk;
@@ -20,6 +20,8 @@ pub(crate) struct Console {
     pub(crate) to_create: u64,
     /// How many batches are still to become complete.
     pub(crate) to_complete: u64,
+    /// Whether an event was refused.
+    pub(crate) refused: bool,
 }
 
 impl Console {
@@ -31,6 +33,7 @@ impl Console {
             last: 0,
             to_create: batches,
             to_complete: batches,
+            refused: false,
         }
     }
 
@@ -55,6 +58,7 @@ impl Console {
                     self.step = Step::Create;
                 }
             }
+            Out::Reply(Reply::Refused(_)) => self.refused = true,
             Out::Move(
                 Line::State {
                     state: State::Complete,
@@ -68,7 +72,8 @@ impl Console {
     /// Tells a batch to start, where there is a place for it.
     fn start(&mut self, desk: &mut Desk, batch: u64)
         requires { self.old.step ≡ ToStart batch }
-        ensures { (recipe : List ℕ) (size : ℕ) → GoesOn recipe size self.old desk.old self.new desk.new }
+        ensures goes { (recipe : List ℕ) (size : ℕ) → GoesOn recipe size self.old desk.old self.new desk.new }
+        ensures tries { IsTried self.old desk.old self.new desk.new }
     {
         let command = Command::Start;
         match desk.send(Event::Order { command, batch }) {
@@ -80,7 +85,8 @@ impl Console {
     /// Sends a create that binds no roles, where there is a place for it.
     fn create(&mut self, alloc: Global, desk: &mut Desk, recipe: Name, size: u64)
         requires { 0 < self.old.to_create }
-        ensures { GoesOn recipe size self.old desk.old self.new desk.new }
+        ensures goes { GoesOn recipe size self.old desk.old self.new desk.new }
+        ensures tries { IsTried self.old desk.old self.new desk.new }
     {
         let roles = Vec::new(alloc);
         match desk.send(Event::Create {
@@ -98,7 +104,8 @@ impl Console {
 
     /// Sends what is next, where there are memory and a place for it.
     fn act(&mut self, alloc: Global, desk: &mut Desk, recipe: &Name, size: u64)
-        ensures { GoesOn recipe.now size self.old desk.old self.new desk.new }
+        ensures goes { GoesOn recipe.now size self.old desk.old self.new desk.new }
+        ensures tries { IsTried self.old desk.old self.new desk.new }
     {
         match self.step {
             Step::Wait => {}

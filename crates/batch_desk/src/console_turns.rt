@@ -1,7 +1,8 @@
 //! The loop of a console.
-ghost use Rattle.std.specs.Prelude.{◌≡◌, ◌↔◌, ◌+◌, ◌≤◌};
-ghost use Rattle.batch_desk.specs.Consoles.{IsConsole, completes};
-ghost use Rattle.batch_desk.specs.declared.loop_end.LoopEnd.TheVariants.{Done};
+ghost use Rattle.std.specs.Prelude.{◌≡◌, ◌↔◌, ◌+◌, ◌<◌, ◌≤◌};
+ghost use Rattle.batch_desk.specs.Consoles.{IsConsole, completes, refusals};
+ghost use Rattle.batch_desk.specs.Gates.{AreAsked};
+ghost use Rattle.batch_desk.specs.declared.loop_end.LoopEnd.TheVariants.{Done, Refused, TurnsOut};
 
 use crate::console::Console;
 use crate::desk::Desk;
@@ -11,7 +12,8 @@ use batch_text::Name;
 use std::alloc::Global;
 
 /// Makes batches of a recipe in a size, one after the other: sends a create, starts the batch once it is told that it was created,
-/// and sends the next create once the start is answered, until `batches` moves were taken by which a batch became complete. One
+/// and sends the next create once the start is answered, until `batches` moves were taken by which a batch became complete, or an
+/// event is refused. One
 /// turn takes at most one out and sends at most one event; an event for which there is no memory or no place is tried again at
 /// the next. At most `limit` turns are counted, among them those that the gate doesn't let pass.
 pub fn console_loop<G: Gate>(
@@ -25,11 +27,16 @@ pub fn console_loop<G: Gate>(
 ) -> LoopEnd
     ensures console { IsConsole recipe.now size batches desk.old desk.new }
     ensures end { (result ≡ Done) ↔ (completes desk.old.taken + batches ≤ completes desk.new.taken) }
+    ensures refused { (result ≡ Refused) → refusals desk.old.taken < refusals desk.new.taken }
+    ensures turns { (result ≡ TurnsOut) → (refusals desk.new.taken ≡ refusals desk.old.taken) × AreAsked G.passes limit gate.old gate.new }
 {
     let mut console = Console::new(batches);
     for turn in 0..limit {
         if console.to_complete == 0 {
             return LoopEnd::Done;
+        }
+        if console.refused {
+            return LoopEnd::Refused;
         }
         if gate.pass(turn) {
             console.take_turn(alloc, desk, recipe, size);
@@ -37,6 +44,8 @@ pub fn console_loop<G: Gate>(
     }
     if console.to_complete == 0 {
         LoopEnd::Done
+    } else if console.refused {
+        LoopEnd::Refused
     } else {
         LoopEnd::TurnsOut
     }

@@ -1,5 +1,5 @@
 //! The end of a port that a console or an equipment link works with.
-ghost use Rattle.std.specs.Prelude.{◌≡◌, ◌<◌, OnOk, IfErr, IfSome, IsOk};
+ghost use Rattle.std.specs.Prelude.{◌≡◌, ◌<◌, ◌≤◌, ◌+◌, OnOk, IfErr, IfSome, IsOk};
 ghost use Rattle.rtrb.specs.Ring.{sent, received, known_free, all_sent};
 ghost use Rattle.batch_desk.specs.Rings.{IsOfRing, ring_of_producer, ring_of_consumer};
 ghost use Rattle.batch_desk.specs.DeskState.{IsLeftOf, Sends, Takes};
@@ -43,6 +43,7 @@ impl Desk {
         ensures sent { OnOk result (Sends self.old event self.new) }
         ensures full { IfErr result (λ full. (full.0 ≡ event) × (self.new ≡ record self.old { free = 0 })) }
         ensures free { 0 < self.old.free → IsOk result }
+        ensures places { OnOk result (self.old.free ≤ self.new.free + 1) }
     {
         match self.events.push(event) {
             Ok(()) => Ok(()),

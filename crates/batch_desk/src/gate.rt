@@ -2,6 +2,12 @@
 
 /// Decides before each turn of a loop whether it is made.
 pub trait Gate {
+    ghost use Rattle.std.specs.Prelude.{ℕ, Bool};
+
+    /// What the gate may be after it was asked for a turn and gave this answer.
+    ghost passes: { Self → ℕ → Bool → Self → Type 0 };
+
     /// Whether the turn with this number is made. A turn that isn't made counts too; the first has the number 0.
-    fn pass(&mut self, turn: u64) -> bool;
+    fn pass(&mut self, turn: u64) -> bool
+        ensures { passes self.old turn result self.new };
 }

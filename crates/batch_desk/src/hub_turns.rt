@@ -3,8 +3,9 @@ ghost use Rattle.std.specs.Prelude.{◌≡◌, ◌↔◌, IsTrue};
 ghost use Rattle.std.specs.List.{All};
 ghost use mathlib.Core.List.{IsPrefix};
 ghost use Rattle.batch_desk.specs.HubState.{outlines, rings};
+ghost use Rattle.batch_desk.specs.Gates.{AreAsked};
 ghost use Rattle.batch_desk.specs.HubDone.{AreComplete, HasNoneWaiting, IsComplete, IsHubDone};
-ghost use Rattle.batch_desk.specs.declared.loop_end.LoopEnd.TheVariants.{Done};
+ghost use Rattle.batch_desk.specs.declared.loop_end.LoopEnd.TheVariants.{Done, TurnsOut};
 
 use crate::gate::Gate;
 use crate::hub::Hub;
@@ -65,6 +66,7 @@ pub fn hub_loop<G: Gate>(hub: &mut Hub, batches: u64, gate: &mut G, limit: u64) 
     ensures history { IsPrefix hub.old.history hub.new.history }
     ensures record { IsPrefix hub.old.outs hub.new.outs }
     ensures end { (result ≡ Done) ↔ IsHubDone batches hub.new }
+    ensures turns { ¬ (result ≡ Done) → (result ≡ TurnsOut) × AreAsked G.passes limit gate.old gate.new }
 {
     let mut port = 0;
     for number in 0..limit {

@@ -3,7 +3,7 @@ ghost use Rattle.std.specs.Prelude.{◌≡◌, ◌↔◌, [], IsTrue, IfOk, IfEr
 ghost use Rattle.batch_model.specs.Plant.{opening};
 ghost use Rattle.batch_engine.specs.View.{plant_of};
 ghost use Rattle.batch_desk.specs.DeskState.{IsNewDesk, desk_rings};
-ghost use Rattle.batch_desk.specs.Plans.{AreOfPlans, ArePlansWithin, RefusesNew, port_made, port_planned};
+ghost use Rattle.batch_desk.specs.Plans.{AreOfPlans, ArePlansWithin, RefusesNew, port_made, port_planned, sizes_made, sizes_planned};
 ghost use Rattle.batch_desk.specs.PortState.{IsNewPort, port_rings};
 ghost use Rattle.batch_desk.specs.declared.fault.HubFault.TheVariants.{Memory};
 
@@ -28,14 +28,13 @@ fn are_within(plans: &[PortPlan]) -> bool
 
 /// Makes the two rings of a port.
 fn open_port(alloc: Global, plan: PortPlan) -> Result<(Port, Desk), AllocError>
-    ensures { IfOk result (λ r. IsNewPort r.0 × IsNewDesk r.1 × (port_rings r.0 ≡ desk_rings r.1) × (port_made r.0 ≡ port_planned plan) × (r.1.free ≡ plan.event_places)) }
+    ensures made { IfOk result (λ r. IsNewPort r.0 × IsNewDesk r.1 × (port_rings r.0 ≡ desk_rings r.1) × (port_made r.0 ≡ port_planned plan) × (r.1.free ≡ plan.event_places)) }
+    ensures sizes { IfOk result (λ r. sizes_made r.0 ≡ sizes_planned plan) }
 {
     let (sends, events) = RingBuffer::new(alloc, plan.event_places)?;
     let (outs, takes) = RingBuffer::new(alloc, plan.out_places)?;
-    Ok((
-        Port::new(alloc, plan.scope, events, outs),
-        Desk::new(sends, takes),
-    ))
+    let port = Port::new(alloc, plan.scope, events, outs);
+    Ok((port, Desk::new(sends, takes)))
 }
 
 /// Makes the ports, and the desk of each at the port's place.

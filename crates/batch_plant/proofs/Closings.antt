@@ -1,5 +1,5 @@
 -- What is known of the ports of a plant, and of their desks.
-use Rattle.std.proofs.Common.{◌≡◌, ℕ, zero, suc, ◌+◌, List, [], ◌∷◌, ◌++◌, length, map, Option, Some, None, IfSome, IsSome, option_map, slice_get, unwrap_or, refl, sym, ap, ◌∙◌, subst, add-one}
+use Rattle.std.proofs.Common.{◌≡◌, ℕ, zero, suc, ◌+◌, List, [], ◌∷◌, ◌++◌, length, map, Option, Some, None, IfSome, IsSome, option_map, slice_get, unwrap_or, refl, sym, ap, ◌∙◌, subst, add-one, arith, length-append}
 use Rattle.std.specs.List.{All, slice_set}
 use Rattle.std.proofs.lemmas.List.{length-map}
 use Rattle.std.proofs.lemmas.Option.{same_Some, slice_get-map, IfSome_then}
@@ -17,6 +17,7 @@ use Rattle.batch_engine.specs.Surface.{event_of}
 use Rattle.batch_engine.specs.declared.event.Event.{Event}
 use Rattle.batch_engine.specs.declared.event.Event.TheVariants.{Create, Order, Remove, Report}
 use Rattle.batch_sim.specs.declared.order.Order.{Order as Told}
+use Rattle.rtrb.specs.Ring.{all_sent}
 use Rattle.rtrb.specs.declared.AnyItems.{AnyItems}
 use Rattle.rtrb.specs.declared.finished.Finished.{Finished}
 use Rattle.std.specs.declared.alloc.Global.{Global}
@@ -24,15 +25,15 @@ use Rattle.batch_engine.specs.declared.out.Out.{Out}
 use Rattle.batch_desk.specs.Consoles.{IsConsole}
 use Rattle.batch_desk.specs.Due.{events_of}
 use Rattle.batch_desk.specs.Ends.{Seals}
-use Rattle.batch_desk.specs.Rings.{IsOfRing, Ring}
+use Rattle.batch_desk.specs.Rings.{IsOfRing, Ring, places_of}
 use Rattle.batch_desk.specs.DeskState.{DeskState, IsNewDesk, desk_rings}
 use Rattle.batch_desk.specs.HubState.{HubState, rings}
-use Rattle.batch_desk.specs.Plans.{AreOfPlans, places_free}
-use Rattle.batch_desk.specs.PortState.{port_rings, sealed}
+use Rattle.batch_desk.specs.Plans.{AreOfPlans, places_free, sizes_made}
+use Rattle.batch_desk.specs.PortState.{PortState, port_rings, sealed}
 use Rattle.batch_desk.specs.declared.plan.PortPlan.{PortPlan}
 use Rattle.batch_plant.specs.Links.{Deed, took, ticked, listed, report_in, reports_made, IsLink}
-use Rattle.batch_plant.specs.Parts.{AreParts, LinkRan}
-use Rattle.batch_plant.specs.Plants.{AreOfConsole, ComesFromDesks, IsReport}
+use Rattle.batch_plant.specs.Parts.{AreParts, HaveRings, IsRest, LinkRan}
+use Rattle.batch_plant.specs.Plants.{AreOfConsole, ComesFromDesks, HasEventRings, HasLink, IsReport, event_rings}
 use Rattle.batch_plant.specs.declared.plant_rests.PlantRests.{PlantRests}
 
 pub at_place : {X Y : Type 0} (f : X → Y) (xs : List X) (k : ℕ) (y : Y) → slice_get (map f xs) k ≡ Some y → IfSome (slice_get xs k) (λ x. f x ≡ y)
@@ -83,13 +84,15 @@ sent_alone (e ∷ more) kept all is each =
 
 -- a link sends reports alone
 pub link_ran : {D : Type 0} (command_gives : D → ℕ → Told → D → Type 0) (tick_gives : D → Option (ℕ × Word) → D → Type 0) (cell : Cell) (d e : DeskState) (old new : List D)
-    → IsLink command_gives tick_gives cell d e old new → LinkRan d e
+    → IsLink command_gives tick_gives cell d e old new → LinkRan command_gives tick_gives cell old d e
 link_ran command_gives tick_gives cell d e old new h = record {
   events = h.links.events;
   outs = h.links.outs;
   more = h.links.more;
   sent = h.links.sent;
   each = sent_alone h.links.more h.kept (reports_made cell h.links.deeds) h.links.reports (reports_alone cell h.links.deeds);
+  later = new;
+  works = h;
 }
 
 -- a new hub has one desk for each plan
@@ -141,12 +144,60 @@ next_sealed port h g token seals = ap (λ ps. slice_get (map port_rings ps) (por
 pub still_complete : (batches : ℕ) (h g : HubState) → g.engine ≡ h.engine → AreComplete batches h → AreComplete batches g
 still_complete batches h g same all n least most = subst (λ (v : EngineView). batch_state_in (plant_of v) n ≡ Some Complete) (sym same) (all n least most)
 
+-- The rings of events
+
+map_kept : {X Y : Type 0} (f : X → Y) (xs : List X) (k : ℕ) (x y : X) → slice_get xs k ≡ Some x → f y ≡ f x → map f (slice_set xs k y) ≡ map f xs
+map_kept f [] k x y at same = refl
+map_kept f (z ∷ zs) zero x y at same = ap (λ w. w ∷ map f zs) (same ∙ ap f (sym (same_Some z x at)))
+map_kept f (z ∷ zs) (suc k) x y at same = ap (λ ws. f z ∷ ws) (map_kept f zs k x y at same)
+
+pub events_sealed : (port : ℕ) (h g : HubState) (token : Option (Finished Out Global AnyItems)) → Seals port h g token → event_rings g ≡ event_rings h
+events_sealed port h g token seals =
+    ap (map (λ (p : PortState). p.events)) seals.ports ∙ map_kept (λ (p : PortState). p.events) h.ports port seals.p (sealed seals.p) seals.at refl
+
+events_in_rings : (ps : List PortState) → map (λ (p : PortState). p.events) ps ≡ map (λ (r : Ring × Option Ring). r.0) (map port_rings ps)
+events_in_rings [] = refl
+events_in_rings (p ∷ ps) = ap (λ rs. p.events ∷ rs) (events_in_rings ps)
+
+pub events_kept : (h g : HubState) → rings g ≡ rings h → event_rings g ≡ event_rings h
+events_kept h g same = events_in_rings g.ports ∙ (ap (map (λ (r : Ring × Option Ring). r.0)) same ∙ sym (events_in_rings h.ports))
+
+places_made : (ps : List PortState) → map places_of (map (λ (p : PortState). p.events) ps) ≡ map (λ (s : ℕ × Option ℕ). s.0) (map sizes_made ps)
+places_made [] = refl
+places_made (p ∷ ps) = ap (λ ns. places_of p.events ∷ ns) (places_made ps)
+
+-- the rings of a plant have at its end the places that they were made with
+pub rings_at_end : (ring : ℕ) (h g k : HubState) → HaveRings ring h → rings g ≡ rings h → event_rings k ≡ event_rings g → HasEventRings ring k
+rings_at_end ring h g k made same kept =
+    ap (map places_of) (kept ∙ events_kept h g same) ∙ (places_made h.ports ∙ ap (map (λ (s : ℕ × Option ℕ). s.0)) made)
+
+-- What is left
+
+pub rest_left : (port : ℕ) (h g : HubState) (token : Finished Out Global AnyItems) (taken there : List Out) (rest : ℕ) → Seals port h g (Some token)
+    → taken ++ there ≡ all_sent token → rest ≡ length there → IsRest port h taken rest
+rest_left port h g token taken there rest seals all count =
+    rw seals.at (omega (arith, ap length all, length-append taken there, count, ap length seals.all))
+
 -- The events of the desks
 
-pub comes : (recipe : Name) (size batches : ℕ) (h : HubState) (rests : PlantRests) (c d l e : DeskState) → c.sent ≡ [] → l.sent ≡ []
-    → IsConsole recipe size batches c d → LinkRan l e → (IsSome rests.console → events_of 0 h.history ≡ d.sent) → (IsSome rests.link → events_of 1 h.history ≡ e.sent)
+pub comes : {D : Type 0} (command_gives : D → ℕ → Told → D → Type 0) (tick_gives : D → Option (ℕ × Word) → D → Type 0) (cell : Cell) (units : List D) (recipe : Name) (size batches : ℕ) (h : HubState) (rests : PlantRests) (c d l e : DeskState) → c.sent ≡ [] → l.sent ≡ []
+    → IsConsole recipe size batches c d → LinkRan command_gives tick_gives cell units l e → (IsSome rests.console → events_of 0 h.history ≡ d.sent) → (IsSome rests.link → events_of 1 h.history ≡ e.sent)
     → ComesFromDesks recipe size batches h rests
-comes recipe size batches h rests c d l e none_c none_l ran ran_l all all_l = record {
+comes command_gives tick_gives cell units recipe size batches h rests c d l e none_c none_l ran ran_l all all_l = record {
   console = λ some. subst (AreOfConsole recipe size batches) (sym (all some ∙ ran.sent ∙ ap (λ es. es ++ ran.more) none_c)) (record { each = ran.each; creates = ran.creates; once = ran.once });
   link = λ some. subst (All IsReport) (sym (all_l some ∙ ran_l.sent ∙ ap (λ es. es ++ ran_l.more) none_l)) ran_l.each;
+}
+
+pub linked_at_end : {D : Type 0} (command_gives : D → ℕ → Told → D → Type 0) (tick_gives : D → Option (ℕ × Word) → D → Type 0) (cell : Cell) (units : List D) (g h : HubState) (rest : Option ℕ) (l e : DeskState)
+    → l.sent ≡ [] → slice_get (rings g) 1 ≡ Some (desk_rings e) → event_rings h ≡ event_rings g → LinkRan command_gives tick_gives cell units l e
+    → (IsSome rest → events_of 1 h.history ≡ e.sent) → HasLink command_gives tick_gives cell units h rest
+linked_at_end command_gives tick_gives cell units g h rest l e new at kept ran all = record {
+  before = l;
+  after = e;
+  later = ran.later;
+  ring = ap (λ rs. slice_get rs 1) (kept ∙ events_in_rings g.ports)
+      ∙ (slice_get-map (λ (r : Ring × Option Ring). r.0) (rings g) 1 ∙ ap (option_map (λ (r : Ring × Option Ring). r.0)) at);
+  new = new;
+  works = ran.works;
+  all = all;
 }

@@ -2,3 +2,4 @@ pub mod Links
 pub mod LinkSteps
 pub mod Plants
 pub mod Parts
+pub mod Faults

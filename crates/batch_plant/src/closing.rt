@@ -6,6 +6,8 @@ ghost use Rattle.batch_desk.specs.Due.{events_of};
 ghost use Rattle.batch_desk.specs.HubState.{rings};
 ghost use Rattle.batch_desk.specs.Rings.{IsOfRing};
 ghost use Rattle.batch_desk.specs.Turns.{SameWork};
+ghost use Rattle.batch_plant.specs.Parts.{IsRest};
+ghost use Rattle.batch_plant.specs.Plants.{event_rings};
 
 use batch_desk::{Desk, Hub, Inbox};
 use batch_engine::Event;
@@ -16,6 +18,7 @@ pub(crate) fn close_port(hub: &mut Hub, port: usize, desk: Desk) -> Option<usize
     requires { slice_get (rings hub.old) port ≡ Some (desk_rings desk) }
     ensures work { SameWork hub.old hub.new }
     ensures next { slice_get (rings hub.new) (port + 1) ≡ slice_get (rings hub.old) (port + 1) }
+    ensures events { event_rings hub.new ≡ event_rings hub.old }
     ensures all { IsSome result → events_of port hub.new.history ≡ desk.sent }
 {
     let (token, inbox) = desk.finish();
@@ -31,6 +34,7 @@ fn close_by(hub: &mut Hub, port: usize, token: Finished<Event>, inbox: Inbox) ->
     requires inbox { IfSome (slice_get (rings hub.old) port) (λ rings. rings.1 ≡ Some inbox.outs) }
     ensures work { SameWork hub.old hub.new }
     ensures next { slice_get (rings hub.new) (port + 1) ≡ slice_get (rings hub.old) (port + 1) }
+    ensures events { event_rings hub.new ≡ event_rings hub.old }
     ensures all { IsSome result → events_of port hub.new.history ≡ all_sent token }
 {
     match hub.close(port, token) {
@@ -44,6 +48,8 @@ fn seal_port(hub: &mut Hub, port: usize, inbox: Inbox) -> Option<usize>
     requires { IfSome (slice_get (rings hub.old) port) (λ rings. rings.1 ≡ Some inbox.outs) }
     ensures work { SameWork hub.old hub.new }
     ensures next { slice_get (rings hub.new) (port + 1) ≡ slice_get (rings hub.old) (port + 1) }
+    ensures events { event_rings hub.new ≡ event_rings hub.old }
+    ensures rest { IfSome result (λ rest. IsRest port hub.old inbox.taken rest) }
 {
     match hub.seal(port) {
         Ok(Some(token)) => {

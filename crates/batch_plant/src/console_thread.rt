@@ -1,8 +1,10 @@
 //! The thread of the console.
-ghost use Rattle.std.specs.Prelude.{◌≡◌, IfOk, IfSome, IsSomeAnd};
+ghost use Rattle.std.specs.Prelude.{◌≡◌, Err, IfOk, IfSome, IsNone, IsSomeAnd};
 ghost use Rattle.batch_desk.specs.Consoles.{IsConsole};
+ghost use Rattle.batch_plant.specs.declared.plant_fault.PlantFault.TheVariants.{Thread};
 
 use crate::ending::ended;
+use crate::flag::FlagGate;
 use crate::plant_fault::PlantFault;
 use crate::plant_task::PlantTask;
 use batch_desk::{Desk, Gate, LoopEnd, console_loop};
@@ -27,7 +29,12 @@ impl Promise<(Desk, LoopEnd)> for ConsolePromise {
 pub(crate) type ConsoleHandle = PromisedHandle<(Desk, LoopEnd), ConsolePromise>;
 
 /// Runs the console to its end.
-fn run<G: Gate + Drop>(alloc: Global, desk: Desk, task: PlantTask, gate: G) -> (Desk, LoopEnd)
+fn run<G: Gate + Drop>(
+    alloc: Global,
+    desk: Desk,
+    task: PlantTask,
+    gate: FlagGate<G>,
+) -> (Desk, LoopEnd)
     ensures { IsConsole task.recipe task.size task.batches desk result.0 }
 {
     let mut desk = desk;
@@ -41,6 +48,7 @@ fn run<G: Gate + Drop>(alloc: Global, desk: Desk, task: PlantTask, gate: G) -> (
         &mut gate,
         task.limit,
     );
+    gate.shut_unless_done(end);
     (desk, end)
 }
 
@@ -50,7 +58,7 @@ pub(crate) fn start_console<R: Threads, G: Gate + Send + Drop + 'static>(
     alloc: Global,
     desk: Desk,
     task: PlantTask,
-    gate: G,
+    gate: FlagGate<G>,
 ) -> Option<ConsoleHandle>
     ensures { IfSome result (λ child. (child.promise.desk.value ≡ desk) × (child.promise.task.value ≡ task)) }
 {
@@ -66,7 +74,8 @@ pub(crate) fn join_console<R: Threads>(
     rt: &R,
     child: Option<ConsoleHandle>,
 ) -> Result<Desk, PlantFault>
-    ensures { IfOk result (λ desk. IsSomeAnd child (λ c. IsConsole c.promise.task.value.recipe c.promise.task.value.size c.promise.task.value.batches c.promise.desk.value desk)) }
+    ensures unstarted { IsNone child → result ≡ Err Thread }
+    ensures ran { IfOk result (λ desk. IsSomeAnd child (λ c. IsConsole c.promise.task.value.recipe c.promise.task.value.size c.promise.task.value.batches c.promise.desk.value desk)) }
 {
     let Some(child) = child else {
         return Err(PlantFault::Thread);

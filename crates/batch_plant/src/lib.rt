@@ -5,6 +5,8 @@ mod answer;
 mod closing;
 mod console_thread;
 mod ending;
+mod faults;
+mod flag;
 mod hub_running;
 mod link;
 mod link_thread;

@@ -1,8 +1,10 @@
 //! The thread of the link.
-ghost use Rattle.std.specs.Prelude.{◌≡◌, IfOk, IfSome, IsSomeAnd};
+ghost use Rattle.std.specs.Prelude.{◌≡◌, Err, IfOk, IfSome, IsNone, IsSomeAnd};
 ghost use Rattle.batch_plant.specs.Parts.{LinkRan};
+ghost use Rattle.batch_plant.specs.declared.plant_fault.PlantFault.TheVariants.{Thread};
 
 use crate::ending::ended;
+use crate::flag::FlagGate;
 use crate::linking::link_loop;
 use crate::plant_fault::PlantFault;
 use batch_cell::Cell;
@@ -15,17 +17,19 @@ use std::thread::{Promise, PromisedHandle, Threads};
 
 /// What the thread of the link gives back.
 #[derive(Drop)]
-pub(crate) struct LinkPromise {
+pub(crate) struct LinkPromise<D: Drop> {
     desk: Snapshot<Desk>,
+    cell: Snapshot<Cell>,
+    units: Snapshot<Simulator<D>>,
 }
 
-impl Promise<(Desk, LoopEnd)> for LinkPromise {
+impl<D: UnitDriver> Promise<(Desk, LoopEnd)> for LinkPromise<D> {
     ghost use Rattle.batch_plant.specs.Parts.{LinkRan};
 
-    ghost kept_by = { λ p r. LinkRan p.desk.value r.0 };
+    ghost kept_by = { λ p r. LinkRan D.command_gives D.tick_gives p.cell.value p.units.value p.desk.value r.0 };
 }
 
-pub(crate) type LinkHandle = PromisedHandle<(Desk, LoopEnd), LinkPromise>;
+pub(crate) type LinkHandle<D> = PromisedHandle<(Desk, LoopEnd), LinkPromise<D>>;
 
 /// Runs the link to its end.
 fn run<D: UnitDriver, G: Gate + Drop>(
@@ -34,10 +38,10 @@ fn run<D: UnitDriver, G: Gate + Drop>(
     units: Simulator<D>,
     cell: Cell,
     batches: u64,
-    gate: G,
+    gate: FlagGate<G>,
     limit: u64,
 ) -> (Desk, LoopEnd)
-    ensures { LinkRan desk result.0 }
+    ensures { LinkRan D.command_gives D.tick_gives cell units desk result.0 }
 {
     let mut desk = desk;
     let mut units = units;
@@ -45,6 +49,7 @@ fn run<D: UnitDriver, G: Gate + Drop>(
     let end = link_loop(
         alloc, &mut desk, &mut units, &cell, batches, &mut gate, limit,
     );
+    gate.shut_unless_done(end);
     (desk, end)
 }
 
@@ -60,13 +65,15 @@ pub(crate) fn start_link<
     units: Simulator<D>,
     cell: Cell,
     batches: u64,
-    gate: G,
+    gate: FlagGate<G>,
     limit: u64,
-) -> Option<LinkHandle>
-    ensures { IfSome result (λ child. child.promise.desk.value ≡ desk) }
+) -> Option<LinkHandle<D>>
+    ensures { IfSome result (λ child. (child.promise.desk.value ≡ desk) × (child.promise.cell.value ≡ cell) × (child.promise.units.value ≡ units)) }
 {
     let promise = LinkPromise {
         desk: Snapshot::of(&desk),
+        cell: Snapshot::of(&cell),
+        units: Snapshot::of(&units),
     };
     thread::spawn_with(rt, promise, move || {
         run(alloc, desk, units, cell, batches, gate, limit)
@@ -75,8 +82,12 @@ pub(crate) fn start_link<
 }
 
 /// Waits for the thread of the link, if it was started.
-pub(crate) fn join_link<R: Threads>(rt: &R, child: Option<LinkHandle>) -> Result<Desk, PlantFault>
-    ensures { IfOk result (λ desk. IsSomeAnd child (λ c. LinkRan c.promise.desk.value desk)) }
+pub(crate) fn join_link<R: Threads, D: UnitDriver>(
+    rt: &R,
+    child: Option<LinkHandle<D>>,
+) -> Result<Desk, PlantFault>
+    ensures unstarted { IsNone child → result ≡ Err Thread }
+    ensures ran { IfOk result (λ desk. IsSomeAnd child (λ c. LinkRan D.command_gives D.tick_gives c.promise.cell.value c.promise.units.value c.promise.desk.value desk)) }
 {
     let Some(child) = child else {
         return Err(PlantFault::Thread);

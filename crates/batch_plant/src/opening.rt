@@ -1,8 +1,9 @@
 //! Making the parts of a plant.
-ghost use Rattle.std.specs.Prelude.{◌≡◌, ◌∷◌, [], length, IfOk};
+ghost use Rattle.std.specs.Prelude.{◌≡◌, ◌∷◌, [], length, IfOk, IfErr};
 ghost use Rattle.batch_engine.specs.View.{plant_of};
 ghost use Rattle.batch_model.specs.Plant.{opening};
-ghost use Rattle.batch_plant.specs.Parts.{AreParts};
+ghost use Rattle.batch_plant.specs.Parts.{AreParts, HaveRings};
+ghost use Rattle.batch_plant.specs.declared.plant_fault.PlantFault.TheVariants.{Memory};
 
 use crate::parts::Parts;
 use crate::plant_fault::PlantFault;
@@ -13,19 +14,23 @@ use std::alloc::Global;
 
 /// Makes an engine of the cleared set, a hub round it, and its two desks.
 pub(crate) fn open(alloc: Global, cleared: Cleared, ring: usize) -> Result<Parts, PlantFault>
+    ensures fault { IfErr result (λ fault. fault ≡ Memory) }
+    ensures rings { IfOk result (λ parts. HaveRings ring parts.hub) }
     ensures cleared { IfOk result (λ parts. parts.hub.engine.cleared ≡ cleared) }
     ensures parts { IfOk result (λ parts. AreParts parts.hub parts.console parts.link) }
     ensures sent { IfOk result (λ parts. (parts.console.sent ≡ []) × (parts.link.sent ≡ [])) }
 {
-    match Engine::new(alloc, cleared) {
-        Ok(engine) => open_hub(alloc, engine, ring),
-        Err(_) => Err(PlantFault::Memory),
-    }
+    let Ok(engine) = Engine::new(alloc, cleared) else {
+        return Err(PlantFault::Memory);
+    };
+    open_hub(alloc, engine, ring)
 }
 
 /// Makes a hub round an engine in which nothing has happened, and its two desks.
 fn open_hub(alloc: Global, engine: Engine, ring: usize) -> Result<Parts, PlantFault>
     requires { plant_of engine ≡ opening }
+    ensures fault { IfErr result (λ fault. fault ≡ Memory) }
+    ensures rings { IfOk result (λ parts. HaveRings ring parts.hub) }
     ensures cleared { IfOk result (λ parts. parts.hub.engine.cleared ≡ engine.cleared) }
     ensures parts { IfOk result (λ parts. AreParts parts.hub parts.console parts.link) }
     ensures sent { IfOk result (λ parts. (parts.console.sent ≡ []) × (parts.link.sent ≡ [])) }

@@ -1,7 +1,7 @@
 //! Why a plant didn't run to its end.
 use thiserror::Error;
 
-/// Why a plant didn't run to its end. Of several the first is told.
+/// Why a plant didn't run to its end. Of several the first in this order is told.
 #[derive(Clone, Copy, Debug, PartialEq, Eq, Error)]
 pub enum PlantFault {
     /// There was no memory for the engine, or for the rings.
@@ -10,6 +10,9 @@ pub enum PlantFault {
     /// A thread couldn't be started. The others were joined.
     #[error("a thread can't be started")]
     Thread,
+    /// A create or a start was refused: of the demo's only a create is, for want of memory.
+    #[error("what the console sent was refused")]
+    Refused,
     /// A loop made as many turns as it may.
     #[error("the turns ran out")]
     TurnsOut,

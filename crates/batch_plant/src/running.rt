@@ -1,22 +1,24 @@
 //! Running a plant.
-ghost use Rattle.std.specs.Prelude.{◌≡◌, Ok, IfOk, IsSome};
+ghost use Rattle.std.specs.Prelude.{◌≡◌, Ok, IfOk, IfErr, IsSome};
 ghost use Rattle.batch_desk.specs.Consoles.{IsConsole};
 ghost use Rattle.batch_desk.specs.Due.{events_of};
 ghost use Rattle.batch_desk.specs.HubDone.{AreComplete};
 ghost use Rattle.batch_desk.specs.HubState.{IsHub};
 ghost use Rattle.batch_desk.specs.Turns.{SameWork};
+ghost use Rattle.batch_plant.specs.Faults.{IsFirstOf};
 ghost use Rattle.batch_plant.specs.Parts.{AreParts, HubRan, LinkRan};
-ghost use Rattle.batch_plant.specs.Plants.{ComesFromDesks, HasRings};
+ghost use Rattle.batch_plant.specs.Plants.{ComesFromDesks, HasEventRings, HasLink, HasRings, event_rings};
 
 use crate::closing::close_port;
 use crate::console_thread::{join_console, start_console};
+use crate::faults::both;
 use crate::hub_running::run_hub;
 use crate::link_thread::{join_link, start_link};
 use crate::opening::open;
 use crate::parts::Parts;
 use crate::plant_end::PlantEnd;
 use crate::plant_fault::PlantFault;
-use crate::plant_gates::PlantGates;
+use crate::plant_gates::{FlagGates, PlantGates};
 use crate::plant_rests::PlantRests;
 use crate::plant_task::PlantTask;
 use batch_cell::Cell;
@@ -32,7 +34,8 @@ use std::thread::Threads;
 /// `cell` is the cell of the cleared set, which the link looks its units up in. The console has port 0 and the link port 1, both
 /// told of all moves. All threads that were started are joined, also after a fault. Then both desks finish, their ports are
 /// closed and sealed, and it is counted how many outs are still to be taken. Of several faults the first is told: want of memory,
-/// a thread that can't be started, a loop whose turns run out. The units are dropped in each case.
+/// a thread that can't be started, a create or a start that is refused, a loop whose turns run out. Where one comes, the loops
+/// that run make no more turns. The units are dropped in each case.
 pub fn plant_run<
     R: Threads,
     D: UnitDriver + Send + 'static,
@@ -52,8 +55,13 @@ pub fn plant_run<
     ensures set { IfOk result (λ end. end.hub.engine.cleared ≡ cleared) }
     ensures complete { IfOk result (λ end. AreComplete task.batches end.hub) }
     ensures account { IfOk result (λ end. IsHub end.hub) }
+    ensures link { IfOk result (λ end. HasLink D.command_gives D.tick_gives cell units end.hub end.rests.link) }
+    ensures rings { IfOk result (λ end. HasEventRings task.ring end.hub) }
     ensures desks { IfOk result (λ end. ComesFromDesks task.recipe task.size task.batches end.hub end.rests) }
 {
+    let Ok(gates) = gates.with_flag(alloc) else {
+        return Err(PlantFault::Memory);
+    };
     let parts = open(alloc, cleared, task.ring)?;
     let ran = run_three(rt, alloc, parts, cell, units, task, gates)?;
     Ok(close(ran))
@@ -73,17 +81,18 @@ fn run_three<
     cell: Cell,
     units: Simulator<D>,
     task: PlantTask,
-    gates: PlantGates<H, C, L>,
+    gates: FlagGates<H, C, L>,
 ) -> Result<Parts, PlantFault>
     ensures hub { IfOk result (λ ran. HubRan task.batches parts.hub ran.hub) }
     ensures console { IfOk result (λ ran. IsConsole task.recipe task.size task.batches parts.console ran.console) }
-    ensures link { IfOk result (λ ran. LinkRan parts.link ran.link) }
+    ensures link { IfOk result (λ ran. LinkRan D.command_gives D.tick_gives cell units parts.link ran.link) }
 {
     let Parts { hub, console, link } = parts;
     let (batches, limit) = (task.batches, task.limit);
     let first = start_console(rt, alloc, console, task, gates.console);
     let second = start_link(rt, alloc, link, units, cell, batches, gates.link, limit);
-    let hub = run_hub(hub, batches, gates.hub, limit);
+    let started = first.is_some() && second.is_some();
+    let hub = run_hub(started, hub, batches, gates.hub, limit);
     let console = join_console(rt, first);
     let link = join_link(rt, second);
     let (hub, console, link) = gather(hub, console, link)?;
@@ -99,13 +108,11 @@ fn gather<H: Drop, D: Drop>(
     ensures hub { IfOk result (λ all. hub ≡ Ok all.0) }
     ensures console { IfOk result (λ all. console ≡ Ok all.1) }
     ensures link { IfOk result (λ all. link ≡ Ok all.2) }
+    ensures first { IfErr result (λ fault. IsFirstOf fault hub console link) }
 {
-    match (hub, console, link) {
-        (Ok(hub), Ok(console), Ok(link)) => Ok((hub, console, link)),
-        (Err(PlantFault::Thread), _, _) => Err(PlantFault::Thread),
-        (_, Err(PlantFault::Thread), _) => Err(PlantFault::Thread),
-        (_, _, Err(PlantFault::Thread)) => Err(PlantFault::Thread),
-        _ => Err(PlantFault::TurnsOut),
+    match both(both(hub, console), link) {
+        Ok(((hub, console), link)) => Ok((hub, console, link)),
+        Err(fault) => Err(fault),
     }
 }
 
@@ -114,6 +121,7 @@ fn close(parts: Parts) -> PlantEnd
     requires { AreParts parts.hub parts.console parts.link }
     ensures work { SameWork parts.hub result.hub }
     ensures account { IsHub result.hub }
+    ensures rings { event_rings result.hub ≡ event_rings parts.hub }
     ensures console { IsSome result.rests.console → events_of 0 result.hub.history ≡ parts.console.sent }
     ensures link { IsSome result.rests.link → events_of 1 result.hub.history ≡ parts.link.sent }
 {

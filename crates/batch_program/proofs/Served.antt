@@ -167,6 +167,8 @@ told_kept before mid after quiet still loud batches (Err plant_fault.Memory) sta
     (kept_then_kept before mid after kept untouched, is)
 told_kept before mid after quiet still loud batches (Err plant_fault.Thread) status kept silent (untouched, is) =
     (kept_then_kept before mid after kept untouched, is)
+told_kept before mid after quiet still loud batches (Err plant_fault.Refused) status kept silent (untouched, is) =
+    (kept_then_kept before mid after kept untouched, is)
 
 -- Exit statuses
 
@@ -258,6 +260,7 @@ plant_in_range output errors batches (Ok handled) status (inr (_, memory)) = rw 
 plant_in_range output errors batches (Err plant_fault.TurnsOut) status printed = printed_in_range output errors _ refused_status status (omega arith) printed
 plant_in_range output errors batches (Err plant_fault.Memory) status (_, memory) = rw memory (omega arith)
 plant_in_range output errors batches (Err plant_fault.Thread) status (_, memory) = rw memory (omega arith)
+plant_in_range output errors batches (Err plant_fault.Refused) status (_, memory) = rw memory (omega arith)
 
 pub run_in_range : (gives : Gives) (words : List Text) (ends : serving.Ends) (errors : Stream) (status : ℕ)
     → IsProgramRun gives words ends errors status → status ≤ 4
@@ -278,6 +281,7 @@ complete_at output errors set batches (Err plant_fault.TurnsOut) status ran (inl
 complete_at output errors set batches (Err plant_fault.TurnsOut) status ran (inr fault) is = absurd cc
 complete_at output errors set batches (Err plant_fault.Memory) status ran (_, memory) is = absurd cc
 complete_at output errors set batches (Err plant_fault.Thread) status ran (_, memory) is = absurd cc
+complete_at output errors set batches (Err plant_fault.Refused) status ran (_, memory) is = absurd cc
 
 -- no success stands for a plant before it is run
 no_plant_told : (gives : Gives) (request : Request) (output : Stream) (batches ticks ring : ℕ) → request ≡ plant batches ticks ring → IsSuccess gives request output → ⊥

@@ -1,2 +1,3 @@
 pub mod PlantRuns
+pub mod PlantWork
 pub mod Programs

@@ -11,8 +11,8 @@ pub fn serving_is_safe<D: Documents>(documents: &D)
     let _documents = documents;
 }
 
-/// What the exit status 0 of a run of `plant` tells: the three lines were written, and a hub over the demo's set has the batches
-/// complete that were asked for, after so many events as the third line says.
+/// What the exit status 0 of a run of `plant` tells: the three lines were written, and a record over the demo's set, of so many
+/// events as the third line says, leads to where the batches are complete that were asked for.
 pub fn plants_are_complete<D: Documents>(documents: &D)
     ensures { PlantsAreComplete (D.gives documents.now) }
 {

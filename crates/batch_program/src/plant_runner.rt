@@ -1,6 +1,6 @@
 //! Who runs a plant.
-ghost use Rattle.std.specs.Prelude.{◌≡◌, IfOk};
-ghost use Rattle.batch_program.specs.PlantRuns.{HasRun};
+ghost use Rattle.std.specs.Prelude.{IfOk};
+ghost use Rattle.batch_program.specs.PlantWork.{RunsBy};
 
 use batch_cell::Cell;
 use batch_plant::PlantFault;
@@ -10,8 +10,8 @@ use std::alloc::Global;
 
 /// Who runs a plant: the program by threads of its process, and a test as it likes.
 pub trait PlantRunner {
-    /// Creates and starts the batches, and runs until all are complete. The cell is the set's, read once more. Gives how many
-    /// events the hub has handled.
+    /// Creates and starts the batches, and runs until all are complete, with rings of as many places and phases of as many ticks
+    /// as the options say. The cell is the set's, read once more. Gives how many events the hub has handled.
     ///
     /// The errors are those of [`plant_run`](batch_plant::plant_run).
     fn run_plant(
@@ -21,5 +21,5 @@ pub trait PlantRunner {
         cell: Cell,
         options: PlantOptions,
     ) -> Result<u64, PlantFault>
-        ensures { IfOk result (HasRun set options.batches) };
+        ensures { IfOk result (RunsBy set cell options) };
 }

@@ -42,6 +42,7 @@ impl<R: Threads> PlantRunner for ThreadsOf<'_, R> {
         let Ok(units) = steady_units(alloc, &cell, options.ticks) else {
             return Err(PlantFault::Memory);
         };
+        let simulator = Simulator::new(units);
         let task = PlantTask {
             recipe,
             size: SIZE,
@@ -54,15 +55,7 @@ impl<R: Threads> PlantRunner for ThreadsOf<'_, R> {
             console: PatientGate(self.clock),
             link: PatientGate(self.clock),
         };
-        let end = plant_run(
-            self.threads,
-            alloc,
-            set,
-            cell,
-            Simulator::new(units),
-            task,
-            gates,
-        )?;
+        let end = plant_run(self.threads, alloc, set, cell, simulator, task, gates)?;
         Ok(end.hub.history().len() as u64)
     }
 }

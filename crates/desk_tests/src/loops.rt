@@ -1,5 +1,5 @@
 //! The loops of a hub and of a console, one after the other in one thread.
-use crate::documents::A;
+use crate::documents::{A, Z};
 use crate::ports::console;
 use crate::script::assert_told;
 use std::alloc::Global;
@@ -107,4 +107,21 @@ console: Done
 nothing
 ",
     )
+}
+
+/// There is no recipe A, so the console's create is refused.
+#[test]
+fn console_ends_by_a_refusal(rt: HostRuntime) -> Result<(), Fail> {
+    let plans = [console(16), console(16)];
+    let script = "console 1 1 open
+hub 1 1 open
+console 1 9 open
+history 0
+";
+    let expected = "console: TurnsOut
+hub: TurnsOut
+console: Refused
+history: 1
+";
+    assert_told(&rt, rt.alloc(), Z, &plans, script, expected)
 }

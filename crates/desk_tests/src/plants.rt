@@ -74,7 +74,7 @@ fn text_of(alloc: Global, end: &Result<PlantEnd, PlantFault>) -> Result<String, 
     }
 }
 
-/// Runs a plant of as many batches over these units, with rings of one place, and tells its end.
+/// Runs a plant of as many batches in this size over these units, with rings of one place, and tells its end.
 pub(crate) fn run<
     R: Threads,
     D: UnitDriver + Send + 'static,
@@ -85,6 +85,7 @@ pub(crate) fn run<
     rt: &R,
     alloc: Global,
     units: Simulator<D>,
+    size: u64,
     batches: u64,
     limit: u64,
     gates: PlantGates<H, C, L>,
@@ -92,7 +93,7 @@ pub(crate) fn run<
     let demo = demo_set(alloc)?;
     let task = PlantTask {
         recipe: demo.recipe,
-        size: 1000,
+        size,
         batches,
         ring: 1,
         limit,

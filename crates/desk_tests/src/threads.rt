@@ -26,7 +26,7 @@ fn plant_of_three(rt: HostRuntime) -> Result<(), Fail> {
     let units = steady_units(alloc, 5)?;
     assert_text(
         &rt,
-        run(&rt, alloc, units, 3, 10_000_000, open_gates()),
+        run(&rt, alloc, units, 1000, 3, 10_000_000, open_gates()),
         "complete 3, handled 9, PlantRests { console: Some(0), link: Some(0) }",
     )
 }
@@ -44,8 +44,20 @@ fn silent_units_let_the_turns_run_out(rt: HostRuntime) -> Result<(), Fail> {
     let units = silent_units(alloc)?;
     assert_text(
         &rt,
-        run(&rt, alloc, units, 1, 10_000, open_gates()),
+        run(&rt, alloc, units, 1000, 1, 10_000, open_gates()),
         "the turns ran out",
+    )
+}
+
+/// No batch has the size 0. So the first create is refused, and the plant ends by that, while the turns of hub and link are left.
+#[test]
+fn refused_create_ends_the_plant(rt: HostRuntime) -> Result<(), Fail> {
+    let alloc = rt.alloc();
+    let units = steady_units(alloc, 5)?;
+    assert_text(
+        &rt,
+        run(&rt, alloc, units, 0, 1, 1_000_000, open_gates()),
+        "what the console sent was refused",
     )
 }
 
@@ -67,7 +79,15 @@ fn met<R: Threads>(rt: &R, alloc: Global) -> Result<u64, Fail> {
             met: Arc::try_clone(&met)?,
         },
     };
-    run(rt, alloc, steady_units(alloc, 5)?, 1, 10_000_000, gates)?;
+    run(
+        rt,
+        alloc,
+        steady_units(alloc, 5)?,
+        1000,
+        1,
+        10_000_000,
+        gates,
+    )?;
     Ok(met.load(Ordering::SeqCst))
 }
 

@@ -1,15 +1,17 @@
 use Rattle.std.proofs.Common.{refl, ◌∙◌}
+use Rattle.batch_desk.proofs.Gates.{asked_once_more}
 use Rattle.batch_desk.proofs.HubTurns.{history_grows, prefix_same}
 use Rattle.batch_desk.proofs.Moves.{prefix_then}
 use Rattle.batch_desk.proofs.hub_turns.hub_loop.Goals as goal
 use Rattle.batch_desk.proofs.hub_turns.hub_loop.Goals.{then-pass, else-pass}
 
 pub loop-number-init : goal.loop-number-init
-loop-number-init g c = record { rings = refl; outlines = refl; cleared = refl; history = prefix_same _; record_grows = prefix_same _ }
+loop-number-init g c = record { rings = refl; outlines = refl; cleared = refl; history = prefix_same _; record_grows = prefix_same _; asked = refl }
 
 pub loop-number-preserved : goal.loop-number-preserved
 loop-number-preserved g c =
     let was = c.loop-number.invariant in
+    let asked = asked_once_more g.G.Gate.passes c.loop-number.number _ c.loop-number.gate _ c.pass.result was.asked c.pass.ensures in
     elim c.if-pass.branch [
       | then-pass w ↦ rw w.hub-is (record {
         rings = w.turn.ensures.rings ∙ was.rings;
@@ -17,6 +19,14 @@ loop-number-preserved g c =
         cleared = w.turn.ensures.cleared ∙ was.cleared;
         history = history_grows c.loop-number.port _ c.loop-number.hub w.turn.new.self was.history w.turn.ensures.history;
         record_grows = prefix_then _ _ _ was.record_grows w.turn.ensures.record;
+        asked = asked;
       })
-      | else-pass w ↦ rw w.hub-is was
+      | else-pass w ↦ rw w.hub-is (record {
+        rings = was.rings;
+        outlines = was.outlines;
+        cleared = was.cleared;
+        history = was.history;
+        record_grows = was.record_grows;
+        asked = asked;
+      })
     ]

@@ -1,5 +1,6 @@
 use Rattle.std.proofs.Common.{◌≡◌}
 use mathlib.Core.List.{IsPrefix}
+use Rattle.batch_desk.specs.Gates.{AreAsked}
 use Rattle.batch_desk.specs.HubState.{outlines, rings}
 use Rattle.batch_desk.proofs.hub_turns.hub_loop.Given as goal
 
@@ -10,4 +11,5 @@ invariant-loop-number g l = record {
   cleared : l.hub.engine.cleared ≡ l.initial.hub.engine.cleared;
   history : IsPrefix l.initial.hub.history l.hub.history;
   record_grows : IsPrefix l.initial.hub.outs l.hub.outs;
+  asked : AreAsked g.G.Gate.passes l.number l.initial.gate l.gate;
 }

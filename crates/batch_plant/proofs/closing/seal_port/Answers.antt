@@ -1,4 +1,4 @@
-use Rattle.batch_plant.proofs.Closings.{rest_fits, next_sealed}
+use Rattle.batch_plant.proofs.Closings.{events_sealed, next_sealed, rest_fits, rest_left}
 use Rattle.batch_plant.proofs.closing.seal_port.Goals as goal
 
 pub rest-requires : goal.rest-requires
@@ -8,6 +8,17 @@ rest-requires c =
 
 pub returns-in-Ok-Some-clause-next : goal.returns-in-Ok-Some-clause-next
 returns-in-Ok-Some-clause-next c = next_sealed c.args.port _ _ _ c.in-Ok-Some.ensures.ok
+
+pub returns-in-Ok-Some-clause-events : goal.returns-in-Ok-Some-clause-events
+returns-in-Ok-Some-clause-events c = events_sealed c.args.port _ _ _ c.in-Ok-Some.ensures.ok
+
+pub returns-in-Ok-Some-clause-rest : goal.returns-in-Ok-Some-clause-rest
+returns-in-Ok-Some-clause-rest c =
+    let told = rw c.in-Ok-Some.field-0-is at c.in-Ok-Some.ensures.ok in
+    rest_left c.args.port c.args.hub.now _ c.in-Ok-Some.token c.args.inbox.taken _ c.rest.result told (rw c.rest.ensures.same.1 at c.rest.ensures.all) c.rest.ensures.count
+
+pub returns-in-Ok-None-clause-events : goal.returns-in-Ok-None-clause-events
+returns-in-Ok-None-clause-events c = events_sealed c.args.port _ _ _ c.in-Ok-None.ensures.ok
 
 pub returns-in-Ok-None-clause-next : goal.returns-in-Ok-None-clause-next
 returns-in-Ok-None-clause-next c = next_sealed c.args.port _ _ _ c.in-Ok-None.ensures.ok

@@ -8,5 +8,8 @@ returns-clause-work c =
     let was = c.close_port-console.ensures.work in
     (last.0 ∙ was.0, last.1 ∙ was.1, last.2 ∙ was.2)
 
+pub returns-clause-rings : goal.returns-clause-rings
+returns-clause-rings c = c.close_port-link.ensures.events ∙ c.close_port-console.ensures.events
+
 pub returns-clause-console : goal.returns-clause-console
 returns-clause-console c = λ some. ap (events_of 0) c.close_port-link.ensures.work.1 ∙ c.close_port-console.ensures.all some

@@ -1,6 +1,6 @@
 use Rattle.std.proofs.Common.{ap, ◌∙◌}
 use Rattle.batch_engine.specs.View.{EngineView}
-use Rattle.batch_plant.proofs.Closings.{comes, parts_stay, still_complete}
+use Rattle.batch_plant.proofs.Closings.{comes, linked_at_end, parts_stay, rings_at_end, still_complete}
 use Rattle.batch_plant.proofs.running.plant_run.Goals as goal
 
 pub close-requires : goal.close-requires
@@ -18,11 +18,26 @@ pub returns-clause-complete : goal.returns-clause-complete
 returns-clause-complete g c =
     still_complete c.args.task.batches c.in_ok-ran.ran.hub c.close.result.hub c.close.ensures.work.0 c.in_ok-ran.ensures.hub.complete
 
+pub returns-clause-rings : goal.returns-clause-rings
+returns-clause-rings g c =
+    rings_at_end c.args.task.ring c.in_ok-parts.parts.hub c.in_ok-ran.ran.hub c.close.result.hub c.in_ok-parts.ensures.rings c.in_ok-ran.ensures.hub.rings c.close.ensures.rings
+
+pub returns-clause-link : goal.returns-clause-link
+returns-clause-link g c =
+    let parts = c.in_ok-parts.parts in
+    let ran = c.in_ok-ran.ran in
+    let is = c.in_ok-ran.ensures in
+    let stays =
+    parts_stay parts.hub ran.hub parts.console ran.console parts.link ran.link is.hub.rings is.console.events is.console.outs is.link.events is.link.outs
+    c.in_ok-parts.ensures.parts in
+    linked_at_end g.D.UnitDriver.command_gives g.D.UnitDriver.tick_gives c.args.cell c.args.units c.in_ok-ran.ran.hub c.close.result.hub c.close.result.rests.link
+    c.in_ok-parts.parts.link c.in_ok-ran.ran.link c.in_ok-parts.ensures.sent.1 stays.of_link c.close.ensures.rings is.link c.close.ensures.link
+
 pub returns-clause-desks : goal.returns-clause-desks
 returns-clause-desks g c =
     let parts = c.in_ok-parts.parts in
     let ran = c.in_ok-ran.ran in
     let is = c.in_ok-ran.ensures in
     let new = c.in_ok-parts.ensures.sent in
-    comes c.args.task.recipe c.args.task.size c.args.task.batches c.close.result.hub c.close.result.rests parts.console ran.console parts.link ran.link new.0 new.1
+    comes g.D.UnitDriver.command_gives g.D.UnitDriver.tick_gives c.args.cell c.args.units c.args.task.recipe c.args.task.size c.args.task.batches c.close.result.hub c.close.result.rests parts.console ran.console parts.link ran.link new.0 new.1
     is.console is.link c.close.ensures.console c.close.ensures.link

@@ -2,6 +2,7 @@ use Rattle.std.proofs.Common.{map, string_bytes}
 use Rattle.std.proofs.KnownBytes.{Keeps-refl}
 use Rattle.batch_program.specs.Programs.{tells, serves, plants}
 use Rattle.batch_program.specs.declared.program.TheConstants.{MAX_READS}
+use Rattle.batch_program.proofs.Plants.{has_run}
 use Rattle.batch_program.proofs.Served.{plant_to_run, served_kept, set_to_serve, told_kept}
 use Rattle.batch_program.proofs.program.run_program.Goals as goal
 
@@ -24,5 +25,5 @@ returns-in-Plants g c =
     let (command, named, asked, cleared, kept, silent) =
     plant_to_run (g.D.Documents.gives c.args.documents.now) (map string_bytes c.args.words.now) _ _ _ course.set course.cell course.options
     c.run_words.ensures course.is in
-    plants command course.set course.options end.result c.report_of_plant.result named asked cleared end.ensures
+    plants command course.set course.options end.result c.report_of_plant.result named asked cleared (has_run course.set course.cell course.options end.result end.ensures)
     (told_kept _ _ _ _ _ _ course.options.batches end.result _ kept silent c.report_of_plant.ensures) (Keeps-refl _)

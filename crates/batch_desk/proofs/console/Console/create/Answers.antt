@@ -1,10 +1,16 @@
-use Rattle.std.proofs.Common.{refl}
-use Rattle.batch_desk.proofs.ConsoleTurns.{create_goes, full_goes}
+use Rattle.std.proofs.Common.{refl, inl}
+use Rattle.batch_desk.proofs.ConsoleTurns.{sent_more, create_goes, full_goes}
 use Rattle.batch_desk.proofs.console.Console.create.Goals as goal
 use Rattle.batch_desk.proofs.console.Console.create.Goals.{in-Ok, in-Err}
 
-pub returns : goal.returns
-returns c = elim c.match-send.branch [
-  | in-Ok w ↦ rw w.self-is (create_goes c.args.recipe c.args.size c.new-roles.result c.args.self.now _ c.args.desk.now c.send.new.self c.new-roles.ensures.items c.requires refl refl refl refl w.in-Ok.ensures.sent)
+pub returns-clause-goes : goal.returns-clause-goes
+returns-clause-goes c = elim c.match-send.branch [
+  | in-Ok w ↦ rw w.self-is (create_goes c.args.recipe c.args.size c.new-roles.result c.args.self.now _ c.args.desk.now c.send.new.self c.new-roles.ensures.items c.requires refl refl refl refl refl w.in-Ok.ensures.sent)
   | in-Err w ↦ rw w.self-is (full_goes c.args.recipe c.args.size c.args.self.now c.args.desk.now c.send.new.self w.in-Err.ensures.full.1)
+]
+
+pub returns-clause-tries : goal.returns-clause-tries
+returns-clause-tries c = elim c.match-send.branch [
+  | in-Ok w ↦ rw w.self-is (sent_more _ _ _ _ _ w.in-Ok.ensures.sent)
+  | in-Err w ↦ rw w.self-is (inl refl)
 ]

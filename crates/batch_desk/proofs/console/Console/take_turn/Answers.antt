@@ -10,4 +10,4 @@ returns c batches before was =
       | in-Some w ↦ rw w.self-is (take_goes c.args.recipe.now c.args.size w.in-Some.out c.args.self.now _ c.args.desk.now c.take.new.self w.learn.ensures (rw w.in-Some.is at c.take.ensures) batches before was)
       | in_default w ↦ rw (w.self-is, rw w.in_default.is at c.take.ensures) was
     ] in
-    c.act.ensures batches before taken
+    c.act.ensures.goes batches before taken

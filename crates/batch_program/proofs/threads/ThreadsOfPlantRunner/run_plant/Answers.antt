@@ -1,7 +1,20 @@
-use Rattle.std.proofs.Common.{ap, length}
+use Rattle.std.proofs.Common.{◌≡◌, List, ap, length, subst, sym}
+use Rattle.std.specs.List.{All}
+use Rattle.batch_sim.specs.SteadyUnit.{SteadyView}
 use Rattle.batch_program.proofs.threads.ThreadsOfPlantRunner.run_plant.Goals as goal
 
 pub returns : goal.returns
 returns g c =
     let end = c.in_ok-end in
-    (end.end.hub, end.ensures.account, end.ensures.set, end.ensures.complete, ap length c.history.ensures.value)
+    record {
+      hub = end.end.hub;
+      account = end.ensures.account;
+      over = end.ensures.set;
+      complete = end.ensures.complete;
+      count = ap length c.history.ensures.value;
+      rings = end.ensures.rings;
+      units = c.new-simulator.result;
+      ticks = subst (λ (units : List SteadyView). All (λ unit. unit.ticks ≡ c.args.options.ticks) units) (sym c.new-simulator.ensures) c.in-Ok-steady_units.ensures.ticks;
+      rest = end.end.rests.link;
+      link = end.ensures.link;
+    }
