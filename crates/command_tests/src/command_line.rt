@@ -1,12 +1,12 @@
 //! The command line.
 use crate::expected::assert_told;
 use crate::shelf::owned;
-use batch_words::{CommandFault, PlantOptions, Subcommand, parse};
+use batch_words::{CommandFault, CommandWords, Judgement, PlantOptions, Source, Subcommand, parse};
 use std::alloc::{AllocError, Global};
 use std::process::Abort;
 use std::test::Fail;
 
-fn parsed(alloc: Global, words: &[&str]) -> Result<Result<Subcommand, CommandFault>, Fail> {
+fn parsed(alloc: Global, words: &[&str]) -> Result<Result<CommandWords, CommandFault>, Fail> {
     let words = owned(alloc, words)?;
     Ok(parse(alloc, words.as_slice()))
 }
@@ -41,31 +41,33 @@ fn plant_told(alloc: Global, options: &PlantOptions) -> Result<String, AllocErro
     format!(in alloc; "plant {batches} {ticks} {ring}")
 }
 
-fn told(alloc: Global, command: &Subcommand) -> Result<String, AllocError> {
-    match command {
-        Subcommand::Serve => String::from_str(alloc, "serve"),
-        Subcommand::Check {
-            cell,
-            recipes,
-            quiet,
-        } => check_told(alloc, "check", cell, recipes, *quiet),
-        Subcommand::Draw {
-            cell,
-            recipes,
-            quiet,
-        } => check_told(alloc, "draw", cell, recipes, *quiet),
-        Subcommand::Verify {
+fn judgement_told(alloc: Global, judgement: &Judgement, quiet: bool) -> Result<String, AllocError> {
+    match judgement {
+        Judgement::Check { cell, recipes } => check_told(alloc, "check", cell, recipes, quiet),
+        Judgement::Draw { cell, recipes } => check_told(alloc, "draw", cell, recipes, quiet),
+        Judgement::Verify {
             cell,
             certificate,
             recipes,
-            quiet,
-        } => verify_told(alloc, "verify", [cell, certificate], recipes, *quiet),
-        Subcommand::Run {
+        } => verify_told(alloc, "verify", [cell, certificate], recipes, quiet),
+    }
+}
+
+fn source_told(alloc: Global, source: &Source, quiet: bool) -> Result<String, AllocError> {
+    match source {
+        Source::Demo => String::from_str(alloc, "serve"),
+        Source::Documents {
             cell,
             certificate,
             recipes,
-            quiet,
-        } => verify_told(alloc, "run", [cell, certificate], recipes, *quiet),
+        } => verify_told(alloc, "run", [cell, certificate], recipes, quiet),
+    }
+}
+
+fn told(alloc: Global, words: &CommandWords) -> Result<String, AllocError> {
+    match &words.command {
+        Subcommand::Judge(judgement) => judgement_told(alloc, judgement, words.quiet),
+        Subcommand::Serve(source) => source_told(alloc, source, words.quiet),
         Subcommand::Plant(options) => plant_told(alloc, options),
         Subcommand::Explain { code } => format!(in alloc; "explain {code}"),
     }
@@ -82,7 +84,7 @@ fn kind(fault: &CommandFault) -> &'static str {
 /// The command in its words, or why there is none, without the text.
 fn summary(alloc: Global, words: &[&str]) -> Result<String, Fail> {
     match parsed(alloc, words)? {
-        Ok(command) => Ok(told(alloc, &command)?),
+        Ok(words) => Ok(told(alloc, &words)?),
         Err(fault) => Ok(String::from_str(alloc, kind(&fault))?),
     }
 }
@@ -157,7 +159,7 @@ fn help_of(alloc: Global, words: &[&str]) -> Result<String, Fail> {
     Ok(String::from_str(alloc, help_text(&parsed))?)
 }
 
-fn help_text(parsed: &Result<Subcommand, CommandFault>) -> &str {
+fn help_text(parsed: &Result<CommandWords, CommandFault>) -> &str {
     match parsed {
         Err(CommandFault::Help(text)) => text.as_str(),
         _ => "no help",

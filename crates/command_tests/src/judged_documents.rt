@@ -2,15 +2,16 @@
 use crate::documents::{CELL1, N};
 use crate::expected::assert_told;
 use crate::shelf::{Shelf, ended, owned};
-use batch_commands::{Halt, Verdict, check_documents, judge_certificate, verify_documents};
+use batch_commands::{Halt, check_documents, judge_certificate, verify_documents};
 use std::alloc::Global;
 use std::test::Fail;
 
 const RANKS: &str = "rank HDR 2\nrank R1 1\nrank R2 1\nrank STEAM 1\n";
 
-/// The verdict's text, and then the exit status.
-fn told(alloc: Global, verdict: Verdict) -> Result<String, Fail> {
-    Ok(format!(in alloc; "{}{}", verdict.text, verdict.ending.status())?)
+/// What is printed, and then the exit status.
+fn told(alloc: Global, ended: (String, u8)) -> Result<String, Fail> {
+    let (text, status) = ended;
+    Ok(format!(in alloc; "{text}{status}")?)
 }
 
 fn checked(alloc: Global, recipes: &[&str]) -> Result<String, Fail> {
@@ -104,7 +105,7 @@ fn long_refused(alloc: Global) -> Result<String, Fail> {
 
 fn refusal_of(alloc: Global, text: &[u8]) -> Result<String, Fail> {
     match &judge_certificate(alloc, "certificate", text) {
-        Err(Halt::Refused(verdict)) => Ok(String::from_str(alloc, verdict.text.as_str())?),
+        Err(Halt::Refused(refusal)) => Ok(String::from_str(alloc, refusal.text.as_str())?),
         _ => Err(Fail::from("no refusal")),
     }
 }

@@ -1,4 +1,5 @@
 //! Cells, recipes, certificates and verdicts of opaque texts: without a contract here, no test's proof reads their bytes.
+use crate::shelf::ended;
 use batch_cell::Cell;
 use batch_commands::{
     Halt, check_recipes, clear_recipes, judge_cell, judge_certificate, judge_recipe,
@@ -32,7 +33,7 @@ pub(crate) fn certificate_of(alloc: Global, text: &str) -> Result<Certificate, H
 pub(crate) fn checked(alloc: Global, cell: &str, texts: &[&str]) -> Result<String, Fail> {
     let cell = cell_of(alloc, cell)?;
     let recipes = recipes_of(alloc, texts)?;
-    Ok(check_recipes(alloc, &cell, &recipes)?.text)
+    Ok(ended(check_recipes(alloc, &cell, &recipes))?.0)
 }
 
 /// What `check` and `verify` both print.
@@ -98,7 +99,7 @@ fn cleared(
 /// The text of a refusal.
 fn refusal_of(halt: Halt) -> Result<String, Fail> {
     match halt {
-        Halt::Refused(verdict) => Ok(verdict.text),
+        Halt::Refused(refusal) => Ok(refusal.text),
         other => Err(other)?,
     }
 }

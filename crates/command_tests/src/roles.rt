@@ -2,6 +2,7 @@
 use crate::documents::{B, C, CELL1, CELL3};
 use crate::expected::assert_told;
 use crate::reading::{cell_of, checked, judged, recipes_of, verified};
+use crate::shelf::ended;
 use batch_cell::Cell;
 use batch_commands::draw_recipes;
 use batch_recipe::Recipe;
@@ -112,7 +113,7 @@ fn drawn(alloc: Global) -> Result<String, Fail> {
 
 /// Without a contract here, no other proof reads that of the call.
 fn graph_of(alloc: Global, cell: &Cell, recipes: &[Recipe]) -> Result<String, Fail> {
-    Ok(draw_recipes(alloc, cell, recipes)?.text)
+    Ok(ended(draw_recipes(alloc, cell, recipes))?.0)
 }
 
 #[test]

@@ -3,30 +3,24 @@ use crate::documents::{A, B, C, CELL1, CELL3};
 use crate::expected::assert_told;
 use crate::reading::{cell_of, certificate_of, recipes_of};
 use batch_cell::Cell;
-use batch_commands::{Halt, Verdict, check_recipes, clear_recipes, judge_cell, judge_recipe};
+use batch_commands::{
+    DocumentRefusal, Halt, check_recipes, clear_recipes, judge_cell, judge_recipe,
+};
 use batch_recipe::Recipe;
-use batch_sentences::Sentence;
 use batch_verify::Certificate;
 use std::alloc::Global;
 use std::test::Fail;
 
-fn said(sentence: &Option<Sentence>) -> Result<&str, Fail> {
-    match sentence {
-        Some(sentence) => Ok(sentence.text.as_str()),
-        None => Err("no sentence")?,
-    }
-}
-
-/// The verdict's first line, and after a bar the sentence.
-fn told(alloc: Global, verdict: &Verdict) -> Result<String, Fail> {
-    let said = said(&verdict.sentence)?;
-    Ok(format!(in alloc; "{}|{said}", verdict.text.trim_end())?)
+/// The refusal's first line, and after a bar the sentence.
+fn told(alloc: Global, refusal: &DocumentRefusal) -> Result<String, Fail> {
+    let said = refusal.sentence.text.as_str();
+    Ok(format!(in alloc; "{}|{said}", refusal.text.trim_end())?)
 }
 
 /// What is told of a refusal, without the value that there would be else.
 fn refusal_told(alloc: Global, halt: Option<Halt>) -> Result<String, Fail> {
     match halt {
-        Some(Halt::Refused(verdict)) => told(alloc, &verdict),
+        Some(Halt::Refused(refusal)) => told(alloc, &refusal),
         _ => Err(Fail::from("not refused")),
     }
 }
@@ -121,8 +115,7 @@ fn said_in(alloc: Global, cell: &Cell, recipe: &str) -> Result<String, Fail> {
 }
 
 fn checked(alloc: Global, cell: &Cell, recipes: &[Recipe]) -> Result<String, Fail> {
-    let verdict = check_recipes(alloc, cell, recipes)?;
-    told(alloc, &verdict)
+    refusal_told(alloc, check_recipes(alloc, cell, recipes).err())
 }
 
 #[test]

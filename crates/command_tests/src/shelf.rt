@@ -3,7 +3,7 @@ ghost use Rattle.std.specs.Prelude.{◌≡◌, option_map};
 ghost use Rattle.std.specs.List.{find};
 ghost use Rattle.std.specs.Str.{bytes_eq};
 
-use batch_commands::{Documents, Halt, Verdict};
+use batch_commands::{Documents, Halt};
 use std::alloc::Global;
 use std::test::Fail;
 
@@ -33,10 +33,11 @@ pub(crate) fn owned(alloc: Global, words: &[&str]) -> Result<Vec<String>, Fail> 
     Ok(owned)
 }
 
-/// The verdict with which the program ends.
-pub(crate) fn ended(outcome: Result<Verdict, Halt>) -> Result<Verdict, Halt> {
+/// What is printed, and the status with which the program ends then.
+pub(crate) fn ended(outcome: Result<String, Halt>) -> Result<(String, u8), Halt> {
     match outcome {
-        Err(Halt::Refused(verdict)) => Ok(verdict),
-        other => other,
+        Ok(text) => Ok((text, 0)),
+        Err(Halt::Refused(refusal)) => Ok((refusal.text, refusal.kind.status())),
+        Err(halt) => Err(halt),
     }
 }
