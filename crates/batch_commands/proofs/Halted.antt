@@ -7,9 +7,19 @@ use Rattle.batch_recipe.specs.declared.recipe.Recipe.{Recipe}
 use Rattle.batch_verify.specs.CertificateText.{Rank}
 use Rattle.batch_commands.specs.Halting.{HaltsAtRecipe, HaltsAtRecipes, HaltsClearing}
 use Rattle.batch_commands.specs.Judging.{RefusesSet}
-use Rattle.batch_commands.specs.Reading.{AreRead, Gives, ReadsRecipes}
-use Rattle.batch_commands.specs.declared.verdict.Halt.{Halt}
-use Rattle.batch_commands.specs.declared.verdict.Halt.TheVariants.{Memory}
+use Rattle.batch_commands.specs.Reading.{AreRead, Gives, IsSoOf, ReadsCell, ReadsRecipes}
+use Rattle.batch_commands.specs.declared.refusal.Halt.{Halt}
+use Rattle.batch_commands.specs.declared.refusal.Halt.TheVariants.{Memory}
+
+pub IfErr-weaker : {A E : Type 0} (r : Result A E) (P Q : E → Type 0) → ((e : E) → P e → Q e) → IfErr r P → IfErr r Q
+IfErr-weaker (Ok x) P Q follows p = tt
+IfErr-weaker (Err e) P Q follows p = follows e p
+
+-- what is so of the cell and the recipes that were read
+pub so_of_read : (gives : Gives) (cell : List ℕ) (paths : List (List ℕ)) (c : Cell) (rs : List Recipe) (is_so : Cell → List Recipe → Type 0)
+    → ReadsCell gives cell c → ReadsRecipes gives paths rs → is_so c rs → IsSoOf gives cell paths is_so
+so_of_read gives cell paths c rs is_so cell_read recipes_read so =
+    record { equipment = c; recipes = rs; cell_read = cell_read; recipes_read = recipes_read; judged = so }
 
 -- memory may be wanting anywhere
 pub halts_without_memory : (gives : Gives) (paths : List (List ℕ)) → HaltsAtRecipes gives paths Memory
@@ -34,13 +44,3 @@ pub clearing_halts : {A : Type 0} (gives : Gives) (cell certificate : List ℕ) 
     → IfErr r (HaltsClearing gives cell certificate paths)
 clearing_halts gives cell certificate paths c ranks rs (Ok x) read k = tt
 clearing_halts gives cell certificate paths c ranks rs (Err h) read k = inr (c, ranks, rs, read, k)
-
--- what ended a command, if anything did
-
-pub none_ended : {A E : Type 0} {P : A → Type 0} (r : Result A E) → result_err r ≡ None → IfOk r P → (x : A) × P x
-none_ended (Ok x) none is = (x, is)
-none_ended (Err e) none is = let bad : Some e ≡ None = none in absurd cc
-
-pub ended_by : {A E : Type 0} (Q : E → Type 0) (r : Result A E) (h : E) → result_err r ≡ Some h → IfErr r Q → Q h
-ended_by Q (Ok x) h some is = let bad : None ≡ Some h = some in absurd cc
-ended_by Q (Err e) h some is = subst Q (same_Some e h some) is

@@ -6,6 +6,4 @@ pub mod CertificatesAreRead
 pub mod Outcomes
 pub mod Successes
 mod Fronts
-pub mod Drawn
-pub mod SetsRefused
 pub mod NodesTold

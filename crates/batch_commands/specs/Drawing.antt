@@ -1,5 +1,5 @@
 -- trusted: what `check --dot` prints of recipes.
-use Rattle.std.specs.Prelude.{◌≡◌, ◌≢◌, ℕ, List, []}
+use Rattle.std.specs.Prelude.{◌≡◌, ℕ, List, []}
 use Rattle.batch_cell.specs.declared.cell.Cell.{Cell}
 use Rattle.batch_recipe.specs.declared.recipe.Recipe.{Recipe}
 use Rattle.batch_model.specs.Cleared.{CanBeCleared}
@@ -8,11 +8,11 @@ use Rattle.batch_check.specs.Checking.{IsFault}
 use Rattle.batch_check.specs.Edges.{AreEdgesOf}
 use Rattle.batch_check.specs.declared.edge.Edge.{Edge}
 use Rattle.batch_check.specs.declared.fault.CheckFault.{CheckFault}
-use Rattle.batch_check.specs.declared.fault.CheckFault.TheVariants.{Circle, Memory}
+use Rattle.batch_check.specs.declared.fault.CheckFault.TheVariants.{Circle}
 use Rattle.batch_commands.specs.GraphTexts.{graph_text}
+use Rattle.batch_commands.specs.Judging.{HaltsWith, fault_kind}
 use Rattle.batch_commands.specs.VerdictTexts.{fault_text}
-use Rattle.batch_commands.specs.declared.verdict.Ending.{Ending}
-use Rattle.batch_commands.specs.declared.verdict.Ending.TheVariants.{Accepted, Refused, OutOfMemory}
+use Rattle.batch_commands.specs.declared.refusal.Halt.{Halt}
 
 -- the text is the graph of the edges of these recipes, each of which stands in a recipe, and which leave out no two resources
 -- that follow one another on a path
@@ -24,7 +24,11 @@ abbrev pub IsFaultDrawn : Cell → List Recipe → CheckFault → List ℕ → T
 IsFaultDrawn c rs (Circle circle) text = IsDrawingOf c rs circle.items text
 IsFaultDrawn c rs fault text = text ≡ fault_text c rs fault
 
-abbrev pub IsDrawn : Cell → List Recipe → List ℕ → Ending → Type 0
-IsDrawn c rs text Accepted = CanBeCleared (setup_of c rs) × IsDrawingOf c rs [] text
-IsDrawn c rs text Refused = (fault : CheckFault) × (fault ≢ Memory) × IsFault c rs fault × IsFaultDrawn c rs fault text
-IsDrawn c rs text OutOfMemory = text ≡ fault_text c rs Memory
+-- what is printed of recipes that can be cleared
+abbrev pub IsDrawn : Cell → List Recipe → List ℕ → Type 0
+IsDrawn c rs text = CanBeCleared (setup_of c rs) × IsDrawingOf c rs [] text
+
+-- they can't, for this reason, which the refusal draws or says
+abbrev pub RefusesDrawing : Cell → List Recipe → Halt → Type 0
+RefusesDrawing c rs h =
+    (fault : CheckFault) × (text : List ℕ) × IsFault c rs fault × IsFaultDrawn c rs fault text × HaltsWith text (fault_kind fault) h

@@ -1,12 +1,13 @@
--- trusted: which document ends a command before there is a verdict on all.
+-- trusted: which document or refusal ends a command.
 use Rattle.std.specs.Prelude.{◌≡◌, ℕ, List, [], ◌∷◌, Some, ◌⊎◌}
 use Rattle.batch_cell.specs.declared.cell.Cell.{Cell}
 use Rattle.batch_recipe.specs.declared.recipe.Recipe.{Recipe}
 use Rattle.batch_verify.specs.CertificateText.{Rank}
-use Rattle.batch_commands.specs.Judging.{RefusesCell, RefusesCertificate, RefusesRecipe, RefusesSet}
-use Rattle.batch_commands.specs.Reading.{AreRead, Gives, IsUnread, ReadsCell, ReadsCertificate, ReadsRecipe}
-use Rattle.batch_commands.specs.declared.verdict.Halt.{Halt}
-use Rattle.batch_commands.specs.declared.verdict.Halt.TheVariants.{Memory}
+use Rattle.batch_commands.specs.Drawing.{RefusesDrawing}
+use Rattle.batch_commands.specs.Judging.{RefusesCell, RefusesCertificate, RefusesCheck, RefusesRecipe, RefusesSet}
+use Rattle.batch_commands.specs.Reading.{AreRead, Gives, IsSoOf, IsUnread, ReadsCell, ReadsCertificate, ReadsRecipe}
+use Rattle.batch_commands.specs.declared.refusal.Halt.{Halt}
+use Rattle.batch_commands.specs.declared.refusal.Halt.TheVariants.{Memory}
 
 -- the document at the path can't be read, or is refused
 
@@ -24,11 +25,19 @@ abbrev pub HaltsAtRecipes : Gives → List (List ℕ) → Halt → Type 0
 HaltsAtRecipes gives [] h = h ≡ Memory
 HaltsAtRecipes gives (path ∷ paths) h = HaltsAtRecipe gives path h ⊎ ((r : Recipe) × ReadsRecipe gives path r × HaltsAtRecipes gives paths h)
 
--- the first document that can't be read or is refused ends `check`
-abbrev pub HaltsCheck : Gives → List ℕ → List (List ℕ) → Halt → Type 0
-HaltsCheck gives cell recipes h = HaltsAtCell gives cell h ⊎ ((c : Cell) × ReadsCell gives cell c × HaltsAtRecipes gives recipes h)
+-- the first document that can't be read or is refused
+abbrev pub HaltsAtDocuments : Gives → List ℕ → List (List ℕ) → Halt → Type 0
+HaltsAtDocuments gives cell recipes h = HaltsAtCell gives cell h ⊎ ((c : Cell) × ReadsCell gives cell c × HaltsAtRecipes gives recipes h)
 
--- the same of the documents of a set
+-- one of them does, or all are read and the recipes can't be cleared
+abbrev pub HaltsCheck : Gives → List ℕ → List (List ℕ) → Halt → Type 0
+HaltsCheck gives cell recipes h = HaltsAtDocuments gives cell recipes h ⊎ IsSoOf gives cell recipes (λ c rs. RefusesCheck c rs h)
+
+-- the same with a drawing
+abbrev pub HaltsDrawing : Gives → List ℕ → List (List ℕ) → Halt → Type 0
+HaltsDrawing gives cell recipes h = HaltsAtDocuments gives cell recipes h ⊎ IsSoOf gives cell recipes (λ c rs. RefusesDrawing c rs h)
+
+-- the first document of a set that can't be read or is refused
 abbrev pub HaltsReading : Gives → List ℕ → List ℕ → List (List ℕ) → Halt → Type 0
 HaltsReading gives cell certificate recipes h =
     HaltsAtCell gives cell h

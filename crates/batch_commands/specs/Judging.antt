@@ -30,41 +30,38 @@ use Rattle.batch_check.specs.declared.fault.CheckFault.{CheckFault}
 use Rattle.batch_check.specs.declared.fault.CheckFault.TheVariants as check
 use Rattle.batch_commands.specs.VerdictTexts.{certificate_refused, certificate_text, document_text, fault_text, refusal_text}
 use Rattle.batch_commands.specs.declared.judging.TheConstants.{MAX_CERTIFICATE_LEN}
-use Rattle.batch_commands.specs.declared.verdict.Ending.{Ending}
-use Rattle.batch_commands.specs.declared.verdict.Ending.TheVariants.{Accepted, Refused, OutOfMemory}
-use Rattle.batch_commands.specs.declared.verdict.Halt.{Halt}
-use Rattle.batch_commands.specs.declared.verdict.Halt.TheVariants as halt
+use Rattle.batch_commands.specs.declared.refusal.Halt.{Halt}
+use Rattle.batch_commands.specs.declared.refusal.Halt.TheVariants as halt
+use Rattle.batch_commands.specs.declared.refusal.RefusalKind.{RefusalKind}
+use Rattle.batch_commands.specs.declared.refusal.RefusalKind.TheVariants.{Fault, OutOfMemory}
 
-abbrev pub status_of : Ending → ℕ
-status_of Accepted = 0
-status_of Refused = 1
+abbrev pub status_of : RefusalKind → ℕ
+status_of Fault = 1
 status_of OutOfMemory = 4
 
 -- Documents
 
-abbrev pub document_ending : DocFault → Ending
-document_ending document.Memory = OutOfMemory
-document_ending _ = Refused
+abbrev pub document_kind : DocFault → RefusalKind
+document_kind document.Memory = OutOfMemory
+document_kind _ = Fault
 
-abbrev pub certificate_ending : CertFault → Ending
-certificate_ending certificate.Memory = OutOfMemory
-certificate_ending _ = Refused
+abbrev pub certificate_kind : CertFault → RefusalKind
+certificate_kind certificate.Memory = OutOfMemory
+certificate_kind _ = Fault
 
-abbrev pub fault_ending : CheckFault → Ending
-fault_ending check.Memory = OutOfMemory
-fault_ending _ = Refused
+abbrev pub fault_kind : CheckFault → RefusalKind
+fault_kind check.Memory = OutOfMemory
+fault_kind _ = Fault
 
--- the program halts with this text and so, unless there was no memory for the text
-abbrev pub HaltsWith : List ℕ → Ending → Halt → Type 0
-HaltsWith text ending (halt.Refused verdict) = (string_bytes verdict.text ≡ text) × (verdict.ending ≡ ending)
-HaltsWith text ending (halt.Unread message) = ⊥
-HaltsWith text ending halt.Memory = ⊤
+abbrev pub set_kind : SetRefusal → RefusalKind
+set_kind set.Memory = OutOfMemory
+set_kind _ = Fault
 
--- a halt accepts nothing
-abbrev pub IsHalt : Halt → Type 0
-IsHalt (halt.Refused verdict) = verdict.ending ≢ Accepted
-IsHalt (halt.Unread message) = ⊤
-IsHalt halt.Memory = ⊤
+-- the program halts with the refusal of this text and kind, unless there was no memory for the text
+abbrev pub HaltsWith : List ℕ → RefusalKind → Halt → Type 0
+HaltsWith text kind (halt.Refused refusal) = (string_bytes refusal.text ≡ text) × (refusal.kind ≡ kind)
+HaltsWith text kind (halt.Unread message) = ⊥
+HaltsWith text kind halt.Memory = ⊤
 
 abbrev pub IsToml : List ℕ → Type 0
 IsToml bytes = IsUtf8 bytes × IsSome (parse_document bytes)
@@ -78,7 +75,7 @@ pub record RefusesCell (path bytes : List ℕ) (h : Halt) : Type 0 where
   pub long : MAX_DOCUMENT_LEN < length bytes → fault ≡ document.Entry (record { kind = table.Cell; entry = 0 }) OutOfLimit
   pub told : (spot : Spot) (wrong : EntryFault) → fault ≡ document.Entry spot wrong → is_of_cell spot.kind ≡ true
   pub is_there : (spot : Spot) (wrong : EntryFault) → fault ≡ document.Entry spot wrong → FaultStands bytes spot wrong
-  pub halts : HaltsWith (document_text path fault) (document_ending fault) h
+  pub halts : HaltsWith (document_text path fault) (document_kind fault) h
 
 -- the document is refused, and but for memory it stands for no recipe; the rest is as for a cell, of the tables of a recipe
 pub record RefusesRecipe (path bytes : List ℕ) (h : Halt) : Type 0 where
@@ -88,14 +85,14 @@ pub record RefusesRecipe (path bytes : List ℕ) (h : Halt) : Type 0 where
   pub long : MAX_DOCUMENT_LEN < length bytes → fault ≡ document.Entry (record { kind = table.Recipe; entry = 0 }) OutOfLimit
   pub told : (spot : Spot) (wrong : EntryFault) → fault ≡ document.Entry spot wrong → is_of_recipe spot.kind ≡ true
   pub is_there : (spot : Spot) (wrong : EntryFault) → fault ≡ document.Entry spot wrong → FaultStands bytes spot wrong
-  pub halts : HaltsWith (document_text path fault) (document_ending fault) h
+  pub halts : HaltsWith (document_text path fault) (document_kind fault) h
 
 -- the text is refused by its first fault, and a file that is too long as one of too many lines
 pub record RefusesCertificate (text : List ℕ) (h : Halt) : Type 0 where
   pub fault : CertFault
   pub stands : length text ≤ MAX_CERTIFICATE_LEN → IsFirstFault text fault
   pub long : MAX_CERTIFICATE_LEN < length text → fault ≡ certificate.TooManyLines
-  pub halts : HaltsWith (certificate_refused fault) (certificate_ending fault) h
+  pub halts : HaltsWith (certificate_refused fault) (certificate_kind fault) h
 
 -- Sets of recipes
 
@@ -103,25 +100,18 @@ pub record RefusesCertificate (text : List ℕ) (h : Halt) : Type 0 where
 abbrev pub IsClearedBy : Cell → List Recipe → List Rank → Type 0
 IsClearedBy c rs ranks = RanksAll (resources_of c) ranks × IsCleared (setup_of c rs) (rank_of ranks)
 
--- what is printed where it doesn't, and how the program ends
-abbrev pub IsSetRefused : Cell → List Recipe → List Rank → List ℕ → Ending → Type 0
-IsSetRefused c rs ranks text Accepted = ⊥
-IsSetRefused c rs ranks text Refused =
-    (refusal : SetRefusal) × (refusal ≢ set.Memory) × IsFirstRefusal (setup_of c rs) ranks refusal
-    × (text ≡ refusal_text c rs ranks refusal)
-IsSetRefused c rs ranks text OutOfMemory = text ≡ refusal_text c rs ranks set.Memory
-
--- it doesn't, or memory for the judgement ran out, and the verdict says so, unless there was no memory for the verdict
+-- it doesn't, for this first reason, which the refusal says; want of memory says nothing of the set
 abbrev pub RefusesSet : Cell → List Recipe → List Rank → Halt → Type 0
-RefusesSet c rs ranks (halt.Refused verdict) = IsSetRefused c rs ranks (string_bytes verdict.text) verdict.ending
-RefusesSet c rs ranks (halt.Unread message) = ⊥
-RefusesSet c rs ranks halt.Memory = ⊤
+RefusesSet c rs ranks h =
+    (refusal : SetRefusal) × IsFirstRefusal (setup_of c rs) ranks refusal × HaltsWith (refusal_text c rs ranks refusal) (set_kind refusal) h
 
--- what is printed of recipes alone: a text that is read as the least ranks, in order of name, and is not too long for a file,
--- or why there are none
-abbrev pub IsChecked : Cell → List Recipe → List ℕ → Ending → Type 0
-IsChecked c rs text Accepted =
+-- what is printed of recipes that can be cleared: a text that is read as the least ranks, in order of name, and is not too long
+-- for a file
+abbrev pub IsChecked : Cell → List Recipe → List ℕ → Type 0
+IsChecked c rs text =
     (ranks : List Rank) × RanksAll (resources_of c) ranks × IsLeastClearance c rs (rank_of ranks) × AreInOrderOfName ranks
     × (text ≡ certificate_text ranks) × IsCertificateText text ranks × (length text ≤ MAX_CERTIFICATE_LEN)
-IsChecked c rs text Refused = (fault : CheckFault) × (fault ≢ check.Memory) × IsFault c rs fault × (text ≡ fault_text c rs fault)
-IsChecked c rs text OutOfMemory = text ≡ fault_text c rs check.Memory
+
+-- they can't, for this reason, which the refusal says; want of memory says nothing of the recipes
+abbrev pub RefusesCheck : Cell → List Recipe → Halt → Type 0
+RefusesCheck c rs h = (fault : CheckFault) × IsFault c rs fault × HaltsWith (fault_text c rs fault) (fault_kind fault) h

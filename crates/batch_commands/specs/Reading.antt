@@ -9,10 +9,8 @@ use Rattle.batch_verify.specs.ClearedSet.{ClearedSet}
 use Rattle.batch_commands.specs.Drawing.{IsDrawn}
 use Rattle.batch_commands.specs.Judging.{IsChecked, IsClearedBy}
 use Rattle.batch_commands.specs.VerdictTexts.{accepted_text}
-use Rattle.batch_commands.specs.declared.verdict.Ending.{Ending}
-use Rattle.batch_commands.specs.declared.verdict.Ending.TheVariants.{Accepted}
-use Rattle.batch_commands.specs.declared.verdict.Halt.{Halt}
-use Rattle.batch_commands.specs.declared.verdict.Halt.TheVariants.{Refused, Unread, Memory}
+use Rattle.batch_commands.specs.declared.refusal.Halt.{Halt}
+use Rattle.batch_commands.specs.declared.refusal.Halt.TheVariants.{Refused, Unread, Memory}
 
 -- what reading a path may give: these bytes, or at None that nothing can be read there
 abbrev pub Gives : Type 1
@@ -20,7 +18,7 @@ Gives = List ℕ → Option (List ℕ) → Type 0
 
 -- nothing was judged: nothing can be read at the path, or there was no memory
 abbrev pub IsUnread : Gives → List ℕ → Halt → Type 0
-IsUnread gives path (Refused verdict) = ⊥
+IsUnread gives path (Refused refusal) = ⊥
 IsUnread gives path (Unread message) = gives path None
 IsUnread gives path Memory = ⊤
 
@@ -39,21 +37,21 @@ ReadsRecipes gives [] [] = ⊤
 ReadsRecipes gives (path ∷ paths) (r ∷ rs) = ReadsRecipe gives path r × ReadsRecipes gives paths rs
 ReadsRecipes gives _ _ = ⊥
 
--- the verdict of `check` on the documents at these paths
-pub record ChecksDocuments (gives : Gives) (cell : List ℕ) (paths : List (List ℕ)) (text : List ℕ) (ending : Ending) : Type 0 where
+-- this is so of the cell and the recipes that the documents at these paths are
+pub record IsSoOf (gives : Gives) (cell : List ℕ) (paths : List (List ℕ)) (is_so : Cell → List Recipe → Type 0) : Type 0 where
   pub equipment : Cell
   pub recipes : List Recipe
   pub cell_read : ReadsCell gives cell equipment
   pub recipes_read : ReadsRecipes gives paths recipes
-  pub judged : IsChecked equipment recipes text ending
+  pub judged : is_so equipment recipes
 
--- the drawing of `check --dot` on the documents at these paths
-pub record DrawsDocuments (gives : Gives) (cell : List ℕ) (paths : List (List ℕ)) (text : List ℕ) (ending : Ending) : Type 0 where
-  pub equipment : Cell
-  pub recipes : List Recipe
-  pub cell_read : ReadsCell gives cell equipment
-  pub recipes_read : ReadsRecipes gives paths recipes
-  pub drawn : IsDrawn equipment recipes text ending
+-- what `check` prints of the documents at these paths
+abbrev pub ChecksDocuments : Gives → List ℕ → List (List ℕ) → List ℕ → Type 0
+ChecksDocuments gives cell paths text = IsSoOf gives cell paths (λ c rs. IsChecked c rs text)
+
+-- what `check --dot` prints of them
+abbrev pub DrawsDocuments : Gives → List ℕ → List (List ℕ) → List ℕ → Type 0
+DrawsDocuments gives cell paths text = IsSoOf gives cell paths (λ c rs. IsDrawn c rs text)
 
 -- the documents at these paths are the cell, a certificate of these ranks, and the recipes
 pub record AreRead (gives : Gives) (cell certificate : List ℕ) (paths : List (List ℕ)) (equipment : Cell) (ranks : List Rank) (recipes : List Recipe) : Type 0 where
@@ -67,9 +65,6 @@ pub record AreCleared (gives : Gives) (cell certificate : List ℕ) (paths : Lis
   pub read : AreRead gives cell certificate paths set.cell ranks set.recipes
   pub cleared : IsClearedBy set.cell set.recipes ranks
 
--- `verify` accepts the set that they make
-pub record VerifiesDocuments (gives : Gives) (cell certificate : List ℕ) (paths : List (List ℕ)) (text : List ℕ) (ending : Ending) : Type 0 where
-  pub set : ClearedSet
-  pub cleared : AreCleared gives cell certificate paths set
-  pub told : text ≡ accepted_text
-  pub accepts : ending ≡ Accepted
+-- what `verify` prints of them: it accepts the set that they make
+abbrev pub VerifiesDocuments : Gives → List ℕ → List ℕ → List (List ℕ) → List ℕ → Type 0
+VerifiesDocuments gives cell certificate paths text = (text ≡ accepted_text) × ((set : ClearedSet) × AreCleared gives cell certificate paths set)

@@ -1,5 +1,5 @@
 -- trusted: what is said to a person beside a verdict.
-use Rattle.std.specs.Prelude.{◌≡◌, ◌++◌, ℕ, Bool, true, false, List, Option, Some, None, codes, string_bytes}
+use Rattle.std.specs.Prelude.{◌≡◌, ◌++◌, ℕ, Bool, true, false, List, Option, codes, string_bytes}
 use Rattle.std.specs.Io.KnownBytes.{Appends, Keeps}
 use Rattle.batch_sentences.specs.declared.sentence.Sentence.{Sentence}
 
@@ -14,8 +14,7 @@ pub record WritesFront (before after : Option (List ℕ)) (text : List ℕ) : Ty
   pub splits : text ≡ written ++ rest
   pub appends : Appends before after written
 
--- nothing is said where the words ask for quiet or nothing is refused, and else the line of the sentence
-abbrev pub IsSaid : Bool → Option Sentence → Option (List ℕ) → Option (List ℕ) → Type 0
+-- nothing is said where the words ask for quiet, and else the line of the sentence
+abbrev pub IsSaid : Bool → Sentence → Option (List ℕ) → Option (List ℕ) → Type 0
 IsSaid true sentence before after = Keeps before after
-IsSaid false None before after = Keeps before after
-IsSaid false (Some sentence) before after = WritesFront before after (line_of sentence)
+IsSaid false sentence before after = WritesFront before after (line_of sentence)

@@ -3,7 +3,7 @@ ghost use Rattle.std.specs.Prelude.{◌≡◌, option_map};
 ghost use Rattle.batch_commands.specs.DemoDocuments.{demo_text};
 
 use crate::documents::Documents;
-use crate::verdict::Halt;
+use crate::refusal::Halt;
 use std::alloc::Global;
 
 pub(crate) const CELL_PATH: &str = "demo/cell.toml";

@@ -1,14 +1,13 @@
 //! Reading and judging documents, each before the next.
 ghost use Rattle.std.specs.Prelude.{◌≡◌, ℕ, List, Option, map, IfOk, IfErr, string_bytes};
-ghost use Rattle.batch_commands.specs.Halting.{HaltsAtCell, HaltsAtCertificate, HaltsAtRecipe, HaltsAtRecipes, HaltsCheck, HaltsClearing, HaltsReading};
-ghost use Rattle.batch_commands.specs.Judging.{IsHalt};
+ghost use Rattle.batch_commands.specs.Halting.{HaltsAtCell, HaltsAtCertificate, HaltsAtRecipe, HaltsAtRecipes, HaltsCheck, HaltsClearing, HaltsDrawing, HaltsReading};
 ghost use Rattle.batch_commands.specs.Reading.{AreCleared, AreRead, ChecksDocuments, DrawsDocuments, IsUnread, ReadsCell, ReadsCertificate, ReadsRecipe, ReadsRecipes, VerifiesDocuments};
 
 use crate::drawing::draw_recipes;
 use crate::judging::{
     MAX_CERTIFICATE_LEN, check_recipes, clear_recipes, judge_cell, judge_certificate, judge_recipe,
 };
-use crate::verdict::{Ending, Halt, Verdict};
+use crate::refusal::Halt;
 use batch_cell::Cell;
 use batch_reader::MAX_DOCUMENT_LEN;
 use batch_recipe::Recipe;
@@ -26,41 +25,37 @@ pub trait Documents {
         ensures unread { IfErr result (IsUnread (gives self.now) path.now) };
 }
 
-/// The verdict of `check` on the documents at these paths. The first document that can't be read or is refused ends it.
+/// What `check` prints of the documents at these paths. The first document that can't be read or is refused ends it.
 pub fn check_documents<D: Documents>(
     alloc: Global,
     documents: &D,
     cell: &str,
     recipes: &[String],
-) -> Result<Verdict, Halt>
-    ensures verdict { IfOk result (λ verdict. ChecksDocuments (D.gives documents.now) cell.now (map string_bytes recipes.now)
-        (string_bytes verdict.text) verdict.ending) }
-    ensures halts { IfErr result IsHalt }
+) -> Result<String, Halt>
+    ensures verdict { IfOk result (λ text. ChecksDocuments (D.gives documents.now) cell.now (map string_bytes recipes.now) (string_bytes text)) }
     ensures halted { IfErr result (HaltsCheck (D.gives documents.now) cell.now (map string_bytes recipes.now)) }
 {
     let cell = read_cell(alloc, documents, cell)?;
     let recipes = read_recipes(alloc, documents, recipes)?;
-    Ok(check_recipes(alloc, &cell, &recipes)?)
+    check_recipes(alloc, &cell, &recipes)
 }
 
-/// The drawing that `check --dot` makes of the documents at these paths. Its errors are those of [`check_documents`].
+/// The drawing that `check --dot` makes of the documents at these paths. It ends as [`check_documents`] does, and draws a circle.
 pub fn draw_documents<D: Documents>(
     alloc: Global,
     documents: &D,
     cell: &str,
     recipes: &[String],
-) -> Result<Verdict, Halt>
-    ensures verdict { IfOk result (λ verdict. DrawsDocuments (D.gives documents.now) cell.now (map string_bytes recipes.now)
-        (string_bytes verdict.text) verdict.ending) }
-    ensures halts { IfErr result IsHalt }
-    ensures halted { IfErr result (HaltsCheck (D.gives documents.now) cell.now (map string_bytes recipes.now)) }
+) -> Result<String, Halt>
+    ensures verdict { IfOk result (λ text. DrawsDocuments (D.gives documents.now) cell.now (map string_bytes recipes.now) (string_bytes text)) }
+    ensures halted { IfErr result (HaltsDrawing (D.gives documents.now) cell.now (map string_bytes recipes.now)) }
 {
     let cell = read_cell(alloc, documents, cell)?;
     let recipes = read_recipes(alloc, documents, recipes)?;
-    Ok(draw_recipes(alloc, &cell, &recipes)?)
+    draw_recipes(alloc, &cell, &recipes)
 }
 
-/// The verdict of `verify` on the documents at these paths: it accepts the set that [`clear_documents`] gives, and its errors
+/// What `verify` prints of the documents at these paths: it accepts the set that [`clear_documents`] gives, and its errors
 /// are those of that call.
 pub fn verify_documents<D: Documents>(
     alloc: Global,
@@ -68,20 +63,13 @@ pub fn verify_documents<D: Documents>(
     cell: &str,
     certificate: &str,
     recipes: &[String],
-) -> Result<Verdict, Halt>
-    ensures verdict { IfOk result (λ verdict. VerifiesDocuments (D.gives documents.now) cell.now certificate.now (map string_bytes recipes.now)
-        (string_bytes verdict.text) verdict.ending) }
-    ensures halts { IfErr result IsHalt }
+) -> Result<String, Halt>
+    ensures verdict { IfOk result (λ text. VerifiesDocuments (D.gives documents.now) cell.now certificate.now (map string_bytes recipes.now)
+        (string_bytes text)) }
     ensures halted { IfErr result (HaltsClearing (D.gives documents.now) cell.now certificate.now (map string_bytes recipes.now)) }
 {
-    match clear_documents(alloc, documents, cell, certificate, recipes).err() {
-        Some(halt) => Err(halt),
-        None => Ok(Verdict {
-            text: String::from_str(alloc, "accepted\n")?,
-            ending: Ending::Accepted,
-            sentence: None,
-        }),
-    }
+    clear_documents(alloc, documents, cell, certificate, recipes)?;
+    Ok(String::from_str(alloc, "accepted\n")?)
 }
 
 /// The set that the documents at these paths make, cleared by the certificate among them: the one way from documents to a set
@@ -96,7 +84,6 @@ pub fn clear_documents<D: Documents>(
     recipes: &[String],
 ) -> Result<Cleared, Halt>
     ensures cleared { IfOk result (AreCleared (D.gives documents.now) cell.now certificate.now (map string_bytes recipes.now)) }
-    ensures halts { IfErr result IsHalt }
     ensures halted { IfErr result (HaltsClearing (D.gives documents.now) cell.now certificate.now (map string_bytes recipes.now)) }
 {
     let read = read_set(alloc, documents, cell, certificate, recipes)?;
@@ -120,7 +107,6 @@ fn read_set<D: Documents>(
 ) -> Result<DocumentSet, Halt>
     ensures read { IfOk result (λ set. AreRead (D.gives documents.now) cell.now certificate.now (map string_bytes recipes.now)
         set.cell set.certificate.ranks.items set.recipes.items) }
-    ensures halts { IfErr result IsHalt }
     ensures halted { IfErr result (HaltsReading (D.gives documents.now) cell.now certificate.now (map string_bytes recipes.now)) }
 {
     let cell = read_cell(alloc, documents, cell)?;
@@ -139,7 +125,6 @@ pub(crate) fn read_cell<D: Documents>(
     path: &str,
 ) -> Result<Cell, Halt>
     ensures read { IfOk result (ReadsCell (D.gives documents.now) path.now) }
-    ensures halts { IfErr result IsHalt }
     ensures halted { IfErr result (HaltsAtCell (D.gives documents.now) path.now) }
 {
     let bytes = documents.read(alloc, path, MAX_DOCUMENT_LEN)?;
@@ -152,7 +137,6 @@ fn read_certificate<D: Documents>(
     path: &str,
 ) -> Result<Certificate, Halt>
     ensures read { IfOk result (λ certificate. ReadsCertificate (D.gives documents.now) path.now certificate.ranks.items) }
-    ensures halts { IfErr result IsHalt }
     ensures halted { IfErr result (HaltsAtCertificate (D.gives documents.now) path.now) }
 {
     let text = documents.read(alloc, path, MAX_CERTIFICATE_LEN)?;
@@ -161,7 +145,6 @@ fn read_certificate<D: Documents>(
 
 fn read_recipe<D: Documents>(alloc: Global, documents: &D, path: &str) -> Result<Recipe, Halt>
     ensures read { IfOk result (ReadsRecipe (D.gives documents.now) path.now) }
-    ensures halts { IfErr result IsHalt }
     ensures halted { IfErr result (HaltsAtRecipe (D.gives documents.now) path.now) }
 {
     let bytes = documents.read(alloc, path, MAX_DOCUMENT_LEN)?;
@@ -174,7 +157,6 @@ fn read_recipes<D: Documents>(
     paths: &[String],
 ) -> Result<Vec<Recipe>, Halt>
     ensures read { IfOk result (λ recipes. ReadsRecipes (D.gives documents.now) (map string_bytes paths.now) recipes.items) }
-    ensures halts { IfErr result IsHalt }
     ensures halted { IfErr result (HaltsAtRecipes (D.gives documents.now) (map string_bytes paths.now)) }
 {
     let mut recipes = Vec::new(alloc);

@@ -1,33 +1,26 @@
 //! Drawings of what recipes ask for after what.
-ghost use Rattle.std.specs.Prelude.{◌≡◌, [], IfOk, string_bytes};
-ghost use Rattle.batch_commands.specs.Drawing.{IsDrawingOf, IsDrawn, IsFaultDrawn};
+ghost use Rattle.std.specs.Prelude.{[], IfErr, IfOk, string_bytes};
+ghost use Rattle.batch_commands.specs.Drawing.{IsDrawingOf, IsDrawn, IsFaultDrawn, RefusesDrawing};
 
-use crate::judging::fault_ending;
+use crate::judging::fault_halt;
+use crate::refusal::Halt;
 use crate::texts::{fault_text, graph_text};
-use crate::verdict::{Ending, Verdict};
 use batch_cell::Cell;
 use batch_check::{CheckFault, Edge, check, graph_of};
 use batch_recipe::Recipe;
-use batch_sentences::fault_sentence;
 use std::alloc::{AllocError, Global};
 
-/// What `check --dot` prints of the recipes, and how the program ends: in place of a certificate, or of a circle, the graph of
-/// the edges, for Graphviz.
-#[tactic(auto, using(crate::proofs::Drawn::fault_drawn))]
-pub fn draw_recipes(alloc: Global, cell: &Cell, recipes: &[Recipe]) -> Result<Verdict, AllocError>
-    ensures { IfOk result (λ verdict. IsDrawn cell.now recipes.now (string_bytes verdict.text) verdict.ending) }
+/// What `check --dot` prints of the recipes: in place of a certificate, or of a circle, the graph of the edges, for Graphviz.
+pub fn draw_recipes(alloc: Global, cell: &Cell, recipes: &[Recipe]) -> Result<String, Halt>
+    ensures drawn { IfOk result (λ text. IsDrawn cell.now recipes.now (string_bytes text)) }
+    ensures refused { IfErr result (RefusesDrawing cell.now recipes.now) }
 {
     match check(alloc, cell, recipes) {
-        Ok(_) => Ok(Verdict {
-            text: drawing(alloc, cell, recipes, &[])?,
-            ending: Ending::Accepted,
-            sentence: None,
-        }),
-        Err(fault) => Ok(Verdict {
-            text: fault_drawing(alloc, cell, recipes, &fault)?,
-            ending: fault_ending(&fault),
-            sentence: Some(fault_sentence(alloc, cell, recipes, &fault)?),
-        }),
+        Ok(_) => Ok(drawing(alloc, cell, recipes, &[])?),
+        Err(fault) => {
+            let text = fault_drawing(alloc, cell, recipes, &fault)?;
+            Err(fault_halt(alloc, cell, recipes, Ok(text), &fault))
+        }
     }
 }
 

@@ -4,7 +4,7 @@ ghost use Rattle.batch_commands.specs.Reading.{IsUnread};
 
 use crate::documents::Documents;
 use crate::reading::{ReadFault, read_document};
-use crate::verdict::Halt;
+use crate::refusal::Halt;
 use batch_sentences::shown;
 use std::alloc::Global;
 use std::fs;

@@ -1,17 +1,15 @@
 //! Judging documents, over their bytes.
-ghost use Rattle.std.specs.Prelude.{◌≡◌, ◌≢◌, ◌≤◌, ◌<◌, ℕ, List, length, IfOk, IfErr, OnOk, string_bytes};
+ghost use Rattle.std.specs.Prelude.{◌≡◌, ◌≤◌, ◌<◌, ℕ, List, length, IfOk, IfErr, OnOk, string_bytes};
 ghost use Rattle.batch_reader.specs.CellDocument.{IsCellDocument};
 ghost use Rattle.batch_reader.specs.RecipeDocument.{IsRecipeDocument};
-ghost use Rattle.batch_model.specs.Setups.{setup_of};
 ghost use Rattle.batch_verify.specs.CertificateText.{IsCertificateText};
-ghost use Rattle.batch_verify.specs.Verifying.{IsFirstRefusal};
-ghost use Rattle.batch_commands.specs.VerdictTexts.{certificate_refused, document_text};
-ghost use Rattle.batch_commands.specs.Judging.{HaltsWith, IsChecked, IsClearedBy, IsHalt, RefusesCell, RefusesCertificate, RefusesRecipe, RefusesSet, certificate_ending, document_ending, fault_ending};
+ghost use Rattle.batch_commands.specs.VerdictTexts.{certificate_refused, document_text, refusal_text};
+ghost use Rattle.batch_commands.specs.Judging.{HaltsWith, IsChecked, IsClearedBy, RefusesCell, RefusesCertificate, RefusesCheck, RefusesRecipe, RefusesSet, certificate_kind, document_kind, fault_kind, set_kind};
 
+use crate::refusal::{DocumentRefusal, Halt, RefusalKind};
 use crate::texts::{
     certificate_refused, certificate_text, document_text, fault_text, refusal_text,
 };
-use crate::verdict::{Ending, Halt, Verdict};
 use batch_cell::Cell;
 use batch_check::{CheckFault, check};
 use batch_reader::{DocFault, read_cell, read_recipe};
@@ -34,7 +32,6 @@ pub const MAX_CERTIFICATE_LEN: usize = 32_768;
 pub fn judge_cell(alloc: Global, path: &str, bytes: &[u8]) -> Result<Cell, Halt>
     ensures ok { IfOk result (IsCellDocument bytes.now) }
     ensures refused { IfErr result (RefusesCell path.now bytes.now) }
-    ensures halts { IfErr result IsHalt }
 {
     match read_cell(alloc, bytes) {
         Ok(cell) => Ok(cell),
@@ -46,7 +43,6 @@ pub fn judge_cell(alloc: Global, path: &str, bytes: &[u8]) -> Result<Cell, Halt>
 pub fn judge_recipe(alloc: Global, path: &str, bytes: &[u8]) -> Result<Recipe, Halt>
     ensures ok { IfOk result (IsRecipeDocument bytes.now) }
     ensures refused { IfErr result (RefusesRecipe path.now bytes.now) }
-    ensures halts { IfErr result IsHalt }
 {
     match read_recipe(alloc, bytes) {
         Ok(recipe) => Ok(recipe),
@@ -55,33 +51,30 @@ pub fn judge_recipe(alloc: Global, path: &str, bytes: &[u8]) -> Result<Recipe, H
 }
 
 fn document_halt(alloc: Global, asked: Asked, path: &str, bytes: &[u8], fault: DocFault) -> Halt
-    ensures told { HaltsWith (document_text path.now fault) (document_ending fault) result }
-    ensures halts { IsHalt result }
+    ensures { HaltsWith (document_text path.now fault) (document_kind fault) result }
 {
-    let ending = match fault {
-        DocFault::Memory => Ending::OutOfMemory,
-        _ => Ending::Refused,
+    let kind = match fault {
+        DocFault::Memory => RefusalKind::OutOfMemory,
+        _ => RefusalKind::Fault,
     };
     let text = document_text(alloc, path, fault);
     let sentence = document_sentence(alloc, asked, path, bytes, fault);
-    refused(text, ending, sentence)
+    refused(text, kind, sentence)
 }
 
 /// The refusal, unless there was no memory for its text or its sentence.
 fn refused(
     text: Result<String, AllocError>,
-    ending: Ending,
+    kind: RefusalKind,
     sentence: Result<Sentence, AllocError>,
 ) -> Halt
-    requires { ending ≢ Ending.Accepted }
-    ensures told { (wanted : List ℕ) → IfOk text (λ text. string_bytes text ≡ wanted) → HaltsWith wanted ending result }
-    ensures halts { IsHalt result }
+    ensures { (wanted : List ℕ) → IfOk text (λ text. string_bytes text ≡ wanted) → HaltsWith wanted kind result }
 {
     match (text, sentence) {
-        (Ok(text), Ok(sentence)) => Halt::Refused(Verdict {
+        (Ok(text), Ok(sentence)) => Halt::Refused(DocumentRefusal {
             text,
-            ending,
-            sentence: Some(sentence),
+            kind,
+            sentence,
         }),
         _ => Halt::Memory,
     }
@@ -96,7 +89,6 @@ pub fn judge_certificate(alloc: Global, path: &str, text: &[u8]) -> Result<Certi
     ensures ok { IfOk result (λ certificate. IsCertificateText text.now certificate.ranks.items) }
     ensures short { OnOk result (length text.now ≤ MAX_CERTIFICATE_LEN) }
     ensures refused { IfErr result (RefusesCertificate text.now) }
-    ensures halts { IfErr result IsHalt }
 {
     if text.len() > MAX_CERTIFICATE_LEN {
         return Err(certificate_halt(alloc, path, text, CertFault::TooManyLines));
@@ -108,44 +100,47 @@ pub fn judge_certificate(alloc: Global, path: &str, text: &[u8]) -> Result<Certi
 }
 
 fn certificate_halt(alloc: Global, path: &str, bytes: &[u8], fault: CertFault) -> Halt
-    ensures told { HaltsWith (certificate_refused fault) (certificate_ending fault) result }
-    ensures halts { IsHalt result }
+    ensures { HaltsWith (certificate_refused fault) (certificate_kind fault) result }
 {
-    let ending = match fault {
-        CertFault::Memory => Ending::OutOfMemory,
-        _ => Ending::Refused,
+    let kind = match fault {
+        CertFault::Memory => RefusalKind::OutOfMemory,
+        _ => RefusalKind::Fault,
     };
     let text = certificate_refused(alloc, fault);
     let sentence = certificate_sentence(alloc, path, bytes, fault);
-    refused(text, ending, sentence)
+    refused(text, kind, sentence)
 }
 
-/// What `check` prints of the recipes, and how the program ends.
-pub fn check_recipes(alloc: Global, cell: &Cell, recipes: &[Recipe]) -> Result<Verdict, AllocError>
-    ensures { IfOk result (λ verdict. IsChecked cell.now recipes.now (string_bytes verdict.text) verdict.ending) }
+/// What `check` prints of the recipes: their least ranks, or why there are none.
+pub fn check_recipes(alloc: Global, cell: &Cell, recipes: &[Recipe]) -> Result<String, Halt>
+    ensures checked { IfOk result (λ text. IsChecked cell.now recipes.now (string_bytes text)) }
+    ensures refused { IfErr result (RefusesCheck cell.now recipes.now) }
 {
     match check(alloc, cell, recipes) {
-        Ok(certificate) => Ok(Verdict {
-            text: certificate_text(alloc, &certificate)?,
-            ending: Ending::Accepted,
-            sentence: None,
-        }),
-        Err(fault) => Ok(Verdict {
-            text: fault_text(alloc, cell, recipes, &fault)?,
-            ending: fault_ending(&fault),
-            sentence: Some(fault_sentence(alloc, cell, recipes, &fault)?),
-        }),
+        Ok(certificate) => Ok(certificate_text(alloc, &certificate)?),
+        Err(fault) => {
+            let text = fault_text(alloc, cell, recipes, &fault);
+            Err(fault_halt(alloc, cell, recipes, text, &fault))
+        }
     }
 }
 
-/// How the program ends where the recipes have no certificate.
-pub(crate) fn fault_ending(fault: &CheckFault) -> Ending
-    ensures { result ≡ fault_ending fault.now }
+/// The refusal of the recipes by the fault, with this text.
+pub(crate) fn fault_halt(
+    alloc: Global,
+    cell: &Cell,
+    recipes: &[Recipe],
+    text: Result<String, AllocError>,
+    fault: &CheckFault,
+) -> Halt
+    ensures { (wanted : List ℕ) → IfOk text (λ text. string_bytes text ≡ wanted) → HaltsWith wanted (fault_kind fault.now) result }
 {
-    match fault {
-        CheckFault::Memory => Ending::OutOfMemory,
-        _ => Ending::Refused,
-    }
+    let kind = match fault {
+        CheckFault::Memory => RefusalKind::OutOfMemory,
+        _ => RefusalKind::Fault,
+    };
+    let sentence = fault_sentence(alloc, cell, recipes, fault);
+    refused(text, kind, sentence)
 }
 
 /// The cell and the recipes, cleared by the certificate.
@@ -161,7 +156,6 @@ pub fn clear_recipes(
     ensures set { IfOk result (λ cleared. (cleared.cell ≡ cell) × (cleared.recipes ≡ recipes.items)) }
     ensures cleared { OnOk result (IsClearedBy cell recipes.items certificate.now.ranks.items) }
     ensures refused { IfErr result (RefusesSet cell recipes.items certificate.now.ranks.items) }
-    ensures halts { IfErr result IsHalt }
 {
     match verify(alloc, cell, recipes, certificate) {
         Ok(cleared) => Ok(cleared),
@@ -170,24 +164,22 @@ pub fn clear_recipes(
 }
 
 fn set_halt(alloc: Global, certificate: &Certificate, rejected: &Rejected) -> Halt
-    requires { IsFirstRefusal (setup_of rejected.now.cell rejected.now.recipes.items) certificate.now.ranks.items rejected.now.fault }
-    ensures refused { RefusesSet rejected.now.cell rejected.now.recipes.items certificate.now.ranks.items result }
-    ensures halts { IsHalt result }
+    ensures { HaltsWith (refusal_text rejected.now.cell rejected.now.recipes.items certificate.now.ranks.items rejected.now.fault)
+        (set_kind rejected.now.fault) result }
 {
-    let ending = set_ending(rejected.fault);
+    let kind = set_kind(rejected.fault);
     let (cell, recipes) = (&rejected.cell, &rejected.recipes);
     let text = refusal_text(alloc, cell, recipes, certificate, rejected.fault);
     let sentence = refusal_sentence(alloc, cell, recipes, certificate, rejected.fault);
-    refused(text, ending, sentence)
+    refused(text, kind, sentence)
 }
 
-/// How the program ends where the set isn't cleared.
-fn set_ending(refusal: SetRefusal) -> Ending
-    ensures memory { refusal ≡ SetRefusal.Memory → result ≡ Ending.OutOfMemory }
-    ensures other { refusal ≢ SetRefusal.Memory → result ≡ Ending.Refused }
+/// What a set is refused for.
+fn set_kind(refusal: SetRefusal) -> RefusalKind
+    ensures { result ≡ set_kind refusal }
 {
     match refusal {
-        SetRefusal::Memory => Ending::OutOfMemory,
-        _ => Ending::Refused,
+        SetRefusal::Memory => RefusalKind::OutOfMemory,
+        _ => RefusalKind::Fault,
     }
 }

@@ -10,10 +10,10 @@ mod judging;
 mod laws;
 mod limits;
 mod reading;
+mod refusal;
 mod running;
 mod saying;
 mod texts;
-mod verdict;
 
 pub use course::Course;
 pub use documents::{
@@ -27,8 +27,8 @@ pub use judging::{
 pub use laws::statuses_tell;
 pub use limits::file_limits_are_fixed;
 pub use reading::{MAX_READS, ReadFault, read_document};
+pub use refusal::{DocumentRefusal, Halt, RefusalKind};
 pub use running::{FILE_FAULT, NO_MEMORY, OUT_OF_MEMORY, USAGE, complain, print, run_words};
 pub use texts::{
     certificate_refused, certificate_text, document_text, fault_text, graph_text, refusal_text,
 };
-pub use verdict::{Ending, Halt, Verdict};

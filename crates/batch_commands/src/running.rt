@@ -1,21 +1,21 @@
 //! Running the program's commands.
 ghost use Rattle.std.specs.Prelude.{◌≡◌, IfErr, IfOk, OnOk, map, string_bytes};
+ghost use Rattle.batch_words.specs.CommandLine.{judgement_of, request_of, source_of};
 ghost use Rattle.std.specs.Io.KnownBytes.{Appends};
-ghost use Rattle.batch_commands.specs.Judging.{IsHalt};
-ghost use Rattle.batch_commands.specs.Requests.{HaltsDemo, IsDemoCell, IsDemoSet};
-ghost use Rattle.batch_commands.specs.Running.{IsDone, IsExplained, IsPlanned, IsPrinted, IsPronounced, IsRun, IsTaken, IsAnnounced, fault_status};
+ghost use Rattle.batch_commands.specs.Requests.{HaltsDemo, HaltsJudgement, HaltsSource, IsDemoCell, IsDemoSet, IsSetOf, IsVerdict};
+ghost use Rattle.batch_commands.specs.Running.{IsAnnounced, IsDone, IsExplained, IsPrinted, IsRefused, IsRun, fault_status};
 
 use crate::course::Course;
 use crate::demo::{CELL_PATH, CERTIFICATE_PATH, Demo, RECIPE_PATH};
 use crate::documents::{
     Documents, check_documents, clear_documents, draw_documents, read_cell, verify_documents,
 };
+use crate::refusal::{DocumentRefusal, Halt};
 use crate::saying::say;
-use crate::verdict::{Halt, Verdict};
 use batch_cell::Cell;
 use batch_explain::{explanation_of, explanation_text};
 use batch_verify::Cleared;
-use batch_words::{CommandFault, PlantOptions, Subcommand, parse};
+use batch_words::{CommandFault, CommandWords, Judgement, Source, Subcommand, parse};
 use std::alloc::Global;
 use std::fmt::Display;
 use std::io;
@@ -60,7 +60,7 @@ pub fn run_words<D: Documents, O: Write, E: Write>(
         (record { before = E.contents errors.old; after = E.contents errors.new }) result }
 {
     match parse(alloc, words) {
-        Ok(command) => run_command(alloc, command, documents, output, errors),
+        Ok(words) => run_command(alloc, words, documents, output, errors),
         Err(CommandFault::Help(text)) => Course::Ends(print(output, errors, &text, SUCCESS)),
         Err(CommandFault::Usage(text)) => Course::Ends(complain(errors, text.trim_end(), USAGE)),
         Err(CommandFault::Memory) => Course::Ends(complain(errors, OUT_OF_MEMORY, NO_MEMORY)),
@@ -69,103 +69,81 @@ pub fn run_words<D: Documents, O: Write, E: Write>(
 
 fn run_command<D: Documents, O: Write, E: Write>(
     alloc: Global,
-    command: Subcommand,
+    words: CommandWords,
     documents: &D,
     output: &mut O,
     errors: &mut E,
 ) -> Course
-    ensures { IsDone (D.gives documents.now) command (record { before = O.contents output.old; after = O.contents output.new })
+    ensures { IsDone (D.gives documents.now) (request_of words.command) words.quiet
+        (record { before = O.contents output.old; after = O.contents output.new })
         (record { before = E.contents errors.old; after = E.contents errors.new }) result }
 {
-    match command {
-        Subcommand::Serve => take(alloc, false, clear_demo(alloc), output, errors),
-        Subcommand::Run {
-            cell,
-            certificate,
-            recipes,
-            quiet,
-        } => {
-            let set = clear_documents(alloc, documents, &cell, &certificate, &recipes);
-            take(alloc, quiet, set, output, errors)
-        }
-        Subcommand::Check {
-            cell,
-            recipes,
-            quiet,
-        } => {
-            let outcome = check_documents(alloc, documents, &cell, &recipes);
-            Course::Ends(tell(alloc, quiet, &outcome, output, errors))
-        }
-        Subcommand::Draw {
-            cell,
-            recipes,
-            quiet,
-        } => {
-            let outcome = draw_documents(alloc, documents, &cell, &recipes);
-            Course::Ends(tell(alloc, quiet, &outcome, output, errors))
-        }
-        Subcommand::Verify {
-            cell,
-            certificate,
-            recipes,
-            quiet,
-        } => {
-            let outcome = verify_documents(alloc, documents, &cell, &certificate, &recipes);
-            Course::Ends(tell(alloc, quiet, &outcome, output, errors))
-        }
-        Subcommand::Plant(options) => plan(alloc, options, output, errors),
+    let quiet = words.quiet;
+    match words.command {
+        Subcommand::Judge(judgement) => match judge(alloc, documents, &judgement) {
+            Ok(text) => Course::Ends(print(output, errors, &text, SUCCESS)),
+            Err(halt) => Course::Ends(announce(alloc, quiet, &halt, output, errors)),
+        },
+        Subcommand::Serve(source) => match clear_source(alloc, documents, &source) {
+            Ok(cleared) => Course::Serves(cleared),
+            Err(halt) => Course::Ends(announce(alloc, quiet, &halt, output, errors)),
+        },
+        Subcommand::Plant(options) => match read_plant(alloc) {
+            Ok((set, cell)) => Course::Plants { set, cell, options },
+            Err(halt) => Course::Ends(announce(alloc, quiet, &halt, output, errors)),
+        },
         Subcommand::Explain { code } => Course::Ends(explain(alloc, &code, output, errors)),
+    }
+}
+
+/// What a judgement prints.
+fn judge<D: Documents>(alloc: Global, documents: &D, judgement: &Judgement) -> Result<String, Halt>
+    ensures verdict { IfOk result (λ text. IsVerdict (D.gives documents.now) (judgement_of judgement.now) (string_bytes text)) }
+    ensures halted { IfErr result (HaltsJudgement (D.gives documents.now) (judgement_of judgement.now)) }
+{
+    match judgement {
+        Judgement::Check { cell, recipes } => check_documents(alloc, documents, cell, recipes),
+        Judgement::Draw { cell, recipes } => draw_documents(alloc, documents, cell, recipes),
+        Judgement::Verify {
+            cell,
+            certificate,
+            recipes,
+        } => verify_documents(alloc, documents, cell, certificate, recipes),
+    }
+}
+
+/// The set that is to be served.
+fn clear_source<D: Documents>(
+    alloc: Global,
+    documents: &D,
+    source: &Source,
+) -> Result<Cleared, Halt>
+    ensures set { IfOk result (IsSetOf (D.gives documents.now) (source_of source.now)) }
+    ensures halted { IfErr result (HaltsSource (D.gives documents.now) (source_of source.now)) }
+{
+    match source {
+        Source::Demo => clear_demo(alloc),
+        Source::Documents {
+            cell,
+            certificate,
+            recipes,
+        } => clear_documents(alloc, documents, cell, certificate, recipes),
     }
 }
 
 /// The set of the demo, read and cleared as any other.
 fn clear_demo(alloc: Global) -> Result<Cleared, Halt>
     ensures set { IfOk result IsDemoSet }
-    ensures halts { IfErr result IsHalt }
     ensures halted { IfErr result HaltsDemo }
 {
     let recipes = [String::from_str(alloc, RECIPE_PATH)?];
     clear_documents(alloc, &Demo, CELL_PATH, CERTIFICATE_PATH, &recipes)
 }
 
-/// Takes the set that is to be served, or tells why there is none.
-fn take<O: Write, E: Write>(
-    alloc: Global,
-    quiet: bool,
-    set: Result<Cleared, Halt>,
-    output: &mut O,
-    errors: &mut E,
-) -> Course
-    ensures { IsTaken quiet (record { before = O.contents output.old; after = O.contents output.new })
-        (record { before = E.contents errors.old; after = E.contents errors.new }) set result }
-{
-    match set {
-        Ok(cleared) => Course::Serves(cleared),
-        Err(halt) => Course::Ends(tell(alloc, quiet, &Err(halt), output, errors)),
-    }
-}
-
-/// Hands on the plant of the demo with these options, or tells why there is none.
-fn plan<O: Write, E: Write>(
-    alloc: Global,
-    options: PlantOptions,
-    output: &mut O,
-    errors: &mut E,
-) -> Course
-    ensures { IsPlanned options (record { before = O.contents output.old; after = O.contents output.new })
-        (record { before = E.contents errors.old; after = E.contents errors.new }) result }
-{
-    match read_plant(alloc) {
-        Ok((set, cell)) => Course::Plants { set, cell, options },
-        Err(halt) => Course::Ends(tell(alloc, false, &Err(halt), output, errors)),
-    }
-}
-
 /// The set of the demo, and its cell once more.
 fn read_plant(alloc: Global) -> Result<(Cleared, Cell), Halt>
     ensures set { IfOk result (λ read. IsDemoSet read.0) }
     ensures cell { IfOk result (λ read. IsDemoCell read.1) }
-    ensures halts { IfErr result IsHalt }
     ensures halted { IfErr result HaltsDemo }
 {
     let set = clear_demo(alloc)?;
@@ -173,41 +151,39 @@ fn read_plant(alloc: Global) -> Result<(Cleared, Cell), Halt>
     Ok((set, cell))
 }
 
-/// Tells how a command came out, and gives the exit status.
-fn tell<O: Write, E: Write>(
+/// Tells why a command ends so, and gives the exit status.
+fn announce<O: Write, E: Write>(
     alloc: Global,
     quiet: bool,
-    outcome: &Result<Verdict, Halt>,
+    halt: &Halt,
     output: &mut O,
     errors: &mut E,
 ) -> u8
     ensures { IsAnnounced quiet (record { before = O.contents output.old; after = O.contents output.new })
-        (record { before = E.contents errors.old; after = E.contents errors.new }) outcome.now result }
+        (record { before = E.contents errors.old; after = E.contents errors.new }) halt.now result }
 {
-    match outcome {
-        Ok(verdict) | Err(Halt::Refused(verdict)) => {
-            pronounce(alloc, quiet, verdict, output, errors)
-        }
-        Err(Halt::Unread(text)) => complain(errors, text.as_str(), FILE_FAULT),
-        Err(Halt::Memory) => complain(errors, OUT_OF_MEMORY, NO_MEMORY),
+    match halt {
+        Halt::Refused(refusal) => refuse(alloc, quiet, refusal, output, errors),
+        Halt::Unread(text) => complain(errors, text.as_str(), FILE_FAULT),
+        Halt::Memory => complain(errors, OUT_OF_MEMORY, NO_MEMORY),
     }
 }
 
-/// Prints the verdict, says what it means where it refuses, and gives its exit status, or that of a write that fails.
-fn pronounce<O: Write, E: Write>(
+/// Prints the refusal, says what it means, and gives its exit status, or that of a write that fails.
+fn refuse<O: Write, E: Write>(
     alloc: Global,
     quiet: bool,
-    verdict: &Verdict,
+    refusal: &DocumentRefusal,
     output: &mut O,
     errors: &mut E,
 ) -> u8
-    ensures { IsPronounced quiet (record { before = O.contents output.old; after = O.contents output.new })
-        (record { before = E.contents errors.old; after = E.contents errors.new }) verdict.now result }
+    ensures { IsRefused quiet (record { before = O.contents output.old; after = O.contents output.new })
+        (record { before = E.contents errors.old; after = E.contents errors.new }) refusal.now result }
 {
-    match write_out(output, &verdict.text) {
+    match write_out(output, &refusal.text) {
         Ok(()) => {
-            say(alloc, quiet, &verdict.sentence, errors);
-            verdict.ending.status()
+            say(alloc, quiet, &refusal.sentence, errors);
+            refusal.kind.status()
         }
         Err(_) => unwritten(errors),
     }

@@ -6,15 +6,12 @@ use batch_sentences::Sentence;
 use std::alloc::Global;
 use std::io::Write;
 
-/// Says what a refusal means, unless quiet is asked for or nothing is refused. Where the line can't be written the rest of it is
-/// left out.
-pub(crate) fn say<E: Write>(alloc: Global, quiet: bool, sentence: &Option<Sentence>, errors: &mut E)
+/// Says what a refusal means, unless quiet is asked for. Where the line can't be written the rest of it is left out.
+pub(crate) fn say<E: Write>(alloc: Global, quiet: bool, sentence: &Sentence, errors: &mut E)
     ensures { IsSaid quiet sentence.now (E.contents errors.old) (E.contents errors.new) }
 {
     if !quiet {
-        if let Some(sentence) = sentence {
-            write_line(alloc, sentence, errors);
-        }
+        write_line(alloc, sentence, errors);
     }
 }
 

@@ -10,30 +10,29 @@ use Rattle.batch_wire.specs.Transcript.{lines_of, whole_lines}
 use Rattle.batch_wire.specs.Written.{AppendsBeginning}
 use Rattle.batch_serve.specs.Safe.{BeginsSafely, WritesSafely, WritesWholeSafely}
 use Rattle.batch_cell.specs.declared.cell.Cell.{Cell}
-use Rattle.batch_words.specs.declared.command.Subcommand.{Subcommand}
+use Rattle.batch_words.specs.CommandLine.{Request, Source, plant, serve}
 use Rattle.batch_words.specs.declared.plant_options.PlantOptions.{PlantOptions}
 use Rattle.batch_commands.specs.Reading.{Gives}
-use Rattle.batch_commands.specs.Requests.{Request, IsDemoSet, IsRequestedSet, wants_quiet, request_of, serve, check, draw, verify, run, plant, explain}
-use Rattle.batch_commands.specs.Running.{IsDone, IsExplained, IsNamed, IsPrinted, IsPronounced, IsRun, IsAnnounced, IsUnwritten, Stream, help_status, usage_status, memory_status}
+use Rattle.batch_commands.specs.Requests.{IsDemoSet, IsSetOf}
+use Rattle.batch_commands.specs.Running.{AskFor, IsAnnounced, IsDone, IsExplained, IsPrinted, IsRun, IsUnwritten, Stream, ask_quiet, success_status, usage_status, memory_status}
 use Rattle.batch_commands.specs.Statuses.{IsSuccess}
-use Rattle.batch_commands.proofs.Successes.{same_request, success_is_told}
+use Rattle.batch_commands.proofs.Successes.{done_serving, same_request, success_is_told}
 use Rattle.batch_commands.specs.Judging.{status_of}
 use Rattle.batch_commands.specs.Running as running
 use Rattle.batch_commands.specs.declared.course.Course.{Course}
 use Rattle.batch_commands.specs.declared.course.Course.TheVariants.{Ends}
 use Rattle.batch_commands.specs.declared.course.Course.TheVariants as course_of
-use Rattle.batch_commands.specs.declared.verdict.Ending.{Ending}
-use Rattle.batch_commands.specs.declared.verdict.Ending.TheVariants.{Accepted, Refused, OutOfMemory}
-use Rattle.batch_commands.specs.declared.verdict.Halt.TheVariants as halt
-use Rattle.batch_commands.specs.declared.verdict.Halt.{Halt}
-use Rattle.batch_commands.specs.declared.verdict.Verdict.{Verdict}
+use Rattle.batch_commands.specs.declared.refusal.Halt.TheVariants as halt
+use Rattle.batch_commands.specs.declared.refusal.Halt.{Halt}
+use Rattle.batch_commands.specs.declared.refusal.RefusalKind.{RefusalKind}
+use Rattle.batch_commands.specs.declared.refusal.RefusalKind.TheVariants.{Fault, OutOfMemory}
 use Rattle.batch_serve.specs.Serves as serving
 use Rattle.batch_serve.specs.Serves.{AnswersAll, Serves}
 use Rattle.batch_serve.specs.declared.fault.ServeFault.TheVariants.{Read, Write, TooManyReads}
 use Rattle.batch_serve.specs.declared.fault.SetFault.{SetFault}
 use Rattle.batch_serve.specs.declared.fault.SetFault.TheVariants.{Memory, Stopped}
 use Rattle.batch_program.specs.declared.program.TheConstants.{MAX_READS}
-use Rattle.batch_program.specs.Programs.{IsProgramRun, IsToServe, PlantsAreComplete, ServingIsSafe, tells, serves, plants, status_of_serving, output_of}
+use Rattle.batch_program.specs.Programs.{IsProgramRun, PlantsAreComplete, ServingIsSafe, tells, serves, plants, status_of_serving, output_of}
 use Rattle.batch_plant.specs.declared.plant_fault.PlantFault.{PlantFault}
 use Rattle.batch_plant.specs.declared.plant_fault.PlantFault.TheVariants as plant_fault
 use Rattle.batch_program.specs.PlantRuns.{HasRun, IsPlantTold, plant_text, refused_status}
@@ -98,50 +97,38 @@ served_kept set n (Err Memory) unread left before mid after kept (unread_kept, m
 
 -- The set
 
-done_to_serve : (gives : Gives) (output errors : Stream) (command : Subcommand) (course : Course) (set : ClearedSet)
-    → IsDone gives command output errors course → course ≡ course_of.Serves set
-    → IsRequestedSet gives (request_of command) set × Keeps output.before output.after
-done_to_serve gives output errors command _ set (running.serves other served kept _) is =
-    let same : other ≡ set = cc in
-    (subst (λ s. IsRequestedSet gives (request_of command) s) same served, kept)
-done_to_serve gives output errors command _ set (running.plants _ _ _ _ _ _ _ _) is = absurd cc
-done_to_serve gives output errors command _ set (running.halts _ _ _ _ _) is = absurd cc
-done_to_serve gives output errors command _ set (running.judges _ _ _ _) is = absurd cc
-done_to_serve gives output errors command _ set (running.explains _ _ _ _) is = absurd cc
-
 -- what is to be served is the set of the documents that the words name, and nothing was written
 pub set_to_serve : (gives : Gives) (words : List Text) (output errors : Stream) (course : Course) (set : ClearedSet)
     → IsRun gives words output errors course → course ≡ course_of.Serves set
-    → (command : Subcommand) × IsNamed words command × IsRequestedSet gives (request_of command) set × Keeps output.before output.after
-set_to_serve gives words output errors _ set (running.commands command course named came) is =
-    let (served, kept) = done_to_serve gives output errors command course set came is in
-    (command, named, served, kept)
+    → (source : Source) × AskFor words (serve source) × IsSetOf gives source set × Keeps output.before output.after
+set_to_serve gives words output errors _ set (running.commands request course asked came) is =
+    let (source, serving, served, kept) = done_serving gives request (ask_quiet words) output errors set course came is in
+    (source, rw (← serving) asked, served, kept)
 set_to_serve gives words output errors _ set (running.helps _ _ _ _) is = absurd cc
 set_to_serve gives words output errors _ set (running.misuses _ _) is = absurd cc
 set_to_serve gives words output errors _ set (running.starves _) is = absurd cc
 
 -- The plant
 
-done_to_plant : (gives : Gives) (output errors : Stream) (command : Subcommand) (course : Course) (set : ClearedSet) (c : Cell) (options : PlantOptions)
-    → IsDone gives command output errors course → course ≡ course_of.Plants set c options
-    → (request_of command ≡ plant options.batches options.ticks options.ring) × IsDemoSet set × IsUnwritten output × IsUnwritten errors
-done_to_plant gives output errors command _ set c options (running.plants other d own asked cleared read kept silent) is =
+done_to_plant : (gives : Gives) (request : Request) (quiet : Bool) (output errors : Stream) (course : Course) (set : ClearedSet) (c : Cell) (options : PlantOptions)
+    → IsDone gives request quiet output errors course → course ≡ course_of.Plants set c options
+    → (request ≡ plant options.batches options.ticks options.ring) × IsDemoSet set × IsUnwritten output × IsUnwritten errors
+done_to_plant gives request quiet output errors _ set c options (running.plants other d own asked cleared read kept silent) is =
     let same : other ≡ set = cc in
     let chosen : own ≡ options = cc in
-    (subst (λ (o : PlantOptions). request_of command ≡ plant o.batches o.ticks o.ring) chosen asked, subst IsDemoSet same cleared, kept, silent)
-done_to_plant gives output errors command _ set c options (running.serves _ _ _ _) is = absurd cc
-done_to_plant gives output errors command _ set c options (running.halts _ _ _ _ _) is = absurd cc
-done_to_plant gives output errors command _ set c options (running.judges _ _ _ _) is = absurd cc
-done_to_plant gives output errors command _ set c options (running.explains _ _ _ _) is = absurd cc
+    (subst (λ (o : PlantOptions). request ≡ plant o.batches o.ticks o.ring) chosen asked, subst IsDemoSet same cleared, kept, silent)
+done_to_plant gives request quiet output errors _ set c options (running.serves _ _ _ _ _ _) is = absurd cc
+done_to_plant gives request quiet output errors _ set c options (running.halts _ _ _ _) is = absurd cc
+done_to_plant gives request quiet output errors _ set c options (running.judges _ _ _ _ _ _) is = absurd cc
+done_to_plant gives request quiet output errors _ set c options (running.explains _ _ _ _) is = absurd cc
 
 -- the plant that is to be run is the demo's, with the options that the words have, and nothing was written
 pub plant_to_run : (gives : Gives) (words : List Text) (output errors : Stream) (course : Course) (set : ClearedSet) (c : Cell) (options : PlantOptions)
     → IsRun gives words output errors course → course ≡ course_of.Plants set c options
-    → (command : Subcommand) × IsNamed words command × (request_of command ≡ plant options.batches options.ticks options.ring) × IsDemoSet set
-    × IsUnwritten output × IsUnwritten errors
-plant_to_run gives words output errors _ set c options (running.commands command course named came) is =
-    let (asked, cleared, kept, silent) = done_to_plant gives output errors command course set c options came is in
-    (command, named, asked, cleared, kept, silent)
+    → AskFor words (plant options.batches options.ticks options.ring) × IsDemoSet set × IsUnwritten output × IsUnwritten errors
+plant_to_run gives words output errors _ set c options (running.commands request course asked came) is =
+    let (planted, cleared, kept, silent) = done_to_plant gives request (ask_quiet words) output errors course set c options came is in
+    (rw (← planted) asked, cleared, kept, silent)
 plant_to_run gives words output errors _ set c options (running.helps _ _ _ _) is = absurd cc
 plant_to_run gives words output errors _ set c options (running.misuses _ _) is = absurd cc
 plant_to_run gives words output errors _ set c options (running.starves _) is = absurd cc
@@ -172,78 +159,73 @@ told_kept before mid after quiet still loud batches (Err plant_fault.Refused) st
 
 -- Exit statuses
 
--- nothing that is to be served ends with status 0 before it is served
-nothing_served : (gives : Gives) (request : Request) (output : Stream) → IsToServe request → IsSuccess gives request output → ⊥
-nothing_served gives serve output asked success = success
-nothing_served gives (check cell recipes) output asked success = asked
-nothing_served gives (draw cell recipes) output asked success = asked
-nothing_served gives (verify cell certificate recipes) output asked success = asked
-nothing_served gives (plant batches ticks ring) output asked success = asked
-nothing_served gives (explain code) output asked success = asked
-nothing_served gives (run cell certificate recipes) output asked success = success
-
 ran_to_the_end : (set : ClearedSet) (served : Result (Unit {0}) SetFault) (ends : serving.Ends) → Serves set MAX_READS served ends
     → status_of_serving served ≡ 0 → AnswersAll set ends
 ran_to_the_end set (Ok done) ends all is = all
 ran_to_the_end set (Err Memory) ends all is = absurd cc
 ran_to_the_end set (Err (Stopped fault)) ends all is = absurd cc
 
-safe_at : (gives : Gives) (words : List Text) (ends : serving.Ends) (errors : Stream) (command : Subcommand) (status : ℕ)
-    → IsNamed words command → IsToServe (request_of command) → IsProgramRun gives words ends errors status → status ≡ 0
-    → (set : ClearedSet) × IsRequestedSet gives (request_of command) set × AnswersAll set ends
-safe_at gives words ends errors command _ named asked (tells status came _) is =
-    let success = success_is_told gives words (output_of ends) errors command named (subst (λ k. IsRun gives words (output_of ends) errors (Ends k)) is came) in
-    absurd (nothing_served gives (request_of command) (output_of ends) asked success)
-safe_at gives words ends errors command _ named asked (serves other set served named2 is_served all) is =
-    (set, subst (λ r. IsRequestedSet gives r set) (same_request words other command named2 named) is_served, ran_to_the_end set served ends all is)
-safe_at gives words ends errors command status named asked (plants other set options end _ named2 planted _ _ _ _) is =
-    absurd (subst IsToServe (sym (same_request words other command named2 named) ∙ planted) asked)
+-- a run that ends with status 0 before it has served was no run to serve, and none of a plant
+told_at_once : (gives : Gives) (words : List Text) (output errors : Stream) (request : Request) (status : ℕ)
+    → AskFor words request → IsRun gives words output errors (Ends status) → status ≡ 0 → IsSuccess gives request output
+told_at_once gives words output errors request status asked came is =
+    success_is_told gives words output errors request asked (subst (λ k. IsRun gives words output errors (Ends k)) is came)
+
+same_source : (a b : Source) → serve a ≡ serve b → a ≡ b
+same_source a b is = cc
+
+serves_no_plant : (source : Source) (batches ticks ring : ℕ) → serve source ≡ plant batches ticks ring → ⊥
+serves_no_plant source batches ticks ring is = cc
+
+safe_at : (gives : Gives) (words : List Text) (ends : serving.Ends) (errors : Stream) (source : Source) (status : ℕ)
+    → AskFor words (serve source) → IsProgramRun gives words ends errors status → status ≡ 0 → (set : ClearedSet) × IsSetOf gives source set × AnswersAll set ends
+safe_at gives words ends errors source _ asked (tells status came _) is =
+    absurd (told_at_once gives words (output_of ends) errors (serve source) status asked came is)
+safe_at gives words ends errors source _ asked (serves other set served asked2 is_set all) is =
+    let same = same_source other source (same_request words (serve other) (serve source) asked2 asked) in
+    (set, subst (λ s. IsSetOf gives s set) same is_set, ran_to_the_end set served ends all is)
+safe_at gives words ends errors source _ asked (plants _ options _ _ asked2 _ _ _ _) is =
+    absurd (serves_no_plant source options.batches options.ticks options.ring (same_request words (serve source) _ asked asked2))
 
 pub serving_is_safe : (gives : Gives) → ServingIsSafe gives
-serving_is_safe gives words ends errors command named asked came = safe_at gives words ends errors command 0 named asked came refl
+serving_is_safe gives words ends errors source asked came = safe_at gives words ends errors source 0 asked came refl
 
-ending_in_range : (ending : Ending) → status_of ending ≤ 4
-ending_in_range Accepted = omega arith
-ending_in_range Refused = omega arith
-ending_in_range OutOfMemory = omega arith
+kind_in_range : (kind : RefusalKind) → status_of kind ≤ 4
+kind_in_range Fault = omega arith
+kind_in_range OutOfMemory = omega arith
 
 printed_in_range : (output errors : Stream) (text : List ℕ) (wanted status : ℕ) → wanted ≤ 4 → IsPrinted output errors text wanted status → status ≤ 4
 printed_in_range output errors text wanted status within (inl (_, _, same)) = rw same within
 printed_in_range output errors text wanted status within (inr fault) = rw fault (omega arith)
 
-pronounced_in_range : (quiet : Bool) (output errors : Stream) (verdict : Verdict) (status : ℕ)
-    → IsPronounced quiet output errors verdict status → status ≤ 4
-pronounced_in_range quiet output errors verdict status (inl (_, _, same)) = rw same (ending_in_range verdict.ending)
-pronounced_in_range quiet output errors verdict status (inr fault) = rw fault (omega arith)
-
-told_in_range : (quiet : Bool) (output errors : Stream) (outcome : Result Verdict Halt) (status : ℕ) → IsAnnounced quiet output errors outcome status → status ≤ 4
-told_in_range quiet output errors (Ok verdict) status told = pronounced_in_range quiet output errors verdict status told
-told_in_range quiet output errors (Err (halt.Refused verdict)) status told = pronounced_in_range quiet output errors verdict status told
-told_in_range quiet output errors (Err (halt.Unread message)) status (_, fault) = rw fault (omega arith)
-told_in_range quiet output errors (Err halt.Memory) status (_, fault) = rw fault (omega arith)
+announced_in_range : (quiet : Bool) (output errors : Stream) (h : Halt) (status : ℕ) → IsAnnounced quiet output errors h status → status ≤ 4
+announced_in_range quiet output errors (halt.Refused refusal) status (inl (_, _, same)) = rw same (kind_in_range refusal.kind)
+announced_in_range quiet output errors (halt.Refused refusal) status (inr fault) = rw fault (omega arith)
+announced_in_range quiet output errors (halt.Unread message) status (_, fault) = rw fault (omega arith)
+announced_in_range quiet output errors halt.Memory status (_, fault) = rw fault (omega arith)
 
 explained_in_range : (code : List ℕ) (output errors : Stream) (status : ℕ) → IsExplained code output errors status → status ≤ 4
-explained_in_range code output errors status (inl (_, _, printed)) = printed_in_range output errors _ help_status status (omega arith) printed
+explained_in_range code output errors status (inl (_, _, printed)) = printed_in_range output errors _ success_status status (omega arith) printed
 explained_in_range code output errors status (inr (_, inl usage)) = rw usage (omega arith)
 explained_in_range code output errors status (inr (_, inr memory)) = rw memory (omega arith)
 
-done_in_range : (gives : Gives) (output errors : Stream) (command : Subcommand) (course : Course) (status : ℕ)
-    → IsDone gives command output errors course → course ≡ Ends status → status ≤ 4
-done_in_range gives output errors command _ status (running.serves _ _ _ _) is = absurd cc
-done_in_range gives output errors command _ status (running.plants _ _ _ _ _ _ _ _) is = absurd cc
-done_in_range gives output errors command _ status (running.halts h told _ _ at) is =
-    let same : told ≡ status = cc in rw (← same) (told_in_range (wants_quiet command) output errors (Err h) told at)
-done_in_range gives output errors command _ status (running.judges outcome told _ at) is =
-    let same : told ≡ status = cc in rw (← same) (told_in_range (wants_quiet command) output errors outcome told at)
-done_in_range gives output errors command _ status (running.explains code told _ at) is =
+done_in_range : (gives : Gives) (request : Request) (quiet : Bool) (output errors : Stream) (course : Course) (status : ℕ)
+    → IsDone gives request quiet output errors course → course ≡ Ends status → status ≤ 4
+done_in_range gives request quiet output errors _ status (running.serves _ _ _ _ _ _) is = absurd cc
+done_in_range gives request quiet output errors _ status (running.plants _ _ _ _ _ _ _ _) is = absurd cc
+done_in_range gives request quiet output errors _ status (running.halts h told _ at) is =
+    let same : told ≡ status = cc in rw (← same) (announced_in_range quiet output errors h told at)
+done_in_range gives request quiet output errors _ status (running.judges _ text told _ _ at) is =
+    let same : told ≡ status = cc in rw (← same) (printed_in_range output errors text success_status told (omega arith) at)
+done_in_range gives request quiet output errors _ status (running.explains code told _ at) is =
     let same : told ≡ status = cc in rw (← same) (explained_in_range code output errors told at)
 
 course_in_range : (gives : Gives) (words : List Text) (output errors : Stream) (course : Course) (status : ℕ)
     → IsRun gives words output errors course → course ≡ Ends status → status ≤ 4
-course_in_range gives words output errors _ status (running.commands command course _ came) is =
-    done_in_range gives output errors command course status came is
+course_in_range gives words output errors _ status (running.commands request course _ came) is =
+    done_in_range gives request (ask_quiet words) output errors course status came is
 course_in_range gives words output errors _ status (running.helps text told _ at) is =
-    let same : told ≡ status = cc in rw (← same) (printed_in_range output errors text help_status told (omega arith) at)
+    let same : told ≡ status = cc in rw (← same) (printed_in_range output errors text success_status told (omega arith) at)
 course_in_range gives words output errors _ status (running.misuses _ _) is =
     let same : usage_status ≡ status = cc in rw (← same) (omega arith)
 course_in_range gives words output errors _ status (running.starves _) is =
@@ -266,7 +248,7 @@ pub run_in_range : (gives : Gives) (words : List Text) (ends : serving.Ends) (er
     → IsProgramRun gives words ends errors status → status ≤ 4
 run_in_range gives words ends errors _ (tells status came _) = course_in_range gives words (output_of ends) errors (Ends status) status came refl
 run_in_range gives words ends errors _ (serves _ _ served _ _ _) = serving_in_range served
-run_in_range gives words ends errors status (plants _ _ options end _ _ _ _ _ told _) = plant_in_range (output_of ends) errors options.batches end status told
+run_in_range gives words ends errors status (plants _ options end _ _ _ _ told _) = plant_in_range (output_of ends) errors options.batches end status told
 
 -- What a plant tells
 
@@ -283,29 +265,21 @@ complete_at output errors set batches (Err plant_fault.Memory) status ran (_, me
 complete_at output errors set batches (Err plant_fault.Thread) status ran (_, memory) is = absurd cc
 complete_at output errors set batches (Err plant_fault.Refused) status ran (_, memory) is = absurd cc
 
--- no success stands for a plant before it is run
-no_plant_told : (gives : Gives) (request : Request) (output : Stream) (batches ticks ring : ℕ) → request ≡ plant batches ticks ring → IsSuccess gives request output → ⊥
-no_plant_told gives request output batches ticks ring is success = rw is at success
-
-not_served : (gives : Gives) (request : Request) (set : ClearedSet) (batches ticks ring : ℕ) → request ≡ plant batches ticks ring → IsRequestedSet gives request set → ⊥
-not_served gives request set batches ticks ring is served = rw is at served
-
 same_batches : (a b ticks more ring places : ℕ) → plant a ticks ring ≡ plant b more places → a ≡ b
 same_batches a b ticks more ring places is = cc
 
-told_plant : (gives : Gives) (words : List Text) (ends : serving.Ends) (errors : Stream) (command : Subcommand) (batches ticks ring status : ℕ)
-    → IsNamed words command → request_of command ≡ plant batches ticks ring → IsProgramRun gives words ends errors status → status ≡ 0
+told_plant : (gives : Gives) (words : List Text) (ends : serving.Ends) (errors : Stream) (batches ticks ring status : ℕ)
+    → AskFor words (plant batches ticks ring) → IsProgramRun gives words ends errors status → status ≡ 0
     → (set : ClearedSet) × (handled : ℕ) × IsDemoSet set × HasRun set batches handled × Appends ends.before ends.after (plant_text batches handled)
-told_plant gives words ends errors command batches ticks ring _ named asked (tells status came _) is =
-    let success = success_is_told gives words (output_of ends) errors command named (subst (λ k. IsRun gives words (output_of ends) errors (Ends k)) is came) in
-    absurd (no_plant_told gives (request_of command) (output_of ends) batches ticks ring asked success)
-told_plant gives words ends errors command batches ticks ring _ named asked (serves other set served named2 is_served _) is =
-    absurd (not_served gives (request_of other) set batches ticks ring (same_request words other command named2 named ∙ asked) is_served)
-told_plant gives words ends errors command batches ticks ring status named asked (plants other set options end _ named2 planted demo ran told _) is =
-    let same = same_batches options.batches batches options.ticks ticks options.ring ring (sym planted ∙ same_request words other command named2 named ∙ asked) in
+told_plant gives words ends errors batches ticks ring _ asked (tells status came _) is =
+    absurd (told_at_once gives words (output_of ends) errors (plant batches ticks ring) status asked came is)
+told_plant gives words ends errors batches ticks ring _ asked (serves source _ _ asked2 _ _) is =
+    absurd (serves_no_plant source batches ticks ring (same_request words (serve source) (plant batches ticks ring) asked2 asked))
+told_plant gives words ends errors batches ticks ring status asked (plants set options end _ asked2 demo ran told _) is =
+    let same = same_batches options.batches batches options.ticks ticks options.ring ring (same_request words _ (plant batches ticks ring) asked2 asked) in
     let (handled, came, appends) = complete_at (output_of ends) errors set options.batches end status ran told is in
     (set, handled, demo, subst (λ n. HasRun set n handled) same came, subst (λ n. Appends ends.before ends.after (plant_text n handled)) same appends)
 
 pub plants_are_complete : (gives : Gives) → PlantsAreComplete gives
-plants_are_complete gives words ends errors command batches ticks ring named asked came =
-    told_plant gives words ends errors command batches ticks ring 0 named asked came refl
+plants_are_complete gives words ends errors batches ticks ring asked came =
+    told_plant gives words ends errors batches ticks ring 0 asked came refl

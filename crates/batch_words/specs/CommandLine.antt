@@ -12,7 +12,12 @@ use Rattle.clap.specs.declared.builder.value_parser.ValueParser.TheVariants.{Uns
 use Rattle.clap.specs.declared.error.kind.ErrorKind.{ErrorKind}
 use Rattle.clap.specs.declared.error.kind.ErrorKind.TheVariants.{DisplayHelp, DisplayVersion, OutOfMemory}
 use Rattle.batch_words.specs.declared.command.Subcommand.{Subcommand}
-use Rattle.batch_words.specs.declared.command.Subcommand.TheVariants.{Serve, Check, Draw, Verify, Run, Plant, Explain}
+use Rattle.batch_words.specs.declared.command.Subcommand.TheVariants.{Judge, Serve, Plant, Explain}
+use Rattle.batch_words.specs.declared.command.Judgement as judgements
+use Rattle.batch_words.specs.declared.command.Judgement.TheVariants.{Check, Draw, Verify}
+use Rattle.batch_words.specs.declared.command.Source as sources
+use Rattle.batch_words.specs.declared.command.Source.TheVariants.{Demo, Documents}
+use Rattle.batch_words.specs.declared.command.CommandWords.{CommandWords}
 use Rattle.batch_words.specs.declared.command.CommandFault.{CommandFault}
 use Rattle.batch_words.specs.declared.command.CommandFault.TheVariants.{Help, Usage, Memory}
 use Rattle.batch_words.specs.declared.plant_options.PlantOptions.{PlantOptions}
@@ -95,38 +100,76 @@ ring_of rows = number_given 1 64 1 (first_of (codes "ring") rows)
 abbrev pub HasOptionsOf : List Row → PlantOptions → Type 0
 HasOptionsOf rows options = (options.batches ≡ batches_of rows) × (options.ticks ≡ ticks_of rows) × (options.ring ≡ ring_of rows)
 
--- the command of the word by which it was entered, and of the words behind that
-abbrev pub IsCommandOf : Option (Text × List Row) → Subcommand → Type 0
-IsCommandOf entered Serve = entered ≡ None
-IsCommandOf entered (Check cell recipes quiet) = (rows : List Row) × (entered ≡ Some (codes "check", rows))
-    × (is_given (codes "dot") rows ≡ false)
-    × (string_bytes cell ≡ word_of (codes "CELL") rows)
-    × (map string_bytes recipes.items ≡ words_of (codes "RECIPE") rows)
-    × (quiet ≡ is_given (codes "quiet") rows)
-IsCommandOf entered (Draw cell recipes quiet) = (rows : List Row) × (entered ≡ Some (codes "check", rows))
-    × (is_given (codes "dot") rows ≡ true)
-    × (string_bytes cell ≡ word_of (codes "CELL") rows)
-    × (map string_bytes recipes.items ≡ words_of (codes "RECIPE") rows)
-    × (quiet ≡ is_given (codes "quiet") rows)
-IsCommandOf entered (Verify cell certificate recipes quiet) = (rows : List Row) × (entered ≡ Some (codes "verify", rows))
-    × (string_bytes cell ≡ word_of (codes "CELL") rows)
-    × (string_bytes certificate ≡ word_of (codes "CERT") rows)
-    × (map string_bytes recipes.items ≡ words_of (codes "RECIPE") rows)
-    × (quiet ≡ is_given (codes "quiet") rows)
-IsCommandOf entered (Run cell certificate recipes quiet) = (rows : List Row) × (entered ≡ Some (codes "run", rows))
-    × (string_bytes cell ≡ word_of (codes "CELL") rows)
-    × (string_bytes certificate ≡ word_of (codes "CERT") rows)
-    × (map string_bytes recipes.items ≡ words_of (codes "RECIPE") rows)
-    × (quiet ≡ is_given (codes "quiet") rows)
-IsCommandOf entered (Plant options) = (rows : List Row) × (entered ≡ Some (codes "plant", rows)) × HasOptionsOf rows options
-IsCommandOf entered (Explain code) = (rows : List Row) × (entered ≡ Some (codes "explain", rows))
-    × (string_bytes code ≡ word_of (codes "CODE") rows)
+-- What the words ask for
 
--- one of the commands was entered, or none
-abbrev pub IsEntry : Option (Text × List Row) → Type 0
-IsEntry None = ⊤
-IsEntry (Some entered) =
-    (entered.0 ≡ codes "check") ⊎ (entered.0 ≡ codes "verify") ⊎ (entered.0 ≡ codes "run") ⊎ (entered.0 ≡ codes "plant") ⊎ (entered.0 ≡ codes "explain")
+-- documents that are to be judged, by their paths
+pub data Judgement : Type 0 where
+  check : (cell : Text) (recipes : List Text) → Judgement
+  -- to draw what they ask for
+  draw : (cell : Text) (recipes : List Text) → Judgement
+  verify : (cell certificate : Text) (recipes : List Text) → Judgement
+
+-- whose set is to be served: the demo's, or that of the documents at these paths
+pub data Source : Type 0 where
+  demo : Source
+  documents : (cell certificate : Text) (recipes : List Text) → Source
+
+pub data Request : Type 0 where
+  judge : Judgement → Request
+  serve : Source → Request
+  -- to run the demo's plant for so many batches, with phases of so many ticks and rings of so many places
+  plant : (batches ticks ring : ℕ) → Request
+  -- to say what a code means
+  explain : (code : Text) → Request
+
+-- what the words behind `check` ask for
+abbrev pub checked_by : List Row → Request
+checked_by rows =
+    if is_given (codes "dot") rows then judge (draw (word_of (codes "CELL") rows) (words_of (codes "RECIPE") rows))
+    else judge (check (word_of (codes "CELL") rows) (words_of (codes "RECIPE") rows))
+
+-- what the words behind `verify` or `run` ask for
+abbrev pub certified_by : Text → List Row → Request
+certified_by name rows =
+    if bytes_eq name (codes "verify")
+    then judge (verify (word_of (codes "CELL") rows) (word_of (codes "CERT") rows) (words_of (codes "RECIPE") rows))
+    else serve (documents (word_of (codes "CELL") rows) (word_of (codes "CERT") rows) (words_of (codes "RECIPE") rows))
+
+-- what is asked for by the word that was entered and the words behind it; `program_app` knows no other word
+abbrev pub named_by : Text → List Row → Request
+named_by name rows =
+    if bytes_eq name (codes "explain") then explain (word_of (codes "CODE") rows)
+    else (if bytes_eq name (codes "plant") then plant (batches_of rows) (ticks_of rows) (ring_of rows)
+    else (if bytes_eq name (codes "check") then checked_by rows else certified_by name rows))
+
+-- what is asked for, whether or not a command was entered
+abbrev pub asked_by : Option (Text × List Row) → Request
+asked_by None = serve demo
+asked_by (Some entered) = named_by entered.0 entered.1
+
+-- nothing is to be said in words of a refusal
+abbrev pub asks_quiet : Option (Text × List Row) → Bool
+asks_quiet None = false
+asks_quiet (Some entered) = is_given (codes "quiet") entered.1
+
+abbrev pub judgement_of : judgements.Judgement → Judgement
+judgement_of (Check cell recipes) = check (string_bytes cell) (map string_bytes recipes.items)
+judgement_of (Draw cell recipes) = draw (string_bytes cell) (map string_bytes recipes.items)
+judgement_of (Verify cell certificate recipes) = verify (string_bytes cell) (string_bytes certificate) (map string_bytes recipes.items)
+
+abbrev pub source_of : sources.Source → Source
+source_of Demo = demo
+source_of (Documents cell certificate recipes) = documents (string_bytes cell) (string_bytes certificate) (map string_bytes recipes.items)
+
+abbrev pub request_of : Subcommand → Request
+request_of (Judge judgement) = judge (judgement_of judgement)
+request_of (Serve source) = serve (source_of source)
+request_of (Plant options) = plant options.batches options.ticks options.ring
+request_of (Explain code) = explain (string_bytes code)
+
+-- what is read of the words is what they ask for
+abbrev pub AreWordsOf : Option (Text × List Row) → CommandWords → Type 0
+AreWordsOf entered words = (request_of words.command ≡ asked_by entered) × (words.quiet ≡ asks_quiet entered)
 
 -- what the user asks to be shown: help, or the version
 abbrev pub IsShown : ErrorKind → Type 0

@@ -6,42 +6,58 @@ use crate::plant_options::PlantOptions;
 use std::alloc::{AllocError, AllocFailed};
 use thiserror::Error;
 
-/// A command of the program, with the paths of its documents.
+/// What the words ask for.
+#[derive(Debug, Drop)]
+pub struct CommandWords {
+    /// Nothing is to be said in words of a refusal.
+    pub quiet: bool,
+    pub command: Subcommand,
+}
+
+/// A command of the program.
 #[derive(Debug, Drop)]
 pub enum Subcommand {
-    /// To serve event lines from standard input over the built-in documents.
-    Serve,
+    /// To judge documents.
+    Judge(Judgement),
+    /// To serve event lines from standard input over a set.
+    Serve(Source),
+    /// To run the demo's plant: its hub in the thread that calls, its console and its link to the units in threads of their own.
+    Plant(PlantOptions),
+    /// To say what a code of the program means.
+    Explain { code: String },
+}
+
+/// A judgement of documents, with their paths.
+#[derive(Debug, Drop)]
+pub enum Judgement {
     /// To find a certificate for the recipes.
     Check {
         cell: String,
         recipes: Vec<String>,
-        quiet: bool,
     },
     /// To draw what the recipes ask for after what.
     Draw {
         cell: String,
         recipes: Vec<String>,
-        quiet: bool,
     },
     /// To check a certificate for the recipes.
     Verify {
         cell: String,
         certificate: String,
         recipes: Vec<String>,
-        quiet: bool,
     },
-    /// To serve event lines from standard input over these documents.
-    Run {
+}
+
+/// Where the set comes from that is to be served.
+#[derive(Debug, Drop)]
+pub enum Source {
+    /// The documents that the program has built in.
+    Demo,
+    /// The documents at these paths.
+    Documents {
         cell: String,
         certificate: String,
         recipes: Vec<String>,
-        quiet: bool,
-    },
-    /// To run the demo's plant: its hub in the thread that calls, its console and its link to the units in threads of their own.
-    Plant(PlantOptions),
-    /// To say what a code of the program means.
-    Explain {
-        code: String,
     },
 }
 

@@ -2,9 +2,9 @@
 ghost use Rattle.std.specs.Prelude.{◌≡◌, ◌≤◌, ◌⊎◌, IfOk, IfErr, MatchOption, Some, map, string_bytes, codes, []};
 ghost use Rattle.std.specs.Str.Parse.{digits_value, without_leading_plus};
 ghost use Rattle.clap.specs.Words.{FailsBy, IsUnsignedIn, fault_of, first_of, found_of, kind_of, rows_of, subcommand_of, subcommand_rows_of};
-ghost use Rattle.batch_words.specs.CommandLine.{HasOptionsOf, IsCommandOf, IsEntry, IsFaultOf, IsFaultOfKind, is_given, number_given, program_app, word_of, words_of};
+ghost use Rattle.batch_words.specs.CommandLine.{AreWordsOf, HasOptionsOf, IsFaultOf, IsFaultOfKind, certified_by, checked_by, is_given, named_by, number_given, program_app, request_of, word_of, words_of};
 
-use crate::command::{CommandFault, Subcommand};
+use crate::command::{CommandFault, CommandWords, Judgement, Source, Subcommand};
 use crate::line::program;
 use crate::plant_options::PlantOptions;
 use clap::error::ErrorKind;
@@ -15,13 +15,13 @@ use std::alloc::{AllocError, Global};
 ///
 /// The error is [`CommandFault::Help`] where the fault that clap gives is that help or the version is asked for, [`CommandFault::Usage`] at any
 /// other, and [`CommandFault::Memory`] where memory ran out, be it for the text of one of these.
-pub fn parse(alloc: Global, words: &[String]) -> Result<Subcommand, CommandFault>
-    ensures command { IfOk result (IsCommandOf (subcommand_of program_app (map string_bytes words.now))) }
+pub fn parse(alloc: Global, words: &[String]) -> Result<CommandWords, CommandFault>
+    ensures words { IfOk result (AreWordsOf (subcommand_of program_app (map string_bytes words.now))) }
     ensures taken { IfOk result (λ _. fault_of program_app (map string_bytes words.now) ≡ []) }
     ensures fault { IfErr result (IsFaultOf (fault_of program_app (map string_bytes words.now))) }
 {
     match matches_of(alloc, words) {
-        Ok(matches) => Ok(command_of(alloc, &matches)?),
+        Ok(matches) => Ok(words_of(alloc, &matches)?),
         Err(error) => Err(fault_from(alloc, &error)),
     }
 }
@@ -33,13 +33,24 @@ fn matches_of<'a>(alloc: Global, words: &'a [String]) -> Result<ArgMatches<'a>, 
     program(alloc)?.try_get_matches_from(words)
 }
 
-fn command_of(alloc: Global, matches: &ArgMatches<'_>) -> Result<Subcommand, AllocError>
-    requires { IsEntry (subcommand_rows_of matches.now) }
-    ensures { IfOk result (IsCommandOf (subcommand_rows_of matches.now)) }
+fn words_of(alloc: Global, matches: &ArgMatches<'_>) -> Result<CommandWords, AllocError>
+    ensures { IfOk result (AreWordsOf (subcommand_rows_of matches.now)) }
 {
     let Some((name, words)) = matches.subcommand() else {
-        return Ok(Subcommand::Serve);
+        return Ok(CommandWords {
+            quiet: false,
+            command: Subcommand::Serve(Source::Demo),
+        });
     };
+    Ok(CommandWords {
+        quiet: flag(words, "quiet"),
+        command: command_of(alloc, name, words)?,
+    })
+}
+
+fn command_of(alloc: Global, name: &str, words: &ArgMatches<'_>) -> Result<Subcommand, AllocError>
+    ensures { IfOk result (λ command. request_of command ≡ named_by name.now (rows_of (found_of words.now))) }
+{
     if name == "explain" {
         let code = word(alloc, words, "CODE")?;
         return Ok(Subcommand::Explain { code });
@@ -55,24 +66,15 @@ fn command_of(alloc: Global, matches: &ArgMatches<'_>) -> Result<Subcommand, All
 
 /// `check`, with a drawing or without one.
 fn check_command(alloc: Global, words: &ArgMatches<'_>) -> Result<Subcommand, AllocError>
-    ensures { IfOk result (IsCommandOf (Some (codes "check", rows_of (found_of words.now)))) }
+    ensures { IfOk result (λ command. request_of command ≡ checked_by (rows_of (found_of words.now))) }
 {
     let cell = word(alloc, words, "CELL")?;
     let recipes = recipe_words(alloc, words)?;
-    let quiet = flag(words, "quiet");
-    Ok(if flag(words, "dot") {
-        Subcommand::Draw {
-            cell,
-            recipes,
-            quiet,
-        }
+    Ok(Subcommand::Judge(if flag(words, "dot") {
+        Judgement::Draw { cell, recipes }
     } else {
-        Subcommand::Check {
-            cell,
-            recipes,
-            quiet,
-        }
-    })
+        Judgement::Check { cell, recipes }
+    }))
 }
 
 /// `verify` or `run`, which have a certificate.
@@ -81,27 +83,23 @@ fn certified_command(
     name: &str,
     words: &ArgMatches<'_>,
 ) -> Result<Subcommand, AllocError>
-    requires { (name.now ≡ codes "verify") ⊎ (name.now ≡ codes "run") }
-    ensures { IfOk result (IsCommandOf (Some (name.now, rows_of (found_of words.now)))) }
+    ensures { IfOk result (λ command. request_of command ≡ certified_by name.now (rows_of (found_of words.now))) }
 {
     let cell = word(alloc, words, "CELL")?;
     let certificate = word(alloc, words, "CERT")?;
     let recipes = recipe_words(alloc, words)?;
-    let quiet = flag(words, "quiet");
     Ok(if name == "verify" {
-        Subcommand::Verify {
+        Subcommand::Judge(Judgement::Verify {
             cell,
             certificate,
             recipes,
-            quiet,
-        }
+        })
     } else {
-        Subcommand::Run {
+        Subcommand::Serve(Source::Documents {
             cell,
             certificate,
             recipes,
-            quiet,
-        }
+        })
     })
 }
 

@@ -3,8 +3,8 @@ use Rattle.batch_verify.specs.CertificateText.{IsCertificateText}
 use Rattle.batch_commands.proofs.CertificatesAreRead.{certificate_is_read, certificate_is_short}
 use Rattle.batch_commands.proofs.judging.check_recipes.Goals as goal
 
-pub returns-in_ok-certificate_text-in-Ok : goal.returns-in_ok-certificate_text-in-Ok
-returns-in_ok-certificate_text-in-Ok c =
+pub returns-in_ok-certificate_text-in-Ok-clause-checked : goal.returns-in_ok-certificate_text-in-Ok-clause-checked
+returns-in_ok-certificate_text-in-Ok-clause-checked c =
     let ranks = c.in-Ok.certificate.ranks.items in
     let found = c.in-Ok.ensures in
     let written = c.in_ok-certificate_text-in-Ok.ensures in

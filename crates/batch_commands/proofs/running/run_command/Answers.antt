@@ -1,62 +1,37 @@
 use Rattle.std.proofs.Common.{refl}
-use Rattle.batch_commands.specs.Running.{judges, explains}
-use Rattle.batch_words.specs.declared.command.Subcommand.TheVariants.{Serve, Run}
-use Rattle.batch_commands.proofs.Outcomes.{outcome_of_check, outcome_of_draw, outcome_of_verify, served_by_run, halted_by_run, planned, taken}
+use Rattle.std.proofs.KnownBytes.{Keeps-refl}
+use Rattle.batch_words.specs.CommandLine.{judgement_of, source_of}
+use Rattle.batch_commands.specs.Running.{explains, halts, judges, plants, serves}
 use Rattle.batch_commands.proofs.running.run_command.Goals as goal
+
+pub returns-in-Ok : goal.returns-in-Ok
+returns-in-Ok g c =
+    rw c.in-Judge.is
+    (judges (judgement_of c.in-Judge.judgement) _ _ refl (rw c.in-Judge.judgement-is at c.in-Ok.ensures.verdict) (rw c.deref.ensures at c.print.ensures))
+
+pub returns-in-Judge : goal.returns-in-Judge
+returns-in-Judge g c = rw c.in-Judge.is (halts c.in-Err.halt _ (rw c.in-Judge.judgement-is at c.in-Err.ensures.halted) c.announce.ensures)
+
+pub returns-in-Ok-clear_source : goal.returns-in-Ok-clear_source
+returns-in-Ok-clear_source g c =
+    rw c.in-Serve.is
+    (serves (source_of c.in-Serve.source) c.in-Ok-clear_source.cleared refl (rw c.in-Serve.source-is at c.in-Ok-clear_source.ensures.set)
+    (Keeps-refl _) (Keeps-refl _))
 
 pub returns-in-Serve : goal.returns-in-Serve
 returns-in-Serve g c =
-    let set = c.clear_demo in
-    rw c.in-Serve.is (taken (g.D.Documents.gives c.args.documents.now) _ _ Serve set.result c.take.result set.ensures.set set.ensures.halted set.ensures.halts c.take.ensures)
+    rw c.in-Serve.is
+    (halts c.in-Err-clear_source.halt _ (rw c.in-Serve.source-is at c.in-Err-clear_source.ensures.halted) c.announce-in-Err-clear_source.ensures)
 
-pub returns-in-Run : goal.returns-in-Run
-returns-in-Run g c =
-    let command = c.in-Run in
-    let set = c.clear_documents-set in
-    let gives = g.D.Documents.gives c.args.documents.now in
-    rw command.is
-    (taken gives _ _ (Run command.cell command.certificate command.recipes command.quiet) set.result c.take-in-Run.result
-    (served_by_run gives command.cell command.certificate command.recipes _ _ _ set.result
-    c.deref.ensures c.deref-in-Run.ensures c.deref-in-Run-2.ensures.value set.ensures.cleared)
-    (halted_by_run gives command.cell command.certificate command.recipes _ _ _ set.result
-    c.deref.ensures c.deref-in-Run.ensures c.deref-in-Run-2.ensures.value set.ensures.halted)
-    set.ensures.halts c.take-in-Run.ensures)
-
-pub returns-in-Check : goal.returns-in-Check
-returns-in-Check g c =
-    let command = c.in-Check in
-    let outcome = c.check_documents-outcome in
-    rw command.is
-    (judges outcome.result _
-    (outcome_of_check (g.D.Documents.gives c.args.documents.now) command.cell command.recipes _ _
-    outcome.result c.deref-in-Check.ensures c.deref-in-Check-2.ensures.value outcome.ensures.verdict outcome.ensures.halted outcome.ensures.halts)
-    c.tell.ensures)
-
-pub returns-in-Draw : goal.returns-in-Draw
-returns-in-Draw g c =
-    let command = c.in-Draw in
-    let outcome = c.draw_documents-outcome in
-    rw command.is
-    (judges outcome.result _
-    (outcome_of_draw (g.D.Documents.gives c.args.documents.now) command.cell command.recipes _ _
-    outcome.result c.deref-in-Draw.ensures c.deref-in-Draw-2.ensures.value outcome.ensures.verdict outcome.ensures.halted outcome.ensures.halts)
-    c.tell-in-Draw.ensures)
-
-pub returns-in-Verify : goal.returns-in-Verify
-returns-in-Verify g c =
-    let command = c.in-Verify in
-    let outcome = c.verify_documents-outcome in
-    rw command.is
-    (judges outcome.result _
-    (outcome_of_verify (g.D.Documents.gives c.args.documents.now) command.cell command.certificate command.recipes _ _ _
-    outcome.result c.deref-in-Verify.ensures c.deref-in-Verify-2.ensures c.deref-in-Verify-3.ensures.value
-    outcome.ensures.verdict outcome.ensures.halted outcome.ensures.halts)
-    c.tell-in-Verify.ensures)
-
-pub returns-in-Explain : goal.returns-in-Explain
-returns-in-Explain g c =
-    rw c.in-Explain.is (explains _ _ refl (rw c.deref-in-Explain.ensures at c.explain.ensures))
+pub returns-in-Ok-read_plant : goal.returns-in-Ok-read_plant
+returns-in-Ok-read_plant g c =
+    let read = c.in-Ok-read_plant in
+    rw c.in-Plant.is (plants read.set read.cell c.in-Plant.options refl read.ensures.set read.ensures.cell (Keeps-refl _) (Keeps-refl _))
 
 pub returns-in-Plant : goal.returns-in-Plant
 returns-in-Plant g c =
-    rw c.in-Plant.is (planned (g.D.Documents.gives c.args.documents.now) _ _ c.in-Plant.options c.plan.result c.plan.ensures)
+    rw c.in-Plant.is (halts c.in-Err-read_plant.halt _ c.in-Err-read_plant.ensures.halted c.announce-in-Err-read_plant.ensures)
+
+pub returns : goal.returns
+returns g c =
+    rw c.in-Explain.is (explains c.deref-in-Explain.result.now _ (cc (c.deref-in-Explain.ensures, c.in-Explain.code-is)) c.explain.ensures)

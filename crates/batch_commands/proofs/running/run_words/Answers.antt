@@ -7,7 +7,8 @@ use Rattle.batch_words.specs.declared.command.CommandFault.{CommandFault}
 use Rattle.batch_commands.proofs.running.run_words.Goals as goal
 
 pub returns-in-Ok : goal.returns-in-Ok
-returns-in-Ok g c = commands _ _ (c.in-Ok.ensures.taken, c.in-Ok.ensures.command) c.run_command.ensures
+returns-in-Ok g c =
+    commands _ _ (c.in-Ok.ensures.taken, c.in-Ok.ensures.words.0) (rw c.in-Ok.ensures.words.1 at c.run_command.ensures)
 
 pub returns-in-Err-Help : goal.returns-in-Err-Help
 returns-in-Err-Help g c =

@@ -13,17 +13,17 @@ pub returns-in-Serves : goal.returns-in-Serves
 returns-in-Serves g c =
     let set = c.in-Serves.cleared in
     let served = c.serve_set-served in
-    let (command, named, is_served, kept) =
+    let (source, asked, is_set, kept) =
     set_to_serve (g.D.Documents.gives c.args.documents.now) (map string_bytes c.args.words.now) _ _ _ set c.run_words.ensures c.in-Serves.is in
     rw c.tell_served.ensures
-    (serves command set served.result named is_served (served_kept set MAX_READS served.result _ _ _ _ _ kept served.ensures))
+    (serves source set served.result asked is_set (served_kept set MAX_READS served.result _ _ _ _ _ kept served.ensures))
 
 pub returns-in-Plants : goal.returns-in-Plants
 returns-in-Plants g c =
     let course = c.in-Plants in
     let end = c.run_plant-end in
-    let (command, named, asked, cleared, kept, silent) =
+    let (asked, cleared, kept, silent) =
     plant_to_run (g.D.Documents.gives c.args.documents.now) (map string_bytes c.args.words.now) _ _ _ course.set course.cell course.options
     c.run_words.ensures course.is in
-    plants command course.set course.options end.result c.report_of_plant.result named asked cleared (has_run course.set course.cell course.options end.result end.ensures)
+    plants course.set course.options end.result c.report_of_plant.result asked cleared (has_run course.set course.cell course.options end.result end.ensures)
     (told_kept _ _ _ _ _ _ course.options.batches end.result _ kept silent c.report_of_plant.ensures) (Keeps-refl _)

@@ -1,51 +1,48 @@
-//! Verdicts, and how the program ends.
+//! Refusals, and why a command ends without a verdict that accepts.
 ghost use Rattle.std.specs.Prelude.{◌≡◌};
 ghost use Rattle.batch_commands.specs.Judging.{status_of};
-ghost use Rattle.batch_commands.specs.declared.verdict.Halt.TheVariants.{Memory};
+ghost use Rattle.batch_commands.specs.declared.refusal.Halt.TheVariants.{Memory};
 
 use batch_sentences::Sentence;
 use std::alloc::{AllocError, AllocFailed};
 
-/// How the program ends after a verdict.
+/// What a refusal is for.
 #[derive(Clone, Copy, Debug, PartialEq, Eq)]
-pub enum Ending {
-    /// The recipes are cleared, by the certificate that `check` found or that `verify` was given.
-    Accepted,
-    /// A document, a certificate or the recipes are refused.
-    Refused,
+pub enum RefusalKind {
+    /// A document, a certificate or the recipes have a fault.
+    Fault,
     /// Memory for the judgement ran out, which says nothing of what was to be judged.
     OutOfMemory,
 }
 
-impl Ending {
+impl RefusalKind {
     /// The exit status of the program.
     pub fn status(self) -> u8
         ensures { result ≡ status_of self }
     {
         match self {
-            Ending::Accepted => 0,
-            Ending::Refused => 1,
-            Ending::OutOfMemory => 4,
+            RefusalKind::Fault => 1,
+            RefusalKind::OutOfMemory => 4,
         }
     }
 }
 
-/// What the program prints on standard output, and how it ends then.
+/// What the program prints of what it refuses, and how it ends then.
 #[derive(Debug, Drop)]
-pub struct Verdict {
-    /// The lines of the verdict, each with its line feed.
+pub struct DocumentRefusal {
+    /// The lines for standard output, each with its line feed.
     pub text: String,
     /// How the program ends once the text is written.
-    pub ending: Ending,
-    /// What a refusal means, for standard error; there is none where nothing is refused.
-    pub sentence: Option<Sentence>,
+    pub kind: RefusalKind,
+    /// What the refusal means, for standard error.
+    pub sentence: Sentence,
 }
 
-/// Why the program ends before it has judged all of its documents.
+/// Why a command ends without what it was to print or to serve.
 #[derive(Debug, Drop)]
 pub enum Halt {
-    /// A document is refused, or there was no memory to judge it, which its refusal says.
-    Refused(Verdict),
+    /// Something is refused, or there was no memory to judge it, which its refusal says.
+    Refused(DocumentRefusal),
     /// A document can't be read, with a text for the user that goes to standard error.
     Unread(String),
     /// There was no memory to read the documents, or for the text of a verdict.

@@ -1,0 +1,18 @@
+use Rattle.batch_commands.proofs.running.judge.Goals as goal
+
+pub returns-in-Check-clause-halted : goal.returns-in-Check-clause-halted
+returns-in-Check-clause-halted g c = rw c.in-Check.is (rw (c.deref.ensures, c.deref-in-Check.ensures.value) at c.check_documents.ensures.halted)
+
+pub returns-in-Draw-clause-halted : goal.returns-in-Draw-clause-halted
+returns-in-Draw-clause-halted g c =
+    rw c.in-Draw.is (rw (c.deref-in-Draw.ensures, c.deref-in-Draw-2.ensures.value) at c.draw_documents.ensures.halted)
+
+pub returns-in-Verify-clause-verdict : goal.returns-in-Verify-clause-verdict
+returns-in-Verify-clause-verdict g c =
+    rw c.in-Verify.is
+    (rw (c.deref-in-Verify.ensures, c.deref-in-Verify-2.ensures, c.deref-in-Verify-3.ensures.value) at c.verify_documents.ensures.verdict)
+
+pub returns-in-Verify-clause-halted : goal.returns-in-Verify-clause-halted
+returns-in-Verify-clause-halted g c =
+    rw c.in-Verify.is
+    (rw (c.deref-in-Verify.ensures, c.deref-in-Verify-2.ensures, c.deref-in-Verify-3.ensures.value) at c.verify_documents.ensures.halted)
