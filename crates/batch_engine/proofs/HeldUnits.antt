@@ -85,11 +85,11 @@ quiet : (t : Tree) (b : Model.Batch) (m : ChartMove.Move) (number : Name → Opt
 quiet t b m number hs = grind arith
 
 -- a move of a chart is no grant
-pub noted-own : (v : EngineView) (i : ℕ) (made : ChartMove.Move) (q u : ℕ) → IsStep v (IsNext v) (Own i made q u) → (hs : List ℕ) (m : Move) → IsNext v m → hs ≡ noted (number_of v.cleared) m hs
-noted-own v i made q u g hs m is =
-    let t : Tree = tree_of v.cleared g.0.batch in
-    let same : m ≡ move_of t (batch_of v.cleared g.0.batch) made = same-next v m (move_of t (batch_of v.cleared g.0.batch) made) is g.0.is in
-    sym (ap (λ (l : Move). noted (number_of v.cleared) l hs) same ∙ quiet t (batch_of v.cleared g.0.batch) made (number_of v.cleared) hs)
+pub noted-own : (v : EngineView) (i : ℕ) (made : ChartMove.Move) → IsStep v (IsNext v) (Own i made) → (hs : List ℕ) (m : Move) → IsNext v m → hs ≡ noted (number_of v.cleared) m hs
+noted-own v i made g hs m is =
+    let t : Tree = tree_of v.cleared g.batch in
+    let same : m ≡ move_of t (batch_of v.cleared g.batch) made = same-next v m (move_of t (batch_of v.cleared g.batch) made) is g.is in
+    sym (ap (λ (l : Move). noted (number_of v.cleared) l hs) same ∙ quiet t (batch_of v.cleared g.batch) made (number_of v.cleared) hs)
 
 -- a grant of as many units of the resource, to the batch at the index
 noted-grant : (v : EngineView) (i node resource units : ℕ) → IsStep v (IsNext v) (Grant i node resource units) → (b : Batch) → slice_get v.batches i ≡ Some b → (hs : List ℕ) (m : Move) → IsNext v m

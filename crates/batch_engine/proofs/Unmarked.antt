@@ -140,7 +140,7 @@ abbrev pub StepMove : EngineView → ℕ → Type 0
 StepMove v i = (m : Moves.Move) × IsNext v m × ((b : Batch) × (slice_get v.batches i ≡ Some b) × (Moves.batch_of m ≡ b.number))
 
 pub step-move : (v : EngineView) (s : steps.Step) → IsStep v (IsNext v) s → StepMove v (index_of s)
-step-move v (Own i m q u) g = (move_of (tree_of v.cleared g.0.batch) (batch_of v.cleared g.0.batch) m, g.0.is, (g.0.batch, g.0.here.at, of-batch (tree_of v.cleared g.0.batch) (batch_of v.cleared g.0.batch) m))
+step-move v (Own i m) g = (move_of (tree_of v.cleared g.batch) (batch_of v.cleared g.batch) m, g.is, (g.batch, g.here.at, of-batch (tree_of v.cleared g.batch) (batch_of v.cleared g.batch) m))
 step-move v (Grant i node resource units) g = (_, g.is, (g.batch, g.here.at, refl))
 
 -- What stays unmarked after a move

@@ -2,6 +2,7 @@
 use Rattle.std.proofs.Common.{◌≡◌, ◌<◌, refl, sym, ◌∙◌, ap, subst, ℕ, zero, suc, List, [], ◌∷◌, ◌++◌, Option, Some, None, arith, length, map, Bool, true, false}
 use Rattle.std.specs.Prelude.{slice_get}
 use Rattle.std.proofs.lemmas.List.{map-append}
+use Rattle.std.proofs.lemmas.Option.{slice_get-get_or}
 use Rattle.batch_model.specs.Lists.{Each}
 use Rattle.batch_model.specs.Plant as Model
 use Rattle.batch_model.specs.Moves as Moves
@@ -20,7 +21,7 @@ use Rattle.batch_chart.proofs.Earliest.{own-first-elim}
 use Rattle.batch_engine.proofs.Told.{standing}
 
 pub step-map : (v : EngineView) (P Q : Moves.Move → Type 0) → ((m : Moves.Move) → P m → Q m) → (s : Step) → IsStep v P s → IsStep v Q s
-step-map v P Q f (Own i m q u) g = (record { batch = g.0.batch; chart = g.0.chart; here = g.0.here; can = g.0.can; about = g.0.about; is = f (move_of (tree_of v.cleared g.0.batch) (batch_of v.cleared g.0.batch) m) g.0.is }, g.1)
+step-map v P Q f (Own i m) g = record { batch = g.batch; chart = g.chart; here = g.here; can = g.can; about = g.about; is = f (move_of (tree_of v.cleared g.batch) (batch_of v.cleared g.batch) m) g.is }
 step-map v P Q f (Grant i node resource units) g =
     record {
       batch = g.batch;

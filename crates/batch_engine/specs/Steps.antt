@@ -11,7 +11,7 @@ use Rattle.batch_chart.specs.Charts.{CanMake, IsWaitingAt, AsksAt, remains, Stan
 use Rattle.batch_chart.specs.Seen.{move_of}
 use Rattle.batch_recipe.specs.declared.recipe.Recipe as document
 use Rattle.batch_chart.specs.declared.chart_move.Move.{Move}
-use Rattle.batch_chart.specs.declared.chart_move.Move.TheVariants.{Send, Release, Begin, Start, End, Ask}
+use Rattle.batch_chart.specs.declared.chart_move.Move.TheVariants.{Send, Begin, Start, End}
 use Rattle.batch_engine.specs.declared.batch.Batch.{Batch}
 use Rattle.batch_engine.specs.declared.line.Line.{Line}
 use Rattle.batch_engine.specs.declared.step.Step.{Step}
@@ -48,34 +48,12 @@ pub record IsGrantStep (v : EngineView) (told : Model.Move → Type 0) (i node r
   pub first : option_map batch_node (next_grant v.allocation resource) ≡ Some (batch.number, node)
   pub is : told (grant batch.number (place_at (tree_of v.cleared batch) node) (need_at (tree_of v.cleared batch) node need))
 
--- the act at the node of the batch has this need
-abbrev pub IsNeedAt : EngineView → ℕ → ℕ → ℕ → Type 0
-IsNeedAt v i node need =
-    (b : Batch) × (slice_get v.batches i ≡ Some b) × (node < node_count (tree_of v.cleared b)) × (need < length (step_at (tree_of v.cleared b) node).needs)
-
--- this is the number of the resource that the act at the node of the batch needs, and how many units of it
-abbrev pub IsNumberAt : EngineView → ℕ → ℕ → ℕ → ℕ → ℕ → Type 0
-IsNumberAt v i node need resource units =
-    (b : Batch) → slice_get v.batches i ≡ Some b → (number_of v.cleared (need_at (tree_of v.cleared b) node need).resource ≡ Some resource) × ((need_at (tree_of v.cleared b) node need).units ≡ units)
-
--- the act of an ask or a release has this need
-abbrev pub HasNeed : EngineView → ℕ → Move → Type 0
-HasNeed v i (Ask node need) = IsNeedAt v i node need
-HasNeed v i (Release node need) = IsNeedAt v i node need
-HasNeed v i _ = ⊤
-
--- this is the number of the resource that an ask or a release is of, and how many units of it
-abbrev pub IsWanted : EngineView → ℕ → Move → ℕ → ℕ → Type 0
-IsWanted v i (Ask node need) resource units = IsNumberAt v i node need resource units
-IsWanted v i (Release node need) resource units = IsNumberAt v i node need resource units
-IsWanted v i _ resource units = ⊤
-
 abbrev pub IsStep : EngineView → (Model.Move → Type 0) → Step → Type 0
-IsStep v told (Own i m resource units) = IsOwnStep v told i m × IsWanted v i m resource units
+IsStep v told (Own i m) = IsOwnStep v told i m
 IsStep v told (Grant i node resource units) = IsGrantStep v told i node resource units
 
 abbrev pub index_of : Step → ℕ
-index_of (Own i m resource units) = i
+index_of (Own i m) = i
 index_of (Grant i node resource units) = i
 
 -- the least move of the batch at an index
@@ -116,6 +94,16 @@ pub record Makes (old new : EngineView) (m : Model.Move) : Type 0 where
 -- the engine makes its plant's next move
 abbrev pub MakesNext : EngineView → EngineView → Type 0
 MakesNext old new = (m : Model.Move) → IsNext old m → Makes old new m
+
+-- the act at the node of the batch has this need
+abbrev pub IsNeedAt : EngineView → ℕ → ℕ → ℕ → Type 0
+IsNeedAt v i node need =
+    (b : Batch) × (slice_get v.batches i ≡ Some b) × (node < node_count (tree_of v.cleared b)) × (need < length (step_at (tree_of v.cleared b) node).needs)
+
+-- this is the number of the resource that the act at the node of the batch needs, and how many units of it
+abbrev pub IsNumberAt : EngineView → ℕ → ℕ → ℕ → ℕ → ℕ → Type 0
+IsNumberAt v i node need resource units =
+    (b : Batch) → slice_get v.batches i ≡ Some b → (number_of v.cleared (need_at (tree_of v.cleared b) node need).resource ≡ Some resource) × ((need_at (tree_of v.cleared b) node need).units ≡ units)
 
 -- the batch at an index has an act at this node
 abbrev pub IsNodeAt : EngineView → ℕ → ℕ → Type 0

@@ -5,7 +5,7 @@ ghost use Rattle.batch_chart.specs.declared.chart_move.Move.TheVariants as Moves
 ghost use Rattle.batch_model.specs.Moves.{handed_values};
 ghost use Rattle.batch_recipe.specs.declared.act.TheConstants.{MAX_VALUES};
 ghost use Rattle.batch_engine.specs.Names.{handed_of, node_of};
-ghost use Rattle.batch_engine.specs.Steps.{IsNext, IsNextStep, IsNodeAt, IsOwnStep, IsPhaseAt, IsUnitAt, IsWanted, Tells};
+ghost use Rattle.batch_engine.specs.Steps.{IsNeedAt, IsNext, IsNextStep, IsNodeAt, IsOwnStep, IsPhaseAt, IsUnitAt, Tells};
 ghost use Rattle.batch_engine.specs.Surface.{move_of};
 
 use crate::control::Control;
@@ -81,6 +81,22 @@ impl Control {
         }
     }
 
+    /// The line of an act of the batch at an index that gives a resource back.
+    fn release_line(&self, index: usize, node: u16, need: u16) -> Line
+        requires { IsNeedAt self.now index node need }
+        ensures { Tells self.now index (Moves.Release node need) result }
+    {
+        let (resource, units) = self.resource_at(index, node, need);
+        let batch = &self.batches[index];
+        Line::Release {
+            batch: batch.number,
+            recipe: batch.recipe,
+            node,
+            resource,
+            units,
+        }
+    }
+
     /// The line of a phase of the batch at an index that starts.
     fn start_line(&self, index: usize, node: u16) -> Line
         requires { IsNodeAt self.now index node }
@@ -99,10 +115,25 @@ impl Control {
         }
     }
 
+    /// The line of an act of the batch at an index that asks for a resource.
+    fn ask_line(&self, index: usize, node: u16, need: u16) -> Line
+        requires { IsNeedAt self.now index node need }
+        ensures { Tells self.now index (Moves.Ask node need) result }
+    {
+        let (resource, units) = self.resource_at(index, node, need);
+        let batch = &self.batches[index];
+        Line::Ask {
+            batch: batch.number,
+            recipe: batch.recipe,
+            node,
+            resource,
+            units,
+        }
+    }
+
     /// The line of a move of the batch at an index.
-    fn own_line(&self, index: usize, made: Move, resource: u16, units: u32) -> Line
-        requires step { IsOwnStep self.now (IsNext self.now) index made }
-        requires wanted { IsWanted self.now index made resource units }
+    fn own_line(&self, index: usize, made: Move) -> Line
+        requires { IsOwnStep self.now (IsNext self.now) index made }
         ensures { IsNext self.now (move_of self.now.cleared result) }
     {
         let batch = &self.batches[index];
@@ -114,13 +145,7 @@ impl Control {
                 batch: number,
                 state,
             },
-            Move::Release { node, need: _need } => Line::Release {
-                batch: number,
-                recipe,
-                node,
-                resource,
-                units,
-            },
+            Move::Release { node, need } => self.release_line(index, node, need),
             Move::Begin { node } => Line::Begin {
                 batch: number,
                 recipe,
@@ -132,13 +157,7 @@ impl Control {
                 recipe,
                 node,
             },
-            Move::Ask { node, need: _need } => Line::Ask {
-                batch: number,
-                recipe,
-                node,
-                resource,
-                units,
-            },
+            Move::Ask { node, need } => self.ask_line(index, node, need),
         }
     }
 
@@ -148,12 +167,7 @@ impl Control {
         ensures { IsNext self.now (move_of self.now.cleared result) }
     {
         match step {
-            Step::Own {
-                index,
-                made,
-                resource,
-                units,
-            } => self.own_line(index, made, resource, units),
+            Step::Own { index, made } => self.own_line(index, made),
             Step::Grant {
                 index,
                 node,

@@ -111,8 +111,11 @@ impl Control {
     {
         self.is_kept();
         match step {
-            Step::Own { made, resource, .. } => match made {
-                Move::Release { .. } => Some(resource),
+            Step::Own { index, made } => match made {
+                Move::Release { node, need } => {
+                    let (resource, _units) = self.resource_at(index, node, need);
+                    Some(resource)
+                }
                 _ => None,
             },
             Step::Grant { resource, .. } => Some(resource),

@@ -1,7 +1,7 @@
 //! Making the next move.
 ghost use Rattle.std.specs.Prelude.{Some};
 ghost use Rattle.batch_chart.specs.declared.chart_move.Move.TheVariants as Moves;
-ghost use Rattle.batch_engine.specs.Steps.{IsGrantStep, IsNext, IsNextStep, IsNumberAt, IsOwnStep, IsQuiet, IsWanted, MakesNext};
+ghost use Rattle.batch_engine.specs.Steps.{IsGrantStep, IsNext, IsNextStep, IsNumberAt, IsOwnStep, IsQuiet, MakesNext};
 
 use crate::control::Control;
 use crate::step::Step;
@@ -69,15 +69,20 @@ impl Control {
     }
 
     /// Makes the move of the batch at an index.
-    fn make_own(&mut self, index: usize, made: Move, resource: u16, units: u32)
-        requires step { IsOwnStep self.old (IsNext self.old) index made }
-        requires wanted { IsWanted self.old index made resource units }
+    fn make_own(&mut self, index: usize, made: Move)
+        requires { IsOwnStep self.old (IsNext self.old) index made }
         ensures { MakesNext self.old self.new }
     {
         match made {
             Move::State(state) => self.change_state(index, state),
-            Move::Ask { node, need } => self.ask(index, node, need, resource, units),
-            Move::Release { node, need } => self.release(index, node, need, resource, units),
+            Move::Ask { node, need } => {
+                let (resource, units) = self.resource_at(index, node, need);
+                self.ask(index, node, need, resource, units);
+            }
+            Move::Release { node, need } => {
+                let (resource, units) = self.resource_at(index, node, need);
+                self.release(index, node, need, resource, units);
+            }
             _ => self.run(index, made),
         }
     }
@@ -88,12 +93,7 @@ impl Control {
         ensures { MakesNext self.old self.new }
     {
         match step {
-            Step::Own {
-                index,
-                made,
-                resource,
-                units,
-            } => self.make_own(index, made, resource, units),
+            Step::Own { index, made } => self.make_own(index, made),
             Step::Grant {
                 index,
                 node,

@@ -4,13 +4,12 @@ ghost use Rattle.batch_arbiter.specs.Allocation.{batch_node, next_grant, resourc
 ghost use Rattle.batch_model.specs.Moves.{is_stopped};
 ghost use Rattle.batch_engine.specs.Marked.{AreMarked};
 ghost use Rattle.batch_engine.specs.Marking.{IsFirstStep};
-ghost use Rattle.batch_engine.specs.Steps.{HasNeed, IsBatchStep, IsFirstGrant, IsNeedAt, IsNumberAt, IsWanted};
+ghost use Rattle.batch_engine.specs.Steps.{IsBatchStep, IsFirstGrant, IsNeedAt, IsNumberAt};
 
 use crate::control::Control;
 use crate::marks::Marks;
 use crate::step::Step;
 use batch_arbiter::Arbiter;
-use batch_chart::Move;
 use batch_matrix::State;
 
 /// Whether the arbiter would serve this act.
@@ -33,7 +32,7 @@ fn is_stopped(state: State) -> bool
 
 impl Control {
     /// The number of the resource that an act of the batch at an index needs, and how many units of it.
-    fn resource_at(&self, index: usize, node: u16, need: u16) -> (u16, u32)
+    pub(crate) fn resource_at(&self, index: usize, node: u16, need: u16) -> (u16, u32)
         requires { IsNeedAt self.now index node need }
         ensures { IsNumberAt self.now index node need result.0 result.1 }
     {
@@ -42,19 +41,6 @@ impl Control {
         let act = &numbers.acts[usize::from(node)];
         let wanted = &act.needs[usize::from(need)];
         (wanted.resource.for_units(&batch.units), wanted.units)
-    }
-
-    /// The number of the resource that a move of the batch at an index asks for or gives back, and how many units of it; 0 of
-    /// both for another move.
-    fn wanted(&self, index: usize, made: Move) -> (u16, u32)
-        requires { HasNeed self.now index made }
-        ensures { IsWanted self.now index made result.0 result.1 }
-    {
-        match made {
-            Move::Release { node, need } => self.resource_at(index, node, need),
-            Move::Ask { node, need } => self.resource_at(index, node, need),
-            _ => (0, 0),
-        }
     }
 
     /// The first act in line of the batch at an index that the arbiter would serve: its node, its resource and how many
@@ -87,13 +73,7 @@ impl Control {
         }
         let chart = self.cleared.recipe(batch.recipe);
         if let Some(made) = batch.running.next_move(chart, batch.state) {
-            let (resource, units) = self.wanted(index, made);
-            return Some(Step::Own {
-                index,
-                made,
-                resource,
-                units,
-            });
+            return Some(Step::Own { index, made });
         }
         let (node, resource, units) = self.first_grant(index)?;
         Some(Step::Grant {

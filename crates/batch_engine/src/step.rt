@@ -7,13 +7,10 @@ use batch_chart::Move;
 /// What the engine does next: a move of a batch's chart, or a grant.
 #[derive(Clone, Copy)]
 pub enum Step {
-    /// A move of the batch at this index. Of an ask or a release, the number of the resource and how many units of it; 0 of
-    /// both for another move.
+    /// A move of the batch at this index.
     Own {
         index: usize,
         made: Move,
-        resource: u16,
-        units: u32,
     },
     /// The act at this node of the batch at this index gets its next need.
     Grant {

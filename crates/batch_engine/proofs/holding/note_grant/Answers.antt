@@ -11,7 +11,7 @@ use Rattle.batch_engine.proofs.holding.note_grant.Goals as goal
 pub returns-in_default : goal.returns-in_default
 returns-in_default c =
     let v : EngineView = c.args.control.now in
-    noted-own v c.in_default.field-0 c.in_default.field-1 c.in_default.field-2 c.in_default.field-3 (subst (IsStep v (IsNext v)) c.in_default.is c.requires.step) c.args.holders.now.items
+    noted-own v c.in_default.field-0 c.in_default.field-1 (subst (IsStep v (IsNext v)) c.in_default.is c.requires.step) c.args.holders.now.items
 
 pub returns-then-units-ne1 : goal.returns-then-units-ne1
 returns-then-units-ne1 c =

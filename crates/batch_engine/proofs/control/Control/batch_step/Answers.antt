@@ -5,7 +5,6 @@ use Rattle.batch_chart.specs.Seen.{move_of}
 use Rattle.batch_engine.specs.declared.batch.Batch.{Batch}
 use Rattle.batch_engine.specs.Steps.{IsBatchStep, IsFirstGrant}
 use Rattle.batch_engine.specs.View.{EngineView, batch_of, plant_of, setup, tree_of}
-use Rattle.batch_engine.proofs.Answering.{has-need}
 use Rattle.batch_engine.proofs.AtRest.{stopped-moves}
 use Rattle.batch_engine.proofs.BatchPlaces.{Has-batch_of}
 use Rattle.batch_engine.proofs.Finding.{has, one-batch}
@@ -18,30 +17,21 @@ use Rattle.batch_engine.proofs.control.Control.batch_step.Goals.{After-recipe-ch
 seat : (c : After-recipe-chart) → IsSeat c.args.self.now c.args.index c.index-batch.result.now c.recipe-chart.result.now
 seat c = seat-of c.self.view_is (read-at c.self.view_is c.self.invariant.kept c.requires c.index-batch.ensures) c.recipe-chart.ensures
 
-pub wanted-resource-requires : goal.wanted-resource-requires
-wanted-resource-requires c =
-    let s = seat (goal.at.wanted-resource-requires c).After-recipe-chart in
-    let b : Batch = c.index-batch.result.now in
-    has-need c.args.self.now c.args.index b s.at c.in-Some.made (c.in-Some.ensures.about (tree_of c.args.self.now.cleared b) s.chart s.runs)
-
 pub returns-in-Some : goal.returns-in-Some
 returns-in-Some c =
     let v : EngineView = c.args.self.now in
     let b : Batch = c.index-batch.result.now in
     let s = seat (goal.at.returns-in-Some c).After-recipe-chart in (
       refl,
-      (
-        record {
-          batch = b;
-          chart = c.recipe-chart.result.now;
-          here = record { at = s.at; listed = s.listed };
-          can = c.in-Some.ensures.possible;
-          about = c.in-Some.ensures.about (tree_of v.cleared b) s.chart s.runs;
-          is = own-least v c.args.index b (move_of (tree_of v.cleared b) (batch_of v.cleared b) c.in-Some.made) s.at
-              (sym (c.in-Some.ensures.next (tree_of v.cleared b) (batch_of v.cleared b) s.chart s.runs refl refl));
-        },
-        c.wanted-resource.ensures,
-      ),
+      record {
+        batch = b;
+        chart = c.recipe-chart.result.now;
+        here = record { at = s.at; listed = s.listed };
+        can = c.in-Some.ensures.possible;
+        about = c.in-Some.ensures.about (tree_of v.cleared b) s.chart s.runs;
+        is = own-least v c.args.index b (move_of (tree_of v.cleared b) (batch_of v.cleared b) c.in-Some.made) s.at
+            (sym (c.in-Some.ensures.next (tree_of v.cleared b) (batch_of v.cleared b) s.chart s.runs refl refl));
+      },
     )
 
 pub returns-in_err-node : goal.returns-in_err-node
