@@ -33,8 +33,8 @@ pub fn write_out<W: Write>(out: &Out, cleared: &Cleared, writer: &mut W) -> Resu
     ensures { Writes (W.contents writer.old) (W.contents writer.new) result (out_text (out_of cleared.now out.now)) }
 {
     match site_of(out) {
-        None => write_telling(out, cleared, &ToldPlace::Known(b""), writer),
-        Some(site) => write_telling(out, cleared, &ToldPlace::Long { cleared, site }, writer),
+        None => write_by_pieces(out, cleared, &ToldPlace::Known(b""), writer),
+        Some(site) => write_by_pieces(out, cleared, &ToldPlace::Long { cleared, site }, writer),
     }
 }
 
@@ -86,7 +86,7 @@ fn write_site<W: Write>(
     ensures written { Writes (W.contents writer.old) (W.contents writer.new) result (out_text (out_of cleared.now out.now)) }
 {
     let Some(end) = places.find(cleared, site) else {
-        return write_telling(out, cleared, &ToldPlace::Long { cleared, site }, writer);
+        return write_by_pieces(out, cleared, &ToldPlace::Long { cleared, site }, writer);
     };
     let known = &places.text[..end];
     let told = ToldPlace::Known(&known[places.start..]);
@@ -108,8 +108,22 @@ fn write_line<W: Write>(
     room.clear();
     match write_telling(out, cleared, told, room) {
         Ok(()) => write_all(writer, room.line()),
-        Err(_) => write_telling(out, cleared, told, writer),
+        Err(_) => write_by_pieces(out, cleared, told, writer),
     }
+}
+
+/// Writes the same piece by piece: a function of its own, so that what is seldom done isn't in the way of what is done for each line.
+#[inline(never)]
+fn write_by_pieces<W: Write>(
+    out: &Out,
+    cleared: &Cleared,
+    told: &ToldPlace<'_>,
+    writer: &mut W,
+) -> Result<(), WriteFault>
+    requires { told_text told.now ≡ told_by_out (out_of cleared.now out.now) }
+    ensures { Writes (W.contents writer.old) (W.contents writer.new) result (out_text (out_of cleared.now out.now)) }
+{
+    write_telling(out, cleared, told, writer)
 }
 
 /// The node whose place the out tells. None where it tells none.
@@ -213,6 +227,7 @@ fn site_of_claim(line: Line) -> Option<Site>
 }
 
 /// Writes the line of an out that tells this place.
+#[inline(always)]
 fn write_telling<W: Write>(
     out: &Out,
     cleared: &Cleared,
