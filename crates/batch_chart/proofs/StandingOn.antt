@@ -167,16 +167,16 @@ module _ (doc : Recipe) (bound : Binding) where
     step = record { place = p; needs = asked_by (unit_with bound a.unit) a.needs.items }
 
     is_chart : Work → Bool
-    is_chart work = elim work [ Follows c ↦ true | Runs name handed ↦ false ]
+    is_chart work = elim work [ Follows c ↦ true | Runs name handed reports ↦ false ]
 
     -- one that follows a chart
     act_stands : AreLabels told named (trees own_unit) → ((q : ℕ) → kind_by k q o ≡ act_kind q) → has_chart a ≡ true → AreFrom es n (grown_act told named k o n j u i a) → AreFrom all j (conditions_below told a.work)
         → StandsAs n (grown_act told named k o n j u i a) (act_tree_with bound trees unit a p)
     act_stands labels is chart = go a.work chart
       where
-        go : (w : Work) → elim w as (λ _. Bool) [ Follows c ↦ true | Runs name handed ↦ false ] ≡ true → AreFrom es n (topped (act_head k o a) n u i (grown_work told named n j w)) → AreFrom all j (conditions_below told w)
+        go : (w : Work) → elim w as (λ _. Bool) [ Follows c ↦ true | Runs name handed reports ↦ false ] ≡ true → AreFrom es n (topped (act_head k o a) n u i (grown_work told named n j w)) → AreFrom all j (conditions_below told w)
             → StandsAs n (topped (act_head k o a) n u i (grown_work told named n j w)) (tree.act step (task_of (trees own_unit) own_unit a.name p w))
-        go (Runs phase values) e h c = absurd (cc)
+        go (Runs phase values reports) e h c = absurd (cc)
         go (Follows chart) e h c =
             let xs = grown told named (n + 1) j n 0 (diagram_of chart) in
             let g = chart_stands told named (trees own_unit) labels (n + 1) j n 0 (child p 0) (diagram_of chart) (from_tail es n _ xs h) c in
@@ -188,10 +188,10 @@ module _ (doc : Recipe) (bound : Binding) where
         → AreFrom es n (grown_act told named k o n j u i a) → StandsAs n (grown_act told named k o n j u i a) (act_tree_with bound trees unit a p)
     phase_stands number at is on chart = go a.work refl chart
       where
-        go : (w : Work) → a.work ≡ w → elim w as (λ _. Bool) [ Follows c ↦ true | Runs name handed ↦ false ] ≡ false → AreFrom es n (topped (act_head k o a) n u i (grown_work told named n j w))
+        go : (w : Work) → a.work ≡ w → elim w as (λ _. Bool) [ Follows c ↦ true | Runs name handed reports ↦ false ] ≡ false → AreFrom es n (topped (act_head k o a) n u i (grown_work told named n j w))
             → StandsAs n (topped (act_head k o a) n u i (grown_work told named n j w)) (tree.act step (task_of (trees own_unit) own_unit a.name p w))
         go (Follows c) w e h = absurd (cc)
-        go (Runs phase values) w e h =
+        go (Runs phase values reports) w e h =
             let stood = node_of n 0 (act_head k o a) u i [] (kind.Phase (length step.needs) number) h (is (needs_count a) ∙ ap (λ q. kind.Phase q number) (needs_counted bound a)) refl in
             let read = node_read es n (entry (act_head k o a) (n + 1 + 0) u i) (from_head es n _ [] h) in
             let under : unit_under es n ≡ o = ap (λ (x : Entry). x.detail) read in

@@ -18,7 +18,7 @@ abbrev pub no_step : Step
 no_step = record { place = []; needs = [] }
 
 abbrev pub no_phase : Phase
-no_phase = record { unit = []; name = []; handed = [] }
+no_phase = record { unit = []; name = []; handed = []; reports = [] }
 
 -- the step and the task of an act
 abbrev pub step_of : Tree → Step

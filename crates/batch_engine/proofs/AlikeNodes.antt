@@ -77,11 +77,11 @@ count-alike bound acts =
 
 abbrev name_with : Name → Work → Name
 name_with name (Follows chart) = name
-name_with name (Runs phase values) = []
+name_with name (Runs phase values reports) = []
 
 abbrev handed_with : Work → List Name
 handed_with (Follows chart) = []
-handed_with (Runs phase values) = values.items
+handed_with (Runs phase values reports) = values.items
 
 abbrev act_name : Option (Option Act) → Name
 act_name None = []
@@ -95,11 +95,11 @@ act_handed (Some (Some a)) = handed_with a.work
 
 name_of_tree : (bound : Binding) (trees : Name → Name → Place → Tree) (unit : Name) (p : Place) (a : Act) (w : Work) → a.work ≡ w → name_in (act_tree_with bound trees unit a p) ≡ name_with a.name w
 name_of_tree bound trees unit p a (Follows chart) e = rw e refl
-name_of_tree bound trees unit p a (Runs phase values) e = rw e refl
+name_of_tree bound trees unit p a (Runs phase values reports) e = rw e refl
 
 handed_of_tree : (bound : Binding) (trees : Name → Name → Place → Tree) (unit : Name) (p : Place) (a : Act) (w : Work) → a.work ≡ w → handed_in (act_tree_with bound trees unit a p) ≡ handed_with w
 handed_of_tree bound trees unit p a (Follows chart) e = rw e refl
-handed_of_tree bound trees unit p a (Runs phase values) e = rw e refl
+handed_of_tree bound trees unit p a (Runs phase values reports) e = rw e refl
 
 no_name : (t : Tree) → IsNoAct t → name_in t ≡ []
 no_name t h = grind arith

@@ -59,7 +59,7 @@ few-asked (Some unit) needs h = omega (arith, h)
 few-below : (acts : Name → Place → Tree) → ((name : Name) (p : Place) → HasFewNeeds (acts name p)) → (unit name : Name) (p : Place) (work : Work)
     → needs_below (task_of acts unit name p work) ≤ 17 * count_within (task_of acts unit name p work)
 few-below acts few unit name p (Follows c) = few-expanded acts few (child p 0) (diagram_of c)
-few-below acts few unit name p (Runs phase values) = omega arith
+few-below acts few unit name p (Runs phase values reports) = omega arith
 
 module _ (bound : Binding) where
   few-act : (acts : Name → Name → Place → Tree) → ((unit name : Name) (p : Place) → HasFewNeeds (acts unit name p)) → (unit : Name) (a : Act) (p : Place)

@@ -51,7 +51,7 @@ set-value vs ns xs i x small is below k l = elim (cases_lt k i) [
 
 abbrev pub handed_with : Work → List Name
 handed_with (Follows chart) = []
-handed_with (Runs phase values) = values.items
+handed_with (Runs phase values reports) = values.items
 
 abbrev pub act_handed : Option Act → List Name
 act_handed None = []
@@ -59,7 +59,7 @@ act_handed (Some a) = handed_with a.work
 
 handed_of_tree : (trees : Name → Name → Place → Tree) (unit : Name) (p : Place) (a : Act) (w : Work) → a.work ≡ w → handed_in (act_tree trees unit a p) ≡ handed_with w
 handed_of_tree trees unit p a (Follows chart) e = rw e refl
-handed_of_tree trees unit p a (Runs phase values) e = rw e refl
+handed_of_tree trees unit p a (Runs phase values reports) e = rw e refl
 
 no_handed : (t : Tree) → IsNoAct t → handed_in t ≡ []
 no_handed t h = grind arith
@@ -90,11 +90,11 @@ past-handed r k h = ap handed_of (past (procedure_nodes r.acts) k h)
 at-most : (m n : ℕ) → nat_le m n ≡ true → m ≤ n
 at-most m n e = grind arith
 
-work-few : (labels vs : List Name) (w : Work) (phase : Name) (values : Vec Name) → w ≡ Runs phase values
-    → (let t : Bool = elim w [ Follows c ↦ is_chart labels vs MAX_DEPTH (diagram_of c) | Runs phase handed ↦ nat_le (length handed.items) MAX_VALUES && list_all (is_among vs) handed.items ] in t ≡ true)
+work-few : (labels vs : List Name) (w : Work) (phase : Name) (values reports : Vec Name) → w ≡ Runs phase values reports
+    → (let t : Bool = elim w [ Follows c ↦ is_chart labels vs MAX_DEPTH (diagram_of c) | Runs phase handed reports ↦ nat_le (length handed.items) MAX_VALUES && list_all (is_among vs) handed.items ] in t ≡ true)
     → length values.items ≤ MAX_VALUES
-work-few labels vs (Follows c) phase values e h = absurd cc
-work-few labels vs (Runs p handed) phase values e h =
+work-few labels vs (Follows c) phase values reports e h = absurd cc
+work-few labels vs (Runs p handed told) phase values reports e h =
     let same : handed ≡ values = cc in
     subst (λ (z : Vec Name). length z.items ≤ MAX_VALUES) same (at-most (length handed.items) MAX_VALUES (and_parts (nat_le (length handed.items) MAX_VALUES) (list_all (is_among vs) handed.items) h).0)
 
@@ -161,12 +161,12 @@ acts-stand acts (b ∷ list) (at ∷ ns) zero a h e =
 acts-stand acts (b ∷ list) (at ∷ ns) (suc k) a h e = acts-stand acts list ns k a h.1 e
 acts-stand acts list ns k a h e = absurd (grind arith)
 
-pub few-handed : (r : Recipe) (k : ℕ) (a : Act) (phase : Name) (values : Vec Name) → slice_get (procedure_acts r.acts) k ≡ Some (Some a) → a.work ≡ Runs phase values → length values.items ≤ MAX_VALUES
-few-handed r k a phase values e f =
+pub few-handed : (r : Recipe) (k : ℕ) (a : Act) (phase : Name) (values reports : Vec Name) → slice_get (procedure_acts r.acts) k ≡ Some (Some a) → a.work ≡ Runs phase values reports → length values.items ≤ MAX_VALUES
+few-handed r k a phase values reports e f =
     let s = acts-stand r.acts (procedure_acts r.acts) (procedure_nodes r.acts) k a (procedure_acts_are unbound r.acts) e in
     let names : List Name = value_names r.inputs.items r.parameters.items r.outputs.items in
     let w = stood-work names r.acts a s.0 (works names r.acts r.well_formed) s.1 in
-    work-few w.0 names a.work phase values f w.1
+    work-few w.0 names a.work phase values reports f w.1
 
 -- What is told of a node, by what `act_at` gives
 
@@ -177,9 +177,9 @@ told-handed r k a within gone = elim (cases_lt k (length (procedure_nodes r.acts
   | inl h ↦ act-handed r k a (within h)
 ]
 
-pub told-few : (r : Recipe) (k : ℕ) (a : Act) (phase : Name) (values : Vec Name) → (k < length (procedure_nodes r.acts) → slice_get (procedure_acts r.acts) k ≡ Some (Some a))
-    → (length (procedure_nodes r.acts) ≤ k → ⊥) → a.work ≡ Runs phase values → length values.items ≤ MAX_VALUES
-told-few r k a phase values within gone e = elim (cases_lt k (length (procedure_nodes r.acts))) [
+pub told-few : (r : Recipe) (k : ℕ) (a : Act) (phase : Name) (values reports : Vec Name) → (k < length (procedure_nodes r.acts) → slice_get (procedure_acts r.acts) k ≡ Some (Some a))
+    → (length (procedure_nodes r.acts) ≤ k → ⊥) → a.work ≡ Runs phase values reports → length values.items ≤ MAX_VALUES
+told-few r k a phase values reports within gone e = elim (cases_lt k (length (procedure_nodes r.acts))) [
   | inr h ↦ absurd (gone h)
-  | inl h ↦ few-handed r k a phase values (within h) e
+  | inl h ↦ few-handed r k a phase values reports (within h) e
 ]

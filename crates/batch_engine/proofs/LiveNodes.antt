@@ -32,10 +32,10 @@ deeper r rs unit name l k =
 
 here-live : (d : Model.Batch) (unit name : Name) (s : Step) (p : Phase) (x : State) (rs : List Rest) (l : LivePhase) → (live_in d unit name rs ≡ Some l → IsLiveAct rs unit name l)
     → (t : Bool) → (same_name p.unit unit && same_name p.name name) ≡ t
-    → elim t [ true ↦ Some (record { batch = d; place = s.place; state = x }) | false ↦ live_in d unit name rs ] ≡ Some l → IsLiveAct (live s p x ∷ rs) unit name l
+    → elim t [ true ↦ Some (record { batch = d; place = s.place; phase = p; state = x }) | false ↦ live_in d unit name rs ] ≡ Some l → IsLiveAct (live s p x ∷ rs) unit name l
 here-live d unit name s p x rs l later true f g =
     let n = and_parts (same_name p.unit unit) (same_name p.name name) f in
-    let is : (let z : LivePhase = record { batch = d; place = s.place; state = x } in z) ≡ l = cc in
+    let is : (let z : LivePhase = record { batch = d; place = s.place; phase = p; state = x } in z) ≡ l = cc in
     record {
       step = s;
       phase = p;
@@ -53,10 +53,10 @@ live-act d unit name (live s p x ∷ rs) l e = here-live d unit name s p x rs l 
 live-act d unit name (r ∷ rs) l e = deeper r rs unit name l (live-act d unit name rs l e)
 
 pub live-node : (t : Tree) (r : Rest) (d : Model.Batch) (unit name : Name) (node : ℕ) (x : State) → IsPlaced (0 ∷ []) t → IsRestOf t r
-    → live_in d unit name (acts r) ≡ Some (record { batch = d; place = place_at t node; state = x })
+    → live_in d unit name (acts r) ≡ Some (record { batch = d; place = place_at t node; phase = phase_at t node; state = x })
     → (node < node_count t) × ((phase_at t node).unit ≡ unit) × ((phase_at t node).name ≡ name)
 live-node t r d unit name node x placed stands e =
-    let f : IsLiveAct (acts r) unit name (record { batch = d; place = place_at t node; state = x }) = live-act d unit name (acts r) (record { batch = d; place = place_at t node; state = x }) e in
+    let f : IsLiveAct (acts r) unit name (record { batch = d; place = place_at t node; phase = phase_at t node; state = x }) = live-act d unit name (acts r) (record { batch = d; place = place_at t node; phase = phase_at t node; state = x }) e in
     let g = of-tree t r (live f.step f.phase f.state) placed stands f.has in
     let n = node-of t (live f.step f.phase f.state) g in
     let place : place_at t node ≡ place_at t g.number = sym f.place_is ∙ ap (λ (z : Step). z.place) g.rest.0 ∙ n.1 in

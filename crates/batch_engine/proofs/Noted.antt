@@ -67,7 +67,7 @@ found-live b unit name [] l e = absurd cc
 found-live b unit name (live p y x ∷ rs) l e = go (same_name y.unit unit && same_name y.name name) refl e (λ g. found-live b unit name rs l g)
   where
     go : (t : Bool) → (same_name y.unit unit && same_name y.name name) ≡ t
-        → ◌≡◌ {A = Option LivePhase} (elim t [ true ↦ Some (record { batch = b; place = p.place; state = x }) | false ↦ live_in b unit name rs ]) (Some l)
+        → ◌≡◌ {A = Option LivePhase} (elim t [ true ↦ Some (record { batch = b; place = p.place; phase = y; state = x }) | false ↦ live_in b unit name rs ]) (Some l)
         → (live_in b unit name rs ≡ Some l → (step : Step) × (phase : Phase) × (now : State) × Has rs (live step phase now) × (phase.unit ≡ unit))
         → (step : Step) × (phase : Phase) × (now : State) × Has (live p y x ∷ rs) (live step phase now) × (phase.unit ≡ unit)
     go true f g later = (p, y, x, inl refl, name_same y.unit unit (and_parts (same_name y.unit unit) (same_name y.name name) f).0)

@@ -8,11 +8,11 @@ use Rattle.batch_matrix.specs.declared.report.Report.{Report}
 use Rattle.batch_matrix.specs.declared.report.PhaseEnd.{PhaseEnd}
 use Rattle.batch_matrix.specs.Matrix.{same_state, accepts, target, after_report}
 use Rattle.batch_recipe.specs.Conditions.{Name, ValueList, same_name}
-use Rattle.batch_recipe.specs.Values.{are_outputs}
+use Rattle.batch_recipe.specs.Values.{are_outputs, left_out}
 use Rattle.batch_model.specs.Lists.{Has}
 use Rattle.batch_model.specs.Plant.{Formula, size_out_of_range, value_out_of_range, scaled, Recipe, Master, Setup, Batch, Share, Plant, opening, batch_at, in_batch}
 use Rattle.batch_model.specs.Moves.{Move, next, after, batch_of, batch_after, batch_moves}
-use Rattle.batch_model.specs.Events.{Event, create, order, remove, report, Reply, ordered, removed, reported, refused, unknown_recipe, unknown_batch, command_not_accepted, no_live_phase, report_not_expected, bad_output, bad_binding, full, not_idle, moves_pending, Answer, is_full, new_batch, creating, creating_for, binding, is_binding, bound_by, roles_told, commanded, lines_under, ordering, without_batch, removing, LivePhase, live_phase, batch_state_after, outputs_of, batch_reported, reporting, judged, react}
+use Rattle.batch_model.specs.Events.{Event, create, order, remove, report, Reply, ordered, removed, reported, refused, unknown_recipe, unknown_batch, command_not_accepted, no_live_phase, report_not_expected, bad_output, output_left_out, owed, accepting, bad_binding, full, not_idle, moves_pending, Answer, is_full, new_batch, creating, creating_for, binding, is_binding, bound_by, roles_told, commanded, lines_under, ordering, without_batch, removing, LivePhase, live_phase, batch_state_after, outputs_of, batch_reported, reporting, judged, react}
 use Rattle.batch_model.specs.Runs.{Out, reply, move, Reacts, Leads}
 use Rattle.batch_model.specs.Records.{waiters_after}
 use Rattle.batch_model.specs.declared.limits.TheConstants.{LAST_NUMBER}
@@ -113,20 +113,18 @@ module _ (c : Setup) (s : Plant) where
   reporting-leaves : (unit name : Name) (word : Report) (outputs : ValueList) (l : LivePhase) → Leaves c s (reporting s unit name word outputs l)
   reporting-leaves unit name word outputs l = go (after_report l.state word)
     where
-      taken : (e : PhaseEnd) (t : Bool) → Leaves c s
-          (elim t [
-            | false ↦ (refused bad_output, s)
-            | true ↦ (
-              reported unit name word l.batch.number l.place (batch_state_after word l.batch.state),
-              in_batch l.batch.number (batch_reported word outputs l.place e) s,
-            )
-          ])
-      taken e false = same (refused bad_output)
-      taken e true =
+      accepted : (e : PhaseEnd) (o : Option Name) → Leaves c s (accepting s unit name word outputs l e o)
+      accepted e (Some output) = same (refused (output_left_out output))
+      accepted e None =
           record {
             few = changed-few l.batch.number (batch_reported word outputs l.place e);
             others = λ d h other. Has-other l.batch.number (batch_reported word outputs l.place e) s.batches d (λ b. refl) h (λ q. other (ap Some (sym q)));
           }
+
+      taken : (e : PhaseEnd) (t : Bool) → Leaves c s
+          (elim t [ false ↦ (refused bad_output, s) | true ↦ accepting s unit name word outputs l e (left_out (owed l.state word l.phase.reports) outputs) ])
+      taken e false = same (refused bad_output)
+      taken e true = accepted e (left_out (owed l.state word l.phase.reports) outputs)
 
       go : (o : Option PhaseEnd) → Leaves c s
           (elim o [
@@ -134,10 +132,7 @@ module _ (c : Setup) (s : Plant) where
             | Some e ↦
                 elim (are_outputs l.batch.recipe.outputs outputs) [
                   | false ↦ (refused bad_output, s)
-                  | true ↦ (
-                    reported unit name word l.batch.number l.place (batch_state_after word l.batch.state),
-                    in_batch l.batch.number (batch_reported word outputs l.place e) s,
-                  )
+                  | true ↦ accepting s unit name word outputs l e (left_out (owed l.state word l.phase.reports) outputs)
                 ]
           ])
       go None = same (refused (report_not_expected l.state))

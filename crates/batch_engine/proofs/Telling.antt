@@ -5,10 +5,11 @@ use Rattle.std.specs.List.{zip}
 use Rattle.std.proofs.lemmas.Option.{slice_get_read}
 use Rattle.batch_matrix.specs.declared.command.Command.{Command}
 use Rattle.batch_recipe.specs.Conditions.{Name}
-use Rattle.batch_recipe.specs.Nodes.{Node}
+use Rattle.batch_recipe.specs.Nodes.{Node, reports_in, reports_of}
 use Rattle.batch_recipe.specs.Expanding.{Binding}
 use Rattle.batch_recipe.specs.Procedure.{bound_nodes, bound_tree}
 use Rattle.batch_recipe.specs.Tree.{Phase, Tree, skip}
+use Rattle.batch_recipe.proofs.Reported.{reports-alike}
 use Rattle.batch_recipe.specs.declared.need.Need.{Need}
 use Rattle.batch_recipe.specs.declared.recipe.Recipe.{Recipe}
 use Rattle.batch_model.specs.Moves as Moves
@@ -51,6 +52,14 @@ handed-seen [] k = refl
 handed-seen (n ∷ ns) zero = handed-here n.here
 handed-seen (n ∷ ns) (suc k) = handed-seen ns k
 
+reports-here : (t : Tree) → reports_in t ≡ (Tree.phase_in (task_of t)).reports
+reports-here t = grind arith
+
+reports-seen : (ns : List Node) (k : ℕ) → reports_of (slice_get ns k) ≡ (Tree.phase_in (task_of (get_or ns k (record { place = []; asked = []; here = skip })).here)).reports
+reports-seen [] k = refl
+reports-seen (n ∷ ns) zero = reports-here n.here
+reports-seen (n ∷ ns) (suc k) = reports-seen ns k
+
 module _ (c : ClearedSet) (recipe : ℕ) (r : Recipe) (at : slice_get c.recipes recipe ≡ Some r) where
   pub tree-bound : (bound : Binding) → ((master_at c recipe).control bound).procedure ≡ bound_tree bound r.acts
   tree-bound bound = ap (λ (m : Master). (m.control bound).procedure) (master-found c recipe r at)
@@ -84,6 +93,10 @@ module _ (c : ClearedSet) (recipe : ℕ) (r : Recipe) (at : slice_get c.recipes 
     handed-told k =
         ap Names.handed_of (node-is k) ∙ handed-alike (bound_to c recipe units) r.acts k ∙ ap Names.handed_of (node-bound k) ∙ handed-seen (nodes_of (tree_at c recipe units)) k
 
+    pub reports-told : (k : ℕ) → Names.reports_at c recipe k ≡ (Tree.phase_at (tree_at c recipe units) k).reports
+    reports-told k =
+        ap reports_of (node-is k) ∙ reports-alike (bound_to c recipe units) r.acts k ∙ ap reports_of (node-bound k) ∙ reports-seen (nodes_of (tree_at c recipe units)) k
+
 pub some-at : (rs : List Recipe) (k : ℕ) → k < length rs → (r : Recipe) × (slice_get rs k ≡ Some r)
 some-at [] k l = absurd (omega arith)
 some-at (r ∷ rs) zero l = (r, refl)
@@ -104,12 +117,15 @@ module _ (v : EngineView) (k : IsKept v) (i : ℕ) (b : Batch) (at : slice_get v
   pub place-here : (n : ℕ) → Names.place_at v.cleared b.recipe n ≡ Tree.place_at (tree_of v.cleared b) n
   place-here n = place-told v.cleared b.recipe recipe-here.0 recipe-here.1 b.units n
 
+  pub reports-here-told : (n : ℕ) → Names.reports_at v.cleared b.recipe n ≡ (Tree.phase_at (tree_of v.cleared b) n).reports
+  reports-here-told n = reports-told v.cleared b.recipe recipe-here.0 recipe-here.1 b.units n
+
   phase-here : (n u f : ℕ) → Names.resource_name v.cleared u ≡ (Tree.phase_at (tree_of v.cleared b) n).unit → Names.phase_name v.cleared u f ≡ (Tree.phase_at (tree_of v.cleared b) n).name
       → Names.phase_at v.cleared b.recipe n u f ≡ Tree.phase_at (tree_of v.cleared b) n
   phase-here n u f unit name =
-      ap₂ (λ x y. let p : Phase = record { unit = x; name = y; handed = Names.handed_at v.cleared b.recipe n } in p) unit name
-      ∙ ap (λ (z : List Name). let p : Phase = record { unit = (Tree.phase_at (tree_of v.cleared b) n).unit; name = (Tree.phase_at (tree_of v.cleared b) n).name; handed = z } in p)
-      (handed-told v.cleared b.recipe recipe-here.0 recipe-here.1 b.units n)
+      ap₂ (λ x y. let p : Phase = record { unit = x; name = y; handed = Names.handed_at v.cleared b.recipe n; reports = Names.reports_at v.cleared b.recipe n } in p) unit name
+      ∙ ap₂ (λ (y z : List Name). let p : Phase = record { unit = (Tree.phase_at (tree_of v.cleared b) n).unit; name = (Tree.phase_at (tree_of v.cleared b) n).name; handed = y; reports = z } in p)
+      (handed-told v.cleared b.recipe recipe-here.0 recipe-here.1 b.units n) (reports-here-told n)
 
   need-here : (n need q u : ℕ) → number_of v.cleared (need_at (tree_of v.cleared b) n need).resource ≡ Some q → (need_at (tree_of v.cleared b) n need).units ≡ u
       → Names.need_of v.cleared q u ≡ need_at (tree_of v.cleared b) n need

@@ -4,7 +4,7 @@ use Rattle.std.specs.List.{zip}
 use Rattle.batch_cell.specs.LookUps.{units_of, resources_of, phases_of}
 use Rattle.batch_recipe.specs.Conditions.{Name}
 use Rattle.batch_recipe.specs.Formula.{quantities_of}
-use Rattle.batch_recipe.specs.Nodes.{Node}
+use Rattle.batch_recipe.specs.Nodes.{Node, reports_of}
 use Rattle.batch_recipe.specs.Procedure.{procedure_nodes}
 use Rattle.batch_recipe.specs.Tree.{Place, Phase, runs, follows, Tree, act}
 use Rattle.batch_recipe.specs.declared.need.Need.{Need}
@@ -91,7 +91,15 @@ handed_of (Some at) = handed_in at.here
 abbrev pub handed_at : ClearedSet → ℕ → ℕ → List Name
 handed_at c recipe node = handed_of (node_at c recipe node)
 
+-- the names of the outputs that it reports once it is done
+abbrev pub reports_at : ClearedSet → ℕ → ℕ → List Name
+reports_at c recipe node = reports_of (node_at c recipe node)
+
+-- one of these, by its number among them
+abbrev pub output_name : ClearedSet → ℕ → ℕ → ℕ → Name
+output_name c recipe node output = unwrap_or (slice_get (reports_at c recipe node) output) []
+
 -- a phase of a unit, as the phase step at a node runs it
 abbrev pub phase_at : ClearedSet → ℕ → ℕ → ℕ → ℕ → Phase
 phase_at c recipe node unit phase =
-    record { unit = resource_name c unit; name = phase_name c unit phase; handed = handed_at c recipe node }
+    record { unit = resource_name c unit; name = phase_name c unit phase; handed = handed_at c recipe node; reports = reports_at c recipe node }

@@ -6,7 +6,7 @@ use Rattle.batch_model.specs.Moves as Moves
 use Rattle.batch_model.specs.Plant.{Plant}
 use Rattle.batch_model.specs.Runs as Runs
 use Rattle.batch_verify.specs.ClearedSet.{ClearedSet}
-use Rattle.batch_engine.specs.Names.{resource_name, need_of, phase_name, recipe_name, roles_told, value_name, place_at, name_at, handed_at, phase_at}
+use Rattle.batch_engine.specs.Names.{resource_name, need_of, phase_name, recipe_name, roles_told, value_name, output_name, place_at, name_at, handed_at, phase_at}
 use Rattle.batch_engine.specs.declared.event.Event.{Event}
 use Rattle.batch_engine.specs.declared.line.Line.{Line}
 use Rattle.batch_engine.specs.declared.out.Out.{Out}
@@ -26,6 +26,7 @@ refusal_of c (Refusal.CommandNotAccepted state) = Events.command_not_accepted st
 refusal_of c Refusal.NoLivePhase = Events.no_live_phase
 refusal_of c (Refusal.ReportNotExpected state) = Events.report_not_expected state
 refusal_of c Refusal.BadOutput = Events.bad_output
+refusal_of c (Refusal.OutputLeftOut recipe node output) = Events.output_left_out (output_name c recipe node output)
 refusal_of c Refusal.BadBinding = Events.bad_binding
 refusal_of c Refusal.BadSize = Events.bad_size
 refusal_of c (Refusal.BadValue recipe value) = Events.bad_value (value_name c recipe value)

@@ -1,11 +1,12 @@
 //! Reports of phases.
-ghost use Rattle.std.specs.Prelude.{◌≡◌, ◌<◌, ℕ, List, Some, None, length};
+ghost use Rattle.std.specs.Prelude.{◌≡◌, ◌<◌, ◌&&◌, ℕ, List, Some, None, length, not};
+ghost use Rattle.batch_matrix.specs.Matrix.{same_report};
 ghost use Rattle.batch_model.specs.Events as Events;
 ghost use Rattle.batch_model.specs.Events.{batch_state_after};
-ghost use Rattle.batch_model.specs.Moves.{next};
+ghost use Rattle.batch_model.specs.Moves.{is_stopping, next};
 ghost use Rattle.batch_engine.specs.Answered.{IsAnswered};
 ghost use Rattle.batch_engine.specs.Marked.{AreNoted};
-ghost use Rattle.batch_engine.specs.Reports.{IsLiveIn, IsLivePhase};
+ghost use Rattle.batch_engine.specs.Reports.{IsLeftOutAt, IsLiveIn, IsLivePhase};
 ghost use Rattle.batch_engine.specs.View.{number_of, plant_of, setup};
 
 use crate::control::Control;
@@ -14,7 +15,7 @@ use crate::numbers::PhaseNumber;
 use crate::refusal::Refusal;
 use crate::reply::Reply;
 use batch_matrix::{Command, Report, State, after, after_report};
-use batch_recipe::are_outputs;
+use batch_recipe::{are_outputs, first_left_out, reports_at};
 use batch_text::Name;
 
 /// The state of a batch after a report: a fault takes it to Holding where its state accepts hold.
@@ -28,6 +29,13 @@ fn state_after(word: Report, state: State) -> State
         },
         _ => state,
     }
+}
+
+/// Whether a phase in this state has to report its outputs with the word: once it is done, unless it is stopping or aborting.
+fn owes_outputs(word: Report, state: State) -> bool
+    ensures { result ≡ (same_report word Report.Done && not (is_stopping state)) }
+{
+    matches!(word, Report::Done) && !matches!(state, State::Stopping | State::Aborting)
 }
 
 impl Control {
@@ -61,6 +69,20 @@ impl Control {
         Some((index, node, state))
     }
 
+    /// The first output that the live phase at a node of the batch at an index has to report and leaves out, by its number
+    /// among those that the phase step reports.
+    fn left_out(&self, index: usize, node: u16, state: State, report: &PhaseReport) -> Option<usize>
+        requires { index < length self.now.batches }
+        ensures { IsLeftOutAt self.now index node state report.now.word report.now.outputs.items result }
+    {
+        if !owes_outputs(report.word, state) {
+            return None;
+        }
+        let batch = &self.batches[index];
+        let chart = self.cleared.recipe(batch.recipe);
+        first_left_out(reports_at(chart, node), &report.outputs)
+    }
+
     /// A live phase of a unit tells something.
     pub(crate) fn report(&mut self, report: &PhaseReport, holders: &[u64]) -> Reply
         requires settled { next (setup self.old.cleared) (plant_of self.old) ≡ None }
@@ -78,6 +100,13 @@ impl Control {
         let outputs = &self.cleared.recipes()[usize::from(recipe)].outputs;
         if !are_outputs(outputs, &report.outputs) {
             return Reply::Refused(Refusal::BadOutput);
+        }
+        if let Some(output) = self.left_out(index, node, state, report) {
+            return Reply::Refused(Refusal::OutputLeftOut {
+                recipe,
+                node,
+                output,
+            });
         }
         let batch = &mut self.batches[index];
         let number = batch.number;

@@ -5,7 +5,7 @@ ghost use Rattle.batch_explain.specs.Explaining.{refusal_codes};
 use crate::explanation::Explanation;
 
 /// The explanations of all codes of refusals, in order of letter and number.
-pub fn explanations() -> [Explanation; 44]
+pub fn explanations() -> [Explanation; 45]
     ensures { map (λ explanation. explanation.code.now) result ≡ refusal_codes }
 {
     // By a reference, so that the proof holds one place and not each of its texts.
@@ -13,7 +13,7 @@ pub fn explanations() -> [Explanation; 44]
     *table
 }
 
-static EXPLANATIONS: [Explanation; 44] = [
+static EXPLANATIONS: [Explanation; 45] = [
     Explanation {
         code: "C1",
         meaning: "the recipes can bring batches into a circle of waiting",
@@ -41,12 +41,12 @@ static EXPLANATIONS: [Explanation; 44] = [
     },
     Explanation {
         code: "D5",
-        meaning: "a label, a unit, a role or a value is named that the document doesn't declare",
+        meaning: "a label, a unit, a role, a value or an output is named that the document doesn't declare",
         remedy: "declare it, or name what is declared; capitals count",
     },
     Explanation {
         code: "D6",
-        meaning: "a name is declared twice, or a phase is offered twice by one unit",
+        meaning: "a name is declared twice, a phase is offered twice by one unit, or a phase reports an output twice",
         remedy: "give one of the two another name",
     },
     Explanation {
@@ -123,6 +123,11 @@ static EXPLANATIONS: [Explanation; 44] = [
         code: "E12",
         meaning: "a role isn't bound or is bound twice, a name that is bound is no role, or a unit isn't of its role's class",
         remedy: "bind each role of the recipe once, as ROLE=UNIT, to a unit of its class",
+    },
+    Explanation {
+        code: "E13",
+        meaning: "the phase is done, and the report leaves out an output that it has to report",
+        remedy: "report `done` with a value for each output of the phase's `reports`; the name behind the code is the first left out",
     },
     Explanation {
         code: "F1",

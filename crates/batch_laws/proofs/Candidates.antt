@@ -179,13 +179,13 @@ module _ (setup : Setup) (rank : Ranking) (roles : List Declared) (units : List 
       (task_of (named_tree_with bound (units ∷ tables) (unit_below [] (unit_with bound o))) (unit_below [] (unit_with bound o)) a.name (0 ∷ []) w)
 
   abbrev labels_in : Work → List Name
-  labels_in w = elim w [ Follows c ↦ labels (diagram_of c) | Runs phase values ↦ [] ]
+  labels_in w = elim w [ Follows c ↦ labels (diagram_of c) | Runs phase values reports ↦ [] ]
 
   abbrev OnEach : Act → Option UnitChoice → Work → Type 0
   OnEach a o w =
       IsClear setup rank (part is_procedure (0 ∷ []) [] (root_of unbound a o w)) × WorkIsClear setup rank roles units tables (0 ∷ []) (resources_of a.needs.items) w
 
-  pub whole-for_all : (a : Act) (o : Option UnitChoice) (w : Work) → o ≡ None → elim w [ Follows c ↦ true | Runs phase values ↦ false ] ≡ true → AreNamed (labels_in w)
+  pub whole-for_all : (a : Act) (o : Option UnitChoice) (w : Work) → o ≡ None → elim w [ Follows c ↦ true | Runs phase values reports ↦ false ] ≡ true → AreNamed (labels_in w)
       → OnEach a o w → Always (λ bound. parts is_procedure (0 ∷ []) [] (root_of bound a o w))
   whole-for_all a None (Follows c) e f n h bound s = (
     root-clear setup rank (0 ∷ []) [] (record { place = 0 ∷ []; needs = a.needs.items }) a.name
@@ -194,7 +194,7 @@ module _ (setup : Setup) (rank : Ranking) (roles : List Declared) (units : List 
   )
   whole-for_all a o w e f n h bound s = grind arith
 
-  pub whole-by_itself : (a : Act) (o : Option UnitChoice) (w : Work) → o ≡ None → elim w [ Follows c ↦ true | Runs phase values ↦ false ] ≡ true → AreNamed (labels_in w)
+  pub whole-by_itself : (a : Act) (o : Option UnitChoice) (w : Work) → o ≡ None → elim w [ Follows c ↦ true | Runs phase values reports ↦ false ] ≡ true → AreNamed (labels_in w)
       → Always (λ bound. parts is_procedure (0 ∷ []) [] (root_of bound a o w)) → OnEach a o w
   whole-by_itself a None (Follows c) e f n h = (
     root-clear setup rank (0 ∷ []) [] (record { place = 0 ∷ []; needs = a.needs.items }) a.name

@@ -67,10 +67,10 @@ abbrev some_unit : Option UnitChoice → Bool
 some_unit o = elim o [ None ↦ false | Some unit ↦ true ]
 
 abbrev some_chart : Work → Bool
-some_chart w = elim w [ Follows c ↦ true | Runs phase values ↦ false ]
+some_chart w = elim w [ Follows c ↦ true | Runs phase values reports ↦ false ]
 
 abbrev no_par : Work → Bool
-no_par w = elim w [ Follows c ↦ has_no_par (diagram_of c) | Runs phase values ↦ true ]
+no_par w = elim w [ Follows c ↦ has_no_par (diagram_of c) | Runs phase values reports ↦ true ]
 
 module _ (bound : Binding) where
   phase_step-level : (acts : Name → Place → Tree) (unit name : Name) (p : Place) (o : Option UnitChoice) (needs : List Need) (w : Work)

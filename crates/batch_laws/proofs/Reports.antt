@@ -14,8 +14,8 @@ use Rattle.batch_recipe.specs.Tree.{Place, Phase, Step}
 use Rattle.batch_model.specs.Rest.{Rest, ready, asking, open_act, live, freeing, in_seq, in_par, in_loop, done, acts}
 use Rattle.batch_model.specs.Plant.{Formula, size_out_of_range, value_out_of_range, scaled, Recipe, Master, Setup, Batch, Plant, batch_at, in_batch}
 use Rattle.batch_model.specs.Moves.{Move, ended, next}
-use Rattle.batch_recipe.specs.Values.{with_values, are_outputs}
-use Rattle.batch_model.specs.Events.{Event, create, order, remove, report, Reply, reported, refused, unknown_recipe, bad_binding, binding, is_binding, bound_by, roles_told, creating_for, unknown_batch, no_live_phase, report_not_expected, bad_output, bad_size, bad_value, full, moves_pending, no_memory, is_full, creating, ordering, removing, LivePhase, live_in, live_phase, phase_after, batch_state_after, outputs_of, batch_reported, reporting, judged, react}
+use Rattle.batch_recipe.specs.Values.{with_values, are_outputs, left_out}
+use Rattle.batch_model.specs.Events.{Event, create, order, remove, report, Reply, reported, refused, unknown_recipe, bad_binding, binding, is_binding, bound_by, roles_told, creating_for, unknown_batch, no_live_phase, report_not_expected, bad_output, output_left_out, owed, accepting, bad_size, bad_value, full, moves_pending, no_memory, is_full, creating, ordering, removing, LivePhase, live_in, live_phase, phase_after, batch_state_after, outputs_of, batch_reported, reporting, judged, react}
 use Rattle.batch_model.specs.Runs.{Out, reply, Reacts}
 use Rattle.batch_model.specs.Records.{Active, active_after, ends_phase}
 use Rattle.batch_laws.proofs.Facts.{Standing, held_at, facts}
@@ -72,10 +72,10 @@ live_in-found b unit name (live p x t ∷ as') l e = go (bytes_eq x.unit unit &&
     same : (y z : LivePhase) → ◌≡◌ {A = Option LivePhase} (Some y) (Some z) → y ≡ z
     same y z q = cc
 
-    go : (u : Bool) → ◌≡◌ {A = Option LivePhase} (elim u [ true ↦ Some (record { batch = b; place = p.place; state = t }) | false ↦ live_in b unit name as' ]) (Some l)
+    go : (u : Bool) → ◌≡◌ {A = Option LivePhase} (elim u [ true ↦ Some (record { batch = b; place = p.place; phase = x; state = t }) | false ↦ live_in b unit name as' ]) (Some l)
         → (live_in b unit name as' ≡ Some l → IsFound b as' l) → IsFound b (live p x t ∷ as') l
     go true q f =
-        let w : record { batch = b; place = p.place; state = t } ≡ l = same (record { batch = b; place = p.place; state = t }) l q in
+        let w : record { batch = b; place = p.place; phase = x; state = t } ≡ l = same (record { batch = b; place = p.place; phase = x; state = t }) l q in
         subst (IsFound b (live p x t ∷ as')) w (p, x, inl refl, refl, refl)
     go false q f = found-later b (live p x t) as' l (f q)
 live_in-found b unit name (ready p w n ∷ as') l e = found-later b (ready p w n) as' l (live_in-found b unit name as' l e)
@@ -150,14 +150,14 @@ module _ (d : Setup) (rank : Ranking) (cleared : AreClearedDown d rank) (outs : 
           (subst (λ z. Answered d rank outs (reported unit name word b.number z (batch_state_after word b.state), in_batch b.number (batch_reported word outputs z e) s)) h.3
           (reported-step d rank outs s sd k b i unit name word outputs h.0 h.1 l.state h.2 e q))
 
+      accepted : (e : PhaseEnd) → after_report l.state word ≡ Some e → (o : Option Name) → Answered d rank outs (accepting s unit name word outputs l e o)
+      accepted e q (Some output) = kept-refused d rank outs s (output_left_out output) k
+      accepted e q None = at_place e q
+
       outs_of : (e : PhaseEnd) → after_report l.state word ≡ Some e → (t : Bool)
-          → Answered d rank outs
-          (elim t [
-            | false ↦ (refused bad_output, s)
-            | true ↦ (reported unit name word l.batch.number l.place (batch_state_after word l.batch.state), in_batch l.batch.number (batch_reported word outputs l.place e) s)
-          ])
+          → Answered d rank outs (elim t [ false ↦ (refused bad_output, s) | true ↦ accepting s unit name word outputs l e (left_out (owed l.state word l.phase.reports) outputs) ])
       outs_of e q false = kept-refused d rank outs s bad_output k
-      outs_of e q true = at_place e q
+      outs_of e q true = accepted e q (left_out (owed l.state word l.phase.reports) outputs)
 
       go : (o : Option PhaseEnd) → after_report l.state word ≡ o
           → Answered d rank outs
@@ -166,7 +166,7 @@ module _ (d : Setup) (rank : Ranking) (cleared : AreClearedDown d rank) (outs : 
             | Some e ↦
                 elim (are_outputs l.batch.recipe.outputs outputs) [
                   | false ↦ (refused bad_output, s)
-                  | true ↦ (reported unit name word l.batch.number l.place (batch_state_after word l.batch.state), in_batch l.batch.number (batch_reported word outputs l.place e) s)
+                  | true ↦ accepting s unit name word outputs l e (left_out (owed l.state word l.phase.reports) outputs)
                 ]
           ])
       go None q = kept-refused d rank outs s (report_not_expected l.state) k

@@ -82,7 +82,7 @@ module _ (setup : Setup) (rank : Ranking) (roles : List Declared) (units : List 
 
   abbrev pub WorkIsClear : Place → List Name → Work → Type 0
   WorkIsClear place asked (Follows drawn) = ChartIsClear (child place 0) asked (diagram_of drawn)
-  WorkIsClear place asked (Runs phase values) = ⊤
+  WorkIsClear place asked (Runs phase values reports) = ⊤
 
 -- each unit procedure that the procedure's chart names is clear on every unit on which it may run, by itself, and so is each
 -- node outside unit procedures

@@ -13,8 +13,8 @@ use Rattle.batch_model.specs.Lists.{Has}
 use Rattle.batch_model.specs.Rest.{reach, withdrawn}
 use Rattle.batch_model.specs.Plant.{Formula, size_out_of_range, value_out_of_range, scaled, Recipe, Setup, Batch, Share, Plant, batch_at, in_batch, Master}
 use Rattle.batch_model.specs.Moves.{Move, next}
-use Rattle.batch_recipe.specs.Values.{with_values, with_outputs_zero, are_outputs}
-use Rattle.batch_model.specs.Events.{Event, create, order, remove, report, ordered, removed, reported, refused, unknown_recipe, bad_binding, binding, is_binding, bound_by, creating_for, roles_told, unknown_batch, command_not_accepted, no_live_phase, report_not_expected, bad_output, full, not_idle, moves_pending, Answer, is_full, new_batch, with_batch, creating, reset, ends_asks, commanded, lines_under, ordering, without_batch, removing, LivePhase, live_phase, phase_after, batch_state_after, outputs_of, batch_reported, reporting, judged, react}
+use Rattle.batch_recipe.specs.Values.{with_values, with_outputs_zero, are_outputs, left_out}
+use Rattle.batch_model.specs.Events.{Event, create, order, remove, report, ordered, removed, reported, refused, unknown_recipe, bad_binding, binding, is_binding, bound_by, creating_for, roles_told, unknown_batch, command_not_accepted, no_live_phase, report_not_expected, bad_output, output_left_out, owed, accepting, full, not_idle, moves_pending, Answer, is_full, new_batch, with_batch, creating, reset, ends_asks, commanded, lines_under, ordering, without_batch, removing, LivePhase, live_phase, phase_after, batch_state_after, outputs_of, batch_reported, reporting, judged, react}
 use Rattle.batch_model.specs.Standing.{IsControl, IsStandingBatch, IsStanding}
 use Rattle.batch_model.proofs.Members.{Each-append, Each-filter, find-Has}
 use Rattle.batch_machine.proofs.Advancing.{reach-advanced, withdrawn-advanced}
@@ -121,16 +121,14 @@ module _ (c : Setup) (s : Plant) (k : IsStanding c s) where
   reporting-stands : (unit name : Name) (word : Report) (outputs : ValueList) (l : LivePhase) → Stands (reporting s unit name word outputs l)
   reporting-stands unit name word outputs l = go (after_report l.state word)
     where
+      accepted : (e : PhaseEnd) (o : Option Name) → Stands (accepting s unit name word outputs l e o)
+      accepted e (Some output) = k
+      accepted e None = in_batch-stands l.batch.number (batch_reported word outputs l.place e) s.line (reported-stands c word outputs l.place e) (λ b. refl)
+
       taken : (e : PhaseEnd) (t : Bool) → Stands
-          (elim t [
-            | false ↦ (refused bad_output, s)
-            | true ↦ (
-              reported unit name word l.batch.number l.place (batch_state_after word l.batch.state),
-              in_batch l.batch.number (batch_reported word outputs l.place e) s,
-            )
-          ])
+          (elim t [ false ↦ (refused bad_output, s) | true ↦ accepting s unit name word outputs l e (left_out (owed l.state word l.phase.reports) outputs) ])
       taken e false = k
-      taken e true = in_batch-stands l.batch.number (batch_reported word outputs l.place e) s.line (reported-stands c word outputs l.place e) (λ b. refl)
+      taken e true = accepted e (left_out (owed l.state word l.phase.reports) outputs)
 
       go : (o : Option PhaseEnd) → Stands
           (elim o [
@@ -138,10 +136,7 @@ module _ (c : Setup) (s : Plant) (k : IsStanding c s) where
             | Some e ↦
                 elim (are_outputs l.batch.recipe.outputs outputs) [
                   | false ↦ (refused bad_output, s)
-                  | true ↦ (
-                    reported unit name word l.batch.number l.place (batch_state_after word l.batch.state),
-                    in_batch l.batch.number (batch_reported word outputs l.place e) s,
-                  )
+                  | true ↦ accepting s unit name word outputs l e (left_out (owed l.state word l.phase.reports) outputs)
                 ]
           ])
       go None = k

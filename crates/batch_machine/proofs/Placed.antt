@@ -45,7 +45,7 @@ module _ (acts : Name → Place → Tree) (placed : ArePlacedActs acts) where
 
   task_of-IsPlacedBelow : (unit name : Name) (p : Place) (w : Work) → IsPlacedBelow p (task_of acts unit name p w)
   task_of-IsPlacedBelow unit name p (Follows c) = expanded-IsPlaced (child p 0) (diagram_of c)
-  task_of-IsPlacedBelow unit name p (Runs phase values) = tt
+  task_of-IsPlacedBelow unit name p (Runs phase values reports) = tt
 
 module _ (bound : Binding) where
   pub act_tree-IsPlaced : (acts : Name → Name → Place → Tree) → ((unit : Name) → ArePlacedActs (acts unit)) → (unit : Name) (a : Act) (p : Place)

@@ -1,15 +1,18 @@
 -- surface: the laws of the machine's steps.
 use Rattle.std.specs.Prelude.{◌≡◌, ◌⊎◌, ◌<◌, ◌≤◌, ℕ, List, [], ◌∷◌, ◌++◌, length, map, find, true, false, Some, None, ⊤}
+use Rattle.std.specs.List.{list_all}
+use Rattle.batch_matrix.specs.declared.report.Report.{Report}
 use Rattle.batch_recipe.specs.Conditions.{Name, ValueList, same_name}
 use Rattle.batch_recipe.specs.Expanding.{Binding}
 use Rattle.batch_recipe.specs.Procedure.{bound_tree}
 use Rattle.batch_recipe.specs.Tree.{Place, Tree}
+use Rattle.batch_recipe.specs.Values.{have_output}
 use Rattle.batch_recipe.specs.declared.acts.Acts.{Acts}
 use Rattle.batch_model.specs.Lists.{Has, Each}
 use Rattle.batch_model.specs.Rest.{Rest, acts, reach, advance, withdrawn, place_of}
 use Rattle.batch_model.specs.Plant.{Master, Setup, Plant, opening, held_in, phase_states}
-use Rattle.batch_model.specs.Moves.{Move, batch_of, place_of_move, is_earlier, possible, next, after}
-use Rattle.batch_model.specs.Events.{Event, create, Reply, refused, Refusal, bad_binding, full, moves_pending, no_memory, is_binding}
+use Rattle.batch_model.specs.Moves.{Move, batch_of, place_of_move, is_earlier, is_stopping, possible, next, after}
+use Rattle.batch_model.specs.Events.{Event, create, report, Reply, refused, Refusal, output_left_out, bad_binding, full, LivePhase, live_phase, moves_pending, no_memory, is_binding}
 use Rattle.batch_model.specs.Runs.{Out, reply, move, Reacts, Leads, work_left, settling, run}
 use Rattle.batch_model.specs.Records.{holders_after, holders_told, waiters_after, waiters_told, active_after, active_told, state_after, state_told}
 use Rattle.batch_model.specs.Settled.{IsAdvanced}
@@ -128,10 +131,27 @@ BindsBadly setup (create name size pairs) =
     × (is_binding master.roles pairs ≡ false)
 BindsBadly setup _ = ⊥
 
--- moves pend only where there is a next one, a binding is bad only where the recipe's roles aren't bound by it, the plant is full
--- only at a limit, and memory is wanted by a create alone
+-- the phase is live and done, and neither stopping nor aborting; it reports the output, with which these have no value, and with all that it reports before they have
+pub record IsFirstLeftOut (plant : Plant) (unit name : Name) (word : Report) (outputs : ValueList) (output : Name) : Type 0 where
+  pub found : LivePhase
+  pub is_live : live_phase plant.batches unit name ≡ Some found
+  pub is_done : word ≡ Report.Done
+  pub goes_on : is_stopping found.state ≡ false
+  pub earlier : List Name
+  pub later : List Name
+  pub reports : found.phase.reports ≡ earlier ++ output ∷ later
+  pub is_missing : have_output outputs output ≡ false
+  pub is_first : list_all (have_output outputs) earlier ≡ true
+
+abbrev pub LeavesOut : Plant → Event → Name → Type 0
+LeavesOut plant (report unit name word outputs) output = IsFirstLeftOut plant unit name word outputs output
+LeavesOut plant _ output = ⊥
+
+-- moves pend only where there is a next one, an output is told that is the first left out, a binding is bad only where the recipe's
+-- roles aren't bound by it, the plant is full only at a limit, and memory is wanted by a create alone
 abbrev pub HasCause : Setup → Plant → Event → Refusal → Type 0
 HasCause setup plant event moves_pending = next setup plant ≡ None → ⊥
+HasCause setup plant event (output_left_out output) = LeavesOut plant event output
 HasCause setup plant event bad_binding = BindsBadly setup event
 HasCause setup plant event full = (setup.batch_limit ≤ length plant.batches) ⊎ (LAST_NUMBER < plant.next_number)
 HasCause setup plant event no_memory = IsCreate event

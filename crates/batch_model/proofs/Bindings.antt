@@ -106,7 +106,7 @@ module _ (f g : Name → Place → Tree) (same : (name : Name) (p : Place) → s
 
   task-same-runs : (unit other name : Name) (p : Place) (w : Work) → task_surely_runs (task_of f unit name p w) ≡ task_surely_runs (task_of g other name p w)
   task-same-runs unit other name p (Follows c) = chart-same-runs (child p 0) (diagram_of c)
-  task-same-runs unit other name p (Runs phase values) = refl
+  task-same-runs unit other name p (Runs phase values reports) = refl
 
 pub label-same-runs : (bound other : Binding) (tables : List (List Act)) (unit second name : Name) (p : Place)
     → surely_runs (named_tree_with bound tables unit name p) ≡ surely_runs (named_tree_with other tables second name p)

@@ -11,10 +11,10 @@ use Rattle.batch_matrix.specs.declared.report.PhaseEnd.{PhaseEnd}
 use Rattle.batch_matrix.specs.declared.report.PhaseEnd.TheVariants.{Ended, Now, Same}
 use Rattle.batch_matrix.specs.Matrix.{same_state, same_report, accepts, target, after_report}
 use Rattle.batch_recipe.specs.Conditions.{Name, ValueList, same_name}
-use Rattle.batch_recipe.specs.Values.{with_values, with_outputs_zero, are_outputs}
+use Rattle.batch_recipe.specs.Values.{with_values, with_outputs_zero, are_outputs, left_out}
 use Rattle.batch_recipe.specs.Expanding.{Binding}
 use Rattle.batch_recipe.specs.WellFormed.{is_among, are_distinct}
-use Rattle.batch_recipe.specs.Tree.{Place}
+use Rattle.batch_recipe.specs.Tree.{Place, Phase}
 use Rattle.batch_model.specs.Rest.{Rest, live, acts, reach, withdrawn}
 use Rattle.batch_model.specs.Plant.{Formula, size_out_of_range, value_out_of_range, scaled, Recipe, Role, Master, Setup, Batch, Share, Plant, batch_at, in_batch, in_act}
 use Rattle.batch_model.specs.Moves.{is_stopping, ended, next}
@@ -35,6 +35,8 @@ pub data Refusal : Type 0 where
   no_live_phase : Refusal
   report_not_expected : State → Refusal
   bad_output : Refusal
+  -- the first output that was left out
+  output_left_out : Name → Refusal
   bad_binding : Refusal
   bad_size : Refusal
   bad_value : Name → Refusal
@@ -145,17 +147,18 @@ removing plant batch =
 
 -- Reports
 
--- a live phase: the batch that runs it, its place and its state
+-- a live phase: the batch that runs it, its place, the phase and its state
 pub record LivePhase : Type 0 where
   pub batch : Batch
   pub place : Place
+  pub phase : Phase
   pub state : State
 
 abbrev pub live_in : Batch → Name → Name → List Rest → Option LivePhase
 live_in batch unit name [] = None
 live_in batch unit name (live step phase state ∷ more) =
     elim (same_name phase.unit unit && same_name phase.name name)
-    [ true ↦ Some (record { batch = batch; place = step.place; state = state }) | false ↦ live_in batch unit name more ]
+    [ true ↦ Some (record { batch = batch; place = step.place; phase = phase; state = state }) | false ↦ live_in batch unit name more ]
 live_in batch unit name (_ ∷ more) = live_in batch unit name more
 
 abbrev pub live_phase : List Batch → Name → Name → Option LivePhase
@@ -182,6 +185,18 @@ batch_reported word outputs place phase_end batch =
     in_act place (phase_after phase_end)
     (record batch { values = with_values outputs batch.values; state = batch_state_after word batch.state })
 
+-- the outputs among these that a phase in this state has to report with the word: all once it is done, unless it is stopping or aborting
+abbrev pub owed : State → Report → List Name → List Name
+owed now word names = elim (same_report word Report.Done && not (is_stopping now)) [ true ↦ names | false ↦ [] ]
+
+-- what an expected report of outputs that may be set comes to, where this output is the first that it leaves out
+abbrev pub accepting : Plant → Name → Name → Report → ValueList → LivePhase → PhaseEnd → Option Name → Answer
+accepting plant unit name word outputs found phase_end (Some output) = (refused (output_left_out output), plant)
+accepting plant unit name word outputs found phase_end None = (
+  reported unit name word found.batch.number found.place (batch_state_after word found.batch.state),
+  in_batch found.batch.number (batch_reported word outputs found.place phase_end) plant,
+)
+
 abbrev pub reporting : Plant → Name → Name → Report → ValueList → LivePhase → Answer
 reporting plant unit name word outputs found =
     elim (after_report found.state word) [
@@ -189,10 +204,7 @@ reporting plant unit name word outputs found =
       | Some phase_end ↦
           elim (are_outputs found.batch.recipe.outputs outputs) [
             | false ↦ (refused bad_output, plant)
-            | true ↦ (
-              reported unit name word found.batch.number found.place (batch_state_after word found.batch.state),
-              in_batch found.batch.number (batch_reported word outputs found.place phase_end) plant,
-            )
+            | true ↦ accepting plant unit name word outputs found phase_end (left_out (owed found.state word found.phase.reports) outputs)
           ]
     ]
 

@@ -41,7 +41,7 @@ abbrev mutual
 
 -- the labels of an act's chart
 abbrev pub labels_of : Act → List Name
-labels_of act = elim act.work [ Follows chart ↦ labels (diagram_of chart) | Runs phase values ↦ [] ]
+labels_of act = elim act.work [ Follows chart ↦ labels (diagram_of chart) | Runs phase values reports ↦ [] ]
 
 -- the role of a unit procedure, where it has one
 abbrev pub role_of : Act → Option Name

@@ -10,9 +10,9 @@ use Rattle.batch_recipe.specs.Nodes.{Node, child, nodes}
 use Rattle.batch_recipe.specs.Procedure.{procedure_nodes, procedure_tree}
 use Rattle.batch_recipe.specs.Tree as tree
 use Rattle.batch_recipe.specs.Tree.{Place, Tree, Task, act, skip}
-use Rattle.batch_recipe.specs.WellFormed.{act_names, are_distinct, are_roles, has_no_par, is_among, is_chart, is_well_formed, is_work, value_names}
+use Rattle.batch_recipe.specs.WellFormed.{act_names, are_distinct, are_reports, are_roles, has_no_par, is_among, is_chart, is_well_formed, is_work, reports_with, value_names}
 use Rattle.batch_recipe.specs.declared.act.Act.{Act}
-use Rattle.batch_recipe.specs.declared.act.TheConstants.{MAX_VALUES}
+use Rattle.batch_recipe.specs.declared.act.TheConstants.{MAX_REPORTS, MAX_VALUES}
 use Rattle.batch_recipe.specs.declared.act.UnitChoice.{UnitChoice}
 use Rattle.batch_recipe.specs.declared.act.UnitChoice.TheVariants.{Unit, Role}
 use Rattle.batch_recipe.specs.declared.act.Work.{Work}
@@ -24,10 +24,10 @@ use Rattle.batch_recipe.specs.declared.role.Role.{Role as RecipeRole}
 use Rattle.batch_reader.specs.SoundRecipe.{IsSoundRecipe}
 use Rattle.batch_recipe.specs.declared.need.Need.{Need}
 
--- a chart, or a phase and the names of the values that it is handed
+-- a chart, or a phase, the names of the values that it is handed, and of the outputs that it reports
 pub data WorkForm : Type 0 where
   follows : Diagram → WorkForm
-  runs : Name → List Name → WorkForm
+  runs : Name → List Name → List Name → WorkForm
 
 pub record ActForm : Type 0 where
   pub name : Name
@@ -37,7 +37,7 @@ pub record ActForm : Type 0 where
 
 abbrev pub work_form : Work → WorkForm
 work_form (Follows c) = follows (diagram_of c)
-work_form (Runs phase handed) = runs phase handed.items
+work_form (Runs phase handed reports) = runs phase handed.items reports.items
 
 abbrev pub form : Act → ActForm
 form a = record { name = a.name; unit = a.unit; needs = a.needs.items; work = work_form a.work }
@@ -53,19 +53,19 @@ names_form (x ∷ xs) = ap (λ ns. x.name ∷ ns) (names_form xs)
 
 abbrev is_form_work : List Name → List Name → ActForm → Bool
 is_form_work labels values f =
-    elim f.work [ follows d ↦ is_chart labels values 32 d | runs phase handed ↦ nat_le (length handed) MAX_VALUES && list_all (is_among values) handed ]
+    elim f.work [ follows d ↦ is_chart labels values 32 d | runs phase handed reported ↦ nat_le (length handed) MAX_VALUES && list_all (is_among values) handed ]
 
 abbrev form_no_par : ActForm → Bool
-form_no_par f = elim f.work [ follows d ↦ has_no_par d | runs phase handed ↦ true ]
+form_no_par f = elim f.work [ follows d ↦ has_no_par d | runs phase handed reported ↦ true ]
 
 work_case : (labels values : List Name) (w : Work)
     → ◌≡◌ {A = Bool}
-    (elim w [ Follows c ↦ is_chart labels values 32 (diagram_of c) | Runs phase handed ↦ nat_le (length handed.items) MAX_VALUES && list_all (is_among values) handed.items ])
-    (elim (work_form w) [ follows d ↦ is_chart labels values 32 d | runs phase handed ↦ nat_le (length handed) MAX_VALUES && list_all (is_among values) handed ])
+    (elim w [ Follows c ↦ is_chart labels values 32 (diagram_of c) | Runs phase handed reports ↦ nat_le (length handed.items) MAX_VALUES && list_all (is_among values) handed.items ])
+    (elim (work_form w) [ follows d ↦ is_chart labels values 32 d | runs phase handed reported ↦ nat_le (length handed) MAX_VALUES && list_all (is_among values) handed ])
 work_case labels values w = grind arith
 
 par_case : (w : Work)
-    → ◌≡◌ {A = Bool} (elim w [ Follows c ↦ has_no_par (diagram_of c) | Runs phase handed ↦ true ]) (elim (work_form w) [ follows d ↦ has_no_par d | runs phase handed ↦ true ])
+    → ◌≡◌ {A = Bool} (elim w [ Follows c ↦ has_no_par (diagram_of c) | Runs phase handed reports ↦ true ]) (elim (work_form w) [ follows d ↦ has_no_par d | runs phase handed reported ↦ true ])
 par_case w = grind arith
 
 and_same : {a b c d : Bool} → a ≡ b → c ≡ d → (a && c) ≡ (b && d)
@@ -101,11 +101,32 @@ are_form_roles roles us = are_distinct (map (λ role. role.name) roles) && list_
 roles_form : (roles : List RecipeRole) (a : Acts) → are_roles roles a ≡ are_form_roles roles (map form a.unit_procedures.items)
 roles_form roles a = grind (arith, and_same, all_form)
 
+-- ---- outputs that are reported
+
+abbrev form_reports : ActForm → List Name
+form_reports f = elim f.work [ follows d ↦ [] | runs phase handed reported ↦ reported ]
+
+abbrev are_form_reports : List Name → List ActForm → Bool
+are_form_reports outputs ss =
+    list_all (λ s. nat_le (length (form_reports s)) MAX_REPORTS) ss
+    && (list_all (λ s. are_distinct (form_reports s)) ss && list_all (λ s. list_all (is_among outputs) (form_reports s)) ss)
+
+reports_case : (w : Work) → ◌≡◌ {A = List Name} (reports_with w) (elim (work_form w) [ follows d ↦ [] | runs phase handed reported ↦ reported ])
+reports_case (Follows c) = refl
+reports_case (Runs phase handed reports) = refl
+
+reports_form : (outputs : List Name) (a : Acts) → are_reports outputs a ≡ are_form_reports outputs (map form a.phases.items)
+reports_form outputs a =
+    let steps : List Act = a.phases.items in
+    and_same (all_form _ (λ s. nat_le (length (form_reports s)) MAX_REPORTS) (λ s. ap (λ names. nat_le (length names) MAX_REPORTS) (reports_case s.work)) steps)
+    (and_same (all_form _ (λ s. are_distinct (form_reports s)) (λ s. ap are_distinct (reports_case s.work)) steps)
+    (all_form _ (λ s. list_all (is_among outputs) (form_reports s)) (λ s. ap (list_all (is_among outputs)) (reports_case s.work)) steps))
+
 -- ---- the expanded tree
 
 abbrev form_task : (Name → Place → Tree) → Name → Name → Place → WorkForm → Task
 form_task acts unit name p (follows d) = tree.follows name (expanded acts (child p 0) d)
-form_task acts unit name p (runs phase handed) = tree.runs (record { unit = unit; name = phase; handed = handed })
+form_task acts unit name p (runs phase handed reported) = tree.runs (record { unit = unit; name = phase; handed = handed; reports = reported })
 
 abbrev form_act : (Name → Name → Place → Tree) → Name → ActForm → Place → Tree
 form_act acts unit f p =
@@ -161,6 +182,9 @@ module _ (a b : Acts) (procedure : form a.procedure ≡ form b.procedure) (unit_
   same_roles : (roles : List RecipeRole) → are_roles roles a ≡ are_roles roles b
   same_roles roles = roles_form roles a ∙ ap (are_form_roles roles) unit_procedures ∙ sym (roles_form roles b)
 
+  same_reports : (outputs : List Name) → are_reports outputs a ≡ are_reports outputs b
+  same_reports outputs = reports_form outputs a ∙ ap (are_form_reports outputs) phases ∙ sym (reports_form outputs b)
+
   same_nodes : procedure_nodes a ≡ procedure_nodes b
   same_nodes =
       ap (nodes (0 ∷ []) []) (procedure_form a ∙ (λ i. whole_tree (procedure i) (unit_procedures i) (operations i) (phases i)) ∙ sym (procedure_form b))
@@ -192,5 +216,6 @@ sound_along is ps js qs os rs roles roles2 a b ei ep eo er procedure unit_proced
       few_phases = rw (← ls) h.few_phases;
       well_formed = sym (same_well_formed a b procedure unit_procedures operations phases (value_names js qs rs)) ∙ ap (λ names. is_well_formed names a) (sym values) ∙ h.well_formed;
       own_roles = sym (same_roles a b procedure unit_procedures operations phases roles2) ∙ ap (λ rs. are_roles rs a) (sym er) ∙ h.own_roles;
+      own_reports = sym (same_reports a b procedure unit_procedures operations phases rs) ∙ ap (λ names. are_reports names a) (sym eo) ∙ h.own_reports;
       small = subst (λ (ns : List Node). length ns ≤ MAX_NODES) (same_nodes a b procedure unit_procedures operations phases) h.small;
     }

@@ -1,5 +1,5 @@
 -- The tables of a recipe stand for one form of their parts at most.
-use Rattle.std.proofs.Common.{arith, ◌≡◌, ℕ, List, map, codes, sym, ap, ◌∙◌}
+use Rattle.std.proofs.Common.{arith, ◌≡◌, ℕ, List, map, codes, sym, ap, ap₂, ◌∙◌}
 use Rattle.std.proofs.lemmas.List.{map-id}
 use Rattle.toml.specs.Data.{Members}
 use Rattle.batch_recipe.specs.Conditions.{Name}
@@ -39,8 +39,9 @@ same_phase ms a b h k =
     let name : a.name ≡ b.name = HasLabel_unique _ ms a.name b.name h.name k.name in
     let phase : h.phase ≡ k.phase = HasNameOr_unique _ ms b.name h.phase k.phase (rw name at h.runs) k.runs in
     let values : h.handed.items ≡ k.handed.items = HasFewNames_unique _ ms _ h.handed.items k.handed.items h.values k.values in
+    let reports : h.reported.items ≡ k.reported.items = HasFewNames_unique _ ms _ h.reported.items k.reported.items h.reports k.reports in
     same_form a b name (h.no_unit ∙ sym k.no_unit) (same_needs ms a b h.needs k.needs)
-    (ap work_form h.work ∙ ap (λ p. runs p h.handed.items) phase ∙ ap (runs k.phase) values ∙ sym (ap work_form k.work))
+    (ap work_form h.work ∙ ap (λ p. runs p h.handed.items h.reported.items) phase ∙ ap₂ (runs k.phase) values reports ∙ sym (ap work_form k.work))
 
 -- of the procedure's table, which doesn't have its name
 same_course : (ms : Members) (a b : Act) → IsProcedureTable ms a → IsProcedureTable ms b → (a.unit ≡ b.unit) × (a.needs.items ≡ b.needs.items) × (work_form a.work ≡ work_form b.work)

@@ -17,7 +17,7 @@ use Rattle.batch_recipe.specs.declared.outline_fault.OutlineFault.TheVariants as
 use Rattle.batch_recipe.specs.declared.quantity.Quantity.{Quantity}
 use Rattle.batch_recipe.specs.declared.recipe.Recipe.{Recipe}
 use Rattle.batch_recipe.specs.declared.recipe.TheConstants.{MAX_NODES}
-use Rattle.batch_reader.specs.Faults.{IsNamingFault, IsRoleFault, IsToldIn, IsWrong, Tells}
+use Rattle.batch_reader.specs.Faults.{IsNamingFault, IsReportFault, IsRoleFault, IsToldIn, IsWrong, Tells}
 use Rattle.batch_reader.specs.PartFaults.{AreDistinct, FailsFirst, HasUndeclaredName, IsPartFault, OffersTwice, Parts}
 use Rattle.batch_reader.specs.SoundTables.{outline_fault}
 use Rattle.batch_reader.specs.declared.fault.EntryFault.{EntryFault}
@@ -98,7 +98,7 @@ naming_fault p kind entry WrongKind h = h
 naming_fault p kind entry UnknownKey h = h
 naming_fault p kind entry Undeclared h = inl h
 naming_fault p kind entry Duplicate (inl h) = inl h
-naming_fault p kind entry Duplicate (inr h) = inr (inr h)
+naming_fault p kind entry Duplicate (inr h) = inr (inr (inl h))
 naming_fault p kind entry OutOfLimit h = absurd h
 naming_fault p kind entry (Chart offset) h = h
 
@@ -106,10 +106,19 @@ pub role_fault : (p : Parts) (kind : TableKind) (entry : ℕ) (wrong : EntryFaul
 role_fault p kind entry MissingKey h = h
 role_fault p kind entry WrongKind h = h
 role_fault p kind entry UnknownKey h = h
-role_fault p kind entry Undeclared h = inr h
+role_fault p kind entry Undeclared h = inr (inl h)
 role_fault p kind entry Duplicate h = inr (inl h)
 role_fault p kind entry OutOfLimit h = absurd h
 role_fault p kind entry (Chart offset) h = h
+
+pub report_fault : (p : Parts) (kind : TableKind) (entry : ℕ) (wrong : EntryFault) → IsReportFault p.outputs p.acts kind entry wrong → IsPartFault p kind entry wrong
+report_fault p kind entry MissingKey h = h
+report_fault p kind entry WrongKind h = h
+report_fault p kind entry UnknownKey h = h
+report_fault p kind entry Undeclared h = inr (inr h)
+report_fault p kind entry Duplicate h = inr (inr (inr h))
+report_fault p kind entry OutOfLimit h = absurd h
+report_fault p kind entry (Chart offset) h = h
 
 -- the expanded tree is too large
 pub large_told : (p : Parts) (fault : OutlineFault) → (IsErrOf {T = Recipe} (Err fault) outline.TooMany → MAX_NODES < length (procedure_nodes p.acts))

@@ -1,5 +1,5 @@
 -- What the tables of a recipe tell of its acts and names by themselves.
-use Rattle.std.proofs.Common.{◌≡◌, ℕ, Bool, true, false, not, ◌&&◌, List, [], ◌∷◌, ◌++◌, map, Some, None, codes, refl, sym, ap, ◌∙◌, subst}
+use Rattle.std.proofs.Common.{arith, ◌≡◌, ◌≤◌, nat_le, length, ℕ, Bool, true, false, not, ◌&&◌, List, [], ◌∷◌, ◌++◌, map, Some, None, codes, refl, sym, ap, ◌∙◌, subst}
 use Rattle.std.proofs.lemmas.List.Elements.{All-nil, All-cons}
 use Rattle.std.proofs.lemmas.List.Folds.{list_all-append, list_all-map}
 use Rattle.std.specs.List.{list_all, All}
@@ -7,8 +7,9 @@ use Rattle.toml.specs.Data.{Members, Items, no_items, item}
 use Rattle.batch_grammar.proofs.ChartForms.{is_formed}
 use Rattle.batch_recipe.specs.Conditions.{Name}
 use Rattle.batch_recipe.specs.Diagram.{diagram_of}
-use Rattle.batch_recipe.specs.WellFormed.{is_among, chart_words, have_no_chart_word, value_names, has_unit, has_chart, are_kinds, follows_no_par, has_free_names}
+use Rattle.batch_recipe.specs.WellFormed.{is_among, chart_words, have_no_chart_word, value_names, has_unit, has_chart, are_kinds, follows_no_par, has_free_names, reports_few, reports_with}
 use Rattle.batch_recipe.specs.declared.act.Act.{Act}
+use Rattle.batch_recipe.specs.declared.act.TheConstants.{MAX_REPORTS}
 use Rattle.batch_recipe.specs.declared.act.UnitChoice.{UnitChoice}
 use Rattle.batch_recipe.specs.declared.act.Work.TheVariants.{Follows, Runs}
 use Rattle.batch_recipe.specs.declared.acts.Acts.{Acts}
@@ -54,10 +55,10 @@ unit_of_some : (a : Act) (choice : UnitChoice) → a.unit ≡ Some choice → ha
 unit_of_some a choice some = ap (λ u. elim u [ None ↦ false | Some own ↦ true ]) some
 
 chart_of_course : (ms : Members) (a : Act) → HasCourse ms a → has_chart a ≡ true
-chart_of_course ms a h = ap (λ w. elim w [ Follows c ↦ true | Runs phase values ↦ false ]) h.follows
+chart_of_course ms a h = ap (λ w. elim w [ Follows c ↦ true | Runs phase values reports ↦ false ]) h.follows
 
 no_chart_of_phase : (ms : Members) (a : Act) → IsPhaseTable ms a → has_chart a ≡ false
-no_chart_of_phase ms a h = ap (λ w. elim w [ Follows c ↦ true | Runs phase values ↦ false ]) h.work
+no_chart_of_phase ms a h = ap (λ w. elim w [ Follows c ↦ true | Runs phase values reports ↦ false ]) h.work
 
 pub kinds_of_tables : (ms : Members) (acts : Acts) → HasActs ms acts → are_kinds acts ≡ true
 kinds_of_tables ms acts h =
@@ -83,6 +84,12 @@ formed_course ms a h = subst IsFormedWork (sym h.follows) (is_formed h.text.text
 formed_phase : (ms : Members) (a : Act) → IsPhaseTable ms a → IsFormedWork a.work
 formed_phase ms a h = subst IsFormedWork (sym h.work) h.values.few
 
+few : (m n : ℕ) → m ≤ n → nat_le m n ≡ true
+few m n h = grind arith
+
+few_reports : (ms : Members) (a : Act) → IsPhaseTable ms a → reports_few a ≡ true
+few_reports ms a h = ap (λ w. nat_le (length (reports_with w)) MAX_REPORTS) h.work ∙ few (length h.reported.items) MAX_REPORTS h.reports.few
+
 pub formed_of_tables : (ms : Members) (acts : Acts) → HasActs ms acts → AreFormed acts
 formed_of_tables ms acts h = record {
   procedure = formed_course h.procedure.members acts.procedure h.procedure.stands_for.course;
@@ -90,6 +97,7 @@ formed_of_tables ms acts h = record {
   no_par = each_table_true IsUnitProcedureTable follows_no_par (λ ns a t. t.no_par) _ ms _ h.unit_procedures;
   operations = each_table IsOperationTable (λ a. IsFormedWork a.work) (λ ns a t. formed_course ns a t.course) _ ms _ h.operations;
   phases = each_table IsPhaseTable (λ a. IsFormedWork a.work) formed_phase _ ms _ h.phases;
+  few_reports = each_table_true IsPhaseTable reports_few few_reports _ ms _ h.phases;
 }
 
 -- ---- names that are no words of charts

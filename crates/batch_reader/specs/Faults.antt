@@ -13,7 +13,7 @@ use Rattle.batch_grammar.specs.ChartAnswer.{IsRead}
 use Rattle.batch_grammar.specs.declared.reading.TheConstants.{MAX_CHART_LEN}
 use Rattle.batch_reader.specs.Entries.{HasText}
 use Rattle.batch_reader.specs.NeedText.{is_star}
-use Rattle.batch_reader.specs.PartFaults.{HasActTwice, HasRoleTwice, HasUndeclaredName, HasUndeclaredRole, HasValueTwice}
+use Rattle.batch_reader.specs.PartFaults.{HasActTwice, HasRoleTwice, HasUndeclaredName, HasUndeclaredRole, HasReportTwice, HasUndeclaredReport, HasValueTwice}
 use Rattle.batch_reader.specs.TableFaults.{count_items, HasItem, IsNoNeedCut, HasTooManyUnits, IsNoNeed, IsNeedOutOfLimits, IsTableFault}
 use Rattle.batch_reader.specs.declared.fault.EntryFault.{EntryFault}
 use Rattle.batch_reader.specs.declared.fault.EntryFault.TheVariants.{MissingKey, WrongKind, Undeclared, Duplicate, OutOfLimit}
@@ -112,6 +112,12 @@ abbrev pub IsRoleFault : List Role → Acts → TableKind → ℕ → EntryFault
 IsRoleFault roles acts kind entry Duplicate = HasRoleTwice roles kind entry
 IsRoleFault roles acts kind entry Undeclared = HasUndeclaredRole roles acts kind entry
 IsRoleFault roles acts kind entry _ = ⊥
+
+-- this is wrong among the outputs that phase steps report
+abbrev pub IsReportFault : List Name → Acts → TableKind → ℕ → EntryFault → Type 0
+IsReportFault outputs acts kind entry Duplicate = HasReportTwice acts kind entry
+IsReportFault outputs acts kind entry Undeclared = HasUndeclaredReport outputs acts kind entry
+IsReportFault outputs acts kind entry _ = ⊥
 
 -- what is wrong with a key that has no value of its kind
 abbrev pub missing_or_wrong : Option Data → EntryFault

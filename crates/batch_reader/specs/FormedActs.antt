@@ -3,7 +3,7 @@ use Rattle.std.specs.Prelude.{◌≡◌, ◌≤◌, true, List, length, All}
 use Rattle.std.specs.List.{list_all}
 use Rattle.batch_grammar.specs.ChartForm.{IsFormed}
 use Rattle.batch_recipe.specs.Diagram.{diagram_of}
-use Rattle.batch_recipe.specs.WellFormed.{follows_no_par}
+use Rattle.batch_recipe.specs.WellFormed.{follows_no_par, reports_few}
 use Rattle.batch_recipe.specs.declared.act.Act.{Act}
 use Rattle.batch_recipe.specs.declared.act.TheConstants.{MAX_VALUES}
 use Rattle.batch_recipe.specs.declared.act.Work.{Work}
@@ -13,15 +13,16 @@ use Rattle.batch_recipe.specs.declared.acts.Acts.{Acts}
 -- the chart is one of the grammar; a phase is handed few values
 abbrev pub IsFormedWork : Work → Type 0
 IsFormedWork (Follows c) = IsFormed (diagram_of c)
-IsFormedWork (Runs phase handed) = length handed.items ≤ MAX_VALUES
+IsFormedWork (Runs phase handed reports) = length handed.items ≤ MAX_VALUES
 
 abbrev pub AreFormedActs : List Act → Type 0
 AreFormedActs table = All (λ a. IsFormedWork a.work) table
 
--- each act's work is formed, and no unit procedure's chart has a `par`
+-- each act's work is formed, no unit procedure's chart has a `par`, and each phase step reports few outputs
 pub record AreFormed (acts : Acts) : Type 0 where
   pub procedure : IsFormedWork acts.procedure.work
   pub unit_procedures : AreFormedActs acts.unit_procedures.items
   pub no_par : list_all follows_no_par acts.unit_procedures.items ≡ true
   pub operations : AreFormedActs acts.operations.items
   pub phases : AreFormedActs acts.phases.items
+  pub few_reports : list_all reports_few acts.phases.items ≡ true

@@ -10,7 +10,7 @@ use Rattle.batch_cell.specs.declared.shared.Shared.{Shared}
 use Rattle.batch_cell.specs.declared.unit.Unit.{Unit}
 use Rattle.batch_recipe.specs.Conditions.{Name}
 use Rattle.batch_recipe.specs.Procedure.{procedure_nodes}
-use Rattle.batch_recipe.specs.WellFormed.{act_names, value_names, is_role_among, is_work}
+use Rattle.batch_recipe.specs.WellFormed.{act_names, value_names, is_role_among, is_work, reports_among, reports_once}
 use Rattle.batch_recipe.specs.declared.act.Act.{Act}
 use Rattle.batch_recipe.specs.declared.acts.Acts.{Acts}
 use Rattle.batch_recipe.specs.declared.quantity.Quantity.{Quantity}
@@ -158,11 +158,21 @@ abbrev pub HasUndeclaredRole : List Role → Acts → TableKind → ℕ → Type
 HasUndeclaredRole roles acts table_kind.UnitProcedure entry = FailsFirst (λ front. list_all (is_role_among (role_names roles)) front ≡ true) acts.unit_procedures.items entry
 HasUndeclaredRole roles acts _ entry = ⊥
 
+-- the phase step is the first that reports an output twice
+abbrev pub HasReportTwice : Acts → TableKind → ℕ → Type 0
+HasReportTwice acts table_kind.Phase entry = FailsFirst (λ front. list_all reports_once front ≡ true) acts.phases.items entry
+HasReportTwice acts _ entry = ⊥
+
+-- the phase step is the first that reports another output than these
+abbrev pub HasUndeclaredReport : List Name → Acts → TableKind → ℕ → Type 0
+HasUndeclaredReport outputs acts table_kind.Phase entry = FailsFirst (λ front. list_all (reports_among outputs) front ≡ true) acts.phases.items entry
+HasUndeclaredReport outputs acts _ entry = ⊥
+
 -- this is wrong with the parts of a recipe at the table that has this number among those of its kind
 abbrev pub IsPartFault : Parts → TableKind → ℕ → EntryFault → Type 0
 IsPartFault p kind entry OutOfLimit = HasWrongCountOfParts p kind entry ⊎ IsTooLarge p kind entry
-IsPartFault p kind entry Duplicate = HasValueTwice p.inputs p.parameters p.outputs kind entry ⊎ (HasRoleTwice p.roles kind entry ⊎ HasActTwice p.acts kind entry)
-IsPartFault p kind entry Undeclared = HasUndeclaredName (values_of_parts p) p.acts kind entry ⊎ HasUndeclaredRole p.roles p.acts kind entry
+IsPartFault p kind entry Duplicate = HasValueTwice p.inputs p.parameters p.outputs kind entry ⊎ (HasRoleTwice p.roles kind entry ⊎ (HasActTwice p.acts kind entry ⊎ HasReportTwice p.acts kind entry))
+IsPartFault p kind entry Undeclared = HasUndeclaredName (values_of_parts p) p.acts kind entry ⊎ (HasUndeclaredRole p.roles p.acts kind entry ⊎ HasUndeclaredReport p.outputs p.acts kind entry)
 IsPartFault p kind entry _ = ⊥
 
 -- the tables of the document stand for parts of a recipe, with which this is wrong

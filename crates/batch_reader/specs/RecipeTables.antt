@@ -6,7 +6,7 @@ use Rattle.batch_recipe.specs.Conditions.{Name}
 use Rattle.batch_recipe.specs.Diagram.{diagram_of}
 use Rattle.batch_recipe.specs.WellFormed.{follows_no_par}
 use Rattle.batch_recipe.specs.declared.act.Act.{Act}
-use Rattle.batch_recipe.specs.declared.act.TheConstants.{MAX_NEEDS, MAX_VALUES}
+use Rattle.batch_recipe.specs.declared.act.TheConstants.{MAX_NEEDS, MAX_REPORTS, MAX_VALUES}
 use Rattle.batch_recipe.specs.declared.act.UnitChoice.{UnitChoice}
 use Rattle.batch_recipe.specs.declared.act.UnitChoice.TheVariants.{Unit, Role}
 use Rattle.batch_recipe.specs.declared.act.Work.TheVariants.{Follows, Runs}
@@ -95,15 +95,17 @@ pub record IsOperationTable (ms : Members) (a : Act) : Type 0 where
 
 -- the table stands for the phase step
 pub record IsPhaseTable (ms : Members) (a : Act) : Type 0 where
-  pub keys : has_only_keys (codes "name" ∷ codes "runs" ∷ codes "needs" ∷ codes "values" ∷ []) ms ≡ true
+  pub keys : has_only_keys (codes "name" ∷ codes "runs" ∷ codes "needs" ∷ codes "values" ∷ codes "reports" ∷ []) ms ≡ true
   pub name : HasLabel (codes "name") ms a.name
   pub no_unit : a.unit ≡ None
   pub needs : HasNeeds ms a
   pub phase : Name
   pub handed : Vec Name
-  pub work : a.work ≡ Runs phase handed
+  pub reported : Vec Name
+  pub work : a.work ≡ Runs phase handed reported
   pub runs : HasNameOr (codes "runs") ms a.name phase
   pub values : HasFewNames (codes "values") ms MAX_VALUES handed.items
+  pub reports : HasFewNames (codes "reports") ms MAX_REPORTS reported.items
 
 -- a table of this kind, one of those in which labels are looked up, stands for the act
 abbrev pub IsActTable : TableKind → Members → Act → Type 0

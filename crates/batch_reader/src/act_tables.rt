@@ -16,7 +16,7 @@ use crate::fault::{EntryFault, Spot, TableFault, TableKind};
 use crate::needs::few_needs_at;
 use crate::recipe_entries::{few_names_at, label_at, name_or};
 use crate::tables::FromTable;
-use batch_recipe::{Act, MAX_NEEDS, MAX_VALUES, UnitChoice, Work};
+use batch_recipe::{Act, MAX_NEEDS, MAX_REPORTS, MAX_VALUES, UnitChoice, Work};
 use batch_text::Name;
 use std::alloc::Global;
 use toml::Table;
@@ -115,18 +115,23 @@ fn phase_step(alloc: Global, table: &Table, spot: Spot) -> Result<Act, TableFaul
         → (act : Act) → ¬ (IsPhaseTable (table_view table.now) act)) }
     ensures told { IfErr result (TellsAt spot (IsTableFault TableKind.Phase (table_view table.now))) }
 {
-    if !has_only_keys(table, &["name", "runs", "needs", "values"]) {
+    if !has_only_keys(table, &["name", "runs", "needs", "values", "reports"]) {
         return Err(TableFault::Entry(spot, EntryFault::UnknownKey));
     }
     let name = label_at(alloc, table, "name", spot)?;
     let phase = name_or(alloc, table, "runs", &name, spot)?;
     let needs = few_needs_at(alloc, table, "needs", MAX_NEEDS, spot)?;
     let values = few_names_at(alloc, table, "values", MAX_VALUES, spot)?;
+    let reports = few_names_at(alloc, table, "reports", MAX_REPORTS, spot)?;
     Ok(Act {
         name,
         unit: None,
         needs,
-        work: Work::Runs { phase, values },
+        work: Work::Runs {
+            phase,
+            values,
+            reports,
+        },
     })
 }
 

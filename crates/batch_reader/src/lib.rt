@@ -19,6 +19,7 @@ mod recipe_checks;
 mod recipe_document;
 mod recipe_entries;
 mod recipe_names;
+mod reports;
 mod resources;
 mod roles;
 mod tables;

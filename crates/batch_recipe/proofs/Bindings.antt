@@ -54,7 +54,7 @@ module _ (f g : Labels) (alike : AreAlike f g) where
   task-places : (unit unit' name : Name) (p : Place) (w : Work) (above other : List Name)
       → places (nodes_within p above (task_of f unit name p w)) ≡ places (nodes_within p other (task_of g unit' name p w))
   task-places unit unit' name p (Follows c) above other = chart-places (child p 0) (diagram_of c) above other
-  task-places unit unit' name p (Runs phase values) above other = refl
+  task-places unit unit' name p (Runs phase values reports) above other = refl
 
 module _ (bound : Binding) where
   act-places : (f g : Name → Labels) → ((unit unit' : Name) → AreAlike (f unit) (g unit')) → (unit unit' : Name) (a : Act) (p : Place) (above other : List Name)

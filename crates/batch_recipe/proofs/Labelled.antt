@@ -96,7 +96,7 @@ module _ (trees : Name → Place → Tree) (list : Name → ActList) (named : Na
       → AreLabelled f p (acts_below list work) (nodes_within p above (task_of trees unit name p work))
   work_labelled f unit name p above (Follows c) same =
       under f (label_along named (diagram_of c)) p 0 (λ q. same 0 q) (acts_along list (diagram_of c)) (nodes (child p 0) above (expanded trees (child p 0) (diagram_of c))) (chart_labelled (child p 0) above (diagram_of c))
-  work_labelled f unit name p above (Runs phase values) same = tt
+  work_labelled f unit name p above (Runs phase values reports) same = tt
 
 -- the act that is found has the name
 found_named : (name : Name) (table : List Act) (a : Act) → act_named table name ≡ Some a → a.name ≡ name

@@ -124,7 +124,7 @@ module _ (bound : Binding) (acts : Acts) where
         -- by what the act does
         go : (work : Work)
             → Matches (topped (act_head k o a) n u i (grown_work told named n j work)) (shapes n u i (tree.act s (task_of trees unit a.name p work))) (Some a ∷ acts_below list work)
-        go (Runs phase values) =
+        go (Runs phase values reports) =
             let h = top (act_head k o a) n u i 0 [] [] [] (refl, refl) refl in
             (h.0 ∙ ap (λ g. record { form = g; end = n + 1; parent = u; child = i } ∷ []) f, h.1 ∙ ap (λ x. x ∷ []) is)
         go (Follows c) =

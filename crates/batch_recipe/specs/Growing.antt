@@ -85,7 +85,7 @@ abbrev mutual
 
 abbrev pub conditions_below : LabelConditions → Work → List Cond
 conditions_below told (Follows c) = conditions_along told (diagram_of c)
-conditions_below told (Runs phase values) = []
+conditions_below told (Runs phase values reports) = []
 
 -- the number of the act that a label names
 abbrev pub number_in : List Act → Name → Option ℕ
@@ -121,7 +121,7 @@ abbrev mutual
 
 abbrev pub grown_work : LabelConditions → Labels → ℕ → ℕ → Work → List Entry
 grown_work told named n j (Follows c) = grown told named (n + 1) j n 0 (diagram_of c)
-grown_work told named n j (Runs phase values) = []
+grown_work told named n j (Runs phase values reports) = []
 
 -- the head of an act under the unit procedure o
 abbrev pub act_head : Kind → ℕ → Act → Head

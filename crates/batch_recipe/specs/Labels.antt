@@ -42,7 +42,7 @@ abbrev mutual
 abbrev pub label_below : (Name → Place → Option Name) → Work → ℕ → Place → Option Name
 label_below named (Follows c) zero q = label_along named (diagram_of c) q
 label_below named (Follows c) (suc i) q = None
-label_below named (Runs phase values) i q = None
+label_below named (Runs phase values reports) i q = None
 
 -- at or below a label, whose act is looked up in the first table, and the labels of its chart in the tables after it
 abbrev pub label_named : List (List Act) → Name → Place → Option Name

@@ -1,5 +1,5 @@
--- trusted: the values of a batch when outputs are set, and which outputs a report may set.
-use Rattle.std.specs.Prelude.{ℕ, List, [], ◌∷◌, map, Bool, true, false, ◌&&◌, not, nat_le}
+-- trusted: the values of a batch when outputs are set, which outputs a report may set, and which it leaves out.
+use Rattle.std.specs.Prelude.{ℕ, List, [], ◌∷◌, map, Bool, true, false, ◌&&◌, not, nat_le, Option, find}
 use Rattle.std.specs.List.{list_any}
 use Rattle.batch_recipe.specs.Conditions.{Name, ValueList, same_name}
 use Rattle.batch_recipe.specs.declared.scaling.TheConstants.{MAX_VALUE}
@@ -20,3 +20,11 @@ abbrev pub are_outputs : List Name → ValueList → Bool
 are_outputs names [] = true
 are_outputs names (o ∷ os) =
     list_any (same_name o.0) names && not (list_any (λ q. same_name q.0 o.0) os) && nat_le o.1 MAX_VALUE && are_outputs names os
+
+-- the outputs have a value with this name
+abbrev pub have_output : ValueList → Name → Bool
+have_output outputs name = list_any (λ o. same_name o.0 name) outputs
+
+-- the first of the names that the outputs have no value with
+abbrev pub left_out : List Name → ValueList → Option Name
+left_out names outputs = find (λ name. not (have_output outputs name)) names

@@ -1,8 +1,8 @@
 //! The values of a batch by name, and the outputs that reports name.
-ghost use Rattle.std.specs.Prelude.{◌≡◌};
+ghost use Rattle.std.specs.Prelude.{◌≡◌, not, position};
 ghost use Rattle.std.specs.List.{list_any};
 ghost use Rattle.batch_recipe.specs.Conditions.{same_name, value_of};
-ghost use Rattle.batch_recipe.specs.Values.{are_outputs, with_outputs_zero, with_value, with_values};
+ghost use Rattle.batch_recipe.specs.Values.{are_outputs, have_output, with_outputs_zero, with_value, with_values};
 
 use crate::scaling::MAX_VALUE;
 use batch_text::Name;
@@ -93,6 +93,13 @@ pub fn are_outputs(names: &[Name], outputs: &[(Name, u64)]) -> bool
     true
 }
 
+/// The number, among these names, of the first that the outputs have no value with.
+pub fn first_left_out(names: &[Name], outputs: &[(Name, u64)]) -> Option<usize>
+    ensures { result ≡ position (λ name. not (have_output outputs.now name)) names.now }
+{
+    names.iter().position(|name| !is_named(name, outputs))
+}
+
 fn is_among(name: &Name, names: &[Name]) -> bool
     ensures { result ≡ list_any (same_name name.now) names.now }
 {
@@ -100,7 +107,7 @@ fn is_among(name: &Name, names: &[Name]) -> bool
 }
 
 fn is_named(name: &Name, outputs: &[(Name, u64)]) -> bool
-    ensures { result ≡ list_any (λ output. same_name output.0 name.now) outputs.now }
+    ensures { result ≡ have_output outputs.now name.now }
 {
     outputs.iter().any(|output| output.0 == *name)
 }

@@ -22,7 +22,7 @@ abbrev pub formula : ℕ → Formula
 formula size = elim (is_size size) [ true ↦ scaled [] | false ↦ size_out_of_range ]
 
 abbrev pub add : Phase
-add = record { unit = codes "R1"; name = codes "ADD"; handed = [] }
+add = record { unit = codes "R1"; name = codes "ADD"; handed = []; reports = [] }
 
 abbrev pub operation : Tree
 operation = act (record { place = 0 ∷ 0 ∷ 0 ∷ []; needs = [] }) (follows (codes "CHARGE") (act (record { place = 0 ∷ 0 ∷ 0 ∷ 0 ∷ []; needs = [] }) (runs add)))

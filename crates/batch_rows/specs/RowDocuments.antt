@@ -73,7 +73,12 @@ entry_named (e ∷ es) name p = elim (same_name e.0 name) [ true ↦ e.1 p | fal
 -- a phase step that runs a phase on a unit
 abbrev pub phase_step : Name → List Need → Name → Name → List Name → Entry
 phase_step name needs unit phase handed =
-    (name, λ p. act (record { place = p; needs = needs }) (runs (record { unit = unit; name = phase; handed = handed })))
+    (name, λ p. act (record { place = p; needs = needs }) (runs (record { unit = unit; name = phase; handed = handed; reports = [] })))
+
+-- the same without needs and values, where the phase reports outputs
+abbrev pub reporting_step : Name → Name → List Name → Entry
+reporting_step name unit reports =
+    (name, λ p. act (record { place = p; needs = [] }) (runs (record { unit = unit; name = name; handed = []; reports = reports })))
 
 -- an act that follows a chart, whose labels stand in a table
 abbrev pub chart_act : Name → List Need → List Entry → Diagram → Entry
@@ -206,6 +211,19 @@ recipe_with_x name procedure = recipe_with name (x_name ∷ []) ((x_name, 0) ∷
 abbrev pub recipe_l : Recipe
 recipe_l = recipe_with_x (codes "L") (making (codes "L") charge (add_step r1 ∷ []) (loop 1000 x_above_0 (label add)))
 
+-- the same, but the phase reports X
+abbrev pub recipe_rp : Recipe
+recipe_rp = recipe_with_x (codes "RP") (making (codes "RP") charge (reporting_step add r1 (x_name ∷ []) ∷ []) (loop 1000 x_above_0 (label add)))
+
+abbrev pub y_name : Name
+y_name = codes "Y"
+
+-- one phase, which reports Y and X
+abbrev pub recipe_yx : Recipe
+recipe_yx =
+    recipe_with (codes "YX") (x_name ∷ y_name ∷ []) ((x_name, 0) ∷ (y_name, 0) ∷ [])
+    (making (codes "YX") charge (reporting_step add r1 (y_name ∷ x_name ∷ []) ∷ []) (label add))
+
 -- X chooses the unit procedure
 abbrev pub recipe_j : Recipe
 recipe_j =
@@ -312,6 +330,10 @@ master_e =
 -- the demo cell with recipes that have roles
 abbrev pub cell_with_roles : Setup
 cell_with_roles = record demo.demo { recipes = master_b ∷ master_d ∷ master_e ∷ []; batch_limit = 4096 }
+
+-- the demo cell with recipes whose phases report outputs
+abbrev pub cell_with_reports : Setup
+cell_with_reports = record demo.demo { recipes = map plain (recipe_rp ∷ recipe_yx ∷ []); batch_limit = 4096 }
 
 -- the demo cell with all these recipes
 abbrev pub cell : Setup

@@ -66,7 +66,11 @@ add_done = says r1 add Report.Done
 
 -- a phase on a unit that is handed no values
 abbrev pub on : Name → Name → Phase
-on unit name = record { unit = unit; name = name; handed = [] }
+on unit name = record { unit = unit; name = name; handed = []; reports = [] }
+
+-- ADD on R1, which reports these outputs
+abbrev pub add_reporting : List Name → Phase
+add_reporting outputs = record { unit = r1; name = add; handed = []; reports = outputs }
 
 -- a phase begins, and no values are handed to it
 abbrev pub starts : ℕ → Place → Name → Name → Out

@@ -1,15 +1,15 @@
 -- worked rows: reports, values, and refused events.
 use Rattle.std.specs.Prelude.{◌≡◌, ℕ, List, [], ◌∷◌, Option, Some, None, codes}
-use Rattle.batch_matrix.specs.declared.state.State.TheVariants.{Idle, Running, Holding, Held, Stopping}
-use Rattle.batch_matrix.specs.declared.command.Command.TheVariants.{Start, Pause, Hold, Stop, Reset}
+use Rattle.batch_matrix.specs.declared.state.State.TheVariants.{Idle, Running, Pausing, Holding, Held, Restarting, Stopping, Stopped, Aborting, Aborted}
+use Rattle.batch_matrix.specs.declared.command.Command.TheVariants.{Start, Pause, Hold, Restart, Stop, Abort, Reset}
 use Rattle.batch_matrix.specs.declared.report.Report.{Report}
 use Rattle.batch_recipe.specs.Conditions.{Name, ValueList, value_of}
 use Rattle.batch_model.specs.Plant.{batch_at}
 use Rattle.batch_model.specs.Moves.{send, state, start}
-use Rattle.batch_model.specs.Events.{Event, create, order, report, created, ordered, reported, refused, unknown_recipe, unknown_batch, command_not_accepted, no_live_phase, bad_output, bad_size, bad_value, react}
-use Rattle.batch_model.specs.Runs.{reply, move, run}
-use Rattle.batch_rows.specs.RowDocuments.{r1, add, heat, x_name, quantity, name_a, make, charge, cook, cell}
-use Rattle.batch_rows.specs.RowParts.{p0000, p00000, p00001, create_a, says, add_done, on, starts, refuses, opened, created_a, opened_a, finished_a, settled_after}
+use Rattle.batch_model.specs.Events.{Event, create, order, report, created, ordered, reported, refused, unknown_recipe, unknown_batch, command_not_accepted, no_live_phase, bad_output, output_left_out, bad_size, bad_value, react}
+use Rattle.batch_model.specs.Runs.{Out, reply, move, run}
+use Rattle.batch_rows.specs.RowDocuments.{r1, add, heat, x_name, y_name, quantity, name_a, make, charge, cook, cell, cell_with_reports}
+use Rattle.batch_rows.specs.RowParts.{p00, p0000, p00000, p00001, create_a, says, add_done, on, add_reporting, starts, releases, refuses, opened, closed, created_a, opened_a, finished_a, settled_after}
 
 -- the phase is no longer live when it reports a second time
 abbrev pub ReportTwice : Type 0
@@ -90,6 +90,73 @@ ResetClearsOutput = value_after (three_turns (order Reset 1 ∷ [])) x_name ≡ 
 abbrev pub FaultSetsNoOutput : Type 0
 FaultSetsNoOutput = value_after (create (codes "L") 1000 [] ∷ order Start 1 ∷ report r1 add Report.Fault ((x_name, 1) ∷ []) ∷ []) x_name ≡ Some 0
 
+-- Outputs that a phase reports
+
+-- RP comes to its phase, which reports X
+abbrev pub create_rp : Event
+create_rp = create (codes "RP") 1000 []
+
+abbrev pub start_rp : Out
+start_rp = move (start 1 p00000 (add_reporting (x_name ∷ [])) [])
+
+abbrev pub opened_rp : List Out → List Out
+opened_rp more = reply (created 1 (codes "RP") 1000 []) ∷ opened 1 (codes "RP") r1 make charge (start_rp ∷ more)
+
+-- the phase is done, and X is left out; then there is an output that isn't declared besides, which is looked for before; and then X is 0
+abbrev pub LeftOut : Type 0
+LeftOut =
+    run cell_with_reports (create_rp ∷ order Start 1 ∷ add_done ∷ sets ((y_name, 1) ∷ []) ∷ sets ((x_name, 0) ∷ []) ∷ [])
+    ≡ opened_rp
+    (refuses (output_left_out x_name) ∷ refuses bad_output ∷ reply (reported r1 add Report.Done 1 p00000 Running) ∷ start_rp ∷ [])
+
+abbrev pub LeavingOutChangesNothing : Type 0
+LeavingOutChangesNothing =
+    let started = settled_after cell_with_reports (create_rp ∷ order Start 1 ∷ []) in
+    react cell_with_reports started add_done ≡ (refused (output_left_out x_name), started)
+
+-- the first in the listed order is told, wherever it stands among the recipe's outputs, and whatever order the report has
+abbrev pub FirstLeftOut : Type 0
+FirstLeftOut =
+    run cell_with_reports
+    (create (codes "YX") 1000 [] ∷ order Start 1
+    ∷ add_done ∷ sets ((x_name, 1) ∷ []) ∷ sets ((y_name, 1) ∷ []) ∷ sets ((x_name, 1) ∷ (y_name, 2) ∷ []) ∷ [])
+    ≡ (reply (created 1 (codes "YX") 1000 [])
+    ∷ opened 1 (codes "YX") r1 make charge
+    (move (start 1 p0000 (add_reporting (y_name ∷ x_name ∷ [])) [])
+    ∷ refuses (output_left_out y_name)
+    ∷ refuses (output_left_out y_name)
+    ∷ refuses (output_left_out x_name)
+    ∷ reply (reported r1 add Report.Done 1 p0000 Running)
+    ∷ closed 1 r1 []))
+
+-- also while the phase is pausing, holding and restarting; a word but `done` reports none, and in stopping none need be reported
+abbrev pub LeftOutBeforeStopping : Type 0
+LeftOutBeforeStopping =
+    let phase = add_reporting (x_name ∷ []) in
+    run cell_with_reports
+    (create_rp ∷ order Start 1 ∷ order Pause 1 ∷ add_done ∷ order Hold 1 ∷ add_done ∷ says r1 add Report.Held
+    ∷ order Restart 1 ∷ add_done ∷ order Stop 1 ∷ add_done ∷ [])
+    ≡ opened_rp
+    (reply (ordered Pause 1 Pausing) ∷ move (send 1 p00000 phase Pause)
+    ∷ refuses (output_left_out x_name)
+    ∷ reply (ordered Hold 1 Holding) ∷ move (send 1 p00000 phase Hold)
+    ∷ refuses (output_left_out x_name)
+    ∷ reply (reported r1 add Report.Held 1 p00000 Holding) ∷ move (state 1 Held)
+    ∷ reply (ordered Restart 1 Restarting) ∷ move (send 1 p00000 phase Restart)
+    ∷ refuses (output_left_out x_name)
+    ∷ reply (ordered Stop 1 Stopping) ∷ move (send 1 p00000 phase Stop)
+    ∷ reply (reported r1 add Report.Done 1 p00000 Stopping) ∷ releases 1 p00 r1 ∷ move (state 1 Stopped)
+    ∷ [])
+
+-- nor in aborting
+abbrev pub NoneLeftOutInAborting : Type 0
+NoneLeftOutInAborting =
+    run cell_with_reports (create_rp ∷ order Start 1 ∷ order Abort 1 ∷ add_done ∷ [])
+    ≡ opened_rp
+    (reply (ordered Abort 1 Aborting) ∷ move (send 1 p00000 (add_reporting (x_name ∷ [])) Abort)
+    ∷ reply (reported r1 add Report.Done 1 p00000 Aborting) ∷ releases 1 p00 r1 ∷ move (state 1 Aborted)
+    ∷ [])
+
 -- Formula
 
 abbrev pub create_f : ℕ → Event
@@ -101,7 +168,7 @@ ScaledQuantity =
     run cell (create_f 500 ∷ order Start 1 ∷ [])
     ≡ (reply (created 1 (codes "F") 500 [])
     ∷ opened 1 (codes "F") r1 make charge
-    (move (start 1 p0000 (record { unit = r1; name = add; handed = quantity ∷ [] }) ((quantity, 167) ∷ []))
+    (move (start 1 p0000 (record { unit = r1; name = add; handed = quantity ∷ []; reports = [] }) ((quantity, 167) ∷ []))
     ∷ []))
 
 -- no size, the greatest value, and a value above it

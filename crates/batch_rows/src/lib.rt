@@ -21,9 +21,9 @@ pub use runs::{
     abort_after_stop, abort_reset_start, act_states, bad_bindings, bound_units, choices,
     crossed_branches_without_circle, demo_is_expanded, earlier_state_shows, event_while_moves_pend,
     fault_holds_the_batch, held_ask_is_granted, hold_between_phases, hold_while_pausing,
-    live_batch_limit, one_batch_to_complete, outputs, pause_and_resume, refused_events,
-    release_before_begin, report_twice, scaled_quantity, second_batch_waits, shared_capacity,
-    shares_of_several_units, stop_withdraws_asks, thousand_turns, want_of_memory,
+    live_batch_limit, one_batch_to_complete, outputs, outputs_left_out, pause_and_resume,
+    refused_events, release_before_begin, report_twice, scaled_quantity, second_batch_waits,
+    shared_capacity, shares_of_several_units, stop_withdraws_asks, thousand_turns, want_of_memory,
 };
 pub use safety::{
     chains_go_on, held_past_capacity, not_empty_at_rest, phases_end, started_wrongly, steps_point,

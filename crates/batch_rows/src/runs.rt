@@ -65,6 +65,11 @@ ghost use Rattle.batch_rows.specs.RowsOfReports.{
   OutputIsKept,
   ResetClearsOutput,
   FaultSetsNoOutput,
+  LeftOut,
+  LeavingOutChangesNothing,
+  FirstLeftOut,
+  LeftOutBeforeStopping,
+  NoneLeftOutInAborting,
   ScaledQuantity,
   FormulaRefusals,
   GreatestValueIsTaken,
@@ -234,6 +239,16 @@ pub fn outputs()
     ensures kept { OutputIsKept }
     ensures cleared { ResetClearsOutput }
     ensures by_done_alone { FaultSetsNoOutput }
+{}
+
+/// A phase that is done and leaves out an output that it reports is refused, with the first of these; unless it is stopping or
+/// aborting.
+pub fn outputs_left_out()
+    ensures refused { LeftOut }
+    ensures unchanged { LeavingOutChangesNothing }
+    ensures first { FirstLeftOut }
+    ensures before_stopping { LeftOutBeforeStopping }
+    ensures aborting { NoneLeftOutInAborting }
 {}
 
 /// A value is scaled by the size of the batch, and handed to a phase.

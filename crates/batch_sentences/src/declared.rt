@@ -52,6 +52,46 @@ pub(crate) fn undeclared_role<'a>(document: &Table, table: &'a Table) -> Option<
     }
 }
 
+/// The first of the table's reports that isn't an output of the document.
+pub(crate) fn undeclared_report<'a>(document: &Table, table: &'a Table) -> Option<&'a str> {
+    let reports = table.get("reports")?.as_array()?;
+    for value in reports {
+        if let Some(name) = value.as_str() {
+            if times_among(document, "output", name) == 0 {
+                return Some(name);
+            }
+        }
+    }
+    None
+}
+
+/// The first of the table's reports that stands there twice.
+pub(crate) fn reported_twice(table: &Table) -> Option<&str> {
+    let reports = table.get("reports")?.as_array()?;
+    for value in reports {
+        if let Some(name) = value.as_str() {
+            if times_reported(table, name) > 1 {
+                return Some(name);
+            }
+        }
+    }
+    None
+}
+
+/// How often the name stands among the table's reports.
+fn times_reported(table: &Table, name: &str) -> usize {
+    let Some(reports) = table.get("reports").and_then(Value::as_array) else {
+        return 0;
+    };
+    let mut times: usize = 0;
+    for value in reports {
+        if value.as_str() == Some(name) {
+            times = times.saturating_add(1);
+        }
+    }
+    times
+}
+
 /// The first word of the table's chart, or of its values, that is neither declared in the table's level nor a value.
 pub(crate) fn undeclared_word<'a>(
     document: &Table,

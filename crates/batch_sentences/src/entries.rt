@@ -1,5 +1,7 @@
 //! What is wrong with a table of a document.
-use crate::declared::{times_declared, undeclared_role, undeclared_word};
+use crate::declared::{
+    reported_twice, times_declared, undeclared_report, undeclared_role, undeclared_word,
+};
 use crate::fits::{Fit, shape_said, suit};
 use crate::keys::{Key, keys_of, word_of};
 use batch_grammar::is_chart_word;
@@ -204,6 +206,12 @@ fn undeclared(
     if let Some(word) = undeclared_word(document, table, kind) {
         return Wrong::with(key, format!(in alloc; "`{word}` is declared nowhere"));
     }
+    if let Some(name) = undeclared_report(document, table) {
+        return Wrong::with(
+            "reports",
+            format!(in alloc; "no [[output]] is named `{name}`"),
+        );
+    }
     match undeclared_role(document, table) {
         Some(role) => Wrong::with("role", format!(in alloc; "no [[role]] is named `{role}`")),
         None => Wrong::told(alloc, key, "a label or a name is declared nowhere"),
@@ -211,6 +219,9 @@ fn undeclared(
 }
 
 fn duplicate(alloc: Global, document: &Table, table: &Table) -> Result<Wrong<'static>, AllocError> {
+    if let Some(name) = reported_twice(table) {
+        return Wrong::with("reports", format!(in alloc; "`{name}` stands twice"));
+    }
     match name_of(table) {
         Some(name) if times_declared(document, name) > 1 => Wrong::with(
             "name",

@@ -88,11 +88,12 @@ const UNIT_PROCEDURE: [Key; 5] = [
 
 const OPERATION: [Key; 3] = [NAME, CHART, NEEDS];
 
-const PHASE: [Key; 4] = [
+const PHASE: [Key; 5] = [
     NAME,
     Key("runs", false, Shape::Name),
     NEEDS,
     Key("values", false, Shape::Names(0, 4)),
+    Key("reports", false, Shape::Names(0, 16)),
 ];
 
 /// The keys of a table of this kind.

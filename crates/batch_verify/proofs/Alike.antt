@@ -227,7 +227,7 @@ module _ (bound other : Binding) (acts : Acts) where
 
     work_alike : (unit second name : Name) (p : Place) (work : Work) → TasksAlike (task_of f unit name p work) (task_of g second name p work)
     work_alike unit second name p (Follows c) = chart_alike (child p 0) (diagram_of c)
-    work_alike unit second name p (Runs phase values) = refl
+    work_alike unit second name p (Runs phase values reports) = refl
 
   abbrev From : List (List Act) → Type 0
   From tables = (unit second name : Name) (p : Place) → AreAlike (named_tree_with bound tables unit name p) (named_tree_with other tables second name p)

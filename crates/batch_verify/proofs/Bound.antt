@@ -94,7 +94,7 @@ module _ (acts : Acts) (kinds : are_kinds acts ≡ true) where
   chart = diagram_of procedure_chart.0
 
   pub procedure_labels : labels_of acts.procedure ≡ labels chart
-  procedure_labels = ap (λ w. elim w [ Follows chart ↦ labels (diagram_of chart) | Runs phase values ↦ [] ]) procedure_chart.1
+  procedure_labels = ap (λ w. elim w [ Follows chart ↦ labels (diagram_of chart) | Runs phase values reports ↦ [] ]) procedure_chart.1
 
   abbrev pub procedure_of : Binding → Tree
   procedure_of bound =

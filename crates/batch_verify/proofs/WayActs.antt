@@ -94,7 +94,7 @@ module _ (bound : Binding) (acts : Acts) (kinds : are_kinds acts ≡ true) where
     work_on : (unit name : Name) (p : Place) (above : List Name) (work : Work)
         → AreOn bound (ways_within v (task_of trees unit name p work)) (parts_within v.level p above (task_of trees unit name p work)) (acts_below named work)
     work_on unit name p above (Follows c) = chart_on (child p 0) above (diagram_of c)
-    work_on unit name p above (Runs phase values) = tt
+    work_on unit name p above (Runs phase values reports) = tt
 
   -- where labels that are looked up from a level on stand
   abbrev spot_from : Option table.LabelTable → Name → Spot

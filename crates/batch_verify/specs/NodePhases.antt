@@ -13,7 +13,7 @@ use Rattle.batch_verify.specs.Walking.{Gathers}
 -- the phase that is run itself, where it is one
 abbrev pub phase_run : Work → List Name
 phase_run (Follows chart) = []
-phase_run (Runs phase values) = phase ∷ []
+phase_run (Runs phase values reports) = phase ∷ []
 
 -- that of the act at a node
 abbrev pub phase_at : Option Act → List Name

@@ -7,7 +7,7 @@ use Rattle.batch_recipe.specs.Conditions.{Name, ValueList}
 use Rattle.batch_recipe.specs.Texts.{line_text, place_text}
 use Rattle.batch_recipe.specs.declared.need.Need.{Need}
 use Rattle.batch_model.specs.Moves.{Move, send, state, release, begin, start, end, ask, grant}
-use Rattle.batch_model.specs.Events.{Refusal, unknown_recipe, unknown_batch, command_not_accepted, no_live_phase, report_not_expected, bad_output, bad_binding, bad_size, bad_value, full, not_idle, moves_pending, no_memory, Reply, created, ordered, removed, reported, refused}
+use Rattle.batch_model.specs.Events.{Refusal, unknown_recipe, unknown_batch, command_not_accepted, no_live_phase, report_not_expected, bad_output, output_left_out, bad_binding, bad_size, bad_value, full, not_idle, moves_pending, no_memory, Reply, created, ordered, removed, reported, refused}
 use Rattle.batch_model.specs.Runs.{Out, reply, move}
 
 -- Words
@@ -79,6 +79,7 @@ refusal_words (not_idle x) = codes "E9" ∷ state_text x ∷ []
 refusal_words moves_pending = codes "E10" ∷ []
 refusal_words no_memory = codes "E11" ∷ []
 refusal_words bad_binding = codes "E12" ∷ []
+refusal_words (output_left_out name) = codes "E13" ∷ name ∷ []
 
 abbrev pub reply_words : Reply → List (List ℕ)
 reply_words (created n recipe size roles) = codes "created" ∷ decimal n ∷ recipe ∷ decimal size ∷ role_texts roles

@@ -6,13 +6,13 @@ use Rattle.batch_matrix.specs.declared.report.Report.TheVariants as Report
 use Rattle.batch_recipe.specs.Needs.{one_unit}
 use Rattle.batch_recipe.specs.Tree.{Phase}
 use Rattle.batch_recipe.specs.declared.need.Need.{Need}
-use Rattle.batch_model.specs.Events.{created, ordered, removed, reported, refused, report_not_expected, bad_output, bad_binding, bad_value, not_idle}
+use Rattle.batch_model.specs.Events.{created, ordered, removed, reported, refused, report_not_expected, bad_output, output_left_out, bad_binding, bad_value, not_idle}
 use Rattle.batch_model.specs.Moves.{send, start, release, ask}
 use Rattle.batch_model.specs.Runs.{reply, move}
 use Rattle.batch_wire.specs.RecordText.{out_text}
 
 abbrev pub add : Phase
-add = record { unit = codes "R1"; name = codes "ADD"; handed = [] }
+add = record { unit = codes "R1"; name = codes "ADD"; handed = []; reports = [] }
 
 abbrev pub SentCommand : Type 0
 SentCommand = out_text (move (send 1 (0 ∷ 0 ∷ []) add Command.Hold)) ≡ codes "send 1 0.0 R1 ADD hold\n"
@@ -49,6 +49,9 @@ RefusedReport = out_text (reply (refused (report_not_expected State.Aborting))) 
 
 abbrev pub RefusedOutput : Type 0
 RefusedOutput = out_text (reply (refused bad_output)) ≡ codes "refused E6\n"
+
+abbrev pub RefusedLeavingOut : Type 0
+RefusedLeavingOut = out_text (reply (refused (output_left_out (codes "X")))) ≡ codes "refused E13 X\n"
 
 abbrev pub RefusedBinding : Type 0
 RefusedBinding = out_text (reply (refused bad_binding)) ≡ codes "refused E12\n"

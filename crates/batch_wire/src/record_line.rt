@@ -15,7 +15,9 @@ ghost use Rattle.batch_wire.specs.Written.{Writes};
 use crate::fault::WriteFault;
 use crate::known_places::{KnownPlaces, seat_of};
 use crate::line_room::LineRoom;
-use crate::names::{act_name, handed_names, phase_name, recipe_name, resource_name, value_name};
+use crate::names::{
+    act_name, handed_names, output_name, phase_name, recipe_name, resource_name, value_name,
+};
 use crate::places::{ToldPlace, write_place};
 use crate::recipe_places::RecipePlaces;
 use crate::site::Site;
@@ -447,6 +449,14 @@ fn write_refusal<W: Write>(
         Refusal::MovesPending => write_all(writer, b"refused E10\n"),
         Refusal::Memory => write_all(writer, b"refused E11\n"),
         Refusal::BadBinding => write_all(writer, b"refused E12\n"),
+        Refusal::OutputLeftOut {
+            recipe,
+            node,
+            output,
+        } => {
+            let name = output_name(cleared, recipe, node, output);
+            write_pieces(writer, &[b"refused E13 ", name, b"\n"])
+        }
     }
 }
 

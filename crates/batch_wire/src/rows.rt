@@ -2,7 +2,7 @@
 ghost use Rattle.std.specs.Prelude.{◌≡◌};
 ghost use Rattle.batch_recipe.specs.declared.role.TheConstants.{MAX_ROLES};
 ghost use Rattle.batch_wire.specs.RowsOfLines.{BoundRoles, RoleBoundTwice, RoleWithoutUnit, FifthRole};
-ghost use Rattle.batch_wire.specs.RowsOfText.{SentCommand, HandedValues, AskedUnits, ReleasedUnit, CreatedReply, PlainReply, CommandReply, RemoveReply, FaultReply, RefusedReport, RefusedOutput, RefusedBinding, RefusedValue, RefusedRemoval};
+ghost use Rattle.batch_wire.specs.RowsOfText.{SentCommand, HandedValues, AskedUnits, ReleasedUnit, CreatedReply, PlainReply, CommandReply, RemoveReply, FaultReply, RefusedReport, RefusedOutput, RefusedLeavingOut, RefusedBinding, RefusedValue, RefusedRemoval};
 ghost use Rattle.batch_wire.specs.declared.event_line.TheConstants.{MAX_LINE_LEN};
 ghost use Rattle.batch_wire.specs.declared.report_line.TheConstants.{MAX_PAIRS};
 
@@ -25,6 +25,7 @@ pub fn record_lines()
     ensures fault_reply { FaultReply }
     ensures refused_report { RefusedReport }
     ensures refused_output { RefusedOutput }
+    ensures refused_leaving_out { RefusedLeavingOut }
     ensures refused_binding { RefusedBinding }
     ensures refused_value { RefusedValue }
     ensures refused_removal { RefusedRemoval }

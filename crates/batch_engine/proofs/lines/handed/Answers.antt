@@ -10,7 +10,7 @@ use Rattle.batch_engine.proofs.lines.handed.Goals as goal
 pub values_of-requires : goal.values_of-requires
 values_of-requires c =
     subst (λ (ns : List Name). length ns ≤ MAX_VALUES) (sym c.deref.ensures.value)
-    (told-few c.args.recipe.now c.args.node c.in-Some.act.now _ _ c.in-Some.ensures.act (λ h. (let bad : true ≡ false = c.in-Some.ensures.past h in cc)) c.in-Runs.is)
+    (told-few c.args.recipe.now c.args.node c.in-Some.act.now _ _ _ c.in-Some.ensures.act (λ h. (let bad : true ≡ false = c.in-Some.ensures.past h in cc)) c.in-Runs.is)
 
 pub returns-in-Runs : goal.returns-in-Runs
 returns-in-Runs c =

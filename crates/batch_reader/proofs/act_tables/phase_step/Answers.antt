@@ -1,6 +1,6 @@
 use Rattle.std.proofs.Common.{refl, rules, codes}
 use Rattle.std.proofs.lemmas.Result.{err_from_is_err_and}
-use Rattle.batch_recipe.specs.declared.act.TheConstants.{MAX_VALUES}
+use Rattle.batch_recipe.specs.declared.act.TheConstants.{MAX_REPORTS, MAX_VALUES}
 use Rattle.toml.specs.View.{table_view}
 use Rattle.batch_reader.proofs.EntryFaults.{few_told, label_told, name_or_told, table_told}
 use Rattle.batch_reader.specs.declared.fault.TableKind.TheVariants.{Phase}
@@ -16,6 +16,11 @@ returns-in_err-values-clause-refused c =
     let p = err_from_is_err_and c.from_residual-in_err-values.result c.from_residual-in_err-values.ensures.1 in
     rw (p.1, p.2) (λ known act h. c.in_err-values.ensures.refused known h.handed.items h.values)
 
+pub returns-in_err-reports-clause-refused : goal.returns-in_err-reports-clause-refused
+returns-in_err-reports-clause-refused c =
+    let p = err_from_is_err_and c.from_residual-in_err-reports.result c.from_residual-in_err-reports.ensures.1 in
+    rw (p.1, p.2) (λ known act h. c.in_err-reports.ensures.refused known h.reported.items h.reports)
+
 pub returns-clause-ok : goal.returns-clause-ok
 returns-clause-ok c = record {
   keys = search rules;
@@ -24,9 +29,11 @@ returns-clause-ok c = record {
   needs = c.in_ok-needs.ensures.ok;
   phase = c.in_ok-phase.phase;
   handed = c.in_ok-values.values;
+  reported = c.in_ok-reports.reports;
   work = refl;
   runs = c.in_ok-phase.ensures.ok;
   values = c.in_ok-values.ensures.ok;
+  reports = c.in_ok-reports.ensures.ok;
 }
 
 pub returns-in_err-name-clause-told : goal.returns-in_err-name-clause-told
@@ -48,3 +55,8 @@ pub returns-in_err-values-clause-told : goal.returns-in_err-values-clause-told
 returns-in_err-values-clause-told c =
     let p = err_from_is_err_and c.from_residual-in_err-values.result c.from_residual-in_err-values.ensures.1 in
     rw (p.1, p.2) (table_told Phase (table_view c.args.table.now) 3 _ refl _ _ (few_told (codes "values") (table_view c.args.table.now) MAX_VALUES _ _ c.in_err-values.ensures.refused c.in_err-values.ensures.told))
+
+pub returns-in_err-reports-clause-told : goal.returns-in_err-reports-clause-told
+returns-in_err-reports-clause-told c =
+    let p = err_from_is_err_and c.from_residual-in_err-reports.result c.from_residual-in_err-reports.ensures.1 in
+    rw (p.1, p.2) (table_told Phase (table_view c.args.table.now) 4 _ refl _ _ (few_told (codes "reports") (table_view c.args.table.now) MAX_REPORTS _ _ c.in_err-reports.ensures.refused c.in_err-reports.ensures.told))

@@ -53,6 +53,7 @@ new-requires c =
       few_outputs = sound.few_outputs;
       few_roles = sound.few_roles;
       own_roles = sound.own_roles;
+      own_reports = sound.own_reports;
       some_unit_procedures = sound.some_unit_procedures;
       few_unit_procedures = sound.few_unit_procedures;
       some_operations = sound.some_operations;

@@ -15,6 +15,7 @@ returns c = record {
   fault_reply = rw (decimal_digit 1 (lit< tt), decimal_digit 0 (lit< tt)) refl;
   refused_report = refl;
   refused_output = refl;
+  refused_leaving_out = refl;
   refused_binding = refl;
   refused_value = refl;
   refused_removal = refl;
