@@ -170,10 +170,6 @@ module _ (v : EngineView) (k : IsKept v) (i : ℕ) (b : Batch) (at : slice_get v
       }
 
   -- a resource's number is one that the arbiter has
-  pub known : (name : Name) (q : ℕ) → number_of v.cleared name ≡ Some q → q < resource_count v.allocation
-  known name q e =
-      omega (arith, Rattle.std.proofs.lemmas.Option.slice_get_within (names_of v.cleared) q name (named v.cleared name q e), ap (λ (xs : List ℕ). length xs) k.cell.capacities, length-capacities v.cleared.cell)
-
   in-lists : (name : Name) (q : ℕ) → number_of v.cleared name ≡ Some q → q < length (names_of v.cleared)
   in-lists name q e = Rattle.std.proofs.lemmas.Option.slice_get_within (names_of v.cleared) q name (named v.cleared name q e)
 

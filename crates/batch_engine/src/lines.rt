@@ -5,13 +5,14 @@ ghost use Rattle.batch_chart.specs.declared.chart_move.Move.TheVariants as Moves
 ghost use Rattle.batch_model.specs.Moves.{handed_values};
 ghost use Rattle.batch_recipe.specs.declared.act.TheConstants.{MAX_VALUES};
 ghost use Rattle.batch_engine.specs.Names.{handed_of, node_of};
-ghost use Rattle.batch_engine.specs.Steps.{IsNeedAt, IsNext, IsNextStep, IsNodeAt, IsOwnStep, IsPhaseAt, IsUnitAt, Tells};
-ghost use Rattle.batch_engine.specs.Surface.{move_of};
+ghost use Rattle.batch_engine.specs.Steps.{IsNeedAt, IsNext, IsNextStep, IsNodeAt, IsOwnStep, IsPhaseAt, Tells, TellsNext};
 
+use crate::batch::Batch;
 use crate::control::Control;
 use crate::line::Line;
 use crate::numbering::number_on;
 use crate::numbers::{PhaseNumber, ResourceNumber, TaskNumber};
+use crate::pending::resource_at;
 use crate::step::Step;
 use batch_chart::Move;
 use batch_matrix::Command;
@@ -44,14 +45,12 @@ fn handed(recipe: &Recipe, node: u16, values: &Values) -> [u64; MAX_VALUES]
 }
 
 impl Control {
-    /// The numbers of the phase that an act of the batch at an index runs. Those of an act that runs none name nothing.
+    /// The numbers of the phase that an act of a batch runs. Those of an act that runs none name nothing.
     #[inline(always)]
-    pub(crate) fn phase_at(&self, index: usize, node: u16) -> PhaseNumber
-        requires { IsNodeAt self.now index node }
-        ensures named { IsPhaseAt self.now index node result.unit result.phase }
-        ensures unit { IsUnitAt self.now index node result.unit }
+    pub(crate) fn phase_at(&self, batch: &Batch, node: u16) -> PhaseNumber
+        requires { IsNodeAt self.now batch.now node }
+        ensures { IsPhaseAt self.now.cleared batch.now node result.unit result.phase }
     {
-        let batch = &self.batches[index];
         let numbers = &self.numbers[usize::from(batch.recipe)];
         let act = &numbers.acts[usize::from(node)];
         match act.task {
@@ -64,13 +63,12 @@ impl Control {
         }
     }
 
-    /// The line of a phase of the batch at an index that is told to do something.
-    fn send_line(&self, index: usize, node: u16, command: Command) -> Line
-        requires { IsNodeAt self.now index node }
-        ensures { Tells self.now index (Moves.Send node command) result }
+    /// The line of a phase of a batch that is told to do something.
+    fn send_line(&self, batch: &Batch, node: u16, command: Command) -> Line
+        requires { IsNodeAt self.now batch.now node }
+        ensures { Tells self.now batch.now (Moves.Send node command) result }
     {
-        let PhaseNumber { unit, phase } = self.phase_at(index, node);
-        let batch = &self.batches[index];
+        let PhaseNumber { unit, phase } = self.phase_at(batch, node);
         Line::Send {
             batch: batch.number,
             recipe: batch.recipe,
@@ -81,13 +79,12 @@ impl Control {
         }
     }
 
-    /// The line of an act of the batch at an index that gives a resource back.
-    fn release_line(&self, index: usize, node: u16, need: u16) -> Line
-        requires { IsNeedAt self.now index node need }
-        ensures { Tells self.now index (Moves.Release node need) result }
+    /// The line of an act of a batch that gives a resource back.
+    fn release_line(&self, batch: &Batch, node: u16, need: u16) -> Line
+        requires { IsNeedAt self.now self.now.numbers batch.now node need }
+        ensures { Tells self.now batch.now (Moves.Release node need) result }
     {
-        let (resource, units) = self.resource_at(index, node, need);
-        let batch = &self.batches[index];
+        let (resource, units) = resource_at(&self.numbers, batch, node, need);
         Line::Release {
             batch: batch.number,
             recipe: batch.recipe,
@@ -97,13 +94,12 @@ impl Control {
         }
     }
 
-    /// The line of a phase of the batch at an index that starts.
-    fn start_line(&self, index: usize, node: u16) -> Line
-        requires { IsNodeAt self.now index node }
-        ensures { Tells self.now index (Moves.Start node) result }
+    /// The line of a phase of a batch that starts.
+    fn start_line(&self, batch: &Batch, node: u16) -> Line
+        requires { IsNodeAt self.now batch.now node }
+        ensures { Tells self.now batch.now (Moves.Start node) result }
     {
-        let PhaseNumber { unit, phase } = self.phase_at(index, node);
-        let batch = &self.batches[index];
+        let PhaseNumber { unit, phase } = self.phase_at(batch, node);
         let recipe = &self.cleared.recipes()[usize::from(batch.recipe)];
         Line::Start {
             batch: batch.number,
@@ -115,13 +111,12 @@ impl Control {
         }
     }
 
-    /// The line of an act of the batch at an index that asks for a resource.
-    fn ask_line(&self, index: usize, node: u16, need: u16) -> Line
-        requires { IsNeedAt self.now index node need }
-        ensures { Tells self.now index (Moves.Ask node need) result }
+    /// The line of an act of a batch that asks for a resource.
+    fn ask_line(&self, batch: &Batch, node: u16, need: u16) -> Line
+        requires { IsNeedAt self.now self.now.numbers batch.now node need }
+        ensures { Tells self.now batch.now (Moves.Ask node need) result }
     {
-        let (resource, units) = self.resource_at(index, node, need);
-        let batch = &self.batches[index];
+        let (resource, units) = resource_at(&self.numbers, batch, node, need);
         Line::Ask {
             batch: batch.number,
             recipe: batch.recipe,
@@ -134,37 +129,37 @@ impl Control {
     /// The line of a move of the batch at an index.
     fn own_line(&self, index: usize, made: Move) -> Line
         requires { IsOwnStep self.now (IsNext self.now) index made }
-        ensures { IsNext self.now (move_of self.now.cleared result) }
+        ensures { TellsNext self.now result }
     {
         let batch = &self.batches[index];
         let number = batch.number;
         let recipe = batch.recipe;
         match made {
-            Move::Send { node, command } => self.send_line(index, node, command),
+            Move::Send { node, command } => self.send_line(batch, node, command),
             Move::State(state) => Line::State {
                 batch: number,
                 state,
             },
-            Move::Release { node, need } => self.release_line(index, node, need),
+            Move::Release { node, need } => self.release_line(batch, node, need),
             Move::Begin { node } => Line::Begin {
                 batch: number,
                 recipe,
                 node,
             },
-            Move::Start { node } => self.start_line(index, node),
+            Move::Start { node } => self.start_line(batch, node),
             Move::End { node } => Line::End {
                 batch: number,
                 recipe,
                 node,
             },
-            Move::Ask { node, need } => self.ask_line(index, node, need),
+            Move::Ask { node, need } => self.ask_line(batch, node, need),
         }
     }
 
     /// The line of a step.
     pub(crate) fn line_of(&self, step: Step) -> Line
         requires { IsNextStep self.now (Some step) }
-        ensures { IsNext self.now (move_of self.now.cleared result) }
+        ensures { TellsNext self.now result }
     {
         match step {
             Step::Own { index, made } => self.own_line(index, made),

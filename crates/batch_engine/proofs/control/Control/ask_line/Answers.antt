@@ -1,19 +1,14 @@
-use Rattle.std.proofs.Common.{◌≡◌}
-use Rattle.batch_chart.specs.Seen.{move_of}
-use Rattle.batch_chart.specs.declared.chart_move.Move.TheVariants as Chart
-use Rattle.batch_engine.specs.declared.batch.Batch.{Batch}
-use Rattle.batch_engine.specs.declared.line.Line.TheVariants as Lines
-use Rattle.batch_engine.specs.Surface as Surface
-use Rattle.batch_engine.specs.View.{EngineView, batch_of, tree_of}
-use Rattle.batch_engine.proofs.Answering.{at-same}
+use Rattle.std.proofs.Common.{◌∙◌, ap}
+use Rattle.batch_engine.specs.Steps.{IsNeedAt}
+use Rattle.batch_engine.specs.View.{EngineView}
+use Rattle.batch_engine.proofs.Seats.{needed}
 use Rattle.batch_engine.proofs.Telling.{ask-told}
-use Rattle.batch_engine.proofs.Seats.{IsRead, read-there}
 use Rattle.batch_engine.proofs.control.Control.ask_line.Goals as goal
+
+pub resource_at-resource-requires : goal.resource_at-resource-requires
+resource_at-resource-requires c = (c.args.self.now, needed (c.deref.ensures.value ∙ ap (λ (z : EngineView). z.numbers) c.self.view_is) c.requires)
 
 pub returns : goal.returns
 returns c =
-    let v : EngineView = c.args.self.now in
-    let b : Batch = c.index-batch.result.now in
-    let r : IsRead v c.args.index b = read-there c.self.view_is c.self.invariant.kept c.requires.1 c.index-batch.ensures in
-    λ d e. at-same v.batches c.args.index b d (λ (z : Batch). Surface.move_of v.cleared (Lines.Ask b.number b.recipe c.args.node c.resource_at-resource.result.0 c.resource_at-resource.result.1) ≡ move_of (tree_of v.cleared z) (batch_of v.cleared z) (Chart.Ask c.args.node c.args.need)) r.at e
-    (ask-told v r.kept c.args.index b r.at c.args.node c.args.need c.resource_at-resource.result.0 c.resource_at-resource.result.1 (c.resource_at-resource.ensures b r.at).0 (c.resource_at-resource.ensures b r.at).1)
+    let number = c.resource_at-resource.ensures c.args.self.now (needed (c.deref.ensures.value ∙ ap (λ (z : EngineView). z.numbers) c.self.view_is) c.requires) in
+    ask-told c.args.self.now c.requires.kept c.requires.index c.args.batch.now c.requires.at number
