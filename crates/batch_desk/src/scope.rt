@@ -23,11 +23,9 @@ impl Scope {
             Scope::Unit(mine) => match line {
                 Line::Send { unit, .. } | Line::Start { unit, .. } => mine == unit,
                 Line::State { .. }
-                | Line::Release { .. }
                 | Line::Begin { .. }
                 | Line::End { .. }
-                | Line::Ask { .. }
-                | Line::Grant { .. } => false,
+                | Line::Claim { .. } => false,
             },
         }
     }

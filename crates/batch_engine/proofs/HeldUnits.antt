@@ -1,5 +1,5 @@
 -- The batch that holds a unit is found by what is noted of it.
-use Rattle.std.proofs.Common.{◌≡◌, ◌<◌, refl, sym, ◌∙◌, ap, ap₂, subst, subst₂, ℕ, List, Bool, true, false, Option, Some, None, arith, get_or, length, nat_eq}
+use Rattle.std.proofs.Common.{◌≡◌, ◌<◌, refl, sym, ◌∙◌, ap, subst, subst₂, ℕ, List, true, false, Option, Some, None, arith, get_or, length, nat_eq}
 use Rattle.std.specs.Prelude.{IfSome, slice_get, position}
 use Rattle.batch_cell.specs.LookUps.{capacities_of}
 use Rattle.batch_recipe.specs.Conditions.{Name}
@@ -18,6 +18,7 @@ use Rattle.batch_engine.specs.Steps.{IsNext, IsStep, Makes, MakesNext, TellsNext
 use Rattle.batch_engine.specs.Surface.{move_of, reply_of}
 use Rattle.batch_engine.specs.View.{EngineView, setup, batch_of, number_of, plant_of}
 use Rattle.batch_engine.specs.declared.batch.Batch.{Batch}
+use Rattle.batch_engine.specs.declared.line.ClaimKind.{ClaimKind}
 use Rattle.batch_engine.specs.declared.line.Line.{Line}
 use Rattle.batch_engine.specs.declared.reply.Reply.{Reply}
 use Rattle.batch_engine.specs.declared.step.Step.{Step}
@@ -76,7 +77,7 @@ module _ (v : EngineView) (k : IsKept v) (hs : List ℕ) (are : AreNoted v hs) (
 -- What is noted of a line
 
 line-noted : (v : EngineView) → IsKept v → (line : Line) → IfSome (touched_by line) (λ q. q < resource_count v.allocation) → (hs : List ℕ) → noted_by line hs ≡ noted (number_of v.cleared) (move_of v.cleared line) hs
-line-noted v k (Line.Grant batch recipe node q units) known hs =
+line-noted v k (Line.Claim ClaimKind.Granted batch recipe node q units) known hs =
     ap (λ (o : Option ℕ). let r : List ℕ = elim (nat_eq units 1) [ true ↦ noted_for o batch hs | false ↦ hs ] in r) (sym (number-named v k q known))
 line-noted v k line known hs = grind arith
 

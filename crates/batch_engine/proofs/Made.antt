@@ -20,8 +20,7 @@ use Rattle.batch_machine.proofs.Falling.{one_act}
 use Rattle.batch_machine.proofs.Rising.{acts-rise}
 use Rattle.batch_model.proofs.Members.{Has-left, Has-right}
 use Rattle.batch_laws.proofs.Entries.{IsOnce, same_act, act_self, filter-Has, name_self}
-use Rattle.batch_arbiter.specs.Allocation.{Claim, shares_of, line_of, asked, granted, released, is_claim, IsHeld, next_grant, batch_node, capacity_of, resource_count}
-use Rattle.batch_engine.proofs.Cells.{length-capacities}
+use Rattle.batch_arbiter.specs.Allocation.{Claim, shares_of, line_of, asked, granted, released, is_claim, IsHeld, next_grant, batch_node, capacity_of}
 use Rattle.batch_chart.specs.NodesOf.{no_need, place_at, step_at, task_at, need_at}
 use Rattle.batch_recipe.specs.Nodes.{node_count}
 use Rattle.batch_chart.specs.Charts.{IsRunningOf, AsksAt, remains, StandsFor}

@@ -12,9 +12,9 @@ use Rattle.batch_recipe.specs.declared.recipe.Recipe.{Recipe}
 use Rattle.batch_recipe.specs.declared.role.Role as document
 use Rattle.batch_recipe.specs.Nodes.{node_count}
 use Rattle.batch_verify.specs.ClearedSet.{ClearedSet}
-use Rattle.batch_chart.specs.NodesOf.{node_at, phase_at, phase_named}
+use Rattle.batch_chart.specs.NodesOf.{node_at, phase_named}
 use Rattle.batch_engine.specs.Kept.{AreUnits, IsKept}
-use Rattle.batch_engine.specs.Names.{phase_name, resource_name, roles_at}
+use Rattle.batch_engine.specs.Names.{resource_name, roles_at}
 use Rattle.batch_engine.specs.Numbered as Numbers
 use Rattle.batch_engine.specs.Numbered.{IsActNumbered, IsOfRoles, IsTaskNumbered, number_for, number_with, phase_on, resource_number}
 use Rattle.batch_engine.specs.Steps.{IsPhaseAt}

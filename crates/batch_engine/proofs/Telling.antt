@@ -20,6 +20,7 @@ use Rattle.batch_chart.specs.NodesOf as Tree
 use Rattle.batch_chart.specs.NodesOf.{nodes_of, need_at, task_of}
 use Rattle.batch_chart.specs.declared.chart_move.Move.TheVariants as Chart
 use Rattle.batch_engine.specs.declared.batch.Batch.{Batch}
+use Rattle.batch_engine.specs.declared.line.ClaimKind.TheVariants.{Asked, Granted, Released}
 use Rattle.batch_engine.specs.declared.line.Line.TheVariants as Lines
 use Rattle.batch_engine.specs.Names as Names
 use Rattle.batch_engine.specs.Steps.{IsNext, IsNumberAt, IsPhaseAt, Tells, TellsNext}
@@ -142,13 +143,13 @@ module _ (v : EngineView) (k : IsKept v) (i : ℕ) (b : Batch) (at : slice_get v
   pub end-told : (n : ℕ) → Tells v b (Chart.End n) (Lines.End b.number b.recipe n)
   end-told n = record { is = ap (Moves.end b.number) (place-here n); known = tt }
 
-  pub ask-told : {n need q u : ℕ} → IsNumberAt v.cleared b n need q u → Tells v b (Chart.Ask n need) (Lines.Ask b.number b.recipe n q u)
+  pub ask-told : {n need q u : ℕ} → IsNumberAt v.cleared b n need q u → Tells v b (Chart.Ask n need) (Lines.Claim Asked b.number b.recipe n q u)
   ask-told {n} {need} {q} {u} h = record { is = ap₂ (Moves.ask b.number) (place-here n) (need-here n need q u h.0 h.1); known = tt }
 
-  pub release-told : {n need q u : ℕ} → IsNumberAt v.cleared b n need q u → Tells v b (Chart.Release n need) (Lines.Release b.number b.recipe n q u)
+  pub release-told : {n need q u : ℕ} → IsNumberAt v.cleared b n need q u → Tells v b (Chart.Release n need) (Lines.Claim Released b.number b.recipe n q u)
   release-told {n} {need} {q} {u} h = record { is = ap₂ (Moves.release b.number) (place-here n) (need-here n need q u h.0 h.1); known = known-resource v k (need_at (tree_of v.cleared b) n need).resource q h.0 }
 
   pub grant-told : (need : ℕ) {n q u : ℕ} → IsNumberAt v.cleared b n need q u → IsNext v (Moves.grant b.number (Tree.place_at (tree_of v.cleared b) n) (need_at (tree_of v.cleared b) n need))
-      → TellsNext v (Lines.Grant b.number b.recipe n q u)
+      → TellsNext v (Lines.Claim Granted b.number b.recipe n q u)
   grant-told need {n} {q} {u} h is =
       record { is = subst (IsNext v) (sym (ap₂ (Moves.grant b.number) (place-here n) (need-here n need q u h.0 h.1))) is; known = known-resource v k (need_at (tree_of v.cleared b) n need).resource q h.0 }

@@ -25,6 +25,7 @@ use Rattle.batch_verify.specs.ClearedSet.{ClearedSet}
 use Rattle.batch_arbiter.specs.Allocation.{next_grant, batch_node, resource_count}
 use Rattle.batch_chart.specs.Seen.{move_of}
 use Rattle.batch_engine.specs.declared.batch.Batch.{Batch}
+use Rattle.batch_engine.specs.declared.line.ClaimKind.{ClaimKind}
 use Rattle.batch_engine.specs.declared.line.Line.{Line}
 use Rattle.batch_engine.specs.declared.reply.Reply.{Reply}
 use Rattle.batch_engine.specs.declared.step.Step as steps
@@ -236,8 +237,8 @@ number-named v k q known =
 
 line-touches : (v : EngineView) (k : IsKept v) (line : Line) → IfSome (touched_by line) (λ q. q < resource_count v.allocation) → (resource : Name) → touched (Surface.move_of v.cleared line) ≡ Some resource
     → (q : ℕ) × (touched_by line ≡ Some q) × (number_of v.cleared resource ≡ Some q)
-line-touches v k (Line.Release batch recipe node q units) known resource e = (q, refl, subst (λ name. number_of v.cleared name ≡ Some q) (let same : resource_name v.cleared q ≡ resource = cc in same) (number-named v k q known))
-line-touches v k (Line.Grant batch recipe node q units) known resource e = (q, refl, subst (λ name. number_of v.cleared name ≡ Some q) (let same : resource_name v.cleared q ≡ resource = cc in same) (number-named v k q known))
+line-touches v k (Line.Claim ClaimKind.Released batch recipe node q units) known resource e = (q, refl, subst (λ name. number_of v.cleared name ≡ Some q) (let same : resource_name v.cleared q ≡ resource = cc in same) (number-named v k q known))
+line-touches v k (Line.Claim ClaimKind.Granted batch recipe node q units) known resource e = (q, refl, subst (λ name. number_of v.cleared name ≡ Some q) (let same : resource_name v.cleared q ≡ resource = cc in same) (number-named v k q known))
 line-touches v k line known resource e = absurd (grind arith)
 
 pub next-touches : (v : EngineView) → IsKept v → (line : Line) → TellsNext v line → IsTouched v (touched_by line)

@@ -14,6 +14,7 @@ use Rattle.batch_recipe.specs.declared.recipe.Recipe as document
 use Rattle.batch_chart.specs.declared.chart_move.Move.{Move}
 use Rattle.batch_chart.specs.declared.chart_move.Move.TheVariants.{Send, Begin, Start, End}
 use Rattle.batch_engine.specs.declared.batch.Batch.{Batch}
+use Rattle.batch_engine.specs.declared.line.ClaimKind.{ClaimKind}
 use Rattle.batch_engine.specs.declared.line.Line.{Line}
 use Rattle.batch_engine.specs.declared.step.Step.{Step}
 use Rattle.batch_engine.specs.declared.step.Step.TheVariants.{Own, Grant}
@@ -89,8 +90,8 @@ IsFirstGrant v b (Some (node, resource, units)) =
 
 -- the resource of which the move of a line gives or takes a share
 abbrev pub touched_by : Line → Option ℕ
-touched_by (Line.Release batch recipe node resource units) = Some resource
-touched_by (Line.Grant batch recipe node resource units) = Some resource
+touched_by (Line.Claim ClaimKind.Granted batch recipe node resource units) = Some resource
+touched_by (Line.Claim ClaimKind.Released batch recipe node resource units) = Some resource
 touched_by _ = None
 
 -- a move that neither asks for anything, nor gives anything back, nor changes the batch's state

@@ -4,7 +4,7 @@ ghost use Rattle.batch_cell.specs.LookUps.{resources_of};
 ghost use Rattle.batch_engine.specs.Marking.{noted_by};
 ghost use Rattle.batch_engine.specs.Steps.{touched_by};
 
-use crate::line::Line;
+use crate::line::{ClaimKind, Line};
 use batch_cell::Cell;
 use std::alloc::{AllocError, Global};
 
@@ -24,7 +24,8 @@ pub fn note_grant(holders: &mut Vec<u64>, line: &Line)
     requires { IfSome (touched_by line.now) (λ resource. resource < length holders.old.items) }
     ensures { holders.new.items ≡ noted_by line.now holders.old.items }
 {
-    if let Line::Grant {
+    if let Line::Claim {
+        kind: ClaimKind::Granted,
         batch,
         resource,
         units: 1,

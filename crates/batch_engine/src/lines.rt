@@ -4,12 +4,13 @@ ghost use Rattle.std.specs.List.{zip};
 ghost use Rattle.batch_chart.specs.declared.chart_move.Move.TheVariants as Moves;
 ghost use Rattle.batch_model.specs.Moves.{handed_values};
 ghost use Rattle.batch_recipe.specs.declared.act.TheConstants.{MAX_VALUES};
+ghost use Rattle.batch_engine.specs.declared.line.Line.TheVariants as Lines;
 ghost use Rattle.batch_engine.specs.Names.{handed_of, node_of};
-ghost use Rattle.batch_engine.specs.Steps.{IsNeedAt, IsNext, IsNextStep, IsNodeAt, IsOwnStep, IsPhaseAt, Tells, TellsNext};
+ghost use Rattle.batch_engine.specs.Steps.{IsNext, IsNextStep, IsNodeAt, IsOwnStep, IsPhaseAt, Tells, TellsNext};
 
 use crate::batch::Batch;
 use crate::control::Control;
-use crate::line::Line;
+use crate::line::{ClaimKind, Line};
 use crate::numbering::number_on;
 use crate::numbers::{PhaseNumber, ResourceNumber, TaskNumber};
 use crate::pending::resource_at;
@@ -41,6 +42,22 @@ fn handed(recipe: &Recipe, node: u16, values: &Values) -> [u64; MAX_VALUES]
             Work::Follows(_) => [0; MAX_VALUES],
         },
         None => [0; MAX_VALUES],
+    }
+}
+
+/// The line of an act's claim: on which resource, and on how many units of it.
+#[inline(always)]
+fn claim_line(kind: ClaimKind, batch: &Batch, node: u16, share: (u16, u32)) -> Line
+    ensures { result ≡ Lines.Claim kind batch.now.number batch.now.recipe node share.0 share.1 }
+{
+    let (resource, units) = share;
+    Line::Claim {
+        kind,
+        batch: batch.number,
+        recipe: batch.recipe,
+        node,
+        resource,
+        units,
     }
 }
 
@@ -79,21 +96,6 @@ impl Control {
         }
     }
 
-    /// The line of an act of a batch that gives a resource back.
-    fn release_line(&self, batch: &Batch, node: u16, need: u16) -> Line
-        requires { IsNeedAt self.now self.now.numbers batch.now node need }
-        ensures { Tells self.now batch.now (Moves.Release node need) result }
-    {
-        let (resource, units) = resource_at(&self.numbers, batch, node, need);
-        Line::Release {
-            batch: batch.number,
-            recipe: batch.recipe,
-            node,
-            resource,
-            units,
-        }
-    }
-
     /// The line of a phase of a batch that starts.
     fn start_line(&self, batch: &Batch, node: u16) -> Line
         requires { IsNodeAt self.now batch.now node }
@@ -111,21 +113,6 @@ impl Control {
         }
     }
 
-    /// The line of an act of a batch that asks for a resource.
-    fn ask_line(&self, batch: &Batch, node: u16, need: u16) -> Line
-        requires { IsNeedAt self.now self.now.numbers batch.now node need }
-        ensures { Tells self.now batch.now (Moves.Ask node need) result }
-    {
-        let (resource, units) = resource_at(&self.numbers, batch, node, need);
-        Line::Ask {
-            batch: batch.number,
-            recipe: batch.recipe,
-            node,
-            resource,
-            units,
-        }
-    }
-
     /// The line of a move of the batch at an index.
     fn own_line(&self, index: usize, made: Move) -> Line
         requires { IsOwnStep self.now (IsNext self.now) index made }
@@ -140,7 +127,10 @@ impl Control {
                 batch: number,
                 state,
             },
-            Move::Release { node, need } => self.release_line(batch, node, need),
+            Move::Release { node, need } => {
+                let share = resource_at(&self.numbers, batch, node, need);
+                claim_line(ClaimKind::Released, batch, node, share)
+            }
             Move::Begin { node } => Line::Begin {
                 batch: number,
                 recipe,
@@ -152,7 +142,10 @@ impl Control {
                 recipe,
                 node,
             },
-            Move::Ask { node, need } => self.ask_line(batch, node, need),
+            Move::Ask { node, need } => {
+                let share = resource_at(&self.numbers, batch, node, need);
+                claim_line(ClaimKind::Asked, batch, node, share)
+            }
         }
     }
 
@@ -170,13 +163,7 @@ impl Control {
                 units,
             } => {
                 let batch = &self.batches[index];
-                Line::Grant {
-                    batch: batch.number,
-                    recipe: batch.recipe,
-                    node,
-                    resource,
-                    units,
-                }
+                claim_line(ClaimKind::Granted, batch, node, (resource, units))
             }
         }
     }

@@ -6,7 +6,7 @@ ghost use Rattle.batch_engine.specs.Marking.{AreAnswerMarked, AreMoveMarked, IsF
 ghost use Rattle.batch_engine.specs.Steps.{touched_by};
 
 use crate::control::Control;
-use crate::line::Line;
+use crate::line::{ClaimKind, Line};
 use crate::marks::Marks;
 use crate::reply::Reply;
 use batch_matrix::Command;
@@ -107,7 +107,11 @@ impl Line {
         ensures { result ≡ touched_by self.now }
     {
         match self {
-            Line::Release { resource, .. } | Line::Grant { resource, .. } => Some(*resource),
+            Line::Claim {
+                kind: ClaimKind::Granted | ClaimKind::Released,
+                resource,
+                ..
+            } => Some(*resource),
             _ => None,
         }
     }

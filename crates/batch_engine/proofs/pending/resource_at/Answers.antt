@@ -3,7 +3,7 @@ use Rattle.std.specs.Prelude.{slice_get}
 use Rattle.std.proofs.lemmas.Option.{slice_get_read}
 use Rattle.batch_chart.specs.NodesOf.{need_at, no_need, node_at, step_at}
 use Rattle.batch_engine.specs.Names.{roles_at}
-use Rattle.batch_engine.specs.Numbered.{AreActsNumbered, IsActNumbered, need_number, need_with}
+use Rattle.batch_engine.specs.Numbered.{IsActNumbered, need_number, need_with}
 use Rattle.batch_engine.specs.Steps.{IsNeedAt}
 use Rattle.batch_engine.specs.View.{EngineView, bound_to, recipe_made, tree_of}
 use Rattle.batch_engine.specs.declared.batch.Batch.{Batch}

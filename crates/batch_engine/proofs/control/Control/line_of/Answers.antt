@@ -1,9 +1,9 @@
-use Rattle.std.proofs.Common.{◌≡◌, subst, ℕ, Some}
+use Rattle.std.proofs.Common.{◌≡◌, sym, subst, ℕ, Some}
 use Rattle.batch_model.specs.Moves as Moves
 use Rattle.batch_chart.specs.NodesOf.{need_at, place_at}
 use Rattle.batch_engine.specs.declared.batch.Batch.{Batch}
 use Rattle.batch_engine.specs.View.{EngineView, number_of, tree_of}
-use Rattle.batch_engine.specs.Steps.{IsGrantStep, IsNext, IsNextStep, IsNumberAt}
+use Rattle.batch_engine.specs.Steps.{IsGrantStep, IsNext, IsNextStep, IsNumberAt, TellsNext}
 use Rattle.batch_engine.proofs.Answering.{same-at}
 use Rattle.batch_engine.proofs.Seats.{IsRead, read-there}
 use Rattle.batch_engine.proofs.Telling.{grant-told}
@@ -21,5 +21,6 @@ returns-in-Grant c =
       subst (λ (z : Batch). number_of v.cleared (need_at (tree_of v.cleared z) c.in-Grant.node g.need).resource ≡ Some c.in-Grant.resource) same g.number,
       subst (λ (z : Batch). (need_at (tree_of v.cleared z) c.in-Grant.node g.need).units ≡ c.in-Grant.units) same g.units_are,
     ) in
-    grant-told v r.kept i b r.at g.need number
-    (subst (λ (z : Batch). IsNext v (Moves.grant z.number (place_at (tree_of v.cleared z) c.in-Grant.node) (need_at (tree_of v.cleared z) c.in-Grant.node g.need))) same g.is)
+    subst (TellsNext v) (sym c.claim_line.ensures)
+    (grant-told v r.kept i b r.at g.need number
+    (subst (λ (z : Batch). IsNext v (Moves.grant z.number (place_at (tree_of v.cleared z) c.in-Grant.node) (need_at (tree_of v.cleared z) c.in-Grant.node g.need))) same g.is))

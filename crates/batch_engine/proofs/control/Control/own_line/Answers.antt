@@ -1,13 +1,13 @@
-use Rattle.std.proofs.Common.{◌≡◌, sym, subst}
+use Rattle.std.proofs.Common.{◌≡◌, ◌∙◌, ap, sym, subst}
 use Rattle.batch_chart.specs.Charts.{StandsFor, remains}
 use Rattle.batch_chart.specs.declared.chart_move.Move.{Move}
 use Rattle.batch_chart.specs.declared.chart_move.Move.TheVariants as Chart
 use Rattle.batch_engine.specs.declared.line.Line.{Line}
 use Rattle.batch_engine.specs.Steps.{IsNext, IsOwnStep, Tells, TellsNext}
-use Rattle.batch_engine.specs.View.{tree_of}
+use Rattle.batch_engine.specs.View.{EngineView, tree_of}
 use Rattle.batch_engine.proofs.Answering.{step-about, step-is}
-use Rattle.batch_engine.proofs.Seats.{IsRead, needs-there, read-there}
-use Rattle.batch_engine.proofs.Telling.{begin-told, end-told, state-told}
+use Rattle.batch_engine.proofs.Seats.{IsRead, needed, needs-there, read-there}
+use Rattle.batch_engine.proofs.Telling.{ask-told, begin-told, end-told, release-told, state-told}
 use Rattle.batch_engine.proofs.control.Control.own_line.Goals as goal
 use Rattle.batch_engine.proofs.control.Control.own_line.Goals.{After-index-batch}
 
@@ -41,23 +41,33 @@ start_line-requires c =
 pub returns-in-Start : goal.returns-in-Start
 returns-in-Start c = next (goal.at.returns-in-Start c).After-index-batch (Chart.Start c.in-Start.node) c.in-Start.is c.start_line.ensures
 
-pub release_line-requires : goal.release_line-requires
-release_line-requires c =
-    let s = (goal.at.release_line-requires c).After-index-batch in
+pub resource_at-share-requires : goal.resource_at-share-requires
+resource_at-share-requires c =
+    let s = (goal.at.resource_at-share-requires c).After-index-batch in
     let stands = about s (Chart.Release c.in-Release.node c.in-Release.need) c.in-Release.is in
-    needs-there (read s) stands.0 stands.1
+    (c.args.self.now, needed (c.deref.ensures.value ∙ ap (λ (z : EngineView). z.numbers) c.self.view_is) (needs-there (read s) stands.0 stands.1))
 
 pub returns-in-Release : goal.returns-in-Release
-returns-in-Release c = next (goal.at.returns-in-Release c).After-index-batch (Chart.Release c.in-Release.node c.in-Release.need) c.in-Release.is c.release_line.ensures
+returns-in-Release c =
+    let s = (goal.at.returns-in-Release c).After-index-batch in
+    let stands = about s (Chart.Release c.in-Release.node c.in-Release.need) c.in-Release.is in
+    let number = c.resource_at-share.ensures c.args.self.now (needed (c.deref.ensures.value ∙ ap (λ (z : EngineView). z.numbers) c.self.view_is) (needs-there (read s) stands.0 stands.1)) in
+    next s (Chart.Release c.in-Release.node c.in-Release.need) c.in-Release.is
+    (subst (Tells c.args.self.now c.index-batch.result.now (Chart.Release c.in-Release.node c.in-Release.need)) (sym c.claim_line.ensures) (release-told c.args.self.now (read s).kept c.args.index c.index-batch.result.now (read s).at number))
 
-pub ask_line-requires : goal.ask_line-requires
-ask_line-requires c =
-    let s = (goal.at.ask_line-requires c).After-index-batch in
+pub resource_at-share-requires-in-Ask : goal.resource_at-share-requires-in-Ask
+resource_at-share-requires-in-Ask c =
+    let s = (goal.at.resource_at-share-requires-in-Ask c).After-index-batch in
     let stands = about s (Chart.Ask c.in-Ask.node c.in-Ask.need) c.in-Ask.is in
-    needs-there (read s) stands.0 stands.1
+    (c.args.self.now, needed (c.deref-in-Ask.ensures.value ∙ ap (λ (z : EngineView). z.numbers) c.self.view_is) (needs-there (read s) stands.0 stands.1))
 
 pub returns-in-Ask : goal.returns-in-Ask
-returns-in-Ask c = next (goal.at.returns-in-Ask c).After-index-batch (Chart.Ask c.in-Ask.node c.in-Ask.need) c.in-Ask.is c.ask_line.ensures
+returns-in-Ask c =
+    let s = (goal.at.returns-in-Ask c).After-index-batch in
+    let stands = about s (Chart.Ask c.in-Ask.node c.in-Ask.need) c.in-Ask.is in
+    let number = c.resource_at-share-in-Ask.ensures c.args.self.now (needed (c.deref-in-Ask.ensures.value ∙ ap (λ (z : EngineView). z.numbers) c.self.view_is) (needs-there (read s) stands.0 stands.1)) in
+    next s (Chart.Ask c.in-Ask.node c.in-Ask.need) c.in-Ask.is
+    (subst (Tells c.args.self.now c.index-batch.result.now (Chart.Ask c.in-Ask.node c.in-Ask.need)) (sym c.claim_line-in-Ask.ensures) (ask-told c.args.self.now (read s).kept c.args.index c.index-batch.result.now (read s).at number))
 
 pub returns-in-State : goal.returns-in-State
 returns-in-State c =

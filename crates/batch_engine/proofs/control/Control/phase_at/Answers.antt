@@ -1,4 +1,4 @@
-use Rattle.std.proofs.Common.{◌≡◌, ◌<◌, ◌∙◌, ap, ap₂, ℕ, arith, length}
+use Rattle.std.proofs.Common.{◌<◌, ◌∙◌, ap, ap₂, ℕ, arith, length}
 use Rattle.batch_cell.specs.LookUps.{units_of}
 use Rattle.batch_cell.specs.declared.cell.Cell.{Cell}
 use Rattle.batch_chart.specs.NodesOf.{node_at, phase_named}

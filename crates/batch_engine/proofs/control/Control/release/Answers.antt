@@ -1,4 +1,4 @@
-use Rattle.std.proofs.Common.{◌≡◌, ◌<◌, refl, sym, ◌∙◌, ap, subst, length}
+use Rattle.std.proofs.Common.{◌<◌, refl, sym, ◌∙◌, ap, subst, length}
 use Rattle.batch_model.specs.Moves as Moves
 use Rattle.batch_arbiter.specs.Allocation.{Allocation, IsHeld, released}
 use Rattle.batch_chart.specs.Charts.{StandsFor, remains}
