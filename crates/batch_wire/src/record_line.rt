@@ -50,16 +50,8 @@ pub fn write_out_knowing<W: Write>(
     ensures known { AreKnown cleared.now places.new }
     ensures written { Writes (W.contents writer.old) (W.contents writer.new) result (out_text (out_of cleared.now out.now)) }
 {
-    let Some(site) = site_of(out) else {
-        return write_line(
-            out,
-            cleared,
-            &ToldPlace::Known(b""),
-            &mut places.line,
-            writer,
-        );
-    };
-    let seat = seat_of(site.recipe);
+    let site = site_of(out);
+    let seat = seat_of(site);
     write_site(
         out,
         cleared,
@@ -70,26 +62,26 @@ pub fn write_out_knowing<W: Write>(
     )
 }
 
-/// Writes the line of an out that tells this site, where these places are known.
+/// Writes the line of an out that tells this site, or none, where these places are known.
 #[inline(always)]
 fn write_site<W: Write>(
     out: &Out,
     cleared: &Cleared,
-    site: Site,
+    site: Option<Site>,
     places: &mut RecipePlaces,
     room: &mut LineRoom,
     writer: &mut W,
 ) -> Result<(), WriteFault>
     requires known { AreKnownIn cleared.now places.old }
-    requires told { text_of_site cleared.now (Some site) ≡ told_by_out (out_of cleared.now out.now) }
+    requires told { text_of_site cleared.now site ≡ told_by_out (out_of cleared.now out.now) }
     ensures known { AreKnownIn cleared.now places.new }
     ensures written { Writes (W.contents writer.old) (W.contents writer.new) result (out_text (out_of cleared.now out.now)) }
 {
-    let Some(end) = places.find(cleared, site) else {
-        return write_by_pieces(out, cleared, &ToldPlace::Long { cleared, site }, writer);
+    let Some((start, end)) = places.find_site(cleared, site) else {
+        return write_out(out, cleared, writer);
     };
     let known = &places.text[..end];
-    let told = ToldPlace::Known(&known[places.start..]);
+    let told = ToldPlace::Known(&known[start..]);
     write_line(out, cleared, &told, room, writer)
 }
 
