@@ -22,12 +22,8 @@ impl Scope {
             Scope::All => true,
             Scope::Unit(mine) => match line {
                 Line::Send { unit, .. } | Line::Start { unit, .. } => mine == unit,
-                Line::State { .. }
-                | Line::Release { .. }
-                | Line::Begin { .. }
-                | Line::End { .. }
-                | Line::Ask { .. }
-                | Line::Grant { .. } => false,
+                Line::State { .. } | Line::Begin { .. } | Line::End { .. } | Line::Claim { .. } =>
+                    false,
             },
         }
     }

@@ -2,7 +2,7 @@
 use Rattle.std.proofs.Common.{◌≡◌, ◌<◌, ◌≤◌, refl, sym, ◌∙◌, ap, ap₂, subst, subst₂, ◌+◌, ℕ, zero, suc, List, [], ◌∷◌, true, Option, Some, inl, inr, arith, length, get_or, map}
 use Rattle.std.specs.Prelude.{option_map, slice_get}
 use Rattle.std.proofs.lemmas.List.Quantifiers.{position-Some}
-use Rattle.std.proofs.lemmas.Option.{slice_get_read, slice_get-get_or, get_or_from_slice_get, slice_get-map}
+use Rattle.std.proofs.lemmas.Option.{slice_get_read, slice_get_within, slice_get-get_or, get_or_from_slice_get, slice_get-map}
 use Rattle.batch_recipe.specs.Expanding.{Binding}
 use Rattle.batch_recipe.specs.declared.recipe.Recipe as document
 use Rattle.batch_model.specs.Recipes.{recipe_of}
@@ -23,7 +23,7 @@ use Rattle.batch_machine.proofs.Rising.{acts-rise}
 use Rattle.batch_model.proofs.Members.{Each-Has}
 use Rattle.batch_laws.proofs.Entries.{name_same}
 use Rattle.batch_verify.specs.ClearedSet.{ClearedSet}
-use Rattle.batch_arbiter.specs.Allocation.{Claim, shares_of, line_of, next_grant, batch_node}
+use Rattle.batch_arbiter.specs.Allocation.{Claim, shares_of, line_of, next_grant, batch_node, resource_count}
 use Rattle.batch_chart.specs.NodesOf.{no_need, place_at, need_at, step_at, task_at}
 use Rattle.batch_recipe.specs.Nodes.{node_count}
 use Rattle.batch_chart.specs.OwnMoves.{grants}
@@ -32,6 +32,7 @@ use Rattle.batch_chart.specs.Charts.{AsksAt, IsChartFor, IsChartOf, IsRunningOf,
 use Rattle.batch_engine.specs.declared.batch.Batch.{Batch}
 use Rattle.batch_engine.specs.View.{EngineView, setup, no_recipe, master_at, bound_to, recipe_at, recipe_made, batch_of, act_of, share_of, place_in, names_of, number_of, line_at, plant_of, tree_of}
 use Rattle.batch_engine.specs.Kept.{IsKept, IsRunningBatch}
+use Rattle.batch_engine.proofs.Cells.{length-capacities}
 use Rattle.batch_engine.proofs.Nodes.{same-node, within-or_past}
 use Rattle.batch_engine.proofs.Told.{placed, told, standing}
 use Rattle.batch_engine.proofs.Serving.{serves-next, next-serves, is-served}
@@ -70,6 +71,11 @@ pub named : (c : ClearedSet) (name : Name) (q : ℕ) → number_of c name ≡ So
 named c name q e =
     let p = position-Some (same_name name) (names_of c) q [] e in
     slice_get-get_or (names_of c) q [] p.0 ∙ ap Some (sym (name_same name (get_or (names_of c) q []) p.1))
+
+-- the arbiter has each resource that has a number
+pub known-resource : (v : EngineView) → IsKept v → (name : Name) (q : ℕ) → number_of v.cleared name ≡ Some q → q < resource_count v.allocation
+known-resource v k name q e =
+    omega (arith, slice_get_within (names_of v.cleared) q name (named v.cleared name q e), ap (λ (xs : List ℕ). length xs) k.cell.capacities, length-capacities v.cleared.cell)
 
 pub Has-shares : {X Y : Type 0} (f : X → Y) (xs : List X) (x : X) → Has xs x → Has (map f xs) (f x)
 Has-shares f [] x h = absurd h

@@ -1,39 +1,34 @@
 -- The batch that holds a unit is found by what is noted of it.
-use Rattle.std.proofs.Common.{◌≡◌, refl, sym, ◌∙◌, ap, ap₂, subst, subst₂, ℕ, List, Bool, true, false, Option, Some, None, arith, get_or, length, nat_eq}
-use Rattle.std.specs.Prelude.{slice_get, slice_set, position}
+use Rattle.std.proofs.Common.{◌≡◌, ◌<◌, refl, sym, ◌∙◌, ap, subst, subst₂, ℕ, List, true, false, Option, Some, None, arith, get_or, length, nat_eq}
+use Rattle.std.specs.Prelude.{IfSome, slice_get, position}
 use Rattle.batch_cell.specs.LookUps.{capacities_of}
 use Rattle.batch_recipe.specs.Conditions.{Name}
-use Rattle.batch_recipe.specs.Tree.{Tree}
-use Rattle.batch_recipe.specs.declared.need.Need.{Need}
 use Rattle.batch_model.specs.Events.{LivePhase, live_in}
-use Rattle.batch_model.specs.Moves.{Move, after, grant}
+use Rattle.batch_model.specs.Moves.{Move, after}
 use Rattle.batch_model.specs.Events as Events
-use Rattle.batch_model.specs.Plant as Model
 use Rattle.batch_model.specs.Plant.{Plant}
 use Rattle.batch_model.specs.Rest.{acts}
+use Rattle.batch_arbiter.specs.Allocation.{resource_count}
 use Rattle.batch_verify.specs.ClearedSet.{ClearedSet}
-use Rattle.batch_chart.specs.NodesOf.{need_at, place_at}
-use Rattle.batch_chart.specs.Seen.{move_of}
-use Rattle.batch_chart.specs.declared.chart_move.Move as ChartMove
 use Rattle.batch_engine.specs.Answered.{IsAnswered}
 use Rattle.batch_engine.specs.Kept.{IsKept}
 use Rattle.batch_engine.specs.Marked.{AreNotedBy, AreNoted}
-use Rattle.batch_engine.specs.Marking.{noted, noted_for}
-use Rattle.batch_engine.specs.Steps.{IsNext, IsStep, Makes, MakesNext}
-use Rattle.batch_engine.specs.Surface.{reply_of}
-use Rattle.batch_engine.specs.View.{EngineView, setup, batch_of, number_of, plant_of, tree_of}
+use Rattle.batch_engine.specs.Marking.{noted, noted_by, noted_for}
+use Rattle.batch_engine.specs.Steps.{IsNext, IsStep, Makes, MakesNext, TellsNext, touched_by}
+use Rattle.batch_engine.specs.Surface.{move_of, reply_of}
+use Rattle.batch_engine.specs.View.{EngineView, setup, batch_of, number_of, plant_of}
 use Rattle.batch_engine.specs.declared.batch.Batch.{Batch}
+use Rattle.batch_engine.specs.declared.line.ClaimKind.{ClaimKind}
+use Rattle.batch_engine.specs.declared.line.Line.{Line}
 use Rattle.batch_engine.specs.declared.reply.Reply.{Reply}
 use Rattle.batch_engine.specs.declared.step.Step.{Step}
-use Rattle.batch_engine.specs.declared.step.Step.TheVariants.{Own, Grant}
-use Rattle.batch_engine.proofs.Answering.{same-at}
 use Rattle.batch_engine.proofs.BatchPlaces.{Has-batch_of}
-use Rattle.batch_engine.proofs.Finding.{Has-get}
+use Rattle.batch_engine.proofs.Finding.{Has-get, known-resource}
 use Rattle.batch_engine.proofs.Made.{same-next}
 use Rattle.batch_engine.proofs.Making.{same-number}
 use Rattle.batch_engine.proofs.Noted.{live-noted, move-noted, noted-length, reply-noted}
 use Rattle.batch_engine.proofs.Told.{down}
-use Rattle.batch_engine.proofs.Unmarked.{found-nowhere, found-there, known-resource, same-count, step-move, untested}
+use Rattle.batch_engine.proofs.Unmarked.{found-nowhere, found-there, number-named, same-count, step-move}
 
 -- what has capacity 1 is a resource
 known-capacity : (c : ClearedSet) (name : Name) → (setup c).capacity name ≡ 1 → (q : ℕ) × (number_of c name ≡ Some q)
@@ -79,40 +74,15 @@ module _ (v : EngineView) (k : IsKept v) (hs : List ℕ) (are : AreNoted v hs) (
       pub live-elsewhere : (j : ℕ) (d : Batch) → slice_get v.batches j ≡ Some d → (j ≡ i → ⊥) → live_at d ≡ None
       live-elsewhere j d at other = not-live j d at (λ q e f. other (found-there v k number i j d here at (same-noted q d.number e f)))
 
--- What is noted at a step
+-- What is noted of a line
 
-quiet : (t : Tree) (b : Model.Batch) (m : ChartMove.Move) (number : Name → Option ℕ) (hs : List ℕ) → noted number (move_of t b m) hs ≡ hs
-quiet t b m number hs = grind arith
+line-noted : (v : EngineView) → IsKept v → (line : Line) → IfSome (touched_by line) (λ q. q < resource_count v.allocation) → (hs : List ℕ) → noted_by line hs ≡ noted (number_of v.cleared) (move_of v.cleared line) hs
+line-noted v k (Line.Claim ClaimKind.Granted batch recipe node q units) known hs =
+    ap (λ (o : Option ℕ). let r : List ℕ = elim (nat_eq units 1) [ true ↦ noted_for o batch hs | false ↦ hs ] in r) (sym (number-named v k q known))
+line-noted v k line known hs = grind arith
 
--- a move of a chart is no grant
-pub noted-own : (v : EngineView) (i : ℕ) (made : ChartMove.Move) → IsStep v (IsNext v) (Own i made) → (hs : List ℕ) (m : Move) → IsNext v m → hs ≡ noted (number_of v.cleared) m hs
-noted-own v i made g hs m is =
-    let t : Tree = tree_of v.cleared g.batch in
-    let same : m ≡ move_of t (batch_of v.cleared g.batch) made = same-next v m (move_of t (batch_of v.cleared g.batch) made) is g.is in
-    sym (ap (λ (l : Move). noted (number_of v.cleared) l hs) same ∙ quiet t (batch_of v.cleared g.batch) made (number_of v.cleared) hs)
-
--- a grant of as many units of the resource, to the batch at the index
-noted-grant : (v : EngineView) (i node resource units : ℕ) → IsStep v (IsNext v) (Grant i node resource units) → (b : Batch) → slice_get v.batches i ≡ Some b → (hs : List ℕ) (m : Move) → IsNext v m
-    → noted (number_of v.cleared) m hs ≡ (let r : List ℕ = elim (nat_eq units 1) [ true ↦ slice_set hs resource b.number | false ↦ hs ] in r)
-noted-grant v i node resource units g b at hs m is =
-    let need : Need = need_at (tree_of v.cleared g.batch) node g.need in
-    let l : Move = grant g.batch.number (place_at (tree_of v.cleared g.batch) node) need in
-    ap (λ (x : Move). noted (number_of v.cleared) x hs) (same-next v m l is g.is)
-    ∙ ap (λ (o : Option ℕ). let r : List ℕ = elim (nat_eq need.units 1) [ true ↦ noted_for o g.batch.number hs | false ↦ hs ] in r) g.number
-    ∙ ap₂ (λ (n : ℕ) (z : Batch). let r : List ℕ = elim (nat_eq n 1) [ true ↦ slice_set hs resource z.number | false ↦ hs ] in r) g.units_are (same-at v.batches i g.batch b g.here.at at)
-
-pub granted-one : (v : EngineView) (i node resource units : ℕ) → IsStep v (IsNext v) (Grant i node resource units) → (b : Batch) → slice_get v.batches i ≡ Some b → units ≡ 1 → (q : ℕ) → q ≡ resource
-    → (hs : List ℕ) (m : Move) → IsNext v m → slice_set hs q b.number ≡ noted (number_of v.cleared) m hs
-granted-one v i node resource units g b at one q same hs m is =
-    ap (λ (j : ℕ). let r : List ℕ = slice_set hs j b.number in r) same
-    ∙ sym (noted-grant v i node resource units g b at hs m is
-    ∙ ap (λ (t : Bool). let r : List ℕ = elim t [ true ↦ slice_set hs resource b.number | false ↦ hs ] in r) (subst (λ k. nat_eq k 1 ≡ true) (sym one) refl))
-
-pub granted-more : (v : EngineView) (i node resource units : ℕ) → IsStep v (IsNext v) (Grant i node resource units) → (units ≡ 1 → ⊥) → (hs : List ℕ) (m : Move) → IsNext v m
-    → hs ≡ noted (number_of v.cleared) m hs
-granted-more v i node resource units g more hs m is =
-    sym (noted-grant v i node resource units g g.batch g.here.at hs m is
-    ∙ ap (λ (t : Bool). let r : List ℕ = elim t [ true ↦ slice_set hs resource g.batch.number | false ↦ hs ] in r) (untested units 1 more))
+pub next-noted : (v : EngineView) → IsKept v → (line : Line) → TellsNext v line → (hs : List ℕ) (m : Move) → IsNext v m → noted_by line hs ≡ noted (number_of v.cleared) m hs
+next-noted v k line tells hs m is = line-noted v k line tells.known hs ∙ ap (λ (l : Move). noted (number_of v.cleared) l hs) (same-next v (move_of v.cleared line) m tells.is is)
 
 -- After a move
 

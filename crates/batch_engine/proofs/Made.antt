@@ -20,8 +20,7 @@ use Rattle.batch_machine.proofs.Falling.{one_act}
 use Rattle.batch_machine.proofs.Rising.{acts-rise}
 use Rattle.batch_model.proofs.Members.{Has-left, Has-right}
 use Rattle.batch_laws.proofs.Entries.{IsOnce, same_act, act_self, filter-Has, name_self}
-use Rattle.batch_arbiter.specs.Allocation.{Claim, shares_of, line_of, asked, granted, released, is_claim, IsHeld, next_grant, batch_node, capacity_of, resource_count}
-use Rattle.batch_engine.proofs.Cells.{length-capacities}
+use Rattle.batch_arbiter.specs.Allocation.{Claim, shares_of, line_of, asked, granted, released, is_claim, IsHeld, next_grant, batch_node, capacity_of}
 use Rattle.batch_chart.specs.NodesOf.{no_need, place_at, step_at, task_at, need_at}
 use Rattle.batch_recipe.specs.Nodes.{node_count}
 use Rattle.batch_chart.specs.Charts.{IsRunningOf, AsksAt, remains, StandsFor}
@@ -170,10 +169,6 @@ module _ (v : EngineView) (k : IsKept v) (i : ℕ) (b : Batch) (at : slice_get v
       }
 
   -- a resource's number is one that the arbiter has
-  pub known : (name : Name) (q : ℕ) → number_of v.cleared name ≡ Some q → q < resource_count v.allocation
-  known name q e =
-      omega (arith, Rattle.std.proofs.lemmas.Option.slice_get_within (names_of v.cleared) q name (named v.cleared name q e), ap (λ (xs : List ℕ). length xs) k.cell.capacities, length-capacities v.cleared.cell)
-
   in-lists : (name : Name) (q : ℕ) → number_of v.cleared name ≡ Some q → q < length (names_of v.cleared)
   in-lists name q e = Rattle.std.proofs.lemmas.Option.slice_get_within (names_of v.cleared) q name (named v.cleared name q e)
 

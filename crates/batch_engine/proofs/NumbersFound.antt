@@ -88,8 +88,8 @@ module _ (bound : Binding) (acts : Acts) where
 
 -- The numbers of a recipe's acts
 
-pub got-numbers : (v w : EngineView) (k i : ℕ) (x : RecipeNumbers) → w ≡ v → k ≡ i → i < length v.numbers → x ≡ get_or w.numbers k x → slice_get v.numbers i ≡ Some x
-got-numbers v w k i x e q l h = slice_get_read v.numbers (length v.numbers) i x refl l (h ∙ ap₂ (λ (z : EngineView) j. get_or z.numbers j x) e q)
+pub got-numbers : (v : EngineView) (ns : List RecipeNumbers) (k i : ℕ) (x : RecipeNumbers) → ns ≡ v.numbers → k ≡ i → i < length v.numbers → x ≡ get_or ns k x → slice_get v.numbers i ≡ Some x
+got-numbers v ns k i x e q l h = slice_get_read v.numbers (length v.numbers) i x refl l (h ∙ ap₂ (λ (zs : List RecipeNumbers) j. get_or zs j x) e q)
 
 pub numbers-here : (v : EngineView) → IsKept v → (recipe : ℕ) (x : RecipeNumbers) → slice_get v.numbers recipe ≡ Some x
     → (bound : Binding) → AreActsNumbered v.cleared.cell (roles_at v.cleared recipe) bound ((master_at v.cleared recipe).control bound).procedure x

@@ -18,7 +18,7 @@ use Rattle.batch_recipe.specs.declared.recipe.Recipe as document
 use Rattle.batch_verify.specs.ClearedSet.{ClearedSet}
 use Rattle.batch_arbiter.specs.Allocation.{Allocation}
 use Rattle.batch_chart.specs.Charts.{IsChartOf, IsRunning, IsRunningOf}
-use Rattle.batch_chart.specs.NodesOf.{node_at}
+use Rattle.batch_chart.specs.NodesOf.{node_at, step_at}
 use Rattle.batch_engine.specs.Batches.{BatchList, with_batch_at}
 use Rattle.batch_engine.specs.declared.batch.Batch.{Batch}
 use Rattle.batch_engine.specs.declared.numbers.ActNumbers.{ActNumbers}
@@ -28,8 +28,8 @@ use Rattle.batch_engine.specs.Numbered.{AreActsNumbered, IsActNumbered}
 use Rattle.batch_engine.specs.View.{EngineView, batch_of, bound_to, plant_of, seen, setup, tree_of}
 use Rattle.batch_engine.specs.Kept.{IsCounted, IsKept}
 use Rattle.batch_engine.specs.Orders.{IsOrdered}
-use Rattle.batch_engine.specs.Steps.{IsNext, Makes}
-use Rattle.batch_engine.proofs.Answering.{at-same, same-at}
+use Rattle.batch_engine.specs.Steps.{IsNeedAt, IsNext, Makes}
+use Rattle.batch_engine.proofs.Answering.{same-at}
 use Rattle.batch_engine.proofs.BatchPlaces.{made_by}
 use Rattle.batch_engine.proofs.Filing.{own-numbers-set}
 use Rattle.batch_engine.proofs.Finding.{batch-runs, chart-here, got-batch, got-chart, in-charts, runs-here}
@@ -47,6 +47,10 @@ pub record IsRead (v : EngineView) (i : ℕ) (b : Batch) : Type 0 where
 
 pub read-at : {v w : EngineView} {i : ℕ} {b : Batch} → w ≡ v → IsKept w → i < length v.batches → b ≡ get_or w.batches i b → IsRead v i b
 read-at {v} {w} {i} {b} e k few h = record { kept = subst IsKept e k; at = got-batch v w i b e few h }
+
+-- that is handed over
+pub read-own : {v w : EngineView} {i : ℕ} {b : Batch} → w ≡ v → IsKept w → slice_get v.batches i ≡ Some b → IsRead v i b
+read-own e k at = record { kept = subst IsKept e k; at = at }
 
 -- where it is known that a batch stands
 pub read-there : {v w : EngineView} {i : ℕ} {b d : Batch} → w ≡ v → IsKept w → slice_get v.batches i ≡ Some d → b ≡ get_or w.batches i b → IsRead v i b
@@ -101,13 +105,17 @@ found-here {v} {w} {n} {i} {b} e k p h =
 
 -- The act at a node of the batch
 
-pub node-here : {v : EngineView} {i node : ℕ} {b d : Batch} → IsRead v i b → slice_get v.batches i ≡ Some d → node < node_count (tree_of v.cleared d) → node < node_count (tree_of v.cleared b)
-node-here {v} {i} {node} {b} {d} r there few = at-same v.batches i d b (λ (z : Batch). node < node_count (tree_of v.cleared z)) there r.at few
+-- where a move of it gives back a need, or asks for it
+pub needs-there : {v : EngineView} {i node need : ℕ} {b : Batch} → IsRead v i b → node < node_count (tree_of v.cleared b) → need < length (step_at (tree_of v.cleared b) node).needs → IsNeedAt v v.numbers b node need
+needs-there {v} {i} r few less = record { kept = r.kept; numbers_are = refl; index = i; at = r.at; few = few; less = less }
+
+pub needed : {v : EngineView} {ns : List RecipeNumbers} {b : Batch} {node need : ℕ} → ns ≡ v.numbers → IsNeedAt v v.numbers b node need → IsNeedAt v ns b node need
+needed {v} {ns} {b} {node} {need} e h = subst (λ (xs : List RecipeNumbers). IsNeedAt v xs b node need) (sym e) h
 
 -- what is read of the numbers of its recipe
-pub acts-here : {v w : EngineView} {i q : ℕ} {b : Batch} {x : RecipeNumbers} → w ≡ v → IsRead v i b → q ≡ b.recipe → x ≡ get_or w.numbers q x
+pub acts-here : {v : EngineView} {ns : List RecipeNumbers} {i q : ℕ} {b : Batch} {x : RecipeNumbers} → ns ≡ v.numbers → IsRead v i b → q ≡ b.recipe → x ≡ get_or ns q x
     → AreActsNumbered v.cleared.cell (roles_at v.cleared b.recipe) (bound_to v.cleared b.recipe b.units) (tree_of v.cleared b) x
-acts-here {v} {w} {i} {q} {b} {x} e r is h = numbers-here v r.kept b.recipe x (got-numbers v w q b.recipe x e is (in-numbers v r.kept i b r.at) h) (bound_to v.cleared b.recipe b.units)
+acts-here {v} {ns} {i} {q} {b} {x} e r is h = numbers-here v r.kept b.recipe x (got-numbers v ns q b.recipe x e is (in-numbers v r.kept i b r.at) h) (bound_to v.cleared b.recipe b.units)
 
 pub act-here : {c : Cell} {roles : List Name} {bound : Binding} {t : Tree} {x : RecipeNumbers} {node k : ℕ} {a : ActNumbers} → AreActsNumbered c roles bound t x → node < node_count t → k ≡ node → a ≡ get_or x.acts.items k a
     → IsActNumbered c roles bound (node_at t node).here a

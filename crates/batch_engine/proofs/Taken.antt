@@ -12,27 +12,28 @@ use Rattle.batch_recipe.specs.declared.recipe.Recipe.{Recipe}
 use Rattle.batch_recipe.specs.declared.role.Role as document
 use Rattle.batch_recipe.specs.Nodes.{node_count}
 use Rattle.batch_verify.specs.ClearedSet.{ClearedSet}
-use Rattle.batch_chart.specs.NodesOf.{node_at, phase_at, phase_named}
+use Rattle.batch_chart.specs.NodesOf.{node_at, phase_named}
 use Rattle.batch_engine.specs.Kept.{AreUnits, IsKept}
-use Rattle.batch_engine.specs.Names.{phase_name, resource_name, roles_at}
+use Rattle.batch_engine.specs.Names.{resource_name, roles_at}
 use Rattle.batch_engine.specs.Numbered as Numbers
-use Rattle.batch_engine.specs.Numbered.{IsOfRoles, IsTaskNumbered, number_for, number_with, phase_on, resource_number}
-use Rattle.batch_engine.specs.Steps.{IsPhaseAt, IsUnitAt}
+use Rattle.batch_engine.specs.Numbered.{IsActNumbered, IsOfRoles, IsTaskNumbered, number_for, number_with, phase_on, resource_number}
+use Rattle.batch_engine.specs.Steps.{IsPhaseAt}
 use Rattle.batch_engine.specs.View.{EngineView, bound_to, number_of, recipe_made, tree_of}
 use Rattle.batch_engine.specs.declared.batch.Batch.{Batch}
+use Rattle.batch_engine.specs.declared.numbers.ActNumbers.{ActNumbers}
 use Rattle.batch_engine.specs.declared.numbers.PhaseNumber.{PhaseNumber}
+use Rattle.batch_engine.specs.declared.numbers.TaskNumber.{TaskNumber}
 use Rattle.batch_engine.specs.declared.numbers.TaskNumber.TheVariants as Tasks
 use Rattle.batch_engine.specs.declared.numbers.ResourceNumber.{ResourceNumber}
 use Rattle.batch_engine.specs.declared.numbers.ResourceNumber.TheVariants.{Resource, Role}
 use Rattle.batch_engine.proofs.Finding.{Each-at, batch-runs, is-control}
-use Rattle.batch_engine.proofs.Answering.{at-same}
 use Rattle.batch_engine.proofs.Numbered.{few-resources, few-units, phase-numbered, unit-numbered}
 use Rattle.batch_engine.proofs.NumbersFound.{phase-taken}
 use Rattle.batch_engine.proofs.Roles.{bound-at, names-differ}
 use Rattle.batch_engine.proofs.RoomForAsk.{number-at}
 use Rattle.batch_engine.proofs.Telling.{recipe-here, roles-read}
 
-name-there : (names : List Name) (q : ℕ) → q < length names → slice_get names q ≡ Some (unwrap_or (slice_get names q) [])
+pub name-there : (names : List Name) (q : ℕ) → q < length names → slice_get names q ≡ Some (unwrap_or (slice_get names q) [])
 name-there [] q l = absurd (omega arith)
 name-there (n ∷ names) zero l = refl
 name-there (n ∷ names) (suc q) l = name-there names q (omega arith)
@@ -107,31 +108,42 @@ module _ (v : EngineView) (k : IsKept v) (i : ℕ) (b : Batch) (at : slice_get v
       × (position (same_name (bound_to v.cleared b.recipe b.units (get_or (roles_at v.cleared b.recipe) role []))) (units_of v.cleared.cell) ≡ Some (get_or b.units role 0))
   role-numbers-here = (let r = recipe-here v k i b at in role-numbers v.cleared b.recipe r.0 r.1 b.units units-here)
 
-  pub unit-within-here : (role : ℕ) → role < length (roles_at v.cleared b.recipe) → get_or b.units role 0 < length (units_of v.cleared.cell)
+  unit-within-here : (role : ℕ) → role < length (roles_at v.cleared b.recipe) → get_or b.units role 0 < length (units_of v.cleared.cell)
   unit-within-here = (let r = recipe-here v k i b at in unit-within v.cleared b.recipe r.0 r.1 b.units units-here)
 
   pub number-here : (x : ResourceNumber) → IsOfRoles (roles_at v.cleared b.recipe) x
       → number_for b.units x ≡ number_with v.cleared.cell (roles_at v.cleared b.recipe) (bound_to v.cleared b.recipe b.units) x
   number-here = (let r = recipe-here v k i b at in number-taken v.cleared b.recipe r.0 r.1 b.units units-here)
 
-  -- The phase that the act at a node runs
-
-  module _ (node : ℕ) (few : node < node_count (tree_of v.cleared b)) (p : PhaseNumber) (is : p ≡ Numbers.phase_in v.cleared.cell (node_at (tree_of v.cleared b) node).here) where
-    pub phase-named-here : IsPhaseAt v i node p.unit p.phase
-    phase-named-here = λ d e.
-        at-same v.batches i b d (λ (z : Batch). (resource_name v.cleared p.unit ≡ (phase_at (tree_of v.cleared z) node).unit) × (phase_name v.cleared p.unit p.phase ≡ (phase_at (tree_of v.cleared z) node).name)) at e
-        (subst (λ (q : PhaseNumber). (resource_name v.cleared q.unit ≡ (phase_at (tree_of v.cleared b) node).unit) × (phase_name v.cleared q.unit q.phase ≡ (phase_at (tree_of v.cleared b) node).name)) (sym is)
-        (phase-numbered v.cleared k.cleared (recipe_made v.cleared b) (is-control v k i b at) (few-resources v.cleared.cell) (few-units v.cleared.cell) node few))
-
-    pub phase-unit-here : IsUnitAt v i node p.unit
-    phase-unit-here = λ d e.
-        at-same v.batches i b d (λ (z : Batch). (names : Name × Name) → phase_named (node_at (tree_of v.cleared z) node).here ≡ Some names → position (same_name names.0) (units_of v.cleared.cell) ≡ Some p.unit) at e
-        (λ names f. unit-numbered v.cleared k.cleared (recipe_made v.cleared b) (is-control v k i b at) node few names f ∙ sym (ap (λ (q : PhaseNumber). let o : Option ℕ = Some q.unit in o) is))
-
   -- where a role's unit runs it
-  pub role-phase : (node role : ℕ) (p : PhaseNumber) → IsTaskNumbered v.cleared.cell (roles_at v.cleared b.recipe) (bound_to v.cleared b.recipe b.units) (node_at (tree_of v.cleared b) node).here (Tasks.Role role)
+  role-phase : (node role : ℕ) (p : PhaseNumber) → IsTaskNumbered v.cleared.cell (roles_at v.cleared b.recipe) (bound_to v.cleared b.recipe b.units) (node_at (tree_of v.cleared b) node).here (Tasks.Role role)
       → p ≡ phase_on v.cleared.cell (get_or b.units role 0) (phase_named (node_at (tree_of v.cleared b) node).here)
       → p ≡ Numbers.phase_in v.cleared.cell (node_at (tree_of v.cleared b) node).here
   role-phase node role p task is =
       is ∙ phase-taken v.cleared.cell (node_at (tree_of v.cleared b) node).here (bound_to v.cleared b.recipe b.units (get_or (roles_at v.cleared b.recipe) role [])) task.1.0 (get_or b.units role 0)
       task.1.1 (role-numbers-here role task.0).1
+
+  -- The phase that the act at a node runs
+
+  module _ (node : ℕ) (few : node < node_count (tree_of v.cleared b)) (a : ActNumbers)
+      (numbered : IsActNumbered v.cleared.cell (roles_at v.cleared b.recipe) (bound_to v.cleared b.recipe b.units) (node_at (tree_of v.cleared b) node).here a) where
+    task-is : (task : TaskNumber) → a.task ≡ task → IsTaskNumbered v.cleared.cell (roles_at v.cleared b.recipe) (bound_to v.cleared b.recipe b.units) (node_at (tree_of v.cleared b) node).here task
+    task-is task e = subst (IsTaskNumbered v.cleared.cell (roles_at v.cleared b.recipe) (bound_to v.cleared b.recipe b.units) (node_at (tree_of v.cleared b) node).here) e numbered.task
+
+    numbered-phase : (p : PhaseNumber) → p ≡ Numbers.phase_in v.cleared.cell (node_at (tree_of v.cleared b) node).here → IsPhaseAt v.cleared b node p.unit p.phase
+    numbered-phase p is =
+        let names = phase-numbered v.cleared k.cleared (recipe_made v.cleared b) (is-control v k i b at) (few-resources v.cleared.cell) (few-units v.cleared.cell) node few in
+        subst (λ (q : PhaseNumber). IsPhaseAt v.cleared b node q.unit q.phase) (sym is)
+        (record { unit_is = names.0; name_is = names.1; among = unit-numbered v.cleared k.cleared (recipe_made v.cleared b) (is-control v k i b at) node few })
+
+    -- one that is named
+    pub phase-named-here : (p : PhaseNumber) → a.task ≡ Tasks.Phase p → IsPhaseAt v.cleared b node p.unit p.phase
+    phase-named-here p e = numbered-phase p (task-is (Tasks.Phase p) e)
+
+    module _ (role : ℕ) (e : a.task ≡ Tasks.Role role) where
+      -- one of a role, whose unit is there
+      pub unit-there : get_or b.units role 0 < length (units_of v.cleared.cell)
+      unit-there = unit-within-here role (task-is (Tasks.Role role) e).0
+
+      pub phase-taken-here : (p : PhaseNumber) → p ≡ phase_on v.cleared.cell (get_or b.units role 0) (phase_named (node_at (tree_of v.cleared b) node).here) → IsPhaseAt v.cleared b node p.unit p.phase
+      phase-taken-here p is = numbered-phase p (role-phase node role p (task-is (Tasks.Role role) e) is)

@@ -1,9 +1,10 @@
 -- What a line tells of a move.
-use Rattle.std.proofs.Common.{◌≡◌, ◌<◌, refl, sym, ◌∙◌, ap, ap₂, ℕ, zero, suc, List, [], ◌∷◌, Option, Some, None, arith, length, get_or}
+use Rattle.std.proofs.Common.{◌≡◌, ◌<◌, refl, sym, ◌∙◌, ap, ap₂, subst, ℕ, zero, suc, List, [], ◌∷◌, Option, Some, None, arith, length, get_or}
 use Rattle.std.specs.Prelude.{slice_get, option_map, unwrap_or}
 use Rattle.std.specs.List.{zip}
 use Rattle.std.proofs.lemmas.Option.{slice_get_read}
 use Rattle.batch_matrix.specs.declared.command.Command.{Command}
+use Rattle.batch_matrix.specs.declared.state.State.{State}
 use Rattle.batch_recipe.specs.Conditions.{Name}
 use Rattle.batch_recipe.specs.Nodes.{Node, reports_in, reports_of}
 use Rattle.batch_recipe.specs.Expanding.{Binding}
@@ -18,15 +19,15 @@ use Rattle.batch_model.specs.Plant.{Master}
 use Rattle.batch_verify.specs.ClearedSet.{ClearedSet}
 use Rattle.batch_chart.specs.NodesOf as Tree
 use Rattle.batch_chart.specs.NodesOf.{nodes_of, need_at, task_of}
-use Rattle.batch_chart.specs.Seen.{move_of}
 use Rattle.batch_chart.specs.declared.chart_move.Move.TheVariants as Chart
 use Rattle.batch_engine.specs.declared.batch.Batch.{Batch}
+use Rattle.batch_engine.specs.declared.line.ClaimKind.TheVariants.{Asked, Granted, Released}
 use Rattle.batch_engine.specs.declared.line.Line.TheVariants as Lines
 use Rattle.batch_engine.specs.Names as Names
-use Rattle.batch_engine.specs.Surface as Surface
-use Rattle.batch_engine.specs.View.{EngineView, batch_of, bound_to, number_of, master_at, tree_at, tree_of}
+use Rattle.batch_engine.specs.Steps.{IsNext, IsNumberAt, IsPhaseAt, Tells, TellsNext}
+use Rattle.batch_engine.specs.View.{EngineView, bound_to, number_of, master_at, tree_at, tree_of}
 use Rattle.batch_engine.specs.Kept.{IsKept}
-use Rattle.batch_engine.proofs.Finding.{named, batch-runs, master-found}
+use Rattle.batch_engine.proofs.Finding.{known-resource, named, batch-runs, master-found}
 use Rattle.batch_engine.proofs.AlikeNodes.{place-alike, name-alike, handed-alike}
 
 -- What is told of a node, and what its tree has there
@@ -132,37 +133,39 @@ module _ (v : EngineView) (k : IsKept v) (i : ℕ) (b : Batch) (at : slice_get v
   need-here n need q u e f =
       ap₂ (λ x y. let r : Need = record { resource = x; units = y } in r) (resource-told v.cleared (need_at (tree_of v.cleared b) n need).resource q e) (sym f)
 
-  pub send-told : (n u f : ℕ) (command : Command)
-      → Names.resource_name v.cleared u ≡ (Tree.phase_at (tree_of v.cleared b) n).unit → Names.phase_name v.cleared u f ≡ (Tree.phase_at (tree_of v.cleared b) n).name
-      → Surface.move_of v.cleared (Lines.Send b.number b.recipe n u f command) ≡ move_of (tree_of v.cleared b) (batch_of v.cleared b) (Chart.Send n command)
-  send-told n u f command unit name = ap₂ (λ p x. Moves.send b.number p x command) (place-here n) (phase-here n u f unit name)
+  pub send-told : {n u f : ℕ} (command : Command) → IsPhaseAt v.cleared b n u f → Tells v b (Chart.Send n command) (Lines.Send b.number b.recipe n u f command)
+  send-told {n} {u} {f} command h = record { is = ap₂ (λ p x. Moves.send b.number p x command) (place-here n) (phase-here n u f h.unit_is h.name_is); known = tt }
 
-  pub start-told : (r : Recipe) → slice_get v.cleared.recipes b.recipe ≡ Some r → (n u f : ℕ) (values : List ℕ)
-      → Names.resource_name v.cleared u ≡ (Tree.phase_at (tree_of v.cleared b) n).unit → Names.phase_name v.cleared u f ≡ (Tree.phase_at (tree_of v.cleared b) n).name
+  pub start-told : (r : Recipe) → slice_get v.cleared.recipes b.recipe ≡ Some r → {n u f : ℕ} (values : List ℕ) → IsPhaseAt v.cleared b n u f
       → zip (Names.handed_of (Names.node_of n r)) values ≡ handed_values b.values (Names.handed_of (Names.node_of n r))
-      → Surface.move_of v.cleared (Lines.Start b.number b.recipe n u f values) ≡ move_of (tree_of v.cleared b) (batch_of v.cleared b) (Chart.Start n)
-  start-told r read n u f values unit name handed =
-      ap₂ (λ p x. Moves.start b.number p x (zip (Names.handed_at v.cleared b.recipe n) values)) (place-here n) (phase-here n u f unit name)
-      ∙ ap (Moves.start b.number (Tree.place_at (tree_of v.cleared b) n) (Tree.phase_at (tree_of v.cleared b) n))
-      (ap (λ (o : Option Node). zip (Names.handed_of o) values) (node-is v.cleared b.recipe r read n)
-      ∙ handed
-      ∙ ap (λ (o : Option Node). handed_values b.values (Names.handed_of o)) (sym (node-is v.cleared b.recipe r read n))
-      ∙ ap (handed_values b.values) (handed-told v.cleared b.recipe r read b.units n))
+      → Tells v b (Chart.Start n) (Lines.Start b.number b.recipe n u f values)
+  start-told r read {n} {u} {f} values h handed =
+      record {
+        is = ap₂ (λ p x. Moves.start b.number p x (zip (Names.handed_at v.cleared b.recipe n) values)) (place-here n) (phase-here n u f h.unit_is h.name_is)
+            ∙ ap (Moves.start b.number (Tree.place_at (tree_of v.cleared b) n) (Tree.phase_at (tree_of v.cleared b) n))
+            (ap (λ (o : Option Node). zip (Names.handed_of o) values) (node-is v.cleared b.recipe r read n)
+            ∙ handed
+            ∙ ap (λ (o : Option Node). handed_values b.values (Names.handed_of o)) (sym (node-is v.cleared b.recipe r read n))
+            ∙ ap (handed_values b.values) (handed-told v.cleared b.recipe r read b.units n));
+        known = tt;
+      }
 
-  pub begin-told : (n : ℕ) → Surface.move_of v.cleared (Lines.Begin b.number b.recipe n) ≡ move_of (tree_of v.cleared b) (batch_of v.cleared b) (Chart.Begin n)
-  begin-told n = ap₂ (Moves.begin b.number) (place-here n) (name-told v.cleared b.recipe recipe-here.0 recipe-here.1 b.units n)
+  pub state-told : (x : State) → Tells v b (Chart.State x) (Lines.State b.number x)
+  state-told x = record { is = refl; known = tt }
 
-  pub end-told : (n : ℕ) → Surface.move_of v.cleared (Lines.End b.number b.recipe n) ≡ move_of (tree_of v.cleared b) (batch_of v.cleared b) (Chart.End n)
-  end-told n = ap (Moves.end b.number) (place-here n)
+  pub begin-told : (n : ℕ) → Tells v b (Chart.Begin n) (Lines.Begin b.number b.recipe n)
+  begin-told n = record { is = ap₂ (Moves.begin b.number) (place-here n) (name-told v.cleared b.recipe recipe-here.0 recipe-here.1 b.units n); known = tt }
 
-  pub ask-told : (n need q u : ℕ) → number_of v.cleared (need_at (tree_of v.cleared b) n need).resource ≡ Some q → (need_at (tree_of v.cleared b) n need).units ≡ u
-      → Surface.move_of v.cleared (Lines.Ask b.number b.recipe n q u) ≡ move_of (tree_of v.cleared b) (batch_of v.cleared b) (Chart.Ask n need)
-  ask-told n need q u e f = ap₂ (Moves.ask b.number) (place-here n) (need-here n need q u e f)
+  pub end-told : (n : ℕ) → Tells v b (Chart.End n) (Lines.End b.number b.recipe n)
+  end-told n = record { is = ap (Moves.end b.number) (place-here n); known = tt }
 
-  pub release-told : (n need q u : ℕ) → number_of v.cleared (need_at (tree_of v.cleared b) n need).resource ≡ Some q → (need_at (tree_of v.cleared b) n need).units ≡ u
-      → Surface.move_of v.cleared (Lines.Release b.number b.recipe n q u) ≡ move_of (tree_of v.cleared b) (batch_of v.cleared b) (Chart.Release n need)
-  release-told n need q u e f = ap₂ (Moves.release b.number) (place-here n) (need-here n need q u e f)
+  pub ask-told : {n need q u : ℕ} → IsNumberAt v.cleared b n need q u → Tells v b (Chart.Ask n need) (Lines.Claim Asked b.number b.recipe n q u)
+  ask-told {n} {need} {q} {u} h = record { is = ap₂ (Moves.ask b.number) (place-here n) (need-here n need q u h.0 h.1); known = tt }
 
-  pub grant-told : (n need q u : ℕ) → number_of v.cleared (need_at (tree_of v.cleared b) n need).resource ≡ Some q → (need_at (tree_of v.cleared b) n need).units ≡ u
-      → Surface.move_of v.cleared (Lines.Grant b.number b.recipe n q u) ≡ Moves.grant b.number (Tree.place_at (tree_of v.cleared b) n) (need_at (tree_of v.cleared b) n need)
-  grant-told n need q u e f = ap₂ (Moves.grant b.number) (place-here n) (need-here n need q u e f)
+  pub release-told : {n need q u : ℕ} → IsNumberAt v.cleared b n need q u → Tells v b (Chart.Release n need) (Lines.Claim Released b.number b.recipe n q u)
+  release-told {n} {need} {q} {u} h = record { is = ap₂ (Moves.release b.number) (place-here n) (need-here n need q u h.0 h.1); known = known-resource v k (need_at (tree_of v.cleared b) n need).resource q h.0 }
+
+  pub grant-told : (need : ℕ) {n q u : ℕ} → IsNumberAt v.cleared b n need q u → IsNext v (Moves.grant b.number (Tree.place_at (tree_of v.cleared b) n) (need_at (tree_of v.cleared b) n need))
+      → TellsNext v (Lines.Claim Granted b.number b.recipe n q u)
+  grant-told need {n} {q} {u} h is =
+      record { is = subst (IsNext v) (sym (ap₂ (Moves.grant b.number) (place-here n) (need-here n need q u h.0 h.1))) is; known = known-resource v k (need_at (tree_of v.cleared b) n need).resource q h.0 }

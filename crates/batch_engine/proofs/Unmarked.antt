@@ -1,6 +1,6 @@
 -- Marks on batches.
 use Rattle.std.proofs.Common.{◌≡◌, ◌<◌, ◌≤◌, refl, sym, ◌∙◌, ap, subst, ℕ, zero, suc, List, [], ◌∷◌, ◌++◌, Bool, true, false, Option, Some, None, inl, inr, arith, length, map, get_or, nat_eq}
-use Rattle.std.specs.Prelude.{◌+◌, nat_le, slice_get, option_map, position, not, IsTrue}
+use Rattle.std.specs.Prelude.{◌+◌, nat_le, slice_get, IfSome, option_map, position, not, IsTrue}
 use Rattle.std.specs.Option.{is_some}
 use Rattle.std.proofs.lemmas.Bool.{and_parts}
 use Rattle.std.proofs.lemmas.List.{length-map}
@@ -25,6 +25,8 @@ use Rattle.batch_verify.specs.ClearedSet.{ClearedSet}
 use Rattle.batch_arbiter.specs.Allocation.{next_grant, batch_node, resource_count}
 use Rattle.batch_chart.specs.Seen.{move_of}
 use Rattle.batch_engine.specs.declared.batch.Batch.{Batch}
+use Rattle.batch_engine.specs.declared.line.ClaimKind.{ClaimKind}
+use Rattle.batch_engine.specs.declared.line.Line.{Line}
 use Rattle.batch_engine.specs.declared.reply.Reply.{Reply}
 use Rattle.batch_engine.specs.declared.step.Step as steps
 use Rattle.batch_engine.specs.declared.step.Step.TheVariants.{Own, Grant}
@@ -33,19 +35,23 @@ use Rattle.batch_engine.specs.Kept.{IsKept}
 use Rattle.batch_engine.specs.Marked.{HasNoMove, AreMarked}
 use Rattle.batch_engine.specs.Marking.{touched, named, withdraws, IsServedAt, IsFirstServed, IsFirstStep, IsTouched, named_by, withdraws_by, AreAnswerMarked, AreMoveMarked}
 use Rattle.batch_engine.specs.Marks.{IsUnmarked}
-use Rattle.batch_engine.specs.Steps.{IsNext, IsStep, Makes, MakesNext, index_of}
+use Rattle.batch_engine.specs.Names.{resource_name}
+use Rattle.batch_engine.specs.Steps.{IsNext, IsStep, Makes, MakesNext, TellsNext, index_of, touched_by}
+use Rattle.batch_engine.specs.Surface as Surface
 use Rattle.batch_engine.specs.Surface.{reply_of}
 use Rattle.batch_engine.specs.View.{EngineView, setup, batch_of, line_at, names_of, number_of, plant_of, tree_of}
-use Rattle.batch_engine.proofs.Made.{of-batch}
+use Rattle.batch_engine.proofs.Made.{of-batch, same-next}
 use Rattle.batch_engine.proofs.BatchPlaces.{chosen-false, later-number, Has-batch_of}
 use Rattle.batch_engine.proofs.Cells.{length-capacities}
-use Rattle.batch_engine.proofs.Finding.{named as named-resource, Has-get, batch-runs, serves-first, tree-placed}
+use Rattle.batch_engine.proofs.Finding.{Has-get, batch-runs, known-resource, serves-first, tree-placed}
 use Rattle.batch_engine.proofs.Frames.{ServesBefore, first_in, lines-alone, serves, settled-none, served-before}
 use Rattle.batch_engine.proofs.Granting.{Granted, asks-node, served-node}
 use Rattle.batch_engine.proofs.Nodes.{within-or_past}
 use Rattle.batch_engine.proofs.Others.{batches-are-few, others-none}
 use Rattle.batch_engine.proofs.Positions.{NonePasses-position}
+use Rattle.batch_engine.proofs.RoomForAsk.{number-at}
 use Rattle.batch_engine.proofs.Seeking.{found-at}
+use Rattle.batch_engine.proofs.Taken.{name-there}
 use Rattle.batch_engine.proofs.Told.{down, told, standing}
 
 -- there are marks enough
@@ -221,9 +227,22 @@ same-count v w k l s first makes =
     let d = step-move v s first in
     ap (λ (xs : List ℕ). length xs) l.cell.capacities ∙ ap (λ (c : ClearedSet). length (capacities_of c.cell)) (makes d.0 d.1).cleared ∙ ap (λ (xs : List ℕ). length xs) (sym k.cell.capacities)
 
-pub known-resource : (v : EngineView) → IsKept v → (name : Name) (q : ℕ) → number_of v.cleared name ≡ Some q → q < resource_count v.allocation
-known-resource v k name q e =
-    omega (arith, slice_get_within (names_of v.cleared) q name (named-resource v.cleared name q e), ap (λ (xs : List ℕ). length xs) k.cell.capacities, length-capacities v.cleared.cell)
+-- The resource of a line's move
+
+-- the name with this number has it
+pub number-named : (v : EngineView) → IsKept v → (q : ℕ) → q < resource_count v.allocation → number_of v.cleared (resource_name v.cleared q) ≡ Some q
+number-named v k q known =
+    number-at v.cleared q (resource_name v.cleared q)
+    (name-there (names_of v.cleared) q (omega (arith, known, ap (λ (xs : List ℕ). length xs) k.cell.capacities, length-capacities v.cleared.cell)))
+
+line-touches : (v : EngineView) (k : IsKept v) (line : Line) → IfSome (touched_by line) (λ q. q < resource_count v.allocation) → (resource : Name) → touched (Surface.move_of v.cleared line) ≡ Some resource
+    → (q : ℕ) × (touched_by line ≡ Some q) × (number_of v.cleared resource ≡ Some q)
+line-touches v k (Line.Claim ClaimKind.Released batch recipe node q units) known resource e = (q, refl, subst (λ name. number_of v.cleared name ≡ Some q) (let same : resource_name v.cleared q ≡ resource = cc in same) (number-named v k q known))
+line-touches v k (Line.Claim ClaimKind.Granted batch recipe node q units) known resource e = (q, refl, subst (λ name. number_of v.cleared name ≡ Some q) (let same : resource_name v.cleared q ≡ resource = cc in same) (number-named v k q known))
+line-touches v k line known resource e = absurd (grind arith)
+
+pub next-touches : (v : EngineView) → IsKept v → (line : Line) → TellsNext v line → IsTouched v (touched_by line)
+next-touches v k line tells m resource is e = line-touches v k line tells.known resource (ap touched (same-next v (Surface.move_of v.cleared line) m tells.is is) ∙ e)
 
 -- Settled
 

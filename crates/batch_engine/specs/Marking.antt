@@ -5,6 +5,8 @@ use Rattle.batch_model.specs.Events as Events
 use Rattle.batch_model.specs.Moves.{Move, release, grant}
 use Rattle.batch_arbiter.specs.Allocation.{next_grant, batch_node, resource_count}
 use Rattle.batch_engine.specs.declared.batch.Batch.{Batch}
+use Rattle.batch_engine.specs.declared.line.ClaimKind.{ClaimKind}
+use Rattle.batch_engine.specs.declared.line.Line.{Line}
 use Rattle.batch_engine.specs.declared.reply.Reply.{Reply}
 use Rattle.batch_engine.specs.declared.reply.Reply.TheVariants.{Created, Ordered, Removed, Reported, Refused}
 use Rattle.batch_engine.specs.declared.step.Step.{Step}
@@ -44,6 +46,11 @@ abbrev pub noted : (Name → Option ℕ) → Move → List ℕ → List ℕ
 noted number_of (grant number place need) holders =
     elim (nat_eq need.units 1) [ true ↦ noted_for (number_of need.resource) number holders | false ↦ holders ]
 noted number_of _ holders = holders
+
+-- the same of a line
+abbrev pub noted_by : Line → List ℕ → List ℕ
+noted_by (Line.Claim ClaimKind.Granted batch recipe node resource units) holders = elim (nat_eq units 1) [ true ↦ slice_set holders resource batch | false ↦ holders ]
+noted_by _ holders = holders
 
 -- Of the engine
 

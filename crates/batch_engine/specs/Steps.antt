@@ -1,24 +1,29 @@
 -- private: the step that the engine makes next.
-use Rattle.std.specs.Prelude.{◌≡◌, ◌<◌, ℕ, [], Option, Some, None, option_map, slice_get, length, position, ⊤}
+use Rattle.std.specs.Prelude.{◌≡◌, ◌<◌, ℕ, List, [], Option, Some, None, IfSome, option_map, slice_get, length, position, ⊤}
 use Rattle.batch_model.specs.Moves as Model
 use Rattle.batch_model.specs.Moves.{next, after, least, batch_moves, grant}
-use Rattle.batch_arbiter.specs.Allocation.{next_grant, batch_node}
+use Rattle.batch_arbiter.specs.Allocation.{next_grant, batch_node, resource_count}
 use Rattle.batch_chart.specs.NodesOf.{node_at, place_at, step_at, need_at, phase_at, phase_named}
 use Rattle.batch_cell.specs.LookUps.{units_of}
 use Rattle.batch_recipe.specs.Conditions.{Name, same_name}
 use Rattle.batch_recipe.specs.Nodes.{node_count}
 use Rattle.batch_chart.specs.Charts.{CanMake, IsWaitingAt, AsksAt, remains, StandsFor}
+use Rattle.batch_chart.specs.OwnMoves.{grants}
 use Rattle.batch_chart.specs.Seen.{move_of}
 use Rattle.batch_recipe.specs.declared.recipe.Recipe as document
 use Rattle.batch_chart.specs.declared.chart_move.Move.{Move}
 use Rattle.batch_chart.specs.declared.chart_move.Move.TheVariants.{Send, Begin, Start, End}
 use Rattle.batch_engine.specs.declared.batch.Batch.{Batch}
+use Rattle.batch_engine.specs.declared.line.ClaimKind.{ClaimKind}
 use Rattle.batch_engine.specs.declared.line.Line.{Line}
 use Rattle.batch_engine.specs.declared.step.Step.{Step}
 use Rattle.batch_engine.specs.declared.step.Step.TheVariants.{Own, Grant}
+use Rattle.batch_engine.specs.declared.numbers.RecipeNumbers.{RecipeNumbers}
+use Rattle.batch_engine.specs.Kept.{IsKept}
 use Rattle.batch_engine.specs.Marked.{HasNoMove}
 use Rattle.batch_engine.specs.Names.{resource_name, phase_name}
 use Rattle.batch_engine.specs.Surface as Surface
+use Rattle.batch_verify.specs.ClearedSet.{ClearedSet}
 use Rattle.batch_engine.specs.View.{EngineView, setup, batch_of, number_of, plant_of, tree_of}
 
 -- the batch at an index, and its recipe
@@ -73,10 +78,21 @@ abbrev pub IsNextStep : EngineView → Option Step → Type 0
 IsNextStep v None = next (setup v.cleared) (plant_of v) ≡ None
 IsNextStep v (Some s) = IsStep v (IsNext v) s
 
--- the first act in line of the batch at an index that the arbiter would serve
-abbrev pub IsFirstGrant : EngineView → ℕ → Option (ℕ × ℕ × ℕ) → Type 0
-IsFirstGrant v i None = (b : Batch) → slice_get v.batches i ≡ Some b → Rattle.batch_chart.specs.OwnMoves.grants (setup v.cleared) (plant_of v) (batch_of v.cleared b) ≡ []
-IsFirstGrant v i (Some (node, resource, units)) = IsGrantStep v (λ m. (b : Batch) → slice_get v.batches i ≡ Some b → least (Rattle.batch_chart.specs.OwnMoves.grants (setup v.cleared) (plant_of v) (batch_of v.cleared b)) ≡ Some m) i node resource units
+-- a batch of the engine
+abbrev pub IsBatch : EngineView → Batch → Type 0
+IsBatch v b = (i : ℕ) × (slice_get v.batches i ≡ Some b)
+
+-- the first act in line of a batch that the arbiter would serve
+abbrev pub IsFirstGrant : EngineView → Batch → Option (ℕ × ℕ × ℕ) → Type 0
+IsFirstGrant v b None = grants (setup v.cleared) (plant_of v) (batch_of v.cleared b) ≡ []
+IsFirstGrant v b (Some (node, resource, units)) =
+    (i : ℕ) → slice_get v.batches i ≡ Some b → IsGrantStep v (λ m. least (grants (setup v.cleared) (plant_of v) (batch_of v.cleared b)) ≡ Some m) i node resource units
+
+-- the resource of which the move of a line gives or takes a share
+abbrev pub touched_by : Line → Option ℕ
+touched_by (Line.Claim ClaimKind.Granted batch recipe node resource units) = Some resource
+touched_by (Line.Claim ClaimKind.Released batch recipe node resource units) = Some resource
+touched_by _ = None
 
 -- a move that neither asks for anything, nor gives anything back, nor changes the batch's state
 abbrev pub IsQuiet : Move → Type 0
@@ -95,32 +111,43 @@ pub record Makes (old new : EngineView) (m : Model.Move) : Type 0 where
 abbrev pub MakesNext : EngineView → EngineView → Type 0
 MakesNext old new = (m : Model.Move) → IsNext old m → Makes old new m
 
--- the act at the node of the batch has this need
-abbrev pub IsNeedAt : EngineView → ℕ → ℕ → ℕ → Type 0
-IsNeedAt v i node need =
-    (b : Batch) × (slice_get v.batches i ≡ Some b) × (node < node_count (tree_of v.cleared b)) × (need < length (step_at (tree_of v.cleared b) node).needs)
+-- the act at the node of a batch of the engine, which has these numbers, has this need
+pub record IsNeedAt (v : EngineView) (numbers : List RecipeNumbers) (b : Batch) (node need : ℕ) : Type 0 where
+  pub kept : IsKept v
+  pub numbers_are : numbers ≡ v.numbers
+  pub index : ℕ
+  pub at : slice_get v.batches index ≡ Some b
+  pub few : node < node_count (tree_of v.cleared b)
+  pub less : need < length (step_at (tree_of v.cleared b) node).needs
 
--- this is the number of the resource that the act at the node of the batch needs, and how many units of it
-abbrev pub IsNumberAt : EngineView → ℕ → ℕ → ℕ → ℕ → ℕ → Type 0
-IsNumberAt v i node need resource units =
-    (b : Batch) → slice_get v.batches i ≡ Some b → (number_of v.cleared (need_at (tree_of v.cleared b) node need).resource ≡ Some resource) × ((need_at (tree_of v.cleared b) node need).units ≡ units)
+-- this is the number of the resource that the act at the node of a batch needs, and how many units of it
+abbrev pub IsNumberAt : ClearedSet → Batch → ℕ → ℕ → ℕ → ℕ → Type 0
+IsNumberAt c b node need resource units =
+    (number_of c (need_at (tree_of c b) node need).resource ≡ Some resource) × ((need_at (tree_of c b) node need).units ≡ units)
+
+-- a batch of the engine has an act at this node
+pub record IsNodeAt (v : EngineView) (b : Batch) (node : ℕ) : Type 0 where
+  pub kept : IsKept v
+  pub index : ℕ
+  pub at : slice_get v.batches index ≡ Some b
+  pub few : node < node_count (tree_of v.cleared b)
 
 -- the batch at an index has an act at this node
-abbrev pub IsNodeAt : EngineView → ℕ → ℕ → Type 0
-IsNodeAt v i node = (b : Batch) × (slice_get v.batches i ≡ Some b) × (node < node_count (tree_of v.cleared b))
+abbrev pub HasNode : EngineView → ℕ → ℕ → Type 0
+HasNode v i node = (b : Batch) × (slice_get v.batches i ≡ Some b) × (node < node_count (tree_of v.cleared b))
 
--- these are the numbers of the phase that the act at the node of the batch runs
-abbrev pub IsPhaseAt : EngineView → ℕ → ℕ → ℕ → ℕ → Type 0
-IsPhaseAt v i node unit phase =
-    (b : Batch) → slice_get v.batches i ≡ Some b
-    → (resource_name v.cleared unit ≡ (phase_at (tree_of v.cleared b) node).unit) × (phase_name v.cleared unit phase ≡ (phase_at (tree_of v.cleared b) node).name)
+-- these are the numbers of the phase that the act at the node of a batch runs, if it runs one; the unit's is its number among the units
+pub record IsPhaseAt (c : ClearedSet) (b : Batch) (node unit phase : ℕ) : Type 0 where
+  pub unit_is : resource_name c unit ≡ (phase_at (tree_of c b) node).unit
+  pub name_is : phase_name c unit phase ≡ (phase_at (tree_of c b) node).name
+  pub among : (names : Name × Name) → phase_named (node_at (tree_of c b) node).here ≡ Some names → position (same_name names.0) (units_of c.cell) ≡ Some unit
 
--- the act at the node of the batch runs no phase, or it is one of the unit with this number
-abbrev pub IsUnitAt : EngineView → ℕ → ℕ → ℕ → Type 0
-IsUnitAt v i node unit =
-    (b : Batch) → slice_get v.batches i ≡ Some b → (names : Name × Name) → phase_named (node_at (tree_of v.cleared b) node).here ≡ Some names
-    → position (same_name names.0) (units_of v.cleared.cell) ≡ Some unit
+-- the line tells of this move of a batch, and of no resource that isn't there
+pub record Tells (v : EngineView) (b : Batch) (m : Move) (line : Line) : Type 0 where
+  pub is : Surface.move_of v.cleared line ≡ move_of (tree_of v.cleared b) (batch_of v.cleared b) m
+  pub known : IfSome (touched_by line) (λ resource. resource < resource_count v.allocation)
 
--- the line tells of this move of the batch at an index
-abbrev pub Tells : EngineView → ℕ → Move → Line → Type 0
-Tells v i m line = (b : Batch) → slice_get v.batches i ≡ Some b → Surface.move_of v.cleared line ≡ move_of (tree_of v.cleared b) (batch_of v.cleared b) m
+-- the same of the next move
+pub record TellsNext (v : EngineView) (line : Line) : Type 0 where
+  pub is : IsNext v (Surface.move_of v.cleared line)
+  pub known : IfSome (touched_by line) (λ resource. resource < resource_count v.allocation)

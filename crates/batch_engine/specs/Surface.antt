@@ -8,6 +8,7 @@ use Rattle.batch_model.specs.Runs as Runs
 use Rattle.batch_verify.specs.ClearedSet.{ClearedSet}
 use Rattle.batch_engine.specs.Names.{resource_name, need_of, phase_name, recipe_name, roles_told, value_name, output_name, place_at, name_at, handed_at, phase_at}
 use Rattle.batch_engine.specs.declared.event.Event.{Event}
+use Rattle.batch_engine.specs.declared.line.ClaimKind.{ClaimKind}
 use Rattle.batch_engine.specs.declared.line.Line.{Line}
 use Rattle.batch_engine.specs.declared.out.Out.{Out}
 use Rattle.batch_engine.specs.declared.refusal.Refusal.{Refusal}
@@ -47,13 +48,13 @@ abbrev pub move_of : ClearedSet → Line → Moves.Move
 move_of c (Line.Send batch recipe node unit phase command) =
     Moves.send batch (place_at c recipe node) (phase_at c recipe node unit phase) command
 move_of c (Line.State batch state) = Moves.state batch state
-move_of c (Line.Release batch recipe node resource units) = Moves.release batch (place_at c recipe node) (need_of c resource units)
 move_of c (Line.Begin batch recipe node) = Moves.begin batch (place_at c recipe node) (name_at c recipe node)
 move_of c (Line.Start batch recipe node unit phase values) =
     Moves.start batch (place_at c recipe node) (phase_at c recipe node unit phase) (zip (handed_at c recipe node) values)
 move_of c (Line.End batch recipe node) = Moves.end batch (place_at c recipe node)
-move_of c (Line.Ask batch recipe node resource units) = Moves.ask batch (place_at c recipe node) (need_of c resource units)
-move_of c (Line.Grant batch recipe node resource units) = Moves.grant batch (place_at c recipe node) (need_of c resource units)
+move_of c (Line.Claim ClaimKind.Asked batch recipe node resource units) = Moves.ask batch (place_at c recipe node) (need_of c resource units)
+move_of c (Line.Claim ClaimKind.Granted batch recipe node resource units) = Moves.grant batch (place_at c recipe node) (need_of c resource units)
+move_of c (Line.Claim ClaimKind.Released batch recipe node resource units) = Moves.release batch (place_at c recipe node) (need_of c resource units)
 
 abbrev pub out_of : ClearedSet → Out → Runs.Out
 out_of c (Out.Reply reply) = Runs.reply (reply_of c reply)

@@ -82,11 +82,10 @@ impl Engine {
             return None;
         };
         let line = self.control.line_of(step);
-        let resource = self.control.touched(step);
-        note_grant(&mut self.holders, &self.control, step);
+        note_grant(&mut self.holders, &line);
         self.control.make(step);
         self.control.is_kept();
-        mark_moved(&mut self.marks, &self.control, step.index(), resource);
+        mark_moved(&mut self.marks, &self.control, step.index(), line.touched());
         Some(line)
     }
 

@@ -1,14 +1,10 @@
 //! Who holds what there is one of.
-ghost use Rattle.std.specs.Prelude.{◌≡◌, IfOk, Some, length};
-ghost use Rattle.batch_arbiter.specs.Allocation.{resource_count};
+ghost use Rattle.std.specs.Prelude.{◌≡◌, ◌<◌, IfOk, IfSome, length};
 ghost use Rattle.batch_cell.specs.LookUps.{resources_of};
-ghost use Rattle.batch_model.specs.Moves.{Move};
-ghost use Rattle.batch_engine.specs.Marking.{noted};
-ghost use Rattle.batch_engine.specs.Steps.{IsNext, IsNextStep};
-ghost use Rattle.batch_engine.specs.View.{number_of};
+ghost use Rattle.batch_engine.specs.Marking.{noted_by};
+ghost use Rattle.batch_engine.specs.Steps.{touched_by};
 
-use crate::control::Control;
-use crate::step::Step;
+use crate::line::{ClaimKind, Line};
 use batch_cell::Cell;
 use std::alloc::{AllocError, Global};
 
@@ -23,24 +19,19 @@ pub fn no_holders(alloc: Global, cell: &Cell) -> Result<Vec<u64>, AllocError>
     Ok(holders)
 }
 
-/// Notes whom a step grants one unit of a resource.
-pub fn note_grant(holders: &mut Vec<u64>, control: &Control, step: Step)
-    requires step { IsNextStep control.now (Some step) }
-    requires count { length holders.old.items ≡ resource_count control.now.allocation }
-    ensures { (m : Move) → IsNext control.now m → holders.new.items ≡ noted (number_of control.now.cleared) m holders.old.items }
+/// Notes whom the move of a line grants one unit of a resource.
+pub fn note_grant(holders: &mut Vec<u64>, line: &Line)
+    requires { IfSome (touched_by line.now) (λ resource. resource < length holders.old.items) }
+    ensures { holders.new.items ≡ noted_by line.now holders.old.items }
 {
-    control.is_kept();
-    let Step::Grant {
-        index,
-        node: _node,
+    if let Line::Claim {
+        kind: ClaimKind::Granted,
+        batch,
         resource,
-        units,
-    } = step
-    else {
-        return;
-    };
-    if units != 1 {
-        return;
+        units: 1,
+        ..
+    } = *line
+    {
+        holders[usize::from(resource)] = batch;
     }
-    holders[usize::from(resource)] = control.batches[index].number;
 }

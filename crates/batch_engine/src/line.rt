@@ -2,6 +2,17 @@
 use batch_matrix::{Command, State};
 use batch_recipe::MAX_VALUES;
 
+/// What becomes of a claim on a resource.
+#[derive(Clone, Copy, Debug, PartialEq, Eq)]
+pub enum ClaimKind {
+    /// An act asks for units of the resource.
+    Asked,
+    /// The act is given the units that it asked for.
+    Granted,
+    /// The act gives back what it held.
+    Released,
+}
+
 /// A move, by numbers: of its batch, mostly of the recipe and the node of an act, of a unit and its phase, of a resource and how
 /// many units of its capacity.
 #[derive(Clone, Copy, Debug, PartialEq, Eq)]
@@ -19,14 +30,6 @@ pub enum Line {
     State {
         batch: u64,
         state: State,
-    },
-    /// An act gives back what it held for one of its needs.
-    Release {
-        batch: u64,
-        recipe: u16,
-        node: u16,
-        resource: u16,
-        units: u32,
     },
     /// An act that is no phase step begins.
     Begin {
@@ -49,16 +52,9 @@ pub enum Line {
         recipe: u16,
         node: u16,
     },
-    /// An act asks for units of a resource.
-    Ask {
-        batch: u64,
-        recipe: u16,
-        node: u16,
-        resource: u16,
-        units: u32,
-    },
-    /// An act is given the units that it asked for.
-    Grant {
+    /// An act's claim on units of a resource, for one of its needs.
+    Claim {
+        kind: ClaimKind,
         batch: u64,
         recipe: u16,
         node: u16,

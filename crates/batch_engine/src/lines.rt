@@ -4,14 +4,16 @@ ghost use Rattle.std.specs.List.{zip};
 ghost use Rattle.batch_chart.specs.declared.chart_move.Move.TheVariants as Moves;
 ghost use Rattle.batch_model.specs.Moves.{handed_values};
 ghost use Rattle.batch_recipe.specs.declared.act.TheConstants.{MAX_VALUES};
+ghost use Rattle.batch_engine.specs.declared.line.Line.TheVariants as Lines;
 ghost use Rattle.batch_engine.specs.Names.{handed_of, node_of};
-ghost use Rattle.batch_engine.specs.Steps.{IsNeedAt, IsNext, IsNextStep, IsNodeAt, IsOwnStep, IsPhaseAt, IsUnitAt, Tells};
-ghost use Rattle.batch_engine.specs.Surface.{move_of};
+ghost use Rattle.batch_engine.specs.Steps.{IsNext, IsNextStep, IsNodeAt, IsOwnStep, IsPhaseAt, Tells, TellsNext};
 
+use crate::batch::Batch;
 use crate::control::Control;
-use crate::line::Line;
+use crate::line::{ClaimKind, Line};
 use crate::numbering::number_on;
 use crate::numbers::{PhaseNumber, ResourceNumber, TaskNumber};
+use crate::pending::resource_at;
 use crate::step::Step;
 use batch_chart::Move;
 use batch_matrix::Command;
@@ -43,15 +45,29 @@ fn handed(recipe: &Recipe, node: u16, values: &Values) -> [u64; MAX_VALUES]
     }
 }
 
+/// The line of an act's claim: on which resource, and on how many units of it.
+#[inline(always)]
+fn claim_line(kind: ClaimKind, batch: &Batch, node: u16, share: (u16, u32)) -> Line
+    ensures { result ≡ Lines.Claim kind batch.now.number batch.now.recipe node share.0 share.1 }
+{
+    let (resource, units) = share;
+    Line::Claim {
+        kind,
+        batch: batch.number,
+        recipe: batch.recipe,
+        node,
+        resource,
+        units,
+    }
+}
+
 impl Control {
-    /// The numbers of the phase that an act of the batch at an index runs. Those of an act that runs none name nothing.
+    /// The numbers of the phase that an act of a batch runs. Those of an act that runs none name nothing.
     #[inline(always)]
-    pub(crate) fn phase_at(&self, index: usize, node: u16) -> PhaseNumber
-        requires { IsNodeAt self.now index node }
-        ensures named { IsPhaseAt self.now index node result.unit result.phase }
-        ensures unit { IsUnitAt self.now index node result.unit }
+    pub(crate) fn phase_at(&self, batch: &Batch, node: u16) -> PhaseNumber
+        requires { IsNodeAt self.now batch.now node }
+        ensures { IsPhaseAt self.now.cleared batch.now node result.unit result.phase }
     {
-        let batch = &self.batches[index];
         let numbers = &self.numbers[usize::from(batch.recipe)];
         let act = &numbers.acts[usize::from(node)];
         match act.task {
@@ -64,13 +80,12 @@ impl Control {
         }
     }
 
-    /// The line of a phase of the batch at an index that is told to do something.
-    fn send_line(&self, index: usize, node: u16, command: Command) -> Line
-        requires { IsNodeAt self.now index node }
-        ensures { Tells self.now index (Moves.Send node command) result }
+    /// The line of a phase of a batch that is told to do something.
+    fn send_line(&self, batch: &Batch, node: u16, command: Command) -> Line
+        requires { IsNodeAt self.now batch.now node }
+        ensures { Tells self.now batch.now (Moves.Send node command) result }
     {
-        let PhaseNumber { unit, phase } = self.phase_at(index, node);
-        let batch = &self.batches[index];
+        let PhaseNumber { unit, phase } = self.phase_at(batch, node);
         Line::Send {
             batch: batch.number,
             recipe: batch.recipe,
@@ -81,29 +96,12 @@ impl Control {
         }
     }
 
-    /// The line of an act of the batch at an index that gives a resource back.
-    fn release_line(&self, index: usize, node: u16, need: u16) -> Line
-        requires { IsNeedAt self.now index node need }
-        ensures { Tells self.now index (Moves.Release node need) result }
+    /// The line of a phase of a batch that starts.
+    fn start_line(&self, batch: &Batch, node: u16) -> Line
+        requires { IsNodeAt self.now batch.now node }
+        ensures { Tells self.now batch.now (Moves.Start node) result }
     {
-        let (resource, units) = self.resource_at(index, node, need);
-        let batch = &self.batches[index];
-        Line::Release {
-            batch: batch.number,
-            recipe: batch.recipe,
-            node,
-            resource,
-            units,
-        }
-    }
-
-    /// The line of a phase of the batch at an index that starts.
-    fn start_line(&self, index: usize, node: u16) -> Line
-        requires { IsNodeAt self.now index node }
-        ensures { Tells self.now index (Moves.Start node) result }
-    {
-        let PhaseNumber { unit, phase } = self.phase_at(index, node);
-        let batch = &self.batches[index];
+        let PhaseNumber { unit, phase } = self.phase_at(batch, node);
         let recipe = &self.cleared.recipes()[usize::from(batch.recipe)];
         Line::Start {
             batch: batch.number,
@@ -115,56 +113,46 @@ impl Control {
         }
     }
 
-    /// The line of an act of the batch at an index that asks for a resource.
-    fn ask_line(&self, index: usize, node: u16, need: u16) -> Line
-        requires { IsNeedAt self.now index node need }
-        ensures { Tells self.now index (Moves.Ask node need) result }
-    {
-        let (resource, units) = self.resource_at(index, node, need);
-        let batch = &self.batches[index];
-        Line::Ask {
-            batch: batch.number,
-            recipe: batch.recipe,
-            node,
-            resource,
-            units,
-        }
-    }
-
     /// The line of a move of the batch at an index.
     fn own_line(&self, index: usize, made: Move) -> Line
         requires { IsOwnStep self.now (IsNext self.now) index made }
-        ensures { IsNext self.now (move_of self.now.cleared result) }
+        ensures { TellsNext self.now result }
     {
         let batch = &self.batches[index];
         let number = batch.number;
         let recipe = batch.recipe;
         match made {
-            Move::Send { node, command } => self.send_line(index, node, command),
+            Move::Send { node, command } => self.send_line(batch, node, command),
             Move::State(state) => Line::State {
                 batch: number,
                 state,
             },
-            Move::Release { node, need } => self.release_line(index, node, need),
+            Move::Release { node, need } => {
+                let share = resource_at(&self.numbers, batch, node, need);
+                claim_line(ClaimKind::Released, batch, node, share)
+            }
             Move::Begin { node } => Line::Begin {
                 batch: number,
                 recipe,
                 node,
             },
-            Move::Start { node } => self.start_line(index, node),
+            Move::Start { node } => self.start_line(batch, node),
             Move::End { node } => Line::End {
                 batch: number,
                 recipe,
                 node,
             },
-            Move::Ask { node, need } => self.ask_line(index, node, need),
+            Move::Ask { node, need } => {
+                let share = resource_at(&self.numbers, batch, node, need);
+                claim_line(ClaimKind::Asked, batch, node, share)
+            }
         }
     }
 
     /// The line of a step.
     pub(crate) fn line_of(&self, step: Step) -> Line
         requires { IsNextStep self.now (Some step) }
-        ensures { IsNext self.now (move_of self.now.cleared result) }
+        ensures { TellsNext self.now result }
     {
         match step {
             Step::Own { index, made } => self.own_line(index, made),
@@ -175,13 +163,7 @@ impl Control {
                 units,
             } => {
                 let batch = &self.batches[index];
-                Line::Grant {
-                    batch: batch.number,
-                    recipe: batch.recipe,
-                    node,
-                    resource,
-                    units,
-                }
+                claim_line(ClaimKind::Granted, batch, node, (resource, units))
             }
         }
     }

@@ -2,14 +2,13 @@
 ghost use Rattle.std.specs.Prelude.{◌≡◌, ◌<◌, ◌≤◌, IfSome, Some, length, ℕ};
 ghost use Rattle.batch_arbiter.specs.Allocation.{resource_count};
 ghost use Rattle.batch_engine.specs.Marks.{mark_at};
-ghost use Rattle.batch_engine.specs.Marking.{AreAnswerMarked, AreMoveMarked, IsFirstMarked, IsFirstServed, IsNumberMarked, IsSet, IsTouched, KeepsMarks, named_by};
-ghost use Rattle.batch_engine.specs.Steps.{IsNextStep};
+ghost use Rattle.batch_engine.specs.Marking.{AreAnswerMarked, AreMoveMarked, IsFirstMarked, IsFirstServed, IsNumberMarked, IsSet, KeepsMarks, named_by};
+ghost use Rattle.batch_engine.specs.Steps.{touched_by};
 
 use crate::control::Control;
+use crate::line::{ClaimKind, Line};
 use crate::marks::Marks;
 use crate::reply::Reply;
-use crate::step::Step;
-use batch_chart::Move;
 use batch_matrix::Command;
 
 /// Marks the batch at an index.
@@ -102,26 +101,23 @@ impl Reply {
     }
 }
 
-impl Control {
-    /// The resource of which a step gives or takes a share.
-    pub(crate) fn touched(&self, step: Step) -> Option<u16>
-        requires { IsNextStep self.now (Some step) }
-        ensures number { IsTouched self.now result }
-        ensures known { IfSome result (λ number. number < resource_count self.now.allocation) }
+impl Line {
+    /// The resource of which the line's move gives or takes a share.
+    pub(crate) fn touched(&self) -> Option<u16>
+        ensures { result ≡ touched_by self.now }
     {
-        self.is_kept();
-        match step {
-            Step::Own { index, made } => match made {
-                Move::Release { node, need } => {
-                    let (resource, _units) = self.resource_at(index, node, need);
-                    Some(resource)
-                }
-                _ => None,
-            },
-            Step::Grant { resource, .. } => Some(resource),
+        match self {
+            Line::Claim {
+                kind: ClaimKind::Granted | ClaimKind::Released,
+                resource,
+                ..
+            } => Some(*resource),
+            _ => None,
         }
     }
+}
 
+impl Control {
     /// Where the batch stands whose act would be served of a resource.
     fn first_served(&self, resource: u16) -> Option<usize>
         requires { resource < resource_count self.now.allocation }

@@ -1,9 +1,10 @@
 //! Making the next move.
 ghost use Rattle.std.specs.Prelude.{Some};
 ghost use Rattle.batch_chart.specs.declared.chart_move.Move.TheVariants as Moves;
-ghost use Rattle.batch_engine.specs.Steps.{IsGrantStep, IsNext, IsNextStep, IsNumberAt, IsOwnStep, IsQuiet, MakesNext};
+ghost use Rattle.batch_engine.specs.Steps.{IsGrantStep, IsNext, IsNextStep, IsOwnStep, IsQuiet, MakesNext};
 
 use crate::control::Control;
+use crate::pending::resource_at;
 use crate::step::Step;
 use batch_chart::Move;
 use batch_matrix::State;
@@ -30,12 +31,12 @@ impl Control {
     }
 
     /// An act of the batch at an index joins the line of a resource.
-    fn ask(&mut self, index: usize, node: u16, need: u16, resource: u16, units: u32)
-        requires step { IsOwnStep self.old (IsNext self.old) index (Moves.Ask node need) }
-        requires number { IsNumberAt self.old index node need resource units }
+    fn ask(&mut self, index: usize, node: u16, need: u16)
+        requires { IsOwnStep self.old (IsNext self.old) index (Moves.Ask node need) }
         ensures { MakesNext self.old self.new }
     {
         let batch = &mut self.batches[index];
+        let (resource, units) = resource_at(&self.numbers, batch, node, need);
         self.arbiter.ask(resource, units, batch.number, node);
         let chart = self.cleared.recipe(batch.recipe);
         batch
@@ -44,12 +45,12 @@ impl Control {
     }
 
     /// An act of the batch at an index gives a resource back.
-    fn release(&mut self, index: usize, node: u16, need: u16, resource: u16, units: u32)
-        requires step { IsOwnStep self.old (IsNext self.old) index (Moves.Release node need) }
-        requires number { IsNumberAt self.old index node need resource units }
+    fn release(&mut self, index: usize, node: u16, need: u16)
+        requires { IsOwnStep self.old (IsNext self.old) index (Moves.Release node need) }
         ensures { MakesNext self.old self.new }
     {
         let batch = &mut self.batches[index];
+        let (resource, _units) = resource_at(&self.numbers, batch, node, need);
         self.arbiter.release(resource, batch.number, node);
         let chart = self.cleared.recipe(batch.recipe);
         batch
@@ -75,14 +76,8 @@ impl Control {
     {
         match made {
             Move::State(state) => self.change_state(index, state),
-            Move::Ask { node, need } => {
-                let (resource, units) = self.resource_at(index, node, need);
-                self.ask(index, node, need, resource, units);
-            }
-            Move::Release { node, need } => {
-                let (resource, units) = self.resource_at(index, node, need);
-                self.release(index, node, need, resource, units);
-            }
+            Move::Ask { node, need } => self.ask(index, node, need),
+            Move::Release { node, need } => self.release(index, node, need),
             _ => self.run(index, made),
         }
     }

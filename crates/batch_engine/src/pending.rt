@@ -4,10 +4,13 @@ ghost use Rattle.batch_arbiter.specs.Allocation.{batch_node, next_grant, resourc
 ghost use Rattle.batch_model.specs.Moves.{is_stopped};
 ghost use Rattle.batch_engine.specs.Marked.{AreMarked};
 ghost use Rattle.batch_engine.specs.Marking.{IsFirstStep};
-ghost use Rattle.batch_engine.specs.Steps.{IsBatchStep, IsFirstGrant, IsNeedAt, IsNumberAt};
+ghost use Rattle.batch_engine.specs.Steps.{IsBatch, IsBatchStep, IsFirstGrant, IsNeedAt, IsNumberAt};
+ghost use Rattle.batch_engine.specs.View.{EngineView};
 
+use crate::batch::Batch;
 use crate::control::Control;
 use crate::marks::Marks;
+use crate::numbers::RecipeNumbers;
 use crate::step::Step;
 use batch_arbiter::Arbiter;
 use batch_matrix::State;
@@ -30,30 +33,32 @@ fn is_stopped(state: State) -> bool
     matches!(state, State::Stopped | State::Aborted)
 }
 
-impl Control {
-    /// The number of the resource that an act of the batch at an index needs, and how many units of it.
-    pub(crate) fn resource_at(&self, index: usize, node: u16, need: u16) -> (u16, u32)
-        requires { IsNeedAt self.now index node need }
-        ensures { IsNumberAt self.now index node need result.0 result.1 }
-    {
-        let batch = &self.batches[index];
-        let numbers = &self.numbers[usize::from(batch.recipe)];
-        let act = &numbers.acts[usize::from(node)];
-        let wanted = &act.needs[usize::from(need)];
-        (wanted.resource.for_units(&batch.units), wanted.units)
-    }
+/// The number of the resource that an act of a batch needs, and how many units of it, by the numbers of all recipes.
+pub(crate) fn resource_at(
+    numbers: &[RecipeNumbers],
+    batch: &Batch,
+    node: u16,
+    need: u16,
+) -> (u16, u32)
+    requires { (v : EngineView) × IsNeedAt v numbers.now batch.now node need }
+    ensures { (v : EngineView) → IsNeedAt v numbers.now batch.now node need → IsNumberAt v.cleared batch.now node need result.0 result.1 }
+{
+    let recipe = &numbers[usize::from(batch.recipe)];
+    let act = &recipe.acts[usize::from(node)];
+    let wanted = &act.needs[usize::from(need)];
+    (wanted.resource.for_units(&batch.units), wanted.units)
+}
 
-    /// The first act in line of the batch at an index that the arbiter would serve: its node, its resource and how many
-    /// units of it.
-    fn first_grant(&self, index: usize) -> Option<(u16, u16, u32)>
-        requires { index < length self.now.batches }
-        ensures { IsFirstGrant self.now index result }
+impl Control {
+    /// The first act in line of a batch that the arbiter would serve: its node, its resource and how many units of it.
+    fn first_grant(&self, batch: &Batch) -> Option<(u16, u16, u32)>
+        requires { IsBatch self.now batch.now }
+        ensures { IsFirstGrant self.now batch.now result }
     {
-        let batch = &self.batches[index];
         let chart = self.cleared.recipe(batch.recipe);
         let mut from = 0;
         while let Some((node, need)) = batch.running.waiting(chart, from) {
-            let (resource, units) = self.resource_at(index, node, need);
+            let (resource, units) = resource_at(&self.numbers, batch, node, need);
             if serves(&self.arbiter, resource, batch.number, node) {
                 return Some((node, resource, units));
             }
@@ -75,7 +80,7 @@ impl Control {
         if let Some(made) = batch.running.next_move(chart, batch.state) {
             return Some(Step::Own { index, made });
         }
-        let (node, resource, units) = self.first_grant(index)?;
+        let (node, resource, units) = self.first_grant(batch)?;
         Some(Step::Grant {
             index,
             node,

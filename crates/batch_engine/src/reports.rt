@@ -1,5 +1,5 @@
 //! Reports of phases.
-ghost use Rattle.std.specs.Prelude.{◌≡◌, ◌<◌, ◌&&◌, ℕ, List, Some, None, length, not};
+ghost use Rattle.std.specs.Prelude.{◌≡◌, ◌<◌, ◌&&◌, ℕ, List, Some, None, length, not, slice_get};
 ghost use Rattle.batch_matrix.specs.Matrix.{same_report};
 ghost use Rattle.batch_model.specs.Events as Events;
 ghost use Rattle.batch_model.specs.Events.{batch_state_after};
@@ -7,6 +7,8 @@ ghost use Rattle.batch_model.specs.Moves.{is_stopping, next};
 ghost use Rattle.batch_engine.specs.Answered.{IsAnswered};
 ghost use Rattle.batch_engine.specs.Marked.{AreNoted};
 ghost use Rattle.batch_engine.specs.Reports.{IsLeftOutAt, IsLiveIn, IsLivePhase};
+ghost use Rattle.batch_engine.specs.Steps.{HasNode, IsPhaseAt};
+ghost use Rattle.batch_engine.specs.declared.batch.Batch.{Batch};
 ghost use Rattle.batch_engine.specs.View.{number_of, plant_of, setup};
 
 use crate::control::Control;
@@ -49,7 +51,7 @@ impl Control {
         let chart = self.cleared.recipe(batch.recipe);
         let mut from = 0;
         while let Some((node, state)) = batch.running.live(chart, phase, from) {
-            if self.phase_at(index, node).unit == unit {
+            if self.phase_at(batch, node).unit == unit {
                 return Some((node, state));
             }
             from = node + 1;
@@ -83,6 +85,14 @@ impl Control {
         first_left_out(reports_at(chart, node), &report.outputs)
     }
 
+    /// The numbers of the phase that an act of the batch at an index runs.
+    fn phase_of(&self, index: usize, node: u16) -> PhaseNumber
+        requires { HasNode self.now index node }
+        ensures { (batch : Batch) → slice_get self.now.batches index ≡ Some batch → IsPhaseAt self.now.cleared batch node result.unit result.phase }
+    {
+        self.phase_at(&self.batches[index], node)
+    }
+
     /// A live phase of a unit tells something.
     pub(crate) fn report(&mut self, report: &PhaseReport, holders: &[u64]) -> Reply
         requires settled { next (setup self.old.cleared) (plant_of self.old) ≡ None }
@@ -95,7 +105,7 @@ impl Control {
         let Some(_end) = after_report(state, report.word) else {
             return Reply::Refused(Refusal::ReportNotExpected(state));
         };
-        let PhaseNumber { unit, phase } = self.phase_at(index, node);
+        let PhaseNumber { unit, phase } = self.phase_of(index, node);
         let recipe = self.batches[index].recipe;
         let outputs = &self.cleared.recipes()[usize::from(recipe)].outputs;
         if !are_outputs(outputs, &report.outputs) {

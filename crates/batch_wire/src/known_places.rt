@@ -5,6 +5,7 @@ ghost use Rattle.batch_wire.specs.Known.{AreKnown};
 
 use crate::line_room::LineRoom;
 use crate::recipe_places::RecipePlaces;
+use crate::site::Site;
 
 /// Of how many recipes places are kept: as many as a cell may have units, so as many as may run at once of which each has a unit.
 const RECIPES: usize = 64;
@@ -29,9 +30,12 @@ impl KnownPlaces {
     }
 }
 
-/// Where the places of the recipe with this number are kept.
-pub(crate) fn seat_of(recipe: u16) -> usize
+/// Where the places of a site's recipe are kept.
+pub(crate) fn seat_of(site: Option<Site>) -> usize
     ensures { result < 64 }
 {
-    usize::from(recipe) % RECIPES
+    match site {
+        Some(site) => usize::from(site.recipe) % RECIPES,
+        None => 0,
+    }
 }

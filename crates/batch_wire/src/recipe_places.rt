@@ -29,7 +29,7 @@ pub(crate) struct RecipePlaces {
     /// The batch whose digits stand in front of the place.
     batch: Option<u64>,
     /// Where they begin.
-    pub(crate) start: usize,
+    start: usize,
     recipe: u16,
     /// How many nodes are kept.
     depth: usize,
@@ -59,10 +59,31 @@ impl RecipePlaces {
         }
     }
 
+    /// Makes the text of a site known, and tells from where to where it stands. That of no site is empty.
+    #[inline(always)]
+    pub(crate) fn find_site(
+        &mut self,
+        cleared: &Cleared,
+        site: Option<Site>,
+    ) -> Option<(usize, usize)>
+        requires { AreKnownIn cleared.now self.old }
+        ensures known { AreKnownIn cleared.now self.new }
+        ensures found { IfSome result (λ found. (found.0 ≤ found.1) × (found.1 ≤ 408)
+            × (drop found.0 (take found.1 self.new.text) ≡ text_of_site cleared.now site)) }
+    {
+        let Some(site) = site else {
+            return Some((0, 0));
+        };
+        match self.find(cleared, site) {
+            Some(end) => Some((self.start, end)),
+            None => None,
+        }
+    }
+
     /// Makes the place of a node known, and the batch in front of it, and tells where the place's text ends. None where there is no
     /// room for it, or no such node.
     #[inline(always)]
-    pub(crate) fn find(&mut self, cleared: &Cleared, site: Site) -> Option<usize>
+    fn find(&mut self, cleared: &Cleared, site: Site) -> Option<usize>
         requires { AreKnownIn cleared.now self.old }
         ensures known { AreKnownIn cleared.now self.new }
         ensures found { IfSome result (λ end. (self.new.start ≤ end) × (end ≤ 408)

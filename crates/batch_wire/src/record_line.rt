@@ -8,7 +8,7 @@ ghost use Rattle.batch_engine.specs.declared.line.Line.TheVariants as lines;
 ghost use Rattle.batch_engine.specs.declared.reply.Reply.TheVariants as replies;
 ghost use Rattle.batch_verify.specs.ClearedSet.{ClearedSet};
 ghost use Rattle.batch_wire.specs.Known.{AreKnown, AreKnownIn};
-ghost use Rattle.batch_wire.specs.Pieces.{TellsOfClaim, before, created_front, phase_front, roles_text, text_of_site, told_by_move, told_by_out, told_by_reply, told_text, values_text};
+ghost use Rattle.batch_wire.specs.Pieces.{before, created_front, phase_front, roles_text, text_of_site, told_by_move, told_by_out, told_by_reply, told_text, values_text};
 ghost use Rattle.batch_wire.specs.RecordText.{out_text, reply_words, refusal_words, move_words, state_text, command_text, report_text, role_text, value_text, need_text, value_texts};
 ghost use Rattle.batch_wire.specs.Written.{Writes};
 
@@ -22,7 +22,7 @@ use crate::places::{ToldPlace, write_place};
 use crate::recipe_places::RecipePlaces;
 use crate::site::Site;
 use crate::writing::{write_all, write_pieces};
-use batch_engine::{Line, Out, Refusal, Reply};
+use batch_engine::{ClaimKind, Line, Out, Refusal, Reply};
 use batch_matrix::{Command, Report, State};
 use batch_recipe::{MAX_ROLES, MAX_VALUES, Role};
 use batch_text::Name;
@@ -52,16 +52,8 @@ pub fn write_out_knowing<W: Write>(
     ensures known { AreKnown cleared.now places.new }
     ensures written { Writes (W.contents writer.old) (W.contents writer.new) result (out_text (out_of cleared.now out.now)) }
 {
-    let Some(site) = site_of(out) else {
-        return write_line(
-            out,
-            cleared,
-            &ToldPlace::Known(b""),
-            &mut places.line,
-            writer,
-        );
-    };
-    let seat = seat_of(site.recipe);
+    let site = site_of(out);
+    let seat = seat_of(site);
     write_site(
         out,
         cleared,
@@ -72,26 +64,26 @@ pub fn write_out_knowing<W: Write>(
     )
 }
 
-/// Writes the line of an out that tells this site, where these places are known.
+/// Writes the line of an out that tells this site, or none, where these places are known.
 #[inline(always)]
 fn write_site<W: Write>(
     out: &Out,
     cleared: &Cleared,
-    site: Site,
+    site: Option<Site>,
     places: &mut RecipePlaces,
     room: &mut LineRoom,
     writer: &mut W,
 ) -> Result<(), WriteFault>
     requires known { AreKnownIn cleared.now places.old }
-    requires told { text_of_site cleared.now (Some site) ≡ told_by_out (out_of cleared.now out.now) }
+    requires told { text_of_site cleared.now site ≡ told_by_out (out_of cleared.now out.now) }
     ensures known { AreKnownIn cleared.now places.new }
     ensures written { Writes (W.contents writer.old) (W.contents writer.new) result (out_text (out_of cleared.now out.now)) }
 {
-    let Some(end) = places.find(cleared, site) else {
-        return write_by_pieces(out, cleared, &ToldPlace::Long { cleared, site }, writer);
+    let Some((start, end)) = places.find_site(cleared, site) else {
+        return write_out(out, cleared, writer);
     };
     let known = &places.text[..end];
-    let told = ToldPlace::Known(&known[places.start..]);
+    let told = ToldPlace::Known(&known[start..]);
     write_line(out, cleared, &told, room, writer)
 }
 
@@ -187,34 +179,8 @@ fn site_of_move(line: Line) -> Option<Site>
             recipe,
             node,
             ..
-        } => Some(Site {
-            batch,
-            recipe,
-            node,
-        }),
-        _ => site_of_claim(line),
-    }
-}
-
-#[inline(always)]
-fn site_of_claim(line: Line) -> Option<Site>
-    requires { TellsOfClaim line }
-    ensures { (cleared : ClearedSet) → text_of_site cleared result ≡ told_by_move (move_of cleared line) }
-{
-    match line {
-        Line::Release {
-            batch,
-            recipe,
-            node,
-            ..
         }
-        | Line::Ask {
-            batch,
-            recipe,
-            node,
-            ..
-        }
-        | Line::Grant {
+        | Line::Claim {
             batch,
             recipe,
             node,
@@ -224,7 +190,6 @@ fn site_of_claim(line: Line) -> Option<Site>
             recipe,
             node,
         }),
-        _ => unreachable!(),
     }
 }
 
@@ -490,48 +455,19 @@ fn write_move<W: Write>(
             ..
         } => write_start(place, cleared, recipe, node, unit, phase, values, writer),
         Line::End { .. } => write_apart(&[b"end "], place, &[b"\n"], writer),
-        _ => write_claim(line, cleared, place, writer),
-    }
-}
-
-/// Writes a line that tells of a claim on a resource: it is asked for, granted or given back.
-#[inline(always)]
-fn write_claim<W: Write>(
-    line: Line,
-    cleared: &Cleared,
-    place: &ToldPlace<'_>,
-    writer: &mut W,
-) -> Result<(), WriteFault>
-    requires claim { TellsOfClaim line }
-    requires place { told_text place.now ≡ told_by_move (move_of cleared.now line) }
-    ensures { Writes (W.contents writer.old) (W.contents writer.new) result (line_text (move_words (move_of cleared.now line))) }
-{
-    match line {
-        Line::Release {
+        Line::Claim {
+            kind,
             resource,
             units,
             ..
         } => {
             let name = resource_name(cleared, resource);
-            write_need(b"release ", place, name, units, writer)
+            match kind {
+                ClaimKind::Asked => write_need(b"ask ", place, name, units, writer),
+                ClaimKind::Granted => write_need(b"grant ", place, name, units, writer),
+                ClaimKind::Released => write_need(b"release ", place, name, units, writer),
+            }
         }
-        Line::Ask {
-            resource,
-            units,
-            ..
-        } => {
-            let name = resource_name(cleared, resource);
-            write_need(b"ask ", place, name, units, writer)
-        }
-        Line::Grant {
-            resource,
-            units,
-            ..
-        } => {
-            let name = resource_name(cleared, resource);
-            write_need(b"grant ", place, name, units, writer)
-        }
-        _ => unreachable!(),
     }
 }
 

@@ -2,7 +2,7 @@
 use crate::documents::{A, CELL1};
 use crate::ends::{Failure, Narrow};
 use crate::records::cleared_of;
-use batch_engine::{Line, Out, Refusal, Reply};
+use batch_engine::{ClaimKind, Line, Out, Refusal, Reply};
 use batch_matrix::Command;
 use batch_verify::Cleared;
 use batch_wire::{WriteFault, create_lines, limits, record_lines, write_out};
@@ -71,7 +71,8 @@ fn outs_without_a_line(rt: HostRuntime) -> Result<(), Fail> {
             0,
         ),
         (
-            Out::Move(Line::Grant {
+            Out::Move(Line::Claim {
+                kind: ClaimKind::Granted,
                 batch: 1_000_000_000_000,
                 recipe: 0,
                 node: 3,

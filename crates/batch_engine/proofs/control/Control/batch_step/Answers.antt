@@ -7,7 +7,7 @@ use Rattle.batch_engine.specs.Steps.{IsBatchStep, IsFirstGrant}
 use Rattle.batch_engine.specs.View.{EngineView, batch_of, plant_of, setup, tree_of}
 use Rattle.batch_engine.proofs.AtRest.{stopped-moves}
 use Rattle.batch_engine.proofs.BatchPlaces.{Has-batch_of}
-use Rattle.batch_engine.proofs.Finding.{has, one-batch}
+use Rattle.batch_engine.proofs.Finding.{has}
 use Rattle.batch_engine.proofs.Seats.{IsRead, IsSeat, read-at, seat-of}
 use Rattle.batch_engine.proofs.Told.{safe}
 use Rattle.batch_engine.proofs.Upcoming.{grant-least, no-move, own-least}
@@ -39,9 +39,9 @@ returns-in_err-node c =
     let v : EngineView = c.args.self.now in
     let b : Batch = c.index-batch.result.now in
     let s = seat (goal.at.returns-in_err-node c).After-recipe-chart in
-    let grants : IsFirstGrant v c.args.index None = subst (IsFirstGrant v c.args.index) c.in_err-node.was c.first_grant.ensures in
+    let grants : IsFirstGrant v b None = subst (IsFirstGrant v b) c.in_err-node.was c.first_grant.ensures in
     subst (IsBatchStep v c.args.index) (sym c.from_residual.ensures)
-    (no-move v c.args.index b s.at (sym (c.in_default.ensures.next (tree_of v.cleared b) (batch_of v.cleared b) s.chart s.runs refl refl)) (grants b s.at))
+    (no-move v c.args.index b s.at (sym (c.in_default.ensures.next (tree_of v.cleared b) (batch_of v.cleared b) s.chart s.runs refl refl)) grants)
 
 pub returns : goal.returns
 returns c =
@@ -49,8 +49,8 @@ returns c =
     let b : Batch = c.index-batch.result.now in
     let s = seat (goal.at.returns c).After-recipe-chart in
     let own : ◌≡◌ {A = Option Moves.Move} None (own_next (batch_of v.cleared b)) = c.in_default.ensures.next (tree_of v.cleared b) (batch_of v.cleared b) s.chart s.runs refl refl in
-    let g : IsFirstGrant v c.args.index (Some (c.in_ok-node.node, c.in_ok-node.resource, c.in_ok-node.units)) = subst (IsFirstGrant v c.args.index) c.in_ok-node.was c.first_grant.ensures in
-    let own_there : own_next (batch_of v.cleared g.batch) ≡ None = one-batch v s.kept c.args.index b s.at (λ z. own_next (batch_of v.cleared z)) None g.batch g.here.at (sym own) in (
+    let found : IsFirstGrant v b (Some (c.in_ok-node.node, c.in_ok-node.resource, c.in_ok-node.units)) = subst (IsFirstGrant v b) c.in_ok-node.was c.first_grant.ensures in
+    let g = found c.args.index s.at in (
       refl,
       record {
         batch = g.batch;
@@ -62,9 +62,12 @@ returns c =
         number = g.number;
         units_are = g.units_are;
         first = g.first;
-        is = grant-least v c.args.index g.batch _ g.here.at own_there (g.is g.batch g.here.at);
+        is = grant-least v c.args.index b _ s.at (sym own) g.is;
       },
     )
+
+pub first_grant-requires : goal.first_grant-requires
+first_grant-requires c = (c.args.index, (seat (goal.at.first_grant-requires c).After-recipe-chart).at)
 
 pub next_move-requires : goal.next_move-requires
 next_move-requires c = (seat (goal.at.next_move-requires c).After-recipe-chart).running

@@ -3,7 +3,7 @@ use Rattle.batch_model.specs.Moves as Moves
 use Rattle.batch_chart.specs.NodesOf.{need_at, place_at}
 use Rattle.batch_engine.specs.declared.batch.Batch.{Batch}
 use Rattle.batch_engine.specs.View.{EngineView, number_of, tree_of}
-use Rattle.batch_engine.specs.Steps.{IsGrantStep, IsNext, IsNextStep}
+use Rattle.batch_engine.specs.Steps.{IsGrantStep, IsNext, IsNextStep, IsNumberAt, TellsNext}
 use Rattle.batch_engine.proofs.Answering.{same-at}
 use Rattle.batch_engine.proofs.Seats.{IsRead, read-there}
 use Rattle.batch_engine.proofs.Telling.{grant-told}
@@ -17,10 +17,10 @@ returns-in-Grant c =
     let g : IsGrantStep v (IsNext v) i c.in-Grant.node c.in-Grant.resource c.in-Grant.units = subst (λ s. IsNextStep v (Some s)) c.in-Grant.is c.requires in
     let r : IsRead v i b = read-there c.self.view_is c.self.invariant.kept g.here.at c.index-batch.ensures in
     let same : g.batch ≡ b = same-at v.batches i g.batch b g.here.at r.at in
-    let number : number_of v.cleared (need_at (tree_of v.cleared b) c.in-Grant.node g.need).resource ≡ Some c.in-Grant.resource =
-    subst (λ (z : Batch). number_of v.cleared (need_at (tree_of v.cleared z) c.in-Grant.node g.need).resource ≡ Some c.in-Grant.resource) same g.number in
-    let units : (need_at (tree_of v.cleared b) c.in-Grant.node g.need).units ≡ c.in-Grant.units =
-    subst (λ (z : Batch). (need_at (tree_of v.cleared z) c.in-Grant.node g.need).units ≡ c.in-Grant.units) same g.units_are in
-    let is : IsNext v (Moves.grant b.number (place_at (tree_of v.cleared b) c.in-Grant.node) (need_at (tree_of v.cleared b) c.in-Grant.node g.need)) =
-    subst (λ (z : Batch). IsNext v (Moves.grant z.number (place_at (tree_of v.cleared z) c.in-Grant.node) (need_at (tree_of v.cleared z) c.in-Grant.node g.need))) same g.is in
-    subst (IsNext v) (sym (grant-told v r.kept i b r.at c.in-Grant.node g.need c.in-Grant.resource c.in-Grant.units number units)) is
+    let number : IsNumberAt v.cleared b c.in-Grant.node g.need c.in-Grant.resource c.in-Grant.units = (
+      subst (λ (z : Batch). number_of v.cleared (need_at (tree_of v.cleared z) c.in-Grant.node g.need).resource ≡ Some c.in-Grant.resource) same g.number,
+      subst (λ (z : Batch). (need_at (tree_of v.cleared z) c.in-Grant.node g.need).units ≡ c.in-Grant.units) same g.units_are,
+    ) in
+    subst (TellsNext v) (sym c.claim_line.ensures)
+    (grant-told v r.kept i b r.at g.need number
+    (subst (λ (z : Batch). IsNext v (Moves.grant z.number (place_at (tree_of v.cleared z) c.in-Grant.node) (need_at (tree_of v.cleared z) c.in-Grant.node g.need))) same g.is))

@@ -10,11 +10,10 @@ use Rattle.batch_engine.specs.Kept.{IsKept}
 use Rattle.batch_engine.specs.Marked.{AreNoted}
 use Rattle.batch_engine.specs.Reports.{IsLiveIn, IsLivePhase}
 use Rattle.batch_engine.specs.View.{EngineView, batch_of, number_of, tree_of}
-use Rattle.batch_engine.proofs.Finding.{batch-runs, tree-placed}
+use Rattle.batch_engine.proofs.Finding.{batch-runs, known-resource, tree-placed}
 use Rattle.batch_engine.proofs.HeldUnits.{live-elsewhere, live-no_batch, live-no_unit}
 use Rattle.batch_engine.proofs.LiveNodes.{live-node}
 use Rattle.batch_engine.proofs.Reporting.{live-here, live-nowhere}
-use Rattle.batch_engine.proofs.Unmarked.{known-resource}
 use Rattle.batch_engine.proofs.control.Control.live.Goals as goal
 use Rattle.batch_engine.proofs.control.Control.live.Goals.{After-resource_of}
 

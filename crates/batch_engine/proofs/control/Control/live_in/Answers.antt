@@ -25,7 +25,7 @@ own : (c : After-phase_at) → IsSeat c.args.self.now c.args.index c.index-batch
     → position (same_name (phase_at (tree_of c.args.self.now.cleared c.index-batch.result.now) c.in-Some.node).unit) (units_of c.args.self.now.cleared.cell) ≡ Some c.phase_at.result.unit
 own c s =
     let t = tree_of c.args.self.now.cleared c.index-batch.result.now in
-    c.phase_at.ensures.unit c.index-batch.result.now s.at ((phase_at t c.in-Some.node).unit, c.args.phase.now) (c.in-Some.ensures.runs t s.chart s.runs)
+    c.phase_at.ensures.among ((phase_at t c.in-Some.node).unit, c.args.phase.now) (c.in-Some.ensures.runs t s.chart s.runs)
 
 pub loop-node-init : goal.loop-node-init
 loop-node-init c =
@@ -41,7 +41,7 @@ phase_at-requires c =
     let s = seat (goal.at.phase_at-requires c).After-recipe-chart in
     let t = tree_of c.args.self.now.cleared c.index-batch.result.now in
     let named : phase_named (node_at t c.in-Some.node).here ≡ Some ((phase_at t c.in-Some.node).unit, c.args.phase.now) = c.in-Some.ensures.runs t s.chart s.runs in
-    (c.index-batch.result.now, s.at, phase-within t c.in-Some.node ((phase_at t c.in-Some.node).unit, c.args.phase.now) named)
+    record { kept = s.kept; index = c.args.index; at = s.at; few = phase-within t c.in-Some.node ((phase_at t c.in-Some.node).unit, c.args.phase.now) named }
 
 pub returns-then-phase_at-unit : goal.returns-then-phase_at-unit
 returns-then-phase_at-unit c =

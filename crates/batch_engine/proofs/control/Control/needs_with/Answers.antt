@@ -14,7 +14,7 @@ overflow_add-result c =
     let kept : IsKept v = subst IsKept c.self.view_is c.self.invariant.kept in
     let few : c.args.recipe < length v.numbers = omega (arith, c.requires.known, kept.numbers.count) in
     let x : RecipeNumbers = c.index.result.now in
-    let found : slice_get v.numbers c.args.recipe ≡ Some x = got-numbers v _ c.from.result c.args.recipe x c.self.view_is c.from.ensures few c.index.ensures in
+    let found : slice_get v.numbers c.args.recipe ≡ Some x = got-numbers v _ c.from.result c.args.recipe x (ap (λ (z : EngineView). z.numbers) c.self.view_is) c.from.ensures few c.index.ensures in
     omega (
       arith,
       c.requires.free,
@@ -31,5 +31,5 @@ returns c units =
     let kept : IsKept v = subst IsKept c.self.view_is c.self.invariant.kept in
     let few : c.args.recipe < length v.numbers = omega (arith, c.requires.known, kept.numbers.count) in
     let x : RecipeNumbers = c.index.result.now in
-    let found : slice_get v.numbers c.args.recipe ≡ Some x = got-numbers v _ c.from.result c.args.recipe x c.self.view_is c.from.ensures few c.index.ensures in
+    let found : slice_get v.numbers c.args.recipe ≡ Some x = got-numbers v _ c.from.result c.args.recipe x (ap (λ (z : EngineView). z.numbers) c.self.view_is) c.from.ensures few c.index.ensures in
     omega (arith, c.self.invariant.needs_are, ap (λ (z : EngineView). needs_of_all z.cleared z.batches) c.self.view_is, needs-here v kept c.args.recipe x found units)

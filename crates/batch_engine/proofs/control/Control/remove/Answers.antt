@@ -25,7 +25,7 @@ counted c f =
     let r : IsRead v c.in-Some.index c.remove-removed.result = read-there c.self.view_is c.self.invariant.kept f.at c.remove-removed.ensures.value in
     omega (
       arith,
-      (acts-here c.self.view_is r c.from.ensures c.index-2.ensures).needs,
+      (acts-here (ap (λ (z : EngineView). z.numbers) c.self.view_is) r c.from.ensures c.index-2.ensures).needs,
       needs-removed v.cleared v.batches c.in-Some.index c.remove-removed.result r.at,
       c.self.invariant.needs_are,
       ap (λ (z : EngineView). needs_of_all z.cleared z.batches) c.self.view_is,

@@ -172,12 +172,12 @@ returns c =
     (owed-complete c.in-Some.state c.args.report.now.word (phase_at (tree_of v.cleared c.index.result.now) c.in-Some.node).reports c.args.report.now.outputs.items (sym (first-left_out w.After-left_out first) ∙ c.in_default-left_out.is)) in
     let g = live w.In-Some in
     let same : g.batch ≡ b = same-at v.batches i g.batch b g.here.at r.at in
-    let phase = c.phase_at-unit.ensures.named b r.at in
-    let told : Reply = Reply.Reported c.phase_at-unit.result.unit c.phase_at-unit.result.phase c.args.report.now.word b.number c.index.result.now.recipe node y in
+    let phase = c.phase_of-unit.ensures b r.at in
+    let told : Reply = Reply.Reported c.phase_of-unit.result.unit c.phase_of-unit.result.phase c.args.report.now.word b.number c.index.result.now.recipe node y in
     let words : Events.reported c.args.report.now.unit c.args.report.now.phase c.args.report.now.word b.number (place_at (tree_of v.cleared b) node) y ≡ reply_of v.cleared told =
     ap₂ (λ (u n : Name). Events.reported u n c.args.report.now.word b.number (place_at (tree_of v.cleared b) node) y)
-    (sym (phase.0 ∙ subst (λ (z : Batch). (phase_at (tree_of v.cleared z) node).unit ≡ c.args.report.now.unit) same g.unit_is)) (sym (phase.1 ∙ subst (λ (z : Batch). (phase_at (tree_of v.cleared z) node).name ≡ c.args.report.now.phase) same g.name_is))
-    ∙ ap (λ p. Events.reported (Names.resource_name v.cleared c.phase_at-unit.result.unit) (Names.phase_name v.cleared c.phase_at-unit.result.unit c.phase_at-unit.result.phase) c.args.report.now.word b.number p y)
+    (sym (phase.unit_is ∙ subst (λ (z : Batch). (phase_at (tree_of v.cleared z) node).unit ≡ c.args.report.now.unit) same g.unit_is)) (sym (phase.name_is ∙ subst (λ (z : Batch). (phase_at (tree_of v.cleared z) node).name ≡ c.args.report.now.phase) same g.name_is))
+    ∙ ap (λ p. Events.reported (Names.resource_name v.cleared c.phase_of-unit.result.unit) (Names.phase_name v.cleared c.phase_of-unit.result.unit c.phase_of-unit.result.phase) c.args.report.now.word b.number p y)
     (sym (ap (λ (z : Batch). Names.place_at v.cleared z.recipe node) one ∙ place-here v r.kept i b r.at node)) in
     record {
       cleared = ap (λ (z : EngineView). z.cleared) c.self.view_is;

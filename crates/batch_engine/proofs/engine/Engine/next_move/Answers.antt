@@ -1,10 +1,11 @@
-use Rattle.std.proofs.Common.{◌<◌, ◌≤◌, sym, subst}
+use Rattle.std.proofs.Common.{◌<◌, ◌≤◌, ◌∙◌, sym, subst, subst₂, ℕ, Option}
 use Rattle.std.specs.Prelude.{IfSome, length}
-use Rattle.batch_engine.specs.Marking.{AreMoveMarked}
+use Rattle.batch_engine.specs.Marking.{AreMoveMarked, IsTouched}
+use Rattle.batch_engine.specs.Steps.{touched_by}
 use Rattle.batch_engine.specs.View.{EngineView}
 use Rattle.batch_engine.specs.declared.step.Step.{Step}
-use Rattle.batch_engine.proofs.HeldUnits.{move-kept}
-use Rattle.batch_engine.proofs.Unmarked.{marked-after, same-count, settled-marked, step-within}
+use Rattle.batch_engine.proofs.HeldUnits.{move-kept, next-noted}
+use Rattle.batch_engine.proofs.Unmarked.{marked-after, next-touches, same-count, settled-marked, step-within}
 use Rattle.batch_engine.proofs.engine.Engine.next_move.Goals as goal
 
 pub mark_moved-requires-clause-batch : goal.mark_moved-requires-clause-batch
@@ -17,7 +18,10 @@ pub mark_moved-requires-clause-known : goal.mark_moved-requires-clause-known
 mark_moved-requires-clause-known c =
     let v : EngineView = c.self.inside.control in
     let w : EngineView = c.make.new.self in
-    subst (λ n. IfSome c.touched-resource.result (λ q. q < n)) (sym (same-count v w c.self.invariant.kept c.is_kept.ensures c.in-Some.step c.in-Some.ensures.0 c.make.ensures)) c.touched-resource.ensures.known
+    subst₂ (λ (o : Option ℕ) n. IfSome o (λ q. q < n)) (sym c.touched.ensures) (sym (same-count v w c.self.invariant.kept c.is_kept.ensures c.in-Some.step c.in-Some.ensures.0 c.make.ensures)) c.line_of-line.ensures.known
+
+pub note_grant-requires : goal.note_grant-requires
+note_grant-requires c = subst (λ n. IfSome (touched_by c.line_of-line.result) (λ q. q < n)) (sym c.self.invariant.noted_are.count) c.line_of-line.ensures.known
 
 pub invariant_of-self : goal.invariant_of-self
 invariant_of-self c =
@@ -32,8 +36,9 @@ invariant_of-self-2 c =
     record {
       kept = c.is_kept.ensures;
       marked = marked-after v w c.self.invariant.kept c.is_kept.ensures c.self.inside.marks zs c.self.invariant.marked s c.in-Some.ensures c.make.ensures
-          c.touched-resource.result c.touched-resource.ensures.number
-          (subst (λ n. AreMoveMarked w n c.touched-resource.result zs) c.index.ensures c.mark_moved.ensures.set)
+          c.touched.result (subst (IsTouched v) (sym c.touched.ensures) (next-touches v c.self.invariant.kept c.line_of-line.result c.line_of-line.ensures))
+          (subst (λ n. AreMoveMarked w n c.touched.result zs) c.index.ensures c.mark_moved.ensures.set)
           (λ i l u. c.mark_moved.ensures.kept i (subst (λ n. n ≤ i) (sym c.index.ensures) l) u);
-      noted_are = move-kept v w c.self.invariant.kept c.is_kept.ensures c.self.inside.holders.items c.self.invariant.noted_are s c.in-Some.ensures.0 c.make.ensures c.note_grant.new.holders.items c.note_grant.ensures;
+      noted_are = move-kept v w c.self.invariant.kept c.is_kept.ensures c.self.inside.holders.items c.self.invariant.noted_are s c.in-Some.ensures.0 c.make.ensures c.note_grant.new.holders.items
+          (λ m is. c.note_grant.ensures ∙ next-noted v c.self.invariant.kept c.line_of-line.result c.line_of-line.ensures c.self.inside.holders.items m is);
     }
