@@ -34,4 +34,4 @@ returns-in-Plant g c =
 
 pub returns : goal.returns
 returns g c =
-    rw c.in-Explain.is (explains c.deref-in-Explain.result.now _ (cc (c.deref-in-Explain.ensures, c.in-Explain.code-is)) c.explain.ensures)
+    rw c.in-Explain.is (explains _ _ (cc (c.deref-in-Explain.ensures, c.in-Explain.texts-is)) c.tell_codes.ensures)
