@@ -19,7 +19,7 @@ returns-in-Some-explanation_of c =
     (YieldsList-from_slice_split _ is_ascii_whitespace c.args.text.now cut.rest cut.done cut.closure (λ x r q k. search (rules, tests))))
     c.loop-word.yielded c.loop-word.word-iterator c.loop-word.yielded_by in
     let before = ap (first_of code_of) (sym so_far) ∙ first_of-map code_of (λ x. x.now) c.loop-word.yielded ∙ c.loop-word.invariant.2 in
-    sym (first_at code_of (words c.args.text.now) (length c.loop-word.yielded) word.now _ turn.0 turn.1 before (sym c.in-Some-explanation_of.ensures))
+    sym (first_at code_of (words c.args.text.now) (length c.loop-word.yielded) word.now c.in-Some-explanation_of.explanation.code.now turn.0 turn.1 before (sym c.in-Some-explanation_of.ensures))
 
 pub loop-word-preserved : goal.loop-word-preserved
 loop-word-preserved c = (
