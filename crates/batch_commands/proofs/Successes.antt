@@ -5,7 +5,7 @@ use Rattle.clap.specs.Kinds.{IsAmong}
 use Rattle.clap.specs.Walk.{Text}
 use Rattle.clap.specs.declared.error.kind.ErrorKind.{ErrorKind}
 use Rattle.clap.specs.Words.{fault_of}
-use Rattle.batch_words.specs.CommandLine.{Request, Source, demo, explain, judge, plant, program_app, serve}
+use Rattle.batch_words.specs.CommandLine.{Request, Source, demo, program_app, serve}
 use Rattle.batch_verify.specs.ClearedSet.{ClearedSet}
 use Rattle.batch_commands.specs.Judging.{status_of}
 use Rattle.batch_commands.specs.Reading.{Gives}

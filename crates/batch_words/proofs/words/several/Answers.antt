@@ -1,4 +1,4 @@
-use Rattle.std.proofs.Common.{ap, ◌∙◌, unwrap_or, [], codes, List, map, string_bytes}
+use Rattle.std.proofs.Common.{ap, ◌∙◌, unwrap_or, [], List, map, string_bytes}
 use Rattle.std.proofs.lemmas.Result.{IfOk-weaker}
 use Rattle.clap.specs.Words.{found_of}
 use Rattle.clap.specs.Walk.{Text}
