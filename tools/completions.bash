@@ -10,7 +10,7 @@ _batchd() {
         verify | run) options="--quiet --help" ;;
         plant) options="--batches --ticks --ring --help" ;;
         help) options="check verify run plant explain" ;;
-        explain) options="--help $("$1" explain 2>/dev/null | cut -d : -f 1)" ;;
+        explain) options="--help $("${COMP_WORDS[0]}" explain 2>/dev/null | cut -d : -f 1)" ;;
         *) options="--help" ;;
     esac
     case $before in --batches | --ticks | --ring) return ;; esac
