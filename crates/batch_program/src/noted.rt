@@ -23,7 +23,9 @@ impl<S> Noted<S> {
     }
 
     /// Why a call failed last, where one did.
-    pub fn failure(&self) -> Option<io::Error> {
+    pub fn failure(&self) -> Option<io::Error>
+        ensures { result ≡ self.now.failure }
+    {
         self.failure
     }
 
