@@ -1,7 +1,5 @@
 -- The document that ends a command.
-use Rattle.std.proofs.Common.{◌≡◌, ℕ, ◌<◌, List, [], ◌∷◌, Some, None, Result, Ok, Err, IfOk, IfErr, inl, inr, length, map, take, get_or, suc, zero, refl, subst, ap, arith}
-use Rattle.std.specs.Result.{result_err}
-use Rattle.std.proofs.lemmas.Option.{same_Some}
+use Rattle.std.proofs.Common.{◌≡◌, ℕ, ◌<◌, List, [], ◌∷◌, Result, Ok, Err, IfErr, inl, inr, length, map, take, get_or, suc, zero, refl, subst, ap, arith}
 use Rattle.batch_cell.specs.declared.cell.Cell.{Cell}
 use Rattle.batch_recipe.specs.declared.recipe.Recipe.{Recipe}
 use Rattle.batch_verify.specs.CertificateText.{Rank}

@@ -5,13 +5,13 @@ use Rattle.clap.specs.Kinds.{IsAmong}
 use Rattle.clap.specs.Walk.{Text}
 use Rattle.clap.specs.declared.error.kind.ErrorKind.{ErrorKind}
 use Rattle.clap.specs.Words.{fault_of}
-use Rattle.batch_words.specs.CommandLine.{Request, Source, demo, explain, judge, plant, program_app, serve}
+use Rattle.batch_words.specs.CommandLine.{Request, Source, demo, program_app, serve}
 use Rattle.batch_verify.specs.ClearedSet.{ClearedSet}
 use Rattle.batch_commands.specs.Judging.{status_of}
 use Rattle.batch_commands.specs.Reading.{Gives}
 use Rattle.batch_commands.specs.Requests.{Halts, HaltsDemo, IsDemoSet, IsSetOf}
 use Rattle.batch_commands.specs.Running.{AskFor, IsAnnounced, IsDone, IsExplained, IsPrinted, IsRun, IsUnwritten, Stream, ask_quiet, memory_status, success_status, commands, serves, plants, halts, judges, explains, helps, misuses, starves}
-use Rattle.batch_commands.specs.Statuses.{IsCodeTold, IsSuccess, NoCommandServes, ServesClearedSets, SuccessIsTold}
+use Rattle.batch_commands.specs.Statuses.{AreCodesTold, IsSuccess, NoCommandServes, ServesClearedSets, SuccessIsTold}
 use Rattle.batch_commands.specs.declared.course.Course.{Course}
 use Rattle.batch_commands.specs.declared.course.Course.TheVariants.{Ends, Serves}
 use Rattle.batch_commands.specs.declared.refusal.Halt.{Halt}
@@ -44,18 +44,18 @@ no_success quiet output errors (halt.Refused refusal) status (inr fault) is = cc
 no_success quiet output errors (halt.Unread message) status (_, fault) is = cc
 no_success quiet output errors halt.Memory status (_, fault) is = cc
 
-explained_success : (code : List ℕ) (output errors : Stream) (status : ℕ) → IsExplained code output errors status → status ≡ 0 → IsCodeTold code output
-explained_success code output errors status (inl (explanation, same, printed)) is =
-    (explanation, same, printed_success output errors _ status printed is)
-explained_success code output errors status (inr (_, inl usage)) is = absurd cc
-explained_success code output errors status (inr (_, inr memory)) is = absurd cc
+explained_success : (texts : List Text) (output errors : Stream) (status : ℕ) → IsExplained texts output errors status → status ≡ 0 → AreCodesTold texts output
+explained_success texts output errors status (inl (text, tells, printed)) is =
+    (text, tells, printed_success output errors text status printed is)
+explained_success texts output errors status (inr (_, inl (_, usage))) is = absurd cc
+explained_success texts output errors status (inr (_, inr memory)) is = absurd cc
 
 done_success : (gives : Gives) (request : Request) (quiet : Bool) (output errors : Stream) (course : Course)
     → IsDone gives request quiet output errors course → course ≡ Ends 0 → IsSuccess gives request output
 done_success gives request quiet output errors _ (judges judgement text status asked told printed) is =
     rw asked (text, printed_success output errors text status printed cc, told)
-done_success gives request quiet output errors _ (explains code status asked told) is =
-    rw asked (explained_success code output errors status told cc)
+done_success gives request quiet output errors _ (explains texts status asked told) is =
+    rw asked (explained_success texts output errors status told cc)
 done_success gives request quiet output errors _ (halts h status _ told) is = absurd (no_success quiet output errors h status told cc)
 done_success gives request quiet output errors _ (serves _ _ _ _ _ _) is = absurd cc
 done_success gives request quiet output errors _ (plants _ _ _ _ _ _ _ _) is = absurd cc

@@ -51,4 +51,4 @@ abbrev pub Halts : Gives → Request → Halt → Type 0
 Halts gives (judge judgement) h = HaltsJudgement gives judgement h
 Halts gives (serve source) h = HaltsSource gives source h
 Halts gives (plant batches ticks ring) h = HaltsDemo h
-Halts gives (explain code) h = ⊥
+Halts gives (explain texts) h = ⊥

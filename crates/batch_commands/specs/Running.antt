@@ -5,8 +5,7 @@ use Rattle.clap.specs.Kinds.{IsAmong}
 use Rattle.clap.specs.Walk.{Text}
 use Rattle.clap.specs.Words.{fault_of, subcommand_of}
 use Rattle.clap.specs.declared.error.kind.ErrorKind.{ErrorKind}
-use Rattle.batch_explain.specs.Explaining.{told}
-use Rattle.batch_explain.specs.declared.explanation.Explanation.{Explanation}
+use Rattle.batch_explain.specs.Explaining.{HaveNoCode, Tells}
 use Rattle.batch_words.specs.CommandLine.{IsShown, Judgement, Request, Source, asked_by, asks_quiet, explain, judge, plant, program_app, serve}
 use Rattle.batch_commands.specs.Judging.{status_of}
 use Rattle.batch_commands.specs.Reading.{Gives}
@@ -88,11 +87,11 @@ IsAnnounced quiet output errors (halt.Refused refusal) status = IsRefused quiet 
 IsAnnounced quiet output errors (halt.Unread message) status = IsUnwritten output × (status ≡ fault_status)
 IsAnnounced quiet output errors halt.Memory status = IsUnwritten output × (status ≡ memory_status)
 
--- what the code means is told, or that it has no explanation, or memory was wanting
-abbrev pub IsExplained : List ℕ → Stream → Stream → ℕ → Type 0
-IsExplained code output errors status =
-    ((explanation : Explanation) × (explanation.code.now ≡ code) × IsPrinted output errors (told explanation) success_status status)
-    ⊎ (IsUnwritten output × ((status ≡ usage_status) ⊎ (status ≡ memory_status)))
+-- what the first code in the texts means is told, or that they have none, or memory was wanting
+abbrev pub IsExplained : List Text → Stream → Stream → ℕ → Type 0
+IsExplained texts output errors status =
+    ((text : List ℕ) × Tells texts text × IsPrinted output errors text success_status status)
+    ⊎ (IsUnwritten output × ((HaveNoCode texts × (status ≡ usage_status)) ⊎ (status ≡ memory_status)))
 
 -- Runs
 
@@ -107,8 +106,8 @@ pub data IsDone (gives : Gives) (request : Request) (quiet : Bool) (output error
   plants : (set : ClearedSet) (c : Cell) (options : PlantOptions)
       → request ≡ plant options.batches options.ticks options.ring → IsDemoSet set → IsDemoCell c → IsUnwritten output → IsUnwritten errors
       → IsDone gives request quiet output errors (Plants set c options)
-  explains : (code : List ℕ) (status : ℕ)
-      → request ≡ explain code → IsExplained code output errors status → IsDone gives request quiet output errors (Ends status)
+  explains : (texts : List Text) (status : ℕ)
+      → request ≡ explain texts → IsExplained texts output errors status → IsDone gives request quiet output errors (Ends status)
   -- there is no verdict that accepts, or no set
   halts : (h : Halt) (status : ℕ)
       → Halts gives request h → IsAnnounced quiet output errors h status → IsDone gives request quiet output errors (Ends status)

@@ -7,16 +7,14 @@ use Rattle.batch_words.specs.CommandLine.{Request, Source, demo, explain, judge,
 use Rattle.batch_commands.specs.Reading.{Gives}
 use Rattle.batch_commands.specs.Requests.{HaltsDemo, IsDemoSet, IsSetOf, IsVerdict}
 use Rattle.batch_commands.specs.Running.{AskFor, IsRun, Stream, memory_status}
-use Rattle.batch_explain.specs.Explaining.{told}
-use Rattle.batch_explain.specs.declared.explanation.Explanation.{Explanation}
+use Rattle.batch_explain.specs.Explaining.{Tells}
 use Rattle.batch_commands.specs.declared.course.Course.{Course}
 use Rattle.batch_commands.specs.declared.course.Course.TheVariants.{Ends, Serves}
 use Rattle.batch_commands.specs.declared.refusal.Halt.{Halt}
 
--- the explanation of the code was written
-abbrev pub IsCodeTold : List ℕ → Stream → Type 0
-IsCodeTold code output =
-    (explanation : Explanation) × (explanation.code.now ≡ code) × Appends output.before output.after (told explanation)
+-- what is to be told of the texts was written
+abbrev pub AreCodesTold : List Text → Stream → Type 0
+AreCodesTold texts output = (text : List ℕ) × Tells texts text × Appends output.before output.after text
 
 -- `check` wrote the certificate with the least ranks, or the drawing of recipes that can be cleared; `verify` wrote that it accepts
 -- the set of the documents, which their certificate clears. Nothing else ends so before it has served
@@ -24,7 +22,7 @@ abbrev pub IsSuccess : Gives → Request → Stream → Type 0
 IsSuccess gives (judge judgement) output = (text : List ℕ) × Appends output.before output.after text × IsVerdict gives judgement text
 IsSuccess gives (serve source) output = ⊥
 IsSuccess gives (plant batches ticks ring) output = ⊥
-IsSuccess gives (explain code) output = IsCodeTold code output
+IsSuccess gives (explain texts) output = AreCodesTold texts output
 
 -- a command that ends with status 0 was a success
 abbrev pub SuccessIsTold : Gives → Type 0

@@ -13,13 +13,14 @@ use crate::documents::{
 use crate::refusal::{DocumentRefusal, Halt};
 use crate::saying::say;
 use batch_cell::Cell;
-use batch_explain::{explanation_of, explanation_text};
+use batch_explain::explain;
 use batch_verify::Cleared;
 use batch_words::{CommandFault, CommandWords, Judgement, Source, Subcommand, parse};
 use std::alloc::Global;
 use std::fmt::Display;
 use std::io;
 use std::io::Write;
+use thiserror::Error;
 
 /// The exit status where help was asked for.
 const SUCCESS: u8 = 0;
@@ -36,12 +37,14 @@ pub const NO_MEMORY: u8 = 4;
 /// What is told of it where memory ran out.
 pub const OUT_OF_MEMORY: &str = "out of memory";
 
-/// What is told of it where the output can't be written.
-const UNWRITTEN: &str = "the output can't be written";
-
-/// What is told of it where a code has no explanation.
+/// What is told of it where texts have no code.
 const UNKNOWN_CODE: &str =
-    "there is no such code; a code is what stands behind `refused`, a letter and a number, as D5, E11 or V4";
+    "there is no such code; a code is what stands behind `refused`, a letter and a number, as D5, E11 or V4, and `batchd explain` lists all";
+
+/// The output can't be written, for this reason.
+#[derive(Debug, Error, Drop)]
+#[error("the output can't be written: {0}")]
+struct FailedWrite(io::Error);
 
 /// Does what the words ask for: judges documents and tells the verdict, or clears the set that is to be served.
 ///
@@ -92,7 +95,7 @@ fn run_command<D: Documents, O: Write, E: Write>(
             Ok((set, cell)) => Course::Plants { set, cell, options },
             Err(halt) => Course::Ends(announce(alloc, quiet, &halt, output, errors)),
         },
-        Subcommand::Explain { code } => Course::Ends(explain(alloc, &code, output, errors)),
+        Subcommand::Explain { texts } => { Course::Ends(tell_codes(alloc, &texts, output, errors)) }
     }
 }
 
@@ -185,21 +188,24 @@ fn refuse<O: Write, E: Write>(
             say(alloc, quiet, &refusal.sentence, errors);
             refusal.kind.status()
         }
-        Err(_) => unwritten(errors),
+        Err(error) => unwritten(errors, error),
     }
 }
 
-/// Prints what the code means.
-fn explain<O: Write, E: Write>(alloc: Global, code: &str, output: &mut O, errors: &mut E) -> u8
-    ensures { IsExplained code.now (record { before = O.contents output.old; after = O.contents output.new })
+/// Prints what the first code in the texts means, or without texts what all codes mean.
+fn tell_codes<O: Write, E: Write>(
+    alloc: Global,
+    texts: &[String],
+    output: &mut O,
+    errors: &mut E,
+) -> u8
+    ensures { IsExplained (map string_bytes texts.now) (record { before = O.contents output.old; after = O.contents output.new })
         (record { before = E.contents errors.old; after = E.contents errors.new }) result }
 {
-    match explanation_of(code) {
-        Some(explanation) => match explanation_text(alloc, explanation) {
-            Ok(text) => print(output, errors, &text, SUCCESS),
-            Err(_) => complain(errors, OUT_OF_MEMORY, NO_MEMORY),
-        },
-        None => complain(errors, UNKNOWN_CODE, USAGE),
+    match explain(alloc, texts) {
+        Ok(Some(text)) => print(output, errors, &text, SUCCESS),
+        Ok(None) => complain(errors, UNKNOWN_CODE, USAGE),
+        Err(_) => complain(errors, OUT_OF_MEMORY, NO_MEMORY),
     }
 }
 
@@ -210,15 +216,15 @@ pub fn print<O: Write, E: Write>(output: &mut O, errors: &mut E, text: &str, wan
 {
     match write_out(output, text) {
         Ok(()) => wanted,
-        Err(_) => unwritten(errors),
+        Err(error) => unwritten(errors, error),
     }
 }
 
-/// Tells that the output can't be written, and gives the exit status of that.
-fn unwritten<E: Write>(errors: &mut E) -> u8
+/// Tells why the output can't be written, and gives the exit status of that.
+fn unwritten<E: Write>(errors: &mut E, error: io::Error) -> u8
     ensures { result ≡ fault_status }
 {
-    complain(errors, UNWRITTEN, FILE_FAULT)
+    complain(errors, FailedWrite(error), FILE_FAULT)
 }
 
 /// Writes the text and hands it on.

@@ -4,5 +4,5 @@
 mod explanation;
 mod table;
 
-pub use explanation::{Explanation, explanation_of, explanation_text};
+pub use explanation::{Explanation, explain};
 pub use table::explanations;

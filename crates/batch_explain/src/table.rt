@@ -212,7 +212,7 @@ static EXPLANATIONS: [Explanation; 45] = [
     Explanation {
         code: "W1",
         meaning: "the first word is unknown",
-        remedy: "begin the line with `create`, `report`, `remove` or one of the eight commands",
+        remedy: "begin the line with `create`, `report`, `remove`, `start`, `pause`, `resume`, `hold`, `restart`, `stop`, `abort` or `reset`, in small letters",
     },
     Explanation {
         code: "W2",
@@ -227,7 +227,7 @@ static EXPLANATIONS: [Explanation; 45] = [
     Explanation {
         code: "W4",
         meaning: "an argument is no name, no number, no word of a report, or no pair",
-        remedy: "mend the argument; docs/FORMATS.md says what each is",
+        remedy: "write names as they are declared, whole numbers in digits alone, and pairs as NAME=VALUE without spaces; docs/FORMATS.md says what each argument is",
     },
     Explanation {
         code: "W5",

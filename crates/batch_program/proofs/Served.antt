@@ -1,5 +1,5 @@
 -- What a run that serves tells, and one that runs a plant.
-use Rattle.std.proofs.Common.{◌≡◌, ℕ, ◌≤◌, Bool, List, Option, Some, None, Result, Ok, Err, IfOk, inl, inr, refl, sym, subst, arith, ◌∙◌}
+use Rattle.std.proofs.Common.{◌≡◌, ℕ, ◌≤◌, Bool, List, Option, Some, None, Result, Ok, Err, IfOk, inl, inr, refl, subst, arith, ◌∙◌}
 use Rattle.std.specs.Prelude.{IfSome, take}
 use Rattle.std.specs.Io.KnownBytes.{Appends, Keeps}
 use Rattle.clap.specs.Walk.{Text}
@@ -204,10 +204,10 @@ announced_in_range quiet output errors (halt.Refused refusal) status (inr fault)
 announced_in_range quiet output errors (halt.Unread message) status (_, fault) = rw fault (omega arith)
 announced_in_range quiet output errors halt.Memory status (_, fault) = rw fault (omega arith)
 
-explained_in_range : (code : List ℕ) (output errors : Stream) (status : ℕ) → IsExplained code output errors status → status ≤ 4
-explained_in_range code output errors status (inl (_, _, printed)) = printed_in_range output errors _ success_status status (omega arith) printed
-explained_in_range code output errors status (inr (_, inl usage)) = rw usage (omega arith)
-explained_in_range code output errors status (inr (_, inr memory)) = rw memory (omega arith)
+explained_in_range : (texts : List Text) (output errors : Stream) (status : ℕ) → IsExplained texts output errors status → status ≤ 4
+explained_in_range texts output errors status (inl (text, _, printed)) = printed_in_range output errors text success_status status (omega arith) printed
+explained_in_range texts output errors status (inr (_, inl (_, usage))) = rw usage (omega arith)
+explained_in_range texts output errors status (inr (_, inr memory)) = rw memory (omega arith)
 
 done_in_range : (gives : Gives) (request : Request) (quiet : Bool) (output errors : Stream) (course : Course) (status : ℕ)
     → IsDone gives request quiet output errors course → course ≡ Ends status → status ≤ 4
@@ -217,8 +217,8 @@ done_in_range gives request quiet output errors _ status (running.halts h told _
     let same : told ≡ status = cc in rw (← same) (announced_in_range quiet output errors h told at)
 done_in_range gives request quiet output errors _ status (running.judges _ text told _ _ at) is =
     let same : told ≡ status = cc in rw (← same) (printed_in_range output errors text success_status told (omega arith) at)
-done_in_range gives request quiet output errors _ status (running.explains code told _ at) is =
-    let same : told ≡ status = cc in rw (← same) (explained_in_range code output errors told at)
+done_in_range gives request quiet output errors _ status (running.explains texts told _ at) is =
+    let same : told ≡ status = cc in rw (← same) (explained_in_range texts output errors told at)
 
 course_in_range : (gives : Gives) (words : List Text) (output errors : Stream) (course : Course) (status : ℕ)
     → IsRun gives words output errors course → course ≡ Ends status → status ≤ 4

@@ -3,6 +3,7 @@
 
 mod laws;
 mod limits;
+mod noted;
 mod patient_gate;
 mod plant;
 mod plant_runner;
@@ -14,6 +15,7 @@ mod threads;
 
 pub use laws::{plants_are_complete, serving_is_safe};
 pub use limits::{read_limit_is_fixed, turn_limit_is_fixed};
+pub use noted::Noted;
 pub use plant::report_of_plant;
 pub use plant_runner::PlantRunner;
 pub use process::{run_on_files, run_process};

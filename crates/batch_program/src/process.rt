@@ -2,6 +2,7 @@
 ghost use Rattle.std.specs.Prelude.{◌≤◌};
 ghost use Rattle.batch_program.specs.Programs.{IsExitStatus};
 
+use crate::noted::Noted;
 use crate::program::run_program;
 use crate::threads::ThreadsOf;
 use batch_commands::{FilesOf, NO_MEMORY, OUT_OF_MEMORY, USAGE, complain};
@@ -33,11 +34,12 @@ pub fn run_on_files<T: Threads>(rt: &HostRuntime, threads: &T, words: &[String])
     ensures { result ≤ 4 }
 {
     let alloc = rt.alloc();
-    let mut input = rt.stdin();
+    let mut input = Noted::new(rt.stdin());
     let mut errors = rt.stderr();
-    let Ok(mut output) = BufWriter::with_capacity(alloc, OUTPUT_ROOM, io::writer(rt)) else {
+    let Ok(output) = BufWriter::with_capacity(alloc, OUTPUT_ROOM, io::writer(rt)) else {
         return complain(&mut errors, OUT_OF_MEMORY, NO_MEMORY);
     };
+    let mut output = Noted::new(output);
     run_program(
         alloc,
         words,

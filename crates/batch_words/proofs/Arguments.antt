@@ -2,7 +2,7 @@
 use Rattle.std.proofs.Common.{◌≡◌, ◌||◌, ◌∙◌, Bool, Some, ap, ap₂, false}
 use Rattle.std.specs.Prelude.{Result, Ok, Err, IfOk, IsOkAnd}
 use Rattle.clap.specs.Built.{AddsArg, AddsSubcommand}
-use Rattle.clap.specs.Simple.{App, app_of, with_rule, with_subcommand}
+use Rattle.clap.specs.Simple.{App, app_of, app_of_fields, with_rule, with_subcommand}
 use Rattle.clap.specs.Walk.{Rule, rule_of}
 use Rattle.clap.specs.declared.builder.action.ArgAction.{ArgAction}
 use Rattle.clap.specs.declared.builder.arg.Arg.{Arg}
@@ -39,6 +39,14 @@ module _ {made : Arg} {rule : Rule} where
 pub record HasLocal (command : Command) (app : App) : Type 0 where
   pub app_is : app_of command ≡ app
   pub no_globals : (out-Command command).has_globals ≡ false
+
+-- the texts of its help say nothing to a parse
+pub with_texts : (new about : Command) {made : Command} {shown after : _} {app : App} → out-Command about ≡ record (out-Command new) { about = shown }
+    → out-Command made ≡ record (out-Command about) { after_help = after } → app_of new ≡ app → (out-Command new).has_globals ≡ false → HasLocal made app
+with_texts new about first then app_is no_globals = record {
+  app_is = ap app_of_fields then ∙ ap app_of_fields first ∙ app_is;
+  no_globals = ap (λ fields. fields.has_globals) then ∙ ap (λ fields. fields.has_globals) first ∙ no_globals;
+}
 
 pub with_arg : {old new : Command} {arg : Arg} {rule : Rule} {app : App} → AddsArg old arg new → rule_of arg ≡ rule → arg.global ≡ false
     → HasLocal old app → HasLocal new (with_rule app rule)

@@ -87,9 +87,33 @@ flag_is_taken : fault_of program_app quiet_line ≡ []
 unfolding clap_on_literals
 flag_is_taken = refl
 
-explain_taken : fault_of program_app (codes "explain" ∷ codes "E9" ∷ []) ≡ []
+abbrev explain_line : List Text
+explain_line = codes "explain" ∷ codes "refused" ∷ codes "E3" ∷ codes "running" ∷ []
+
+-- what is read of the texts of the command that was entered
+abbrev entered_texts : Option (Text × List Row) → Option (List Text)
+entered_texts = option_map (λ p. words_of (codes "CODE") p.1)
+
+texts_are_read : entered_texts (subcommand_of program_app explain_line) ≡ Some (codes "refused" ∷ codes "E3" ∷ codes "running" ∷ [])
 unfolding clap_on_literals
-explain_taken = refl
+texts_are_read = refl
+
+texts_are_taken : fault_of program_app explain_line ≡ []
+unfolding clap_on_literals
+texts_are_taken = refl
+
+no_text_is_read : entered_texts (subcommand_of program_app (codes "explain" ∷ [])) ≡ Some []
+unfolding clap_on_literals
+no_text_is_read = refl
+
+no_text_is_taken : fault_of program_app (codes "explain" ∷ []) ≡ []
+unfolding clap_on_literals
+no_text_is_taken = refl
+
+-- clap answers at `help`, and by which of the two kinds isn't said
+help_enters_nothing : fault_of program_app (codes "help" ∷ codes "check" ∷ []) ≡ DisplayHelp ∷ InvalidSubcommand ∷ []
+unfolding clap_on_literals
+help_enters_nothing = refl
 
 -- a plant
 

@@ -1,4 +1,4 @@
--- trusted: the command line: `check CELL RECIPE..`, `verify CELL CERT RECIPE..`, `run CELL CERT RECIPE..`, `plant`, `explain CODE`, and no words at all.
+-- trusted: the command line: `check CELL RECIPE..`, `verify CELL CERT RECIPE..`, `run CELL CERT RECIPE..`, `plant`, `explain CODE..`, and no words at all.
 use Rattle.std.specs.Prelude.{◌≡◌, ◌≢◌, ◌⊎◌, [], ℕ, Bool, List, Option, Some, None, map, codes, true, false, unwrap_or, string_bytes, if◌then◌else◌, ⊤}
 use Rattle.std.specs.Str.{bytes_eq}
 use Rattle.std.specs.Str.Parse.{digits_value, without_leading_plus}
@@ -26,9 +26,9 @@ use Rattle.batch_words.specs.declared.plant_options.PlantOptions.{PlantOptions}
 abbrev pub word_rule : Text → Rule
 word_rule name = record (new_rule name) { required = true; action = Some Set }
 
--- the paths of the recipes, any number of them
-abbrev pub recipes_rule : Rule
-recipes_rule = record (new_rule (codes "RECIPE")) {
+-- any number of words, as the paths of recipes
+abbrev pub several_rule : Text → Rule
+several_rule name = record (new_rule name) {
   action = Some Append;
   range = Some (record { start_inclusive = 0; end_inclusive = usize_max });
 }
@@ -48,22 +48,22 @@ number_rule name least most = record (new_rule name) {
 
 abbrev pub check_app : App
 check_app = with_rule (with_rule (with_rule (with_rule (new_app (codes "check"))
-    (word_rule (codes "CELL"))) recipes_rule) (flag_rule (codes "dot"))) (flag_rule (codes "quiet"))
+    (word_rule (codes "CELL"))) (several_rule (codes "RECIPE"))) (flag_rule (codes "dot"))) (flag_rule (codes "quiet"))
 
 -- `verify` and `run`, by the name
 abbrev pub certified_app : Text → App
 certified_app name = with_rule (with_rule (with_rule (with_rule (new_app name)
-    (word_rule (codes "CELL"))) (word_rule (codes "CERT"))) recipes_rule) (flag_rule (codes "quiet"))
+    (word_rule (codes "CELL"))) (word_rule (codes "CERT"))) (several_rule (codes "RECIPE"))) (flag_rule (codes "quiet"))
 
 abbrev pub plant_app : App
 plant_app = with_rule (with_rule (with_rule (new_app (codes "plant"))
     (number_rule (codes "batches") 1 100)) (number_rule (codes "ticks") 0 1000)) (number_rule (codes "ring") 1 64)
 
 abbrev pub explain_app : App
-explain_app = with_rule (new_app (codes "explain")) (word_rule (codes "CODE"))
+explain_app = with_rule (new_app (codes "explain")) (several_rule (codes "CODE"))
 
 abbrev pub bare_app : App
-bare_app = on_top (λ s. record s { has_version = true; no_binary_name = true; disable_help_subcommand = true }) (new_app (codes "batchd"))
+bare_app = on_top (λ s. record s { has_version = true; no_binary_name = true }) (new_app (codes "batchd"))
 
 -- the whole command line
 abbrev pub program_app : App
@@ -119,8 +119,8 @@ pub data Request : Type 0 where
   serve : Source → Request
   -- to run the demo's plant for so many batches, with phases of so many ticks and rings of so many places
   plant : (batches ticks ring : ℕ) → Request
-  -- to say what a code means
-  explain : (code : Text) → Request
+  -- to say what the first code in these texts means, or where there are none what all codes mean
+  explain : (texts : List Text) → Request
 
 -- what the words behind `check` ask for
 abbrev pub checked_by : List Row → Request
@@ -135,10 +135,10 @@ certified_by name rows =
     then judge (verify (word_of (codes "CELL") rows) (word_of (codes "CERT") rows) (words_of (codes "RECIPE") rows))
     else serve (documents (word_of (codes "CELL") rows) (word_of (codes "CERT") rows) (words_of (codes "RECIPE") rows))
 
--- what is asked for by the word that was entered and the words behind it; `program_app` knows no other word
+-- what is asked for by the word that was entered and the words behind it; `program_app` enters no other word, and at `help` clap answers
 abbrev pub named_by : Text → List Row → Request
 named_by name rows =
-    if bytes_eq name (codes "explain") then explain (word_of (codes "CODE") rows)
+    if bytes_eq name (codes "explain") then explain (words_of (codes "CODE") rows)
     else (if bytes_eq name (codes "plant") then plant (batches_of rows) (ticks_of rows) (ring_of rows)
     else (if bytes_eq name (codes "check") then checked_by rows else certified_by name rows))
 
@@ -165,7 +165,7 @@ abbrev pub request_of : Subcommand → Request
 request_of (Judge judgement) = judge (judgement_of judgement)
 request_of (Serve source) = serve (source_of source)
 request_of (Plant options) = plant options.batches options.ticks options.ring
-request_of (Explain code) = explain (string_bytes code)
+request_of (Explain texts) = explain (map string_bytes texts.items)
 
 -- what is read of the words is what they ask for
 abbrev pub AreWordsOf : Option (Text × List Row) → CommandWords → Type 0

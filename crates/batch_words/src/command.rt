@@ -23,8 +23,8 @@ pub enum Subcommand {
     Serve(Source),
     /// To run the demo's plant: its hub in the thread that calls, its console and its link to the units in threads of their own.
     Plant(PlantOptions),
-    /// To say what a code of the program means.
-    Explain { code: String },
+    /// To say what the first code in these texts means, or where there are none what all codes mean.
+    Explain { texts: Vec<String> },
 }
 
 /// A judgement of documents, with their paths.

@@ -3,23 +3,23 @@ ghost use Rattle.std.specs.Prelude.{◌≡◌, IfOk, IsOkAnd, codes, false};
 ghost use Rattle.clap.specs.Words.{app_of, rule_of};
 ghost use Rattle.clap.specs.Words.{AddsSubcommand};
 ghost use Rattle.clap.specs.declared.builder.command.Command.TheViews.{out-Command};
-ghost use Rattle.batch_words.specs.CommandLine.{bare_app, certified_app, check_app, explain_app, flag_rule, number_rule, plant_app, program_app, recipes_rule, word_rule};
+ghost use Rattle.batch_words.specs.CommandLine.{bare_app, certified_app, check_app, explain_app, flag_rule, number_rule, plant_app, program_app, several_rule, word_rule};
 
 use clap::builder::ValueParser;
 use clap::{Arg, ArgAction, Command};
 use std::alloc::{AllocError, Global};
 
 /// The number of the program's version.
-pub const VERSION: &str = "0.1.0";
+pub const VERSION: &str = "0.2.0";
 
 const ABOUT: &str =
     "A batch server for one process cell; without a command it serves event lines from standard input over a demo cell";
 
 const AFTER_HELP: &str = "\
 An example, in examples/paint_plant:
-  batchd check cell.toml primer.toml rinse-mended.toml > certificate.txt
-  batchd verify cell.toml certificate.txt primer.toml rinse-mended.toml
-  batchd run cell.toml certificate.txt primer.toml rinse-mended.toml
+  batchd check cell.toml primer.toml rinse-mended.toml > certificate.new
+  batchd verify cell.toml certificate.new primer.toml rinse-mended.toml
+  batchd run cell.toml certificate.new primer.toml rinse-mended.toml
 
 The demo, without a command; type these lines:
   create A 1000
@@ -32,6 +32,37 @@ Exit status:
   2  the words are no command
   3  a file, the input or the output failed
   4  no memory, or a thread can't be started
+";
+
+const CHECK_HELP: &str = "\
+An example, in examples/paint_plant:
+  batchd check cell.toml primer.toml rinse-mended.toml > certificate.new
+  batchd check --dot cell.toml topcoat.toml rinse.toml | dot -Tsvg > circle.svg
+";
+
+const VERIFY_HELP: &str = "\
+An example, in examples/paint_plant:
+  batchd verify cell.toml certificate.txt primer.toml rinse-mended.toml
+";
+
+const RUN_HELP: &str = "\
+An example, in examples/paint_plant; type the lines below it:
+  batchd run cell.toml certificate.txt primer.toml rinse-mended.toml
+  create PRIMER 1000
+  start 1
+  report MIXER1 CHARGE done
+";
+
+const PLANT_HELP: &str = "\
+An example:
+  batchd plant --batches 10 --ticks 20
+";
+
+const EXPLAIN_HELP: &str = "\
+Examples:
+  batchd explain                      all codes, each with its meaning
+  batchd explain c1
+  batchd explain refused E3 running   a line as it was printed
 ";
 
 /// The whole command line.
@@ -54,7 +85,6 @@ fn bare<'a>(alloc: Global) -> Result<Command<'a>, AllocError>
         .after_help(AFTER_HELP)
         .version(VERSION)
         .no_binary_name(true)
-        .disable_help_subcommand(true)
         .bin_name("batchd")
 }
 
@@ -73,8 +103,9 @@ fn check<'a>(alloc: Global) -> Result<Command<'a>, AllocError>
 {
     Command::new(alloc, "check")
         .about("Prints a certificate for the recipes, or why there is none")
+        .after_help(CHECK_HELP)
         .arg(word(alloc, "CELL", "The cell document"))?
-        .arg(recipes(alloc))?
+        .arg(several(alloc, "RECIPE", "The master recipes"))?
         .arg(flag(
             alloc,
             "dot",
@@ -87,7 +118,7 @@ fn verify<'a>(alloc: Global) -> Result<Command<'a>, AllocError>
     ensures { IfOk result (λ verify. (app_of verify ≡ certified_app (codes "verify")) × ((out-Command verify).has_globals ≡ false)) }
 {
     let about = "Prints whether the certificate clears the recipes for the cell";
-    certified(alloc, "verify", about)
+    certified(alloc, "verify", about, VERIFY_HELP)
 }
 
 fn run<'a>(alloc: Global) -> Result<Command<'a>, AllocError>
@@ -95,18 +126,24 @@ fn run<'a>(alloc: Global) -> Result<Command<'a>, AllocError>
 {
     let about =
         "Serves event lines from standard input over the recipes that the certificate clears";
-    certified(alloc, "run", about)
+    certified(alloc, "run", about, RUN_HELP)
 }
 
 /// A command over a cell, a certificate and recipes.
-fn certified<'a>(alloc: Global, name: &'a str, about: &'a str) -> Result<Command<'a>, AllocError>
+fn certified<'a>(
+    alloc: Global,
+    name: &'a str,
+    about: &'a str,
+    example: &'a str,
+) -> Result<Command<'a>, AllocError>
     ensures { IfOk result (λ command. (app_of command ≡ certified_app name.entry.now) × ((out-Command command).has_globals ≡ false)) }
 {
     Command::new(alloc, name)
         .about(about)
+        .after_help(example)
         .arg(word(alloc, "CELL", "The cell document"))?
         .arg(word(alloc, "CERT", "The certificate"))?
-        .arg(recipes(alloc))?
+        .arg(several(alloc, "RECIPE", "The master recipes"))?
         .arg(quiet(alloc))
 }
 
@@ -117,6 +154,7 @@ fn plant<'a>(alloc: Global) -> Result<Command<'a>, AllocError>
         .about(
             "Runs the demo's plant: its console and its link to the units in threads beside the hub's",
         )
+        .after_help(PLANT_HELP)
         .arg(number(
             alloc,
             "batches",
@@ -144,8 +182,15 @@ fn explain<'a>(alloc: Global) -> Result<Command<'a>, AllocError>
     ensures { IfOk result (λ explain. (app_of explain ≡ explain_app) × ((out-Command explain).has_globals ≡ false)) }
 {
     Command::new(alloc, "explain")
-        .about("Prints what a code of a refusal means, and what to do")
-        .arg(word(alloc, "CODE", "The code, as D5 or E3"))
+        .about(
+            "Prints what a code of a refusal means, and what to do; without a code, what all mean",
+        )
+        .after_help(EXPLAIN_HELP)
+        .arg(several(
+            alloc,
+            "CODE",
+            "A code, as D5 or e3, or a text that has one, as a line that was printed",
+        ))
 }
 
 fn word<'a>(alloc: Global, name: &'a str, help: &'a str) -> Arg<'a>
@@ -158,14 +203,15 @@ fn word<'a>(alloc: Global, name: &'a str, help: &'a str) -> Arg<'a>
         .help(help)
 }
 
-fn recipes<'a>(alloc: Global) -> Arg<'a>
-    ensures rule { rule_of result ≡ recipes_rule }
+/// Any number of words.
+fn several<'a>(alloc: Global, name: &'a str, help: &'a str) -> Arg<'a>
+    ensures rule { rule_of result ≡ several_rule name.entry.now }
     ensures local { result.global ≡ false }
 {
-    Arg::new(alloc, "RECIPE")
+    Arg::new(alloc, name)
         .action(ArgAction::Append)
         .num_args(0..)
-        .help("The master recipes")
+        .help(help)
 }
 
 /// A number of this range, the ends included.

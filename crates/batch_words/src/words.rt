@@ -52,8 +52,8 @@ fn command_of(alloc: Global, name: &str, words: &ArgMatches<'_>) -> Result<Subco
     ensures { IfOk result (λ command. request_of command ≡ named_by name.now (rows_of (found_of words.now))) }
 {
     if name == "explain" {
-        let code = word(alloc, words, "CODE")?;
-        return Ok(Subcommand::Explain { code });
+        let texts = several(alloc, words, "CODE")?;
+        return Ok(Subcommand::Explain { texts });
     }
     if name == "plant" {
         return Ok(Subcommand::Plant(plant_options(words)));
@@ -69,7 +69,7 @@ fn check_command(alloc: Global, words: &ArgMatches<'_>) -> Result<Subcommand, Al
     ensures { IfOk result (λ command. request_of command ≡ checked_by (rows_of (found_of words.now))) }
 {
     let cell = word(alloc, words, "CELL")?;
-    let recipes = recipe_words(alloc, words)?;
+    let recipes = several(alloc, words, "RECIPE")?;
     Ok(Subcommand::Judge(if flag(words, "dot") {
         Judgement::Draw { cell, recipes }
     } else {
@@ -87,7 +87,7 @@ fn certified_command(
 {
     let cell = word(alloc, words, "CELL")?;
     let certificate = word(alloc, words, "CERT")?;
-    let recipes = recipe_words(alloc, words)?;
+    let recipes = several(alloc, words, "RECIPE")?;
     Ok(if name == "verify" {
         Subcommand::Judge(Judgement::Verify {
             cell,
@@ -168,11 +168,12 @@ fn word(alloc: Global, words: &ArgMatches<'_>, name: &str) -> Result<String, All
     }
 }
 
-fn recipe_words(alloc: Global, words: &ArgMatches<'_>) -> Result<Vec<String>, AllocError>
-    ensures { IfOk result (λ recipes. map string_bytes recipes.items ≡ words_of (codes "RECIPE") (rows_of (found_of words.now))) }
+/// The words that were given for the argument, of which there may be none.
+fn several(alloc: Global, words: &ArgMatches<'_>, name: &str) -> Result<Vec<String>, AllocError>
+    ensures { IfOk result (λ several. map string_bytes several.items ≡ words_of name.now (rows_of (found_of words.now))) }
 {
-    match words.get_strs("RECIPE") {
-        Some(paths) => copies(alloc, paths),
+    match words.get_strs(name) {
+        Some(given) => copies(alloc, given),
         None => Ok(Vec::new(alloc)),
     }
 }

@@ -5,7 +5,7 @@ use crate::documents::CELL1;
 use batch_cell::Cell;
 use batch_commands::{Documents, Halt};
 use batch_plant::PlantFault;
-use batch_program::{PlantRunner, plants_are_complete, run_program, serving_is_safe};
+use batch_program::{Noted, PlantRunner, plants_are_complete, run_program, serving_is_safe};
 use batch_verify::Cleared;
 use batch_words::PlantOptions;
 use std::alloc::{AllocError, Global};
@@ -110,11 +110,11 @@ fn owned(alloc: Global, words: &[&str]) -> Result<Vec<String>, AllocError> {
 /// Runs over the first bytes of an input.
 fn run(alloc: Global, words: &[&str], front: &[u8], taking: Taking) -> Result<Ran, AllocError> {
     let words = owned(alloc, words)?;
-    let mut input = Broken(front);
-    let mut output = Sink {
+    let mut input = Noted::new(Broken(front));
+    let mut output = Noted::new(Sink {
         taken: Vec::new(alloc),
         taking,
-    };
+    });
     let mut errors = Vec::new(alloc);
     let status = run_program(
         alloc,
@@ -126,7 +126,7 @@ fn run(alloc: Global, words: &[&str], front: &[u8], taking: Taking) -> Result<Ra
         &mut errors,
     );
     Ok(Ran {
-        output: output.taken,
+        output: output.stream.taken,
         errors,
         status,
     })
@@ -158,14 +158,14 @@ fn turns_of_a_plant_run_out(rt: HostRuntime) -> Result<(), Fail> {
 fn failed_read_ends_the_run(rt: HostRuntime) -> Result<(), Fail> {
     serving_is_safe(&Shelf);
     let ran = run(rt.alloc(), &[], b"create A 1000\nstart", Taking::Everything);
-    let errors = b"batchd: the input can't be read\n";
+    let errors = b"batchd: the input can't be read: other error\n";
     assert_ran(&rt, ran, b"created 1 A 1000\n", errors, 3)
 }
 
 #[test]
 fn failed_write_ends_the_run(rt: HostRuntime) -> Result<(), Fail> {
     let ran = run(rt.alloc(), &[], b"create A 1000\n", Taking::Nothing);
-    let errors = b"batchd: the output can't be written\n";
+    let errors = b"batchd: the output can't be written: other error\n";
     assert_ran(&rt, ran, b"", errors, 3)
 }
 
@@ -174,6 +174,6 @@ fn failed_write_ends_the_run(rt: HostRuntime) -> Result<(), Fail> {
 fn verdict_is_handed_on(rt: HostRuntime) -> Result<(), Fail> {
     let ran = run(rt.alloc(), &["check", "cell"], b"", Taking::KeepsBack);
     let ranks = b"rank HDR 1\nrank R1 1\nrank R2 1\nrank STEAM 1\n";
-    let errors = b"batchd: the output can't be written\n";
+    let errors = b"batchd: the output can't be written: other error\n";
     assert_ran(&rt, ran, ranks, errors, 3)
 }

@@ -1,4 +1,4 @@
-use Rattle.std.proofs.Common.{refl}
+use Rattle.std.proofs.Common.{map, refl, string_bytes}
 use Rattle.std.proofs.KnownBytes.{Keeps-refl}
 use Rattle.batch_words.specs.CommandLine.{judgement_of, source_of}
 use Rattle.batch_commands.specs.Running.{explains, halts, judges, plants, serves}
@@ -34,4 +34,4 @@ returns-in-Plant g c =
 
 pub returns : goal.returns
 returns g c =
-    rw c.in-Explain.is (explains c.deref-in-Explain.result.now _ (cc (c.deref-in-Explain.ensures, c.in-Explain.code-is)) c.explain.ensures)
+    rw c.in-Explain.is (explains (map string_bytes c.deref-in-Explain.result.now) _ (cc (c.deref-in-Explain.ensures.value, c.in-Explain.texts-is)) c.tell_codes.ensures)

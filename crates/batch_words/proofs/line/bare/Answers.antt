@@ -7,6 +7,5 @@ pub returns : goal.returns
 returns c =
     let shown = ap app_of_fields c.after_help.ensures ∙ ap app_of_fields c.about.ensures ∙ c.new.ensures.app in
     let named = ap app_of_fields c.version.ensures ∙ ap {A = App} (on_top (λ s. record s { has_version = true })) shown in
-    let short = ap app_of_fields c.no_binary_name.ensures ∙ ap {A = App} (on_top (λ s. record s { no_binary_name = true })) named in
-    let bare = ap app_of_fields c.disable_help_subcommand.ensures ∙ ap {A = App} (on_top (λ s. record s { disable_help_subcommand = true })) short in
+    let bare = ap app_of_fields c.no_binary_name.ensures ∙ ap {A = App} (on_top (λ s. record s { no_binary_name = true })) named in
     IfOk-weaker c.bin_name.result _ _ (λ program has. ap app_of_fields has.0 ∙ bare) c.bin_name.ensures

@@ -1,15 +1,10 @@
-use Rattle.std.proofs.Common.{ap, codes, ◌∙◌}
 use Rattle.std.proofs.lemmas.Result.{IfOk-weaker}
-use Rattle.clap.specs.Simple.{app_of_fields, new_app}
-use Rattle.batch_words.proofs.Arguments.{HasLocal, with_arg}
+use Rattle.batch_words.proofs.Arguments.{with_arg, with_texts}
 use Rattle.batch_words.proofs.line.plant.Goals as goal
 
 pub returns : goal.returns
 returns c =
-    let named : HasLocal c.about.result (new_app (codes "plant")) = record {
-      app_is = ap app_of_fields c.about.ensures ∙ c.new.ensures.app;
-      no_globals = ap (λ fields. fields.has_globals) c.about.ensures ∙ c.new.ensures.local;
-    } in
+    let named = with_texts c.new.result c.about.result c.about.ensures c.after_help.ensures c.new.ensures.app c.new.ensures.local in
     let batches = with_arg c.in_ok-arg.ensures c.number.ensures.rule c.number.ensures.local named in
     let ticks = with_arg c.in_ok-arg-2.ensures c.number-2.ensures.rule c.number-2.ensures.local batches in
     IfOk-weaker c.arg-3.result _ _
