@@ -1,4 +1,4 @@
--- private: for each sign the nodes that show it.
+-- surface: for each sign the nodes that show it.
 use Rattle.std.specs.Prelude.{◌≡◌, ◌<◌, ◌≤◌, ◌+◌, ◌*◌, ◌/◌, ◌%◌, ℕ, List, length, Bool, true, false, Option, Some, None, slice_index}
 use Rattle.std.specs.Int.{bit_at}
 
