@@ -5,12 +5,12 @@ use Rattle.std.specs.Int.Bits.{bit_or}
 use Rattle.std.proofs.lemmas.Bool.{cases_lt}
 use Rattle.std.proofs.lemmas.Bool.Decides.{eqb_tells, nat_tests}
 use Rattle.std.proofs.lemmas.List.{get_or_past}
-use Rattle.batch_recipe.specs.Tree.{runs, follows, Tree, act, skip, seq, par, sel, loop}
+use Rattle.batch_recipe.specs.Tree.{runs, follows, Tree, act, skip, loop}
 use Rattle.batch_recipe.specs.declared.entry.Entry.{Entry}
 use Rattle.batch_recipe.specs.declared.recipe.Recipe.{Recipe}
 use Rattle.batch_chart.specs.declared.sign.TheConstants.{LACKS, FITS, WAITS, HOLDS, IS_ACT}
 use Rattle.batch_chart.specs.declared.stage.Stage.{Stage}
-use Rattle.batch_chart.specs.declared.stage.Stage.TheVariants.{Finished, Ready, Asking, Open, Live, Freeing, Turning}
+use Rattle.batch_chart.specs.declared.stage.Stage.TheVariants.{Finished, Asking}
 use Rattle.batch_chart.specs.Neat.{runs_below, shown_of, AreNeat}
 use Rattle.batch_chart.specs.Noting.{flag, asking_signs, ready_signs, readied}
 use Rattle.batch_signs.specs.Signs.{sign_at, replaced}
