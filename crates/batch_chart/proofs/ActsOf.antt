@@ -18,7 +18,7 @@ use Rattle.batch_chart.proofs.Stepping.{all-has}
 use Rattle.batch_chart.proofs.NodesStand.{get-or}
 use Rattle.batch_chart.specs.declared.sign.TheConstants.{IS_ACT}
 use Rattle.batch_chart.specs.Noting.{signs_of}
-use Rattle.batch_chart.specs.Signs.{shows}
+use Rattle.batch_signs.specs.Signs.{shows}
 use Rattle.batch_chart.proofs.Found.{acts-all, AllActs}
 
 pub record IsActOf (ls : List Node) (a : Rest) : Type 0 where

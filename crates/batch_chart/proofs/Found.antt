@@ -15,7 +15,7 @@ use Rattle.batch_chart.specs.Nexts.{first_of}
 use Rattle.batch_chart.specs.Numbered.{entries, entries_in, numbered, numbered_below, numbered_each, numbered_branch, numbered_chosen}
 use Rattle.batch_chart.specs.declared.sign.TheConstants.{HOLDS, IS_ACT}
 use Rattle.batch_chart.specs.Noting.{signs_of}
-use Rattle.batch_chart.specs.Signs.{shows}
+use Rattle.batch_signs.specs.Signs.{shows}
 use Rattle.batch_chart.proofs.Choosing.{chosen-true}
 use Rattle.batch_chart.proofs.Sought.{showing, ready-shows, asking-shows, open-shows, live-shows, freeing-shows, ready-holds, asking-holds, open-holds, live-holds, freeing-holds}
 

@@ -17,7 +17,7 @@ use Rattle.batch_chart.specs.Neat.{AllFinished, AreNeat, AreBlank, SignsOutside}
 use Rattle.batch_chart.specs.Needs.{needs_of}
 use Rattle.batch_chart.specs.Noting.{stage_signs, HasCome}
 use Rattle.batch_chart.specs.Running.{IsLaid, SomeLives}
-use Rattle.batch_chart.specs.Signs.{sign_at, replaced}
+use Rattle.batch_signs.specs.Signs.{sign_at, replaced}
 use Rattle.batch_chart.specs.Stages.{stage_at, is_finished}
 use Rattle.batch_chart.proofs.Advanced.{finished-stage}
 use Rattle.batch_chart.proofs.Agreeing.{stage-set_same, stage-set_other}
@@ -27,7 +27,7 @@ use Rattle.batch_chart.proofs.Standing.{count-pos, stood, some-stands}
 use Rattle.batch_chart.proofs.Stepping.{act-here}
 use Rattle.batch_chart.proofs.Telling.{nests, nests-below}
 use Rattle.batch_chart.proofs.Upkept.{plain-neat}
-use Rattle.batch_chart.proofs.Wanting.{more-not_zero}
+use Rattle.batch_signs.proofs.Wanting.{more-not_zero}
 use Rattle.batch_chart.proofs.Withdrawn.{replaced-sign, replaced-length}
 
 -- where going on upwards has stopped, or has come to the root

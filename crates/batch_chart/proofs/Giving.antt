@@ -24,12 +24,12 @@ use Rattle.batch_chart.specs.Nexts.{IsFoundFirst, SomeNoted, GivesAs, GivesNone,
 use Rattle.batch_chart.specs.Noting.{gives, signs_of, sign_in}
 use Rattle.batch_chart.specs.Numbered.{numbered}
 use Rattle.batch_chart.specs.Running.{IsLaid}
-use Rattle.batch_chart.specs.Signs.{shows, sign_at, TellsNone, IsNextShown}
+use Rattle.batch_signs.specs.Signs.{shows, sign_at, TellsNone, IsNextShown}
 use Rattle.batch_chart.specs.Stages.{stage_at}
 use Rattle.batch_chart.specs.Told.{AreTold}
 use Rattle.batch_chart.proofs.Choosing.{chosen-true, chosen-false}
 use Rattle.batch_chart.proofs.Found.{nothing, nothing-holds}
-use Rattle.batch_chart.proofs.Wanting.{none-shown}
+use Rattle.batch_signs.proofs.Wanting.{none-shown}
 use Rattle.batch_chart.proofs.Named.{entry-or-not, sign-entry, beyond, first-none, first-some}
 use Rattle.batch_chart.proofs.Neat.{neat-part}
 use Rattle.batch_chart.proofs.Picking.{RiseIn, rise, sign-before, first-shown, first-same, picks, noted-alike, shown-not, shown-so}
@@ -50,6 +50,12 @@ module _ (ns : List Entry) (xs : List Stage) (signs : List ℕ) where
 
   pub gives-before : (at j : ℕ) → GivesNone ns xs signs at → IsNextShown signs HOLDS at (Some j) → GivesNone ns xs signs j
   gives-before at j h n k lt u = elim (cases_lt k at) [ inl q ↦ h k q u | inr q ↦ absurd (u (n.3 k q lt)) ]
+
+  pub gives-next : (at j : ℕ) → GivesNone ns xs signs at → IsNextShown signs HOLDS at (Some j) → GivesAs ns signs j (stage_at xs j) false → GivesNone ns xs signs (j + 1)
+  gives-next at j h n own k lt u = elim (eqb_tells k j) [
+    | inl e ↦ subst (λ z. GivesAs ns signs z (stage_at xs z) false) (sym e.1) own
+    | inr e ↦ let d = e.1 in gives-before at j h n k (omega (arith, lt)) u
+  ]
 
   pub gives-here : (at j : ℕ) → GivesNone ns xs signs at → IsNextShown signs HOLDS at (Some j) → GivesAs ns signs j (stage_at xs j) true → IsFirstGiving ns xs signs (Some j)
   gives-here at j h n g = (n.1, n.2, g, gives-before at j h n)

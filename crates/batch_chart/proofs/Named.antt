@@ -21,11 +21,11 @@ use Rattle.batch_chart.specs.Nexts.{IsFoundFirst, SomeNoted, has_name, is_named,
 use Rattle.batch_chart.specs.Noting.{signs_of, sign_in}
 use Rattle.batch_chart.specs.Numbered.{numbered}
 use Rattle.batch_chart.specs.Running.{IsLaid}
-use Rattle.batch_chart.specs.Signs.{shows, sign_at, IsNextShown}
+use Rattle.batch_signs.specs.Signs.{shows, sign_at, IsNextShown}
 use Rattle.batch_chart.specs.Stages.{stage_at}
 use Rattle.batch_chart.proofs.Choosing.{chosen-true, chosen-false}
 use Rattle.batch_chart.proofs.Live.{looks, live-known}
-use Rattle.batch_chart.proofs.Wanting.{none-shown, nothing-shown}
+use Rattle.batch_signs.proofs.Wanting.{none-shown, nothing-shown}
 use Rattle.batch_chart.proofs.Picking.{RiseIn, rise, sign-here, sign-other, shown-not, shown-so, noted-alike}
 use Rattle.batch_chart.proofs.Sought.{any_live, said-live}
 use Rattle.batch_chart.proofs.Stepping.{entry-at}

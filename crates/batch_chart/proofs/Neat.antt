@@ -12,7 +12,7 @@ use Rattle.batch_chart.specs.Outlined.{end_at, Stands}
 use Rattle.batch_chart.specs.Meaning.{AgreeOutside, AgreeWithin}
 use Rattle.batch_chart.specs.Neat.{runs_below, is_single, AllFinished, IsLone, act_shows, shown_of, IsNeat, AreNeat, AreBlank, SignsOutside}
 use Rattle.batch_chart.specs.Running.{IsLaid}
-use Rattle.batch_chart.specs.Signs.{sign_at}
+use Rattle.batch_signs.specs.Signs.{sign_at}
 use Rattle.batch_chart.specs.Stages.{stage_at, is_finished}
 use Rattle.batch_chart.proofs.Standing.{count-pos, stood, some-stands, nested}
 use Rattle.batch_chart.proofs.Telling.{AreNested}

@@ -18,13 +18,13 @@ use Rattle.batch_chart.specs.Meaning.{meaning}
 use Rattle.batch_chart.specs.Neat.{AllFinished, AreNeat, shown_of}
 use Rattle.batch_chart.specs.Noting.{signs_of, sign_in}
 use Rattle.batch_chart.specs.Numbered.{numbered}
-use Rattle.batch_chart.specs.Signs.{shows, sign_at, NoneShows, TellsNone}
+use Rattle.batch_signs.specs.Signs.{shows, sign_at, NoneShows, TellsNone}
 use Rattle.batch_chart.specs.Stages.{stage_at, is_finished}
 use Rattle.batch_chart.specs.Told.{AreTold}
 use Rattle.batch_chart.proofs.Advanced.{finished-stage}
 use Rattle.batch_chart.proofs.Climbed.{both-true}
 use Rattle.batch_chart.proofs.Found.{AllActs, acts-all, numbered-acts}
-use Rattle.batch_chart.proofs.Wanting.{none-shown}
+use Rattle.batch_signs.proofs.Wanting.{none-shown}
 use Rattle.batch_chart.proofs.MoveKinds.{empty-done}
 use Rattle.batch_chart.proofs.Neat.{finished-shows, neat-part, neat-finished}
 use Rattle.batch_chart.proofs.Picking.{RiseIn, rise, sign-here, shown-not}

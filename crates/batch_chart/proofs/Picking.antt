@@ -15,13 +15,13 @@ use Rattle.batch_chart.specs.Stages.{stage_at, is_finished, is_begun, turns_of}
 use Rattle.batch_chart.specs.Meaning.{act_as, meaning_below}
 use Rattle.batch_chart.specs.Nexts.{first_of}
 use Rattle.batch_chart.specs.Numbered.{entries, entries_in, numbered, numbered_below, numbered_each, numbered_branch, numbered_chosen}
-use Rattle.batch_chart.specs.Signs.{shows, sign_at, IsNextShown}
+use Rattle.batch_signs.specs.Signs.{shows, sign_at, IsNextShown}
 use Rattle.batch_chart.specs.Noting.{signs_of, sign_in, AreNoted}
 use Rattle.batch_chart.specs.Nexts.{IsFoundFirst, SomeNoted}
 use Rattle.batch_chart.specs.Running.{IsLaid}
 use Rattle.batch_chart.proofs.Alike.{alike, same-signs}
 use Rattle.batch_chart.proofs.Choosing.{chosen-true, chosen-false}
-use Rattle.batch_chart.proofs.Wanting.{none-shown, more-not_zero}
+use Rattle.batch_signs.proofs.Wanting.{none-shown, more-not_zero}
 use Rattle.batch_chart.proofs.Sought.{Says, says-all, showing, said-showing}
 
 -- the numbers rise from n on, and stay below m

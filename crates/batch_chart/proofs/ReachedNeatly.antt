@@ -16,7 +16,7 @@ use Rattle.batch_chart.specs.Meaning.{AgreeOutside}
 use Rattle.batch_chart.specs.Neat.{runs_below, is_single, AllFinished, IsLone, shown_of, IsNeat, AreNeat, AreBlank, SignsOutside, IsReachedNeatly, IsRowNeat}
 use Rattle.batch_chart.specs.Needs.{needs_of}
 use Rattle.batch_chart.specs.Noting.{stage_signs}
-use Rattle.batch_chart.specs.Signs.{sign_at}
+use Rattle.batch_signs.specs.Signs.{sign_at}
 use Rattle.batch_chart.specs.Stages.{stage_at, is_finished, turns_of, closed_as, looped_as}
 use Rattle.batch_chart.proofs.Advanced.{finished-stage}
 use Rattle.batch_chart.proofs.Agreeing.{stage-set_same, stage-set_other}

@@ -16,7 +16,7 @@ use Rattle.batch_chart.specs.Meaning.{AgreeOutside}
 use Rattle.batch_chart.specs.Neat.{runs_below, is_single, AllFinished, act_shows, shown_of, IsNeat, AreNeat, AreBlank, SignsOutside, IsReachedNeatly, IsRowNeat}
 use Rattle.batch_chart.specs.Noting.{open_signs}
 use Rattle.batch_chart.specs.Parents.{IsAbove}
-use Rattle.batch_chart.specs.Signs.{sign_at}
+use Rattle.batch_signs.specs.Signs.{sign_at}
 use Rattle.batch_chart.specs.Stages.{stage_at, is_finished, is_begun, is_over_at, turns_of, closed_as, looped_as}
 use Rattle.batch_chart.proofs.Agreeing.{stage-set_same}
 use Rattle.batch_chart.proofs.Advanced.{begun-open, finished-stage}

@@ -18,9 +18,9 @@ use Rattle.batch_chart.proofs.Withdrawn.{withdrawn-neat}
 use Rattle.batch_chart.specs.Outlined.{end_at, Stands}
 use Rattle.batch_chart.specs.Noting.{stage_signs}
 use Rattle.batch_chart.specs.Neat.{act_shows, runs_below, is_single, shown_of, AreNeat}
-use Rattle.batch_chart.specs.Nexts.{SomeNoted}
+use Rattle.batch_chart.specs.Nexts.{IsInOrder}
 use Rattle.batch_chart.specs.NodesOf.{node_at}
-use Rattle.batch_chart.specs.Running.{IsLaid, IsAlive, SomeLives}
+use Rattle.batch_chart.specs.Running.{IsLaid, IsAlive}
 use Rattle.batch_chart.specs.Stages.{stage_at, is_finished}
 use Rattle.batch_chart.specs.Upkeep.{IsKeptUp}
 use Rattle.batch_chart.proofs.NodesStand.{node-stands}
@@ -91,24 +91,17 @@ module _ (t : Tree) (ns ms : List Entry) (doc es : Recipe) (laid : IsLaid ns doc
         shown = own.shown ∙ sym (l.shows (stage_at xs j) (is_finished (stage_at xs (j + 1))));
       }
 
--- the signs of a running chart are those of its acts
-pub runs-noted : (chart : Recipe) (running : Running) → IsRunning chart running → SomeNoted chart.outline.entries.items chart running.stages.items running.signs
-runs-noted chart running h = (
-  h.0,
-  h.1,
-  noted chart.outline.entries.items chart running.stages.items running.signs h.0 h.1 h.2.alive h.2.count (h.2.neat chart.outline.entries.items chart h.1),
-  all-told chart.outline.entries.items chart h.0 h.1 running.stages.items h.2.alive,
-  h.2.neat chart.outline.entries.items chart h.1,
-)
-
-pub runs-lives : (chart : Recipe) (running : Running) → IsRunning chart running → SomeLives chart.outline.entries.items chart running.stages.items
-runs-lives chart running h = (h.0, h.1, h.2.alive)
-
-pub runs-neat : (chart : Recipe) (running : Running) → IsRunning chart running → AreNeat chart.outline.entries.items chart 0 (length chart.outline.entries.items) running.stages.items running.signs
-runs-neat chart running h = h.2.neat chart.outline.entries.items chart h.1
-
-pub runs-long : (chart : Recipe) (running : Running) → IsRunning chart running → length running.signs ≡ length chart.outline.entries.items
-runs-long chart running h = h.2.count ∙ sym h.1.count
+-- a running chart is in order over whichever chart of its tree
+pub runs-in-order : (chart : Recipe) (running : Running) → IsRunning chart running → IsInOrder chart.outline.entries.items chart running.stages.items running.signs
+runs-in-order chart running h =
+    let ns = chart.outline.entries.items in
+    let count = h.2.count ∙ sym h.1.count in
+    let neat = h.2.neat ns chart h.1 in
+    record {
+      lives = (h.0, h.1, h.2.alive);
+      noted = (h.0, h.1, noted ns chart running.stages.items running.signs h.0 h.1 h.2.alive h.2.count neat, all-told ns chart h.0 h.1 running.stages.items h.2.alive, neat);
+      count = count;
+    }
 
 -- it runs, where its stages live and its signs go by them
 pub runs-by : (chart : Recipe) (running : Running) (t : Tree) → IsChartOf t chart → IsAlive t running.stages.items → length running.signs ≡ length chart.outline.entries.items

@@ -19,7 +19,7 @@ use Rattle.batch_chart.specs.Neat.{runs_below, AllFinished, IsLone, step_shows, 
 use Rattle.batch_chart.specs.Noting.{signs_of, open_signs, sign_in, AreNoted}
 use Rattle.batch_chart.specs.Numbered.{entries, entries_in, numbered, numbered_each, numbered_branch, numbered_chosen}
 use Rattle.batch_chart.specs.Running.{IsLaid, IsAlive}
-use Rattle.batch_chart.specs.Signs.{sign_at}
+use Rattle.batch_signs.specs.Signs.{sign_at}
 use Rattle.batch_chart.specs.Stages.{stage_at, is_finished, is_begun, turns_of}
 use Rattle.batch_chart.specs.Told.{AreTold}
 use Rattle.batch_chart.proofs.Advanced.{finished-stage}

@@ -27,7 +27,7 @@ use Rattle.batch_chart.specs.Meaning.{act_as, meaning, meaning_below}
 use Rattle.batch_chart.specs.Outlined.{end_at, kind_at, is_act_kind, Stands, StandsAct, AreStanding, AreChoices}
 use Rattle.batch_chart.specs.Neat.{step_shows, IsNeat}
 use Rattle.batch_chart.specs.Noting.{state_sign}
-use Rattle.batch_chart.specs.Signs.{shows, sign_at, TellsNone, IsNextShown}
+use Rattle.batch_signs.specs.Signs.{shows, sign_at, TellsNone, IsNextShown}
 use Rattle.batch_chart.specs.Told.{TellsWhetherOver}
 use Rattle.batch_chart.specs.declared.sign.TheConstants.{IS_ACT, LIVES}
 use Rattle.batch_chart.specs.Numbered.{numbered, numbered_below, numbered_each, numbered_branch, numbered_chosen}
@@ -40,7 +40,7 @@ use Rattle.batch_chart.proofs.Giving.{below-told, below-first}
 use Rattle.batch_chart.proofs.Named.{entry-or-not}
 use Rattle.batch_chart.proofs.Picking.{noted-alike, other-number}
 use Rattle.batch_chart.proofs.Sought.{Says, any_live, live_as, said-live, said-in, live-shows, open-shows}
-use Rattle.batch_chart.proofs.Wanting.{tells-none, nothing-shown}
+use Rattle.batch_signs.proofs.Wanting.{tells-none, nothing-shown}
 use Rattle.batch_chart.proofs.Gravest.{gravest_states, gravest-is}
 use Rattle.batch_chart.proofs.Joining.{live-nothing, no-live, known}
 use Rattle.batch_chart.proofs.Live.{live-known}

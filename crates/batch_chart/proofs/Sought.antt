@@ -9,9 +9,9 @@ use Rattle.batch_model.specs.Plant.{held_in}
 use Rattle.batch_model.specs.Rest.{Rest, ready, asking, open_act, live, freeing, acts}
 use Rattle.batch_model.specs.Moves.{is_empty}
 use Rattle.batch_chart.specs.declared.sign.TheConstants.{HOLDS, LIVES, WAITS}
-use Rattle.batch_chart.specs.Signs.{shows}
+use Rattle.batch_signs.specs.Signs.{shows}
 use Rattle.batch_chart.specs.Noting.{but, gives, flag, state_sign, ready_signs, asking_signs, freeing_signs, live_signs, open_signs, signs_of, accepting}
-use Rattle.batch_chart.proofs.Wanting.{shows-or, nothing-shown}
+use Rattle.batch_signs.proofs.Wanting.{shows-or, nothing-shown}
 
 shows-flag : (m s : ℕ) (b : Bool) → shows m (flag b s) ≡ (b && shows m s)
 shows-flag m s true = refl

@@ -20,7 +20,7 @@ use Rattle.batch_chart.specs.Neat.{AllFinished, act_shows, shown_of, step_shows,
 use Rattle.batch_chart.specs.Needs.{needs_of}
 use Rattle.batch_chart.specs.Noting.{stage_signs, open_signs, HasCome}
 use Rattle.batch_chart.specs.Running.{Allows, CanRelease, IsLaid, IsLiveAt, IsAskingAt, SomeLives}
-use Rattle.batch_chart.specs.Signs.{sign_at}
+use Rattle.batch_signs.specs.Signs.{sign_at}
 use Rattle.batch_chart.specs.Upkeep.{IsKeptUp}
 use Rattle.batch_chart.proofs.Agreeing.{stage-set_same, stage-set_other}
 use Rattle.batch_chart.proofs.Neat.{finished-shows, neat-after, neat-one, neat-part, neat-same}

@@ -5,15 +5,15 @@ use Rattle.std.specs.Int.Bits.{bit_or}
 use Rattle.std.proofs.lemmas.Bool.{cases_lt}
 use Rattle.std.proofs.lemmas.Bool.Decides.{eqb_tells, nat_tests}
 use Rattle.std.proofs.lemmas.List.{get_or_past}
-use Rattle.batch_recipe.specs.Tree.{runs, follows, Tree, act, skip, seq, par, sel, loop}
+use Rattle.batch_recipe.specs.Tree.{runs, follows, Tree, act, skip, loop}
 use Rattle.batch_recipe.specs.declared.entry.Entry.{Entry}
 use Rattle.batch_recipe.specs.declared.recipe.Recipe.{Recipe}
 use Rattle.batch_chart.specs.declared.sign.TheConstants.{LACKS, FITS, WAITS, HOLDS, IS_ACT}
 use Rattle.batch_chart.specs.declared.stage.Stage.{Stage}
-use Rattle.batch_chart.specs.declared.stage.Stage.TheVariants.{Finished, Ready, Asking, Open, Live, Freeing, Turning}
+use Rattle.batch_chart.specs.declared.stage.Stage.TheVariants.{Finished, Asking}
 use Rattle.batch_chart.specs.Neat.{runs_below, shown_of, AreNeat}
 use Rattle.batch_chart.specs.Noting.{flag, asking_signs, ready_signs, readied}
-use Rattle.batch_chart.specs.Signs.{sign_at, replaced}
+use Rattle.batch_signs.specs.Signs.{sign_at, replaced}
 use Rattle.batch_chart.specs.Stages.{stage_at, is_finished}
 use Rattle.batch_chart.specs.Starting.{again, withdrawn_sign, AreWithdrawn}
 use Rattle.batch_chart.proofs.Choosing.{chosen-true, chosen-false}
@@ -38,19 +38,10 @@ waits-then needs k =
     chosen-false (nat_eq (asking_signs needs k) 0) (asking_signs needs k) (readied (asking_signs needs k)) (some-sign (nat_lt k needs) (nat_lt 0 k && nat_lt 0 needs)) ∙ readied-asking needs k
 
 shows-again : (c : Tree) (x : Stage) (b : Bool) → withdrawn_sign x (shown_of c x b) ≡ shown_of c (again x) b
-shows-again c Finished b = refl
-shows-again c (Ready k) b = refl
-shows-again c Open b = refl
-shows-again c (Live y) b = refl
-shows-again c (Freeing k) b = refl
-shows-again c (Turning k) b = refl
 shows-again (act s (runs p)) (Asking k) b = waits-then (length s.needs) k
 shows-again (act s (follows name c)) (Asking k) b = waits-then (length s.needs) k
-shows-again skip (Asking k) b = refl
-shows-again (seq ts) (Asking k) b = refl
-shows-again (par ts) (Asking k) b = refl
-shows-again (sel ch) (Asking k) b = refl
-shows-again (loop i p body) (Asking k) b = refl
+shows-again c (Asking k) b = refl
+shows-again c x b = refl
 
 runs-again : (c : Tree) (x : Stage) → runs_below c (again x) ≡ runs_below c x
 runs-again skip x = refl

@@ -13,7 +13,7 @@ use Rattle.batch_recipe.specs.declared.entry.Entry.{Entry}
 use Rattle.batch_chart.specs.declared.stage.Stage.{Stage}
 use Rattle.batch_chart.specs.declared.stage.Stage.TheVariants as stage
 use Rattle.batch_chart.specs.declared.sign.TheConstants.{LACKS, FITS, WAITS, IS_OVER, FREES, HOLDS, IS_ACT, IDLE, RUNNING, PAUSING, PAUSED, HOLDING, HELD, RESTARTING, STOPPING, STOPPED, ABORTING, ABORTED, COMPLETE, LIVES, CAN_HOLD, CAN_STOP, CAN_ABORT, CAN_RESET}
-use Rattle.batch_chart.specs.Signs.{sign_at}
+use Rattle.batch_signs.specs.Signs.{sign_at}
 use Rattle.batch_chart.specs.Outlined.{kind_at}
 use Rattle.batch_chart.specs.Needs.{needs_of}
 use Rattle.batch_chart.specs.Numbered.{numbered}

@@ -3,14 +3,14 @@ ghost use Rattle.std.specs.Prelude.{◌≡◌, ◌<◌, ◌≤◌, length, true,
 ghost use Rattle.batch_chart.specs.Outlined.{end_at, is_act_kind, kind_at};
 ghost use Rattle.batch_chart.specs.Freeing.{HasCleared, HasGivenUp, IsFreed};
 ghost use Rattle.batch_chart.specs.Neat.{AreNeat};
-ghost use Rattle.batch_chart.specs.Running.{SomeLives};
+ghost use Rattle.batch_chart.specs.Nexts.{IsInOrder};
 ghost use Rattle.batch_chart.specs.Stages.{is_finished, stage_at};
 
-use crate::climbing::rise;
+use crate::control_recipe::ControlRecipe;
 use crate::noting::set_stage;
-use crate::signs::Signs;
 use crate::stage::Stage;
-use batch_recipe::{Entry, Recipe, Values};
+use batch_recipe::Entry;
+use batch_signs::Signs;
 
 /// Nothing stands from the first node on, up to `end`, any more, and nothing is shown.
 fn clear(stages: &mut [Stage], signs: &mut Signs, first: usize, end: usize)
@@ -41,32 +41,24 @@ fn give_up(nodes: &[Entry], stages: &mut [Stage], signs: &mut Signs, n: usize)
     clear(stages, signs, n + 1, end);
 }
 
-/// An act that has ended holds so many needs still. Where it holds none, the chart goes on above it.
-pub fn free(
-    nodes: &[Entry],
-    recipe: &Recipe,
-    values: &Values,
-    stages: &mut [Stage],
-    signs: &mut Signs,
-    node: usize,
-    held: u16,
-)
-    requires lives { SomeLives nodes.now recipe.now stages.old }
-    requires node { node < length nodes.now }
-    requires signs { length signs.old ≡ length nodes.now }
-    requires acts { is_act_kind (kind_at nodes.now node) ≡ true }
-    requires left { is_finished (stage_at stages.old node) ≡ false }
-    requires neat { AreNeat nodes.now recipe.now 0 (length nodes.now) stages.old signs.old }
-    ensures freed { IsFreed nodes.now recipe.now values.now node held stages.old stages.new }
-    ensures neat { AreNeat nodes.now recipe.now 0 (length nodes.now) stages.new signs.new }
-    ensures count { length signs.new ≡ length signs.old }
-{
-    give_up(nodes, stages, signs, node);
-    if held != 0 {
-        set_stage(nodes, stages, signs, node, Stage::Freeing(held));
-        return;
+impl ControlRecipe<'_> {
+    /// An act that has ended holds so many needs still. Where it holds none, the chart goes on above it.
+    pub fn free(&self, stages: &mut [Stage], signs: &mut Signs, node: usize, held: u16)
+        requires order { IsInOrder self.now.nodes.now self.now.master.now stages.old signs.old }
+        requires node { node < length self.now.nodes.now }
+        requires acts { is_act_kind (kind_at self.now.nodes.now node) ≡ true }
+        requires left { is_finished (stage_at stages.old node) ≡ false }
+        ensures freed { IsFreed self.now.nodes.now self.now.master.now self.now.values.now node held stages.old stages.new }
+        ensures neat { AreNeat self.now.nodes.now self.now.master.now 0 (length self.now.nodes.now) stages.new signs.new }
+        ensures count { length signs.new ≡ length signs.old }
+    {
+        give_up(self.nodes, stages, signs, node);
+        if held != 0 {
+            set_stage(self.nodes, stages, signs, node, Stage::Freeing(held));
+            return;
+        }
+        stages[node] = Stage::Finished;
+        signs.set(node, 0);
+        self.rise(stages, signs, node);
     }
-    stages[node] = Stage::Finished;
-    signs.set(node, 0);
-    rise(nodes, recipe, values, stages, signs, node);
 }

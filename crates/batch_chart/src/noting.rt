@@ -4,9 +4,9 @@ ghost use Rattle.batch_chart.specs.Noting.{HasCome};
 
 use crate::node::kind_of;
 use crate::sign::of_stage;
-use crate::signs::Signs;
 use crate::stage::Stage;
 use batch_recipe::Entry;
+use batch_signs::Signs;
 
 /// The act at the node comes to another stage, and shows it.
 pub fn set_stage(nodes: &[Entry], stages: &mut [Stage], signs: &mut Signs, n: usize, stage: Stage)

@@ -5,8 +5,8 @@ use Rattle.std.specs.Int.{bit_at}
 use Rattle.std.proofs.lemmas.Nat.Bits.{bit_at-zero}
 use Rattle.std.proofs.lemmas.List.{get_or-set_same, get_or-set_other}
 use Rattle.std.proofs.lemmas.Nat.{div-add-mod', mod_below, div-mul-add, mod-mul-add}
-use Rattle.batch_chart.specs.Bits.{with_one, with_zero, IsLowestFrom}
-use Rattle.batch_chart.proofs.Bits.{nat-same, differs, within-or_past, one-not_zero, with-one_other, with-zero_other, no-bits}
+use Rattle.batch_signs.specs.Bits.{with_one, with_zero, IsLowestFrom}
+use Rattle.batch_signs.proofs.Bits.{nat-same, differs, within-or_past, one-not_zero, with-one_other, with-zero_other, no-bits}
 use Rattle.batch_engine.specs.Marks.{mark_at, IsNextMark, IsSummary}
 
 module _ (words : List ℕ) (summary : ℕ) (h : IsSummary words summary) (at word : ℕ) (l : at < length words) where

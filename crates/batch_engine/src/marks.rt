@@ -1,9 +1,9 @@
 //! Marks on numbers, of which the least is found in a few steps.
 ghost use Rattle.std.specs.Prelude.{◌≡◌, ◌<◌, ◌≤◌, ℕ};
-ghost use Rattle.batch_chart.specs.Bits.{with_one, with_zero};
+ghost use Rattle.batch_signs.specs.Bits.{with_one, with_zero};
 ghost use Rattle.batch_engine.specs.Marks.{IsNextMark, IsUnmarked, mark_at};
 
-use batch_chart::{lowest_from, with_bit, without_bit};
+use batch_signs::{lowest_from, with_bit, without_bit};
 use std::marker::Model;
 
 /// Marks on the first 4,096 numbers. No call takes memory.

@@ -1,11 +1,11 @@
 use Rattle.std.proofs.Common.{◌∙◌, ap}
 use Rattle.std.proofs.lemmas.List.{with_items_is}
 use Rattle.batch_chart.specs.Meaning.{meaning}
-use Rattle.batch_chart.proofs.Runs.{runs-lives, runs-long, went-on}
+use Rattle.batch_chart.proofs.Runs.{runs-in-order, went-on}
 use Rattle.batch_chart.proofs.running.Running.grant.Goals as goal
 
 pub grant_at-requires : goal.grant_at-requires
-grant_at-requires c = rw (c.deref.ensures.value, c.deref_mut.ensures.value) (record { lives = runs-lives c.args.chart.now c.args.self.now c.requires.running; signs = runs-long c.args.chart.now c.args.self.now c.requires.running; asking = c.requires.waits })
+grant_at-requires c = rw (c.deref.ensures.value, c.deref_mut.ensures.value) (record { order = runs-in-order c.args.chart.now c.args.self.now c.requires.running; asking = c.requires.waits })
 
 pub returns : goal.returns
 returns c = λ t laid old.

@@ -1,16 +1,11 @@
 use Rattle.std.proofs.Common.{◌∙◌, ap}
 use Rattle.std.proofs.lemmas.List.{with_items_is}
 use Rattle.batch_chart.specs.Meaning.{meaning}
-use Rattle.batch_chart.proofs.Runs.{runs-lives, runs-neat, runs-long, went-on}
+use Rattle.batch_chart.proofs.Runs.{runs-in-order, went-on}
 use Rattle.batch_chart.proofs.running.Running.make.Goals as goal
 
 pub make_move-requires : goal.make_move-requires
-make_move-requires c = rw (c.deref.ensures.value, c.deref_mut.ensures.value) (record {
-  lives = runs-lives c.args.chart.now c.args.self.now c.requires.running;
-  neat = runs-neat c.args.chart.now c.args.self.now c.requires.running;
-  signs = runs-long c.args.chart.now c.args.self.now c.requires.running;
-  allowed = c.requires.possible;
-})
+make_move-requires c = rw (c.deref.ensures.value, c.deref_mut.ensures.value) (record { order = runs-in-order c.args.chart.now c.args.self.now c.requires.running; allowed = c.requires.possible })
 
 pub returns : goal.returns
 returns c = λ t laid old.

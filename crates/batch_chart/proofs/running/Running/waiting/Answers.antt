@@ -12,4 +12,4 @@ returns-clause-before c =
     (λ (w : ℕ × ℕ). (t : Tree) → IsChartOf t c.args.chart.now → IsRunningOf t c.args.self.now
     → (k i : ℕ) → c.args.from ≤ k → k < w.0 → AsksAt t (remains t c.args.self.now) k i → ⊥)
     (λ w h t laid old. h t laid old.alive) c.next_waiting.result
-    (rw (c.deref.ensures.value, c.deref-2.ensures.value) at c.next_waiting.ensures).before
+    (rw (c.scene.ensures.nodes, c.scene.ensures.recipe, c.scene.ensures.stages) at c.next_waiting.ensures).before

@@ -1,0 +1,22 @@
+use Rattle.std.proofs.Common.{sym}
+use Rattle.batch_chart.proofs.Joining.{reached-complete, reached-in, reached-live, reached-holds}
+use Rattle.batch_chart.specs.declared.sign.TheConstants.{HOLDS, IS_ACT}
+use Rattle.batch_chart.proofs.Picking.{found, found-showing}
+use Rattle.batch_chart.proofs.Sought.{any_live, live_but, said-live, said-but}
+use Rattle.batch_chart.proofs.scene.Scene.is_reached.Goals as goal
+
+pub returns-then-is_some : goal.returns-then-is_some
+returns-then-is_some c = reached-live _ _ _ _ _ (sym c.if-is_stopped.ensures) c.if-is_some.ensures (found _ _ _ _ any_live _ c.next.result said-live c.requires.noted c.next.ensures)
+
+pub returns-then-is_stopped : goal.returns-then-is_stopped
+returns-then-is_stopped c =
+    reached-holds _ _ _ _ _ _ _ (sym c.if-is_stopped.ensures) c.if-is_some.ensures (found _ _ _ _ any_live _ c.next.result said-live c.requires.noted c.next.ensures) c.is_none.ensures
+    (found-showing _ _ _ _ HOLDS c.next-then-is_stopped.result c.requires.noted c.next-then-is_stopped.ensures)
+
+pub returns-then-eq : goal.returns-then-eq
+returns-then-eq c = reached-complete _ _ _ _ _ _ c.is_none-then-eq.ensures (sym c.if-is_stopped.ensures) (sym c.if-eq.ensures) (found-showing _ _ _ _ IS_ACT c.next-then-eq.result c.requires.noted c.next-then-eq.ensures)
+
+pub returns : goal.returns
+returns c =
+    reached-in _ _ _ _ _ _ c.is_none-2.ensures (sym c.if-is_stopped.ensures) (sym c.if-eq.ensures)
+    (found _ _ _ _ (live_but c.args.becomes) _ c.next-2.result (said-but c.args.becomes) c.requires.noted (rw c.but.ensures at c.next-2.ensures))

@@ -1,0 +1,4 @@
+pub mod Wanting
+pub mod Bits
+pub mod SignSets
+pub mod BySign

@@ -1,0 +1,3 @@
+pub mod Bits
+pub mod SignSets
+pub mod Signs

@@ -1,0 +1,54 @@
+-- surface: for each sign the nodes that show it.
+use Rattle.std.specs.Prelude.{◌≡◌, ◌<◌, ◌≤◌, ◌+◌, ◌*◌, ◌/◌, ◌%◌, ℕ, List, length, Bool, true, false, Option, Some, None, slice_index}
+use Rattle.std.specs.Int.{bit_at}
+
+-- of 64 nodes those that show the sign
+abbrev pub set_of : List ℕ → ℕ → ℕ → ℕ
+set_of words word sign = slice_index words (word * 32 + sign)
+
+-- 1 where the node shows the sign, and else 0
+abbrev pub shown : List ℕ → ℕ → ℕ → ℕ
+shown words node sign = bit_at (set_of words (node / 64) sign) (node % 64)
+
+abbrev pub AreRoomFor : List ℕ → ℕ → Type 0
+AreRoomFor words count = count ≤ 2 * length words
+
+-- each bit of the summary tells whether its word is 0, and a sign that isn't among all has no such bit
+pub record AreSummed (words summary : List ℕ) (all : ℕ) : Type 0 where
+  pub whole : length words % 32 ≡ 0
+  pub few : length words ≤ 2048
+  pub signs : length summary ≡ 32
+  pub none : (word sign : ℕ) → sign < 32 → bit_at (slice_index summary sign) word ≡ 0 → set_of words word sign ≡ 0
+  pub some : (word sign : ℕ) → sign < 32 → bit_at (slice_index summary sign) word ≡ 1 → 0 < set_of words word sign
+  pub missing : (sign : ℕ) → sign < 32 → bit_at all sign ≡ 0 → slice_index summary sign ≡ 0
+
+abbrev pub bit_of : Bool → ℕ
+bit_of true = 1
+bit_of false = 0
+
+-- one node shows a sign, or shows it no more
+pub record IsTurnedAt (old new : List ℕ) (node sign : ℕ) (shows : Bool) : Type 0 where
+  pub count : length new ≡ length old
+  pub here : shown new node sign ≡ bit_of shows
+  pub others : (k s : ℕ) → s < 32 → (k ≡ node → s ≡ sign → ⊥) → shown new k s ≡ shown old k s
+
+-- one node shows these signs, and no others
+pub record IsChangedAt (old new : List ℕ) (node signs : ℕ) : Type 0 where
+  pub count : length new ≡ length old
+  pub here : (s : ℕ) → s < 32 → shown new node s ≡ bit_at signs s
+  pub others : (k s : ℕ) → s < 32 → (k ≡ node → ⊥) → shown new k s ≡ shown old k s
+
+-- the bits that some word has of those of the wanted signs, among the first so many
+pub record AreJoined (words : List ℕ) (first wanted count set : ℕ) : Type 0 where
+  pub none : (bit sign : ℕ) → bit_at set bit ≡ 0 → sign < count → bit_at wanted sign ≡ 1 → bit_at (slice_index words (first + sign)) bit ≡ 0
+  pub some : (bit : ℕ) → bit_at set bit ≡ 1 → (sign : ℕ) × (sign < 32) × (bit_at wanted sign ≡ 1) × (bit_at (slice_index words (first + sign)) bit ≡ 1)
+
+abbrev pub ShowsNone : List ℕ → ℕ → ℕ → Type 0
+ShowsNone words wanted node = (sign : ℕ) → sign < 32 → bit_at wanted sign ≡ 1 → shown words node sign ≡ 0
+
+abbrev pub ShowsSome : List ℕ → ℕ → ℕ → Type 0
+ShowsSome words wanted node = (sign : ℕ) × (sign < 32) × (bit_at wanted sign ≡ 1) × (shown words node sign ≡ 1)
+
+abbrev pub IsFirstShown : List ℕ → ℕ → ℕ → Option ℕ → Type 0
+IsFirstShown words wanted from None = (k : ℕ) → from ≤ k → ShowsNone words wanted k
+IsFirstShown words wanted from (Some n) = (from ≤ n) × ShowsSome words wanted n × ((k : ℕ) → from ≤ k → k < n → ShowsNone words wanted k)
