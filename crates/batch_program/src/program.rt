@@ -1,23 +1,24 @@
 //! The program over any documents and streams.
-ghost use Rattle.std.specs.Prelude.{◌≡◌, map, string_bytes};
-ghost use Rattle.batch_program.specs.Programs.{IsProgramRun, status_of_serving};
+ghost use Rattle.std.specs.Prelude.{◌≡◌, IfOk, map, string_bytes};
+ghost use Rattle.batch_program.specs.Programs.{IsLeftTold, IsProgramRun, left_text, status_of_serving};
 
 use crate::plant::report_of_plant;
 use crate::plant_runner::PlantRunner;
 use crate::statuses::serving_status;
-use batch_commands::{Course, Documents, complain, run_words};
+use batch_commands::{Course, Documents, complain, run_words, tell};
 use batch_serve::{SetFault, serve_set};
-use std::alloc::Global;
+use std::alloc::{AllocError, Global};
 use std::io::{Read, Write};
 
-/// How often standard input may be read, interrupted calls among them.
+/// How often standard input may be read, interrupted calls among them. No clause counts them; tests do, with other limits.
 pub const MAX_READS: u64 = 1_000_000_000;
 
 /// Does what the words ask for, and gives the exit status: judges documents, serves event lines from the input over the set
 /// that they name, or has the demo's plant run.
 ///
 /// Verdicts, help, the record and the lines of a plant go to the output, and all else, in a free text, to the errors. Refused
-/// events are part of the record and don't change the status.
+/// events are part of the record and don't change the status. Where the input ends while batches are neither complete, stopped
+/// nor aborted, one line on the errors says how many, unless quiet is asked for; where none is, nothing is written there.
 pub fn run_program<D: Documents, P: PlantRunner, R: Read, W: Write, E: Write>(
     alloc: Global,
     words: &[String],
@@ -33,9 +34,9 @@ pub fn run_program<D: Documents, P: PlantRunner, R: Read, W: Write, E: Write>(
 {
     match run_words(alloc, words, documents, output, errors) {
         Course::Ends(status) => status,
-        Course::Serves(cleared) => {
-            let served = serve_set(alloc, cleared, input, output, MAX_READS);
-            tell_served(served, errors)
+        Course::Serves { set, quiet } => {
+            let served = serve_set(alloc, set, input, output, MAX_READS);
+            tell_served(alloc, quiet, served, errors)
         }
         Course::Plants { set, cell, options } => {
             let end = plants.run_plant(alloc, set, cell, options);
@@ -44,13 +45,47 @@ pub fn run_program<D: Documents, P: PlantRunner, R: Read, W: Write, E: Write>(
     }
 }
 
-/// Tells why serving stopped, where it didn't end with the input, and gives the exit status.
-fn tell_served<E: Write>(served: Result<(), SetFault>, errors: &mut E) -> u8
-    ensures { result ≡ status_of_serving served }
+/// Tells why serving stopped, or how many batches the end of the input left unfinished, and gives the exit status.
+fn tell_served<E: Write>(
+    alloc: Global,
+    quiet: bool,
+    served: Result<usize, SetFault>,
+    errors: &mut E,
+) -> u8
+    ensures status { result ≡ status_of_serving served }
+    ensures told { IfOk served (IsLeftTold quiet (record { before = E.contents errors.old; after = E.contents errors.new })) }
 {
     let status = serving_status(served);
     match served {
-        Ok(()) => status,
-        Err(fault) => complain(errors, fault, status),
+        Ok(left) => tell_left(alloc, quiet, left, errors),
+        Err(fault) => return complain(errors, fault, status),
+    }
+    status
+}
+
+/// Tells how many batches are neither complete, stopped nor aborted, where there are any and quiet isn't asked for.
+fn tell_left<E: Write>(alloc: Global, quiet: bool, left: usize, errors: &mut E)
+    ensures { IsLeftTold quiet (record { before = E.contents errors.old; after = E.contents errors.new }) left }
+{
+    if quiet || left == 0 {
+        return;
+    }
+    if let Ok(line) = left_text(alloc, left) {
+        tell(errors, &line);
+    }
+}
+
+/// The line on so many batches that are neither complete, stopped nor aborted.
+fn left_text(alloc: Global, left: usize) -> Result<String, AllocError>
+    ensures { IfOk result (λ line. string_bytes line ≡ left_text left) }
+{
+    if left == 1 {
+        format!(in alloc;
+            "batchd: the input ended before 1 batch was complete, stopped or aborted\n"
+        )
+    } else {
+        format!(in alloc;
+            "batchd: the input ended before {left} batches were complete, stopped or aborted\n"
+        )
     }
 }
