@@ -11,7 +11,6 @@ use Rattle.batch_serve.specs.Safe.{IsSafeTranscript, TranscriptsAreSafe, WritesS
 use Rattle.batch_serve.specs.Serves.{Ends, Serves, WritesTo}
 use Rattle.batch_serve.specs.declared.fault.ServeFault.{ServeFault}
 use Rattle.batch_serve.specs.declared.fault.ServeFault.TheVariants as faults
-use Rattle.batch_serve.specs.declared.fault.SetFault.{SetFault}
 use Rattle.batch_serve.specs.declared.fault.SetFault.TheVariants.{Stopped}
 
 -- a new engine of the cleared set, as far as serving saw it
