@@ -1,13 +1,13 @@
 -- Edges that join needs to one more.
 use Rattle.std.proofs.Common.{◌≡◌, ℕ, ◌+◌, ◌<◌, ◌⊎◌, inl, inr, List, [], ◌∷◌, ◌++◌, length, get_or, slice_get, IsTrue, Option, Some, refl, sym, ap, ◌∙◌, subst, arith}
 use Rattle.std.specs.List.{Contains}
-use Rattle.std.proofs.lemmas.List.Elements.{Contains-append_cases, Contains-append_left, Contains-append_right}
+use Rattle.std.proofs.lemmas.List.Elements.{All-append, All-cons, All-nil, All-weaker, Contains-append_cases, Contains-append_left, Contains-append_right}
 use Rattle.std.proofs.lemmas.Option.{slice_get-get_or, slice_get_within}
 use Rattle.batch_recipe.proofs.Slices.{slice_get-split}
 use Rattle.batch_check.specs.declared.edge.Edge.{Edge}
 use Rattle.batch_check.specs.declared.edge_set.EdgeSet.{EdgeSet}
-use Rattle.batch_check.specs.Edges.{has_pair}
-use Rattle.batch_check.specs.Pairs.{ArePaired}
+use Rattle.batch_check.specs.Edges.{HasPairsOf, has_pair}
+use Rattle.batch_check.specs.Pairs.{ArePaired, Keeps}
 use Rattle.batch_check.specs.Joining.{AreBelow, Grows, HasJoined, HasTaken, LeadsFrom}
 
 pub Contains-at : {X : Type 0} (xs : List X) (k : ℕ) (x : X) → slice_get xs k ≡ Some x → Contains xs x
@@ -113,13 +113,30 @@ AreBelow-push count needs need below here k among = elim (Contains-append_cases 
   | inr new ↦ here k (Contains-one need (Some k) new)
 ]
 
+-- Edges that are taken
+
+HasPairsOf-more : (edges : List Edge) (old new : List Edge) → Keeps old new → HasPairsOf edges old → HasPairsOf edges new
+HasPairsOf-more edges old new kept has =
+    All-weaker (λ (e : Edge). IsTrue (has_pair old e.earlier e.later)) (λ (e : Edge). IsTrue (has_pair new e.earlier e.later))
+    (λ e here. kept e.earlier e.later here) edges has
+
+pub HasTaken-none : (set : EdgeSet) → HasTaken [] set set
+HasTaken-none set = record { grown = Grows-same set; taken = All-nil _; only = λ edge stands. inl stands }
+
 -- one more of the edges is taken
-pub HasTaken-more : (edges : List Edge) (old set new : EdgeSet) (e : Edge) → HasTaken edges old set → Grows set new → Contains edges e
-    → ((edge : Edge) → Contains new.edges.items edge → Contains set.edges.items edge ⊎ (edge ≡ e)) → HasTaken edges old new
-HasTaken-more edges old set new e h grown among only = record {
+pub HasTaken-more : (edges : List Edge) (old set new : EdgeSet) (e : Edge) → HasTaken edges old set → Grows set new
+    → IsTrue (has_pair new.edges.items e.earlier e.later)
+    → ((edge : Edge) → Contains new.edges.items edge → Contains set.edges.items edge ⊎ (edge ≡ e)) → HasTaken (edges ++ e ∷ []) old new
+HasTaken-more edges old set new e h grown here only = record {
   grown = Grows-twice old set new h.grown grown;
+  taken =
+      All-append (λ (x : Edge). IsTrue (has_pair new.edges.items x.earlier x.later)) edges (e ∷ []) (HasPairsOf-more edges set.edges.items new.edges.items grown.kept h.taken)
+      (All-cons (λ (x : Edge). IsTrue (has_pair new.edges.items x.earlier x.later)) e [] here (All-nil _));
   only = λ edge stands. elim (only edge stands) [
-    | inl known ↦ h.only edge known
-    | inr same ↦ inr (subst (λ (x : Edge). Contains edges x) (sym same) among)
+    | inl known ↦ elim (h.only edge known) [
+      | inl before ↦ inl before
+      | inr taken ↦ inr (Contains-append_left edges (e ∷ []) edge taken)
+    ]
+    | inr same ↦ inr (Contains-append_right edges (e ∷ []) edge (Contains-at (e ∷ []) 0 edge (ap (λ (x : Edge). Some x) (sym same))))
   ];
 }

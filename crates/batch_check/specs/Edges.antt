@@ -60,6 +60,10 @@ numbers_of_resources cell names = map (number_of_resource cell) names
 abbrev pub has_pair : List Edge → ℕ → ℕ → Bool
 has_pair edges earlier later = list_any (λ edge. nat_eq edge.earlier earlier && nat_eq edge.later later) edges
 
+-- for each of these edges, one of the others leads from the same resource to the same
+abbrev pub HasPairsOf : List Edge → List Edge → Type 0
+HasPairsOf edges others = All (λ edge. IsTrue (has_pair others edge.earlier edge.later)) edges
+
 -- where both are resources, an edge leads from the one to the other
 abbrev pub Joins : List Edge → Option ℕ → Option ℕ → Type 0
 Joins edges None later = ⊤

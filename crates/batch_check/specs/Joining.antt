@@ -4,7 +4,7 @@ use Rattle.std.specs.Global.{Global}
 use Rattle.std.specs.List.{Contains}
 use Rattle.batch_check.specs.declared.edge.Edge.{Edge}
 use Rattle.batch_check.specs.declared.edge_set.EdgeSet.{EdgeSet}
-use Rattle.batch_check.specs.Edges.{has_pair}
+use Rattle.batch_check.specs.Edges.{HasPairsOf, has_pair}
 use Rattle.batch_check.specs.Pairs.{Keeps}
 
 -- the set grows
@@ -47,4 +47,5 @@ pub record IsKept (recipe node : ℕ) (asked : Option (List (Option ℕ))) (numb
 -- these edges were added, where none led from the one resource to the other yet
 pub record HasTaken (edges : List Edge) (old new : EdgeSet) : Type 0 where
   pub grown : Grows old new
+  pub taken : HasPairsOf edges new.edges.items
   pub only : (edge : Edge) → Contains new.edges.items edge → Contains old.edges.items edge ⊎ Contains edges edge

@@ -1,11 +1,11 @@
 //! The graph of what is asked for after what.
 ghost use Rattle.std.specs.Prelude.{IfOk, IfErr, OnOk};
+ghost use Rattle.std.specs.List.{All};
 ghost use Rattle.batch_check.specs.Checking.{IsSetFault};
-ghost use Rattle.batch_check.specs.Edges.{AreEdgesOf};
+ghost use Rattle.batch_check.specs.Edges.{AreEdgesOf, HasPairsOf, Stands};
 ghost use Rattle.batch_check.specs.Joining.{HasTaken};
 ghost use Rattle.batch_check.specs.LeastRanking.{HasEndsBelow};
 
-use crate::checking::ranks_of;
 use crate::edge::Edge;
 use crate::edge_set::EdgeSet;
 use crate::edges::edges_of;
@@ -15,26 +15,28 @@ use batch_recipe::Recipe;
 use batch_verify::is_recipe_set;
 use std::alloc::{AllocError, Global};
 
-/// The orders in which the recipes ask for resources: an edge for each two that follow one another on a path, and the edges of
-/// the circle that [`crate::check`] tells, where there is one.
+/// The orders in which the recipes ask for resources: an edge for each two that follow one another on a path, and for each edge
+/// of a circle one that leads from the same resource to the same.
 ///
-/// The faults are [`CheckFault::Recipes`] and [`CheckFault::Memory`] alone: recipes that break other rules have a graph too.
-pub fn graph_of(alloc: Global, cell: &Cell, recipes: &[Recipe]) -> Result<Vec<Edge>, CheckFault>
+/// The circle is the one that [`crate::check`] tells, or has no edge. The faults are [`CheckFault::Recipes`] and
+/// [`CheckFault::Memory`] alone: recipes that break other rules have a graph too.
+pub fn graph_of(
+    alloc: Global,
+    cell: &Cell,
+    recipes: &[Recipe],
+    circle: &[Edge],
+) -> Result<Vec<Edge>, CheckFault>
+    requires { All (Stands cell.now recipes.now) circle.now }
     ensures edges { IfOk result (λ edges. AreEdgesOf cell.now recipes.now edges.items) }
+    ensures circle { IfOk result (λ edges. HasPairsOf circle.now edges.items) }
     ensures fault { IfErr result (IsSetFault cell.now recipes.now) }
 {
     if !is_recipe_set(recipes) {
         return Err(CheckFault::Recipes);
     }
     let mut set = edges_of(alloc, cell, recipes)?;
-    match ranks_of(alloc, cell, recipes) {
-        Ok(_) => Ok(set.edges),
-        Err(CheckFault::Circle(circle)) => {
-            take(&circle, &mut set)?;
-            Ok(set.edges)
-        }
-        Err(_) => Err(CheckFault::Memory),
-    }
+    take(circle, &mut set)?;
+    Ok(set.edges)
 }
 
 /// Adds these edges, where none leads from the one resource to the other yet.

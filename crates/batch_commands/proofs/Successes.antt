@@ -71,33 +71,41 @@ told_success gives words output errors request _ asked (starves _) is = absurd c
 pub success_is_told : (gives : Gives) → SuccessIsTold gives
 success_is_told gives words output errors request asked came = told_success gives words output errors request (Ends 0) asked came refl
 
-pub done_serving : (gives : Gives) (request : Request) (quiet : Bool) (output errors : Stream) (set : ClearedSet) (course : Course)
-    → IsDone gives request quiet output errors course → course ≡ Serves set
-    → (source : Source) × (request ≡ serve source) × IsSetOf gives source set × IsUnwritten output
-done_serving gives request quiet output errors set _ (serves source set2 asked served kept _) is =
-    let same : set2 ≡ set = cc in
-    (source, asked, rw (← same) served, kept)
-done_serving gives request quiet output errors set _ (judges _ _ _ _ _ _) is = absurd cc
-done_serving gives request quiet output errors set _ (explains _ _ _ _) is = absurd cc
-done_serving gives request quiet output errors set _ (halts _ _ _ _) is = absurd cc
-done_serving gives request quiet output errors set _ (plants _ _ _ _ _ _ _ _) is = absurd cc
+-- what was to be served, with nothing written before
+pub record IsServing (gives : Gives) (request : Request) (set : ClearedSet) (output errors : Stream) : Type 0 where
+  pub source : Source
+  pub asked : request ≡ serve source
+  pub is_set : IsSetOf gives source set
+  pub unwritten : IsUnwritten output
+  pub silent : IsUnwritten errors
 
-served_set : (gives : Gives) (words : List Text) (output errors : Stream) (request : Request) (set : ClearedSet) (course : Course)
-    → AskFor words request → IsRun gives words output errors course → course ≡ Serves set
-    → (source : Source) × (request ≡ serve source) × IsSetOf gives source set
-served_set gives words output errors request set _ asked (commands other course asked2 came) is =
-    let (source, serving, served, _) = done_serving gives other (ask_quiet words) output errors set course came is in
-    (source, same_request words request other asked asked2 ∙ serving, served)
-served_set gives words output errors request set _ asked (helps _ _ _ _) is = absurd cc
-served_set gives words output errors request set _ asked (misuses _ _) is = absurd cc
-served_set gives words output errors request set _ asked (starves _) is = absurd cc
+pub done_serving : (gives : Gives) (request : Request) (quiet : Bool) (output errors : Stream) (set : ClearedSet) (hushed : Bool) (course : Course)
+    → IsDone gives request quiet output errors course → course ≡ Serves set hushed
+    → IsServing gives request set output errors × (hushed ≡ quiet)
+done_serving gives request quiet output errors set hushed _ (serves source set2 asked served kept silent) is =
+    let same : set2 ≡ set = cc in
+    (record { source = source; asked = asked; is_set = rw (← same) served; unwritten = kept; silent = silent }, cc)
+done_serving gives request quiet output errors set hushed _ (judges _ _ _ _ _ _) is = absurd cc
+done_serving gives request quiet output errors set hushed _ (explains _ _ _ _) is = absurd cc
+done_serving gives request quiet output errors set hushed _ (halts _ _ _ _) is = absurd cc
+done_serving gives request quiet output errors set hushed _ (plants _ _ _ _ _ _ _ _) is = absurd cc
+
+served_set : (gives : Gives) (words : List Text) (output errors : Stream) (request : Request) (set : ClearedSet) (quiet : Bool) (course : Course)
+    → AskFor words request → IsRun gives words output errors course → course ≡ Serves set quiet
+    → (source : Source) × (request ≡ serve source) × IsSetOf gives source set × (quiet ≡ ask_quiet words)
+served_set gives words output errors request set quiet _ asked (commands other course asked2 came) is =
+    let (serving, hushed) = done_serving gives other (ask_quiet words) output errors set quiet course came is in
+    (serving.source, same_request words request other asked asked2 ∙ serving.asked, serving.is_set, hushed)
+served_set gives words output errors request set quiet _ asked (helps _ _ _ _) is = absurd cc
+served_set gives words output errors request set quiet _ asked (misuses _ _) is = absurd cc
+served_set gives words output errors request set quiet _ asked (starves _) is = absurd cc
 
 pub cleared_sets_are_served : (gives : Gives) → ServesClearedSets gives
-cleared_sets_are_served gives words output errors request set asked came = served_set gives words output errors request set _ asked came refl
+cleared_sets_are_served gives words output errors request set quiet asked came = served_set gives words output errors request set quiet _ asked came refl
 
 demo_done : (gives : Gives) (request : Request) (quiet : Bool) (output errors : Stream) (course : Course) → request ≡ serve demo
     → IsDone gives request quiet output errors course
-    → ((set : ClearedSet) × IsDemoSet set × (course ≡ Serves set)) ⊎ ((h : Halt) × HaltsDemo h) ⊎ (course ≡ Ends memory_status)
+    → ((set : ClearedSet) × IsDemoSet set × (course ≡ Serves set quiet)) ⊎ ((h : Halt) × HaltsDemo h) ⊎ (course ≡ Ends memory_status)
 demo_done gives request quiet output errors _ demo_asked (serves source set asked served _ _) =
     let same : source ≡ demo = cc in
     inl (set, subst (λ s. IsSetOf gives s set) same served, refl)

@@ -5,7 +5,7 @@ use Rattle.batch_recipe.specs.declared.recipe.Recipe.{Recipe}
 use Rattle.batch_model.specs.Cleared.{CanBeCleared}
 use Rattle.batch_model.specs.Setups.{setup_of}
 use Rattle.batch_check.specs.Checking.{IsFault}
-use Rattle.batch_check.specs.Edges.{AreEdgesOf}
+use Rattle.batch_check.specs.Edges.{AreEdgesOf, HasPairsOf}
 use Rattle.batch_check.specs.declared.edge.Edge.{Edge}
 use Rattle.batch_check.specs.declared.fault.CheckFault.{CheckFault}
 use Rattle.batch_check.specs.declared.fault.CheckFault.TheVariants.{Circle}
@@ -15,9 +15,10 @@ use Rattle.batch_commands.specs.VerdictTexts.{fault_text}
 use Rattle.batch_commands.specs.declared.refusal.Halt.{Halt}
 
 -- the text is the graph of the edges of these recipes, each of which stands in a recipe, and which leave out no two resources
--- that follow one another on a path
+-- that follow one another on a path; each edge of the circle has its arrow
 abbrev pub IsDrawingOf : Cell → List Recipe → List Edge → List ℕ → Type 0
-IsDrawingOf c rs circle text = (edges : List Edge) × AreEdgesOf c rs edges × (text ≡ graph_text c rs edges circle)
+IsDrawingOf c rs circle text =
+    (edges : List Edge) × AreEdgesOf c rs edges × HasPairsOf circle edges × (text ≡ graph_text c rs edges circle)
 
 -- a circle is marked in the graph, and another fault is told as `check` tells it
 abbrev pub IsFaultDrawn : Cell → List Recipe → CheckFault → List ℕ → Type 0

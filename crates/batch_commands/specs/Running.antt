@@ -95,14 +95,14 @@ IsExplained texts output errors status =
 
 -- Runs
 
--- what comes of a request: the exit status, or the set that the program is to serve or whose plant it is to run
+-- what comes of a request: the exit status, or the set that the program is to serve, quietly or not, or whose plant it is to run
 pub data IsDone (gives : Gives) (request : Request) (quiet : Bool) (output errors : Stream) : Course → Type 0 where
   judges : (judgement : Judgement) (text : List ℕ) (status : ℕ)
       → request ≡ judge judgement → IsVerdict gives judgement text → IsPrinted output errors text success_status status
       → IsDone gives request quiet output errors (Ends status)
   serves : (source : Source) (set : ClearedSet)
       → request ≡ serve source → IsSetOf gives source set → IsUnwritten output → IsUnwritten errors
-      → IsDone gives request quiet output errors (Serves set)
+      → IsDone gives request quiet output errors (Serves set quiet)
   plants : (set : ClearedSet) (c : Cell) (options : PlantOptions)
       → request ≡ plant options.batches options.ticks options.ring → IsDemoSet set → IsDemoCell c → IsUnwritten output → IsUnwritten errors
       → IsDone gives request quiet output errors (Plants set c options)

@@ -1,12 +1,12 @@
 -- surface: what the exit status of a run tells.
-use Rattle.std.specs.Prelude.{◌≡◌, ◌⊎◌, ℕ, List}
+use Rattle.std.specs.Prelude.{◌≡◌, ◌⊎◌, ℕ, Bool, List}
 use Rattle.std.specs.Io.KnownBytes.{Appends}
 use Rattle.clap.specs.Walk.{Text}
 use Rattle.batch_verify.specs.ClearedSet.{ClearedSet}
 use Rattle.batch_words.specs.CommandLine.{Request, Source, demo, explain, judge, plant, serve}
 use Rattle.batch_commands.specs.Reading.{Gives}
 use Rattle.batch_commands.specs.Requests.{HaltsDemo, IsDemoSet, IsSetOf, IsVerdict}
-use Rattle.batch_commands.specs.Running.{AskFor, IsRun, Stream, memory_status}
+use Rattle.batch_commands.specs.Running.{AskFor, IsRun, Stream, ask_quiet, memory_status}
 use Rattle.batch_explain.specs.Explaining.{Tells}
 use Rattle.batch_commands.specs.declared.course.Course.{Course}
 use Rattle.batch_commands.specs.declared.course.Course.TheVariants.{Ends, Serves}
@@ -33,13 +33,13 @@ SuccessIsTold gives =
 -- a set is served only where the words ask for it, and it is that of the documents, cleared by their certificate
 abbrev pub ServesClearedSets : Gives → Type 0
 ServesClearedSets gives =
-    (words : List Text) (output errors : Stream) (request : Request) (set : ClearedSet)
-    → AskFor words request → IsRun gives words output errors (Serves set)
-    → (source : Source) × (request ≡ serve source) × IsSetOf gives source set
+    (words : List Text) (output errors : Stream) (request : Request) (set : ClearedSet) (quiet : Bool)
+    → AskFor words request → IsRun gives words output errors (Serves set quiet)
+    → (source : Source) × (request ≡ serve source) × IsSetOf gives source set × (quiet ≡ ask_quiet words)
 
 -- where the words name no command, the demo is to be served, unless memory ran out, or the demo's documents say why not
 abbrev pub NoCommandServes : Gives → Type 0
 NoCommandServes gives =
     (words : List Text) (output errors : Stream) (course : Course)
     → AskFor words (serve demo) → IsRun gives words output errors course
-    → ((set : ClearedSet) × IsDemoSet set × (course ≡ Serves set)) ⊎ ((h : Halt) × HaltsDemo h) ⊎ (course ≡ Ends memory_status)
+    → ((set : ClearedSet) × IsDemoSet set × (course ≡ Serves set (ask_quiet words))) ⊎ ((h : Halt) × HaltsDemo h) ⊎ (course ≡ Ends memory_status)

@@ -8,8 +8,11 @@ use batch_words::PlantOptions;
 pub enum Course {
     /// All is said, and the program ends with this exit status.
     Ends(u8),
-    /// The program is to serve event lines over this set.
-    Serves(Cleared),
+    /// The program is to serve event lines over this set, and to say nothing beside the record where quiet is asked for.
+    Serves {
+        set: Cleared,
+        quiet: bool,
+    },
     /// The program is to run the plant of this set, which is that of the demo. The cell is the set's, read once more.
     Plants {
         set: Cleared,

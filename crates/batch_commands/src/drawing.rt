@@ -1,5 +1,8 @@
 //! Drawings of what recipes ask for after what.
 ghost use Rattle.std.specs.Prelude.{[], IfErr, IfOk, string_bytes};
+ghost use Rattle.std.specs.List.{All};
+ghost use Rattle.batch_check.specs.Checking.{IsFault};
+ghost use Rattle.batch_check.specs.Edges.{Stands};
 ghost use Rattle.batch_commands.specs.Drawing.{IsDrawingOf, IsDrawn, IsFaultDrawn, RefusesDrawing};
 
 use crate::judging::fault_halt;
@@ -31,6 +34,7 @@ fn fault_drawing(
     recipes: &[Recipe],
     fault: &CheckFault,
 ) -> Result<String, AllocError>
+    requires { IsFault cell.now recipes.now fault.now }
     ensures { IfOk result (λ text. IsFaultDrawn cell.now recipes.now fault.now (string_bytes text)) }
 {
     match fault {
@@ -41,16 +45,17 @@ fn fault_drawing(
     }
 }
 
-/// The graph of the recipes with the circle marked in it.
+/// The graph of the recipes with the circle marked in it, which is one that stands in them, or has no edge.
 fn drawing(
     alloc: Global,
     cell: &Cell,
     recipes: &[Recipe],
     circle: &[Edge],
 ) -> Result<String, AllocError>
+    requires { All (Stands cell.now recipes.now) circle.now }
     ensures { IfOk result (λ text. IsDrawingOf cell.now recipes.now circle.now (string_bytes text)) }
 {
-    match graph_of(alloc, cell, recipes) {
+    match graph_of(alloc, cell, recipes, circle) {
         Ok(edges) => graph_text(alloc, cell, recipes, &edges, circle),
         // `check` found the recipes to be a set, so that memory alone can be wanting.
         Err(_) => Err(AllocError),

@@ -53,7 +53,7 @@ impl From<io::Error> for ReadFault {
 /// All bytes that the reader gives.
 ///
 /// It is asked until it gives none, at most [`MAX_READS`] times; a call that is interrupted is made again. Past the limit it is
-/// asked no more.
+/// asked no more. No clause counts the calls, or says when [`ReadFault::TooManyReads`] comes.
 pub fn read_document<R: Read>(
     alloc: Global,
     reader: &mut R,

@@ -88,7 +88,7 @@ fn run_command<D: Documents, O: Write, E: Write>(
             Err(halt) => Course::Ends(announce(alloc, quiet, &halt, output, errors)),
         },
         Subcommand::Serve(source) => match clear_source(alloc, documents, &source) {
-            Ok(cleared) => Course::Serves(cleared),
+            Ok(set) => Course::Serves { set, quiet },
             Err(halt) => Course::Ends(announce(alloc, quiet, &halt, output, errors)),
         },
         Subcommand::Plant(options) => match read_plant(alloc) {

@@ -19,9 +19,16 @@ fn write_line<E: Write>(alloc: Global, sentence: &Sentence, errors: &mut E)
     ensures { WritesFront (E.contents errors.old) (E.contents errors.new) (line_of sentence.now) }
 {
     if let Ok(line) = format!(in alloc; "batchd: {}\n", sentence.text) {
-        write_front(errors, line.as_bytes());
-        let _ = errors.flush();
+        tell(errors, &line);
     }
+}
+
+/// Writes the line and hands it on. Where it can't be written the rest of it is left out.
+pub fn tell<E: Write>(errors: &mut E, line: &str)
+    ensures { WritesFront (E.contents errors.old) (E.contents errors.new) line.now }
+{
+    write_front(errors, line.as_bytes());
+    let _ = errors.flush();
 }
 
 fn write_front<E: Write>(errors: &mut E, bytes: &[u8])

@@ -70,8 +70,8 @@ fn unit_for(cell: &Cell, role: &Role, pairs: &[(Name, Name)]) -> Option<u16>
     None
 }
 
-/// The numbers of the units that the pairs give to the roles, in the order of the roles, and 0 after them. None where the pairs are
-/// no binding of the roles.
+/// The numbers of the units that the pairs give to the roles, in the order of the roles; what stands after them means nothing. None
+/// where the pairs are no binding of the roles.
 pub fn units_for(cell: &Cell, roles: &[Role], pairs: &[(Name, Name)]) -> Option<[u16; MAX_ROLES]>
     requires { length roles.now ≤ MAX_ROLES }
     ensures { IsBoundAs cell.now roles.now pairs.now result }

@@ -5,7 +5,7 @@ ghost use Rattle.batch_model.specs.Moves.{next};
 ghost use Rattle.batch_model.specs.Plant.{opening};
 ghost use Rattle.batch_engine.specs.Answered.{IsAnswered};
 ghost use Rattle.batch_engine.specs.Led.{IsLed};
-ghost use Rattle.batch_engine.specs.Looked.{batch_state_in, value_in};
+ghost use Rattle.batch_engine.specs.Looked.{batch_state_in, unfinished, value_in};
 ghost use Rattle.batch_engine.specs.Surface.{event_of, move_of, plant_after};
 ghost use Rattle.batch_engine.specs.View.{setup, plant_of};
 
@@ -108,5 +108,12 @@ impl Engine {
         ensures { result ≡ batch_state_in (plant_of self.now) batch }
     {
         self.control.batch_state(batch)
+    }
+
+    /// How many batches are neither complete, stopped nor aborted.
+    pub fn unfinished(&self) -> usize
+        ensures { result ≡ unfinished (plant_of self.now) }
+    {
+        self.control.unfinished()
     }
 }

@@ -14,7 +14,7 @@ pub enum ClaimKind {
 }
 
 /// A move, by numbers: of its batch, mostly of the recipe and the node of an act, of a unit and its phase, of a resource and how
-/// many units of its capacity.
+/// many units of its capacity. `==` looks at every place, also of a start's values that mean nothing.
 #[derive(Clone, Copy, Debug, PartialEq, Eq)]
 pub enum Line {
     /// A phase is told to do something.
@@ -37,7 +37,7 @@ pub enum Line {
         recipe: u16,
         node: u16,
     },
-    /// A phase starts. Its act names the values that it is handed; what stands after these is 0.
+    /// A phase starts. Its act names the values that it is handed; what stands after these means nothing.
     Start {
         batch: u64,
         recipe: u16,

@@ -20,7 +20,7 @@ use batch_matrix::Command;
 use batch_recipe::{MAX_VALUES, Recipe, Values, Work, act_at};
 use batch_text::Name;
 
-/// The values of these names; 0 stands in the places that are left.
+/// The values of these names; what stands in the places that are left means nothing.
 fn values_of(names: &[Name], values: &Values) -> [u64; MAX_VALUES]
     requires { length names.now ≤ MAX_VALUES }
     ensures { zip names.now result ≡ handed_values values.now names.now }
@@ -32,7 +32,7 @@ fn values_of(names: &[Name], values: &Values) -> [u64; MAX_VALUES]
     handed
 }
 
-/// The values that the phase of a phase step is handed; 0 stands in the places that are left.
+/// The values that the phase of a phase step is handed; what stands in the places that are left means nothing.
 fn handed(recipe: &Recipe, node: u16, values: &Values) -> [u64; MAX_VALUES]
     ensures { zip (handed_of (node_of node recipe.now)) result ≡ handed_values values.now (handed_of (node_of node recipe.now)) }
 {

@@ -7,6 +7,7 @@ use Rattle.std.proofs.lemmas.Bool.{and_parts, and_from, not_from_true}
 use Rattle.batch_model.specs.Lists.{Has}
 use Rattle.batch_recipe.specs.Conditions.{Name}
 use Rattle.batch_model.specs.Plant.{BatchAct, Share, units_in, is_same_act, without}
+pub use Rattle.batch_laws.specs.Once.{IsOnce}
 use Rattle.batch_laws.proofs.Facts.{holding, awaiting, performing, Entry, holder_of, holders_among, need, share}
 use Rattle.batch_model.proofs.Members.{Has-split, Has-left, Has-right}
 use Rattle.batch_recipe.specs.declared.need.Need.{Need}
@@ -90,10 +91,7 @@ holders-Has q (e ∷ es) a (inr k) = Has-right (holder_of q e) (holders_among q 
 pub holders-append : (q : Name) (xs ys : List Entry) → holders_among q (xs ++ ys) ≡ holders_among q xs ++ holders_among q ys
 holders-append q xs ys = flat_map-append (holder_of q) xs ys
 
--- no act comes twice
-abbrev pub IsOnce : List Share → Type 0
-IsOnce [] = Unit {0}
-IsOnce (x ∷ xs) = ((y : Share) → Has xs y → y.act ≡ x.act → ⊥) × IsOnce xs
+-- Shares of which no act has two
 
 pub once-snoc : (a : Share) (xs : List Share) → IsOnce xs → ((y : Share) → Has xs y → y.act ≡ a.act → ⊥) → IsOnce (xs ++ a ∷ [])
 once-snoc a [] h d = (λ y k. absurd k, tt)

@@ -4,3 +4,4 @@ pub mod Candidates
 pub mod Telling
 pub mod Ways
 pub mod Sets
+pub mod Once

@@ -1,5 +1,5 @@
 -- What a run that serves tells, and one that runs a plant.
-use Rattle.std.proofs.Common.{◌≡◌, ℕ, ◌≤◌, Bool, List, Option, Some, None, Result, Ok, Err, IfOk, inl, inr, refl, subst, arith, ◌∙◌}
+use Rattle.std.proofs.Common.{◌≡◌, ℕ, zero, suc, ◌≤◌, Bool, true, false, List, Option, Some, None, Result, Ok, Err, IfOk, inl, inr, refl, subst, arith, ◌∙◌}
 use Rattle.std.specs.Prelude.{IfSome, take}
 use Rattle.std.specs.Io.KnownBytes.{Appends, Keeps}
 use Rattle.clap.specs.Walk.{Text}
@@ -27,12 +27,12 @@ use Rattle.batch_commands.specs.declared.refusal.Halt.{Halt}
 use Rattle.batch_commands.specs.declared.refusal.RefusalKind.{RefusalKind}
 use Rattle.batch_commands.specs.declared.refusal.RefusalKind.TheVariants.{Fault, OutOfMemory}
 use Rattle.batch_serve.specs.Serves as serving
-use Rattle.batch_serve.specs.Serves.{AnswersAll, Serves}
+use Rattle.batch_serve.specs.Serves.{AnswersAll, Serves, WritesTo}
 use Rattle.batch_serve.specs.declared.fault.ServeFault.TheVariants.{Read, Write, TooManyReads}
 use Rattle.batch_serve.specs.declared.fault.SetFault.{SetFault}
 use Rattle.batch_serve.specs.declared.fault.SetFault.TheVariants.{Memory, Stopped}
 use Rattle.batch_program.specs.declared.program.TheConstants.{MAX_READS}
-use Rattle.batch_program.specs.Programs.{IsProgramRun, PlantsAreComplete, ServingIsSafe, tells, serves, plants, status_of_serving, output_of}
+use Rattle.batch_program.specs.Programs.{IsLeftTold, IsProgramRun, PlantsAreComplete, ServingIsSafe, tells, serves, plants, status_of_serving, output_of}
 use Rattle.batch_plant.specs.declared.plant_fault.PlantFault.{PlantFault}
 use Rattle.batch_plant.specs.declared.plant_fault.PlantFault.TheVariants as plant_fault
 use Rattle.batch_program.specs.PlantRuns.{HasRun, IsPlantTold, plant_text, refused_status}
@@ -60,17 +60,20 @@ kept_then_kept (Some xs) (Some ys) (Some zs) kept more = more ∙ kept
 written_kept : (c : Setup) (lines : List (List ℕ)) (before mid after : Option (List ℕ)) → Keeps before mid
     → WritesSafely c lines mid after → WritesSafely c lines before after
 written_kept c lines before mid after kept writes =
-    record { said = writes.said; transcript = writes.transcript; appends = kept_then_appended before mid after writes.said.text kept writes.appends }
+    record { said = writes.said; new = writes.new; transcript = writes.transcript; appends = kept_then_appended before mid after writes.said.text kept writes.appends }
 
 begun_kept : (c : Setup) (lines : List (List ℕ)) (before mid after : Option (List ℕ)) → Keeps before mid
     → BeginsSafely c lines mid after → BeginsSafely c lines before after
 begun_kept c lines before mid after kept begins =
-    record { said = begins.said; transcript = begins.transcript; begins = kept_then_begun before mid after begins.said.text kept begins.begins }
+    record { said = begins.said; new = begins.new; transcript = begins.transcript; begins = kept_then_begun before mid after begins.said.text kept begins.begins }
 
-all_kept : (c : Setup) (unread before mid after : Option (List ℕ)) → Keeps before mid
-    → IfSome unread (λ input. WritesSafely c (lines_of input) mid after) → IfSome unread (λ input. WritesSafely c (lines_of input) before after)
-all_kept c None before mid after kept writes = tt
-all_kept c (Some input) before mid after kept writes = written_kept c (lines_of input) before mid after kept writes
+all_kept : (set : ClearedSet) (n : ℕ) (unread before mid after : Option (List ℕ)) → Keeps before mid
+    → IfSome unread (λ input. WritesTo set n (lines_of input) mid after) → IfSome unread (λ input. WritesTo set n (lines_of input) before after)
+all_kept set n None before mid after kept writes = tt
+all_kept set n (Some input) before mid after kept (writes, count) = (
+  record { said = writes.said; new = writes.new; transcript = writes.transcript; appends = kept_then_appended before mid after writes.said.text kept writes.appends },
+  count,
+)
 
 first_kept : (c : Setup) (unread before mid after : Option (List ℕ)) → Keeps before mid
     → IfSome unread (λ input. (n : ℕ) × BeginsSafely c (take n (lines_of input)) mid after)
@@ -84,29 +87,52 @@ whole_kept c unread left before mid after kept writes =
     record { read = writes.read; consumes = writes.consumes; writes = written_kept c (whole_lines writes.read) before mid after kept writes.writes }
 
 -- serving, after the writer was left as it was
-pub served_kept : (set : ClearedSet) (n : ℕ) (served : Result (Unit {0}) SetFault) (unread left before mid after : Option (List ℕ)) → Keeps before mid
+pub served_kept : (set : ClearedSet) (n : ℕ) (served : Result ℕ SetFault) (unread left before mid after : Option (List ℕ)) → Keeps before mid
     → Serves set n served (record { unread = unread; left = left; before = mid; after = after })
     → Serves set n served (record { unread = unread; left = left; before = before; after = after })
-served_kept set n (Ok done) unread left before mid after kept all =
-    record { writes = all_kept (setup set) unread before mid after kept all.writes; ended = all.ended }
+served_kept set n (Ok unfinished) unread left before mid after kept all =
+    record { writes = all_kept set unfinished unread before mid after kept all.writes; ended = all.ended }
 served_kept set n (Err (Stopped Read)) unread left before mid after kept whole = whole_kept (setup set) unread left before mid after kept whole
 served_kept set n (Err (Stopped TooManyReads)) unread left before mid after kept (whole, many) =
     (whole_kept (setup set) unread left before mid after kept whole, many)
 served_kept set n (Err (Stopped Write)) unread left before mid after kept first = first_kept (setup set) unread before mid after kept first
 served_kept set n (Err Memory) unread left before mid after kept (unread_kept, more) = (unread_kept, kept_then_kept before mid after kept more)
 
+-- telling how many batches are left, after the errors were left as they were
+pub left_kept : (quiet : Bool) (before mid after : Option (List ℕ)) (served : Result ℕ SetFault) → Keeps before mid
+    → IfOk served (IsLeftTold quiet (record { before = mid; after = after })) → IfOk served (IsLeftTold quiet (record { before = before; after = after }))
+left_kept quiet before mid after (Err fault) kept told = tt
+left_kept true before mid after (Ok left) kept told = kept_then_kept before mid after kept told
+left_kept false before mid after (Ok zero) kept told = kept_then_kept before mid after kept told
+left_kept false before mid after (Ok (suc more)) kept told =
+    record { written = told.written; rest = told.rest; splits = told.splits; appends = kept_then_appended before mid after told.written kept told.appends }
+
 -- The set
 
--- what is to be served is the set of the documents that the words name, and nothing was written
-pub set_to_serve : (gives : Gives) (words : List Text) (output errors : Stream) (course : Course) (set : ClearedSet)
-    → IsRun gives words output errors course → course ≡ course_of.Serves set
-    → (source : Source) × AskFor words (serve source) × IsSetOf gives source set × Keeps output.before output.after
-set_to_serve gives words output errors _ set (running.commands request course asked came) is =
-    let (source, serving, served, kept) = done_serving gives request (ask_quiet words) output errors set course came is in
-    (source, rw (← serving) asked, served, kept)
-set_to_serve gives words output errors _ set (running.helps _ _ _ _) is = absurd cc
-set_to_serve gives words output errors _ set (running.misuses _ _) is = absurd cc
-set_to_serve gives words output errors _ set (running.starves _) is = absurd cc
+-- what is to be served is the set of the documents that the words name, quietly where they ask for that, and nothing was written
+pub record IsToServe (gives : Gives) (words : List Text) (output errors : Stream) (set : ClearedSet) (quiet : Bool) : Type 0 where
+  pub source : Source
+  pub asked : AskFor words (serve source)
+  pub is_set : IsSetOf gives source set
+  pub unwritten : Keeps output.before output.after
+  pub silent : Keeps errors.before errors.after
+  pub hushed : quiet ≡ ask_quiet words
+
+pub set_to_serve : (gives : Gives) (words : List Text) (output errors : Stream) (course : Course) (set : ClearedSet) (quiet : Bool)
+    → IsRun gives words output errors course → course ≡ course_of.Serves set quiet → IsToServe gives words output errors set quiet
+set_to_serve gives words output errors _ set quiet (running.commands request course asked came) is =
+    let (serving, hushed) = done_serving gives request (ask_quiet words) output errors set quiet course came is in
+    record {
+      source = serving.source;
+      asked = rw (← serving.asked) asked;
+      is_set = serving.is_set;
+      unwritten = serving.unwritten;
+      silent = serving.silent;
+      hushed = hushed;
+    }
+set_to_serve gives words output errors _ set quiet (running.helps _ _ _ _) is = absurd cc
+set_to_serve gives words output errors _ set quiet (running.misuses _ _) is = absurd cc
+set_to_serve gives words output errors _ set quiet (running.starves _) is = absurd cc
 
 -- The plant
 
@@ -159,11 +185,11 @@ told_kept before mid after quiet still loud batches (Err plant_fault.Refused) st
 
 -- Exit statuses
 
-ran_to_the_end : (set : ClearedSet) (served : Result (Unit {0}) SetFault) (ends : serving.Ends) → Serves set MAX_READS served ends
-    → status_of_serving served ≡ 0 → AnswersAll set ends
-ran_to_the_end set (Ok done) ends all is = all
-ran_to_the_end set (Err Memory) ends all is = absurd cc
-ran_to_the_end set (Err (Stopped fault)) ends all is = absurd cc
+ran_to_the_end : (set : ClearedSet) (served : Result ℕ SetFault) (ends : serving.Ends) (quiet : Bool) (errors : Stream) → Serves set MAX_READS served ends
+    → IfOk served (IsLeftTold quiet errors) → status_of_serving served ≡ 0 → (left : ℕ) × AnswersAll set left ends × IsLeftTold quiet errors left
+ran_to_the_end set (Ok left) ends quiet errors all told is = (left, all, told)
+ran_to_the_end set (Err Memory) ends quiet errors all told is = absurd cc
+ran_to_the_end set (Err (Stopped fault)) ends quiet errors all told is = absurd cc
 
 -- a run that ends with status 0 before it has served was no run to serve, and none of a plant
 told_at_once : (gives : Gives) (words : List Text) (output errors : Stream) (request : Request) (status : ℕ)
@@ -178,12 +204,14 @@ serves_no_plant : (source : Source) (batches ticks ring : ℕ) → serve source 
 serves_no_plant source batches ticks ring is = cc
 
 safe_at : (gives : Gives) (words : List Text) (ends : serving.Ends) (errors : Stream) (source : Source) (status : ℕ)
-    → AskFor words (serve source) → IsProgramRun gives words ends errors status → status ≡ 0 → (set : ClearedSet) × IsSetOf gives source set × AnswersAll set ends
+    → AskFor words (serve source) → IsProgramRun gives words ends errors status → status ≡ 0
+    → (set : ClearedSet) × (left : ℕ) × IsSetOf gives source set × AnswersAll set left ends × IsLeftTold (ask_quiet words) errors left
 safe_at gives words ends errors source _ asked (tells status came _) is =
     absurd (told_at_once gives words (output_of ends) errors (serve source) status asked came is)
-safe_at gives words ends errors source _ asked (serves other set served asked2 is_set all) is =
+safe_at gives words ends errors source _ asked (serves other set served asked2 is_set all told) is =
     let same = same_source other source (same_request words (serve other) (serve source) asked2 asked) in
-    (set, subst (λ s. IsSetOf gives s set) same is_set, ran_to_the_end set served ends all is)
+    let (left, answers, says) = ran_to_the_end set served ends (ask_quiet words) errors all told is in
+    (set, left, subst (λ s. IsSetOf gives s set) same is_set, answers, says)
 safe_at gives words ends errors source _ asked (plants _ options _ _ asked2 _ _ _ _) is =
     absurd (serves_no_plant source options.batches options.ticks options.ring (same_request words (serve source) _ asked asked2))
 
@@ -231,8 +259,8 @@ course_in_range gives words output errors _ status (running.misuses _ _) is =
 course_in_range gives words output errors _ status (running.starves _) is =
     let same : memory_status ≡ status = cc in rw (← same) (omega arith)
 
-serving_in_range : (served : Result (Unit {0}) SetFault) → status_of_serving served ≤ 4
-serving_in_range (Ok done) = omega arith
+serving_in_range : (served : Result ℕ SetFault) → status_of_serving served ≤ 4
+serving_in_range (Ok left) = omega arith
 serving_in_range (Err Memory) = omega arith
 serving_in_range (Err (Stopped fault)) = omega arith
 
@@ -247,7 +275,7 @@ plant_in_range output errors batches (Err plant_fault.Refused) status (_, memory
 pub run_in_range : (gives : Gives) (words : List Text) (ends : serving.Ends) (errors : Stream) (status : ℕ)
     → IsProgramRun gives words ends errors status → status ≤ 4
 run_in_range gives words ends errors _ (tells status came _) = course_in_range gives words (output_of ends) errors (Ends status) status came refl
-run_in_range gives words ends errors _ (serves _ _ served _ _ _) = serving_in_range served
+run_in_range gives words ends errors _ (serves _ _ served _ _ _ _) = serving_in_range served
 run_in_range gives words ends errors status (plants _ options end _ _ _ _ told _) = plant_in_range (output_of ends) errors options.batches end status told
 
 -- What a plant tells
@@ -273,7 +301,7 @@ told_plant : (gives : Gives) (words : List Text) (ends : serving.Ends) (errors :
     → (set : ClearedSet) × (handled : ℕ) × IsDemoSet set × HasRun set batches handled × Appends ends.before ends.after (plant_text batches handled)
 told_plant gives words ends errors batches ticks ring _ asked (tells status came _) is =
     absurd (told_at_once gives words (output_of ends) errors (plant batches ticks ring) status asked came is)
-told_plant gives words ends errors batches ticks ring _ asked (serves source _ _ asked2 _ _) is =
+told_plant gives words ends errors batches ticks ring _ asked (serves source _ _ asked2 _ _ _) is =
     absurd (serves_no_plant source batches ticks ring (same_request words (serve source) (plant batches ticks ring) asked2 asked))
 told_plant gives words ends errors batches ticks ring status asked (plants set options end _ asked2 demo ran told _) is =
     let same = same_batches options.batches batches options.ticks ticks options.ring ring (same_request words _ (plant batches ticks ring) asked2 asked) in

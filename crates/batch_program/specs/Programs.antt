@@ -1,5 +1,5 @@
 -- trusted: what comes of the program's words, input and documents.
-use Rattle.std.specs.Prelude.{◌≤◌, ℕ, IfOk, List, Result, Ok, Err}
+use Rattle.std.specs.Prelude.{◌≤◌, ◌++◌, ℕ, zero, suc, Bool, true, false, IfOk, List, Result, Ok, Err, codes, decimal, if◌then◌else◌, nat_eq}
 use Rattle.std.specs.Io.KnownBytes.{Appends, Keeps}
 use Rattle.std.specs.Process.{exit_status}
 use Rattle.std.specs.declared.process.ExitCode.{ExitCode}
@@ -9,7 +9,8 @@ use Rattle.batch_words.specs.CommandLine.{Source, plant, serve}
 use Rattle.batch_words.specs.declared.plant_options.PlantOptions.{PlantOptions}
 use Rattle.batch_commands.specs.Reading.{Gives}
 use Rattle.batch_commands.specs.Requests.{IsDemoSet, IsSetOf}
-use Rattle.batch_commands.specs.Running.{AskFor, IsRun, Stream, fault_status, memory_status}
+use Rattle.batch_commands.specs.Running.{AskFor, IsRun, IsUnwritten, Stream, ask_quiet, fault_status, memory_status}
+use Rattle.batch_commands.specs.Saying.{WritesFront}
 use Rattle.batch_commands.specs.declared.course.Course.TheVariants.{Ends}
 use Rattle.batch_serve.specs.Serves as serving
 use Rattle.batch_serve.specs.Serves.{AnswersAll, Serves}
@@ -23,8 +24,8 @@ abbrev pub IsExitStatus : ExitCode → Type 0
 IsExitStatus code = exit_status code ≤ 4
 
 -- the exit status after serving
-abbrev pub status_of_serving : Result (Unit {0}) SetFault → ℕ
-status_of_serving (Ok done) = 0
+abbrev pub status_of_serving : Result ℕ SetFault → ℕ
+status_of_serving (Ok left) = 0
 status_of_serving (Err Memory) = memory_status
 status_of_serving (Err (Stopped fault)) = fault_status
 
@@ -32,15 +33,28 @@ status_of_serving (Err (Stopped fault)) = fault_status
 abbrev pub output_of : serving.Ends → Stream
 output_of ends = record { before = ends.before; after = ends.after }
 
+-- the line on so many batches that are neither complete, stopped nor aborted when the input ends
+abbrev pub left_text : ℕ → List ℕ
+left_text left =
+    if nat_eq left 1
+    then codes "batchd: the input ended before 1 batch was complete, stopped or aborted\n"
+    else codes "batchd: the input ended before " ++ (decimal left ++ codes " batches were complete, stopped or aborted\n")
+
+-- the line is written to the errors; where there is no such batch, or the words ask for quiet, nothing is
+abbrev pub IsLeftTold : Bool → Stream → ℕ → Type 0
+IsLeftTold true errors left = IsUnwritten errors
+IsLeftTold false errors zero = IsUnwritten errors
+IsLeftTold false errors (suc more) = WritesFront errors.before errors.after (left_text (suc more))
+
 -- what comes of the words, over the input and the output, with the exit status
 pub data IsProgramRun (gives : Gives) (words : List Text) (ends : serving.Ends) (errors : Stream) : ℕ → Type 0 where
   -- a verdict, help or a fault is told, and the input isn't read
   tells : (status : ℕ) → IsRun gives words (output_of ends) errors (Ends status) → Keeps ends.unread ends.left
       → IsProgramRun gives words ends errors status
   -- the set that the words name is served, by the engine that is made from it
-  serves : (source : Source) (set : ClearedSet) (served : Result (Unit {0}) SetFault)
+  serves : (source : Source) (set : ClearedSet) (served : Result ℕ SetFault)
       → AskFor words (serve source) → IsSetOf gives source set → Serves set MAX_READS served ends
-      → IsProgramRun gives words ends errors (status_of_serving served)
+      → IfOk served (IsLeftTold (ask_quiet words) errors) → IsProgramRun gives words ends errors (status_of_serving served)
   -- the plant of the demo is run with the options that the words have, its end is told, and the input isn't read
   plants : (set : ClearedSet) (options : PlantOptions) (end : Result ℕ PlantFault) (status : ℕ)
       → AskFor words (plant options.batches options.ticks options.ring) → IsDemoSet set
@@ -50,15 +64,16 @@ pub data IsProgramRun (gives : Gives) (words : List Text) (ends : serving.Ends) 
 -- Laws
 
 -- a run that was to serve and ends with status 0 has answered all lines of its input, by the engine of the set that its documents
--- make, cleared by their certificate; AnswersAll says that what it wrote is a safe record
+-- make, cleared by their certificate; AnswersAll says that what it wrote is a safe record. On the errors it has written nothing but
+-- how many batches the input left unfinished
 abbrev pub ServingIsSafe : Gives → Type 0
 ServingIsSafe gives =
     (words : List Text) (ends : serving.Ends) (errors : Stream) (source : Source)
     → AskFor words (serve source) → IsProgramRun gives words ends errors 0
-    → (set : ClearedSet) × IsSetOf gives source set × AnswersAll set ends
+    → (set : ClearedSet) × (left : ℕ) × IsSetOf gives source set × AnswersAll set left ends × IsLeftTold (ask_quiet words) errors left
 
--- a run of `plant` that ends with status 0 has written its three lines, and a hub over the demo's set has come to where the batches
--- that were asked for are complete, with so many events as the third line says
+-- a run of `plant` that ends with status 0 has written its three lines, and a record over the demo's set, of so many events as the
+-- third line says, leads to where the batches that were asked for are complete
 abbrev pub PlantsAreComplete : Gives → Type 0
 PlantsAreComplete gives =
     (words : List Text) (ends : serving.Ends) (errors : Stream) (batches ticks ring : ℕ)

@@ -3,7 +3,7 @@ ghost use Rattle.std.specs.Prelude.{◌≡◌};
 ghost use Rattle.batch_program.specs.declared.program.TheConstants.{MAX_READS};
 ghost use Rattle.batch_program.specs.declared.threads.TheConstants.{TURNS};
 
-/// Standard input is read at most this often.
+/// The limit of reads of standard input. No clause counts the calls of a reader.
 pub fn read_limit_is_fixed()
     ensures { MAX_READS ≡ 1000000000 }
 {}

@@ -1,19 +1,19 @@
 //! The program over any documents and streams.
-ghost use Rattle.std.specs.Prelude.{◌≡◌, map, string_bytes};
-ghost use Rattle.batch_program.specs.Programs.{IsProgramRun, status_of_serving};
+ghost use Rattle.std.specs.Prelude.{◌≡◌, IfOk, map, string_bytes};
+ghost use Rattle.batch_program.specs.Programs.{IsLeftTold, IsProgramRun, left_text, status_of_serving};
 
 use crate::noted::Noted;
 use crate::plant::report_of_plant;
 use crate::plant_runner::PlantRunner;
 use crate::statuses::serving_status;
-use batch_commands::{Course, Documents, complain, run_words};
+use batch_commands::{Course, Documents, complain, run_words, tell};
 use batch_serve::{ServeFault, SetFault, serve_set};
-use std::alloc::Global;
+use std::alloc::{AllocError, Global};
 use std::io;
 use std::io::{Read, Write};
 use thiserror::Error;
 
-/// How often standard input may be read, interrupted calls among them.
+/// How often standard input may be read, interrupted calls among them. No clause counts them; tests do, with other limits.
 pub const MAX_READS: u64 = 1_000_000_000;
 
 /// Why serving stopped, and the reason that the stream gave.
@@ -28,7 +28,8 @@ struct Stop {
 /// that they name, or has the demo's plant run.
 ///
 /// Verdicts, help, the record and the lines of a plant go to the output, and all else, in a free text, to the errors. Refused
-/// events are part of the record and don't change the status.
+/// events are part of the record and don't change the status. Where the input ends while batches are neither complete, stopped
+/// nor aborted, one line on the errors says how many, unless quiet is asked for; where none is, nothing is written there.
 pub fn run_program<D: Documents, P: PlantRunner, R: Read, W: Write, E: Write>(
     alloc: Global,
     words: &[String],
@@ -49,9 +50,10 @@ pub fn run_program<D: Documents, P: PlantRunner, R: Read, W: Write, E: Write>(
 {
     match run_words(alloc, words, documents, output, errors) {
         Course::Ends(status) => status,
-        Course::Serves(cleared) => {
-            let served = serve_set(alloc, cleared, input, output, MAX_READS);
-            tell_served(served, reason_of(served, input, output), errors)
+        Course::Serves { set, quiet } => {
+            let served = serve_set(alloc, set, input, output, MAX_READS);
+            let reason = reason_of(served, input, output);
+            tell_served(alloc, quiet, served, reason, errors)
         }
         Course::Plants { set, cell, options } => {
             let end = plants.run_plant(alloc, set, cell, options);
@@ -62,7 +64,7 @@ pub fn run_program<D: Documents, P: PlantRunner, R: Read, W: Write, E: Write>(
 
 /// The reason that the stream gave which stopped serving. A writer that takes nothing gives none.
 fn reason_of<R, W>(
-    served: Result<(), SetFault>,
+    served: Result<usize, SetFault>,
     input: &Noted<R>,
     output: &Noted<W>,
 ) -> Option<io::Error> {
@@ -73,18 +75,49 @@ fn reason_of<R, W>(
     }
 }
 
-/// Tells why serving stopped, where it didn't end with the input, and gives the exit status.
+/// Tells why serving stopped, or how many batches the end of the input left unfinished, and gives the exit status.
 fn tell_served<E: Write>(
-    served: Result<(), SetFault>,
+    alloc: Global,
+    quiet: bool,
+    served: Result<usize, SetFault>,
     reason: Option<io::Error>,
     errors: &mut E,
 ) -> u8
-    ensures { result ≡ status_of_serving served }
+    ensures status { result ≡ status_of_serving served }
+    ensures told { IfOk served (IsLeftTold quiet (record { before = E.contents errors.old; after = E.contents errors.new })) }
 {
     let status = serving_status(served);
     match (served, reason) {
-        (Ok(()), _) => status,
-        (Err(fault), Some(reason)) => complain(errors, Stop { fault, reason }, status),
-        (Err(fault), None) => complain(errors, fault, status),
+        (Ok(left), _) => tell_left(alloc, quiet, left, errors),
+        (Err(fault), Some(reason)) => return complain(errors, Stop { fault, reason }, status),
+        (Err(fault), None) => return complain(errors, fault, status),
+    }
+    status
+}
+
+/// Tells how many batches are neither complete, stopped nor aborted, where there are any and quiet isn't asked for.
+fn tell_left<E: Write>(alloc: Global, quiet: bool, left: usize, errors: &mut E)
+    ensures { IsLeftTold quiet (record { before = E.contents errors.old; after = E.contents errors.new }) left }
+{
+    if quiet || left == 0 {
+        return;
+    }
+    if let Ok(line) = left_text(alloc, left) {
+        tell(errors, &line);
+    }
+}
+
+/// The line on so many batches that are neither complete, stopped nor aborted.
+fn left_text(alloc: Global, left: usize) -> Result<String, AllocError>
+    ensures { IfOk result (λ line. string_bytes line ≡ left_text left) }
+{
+    if left == 1 {
+        format!(in alloc;
+            "batchd: the input ended before 1 batch was complete, stopped or aborted\n"
+        )
+    } else {
+        format!(in alloc;
+            "batchd: the input ended before {left} batches were complete, stopped or aborted\n"
+        )
     }
 }

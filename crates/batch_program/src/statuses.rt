@@ -6,11 +6,11 @@ use batch_commands::{FILE_FAULT, NO_MEMORY};
 use batch_serve::SetFault;
 
 /// The exit status after serving: 0 where the input ran to its end.
-pub fn serving_status(served: Result<(), SetFault>) -> u8
+pub fn serving_status(served: Result<usize, SetFault>) -> u8
     ensures { result ≡ status_of_serving served }
 {
     match served {
-        Ok(()) => 0,
+        Ok(_) => 0,
         Err(SetFault::Memory) => NO_MEMORY,
         Err(SetFault::Stopped(_)) => FILE_FAULT,
     }

@@ -53,7 +53,6 @@ pub transcripts_are_safe : (set : ClearedSet) → RunsSafely set.cell set.recipe
 transcripts_are_safe set runs lines said new t =
     let leads = transcript_leads (setup set) opening new lines said t in
     record {
-      new = new;
       transcript = t;
       leads = leads;
       safe = runs.safe said.events said.outs new leads;

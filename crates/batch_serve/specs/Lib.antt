@@ -3,3 +3,4 @@ pub mod Serving
 pub mod Settled
 pub mod Safe
 pub mod Serves
+pub mod RowsOfUnfinished

@@ -11,9 +11,9 @@ use Rattle.batch_wire.specs.Transcript.{whole_lines, Exchange, Transcript}
 use Rattle.batch_wire.specs.Written.{AppendsBeginning}
 use Rattle.batch_serve.specs.Settled.{IsSettled}
 
--- from the opening the lines may come to this exchange: its outs are the machine's record of its events, and that record is safe
-pub record IsSafeTranscript (c : Setup) (lines : List (List ℕ)) (said : Exchange) : Type 0 where
-  pub new : Plant
+-- from the opening the lines may come to this exchange and this plant: its outs are the machine's record of its events, and that
+-- record is safe
+pub record IsSafeTranscript (c : Setup) (lines : List (List ℕ)) (said : Exchange) (new : Plant) : Type 0 where
   pub transcript : Transcript c opening lines said new
   pub leads : Leads c opening said.events said.outs new
   pub safe : IsSafe c said.outs
@@ -23,7 +23,7 @@ pub record IsSafeTranscript (c : Setup) (lines : List (List ℕ)) (said : Exchan
 -- every transcript from the opening of the cleared set is such
 abbrev pub TranscriptsAreSafe : ClearedSet → Type 0
 TranscriptsAreSafe set =
-    (lines : List (List ℕ)) (said : Exchange) (new : Plant) → Transcript (setup set) opening lines said new → IsSafeTranscript (setup set) lines said
+    (lines : List (List ℕ)) (said : Exchange) (new : Plant) → Transcript (setup set) opening lines said new → IsSafeTranscript (setup set) lines said new
 
 -- after a transcript from the opening of the cleared set, whoever waits waits for something
 abbrev pub TranscriptsLeaveNobodyInVain : ClearedSet → Type 0
@@ -34,13 +34,15 @@ TranscriptsLeaveNobodyInVain set =
 -- the text of a safe transcript of the lines was written
 pub record WritesSafely (c : Setup) (lines : List (List ℕ)) (before after : Option (List ℕ)) : Type 0 where
   pub said : Exchange
-  pub transcript : IsSafeTranscript c lines said
+  pub new : Plant
+  pub transcript : IsSafeTranscript c lines said new
   pub appends : Appends before after said.text
 
 -- a beginning of that text was written
 pub record BeginsSafely (c : Setup) (lines : List (List ℕ)) (before after : Option (List ℕ)) : Type 0 where
   pub said : Exchange
-  pub transcript : IsSafeTranscript c lines said
+  pub new : Plant
+  pub transcript : IsSafeTranscript c lines said new
   pub begins : AppendsBeginning before after said.text
 
 -- the text of such a transcript of the whole lines read was written; the reader had unread bytes, and has these left

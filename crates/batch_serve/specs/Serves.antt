@@ -1,7 +1,8 @@
 -- trusted: what serving a cleared set does to the bytes that a reader had unread, and to those that a writer held before.
-use Rattle.std.specs.Prelude.{ℕ, ◌≤◌, List, take, length, Option, IfSome, Result, Ok, Err}
+use Rattle.std.specs.Prelude.{◌≡◌, ℕ, ◌≤◌, List, take, length, Option, IfSome, Result, Ok, Err}
 use Rattle.std.specs.Io.KnownBytes.{Keeps, IsAtEnd}
 use Rattle.batch_verify.specs.ClearedSet.{ClearedSet}
+use Rattle.batch_engine.specs.Looked.{unfinished}
 use Rattle.batch_engine.specs.View.{setup}
 use Rattle.batch_wire.specs.Transcript.{lines_of}
 use Rattle.batch_serve.specs.Safe.{WritesSafely, BeginsSafely, WritesWholeSafely}
@@ -16,9 +17,14 @@ pub record Ends : Type 0 where
   pub before : Option (List ℕ)
   pub after : Option (List ℕ)
 
--- all lines of the input were answered
-pub record AnswersAll (set : ClearedSet) (ends : Ends) : Type 0 where
-  pub writes : IfSome ends.unread (λ input. WritesSafely (setup set) (lines_of input) ends.before ends.after)
+-- such a text was written, and in the plant to which it leads so many batches are neither complete, stopped nor aborted
+abbrev pub WritesTo : ClearedSet → ℕ → List (List ℕ) → Option (List ℕ) → Option (List ℕ) → Type 0
+WritesTo set left lines before after =
+    (written : WritesSafely (setup set) lines before after) × (left ≡ unfinished written.new)
+
+-- all lines of the input were answered, and left so many batches unfinished
+pub record AnswersAll (set : ClearedSet) (left : ℕ) (ends : Ends) : Type 0 where
+  pub writes : IfSome ends.unread (λ input. WritesTo set left (lines_of input) ends.before ends.after)
   pub ended : IsAtEnd ends.left
 
 -- the whole lines read were answered
@@ -38,8 +44,8 @@ abbrev pub IsUntouched : Ends → Type 0
 IsUntouched ends = Keeps ends.unread ends.left × Keeps ends.before ends.after
 
 -- what the cleared set's engine answered from its opening on, by the outcome
-abbrev pub Serves : ClearedSet → ℕ → Result (Unit {0}) SetFault → Ends → Type 0
-Serves set max_reads (Ok done) ends = AnswersAll set ends
+abbrev pub Serves : ClearedSet → ℕ → Result ℕ SetFault → Ends → Type 0
+Serves set max_reads (Ok left) ends = AnswersAll set left ends
 Serves set max_reads (Err (Stopped Read)) ends = AnswersWholeLines set ends
 Serves set max_reads (Err (Stopped TooManyReads)) ends = AnswersWholeLines set ends × HasAsManyBytes max_reads ends
 Serves set max_reads (Err (Stopped Write)) ends = AnswersFirstLines set ends

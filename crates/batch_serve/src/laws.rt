@@ -1,4 +1,5 @@
 //! Laws of transcripts. Nothing runs here: the contracts are the laws.
+ghost use Rattle.batch_serve.specs.RowsOfUnfinished.{UnfinishedRows};
 ghost use Rattle.batch_serve.specs.Safe.{TranscriptsAreSafe, TranscriptsLeaveNobodyInVain};
 ghost use Rattle.batch_serve.specs.Settled.{TranscriptsSettle};
 
@@ -23,4 +24,9 @@ pub fn transcripts_leave_nobody_in_vain(cleared: &Cleared)
 /// A transcript that begins where no move is possible comes to such a plant after each of its lines.
 pub fn transcripts_settle()
     ensures { TranscriptsSettle }
+{}
+
+/// In which states a batch counts among those that are neither complete, stopped nor aborted.
+pub fn unfinished_rows()
+    ensures { UnfinishedRows }
 {}

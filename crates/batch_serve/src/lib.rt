@@ -10,7 +10,9 @@ mod serving;
 mod set;
 
 pub use fault::{ServeFault, SetFault};
-pub use laws::{transcripts_are_safe, transcripts_leave_nobody_in_vain, transcripts_settle};
+pub use laws::{
+    transcripts_are_safe, transcripts_leave_nobody_in_vain, transcripts_settle, unfinished_rows,
+};
 pub use limits::piece_limit_is_fixed;
 pub use serving::serve;
 pub use set::serve_set;

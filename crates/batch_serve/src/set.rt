@@ -10,16 +10,16 @@ use std::io::{Read, Write};
 
 /// Makes the engine of a cleared set, and answers the lines that the reader gives, until its bytes end.
 ///
-/// It asks the reader at most `max_reads` times, interrupted calls among them. What is written to the writer is handed on
-/// whenever the reader is about to be asked for more. Memory is taken for the engine and for events; where an event finds
-/// none, its line is refused and serving goes on.
+/// It asks the reader at most `max_reads` times, interrupted calls among them, which no clause says: the calls of a reader aren't
+/// counted. What is written to the writer is handed on whenever the reader is about to be asked for more. Memory is taken for the engine and for events; where an event finds
+/// none, its line is refused and serving goes on. Gives how many batches are neither complete, stopped nor aborted then.
 pub fn serve_set<R: Read, W: Write>(
     alloc: Global,
     cleared: Cleared,
     reader: &mut R,
     writer: &mut W,
     max_reads: u64,
-) -> Result<(), SetFault>
+) -> Result<usize, SetFault>
     ensures { Serves cleared max_reads result (record {
       unread = R.remaining reader.old;
       left = R.remaining reader.new;
@@ -30,5 +30,8 @@ pub fn serve_set<R: Read, W: Write>(
     let Ok(mut engine) = Engine::new(alloc, cleared) else {
         return Err(SetFault::Memory);
     };
-    serve(alloc, &mut engine, reader, writer, max_reads).map_err(SetFault::Stopped)
+    match serve(alloc, &mut engine, reader, writer, max_reads) {
+        Ok(()) => Ok(engine.unfinished()),
+        Err(fault) => Err(SetFault::Stopped(fault)),
+    }
 }

@@ -23,7 +23,7 @@ fn status_of<O: Write, E: Write>(
 fn status_at_end(course: &Course) -> Option<u8> {
     match course {
         Course::Ends(status) => Some(*status),
-        Course::Serves(_) | Course::Plants { .. } => None,
+        Course::Serves { .. } | Course::Plants { .. } => None,
     }
 }
 

@@ -13,11 +13,11 @@ use std::io::ErrorKind;
 use std::process::Abort;
 use std::test::Fail;
 
-const READ: Result<(), SetFault> = Err(SetFault::Stopped(ServeFault::Read));
+const READ: Result<usize, SetFault> = Err(SetFault::Stopped(ServeFault::Read));
 
-const WRITE: Result<(), SetFault> = Err(SetFault::Stopped(ServeFault::Write));
+const WRITE: Result<usize, SetFault> = Err(SetFault::Stopped(ServeFault::Write));
 
-const TOO_MANY_READS: Result<(), SetFault> = Err(SetFault::Stopped(ServeFault::TooManyReads));
+const TOO_MANY_READS: Result<usize, SetFault> = Err(SetFault::Stopped(ServeFault::TooManyReads));
 
 /// That a run that asks its reader so often for one byte ends as too many reads, with this record.
 fn assert_cut(rt: &impl Abort, alloc: Global, max_reads: u64, record: &[u8]) -> Result<(), Fail> {
@@ -33,7 +33,7 @@ fn max_reads(rt: HostRuntime) -> Result<(), Fail> {
     assert_cut(&rt, alloc, 0, b"")?;
     // The input has 41 bytes, and its end is read too.
     assert_cut(&rt, alloc, 41, RECORD)?;
-    assert_outcome(&rt, run(alloc, OneByOne::of(INPUT), 42), Ok(()), RECORD)
+    assert_outcome(&rt, run(alloc, OneByOne::of(INPUT), 42), Ok(0), RECORD)
 }
 
 /// The first call of a reader at which a failure isn't answered by the record of the whole lines read.
@@ -58,7 +58,7 @@ fn ends_interrupted(
     alloc: Global,
     call: usize,
     max_reads: u64,
-    ending: Result<(), SetFault>,
+    ending: Result<usize, SetFault>,
 ) -> Result<bool, Fail> {
     let reader = OneByOne::failing(INPUT, call, ErrorKind::Interrupted);
     Ok(run(alloc, reader, max_reads)?.is(ending, RECORD))
@@ -67,7 +67,7 @@ fn ends_interrupted(
 /// The first call of a reader at which an interruption isn't passed over, or isn't counted.
 fn first_wrong_interruption(alloc: Global) -> Result<Option<usize>, Fail> {
     for call in 1..=42 {
-        let passes = ends_interrupted(alloc, call, 43, Ok(()))?;
+        let passes = ends_interrupted(alloc, call, 43, Ok(0))?;
         let counts = ends_interrupted(alloc, call, 42, READ)?;
         if !passes || !counts {
             return Ok(Some(call));

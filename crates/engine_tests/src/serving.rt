@@ -54,13 +54,13 @@ start 1 0.0.0.0 R1 ADD
 /// How a run ended, and its record.
 #[derive(Drop)]
 pub(crate) struct Outcome {
-    ending: Result<(), SetFault>,
+    ending: Result<usize, SetFault>,
     record: Vec<u8>,
 }
 
 impl Outcome {
     /// Whether it ended so, and its record has these bytes.
-    pub(crate) fn is(&self, ending: Result<(), SetFault>, record: &[u8]) -> bool {
+    pub(crate) fn is(&self, ending: Result<usize, SetFault>, record: &[u8]) -> bool {
         self.ending == ending && self.record.as_slice() == record
     }
 }
@@ -69,7 +69,7 @@ impl Outcome {
 pub(crate) fn assert_outcome(
     rt: &impl Abort,
     outcome: Result<Outcome, Fail>,
-    ending: Result<(), SetFault>,
+    ending: Result<usize, SetFault>,
     record: &[u8],
 ) -> Result<(), Fail> {
     assert!(rt; outcome?.is(ending, record));

@@ -1,11 +1,19 @@
-use Rattle.std.proofs.Common.{get_or}
-use Rattle.std.proofs.lemmas.List.Elements.{Contains-get_or}
-use Rattle.batch_check.proofs.Joins.{HasTaken-more}
+use Rattle.std.proofs.Common.{◌∷◌, ◌++◌, [], List, get_or, subst, sym, take}
+use Rattle.std.proofs.lemmas.List.{take_more}
+use Rattle.batch_check.specs.declared.edge.Edge.{Edge}
+use Rattle.batch_check.specs.Joining.{HasTaken}
+use Rattle.batch_check.proofs.Joins.{HasTaken-more, HasTaken-none}
 use Rattle.batch_check.proofs.Raises.{no_edge}
 use Rattle.batch_check.proofs.graph.take.Goals as goal
 
+pub loop-edge-init : goal.loop-edge-init
+loop-edge-init c = HasTaken-none c.args.set.now
+
 pub loop-edge-preserved : goal.loop-edge-preserved
 loop-edge-preserved c =
-    HasTaken-more c.args.edges.now c.args.set.now c.loop-edge.set c.add.new.self (get_or c.args.edges.now c.loop-edge.edge-index no_edge) c.loop-edge.invariant
+    let edges = c.args.edges.now in
+    let index = c.loop-edge.edge-index in
+    subst (λ (es : List Edge). HasTaken es c.args.set.now c.add.new.self) (sym (take_more edges index no_edge c.loop-edge-test.true))
+    (HasTaken-more (take index edges) c.args.set.now c.loop-edge.set c.add.new.self (get_or edges index no_edge) c.loop-edge.invariant
     (record { same_count = c.in_ok-add.ensures.count; kept = c.in_ok-add.ensures.kept; stays = c.in_ok-add.ensures.stays })
-    (Contains-get_or c.args.edges.now c.loop-edge.edge-index no_edge c.loop-edge-test.true) c.in_ok-add.ensures.only
+    c.in_ok-add.ensures.added c.in_ok-add.ensures.only)

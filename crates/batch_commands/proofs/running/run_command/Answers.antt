@@ -15,7 +15,7 @@ returns-in-Judge g c = rw c.in-Judge.is (halts c.in-Err.halt _ (rw c.in-Judge.ju
 pub returns-in-Ok-clear_source : goal.returns-in-Ok-clear_source
 returns-in-Ok-clear_source g c =
     rw c.in-Serve.is
-    (serves (source_of c.in-Serve.source) c.in-Ok-clear_source.cleared refl (rw c.in-Serve.source-is at c.in-Ok-clear_source.ensures.set)
+    (serves (source_of c.in-Serve.source) c.in-Ok-clear_source.set refl (rw c.in-Serve.source-is at c.in-Ok-clear_source.ensures.set)
     (Keeps-refl _) (Keeps-refl _))
 
 pub returns-in-Serve : goal.returns-in-Serve

@@ -3,7 +3,7 @@ use Rattle.std.proofs.KnownBytes.{Keeps-refl}
 use Rattle.batch_program.specs.Programs.{tells, serves, plants}
 use Rattle.batch_program.specs.declared.program.TheConstants.{MAX_READS}
 use Rattle.batch_program.proofs.Plants.{has_run}
-use Rattle.batch_program.proofs.Served.{plant_to_run, served_kept, set_to_serve, told_kept}
+use Rattle.batch_program.proofs.Served.{left_kept, plant_to_run, served_kept, set_to_serve, told_kept}
 use Rattle.batch_program.proofs.program.run_program.Goals as goal
 
 pub returns-in-Ends : goal.returns-in-Ends
@@ -11,12 +11,15 @@ returns-in-Ends g c = tells c.in-Ends.status c.in-Ends.ensures (Keeps-refl _)
 
 pub returns-in-Serves : goal.returns-in-Serves
 returns-in-Serves g c =
-    let set = c.in-Serves.cleared in
+    let set = c.in-Serves.set in
+    let quiet = c.in-Serves.quiet in
     let served = c.serve_set-served in
-    let (source, asked, is_set, kept) =
-    set_to_serve (g.D.Documents.gives c.args.documents.now) (map string_bytes c.args.words.now) _ _ _ set c.run_words.ensures c.in-Serves.is in
-    rw c.tell_served.ensures
-    (serves source set served.result asked is_set (served_kept set MAX_READS served.result _ _ _ _ _ kept served.ensures))
+    let words = map string_bytes c.args.words.now in
+    let is = set_to_serve (g.D.Documents.gives c.args.documents.now) words _ _ _ set quiet c.run_words.ensures c.in-Serves.is in
+    let told = left_kept quiet _ _ _ served.result is.silent c.tell_served.ensures.told in
+    rw c.tell_served.ensures.status
+    (serves is.source set served.result is.asked is.is_set (served_kept set MAX_READS served.result _ _ _ _ _ is.unwritten served.ensures)
+    (rw is.hushed at told))
 
 pub returns-in-Plants : goal.returns-in-Plants
 returns-in-Plants g c =
