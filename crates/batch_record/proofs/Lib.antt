@@ -1,0 +1,9 @@
+pub mod Splitting
+pub mod Lacking
+pub mod Numerals
+pub mod Places
+pub mod WordsBack
+pub mod Sound
+pub mod Back
+pub mod Outcome
+pub mod Passing

@@ -1,0 +1,5 @@
+pub mod Naming
+pub mod RecordLine
+pub mod Reading
+pub mod Laws
+pub mod RowsOfRecords

@@ -1,0 +1,411 @@
+//! Reading a line of a record.
+ghost use Rattle.std.specs.Prelude.{◌≡◌, ◌∷◌, [], Some, MatchOption};
+ghost use Rattle.batch_wire.specs.EventLine.{word_of_report};
+ghost use Rattle.batch_record.specs.RecordLine.{words_left, need_of, state_of, claim_of, claim_with, batch_of, batch_with, removed_of, report_told_of, report_with, order_of, ok_of, other_of, begun_of, ended_of, phase_with, sent_of, started_of, created_of, refusal_of, code_alone, state_alone, formula_of, out_of_words, out_of_line};
+ghost use Rattle.batch_record.specs.Laws.{Tells, TellsNothing};
+ghost use Rattle.batch_record.specs.Reading.{Gives, claim_told, report_told, begun_told, ended_told, phase_told, sent_told, started_told, created_told, refusal_told, out_of};
+
+use crate::pairs::{are_plain_values, are_role_pairs};
+use crate::told::{
+    Begun, Claim, Created, Ended, PhaseStep, Refused, Reported, Sent, Started, Told,
+};
+use crate::word::{command_of, is_plain_place, plain_number, read_need, state_of, word_of_report};
+use crate::words::Words;
+use batch_matrix::{Command, State};
+use batch_text::is_name;
+
+/// What the line tells, which comes without its line feed, or nothing where it is the text of no out.
+pub fn read_out(line: &[u8]) -> Option<Told<'_>>
+    ensures said { Gives out_of result (out_of_line line.now) }
+    ensures told { MatchOption result (TellsNothing line.now) (λ told. Tells line.now (out_of told)) }
+{
+    read_words(Words::of(line))
+}
+
+fn read_words(mut line: Words<'_>) -> Option<Told<'_>>
+    ensures { Gives out_of result (out_of_words (words_left line.entry.rest)) }
+{
+    let first = line.next()?;
+    if first == b"grant".as_slice() {
+        Some(Told::Granted(read_claim(line)?))
+    } else if first == b"ask".as_slice() {
+        Some(Told::Asked(read_claim(line)?))
+    } else if first == b"release".as_slice() {
+        Some(Told::Released(read_claim(line)?))
+    } else if first == b"ok".as_slice() {
+        read_ok(line)
+    } else if first == b"state".as_slice() {
+        let (batch, state) = read_batch(line)?;
+        Some(Told::Stated { batch, state })
+    } else {
+        read_others(first, line)
+    }
+}
+
+/// The kinds of lines that the state of the plant's resources isn't read from.
+fn read_others<'a>(first: &[u8], line: Words<'a>) -> Option<Told<'a>>
+    ensures { Gives out_of result (other_of first.now (words_left line.entry.rest)) }
+{
+    if first == b"begin".as_slice() {
+        Some(Told::Begun(read_begun(line)?))
+    } else if first == b"end".as_slice() {
+        Some(Told::Ended(read_ended(line)?))
+    } else if first == b"send".as_slice() {
+        Some(Told::Sent(read_sent(line)?))
+    } else if first == b"start".as_slice() {
+        Some(Told::Started(read_started(line)?))
+    } else if first == b"created".as_slice() {
+        Some(Told::Created(read_created(line)?))
+    } else if first == b"refused".as_slice() {
+        Some(Told::Refused(read_refused(line)?))
+    } else {
+        None
+    }
+}
+
+/// An act, and its name.
+fn read_begun(mut arguments: Words<'_>) -> Option<Begun<'_>>
+    ensures { Gives begun_told result (begun_of (words_left arguments.entry.rest)) }
+{
+    let batch = arguments.next()?;
+    let place = arguments.next()?;
+    let name = arguments.next()?;
+    if arguments.next().is_some() {
+        return None;
+    }
+    begun_with(batch, place, name)
+}
+
+fn begun_with<'a>(batch: &'a [u8], place: &'a [u8], name: &'a [u8]) -> Option<Begun<'a>>
+    ensures { Gives begun_told result (begun_of (batch.now ∷ place.now ∷ name.now ∷ [])) }
+{
+    let batch = plain_number(batch)?;
+    if is_plain_place(place) && is_name(name) {
+        Some(Begun { batch, place, name })
+    } else {
+        None
+    }
+}
+
+/// An act.
+fn read_ended(mut arguments: Words<'_>) -> Option<Ended<'_>>
+    ensures { Gives ended_told result (ended_of (words_left arguments.entry.rest)) }
+{
+    let batch = arguments.next()?;
+    let place = arguments.next()?;
+    if arguments.next().is_some() {
+        return None;
+    }
+    ended_with(batch, place)
+}
+
+fn ended_with<'a>(batch: &'a [u8], place: &'a [u8]) -> Option<Ended<'a>>
+    ensures { Gives ended_told result (ended_of (batch.now ∷ place.now ∷ [])) }
+{
+    let batch = plain_number(batch)?;
+    if is_plain_place(place) {
+        Some(Ended { batch, place })
+    } else {
+        None
+    }
+}
+
+/// A phase of a unit at a place, if the words are a batch, a place and names.
+pub fn phase_with<'a>(
+    batch: &'a [u8],
+    place: &'a [u8],
+    unit: &'a [u8],
+    phase: &'a [u8],
+) -> Option<PhaseStep<'a>>
+    ensures { Gives phase_told result (phase_with batch.now place.now unit.now phase.now) }
+{
+    let batch = plain_number(batch)?;
+    if is_plain_place(place) && is_name(unit) && is_name(phase) {
+        Some(PhaseStep {
+            batch,
+            place,
+            unit,
+            phase,
+        })
+    } else {
+        None
+    }
+}
+
+/// A phase, and what it is told to do.
+fn read_sent(mut arguments: Words<'_>) -> Option<Sent<'_>>
+    ensures { Gives sent_told result (sent_of (words_left arguments.entry.rest)) }
+{
+    let batch = arguments.next()?;
+    let place = arguments.next()?;
+    let unit = arguments.next()?;
+    let phase = arguments.next()?;
+    let command = arguments.next()?;
+    if arguments.next().is_some() {
+        return None;
+    }
+    let step = phase_with(batch, place, unit, phase)?;
+    let command = command_of(command)?;
+    Some(Sent { step, command })
+}
+
+/// A phase, and the values that it is handed.
+fn read_started(mut arguments: Words<'_>) -> Option<Started<'_>>
+    ensures { Gives started_told result (started_of (words_left arguments.entry.rest)) }
+{
+    let batch = arguments.next()?;
+    let place = arguments.next()?;
+    let unit = arguments.next()?;
+    let phase = arguments.next()?;
+    let step = phase_with(batch, place, unit, phase)?;
+    if are_plain_values(arguments) {
+        Some(Started {
+            step,
+            values: arguments,
+        })
+    } else {
+        None
+    }
+}
+
+/// A batch, its recipe, its size and its roles.
+fn read_created(mut arguments: Words<'_>) -> Option<Created<'_>>
+    ensures { Gives created_told result (created_of (words_left arguments.entry.rest)) }
+{
+    let batch = arguments.next()?;
+    let recipe = arguments.next()?;
+    let size = arguments.next()?;
+    created_with(batch, recipe, size, arguments)
+}
+
+fn created_with<'a>(
+    batch: &'a [u8],
+    recipe: &'a [u8],
+    size: &'a [u8],
+    roles: Words<'a>,
+) -> Option<Created<'a>>
+    ensures { Gives created_told result (created_of (batch.now ∷ recipe.now ∷ size.now ∷ words_left roles.entry.rest)) }
+{
+    let batch = plain_number(batch)?;
+    let size = plain_number(size)?;
+    if is_name(recipe) && are_role_pairs(roles) {
+        Some(Created {
+            batch,
+            recipe,
+            size,
+            roles,
+        })
+    } else {
+        None
+    }
+}
+
+/// Why an event was refused.
+fn read_refused(mut arguments: Words<'_>) -> Option<Refused<'_>>
+    ensures { Gives refusal_told result (refusal_of (words_left arguments.entry.rest)) }
+{
+    let code = arguments.next()?;
+    match arguments.next() {
+        None => refused_alone(code),
+        Some(word) => refused_for(code, word, arguments),
+    }
+}
+
+fn refused_alone(code: &[u8]) -> Option<Refused<'_>>
+    ensures { Gives refusal_told result (code_alone code.now) }
+{
+    if code == b"E1".as_slice() {
+        Some(Refused::UnknownRecipe)
+    } else if code == b"E2".as_slice() {
+        Some(Refused::UnknownBatch)
+    } else if code == b"E4".as_slice() {
+        Some(Refused::NoLivePhase)
+    } else if code == b"E6".as_slice() {
+        Some(Refused::BadOutput)
+    } else if code == b"E8".as_slice() {
+        Some(Refused::Full)
+    } else if code == b"E10".as_slice() {
+        Some(Refused::MovesPending)
+    } else if code == b"E11".as_slice() {
+        Some(Refused::NoMemory)
+    } else if code == b"E12".as_slice() {
+        Some(Refused::BadBinding)
+    } else {
+        None
+    }
+}
+
+fn refused_for<'a>(code: &[u8], word: &'a [u8], others: Words<'a>) -> Option<Refused<'a>>
+    ensures { Gives refusal_told result (refusal_of (code.now ∷ word.now ∷ words_left others.entry.rest)) }
+{
+    if code == b"E3".as_slice() {
+        Some(Refused::CommandNotAccepted(state_alone(word, others)?))
+    } else if code == b"E5".as_slice() {
+        Some(Refused::ReportNotExpected(state_alone(word, others)?))
+    } else if code == b"E9".as_slice() {
+        Some(Refused::NotIdle(state_alone(word, others)?))
+    } else if code == b"E7".as_slice() {
+        refused_formula(word, others)
+    } else {
+        None
+    }
+}
+
+fn state_alone(word: &[u8], mut others: Words<'_>) -> Option<State>
+    ensures { result ≡ state_alone (word.now ∷ words_left others.entry.rest) }
+{
+    if others.next().is_some() {
+        return None;
+    }
+    state_of(word)
+}
+
+fn refused_formula<'a>(cause: &'a [u8], mut others: Words<'a>) -> Option<Refused<'a>>
+    ensures { Gives refusal_told result (formula_of (cause.now ∷ words_left others.entry.rest)) }
+{
+    let Some(name) = others.next() else {
+        return if cause == b"F1".as_slice() {
+            Some(Refused::BadSize)
+        } else {
+            None
+        };
+    };
+    if others.next().is_some() {
+        return None;
+    }
+    if cause == b"F2".as_slice() && is_name(name) {
+        Some(Refused::BadValue(name))
+    } else {
+        None
+    }
+}
+
+/// A batch, a place and a need.
+fn read_claim(mut arguments: Words<'_>) -> Option<Claim<'_>>
+    ensures { Gives claim_told result (claim_of (words_left arguments.entry.rest)) }
+{
+    let batch = arguments.next()?;
+    let place = arguments.next()?;
+    let need = arguments.next()?;
+    if arguments.next().is_some() {
+        return None;
+    }
+    claim_with(batch, place, need)
+}
+
+fn claim_with<'a>(batch: &'a [u8], place: &'a [u8], need: &'a [u8]) -> Option<Claim<'a>>
+    ensures { Gives claim_told result (claim_with batch.now place.now (need_of need.now)) }
+{
+    let (resource, units) = read_need(need)?;
+    let batch = plain_number(batch)?;
+    if is_plain_place(place) {
+        Some(Claim {
+            batch,
+            place,
+            resource,
+            units,
+        })
+    } else {
+        None
+    }
+}
+
+/// A batch and its state.
+fn read_batch(mut arguments: Words<'_>) -> Option<(u64, State)>
+    ensures { result ≡ batch_of (words_left arguments.entry.rest) }
+{
+    let batch = arguments.next()?;
+    let state = arguments.next()?;
+    if arguments.next().is_some() {
+        return None;
+    }
+    batch_with(batch, state)
+}
+
+fn batch_with(batch: &[u8], state: &[u8]) -> Option<(u64, State)>
+    ensures { result ≡ batch_with batch.now (state_of state.now) }
+{
+    let state = state_of(state)?;
+    let batch = plain_number(batch)?;
+    Some((batch, state))
+}
+
+/// A batch alone.
+fn read_removed(mut arguments: Words<'_>) -> Option<u64>
+    ensures { result ≡ removed_of (words_left arguments.entry.rest) }
+{
+    let batch = arguments.next()?;
+    if arguments.next().is_some() {
+        return None;
+    }
+    plain_number(batch)
+}
+
+/// A reply to what was taken.
+fn read_ok(mut line: Words<'_>) -> Option<Told<'_>>
+    ensures { Gives out_of result (ok_of (words_left line.entry.rest)) }
+{
+    let first = line.next()?;
+    if first == b"report".as_slice() {
+        return Some(Told::Reported(read_report(line)?));
+    }
+    if first == b"remove".as_slice() {
+        let batch = read_removed(line)?;
+        return Some(Told::Removed { batch });
+    }
+    read_order(command_of(first)?, line)
+}
+
+fn read_order(command: Command, arguments: Words<'_>) -> Option<Told<'_>>
+    ensures { Gives out_of result (order_of (Some command) (words_left arguments.entry.rest)) }
+{
+    let (batch, state) = read_batch(arguments)?;
+    Some(Told::Ordered {
+        command,
+        batch,
+        state,
+    })
+}
+
+/// A report that was taken.
+fn read_report(mut arguments: Words<'_>) -> Option<Reported<'_>>
+    ensures { Gives report_told result (report_told_of (words_left arguments.entry.rest)) }
+{
+    let unit = arguments.next()?;
+    let phase = arguments.next()?;
+    let word = arguments.next()?;
+    let batch = arguments.next()?;
+    let place = arguments.next()?;
+    let state = arguments.next()?;
+    if arguments.next().is_some() {
+        return None;
+    }
+    report_with(unit, phase, word, batch, place, state)
+}
+
+fn report_with<'a>(
+    unit: &'a [u8],
+    phase: &'a [u8],
+    word: &'a [u8],
+    batch: &'a [u8],
+    place: &'a [u8],
+    state: &'a [u8],
+) -> Option<Reported<'a>>
+    ensures { Gives report_told result (report_with unit.now phase.now batch.now place.now (word_of_report word.now) (state_of state.now)) }
+{
+    let word = word_of_report(word)?;
+    let state = state_of(state)?;
+    let batch = plain_number(batch)?;
+    if is_name(unit) && is_name(phase) && is_plain_place(place) {
+        Some(Reported {
+            unit,
+            phase,
+            word,
+            batch,
+            place,
+            state,
+        })
+    } else {
+        None
+    }
+}

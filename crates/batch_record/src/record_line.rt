@@ -1,0 +1,56 @@
+//! What a line of a record tells, or that it is no line of a record.
+ghost use Rattle.std.specs.Prelude.{◌≡◌, true, false, IfOk, IfSome, IsErr, IsTrue, MatchOption, MatchResult, None, Some};
+ghost use Rattle.batch_record.specs.Laws.{Tells, TellsNothing, is_fault_line, is_passed_over};
+ghost use Rattle.batch_record.specs.Reading.{out_of};
+ghost use Rattle.batch_record.specs.RecordLine.{out_of_line};
+
+use crate::read::read_out;
+use crate::told::Told;
+
+/// The line is no line of a record.
+#[derive(Clone, Copy, Debug, PartialEq, Eq)]
+pub struct NoRecordLine;
+
+/// What the line tells, which comes without its line feed: an out, or nothing where it is a comment or says that an event line was
+/// refused before the machine saw it.
+pub fn read_record_line(line: &[u8]) -> Result<Option<Told<'_>>, NoRecordLine>
+    ensures ok { IfOk result (λ told. MatchOption told
+        ((is_passed_over line.now ≡ true) × TellsNothing line.now)
+        (λ told. (is_passed_over line.now ≡ false) × Tells line.now (out_of told))) }
+    ensures refused { IsErr result → (is_passed_over line.now ≡ false) × TellsNothing line.now }
+    ensures read { MatchResult result (λ told. IfSome told (λ told. out_of_line line.now ≡ Some (out_of told))) (λ _. out_of_line line.now ≡ None) }
+{
+    if is_passed_over(line) {
+        return Ok(None);
+    }
+    match read_out(line) {
+        Some(told) => Ok(Some(told)),
+        None => Err(NoRecordLine),
+    }
+}
+
+/// Whether the line is a comment, or says that an event line was refused before the machine saw it. Then it is the text of no out.
+fn is_passed_over(line: &[u8]) -> bool
+    ensures value { result ≡ is_passed_over line.now }
+    ensures nothing { IsTrue result → TellsNothing line.now }
+{
+    is_comment_or_fault(line)
+}
+
+fn is_comment_or_fault(line: &[u8]) -> bool
+    ensures { result ≡ is_passed_over line.now }
+{
+    line.starts_with(b"#") || is_fault_line(line)
+}
+
+/// Whether the line says that an event line was refused.
+fn is_fault_line(line: &[u8]) -> bool
+    ensures { result ≡ is_fault_line line.now }
+{
+    line == b"refused W1".as_slice()
+        || line == b"refused W2".as_slice()
+        || line == b"refused W3".as_slice()
+        || line == b"refused W4".as_slice()
+        || line == b"refused W5".as_slice()
+        || line == b"refused W6".as_slice()
+}

@@ -1,0 +1,195 @@
+//! Single words of a record.
+ghost use Rattle.std.specs.Prelude.{◌≡◌, ◌==◌, true, false, length, nat_le, Some, None, MatchOption};
+ghost use Rattle.std.specs.List.{before_first, after_first, list_all};
+ghost use Rattle.batch_text.specs.PlaceText.{parts};
+ghost use Rattle.batch_text.specs.NumberText.{number_of};
+ghost use Rattle.batch_record.specs.RecordLine.{is_plain_number, is_plain_child, is_plain_place, is_plain_units, has_plain_front, need_of, state_of};
+ghost use Rattle.batch_wire.specs.EventLine.{is_number, command_of, word_of_report};
+ghost use Rattle.batch_record.specs.Reading.{need_told};
+
+use batch_matrix::{Command, Report, State};
+use batch_text::{MAX_CHILD_NUMBER, MAX_PLACE_LEN, is_name};
+
+/// The number that the word is, with no zero before another digit.
+pub fn plain_number(word: &[u8]) -> Option<u64>
+    ensures { MatchOption result (is_plain_number word.now ≡ false)
+        (λ number. (is_plain_number word.now ≡ true) × (number ≡ number_of word.now)) }
+{
+    if has_plain_front(word) {
+        any_number(word)
+    } else {
+        None
+    }
+}
+
+fn any_number(word: &[u8]) -> Option<u64>
+    ensures { MatchOption result (is_number word.now ≡ false)
+        (λ number. (is_number word.now ≡ true) × (number ≡ number_of word.now)) }
+{
+    match batch_text::read_number(word, u64::MAX) {
+        Ok(number) => Some(number),
+        Err(_) => None,
+    }
+}
+
+fn has_plain_front(word: &[u8]) -> bool
+    ensures { result ≡ has_plain_front word.now }
+{
+    match word {
+        [b'0', _, ..] => false,
+        _ => true,
+    }
+}
+
+/// Whether the word is a place, each number with no zero before another digit.
+pub fn is_plain_place(word: &[u8]) -> bool
+    ensures { result ≡ is_plain_place word.now }
+{
+    are_plain_children(word) && has_few_parts(word)
+}
+
+fn are_plain_children(word: &[u8]) -> bool
+    ensures { result ≡ list_all is_plain_child (parts word.now) }
+{
+    word.split(|byte| *byte == b'.')
+        .all(|part| is_plain_child(part))
+}
+
+fn has_few_parts(word: &[u8]) -> bool
+    ensures { result ≡ nat_le (length (parts word.now)) 100 }
+{
+    word.split(|byte| *byte == b'.').count() <= MAX_PLACE_LEN
+}
+
+fn is_plain_child(part: &[u8]) -> bool
+    ensures { result ≡ is_plain_child part.now }
+{
+    match plain_number(part) {
+        Some(number) => number <= u64::from(MAX_CHILD_NUMBER),
+        None => false,
+    }
+}
+
+/// What a need asks for: a resource, and how many units of its capacity.
+pub fn read_need(word: &[u8]) -> Option<(&[u8], u32)>
+    ensures { MatchOption result (need_of word.now ≡ None)
+        (λ need. need_of word.now ≡ Some (need_told need.0.now need.1)) }
+{
+    if is_name(word) {
+        return Some((word, 1));
+    }
+    let (resource, units) = parted(word, b'*');
+    let units = read_units(units)?;
+    if is_name(resource) {
+        Some((resource, units))
+    } else {
+        None
+    }
+}
+
+/// More than one unit, as a number.
+fn read_units(word: &[u8]) -> Option<u32>
+    ensures { MatchOption result (is_plain_units word.now ≡ false)
+        (λ units. (is_plain_units word.now ≡ true) × (units ≡ number_of word.now)) }
+{
+    let number = plain_number(word)?;
+    if number > 1 && number <= 4_294_967_295 {
+        Some(number as u32)
+    } else {
+        None
+    }
+}
+
+/// What stands before the first such byte of the word, and what stands behind it.
+pub fn parted(word: &[u8], at: u8) -> (&[u8], &[u8])
+    ensures front { result.0.now ≡ before_first (λ b. b == at) word.now }
+    ensures behind { result.1.now ≡ after_first (λ b. b == at) word.now }
+{
+    for (i, byte) in word.iter().enumerate() {
+        if *byte == at {
+            return (&word[..i], &word[i + 1..]);
+        }
+    }
+    (word, b"")
+}
+
+/// The state that the word names.
+pub fn state_of(word: &[u8]) -> Option<State>
+    ensures { result ≡ state_of word.now }
+{
+    if word == b"idle".as_slice() {
+        Some(State::Idle)
+    } else if word == b"running".as_slice() {
+        Some(State::Running)
+    } else if word == b"pausing".as_slice() {
+        Some(State::Pausing)
+    } else if word == b"paused".as_slice() {
+        Some(State::Paused)
+    } else if word == b"holding".as_slice() {
+        Some(State::Holding)
+    } else if word == b"held".as_slice() {
+        Some(State::Held)
+    } else if word == b"restarting".as_slice() {
+        Some(State::Restarting)
+    } else if word == b"stopping".as_slice() {
+        Some(State::Stopping)
+    } else if word == b"stopped".as_slice() {
+        Some(State::Stopped)
+    } else if word == b"aborting".as_slice() {
+        Some(State::Aborting)
+    } else if word == b"aborted".as_slice() {
+        Some(State::Aborted)
+    } else if word == b"complete".as_slice() {
+        Some(State::Complete)
+    } else {
+        None
+    }
+}
+
+/// The command that the word names.
+pub fn command_of(word: &[u8]) -> Option<Command>
+    ensures { result ≡ command_of word.now }
+{
+    if word == b"start".as_slice() {
+        Some(Command::Start)
+    } else if word == b"pause".as_slice() {
+        Some(Command::Pause)
+    } else if word == b"resume".as_slice() {
+        Some(Command::Resume)
+    } else if word == b"hold".as_slice() {
+        Some(Command::Hold)
+    } else if word == b"restart".as_slice() {
+        Some(Command::Restart)
+    } else if word == b"stop".as_slice() {
+        Some(Command::Stop)
+    } else if word == b"abort".as_slice() {
+        Some(Command::Abort)
+    } else if word == b"reset".as_slice() {
+        Some(Command::Reset)
+    } else {
+        None
+    }
+}
+
+/// The report that the word names.
+pub fn word_of_report(word: &[u8]) -> Option<Report>
+    ensures { result ≡ word_of_report word.now }
+{
+    if word == b"done".as_slice() {
+        Some(Report::Done)
+    } else if word == b"paused".as_slice() {
+        Some(Report::Paused)
+    } else if word == b"held".as_slice() {
+        Some(Report::Held)
+    } else if word == b"running".as_slice() {
+        Some(Report::Running)
+    } else if word == b"stopped".as_slice() {
+        Some(Report::Stopped)
+    } else if word == b"aborted".as_slice() {
+        Some(Report::Aborted)
+    } else if word == b"fault".as_slice() {
+        Some(Report::Fault)
+    } else {
+        None
+    }
+}
