@@ -26,3 +26,4 @@ pub mod Along
 pub mod Sets
 pub mod Roles
 pub mod Candidates
+pub mod Replays

@@ -5,3 +5,4 @@ pub mod Telling
 pub mod Ways
 pub mod Sets
 pub mod Once
+pub mod Replays

@@ -6,6 +6,7 @@
 
 ghost use Rattle.batch_laws.specs.Candidates.{CandidatesSuffice};
 ghost use Rattle.batch_laws.specs.Procedures.{RecipesAreProcedures, TreesAreProcedures};
+ghost use Rattle.batch_laws.specs.Replays.{ReplaysAgree};
 ghost use Rattle.batch_laws.specs.Sets.{SetsAreDocuments};
 ghost use Rattle.batch_laws.specs.Telling.{TellsThePlant};
 ghost use Rattle.batch_laws.specs.Ways.{WaysRise};
@@ -37,4 +38,10 @@ pub fn sets_are_documents()
 /// by itself: a path has one unit procedure.
 pub fn candidates_suffice()
     ensures { CandidatesSuffice }
+{}
+
+/// Two runs of the same events, settled after each, of which none was refused for want of memory, tell the same and come to the same
+/// plant: the record is a function of the events.
+pub fn replays_agree()
+    ensures { ReplaysAgree }
 {}

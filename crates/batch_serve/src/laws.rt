@@ -1,4 +1,5 @@
 //! Laws of transcripts. Nothing runs here: the contracts are the laws.
+ghost use Rattle.batch_serve.specs.Replays.{NoWantIsWell, ServingAgrees, ToldIsRecovered};
 ghost use Rattle.batch_serve.specs.RowsOfUnfinished.{UnfinishedRows};
 ghost use Rattle.batch_serve.specs.Safe.{TranscriptsAreSafe, TranscriptsLeaveNobodyInVain};
 ghost use Rattle.batch_serve.specs.Settled.{TranscriptsSettle};
@@ -29,4 +30,20 @@ pub fn transcripts_settle()
 /// In which states a batch counts among those that are neither complete, stopped nor aborted.
 pub fn unfinished_rows()
     ensures { UnfinishedRows }
+{}
+
+/// The same lines, served twice with memory for each event, come to the same text and the same plant: the record is a function of
+/// the lines.
+pub fn serving_agrees()
+    ensures { ServingAgrees }
+{}
+
+/// A transcript whose text shows neither `refused E11` nor `refused W6` had memory for each of its lines.
+pub fn no_want_is_well()
+    ensures { NoWantIsWell }
+{}
+
+/// Whatever was told of lines in two lives of a plant is told again by a replay of lines that begin with them.
+pub fn told_is_recovered()
+    ensures { ToldIsRecovered }
 {}

@@ -11,7 +11,8 @@ mod set;
 
 pub use fault::{ServeFault, SetFault};
 pub use laws::{
-    transcripts_are_safe, transcripts_leave_nobody_in_vain, transcripts_settle, unfinished_rows,
+    no_want_is_well, serving_agrees, told_is_recovered, transcripts_are_safe,
+    transcripts_leave_nobody_in_vain, transcripts_settle, unfinished_rows,
 };
 pub use limits::piece_limit_is_fixed;
 pub use serving::serve;

@@ -4,6 +4,7 @@ ghost use Rattle.std.specs.Io.KnownBytes.{Keeps, IsAtEnd};
 ghost use Rattle.batch_engine.specs.View.{setup, plant_of};
 ghost use Rattle.batch_serve.specs.Safe.{TranscriptsAreSafe};
 ghost use Rattle.batch_serve.specs.Answering.{WritesAnswer};
+ghost use Rattle.batch_serve.specs.Cut.{BeginsLinesRead};
 ghost use Rattle.batch_serve.specs.Serving.{EndsLine, Feeds, Finishes, HasNoFeed};
 ghost use Rattle.batch_serve.specs.Settled.{IsSettledEngine};
 ghost use Rattle.batch_serve.specs.declared.line_buffer.TheConstants.{KEPT};
@@ -50,6 +51,8 @@ pub fn serve<R: Read, W: Write>(
     ensures reads_made { IsErrOf result ServeFault.TooManyReads → IfSome (R.remaining reader.old) (λ input. max_reads ≤ length input) }
     ensures write_fault { IsErrOf result ServeFault.Write → IfSome (R.remaining reader.old) (λ input.
         (n : ℕ) × BeginsTranscript (setup engine.old.cleared) (plant_of engine.old) (take n (lines_of input)) (W.contents writer.old) (W.contents writer.new)) }
+    ensures write_fault_read { IsErrOf result ServeFault.Write → BeginsLinesRead (setup engine.old.cleared) (plant_of engine.old)
+        (R.remaining reader.old) (R.remaining reader.new) (W.contents writer.old) (W.contents writer.new) }
     ensures settled { (IsErrOf result ServeFault.Write → ⊥) → IsSettledEngine engine.old → IsSettledEngine engine.new }
     // So the outs of all these transcripts are a safe record, where the engine was a new one.
     ensures safe { TranscriptsAreSafe engine.old.cleared }

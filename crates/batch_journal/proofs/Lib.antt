@@ -1,0 +1,14 @@
+mod LineLemmas
+mod MomentLemmas
+mod CrashLemmas
+mod WholeEnd
+mod MemoryLemmas
+mod WindowLemmas
+mod GroupLemmas
+mod JournalLemmas
+mod TakeLemmas
+mod RecoveryLemmas
+mod ClosingLemmas
+mod SumLemmas
+mod WritingLemmas
+mod ReaderLemmas

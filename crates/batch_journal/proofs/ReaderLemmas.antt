@@ -1,0 +1,220 @@
+-- A reader that journals: what stays so at each of its steps.
+use Rattle.std.proofs.Common.{◌≡◌, ◌⊎◌, ◌^◌, ℕ, zero, suc, ◌+◌, ◌-◌, ◌≤◌, ◌<◌, length-append, List, [], ◌∷◌, ◌++◌, length, take, drop, take-append-drop, Option, Some, None, refl, sym, ◌∙◌, ap, subst, arith, append_assoc, inl, inr, ⊎_elim, Bool, ◌≢◌, min, true, false, ◌==◌}
+use Rattle.std.proofs.lemmas.List.{append-nil, take_at, length-drop, length-take, length-take-le}
+use Rattle.std.specs.Io.KnownBytes.{prepend_known, Keeps, Consumes}
+use lib.Seq.{take-add}
+use Rattle.batch_journal.specs.Lines.{AreLines, IsLine, text_of, whole_lines}
+use Rattle.batch_journal.specs.Disks.{Left, MayLeave, Elapses}
+use Rattle.batch_journal.specs.Readers.{IsKept, StartsText, Recalls, HasRecalled, IsAccounted, LinesBegin}
+use Rattle.batch_journal.specs.Groups.{AreOthers, taken}
+use Rattle.batch_journal.specs.Journals.{journal_format, next_sum, recovered, IsJournal}
+use Rattle.batch_journal.specs.Writing.{closing_line, group_text, MayKeep}
+use Rattle.batch_journal.proofs.LineLemmas.{reads_all, text_both, lines_both, are_whole_lines, whole_text, whole_both}
+use Rattle.batch_journal.proofs.SumLemmas.{closing_is_line, closing_is_own, closing_closes}
+use Rattle.batch_journal.proofs.JournalLemmas.{recovered_behind, journal_with, recovered_with, are_recovered, lines_of_text, lines_behind}
+
+-- Crashes
+
+pub starts : (front text rest : List ℕ) → text ≡ front ++ rest → StartsText front text
+starts front text rest is = ap (take (length front)) is ∙ take_at front rest (length front) refl
+
+-- what was given by then is in it
+pub recalls : (documents base durable seen given rest sum : List ℕ) (left : Left) → IsJournal documents durable sum → text_of (recovered documents durable) ≡ base ++ (given ++ rest)
+    → MayLeave durable seen given left → Recalls documents base left
+recalls documents base durable seen given rest sum left journal is may =
+    let behind = taken journal_format sum [] (whole_lines may.disk.tail) in
+    let more = text_of behind in
+    let r = may.output.rest in
+    starts (base ++ left.given) (text_of (recovered documents left.file)) (r ++ (rest ++ more))
+    (ap (λ l. text_of (recovered documents l)) may.disk.leaves ∙ ap text_of (recovered_behind documents durable sum may.disk.tail journal)
+    ∙ text_both (recovered documents durable) behind
+    ∙ ap (λ l. l ++ more) is
+    ∙ ap (λ l. (base ++ (l ++ rest)) ++ more) may.output.splits
+    ∙ append_assoc base ((left.given ++ r) ++ rest) more
+    ∙ ap (λ l. base ++ l) (append_assoc (left.given ++ r) rest more ∙ append_assoc left.given r (rest ++ more))
+    ∙ sym (append_assoc base left.given (r ++ (rest ++ more))))
+
+-- one call more
+pub recalled_on : (documents base : List ℕ) (since before now : ℕ) (past later : ℕ → Left → Type 0) (may : Left → Type 0)
+    → HasRecalled documents base since before past → Elapses before now past later may → ((left : Left) → may left → Recalls documents base left)
+    → HasRecalled documents base since now later
+recalled_on documents base since before now past later may has time here = record {
+  later = omega (arith, has.later, time.later);
+  each = λ left had. ⊎_elim (has.each left) (here left) (time.nothing_else since left has.later had);
+}
+
+-- What is ready
+
+pub none_of : (n : ℕ) (l : List ℕ) → n ≡ 0 → take n l ≡ []
+none_of n l is = ap (λ k. take k l) is
+
+pub kept_ready : (documents base durable seen given ready other sum : List ℕ) → ready ≡ other
+    → IsKept documents base durable seen given ready sum → IsKept documents base durable seen given other sum
+kept_ready documents base durable seen given ready other sum same kept = subst (λ l. IsKept documents base durable seen given l sum) same kept
+
+-- after a group is written
+pub kept_more : (documents base durable seen given sum lines next new_durable new_seen new_given : List ℕ) (milliseconds : ℕ) → IsKept documents base durable seen given [] sum
+    → lines ≡ text_of (whole_lines lines) → AreOthers journal_format (whole_lines lines) → next ≡ next_sum sum lines
+    → new_seen ≡ seen ++ group_text lines next milliseconds → new_durable ≡ new_seen → new_given ≡ given
+    → IsLine (closing_line next milliseconds) → journal_format.own (closing_line next milliseconds) ≡ true
+    → journal_format.closes next (closing_line next milliseconds) ≡ true
+    → IsKept documents base new_durable new_seen new_given lines next
+kept_more documents base durable seen given sum lines next new_durable new_seen new_given milliseconds kept is others next_is is_seen is_durable is_given is_line own closes =
+    let closing = closing_line next milliseconds in
+    let found = whole_lines lines in
+    let are = are_whole_lines lines in
+    let closes_so : journal_format.closes (next_sum sum lines) closing ≡ true = subst (λ s. journal_format.closes s closing ≡ true) next_is closes in
+    let journal = journal_with documents seen sum lines closing found kept.journal is are others is_line own closes_so in
+    let held = recovered_with documents seen sum lines closing found kept.journal is are others is_line own closes_so in
+    record {
+      journal = subst (λ f. IsJournal documents f next) (sym is_seen) (subst (λ s. IsJournal documents (seen ++ (lines ++ (closing ++ 10 ∷ []))) s) (sym next_is) journal);
+      synced = is_durable;
+      holds = ap (λ f. text_of (recovered documents f)) is_seen ∙ ap text_of held ∙ text_both (recovered documents seen) found ∙ ap (λ l. l ++ text_of found) kept.holds
+          ∙ ap (λ l. (base ++ (given ++ [])) ++ l) (sym is) ∙ ap (λ l. (base ++ l) ++ lines) (append-nil given) ∙ append_assoc base given lines
+          ∙ ap (λ l. base ++ (l ++ lines)) (sym is_given);
+    }
+
+pub group_kept : (documents base durable seen given sum bytes items next new_durable new_seen new_given : List ℕ) (end milliseconds : ℕ)
+    → IsKept documents base durable seen given [] sum → bytes ≡ items → take end bytes ≡ text_of (whole_lines bytes)
+    → AreOthers journal_format (whole_lines (take end bytes)) → next ≡ next_sum sum (take end bytes) → IsLine next → milliseconds < 2 ^ 64
+    → new_seen ≡ seen ++ group_text (take end bytes) next milliseconds → new_durable ≡ new_seen → new_given ≡ given
+    → IsKept documents base new_durable new_seen new_given (take end items) next
+group_kept documents base durable seen given sum bytes items next new_durable new_seen new_given end milliseconds kept bytes_are text others next_is is_line fits is_seen is_durable is_given =
+    subst (λ l. IsKept documents base new_durable new_seen new_given (take end l) next) bytes_are
+    (kept_more documents base durable seen given sum (take end bytes) next new_durable new_seen new_given milliseconds kept
+    (whole_text (take end bytes) (whole_lines bytes) (are_whole_lines bytes) text) others next_is is_seen is_durable is_given
+    (closing_is_line next milliseconds is_line fits) (closing_is_own next milliseconds) (closing_closes next milliseconds))
+
+pub part_of : (count ready : ℕ) (l : List ℕ) → count ≤ ready → take ready l ≡ take count l ++ take (ready - count) (drop count l)
+part_of count ready l le =
+    let sum : ready ≡ count + (ready - count) = omega arith in
+    ap (λ n. take n l) sum ∙ take-add count (ready - count) l
+
+-- after some of it is given
+pub kept_given : (documents base durable seen given l sum new_durable new_seen new_given : List ℕ) (count ready : ℕ) → count ≤ ready
+    → IsKept documents base durable seen given (take ready l) sum → new_given ≡ given ++ take count l → new_durable ≡ durable → new_seen ≡ seen
+    → IsKept documents base new_durable new_seen new_given (take (ready - count) (drop count l)) sum
+kept_given documents base durable seen given l sum new_durable new_seen new_given count ready le kept is_given is_durable is_seen = record {
+  journal = subst (λ f. IsJournal documents f sum) (sym is_seen) kept.journal;
+  synced = is_durable ∙ kept.synced ∙ sym is_seen;
+  holds = ap (λ f. text_of (recovered documents f)) is_seen ∙ kept.holds ∙ ap (λ x. base ++ (given ++ x)) (part_of count ready l le)
+      ∙ ap (λ x. base ++ x) (sym (append_assoc given (take count l) (take (ready - count) (drop count l))))
+      ∙ ap (λ x. base ++ (x ++ take (ready - count) (drop count l))) (sym is_given);
+}
+
+-- What is left
+
+pub keeps_more : (items more now : List ℕ) (old new : Option (List ℕ)) → now ≡ items ++ more → Consumes old new more → Keeps (prepend_known items old) (prepend_known now new)
+keeps_more items more now None new is consumes = tt
+keeps_more items more now (Some xs) None is consumes = consumes
+keeps_more items more now (Some xs) (Some ys) is consumes = ap (λ l. l ++ ys) is ∙ append_assoc items more ys ∙ ap (λ l. items ++ l) (sym consumes)
+
+pub keeps_same : (items now : List ℕ) (old new : Option (List ℕ)) → now ≡ items → Keeps old new → Keeps (prepend_known items old) (prepend_known now new)
+keeps_same items now None new is keeps = tt
+keeps_same items now (Some xs) None is keeps = keeps
+keeps_same items now (Some xs) (Some ys) is keeps = ap (λ l. l ++ ys) is ∙ ap (λ l. items ++ l) keeps
+
+account_keeps : (given all : List ℕ) (old new : Option (List ℕ)) → Keeps old new → prepend_known given old ≡ Some all → prepend_known given new ≡ Some all
+account_keeps given all None new keeps is = absurd (cc is)
+account_keeps given all (Some xs) None keeps is = absurd keeps
+account_keeps given all (Some xs) (Some ys) keeps is = ap (λ l. Some (given ++ l)) keeps ∙ is
+
+pub accounted_keeps : (input : Option (List ℕ)) (given now : List ℕ) (old new : Option (List ℕ)) → now ≡ given → Keeps old new → IsAccounted input given old → IsAccounted input now new
+accounted_keeps input given now old new same keeps is = λ all known. ap (λ l. prepend_known l new) same ∙ account_keeps given all old new keeps (is all known)
+
+account_gives : (given items all : List ℕ) (count : ℕ) (known : Option (List ℕ)) → prepend_known given (prepend_known items known) ≡ Some all
+    → prepend_known (given ++ take count items) (prepend_known (drop count items) known) ≡ Some all
+account_gives given items all count None is = absurd (cc is)
+account_gives given items all count (Some xs) is =
+    ap Some (append_assoc given (take count items) (drop count items ++ xs) ∙ ap (λ l. given ++ l) (sym (append_assoc (take count items) (drop count items) xs))
+    ∙ ap (λ l. given ++ (l ++ xs)) (take-append-drop count items)) ∙ is
+
+pub accounted_gives : (input : Option (List ℕ)) (given now items : List ℕ) (count : ℕ) (known : Option (List ℕ)) → now ≡ given ++ take count items
+    → IsAccounted input given (prepend_known items known) → IsAccounted input now (prepend_known (drop count items) known)
+accounted_gives input given now items count known same is = λ all all_known.
+    ap (λ l. prepend_known l (prepend_known (drop count items) known)) same ∙ account_gives given items all count known (is all all_known)
+
+pub gives : (items front : List ℕ) (count : ℕ) (known : Option (List ℕ)) → front ≡ take count items → Consumes (prepend_known items known) (prepend_known (drop count items) known) front
+gives items front count None same = tt
+gives items front count (Some xs) same = ap (λ l. l ++ xs) (sym (take-append-drop count items)) ∙ append_assoc (take count items) (drop count items) xs ∙ ap (λ l. l ++ (drop count items ++ xs)) (sym same)
+
+pub recalls_kept : (documents base durable seen given ready sum any : List ℕ) (left : Left) → IsKept documents base durable seen given ready sum
+    → MayLeave durable any given left → Recalls documents base left
+recalls_kept documents base durable seen given ready sum any left kept may =
+    recalls documents base durable any given ready sum left (subst (λ f. IsJournal documents f sum) (sym kept.synced) kept.journal)
+    (ap (λ f. text_of (recovered documents f)) kept.synced ∙ kept.holds) may
+
+pub not_failed : (failed : Bool) (ready : ℕ) → (failed ≡ true → ready ≡ 0) → ready ≢ 0 → failed ≡ false
+not_failed true ready none some = absurd (some (none refl))
+not_failed false ready none some = refl
+
+pub recalls_given : (documents base durable seen given l sum : List ℕ) (count ready : ℕ) (left : Left) → count ≤ ready
+    → IsKept documents base durable seen given (take ready l) sum → MayLeave durable seen (given ++ take count l) left → Recalls documents base left
+recalls_given documents base durable seen given l sum count ready left le kept may =
+    recalls documents base durable seen (given ++ take count l) (take (ready - count) (drop count l)) sum left
+    (subst (λ f. IsJournal documents f sum) (sym kept.synced) kept.journal)
+    (ap (λ f. text_of (recovered documents f)) kept.synced ∙ kept.holds ∙ ap (λ x. base ++ (given ++ x)) (part_of count ready l le)
+    ∙ ap (λ x. base ++ x) (sym (append_assoc given (take count l) (take (ready - count) (drop count l)))))
+    may
+
+pub keeps_itself : (known : Option (List ℕ)) → Keeps known known
+keeps_itself None = tt
+keeps_itself (Some xs) = refl
+
+pub least_left : (count ready : ℕ) (l rest : List ℕ) → ready ≤ length l → rest ≡ drop count l → ready - count ≤ length rest
+least_left count ready l rest within is = omega (arith, within, ap length is, length-drop count l)
+
+pub accounted_as : (input : Option (List ℕ)) (given l rest : List ℕ) (known : Option (List ℕ)) → rest ≡ l
+    → IsAccounted input given (prepend_known l known) → IsAccounted input given (prepend_known rest known)
+accounted_as input given l rest known is has = subst (λ x. IsAccounted input given (prepend_known x known)) (sym is) has
+
+pub least_within : (count a b : ℕ) → count ≡ min a b → count ≤ b
+least_within count a b is = omega (arith, is)
+
+pub gives_front : (items rest put buf : List ℕ) (count : ℕ) (known : Option (List ℕ)) → count ≤ length items → put ≡ take count items → rest ≡ drop count items
+    → Consumes (prepend_known items known) (prepend_known rest known) (take count (put ++ drop count buf))
+gives_front items rest put buf count known le is_put is_rest =
+    let size : length put ≡ count = ap length is_put ∙ length-take-le count items le in
+    subst (λ l. Consumes (prepend_known items known) (prepend_known l known) (take count (put ++ drop count buf))) (sym is_rest)
+    (gives items (take count (put ++ drop count buf)) count known (take_at put (drop count buf) count size ∙ is_put))
+
+pub no_room : (items put buf : List ℕ) (count ready : ℕ) → ready ≢ 0 → count ≡ min (length buf) ready → put ≡ take count items → count ≡ 0 → 0 < length (put ++ drop count buf) → ⊥
+no_room items put buf count ready some least is_put none room =
+    let short : length put ≤ count = omega (arith, ap length is_put, length-take count items) in
+    omega (arith, some, least, none, short, room, length-append put (drop count buf), length-drop count buf)
+
+-- at the beginning
+pub began_now : (documents base : List ℕ) (since moment : ℕ) (left_since : ℕ → Left → Type 0) → since ≡ moment
+    → ((left : Left) → left_since moment left → Recalls documents base left) → HasRecalled documents base since moment left_since
+began_now documents base since moment left_since now each = record { later = omega (arith, now); each = λ left had. each left (subst (λ t. left_since t left) now had) }
+
+prepend_none : (known : Option (List ℕ)) → prepend_known [] known ≡ known
+prepend_none None = refl
+prepend_none (Some xs) = refl
+
+pub accounted_new : (input : Option (List ℕ)) (given none : List ℕ) (known : Option (List ℕ)) → none ≡ []
+    → IsAccounted input given known → IsAccounted input given (prepend_known none known)
+accounted_new input given none known is has = subst (λ x. IsAccounted input given x) (sym (ap (λ l. prepend_known l known) is ∙ prepend_none known)) has
+
+pub whole_as : (given now : List ℕ) → now ≡ given → given ≡ text_of (whole_lines given) → now ≡ text_of (whole_lines now)
+whole_as given now same whole = subst (λ l. l ≡ text_of (whole_lines l)) (sym same) whole
+
+pub part_within : (count fits : ℕ) (l : List ℕ) → count ≤ length (take fits l) → count ≤ fits
+part_within count fits l le = omega (arith, le, length-take fits l)
+
+pub least_above : (count fits a b : ℕ) → count ≤ fits → fits ≡ min a b → count ≤ b
+least_above count fits a b le is = omega (arith, le, is)
+
+pub take_less : (count fits : ℕ) (l : List ℕ) → count ≤ fits → take count l ≡ take count (take fits l)
+take_less zero fits l le = refl
+take_less (suc count) zero l le = absurd (omega (arith, le))
+take_less (suc count) (suc fits) [] le = refl
+take_less (suc count) (suc fits) (x ∷ l) le = ap (λ t. x ∷ t) (take_less count fits l (omega (arith, le)))
+
+pub lines_first : LinesBegin
+lines_first documents front file are starts_so =
+    let found = recovered documents file in
+    let text = text_of found in
+    let rest = drop (length (text_of front)) text in
+    let split : text ≡ text_of front ++ rest = sym (take-append-drop (length (text_of front)) text) ∙ ap (λ l. l ++ rest) starts_so in
+    (whole_lines rest, sym (lines_of_text found (are_recovered documents file)) ∙ ap whole_lines split ∙ lines_behind front rest are)

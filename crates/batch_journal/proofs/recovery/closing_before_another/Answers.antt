@@ -1,0 +1,69 @@
+use Rattle.std.proofs.Common.{rules, ◌≡◌, ◌+◌, ◌-◌, ◌<◌, ◌++◌, ◌∷◌, [], true, false, IsSome, is_some, length, length-append, take, drop, slice_range, refl, sym, ◌∙◌, ap, subst, arith}
+use Rattle.std.proofs.lemmas.List.{length-drop}
+use Rattle.batch_journal.specs.Journals.{journal_format}
+use Rattle.batch_journal.proofs.TakeLemmas.{line_at, to_end}
+use Rattle.batch_journal.proofs.RecoveryLemmas.{not_both}
+use Rattle.batch_journal.proofs.ClosingLemmas.{NoFeedBefore, EndsThere, ends_there, line_more, two_closings, few_closings, closings_both, one_closing, no_closing, count_some, count_none}
+use Rattle.batch_journal.proofs.recovery.closing_before_another.Goals as goal
+
+pub returns : goal.returns
+returns c =
+    let so_far = c.loop-len.invariant in
+    let bytes = c.args.bytes.now in
+    let at = c.loop-len.at in
+    let none : NoFeedBefore (length (drop at bytes)) (drop at bytes) =
+    subst (λ l. NoFeedBefore (length l) l) (to_end bytes at) (λ k lt is. c.in_default.ensures k (omega arith) lt is) in
+    record {
+      found = (λ is. absurd (not_both false is refl), λ lt. absurd (few_closings bytes (drop at bytes) so_far.looked c.loop-len.first so_far.splits none so_far.counts lt));
+      within = tt;
+    }
+
+pub loop-len-preserved-then-not-is_closing : goal.loop-len-preserved-then-not-is_closing
+loop-len-preserved-then-not-is_closing c =
+    let so_far = c.loop-len.invariant in
+    let bytes = c.args.bytes.now in
+    let at = c.loop-len.at in
+    let len = c.in-Some.len in
+    let line = take len (drop at bytes) in
+    let found = c.in-Some.ensures in
+    let ends : EndsThere len (drop at bytes) = ends_there (take (length bytes - at) (drop at bytes)) (drop at bytes) len (to_end bytes at) (λ k lt is. found.0.before k (omega arith) lt is) found.0.high found.1 in
+    let other : journal_format.own line ≡ false = ap journal_format.own (sym (line_at bytes at len)) ∙ sym c.is_closing.ensures ∙ c.if-not-is_closing.true in
+    record {
+      within = omega (arith, so_far.within, ends.within, length-drop at bytes);
+      looked = so_far.looked ++ line ∷ [];
+      splits = line_more bytes at len so_far.looked so_far.splits ends.none ends.within ends.feed;
+      found = so_far.found;
+      counts = omega (arith, closings_both so_far.looked (line ∷ []), so_far.counts, no_closing line other);
+    }
+
+pub returns-then-is_some-clause-found : goal.returns-then-is_some-clause-found
+returns-then-is_some-clause-found c =
+    let so_far = c.loop-len.invariant in
+    let bytes = c.args.bytes.now in
+    let at = c.loop-len.at in
+    let len = c.in-Some.len in
+    let line = take len (drop at bytes) in
+    let found = c.in-Some.ensures in
+    let ends : EndsThere len (drop at bytes) = ends_there (take (length bytes - at) (drop at bytes)) (drop at bytes) len (to_end bytes at) (λ k lt is. found.0.before k (omega arith) lt is) found.0.high found.1 in
+    let own : journal_format.own line ≡ true = ap journal_format.own (sym (line_at bytes at len)) ∙ sym c.is_closing.ensures ∙ c.if-not-is_closing.false in
+    let some : IsSome c.loop-len.first = search rules in
+    (λ is. two_closings bytes at len so_far.looked so_far.splits ends.none ends.within ends.feed (so_far.counts ∙ count_some c.loop-len.first some) own, λ lt. some)
+
+pub loop-len-preserved : goal.loop-len-preserved
+loop-len-preserved c =
+    let so_far = c.loop-len.invariant in
+    let bytes = c.args.bytes.now in
+    let at = c.loop-len.at in
+    let len = c.in-Some.len in
+    let line = take len (drop at bytes) in
+    let found = c.in-Some.ensures in
+    let ends : EndsThere len (drop at bytes) = ends_there (take (length bytes - at) (drop at bytes)) (drop at bytes) len (to_end bytes at) (λ k lt is. found.0.before k (omega arith) lt is) found.0.high found.1 in
+    let own : journal_format.own line ≡ true = ap journal_format.own (sym (line_at bytes at len)) ∙ sym c.is_closing.ensures ∙ c.if-not-is_closing.false in
+    let none : is_some c.loop-len.first ≡ false = search rules in
+    record {
+      within = omega (arith, so_far.within, ends.within, length-drop at bytes);
+      looked = so_far.looked ++ line ∷ [];
+      splits = line_more bytes at len so_far.looked so_far.splits ends.none ends.within ends.feed;
+      found = so_far.within;
+      counts = omega (arith, closings_both so_far.looked (line ∷ []), so_far.counts, count_none c.loop-len.first none, one_closing line own);
+    }

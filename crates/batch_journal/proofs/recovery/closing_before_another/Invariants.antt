@@ -1,0 +1,16 @@
+use Rattle.std.proofs.Common.{◌≡◌, ℕ, ◌-◌, ◌≤◌, List, [], ◌++◌, length, drop, IfSome}
+use Rattle.batch_journal.specs.Lines.{whole_from}
+use Rattle.batch_journal.proofs.ClosingLemmas.{closings, found_count}
+use Rattle.batch_journal.proofs.recovery.closing_before_another.Given as goal
+
+abbrev pub invariant-loop-len : goal.invariant-loop-len
+invariant-loop-len l = record {
+  within : l.at ≤ length l.bytes;
+  looked : List (List ℕ);
+  splits : whole_from [] l.bytes ≡ looked ++ whole_from [] (drop l.at l.bytes);
+  found : IfSome l.first (λ p. p ≤ length l.bytes);
+  counts : closings looked ≡ found_count l.first;
+}
+
+abbrev pub decreases-loop-len : goal.decreases-loop-len
+decreases-loop-len l = length l.bytes - l.at

@@ -1,0 +1,10 @@
+pub mod Lines
+pub mod Ends
+pub mod Disks
+pub mod Past
+pub mod Windows
+pub mod Groups
+pub mod Journals
+pub mod Writing
+pub mod Recovery
+pub mod Readers

@@ -1,0 +1,39 @@
+-- surface: what a reader keeps whose lines are journalled before it gives them. Each is a fact with one proof at most, so that a struct can keep it.
+use Rattle.std.specs.Prelude.{◌≡◌, ℕ, ◌≤◌, List, ◌++◌, length, take, Option, Some}
+use Rattle.std.specs.Io.KnownBytes.{prepend_known}
+use Rattle.batch_journal.specs.Lines.{AreLines, text_of, whole_lines}
+use Rattle.batch_journal.specs.Disks.{Left}
+use Rattle.batch_journal.specs.Journals.{recovered, IsJournal}
+
+-- all of the file is a synced journal: its lines are those from before, those given, and those ready to be given
+pub record IsKept (documents base durable seen given ready sum : List ℕ) : Type 0 where
+  pub journal : IsJournal documents seen sum
+  pub synced : durable ≡ seen
+  pub holds : text_of (recovered documents seen) ≡ base ++ (given ++ ready)
+
+-- whole lines alone
+abbrev pub IsWhole : List ℕ → Type 0
+IsWhole text = text ≡ text_of (whole_lines text)
+
+-- one text begins the other
+abbrev pub StartsText : List ℕ → List ℕ → Type 0
+StartsText front text = take (length front) text ≡ front
+
+-- the lines that a crash leaves begin with those from before and all that was given by then
+abbrev pub Recalls : List ℕ → List ℕ → Left → Type 0
+Recalls documents base left = StartsText (base ++ left.given) (text_of (recovered documents left.file))
+
+-- a crash at any moment since that one does so
+pub record HasRecalled (documents base : List ℕ) (since moment : ℕ) (left_since : ℕ → Left → Type 0) : Type 0 where
+  pub later : since ≤ moment
+  pub each : (left : Left) → left_since since left → Recalls documents base left
+
+-- where the input was known, it is the bytes given and those left
+abbrev pub IsAccounted : Option (List ℕ) → List ℕ → Option (List ℕ) → Type 0
+IsAccounted input given unread = (all : List ℕ) → input ≡ Some all → prepend_known given unread ≡ Some all
+
+-- where the text of the lines that a file stands for begins with the text of lines, these lines are its first
+abbrev pub LinesBegin : Type 0
+LinesBegin =
+    (documents : List ℕ) (front : List (List ℕ)) (file : List ℕ) → AreLines front → StartsText (text_of front) (text_of (recovered documents file))
+    → (more : List (List ℕ)) × (recovered documents file ≡ front ++ more)

@@ -1,0 +1,50 @@
+-- surface: what recovery finds in a file, and why it refuses one.
+use Rattle.std.specs.Prelude.{◌≡◌, ℕ, ◌≤◌, ◌<◌, List, [], length, take, drop, filter, ⊤, false, true, codes, nat_eq, slice_index, ◌==◌}
+use Rattle.std.specs.List.{starts_with}
+use Rattle.batch_journal.specs.Lines.{whole_from, whole_lines}
+use Rattle.batch_journal.specs.Groups.{taken}
+use Rattle.batch_journal.specs.Journals.{header, journal_format, IsClosed, IsJournal}
+use Rattle.batch_journal.specs.declared.recovery.RecoveryFault.{RecoveryFault}
+use Rattle.batch_journal.specs.declared.recovery.RecoveryFault.TheVariants.{Disk, NoJournal, OtherDocuments, Damaged}
+
+-- the groups up to there are whole, with this last sum, and none of the text behind is taken
+pub record IsTakenTo (documents groups : List ℕ) (end : ℕ) (sum : List ℕ) : Type 0 where
+  pub within : end ≤ length groups
+  pub closed : IsClosed documents (take end groups) sum
+  pub no_more : taken journal_format sum [] (whole_lines (drop end groups)) ≡ []
+
+-- how many lines of a text close a group, whatever their sums, and whatever stands in them
+abbrev pub closing_count : List ℕ → ℕ
+closing_count text = length (filter journal_format.own (whole_from [] text))
+
+-- a journal up to there, behind which stands at most one closing line: what a crash may leave
+pub record StandsTo (documents file : List ℕ) (end : ℕ) (sum : List ℕ) : Type 0 where
+  pub within : end ≤ length file
+  pub journal : IsJournal documents (take end file) sum
+  pub no_more : taken journal_format sum [] (whole_lines (drop end file)) ≡ []
+  pub few : closing_count (drop end file) ≤ 1
+
+-- a group isn't taken, and another one follows it
+pub record IsDamaged (documents file : List ℕ) : Type 0 where
+  pub end : ℕ
+  pub sum : List ℕ
+  pub journal : IsJournal documents (take end file) sum
+  pub no_more : taken journal_format sum [] (whole_lines (drop end file)) ≡ []
+  pub many : 1 < closing_count (drop end file)
+
+-- why a file is refused
+abbrev pub IsRefusedFor : List ℕ → List ℕ → RecoveryFault → Type 0
+IsRefusedFor documents file (Disk fault) = ⊤
+IsRefusedFor documents file NoJournal = starts_with nat_eq file (codes "# batchd journal 1 ") ≡ false
+IsRefusedFor documents file OtherDocuments = (starts_with nat_eq file (codes "# batchd journal 1 ") ≡ true) × (starts_with nat_eq file (header documents) ≡ false)
+IsRefusedFor documents file (Damaged line) = IsDamaged documents file
+
+-- the text is all of the file, synced, and a journal
+pub record AreRests (documents text sum durable seen : List ℕ) : Type 0 where
+  pub journal : IsJournal documents text sum
+  pub seen_is : seen ≡ text
+  pub synced : durable ≡ seen
+
+-- no line ends in the text
+abbrev pub HasNoFeed : List ℕ → Type 0
+HasNoFeed text = (k : ℕ) → k < length text → (slice_index text k == 10) ≡ true → ⊥

@@ -1,0 +1,23 @@
+//! Laws of groups and lines. Nothing runs here: the contracts are the laws.
+ghost use Rattle.batch_journal.specs.Groups.{GroupsGoOn, GroupIsTaken, TornIsLeft};
+ghost use Rattle.batch_journal.specs.Readers.{LinesBegin};
+
+/// Behind groups that are taken others are taken as by themselves, whatever the sums are.
+pub fn groups_go_on()
+    ensures { GroupsGoOn }
+{}
+
+/// A group that was written is taken whole.
+pub fn group_is_taken()
+    ensures { GroupIsTaken }
+{}
+
+/// Lines whose group isn't closed are left.
+pub fn torn_is_left()
+    ensures { TornIsLeft }
+{}
+
+/// Where the text of a file's lines begins with that of some lines, they are the first that recovery gives.
+pub fn lines_begin()
+    ensures { LinesBegin }
+{}

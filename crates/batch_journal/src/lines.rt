@@ -1,0 +1,52 @@
+//! Whole lines of a text, before its first zero byte.
+ghost use Rattle.std.specs.Prelude.{◌≡◌, ◌≤◌, [], length, take, drop, IsFalse, MatchOption};
+ghost use Rattle.batch_journal.specs.Groups.{AreOthers};
+ghost use Rattle.batch_journal.specs.Journals.{journal_format};
+ghost use Rattle.batch_journal.specs.Lines.{AreLines, text_of, until_zero, whole_from, whole_lines};
+ghost use Rattle.batch_journal.specs.Ends.{EndsLine};
+
+use memchr::memchr2;
+
+/// Where the first line ends, where a line feed ends it and no zero byte stands before that.
+pub(crate) fn next_line(bytes: &[u8]) -> Option<usize>
+    ensures { MatchOption result (whole_lines bytes.now ≡ []) (λ at. EndsLine at bytes.now) }
+{
+    match memchr2(0, b'\n', bytes) {
+        Some(at) if bytes[at] == b'\n' => Some(at),
+        _ => None,
+    }
+}
+
+/// Where the whole lines before the first zero end.
+pub(crate) fn end_of(bytes: &[u8]) -> usize
+    ensures within { result ≤ length bytes.now }
+    ensures text { take result bytes.now ≡ text_of (whole_lines bytes.now) }
+    ensures rest { whole_from [] (until_zero (drop result bytes.now)) ≡ [] }
+    ensures lines { AreLines (whole_lines bytes.now) }
+{
+    let mut end = 0;
+    for i in 0..bytes.len() {
+        if bytes[i] == 0 {
+            return end;
+        }
+        if bytes[i] == 10 {
+            end = i + 1;
+            continue;
+        }
+    }
+    end
+}
+
+/// Whether a whole line begins with `#`, as those do that a journal has for itself.
+pub(crate) fn has_comment(text: &[u8]) -> bool
+    ensures { IsFalse result → AreOthers journal_format (whole_lines text.now) }
+{
+    let mut rest = text;
+    while let Some(at) = next_line(rest) {
+        if rest[0] == b'#' {
+            return true;
+        }
+        rest = &rest[at + 1..];
+    }
+    false
+}

@@ -1,0 +1,252 @@
+//! Recovery: the groups of a journal whose end a crash may have torn.
+ghost use Rattle.std.specs.Prelude.{◌≡◌, ◌⊎◌, ◌≤◌, ◌<◌, [], None, false, length, IfOk, IfErr, IsTrue, IsSome, IfSome, MatchOption, ◌↔◌, nat_eq};
+ghost use Rattle.std.specs.List.{starts_with};
+ghost use Rattle.batch_journal.specs.Disks.{LeavesOnly};
+ghost use Rattle.batch_journal.specs.Journals.{header, recovered, sum_text};
+ghost use Rattle.batch_journal.specs.Recovery.{HasNoFeed, IsRefusedFor, IsTakenTo, StandsTo, AreRests, closing_count};
+
+use crate::disk::{Disk, DiskError};
+use crate::group::{closes, is_closing};
+use crate::lines::next_line;
+use crate::sum::Sum;
+use memchr::memchr;
+use std::alloc::Global;
+use thiserror::Error;
+
+/// Why a file wasn't recovered. It stays as it is.
+#[derive(Clone, Copy, Debug, PartialEq, Eq, Error)]
+pub enum RecoveryFault {
+    /// A call of the disk failed, or there was no memory for the bytes.
+    #[error("{0}")]
+    Disk(DiskError),
+    /// The file is no journal.
+    #[error("the file is no journal")]
+    NoJournal,
+    /// It is a journal of other documents.
+    #[error("it is a journal of other documents")]
+    OtherDocuments,
+    /// A group is damaged, and others follow it: the line that closes it, counted from 1.
+    #[error("the group that line {0} closes is damaged")]
+    Damaged(usize),
+}
+
+impl From<DiskError> for RecoveryFault {
+    ghost use Rattle.batch_journal.specs.declared.recovery.RecoveryFault.TheVariants as faults;
+
+    ghost from_gives = { λ disk fault. fault ≡ faults.Disk disk };
+
+    fn from(fault: DiskError) -> RecoveryFault {
+        RecoveryFault::Disk(fault)
+    }
+}
+
+/// A journal after recovery.
+#[derive(Drop)]
+pub struct Recovered {
+    /// The bytes of the file: its header and its groups, with the lines that close them.
+    pub text: Vec<u8>,
+    /// The sum of the last group.
+    pub sum: Sum,
+    /// How many bytes were cut off behind the last group.
+    pub cut: usize,
+}
+
+/// How far the groups of a text are whole, with the sum of the last.
+#[derive(Clone, Copy)]
+pub(crate) struct Taken {
+    pub(crate) end: usize,
+    pub(crate) sum: Sum,
+}
+
+/// Reads the journal of these documents, given by the 64 digits of their SHA-256, and cuts off whatever stands behind its last
+/// whole group. A file in which no group was ever synced is begun anew. It may crash in each of its calls too.
+///
+/// # Errors
+///
+/// `NoJournal`, `OtherDocuments` and `Damaged` leave the file as it is. `Disk` comes where a call failed.
+pub fn recover<D: Disk>(
+    alloc: Global,
+    disk: &mut D,
+    documents: &[u8; 64],
+) -> Result<Recovered, RecoveryFault>
+    // After a restart, what is read is what is on the disk.
+    requires { D.is_disk disk.old → D.durable disk.old ≡ D.seen disk.old }
+    ensures lines { D.is_disk disk.new → IfOk result (λ r. recovered documents.now r.text.items ≡ recovered documents.now (D.seen disk.old)) }
+    ensures at_rest { D.is_disk disk.new → IfOk result (λ r. AreRests documents.now r.text.items (sum_text r.sum) (D.durable disk.new) (D.seen disk.new)) }
+    ensures given { D.is_disk disk.new → D.given disk.new ≡ D.given disk.old }
+    ensures refused { D.is_disk disk.new → IfErr result (IsRefusedFor documents.now (D.seen disk.old)) }
+    // A crash at any moment leaves the same lines.
+    ensures any_moment { D.is_disk disk.new → LeavesOnly D.moment D.left_since disk.old disk.new (λ left. recovered documents.now left.file ≡ recovered documents.now (D.seen disk.old)) }
+{
+    let text = disk.read(alloc)?;
+    match standing_of(&text, documents)? {
+        Some(taken) => cut_behind(disk, text, taken, documents),
+        None => begin(disk, text, documents),
+    }
+}
+
+/// Cuts off whatever stands behind the groups taken.
+fn cut_behind<D: Disk>(
+    disk: &mut D,
+    mut text: Vec<u8>,
+    taken: Taken,
+    documents: &[u8; 64],
+) -> Result<Recovered, RecoveryFault>
+    requires synced { D.is_disk disk.old → (D.durable disk.old ≡ D.seen disk.old) × (D.seen disk.old ≡ text.items) }
+    requires stands { StandsTo documents.now text.items taken.end (sum_text taken.sum) }
+    ensures lines { D.is_disk disk.new → IfOk result (λ r. recovered documents.now r.text.items ≡ recovered documents.now (D.seen disk.old)) }
+    ensures at_rest { D.is_disk disk.new → IfOk result (λ r. AreRests documents.now r.text.items (sum_text r.sum) (D.durable disk.new) (D.seen disk.new)) }
+    ensures given { D.is_disk disk.new → D.given disk.new ≡ D.given disk.old }
+    ensures stays { D.is_disk disk.new → D.is_disk disk.old }
+    ensures refused { D.is_disk disk.new → IfErr result (IsRefusedFor documents.now (D.seen disk.old)) }
+    ensures any_moment { D.is_disk disk.new → LeavesOnly D.moment D.left_since disk.old disk.new (λ left. recovered documents.now left.file ≡ recovered documents.now (D.seen disk.old)) }
+{
+    let cut = text.len() - taken.end;
+    disk.cut(taken.end)?;
+    text.truncate(taken.end);
+    Ok(Recovered {
+        text,
+        sum: taken.sum,
+        cut,
+    })
+}
+
+/// Begins a journal anew: its header alone.
+fn begin<D: Disk>(
+    disk: &mut D,
+    mut text: Vec<u8>,
+    documents: &[u8; 64],
+) -> Result<Recovered, RecoveryFault>
+    requires synced { D.is_disk disk.old → (D.durable disk.old ≡ D.seen disk.old) × (D.seen disk.old ≡ text.items) }
+    requires unbegun { recovered documents.now text.items ≡ [] }
+    ensures lines { D.is_disk disk.new → IfOk result (λ r. recovered documents.now r.text.items ≡ recovered documents.now (D.seen disk.old)) }
+    ensures at_rest { D.is_disk disk.new → IfOk result (λ r. AreRests documents.now r.text.items (sum_text r.sum) (D.durable disk.new) (D.seen disk.new)) }
+    ensures given { D.is_disk disk.new → D.given disk.new ≡ D.given disk.old }
+    ensures stays { D.is_disk disk.new → D.is_disk disk.old }
+    ensures refused { D.is_disk disk.new → IfErr result (IsRefusedFor documents.now (D.seen disk.old)) }
+    ensures any_moment { D.is_disk disk.new → LeavesOnly D.moment D.left_since disk.old disk.new (λ left. recovered documents.now left.file ≡ recovered documents.now (D.seen disk.old)) }
+{
+    let cut = text.len();
+    let header = header_text(documents);
+    text.truncate(0);
+    if text.extend_from_slice(&header).is_err() {
+        return Err(RecoveryFault::Disk(DiskError::Memory));
+    }
+    disk.cut(0)?;
+    disk.append(&header)?;
+    disk.sync()?;
+    Ok(Recovered {
+        text,
+        sum: Sum::Documents(*documents),
+        cut,
+    })
+}
+
+/// How far a file is a journal of these documents; None where no group of it was ever synced.
+fn standing_of(bytes: &[u8], documents: &[u8; 64]) -> Result<Option<Taken>, RecoveryFault>
+    ensures ok { IfOk result (λ found. MatchOption found (recovered documents.now bytes.now ≡ []) (λ taken. StandsTo documents.now bytes.now taken.end (sum_text taken.sum))) }
+    ensures refused { IfErr result (IsRefusedFor documents.now bytes.now) }
+{
+    let header = header_text(documents);
+    if !bytes.starts_with(&header) {
+        return unlike(bytes, documents);
+    }
+    let taken = take_groups(&bytes[header.len()..], documents);
+    let end = header.len() + taken.end;
+    match closing_before_another(&bytes[end..]) {
+        Some(at) => Err(RecoveryFault::Damaged(line_number(&bytes[..end + at]))),
+        None => Ok(Some(Taken {
+            end,
+            sum: taken.sum,
+        })),
+    }
+}
+
+/// A file without the header: None where it is to be begun anew, or why it is refused.
+fn unlike(bytes: &[u8], documents: &[u8; 64]) -> Result<Option<Taken>, RecoveryFault>
+    requires { starts_with nat_eq bytes.now (header documents.now) ≡ false }
+    ensures ok { IfOk result (λ found. (found ≡ None) × (recovered documents.now bytes.now ≡ [])) }
+    ensures refused { IfErr result (IsRefusedFor documents.now bytes.now) }
+{
+    if is_unbegun(bytes, &header_text(documents)) {
+        Ok(None)
+    } else if bytes.starts_with(b"# batchd journal 1 ") {
+        Err(RecoveryFault::OtherDocuments)
+    } else {
+        Err(RecoveryFault::NoJournal)
+    }
+}
+
+/// Whether no line ends in the file, or it is what a crash may leave of a header: no longer, and each byte is the header's or zero.
+fn is_unbegun(bytes: &[u8], header: &[u8; 84]) -> bool
+    ensures { IsTrue result → HasNoFeed bytes.now ⊎ (length bytes.now ≤ 84) }
+{
+    if memchr(b'\n', bytes).is_none() {
+        return true;
+    }
+    bytes.len() <= header.len()
+        && bytes
+            .iter()
+            .zip(header)
+            .all(|(byte, wanted)| *byte == 0 || byte == wanted)
+}
+
+/// Takes the groups behind a header, as long as their sums are right.
+fn take_groups(bytes: &[u8], documents: &[u8; 64]) -> Taken
+    ensures { IsTakenTo documents.now bytes.now result.end (sum_text result.sum) }
+{
+    let mut sum = Sum::Documents(*documents);
+    let mut end = 0;
+    let mut at = 0;
+    while let Some(len) = next_line(&bytes[at..]) {
+        let line = &bytes[at..at + len];
+        let lines = &bytes[end..at];
+        at += len + 1;
+        if is_closing(line) {
+            let next = sum.next(lines);
+            if !closes(line, &next) {
+                return Taken { end, sum };
+            }
+            sum = Sum::Group(next);
+            end = at;
+        }
+    }
+    Taken { end, sum }
+}
+
+/// Where the first line begins that closes a group, if another such line follows it.
+fn closing_before_another(bytes: &[u8]) -> Option<usize>
+    ensures found { IsSome result ↔ (1 < closing_count bytes.now) }
+    ensures within { IfSome result (λ at. at ≤ length bytes.now) }
+{
+    let mut first = None;
+    let mut at = 0;
+    while let Some(len) = memchr(b'\n', &bytes[at..]) {
+        let line = &bytes[at..at + len];
+        let begins = at;
+        at += len + 1;
+        if !is_closing(line) {
+            continue;
+        }
+        if first.is_some() {
+            return first;
+        }
+        first = Some(begins);
+    }
+    None
+}
+
+/// The number, from 1, of the line that begins behind these bytes.
+fn line_number(bytes: &[u8]) -> usize {
+    bytes.iter().filter(|byte| **byte == b'\n').count() + 1
+}
+
+/// The header of a journal of these documents.
+fn header_text(documents: &[u8; 64]) -> [u8; 84]
+    ensures { result ≡ header documents.now }
+{
+    let mut text = [b'\n'; 84];
+    text[..19].copy_from_slice(b"# batchd journal 1 ");
+    text[19..83].copy_from_slice(documents);
+    text
+}
