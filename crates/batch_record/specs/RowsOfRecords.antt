@@ -5,14 +5,14 @@ use Rattle.batch_matrix.specs.declared.command.Command.TheVariants as Command
 use Rattle.batch_matrix.specs.declared.report.Report.TheVariants as Report
 use Rattle.batch_recipe.specs.Tree.{Phase}
 use Rattle.batch_recipe.specs.declared.need.Need.{Need}
-use Rattle.batch_model.specs.Events.{created, ordered, removed, reported, refused, command_not_accepted, bad_size, bad_value, no_memory}
+use Rattle.batch_model.specs.Events.{created, ordered, removed, reported, refused, command_not_accepted, output_left_out, bad_size, bad_value, no_memory}
 use Rattle.batch_model.specs.Moves.{send, state, release, begin, start, end, ask, grant}
 use Rattle.batch_model.specs.Runs.{Out, reply, move}
 use Rattle.batch_record.specs.Laws.{is_passed_over}
 use Rattle.batch_record.specs.RecordLine.{out_of_line}
 
 abbrev pub add : Phase
-add = record { unit = codes "R1"; name = codes "ADD"; handed = [] }
+add = record { unit = codes "R1"; name = codes "ADD"; handed = []; reports = [] }
 
 abbrev pub units_of : List ℕ → ℕ → Need
 units_of name units = record { resource = name; units = units }
@@ -64,6 +64,9 @@ RefusedSize = out_of_line (codes "refused E7 F1") ≡ Some (reply (refused bad_s
 abbrev pub RefusedValue : Type 0
 RefusedValue = out_of_line (codes "refused E7 F2 QTY") ≡ Some (reply (refused (bad_value (codes "QTY"))))
 
+abbrev pub RefusedLeavingOut : Type 0
+RefusedLeavingOut = out_of_line (codes "refused E13 X") ≡ Some (reply (refused (output_left_out (codes "X"))))
+
 abbrev pub RefusedMemory : Type 0
 RefusedMemory = out_of_line (codes "refused E11") ≡ Some (reply (refused no_memory))
 
@@ -98,6 +101,7 @@ WordTooMany = IsNoOut (codes "end 1 0 main") × IsNoOut (codes "begin 1 0")
 
 abbrev pub RefusedWithout : Type 0
 RefusedWithout = IsNoOut (codes "refused E3") × IsNoOut (codes "refused E7 F2") × IsNoOut (codes "refused E1 idle") × IsNoOut (codes "refused E99")
+    × IsNoOut (codes "refused E13") × IsNoOut (codes "refused E13 X Y")
 
 abbrev pub UnknownWord : Type 0
 UnknownWord = IsNoOut (codes "state 1 restarted") × IsNoOut (codes "ok fly 1 running") × IsNoOut (codes "create A 7")

@@ -1,7 +1,7 @@
 //! Reading a line of a record.
 ghost use Rattle.std.specs.Prelude.{◌≡◌, ◌∷◌, [], Some, MatchOption};
 ghost use Rattle.batch_wire.specs.EventLine.{word_of_report};
-ghost use Rattle.batch_record.specs.RecordLine.{words_left, need_of, state_of, claim_of, claim_with, batch_of, batch_with, removed_of, report_told_of, report_with, order_of, ok_of, other_of, begun_of, ended_of, phase_with, sent_of, started_of, created_of, refusal_of, code_alone, state_alone, formula_of, out_of_words, out_of_line};
+ghost use Rattle.batch_record.specs.RecordLine.{words_left, need_of, state_of, claim_of, claim_with, batch_of, batch_with, removed_of, report_told_of, report_with, order_of, ok_of, other_of, begun_of, ended_of, phase_with, sent_of, started_of, created_of, refusal_of, code_alone, state_alone, formula_of, left_out_of, out_of_words, out_of_line};
 ghost use Rattle.batch_record.specs.Laws.{Tells, TellsNothing};
 ghost use Rattle.batch_record.specs.Reading.{Gives, claim_told, report_told, begun_told, ended_told, phase_told, sent_told, started_told, created_told, refusal_told, out_of};
 
@@ -246,6 +246,8 @@ fn refused_for<'a>(code: &[u8], word: &'a [u8], others: Words<'a>) -> Option<Ref
         Some(Refused::NotIdle(state_alone(word, others)?))
     } else if code == b"E7".as_slice() {
         refused_formula(word, others)
+    } else if code == b"E13".as_slice() {
+        refused_left_out(word, others)
     } else {
         None
     }
@@ -275,6 +277,19 @@ fn refused_formula<'a>(cause: &'a [u8], mut others: Words<'a>) -> Option<Refused
     }
     if cause == b"F2".as_slice() && is_name(name) {
         Some(Refused::BadValue(name))
+    } else {
+        None
+    }
+}
+
+fn refused_left_out<'a>(name: &'a [u8], mut others: Words<'a>) -> Option<Refused<'a>>
+    ensures { Gives refusal_told result (left_out_of (name.now ∷ words_left others.entry.rest)) }
+{
+    if others.next().is_some() {
+        return None;
+    }
+    if is_name(name) {
+        Some(Refused::OutputLeftOut(name))
     } else {
         None
     }

@@ -15,6 +15,7 @@ ghost use Rattle.batch_record.specs.RowsOfRecords.{
   RefusedCommand,
   RefusedSize,
   RefusedValue,
+  RefusedLeavingOut,
   RefusedMemory,
   EmptyLine,
   SpaceAtAnEnd,
@@ -46,6 +47,7 @@ pub fn record_lines()
     ensures refused_command { RefusedCommand }
     ensures refused_size { RefusedSize }
     ensures refused_value { RefusedValue }
+    ensures refused_leaving_out { RefusedLeavingOut }
     ensures refused_memory { RefusedMemory }
 {}
 
