@@ -1,5 +1,5 @@
 -- What is shown is one line.
-use Rattle.std.proofs.Common.{◌≡◌, ◌≢◌, ◌+◌, ◌<◌, ◌==◌, ◌/◌, ◌%◌, ℕ, Bool, true, false, List, [], ◌∷◌, ◌++◌, flat_map, chars, encode_utf8, encode_utf8_all, if◌then◌else◌, nat_lt, length, refl, sym, ◌∙◌, arith, append-nil, ap, ◌⊎◌, ◌≤◌, inl, inr, ne_eqb}
+use Rattle.std.proofs.Common.{◌≡◌, ◌≢◌, ◌+◌, ◌<◌, ◌==◌, ◌/◌, ◌%◌, ℕ, Bool, true, false, List, [], ◌∷◌, ◌++◌, flat_map, chars, encode_utf8, encode_utf8_all, if◌then◌else◌, nat_lt, refl, sym, ◌∙◌, arith, append-nil, ap, ◌⊎◌, ◌≤◌, inl, inr, ne_eqb}
 use Rattle.std.proofs.lemmas.Bool.Decides.{nat_tests}
 use Rattle.std.proofs.lemmas.List.Elements.{All-append, All-from_get_or}
 use Rattle.std.proofs.lemmas.Str.{encodes-append, inside_one}

@@ -3,6 +3,9 @@ use crate::sentence::Sentence;
 use batch_verify::{CertFault, MAX_LINES, MAX_RANK};
 use std::alloc::{AllocError, Global};
 
+/// The most bytes of a certificate's file.
+const MAX_LEN: usize = 32_768;
+
 /// What the fault of the certificate at this path means. A text that looks like another document is told as one that stands in
 /// the certificate's place.
 pub fn certificate_sentence(
@@ -22,7 +25,7 @@ fn fault_said(alloc: Global, text: &[u8], fault: CertFault) -> Result<String, Al
             "the name in line {line} comes before that of the line above it, by the order of bytes"
         ),
         CertFault::TooManyLines => {
-            format!(in alloc; "a certificate has at most {MAX_LINES} lines")
+            format!(in alloc; "a certificate has at most {MAX_LINES} lines, and {MAX_LEN} bytes")
         }
         CertFault::Memory => String::from_str(alloc, "there is no memory to read it"),
     }

@@ -2,6 +2,7 @@
 use batch_grammar::is_chart_word;
 use batch_reader::TableKind;
 use batch_text::is_name;
+use std::alloc::{AllocError, Global};
 use toml::{Table, Value};
 
 /// The words of the tables whose names a document declares.
@@ -29,7 +30,7 @@ pub(crate) fn times_declared(document: &Table, name: &str) -> usize {
 }
 
 /// How many tables of the word have this name.
-fn times_among(document: &Table, word: &str, name: &str) -> usize {
+pub(crate) fn times_among(document: &Table, word: &str, name: &str) -> usize {
     let Some(tables) = document.get(word).and_then(Value::as_array) else {
         return 0;
     };
@@ -65,12 +66,39 @@ pub(crate) fn undeclared_report<'a>(document: &Table, table: &'a Table) -> Optio
     None
 }
 
-/// The first of the table's reports that stands there twice.
-pub(crate) fn reported_twice(table: &Table) -> Option<&str> {
-    let reports = table.get("reports")?.as_array()?;
-    for value in reports {
+/// The names of the document's tables of this word.
+pub(crate) fn names_among<'a>(
+    alloc: Global,
+    document: &'a Table,
+    word: &str,
+) -> Result<Vec<&'a str>, AllocError> {
+    let mut names = Vec::new(alloc);
+    if let Some(tables) = document.get(word).and_then(Value::as_array) {
+        for table in tables {
+            if let Some(name) = table.get("name").and_then(Value::as_str) {
+                names.push(name)?;
+            }
+        }
+    }
+    Ok(names)
+}
+
+/// The names of the document's values.
+pub(crate) fn value_names(alloc: Global, document: &Table) -> Result<Vec<&str>, AllocError> {
+    let mut names = Vec::new(alloc);
+    for word in VALUES {
+        for name in names_among(alloc, document, word)? {
+            names.push(name)?;
+        }
+    }
+    Ok(names)
+}
+
+/// The first text of the table's list under this key that stands there twice.
+pub(crate) fn listed_twice<'a>(table: &'a Table, key: &str) -> Option<&'a str> {
+    for value in table.get(key)?.as_array()? {
         if let Some(name) = value.as_str() {
-            if times_reported(table, name) > 1 {
+            if times_listed(table, key, name) > 1 {
                 return Some(name);
             }
         }
@@ -78,18 +106,61 @@ pub(crate) fn reported_twice(table: &Table) -> Option<&str> {
     None
 }
 
-/// How often the name stands among the table's reports.
-fn times_reported(table: &Table, name: &str) -> usize {
-    let Some(reports) = table.get("reports").and_then(Value::as_array) else {
+/// How often the name stands in the table's list under this key.
+fn times_listed(table: &Table, key: &str, name: &str) -> usize {
+    let Some(values) = table.get(key).and_then(Value::as_array) else {
         return 0;
     };
     let mut times: usize = 0;
-    for value in reports {
+    for value in values {
         if value.as_str() == Some(name) {
             times = times.saturating_add(1);
         }
     }
     times
+}
+
+/// The first phase of the module that several modules of this unit offer.
+pub(crate) fn offered_by_several<'a>(
+    document: &Table,
+    unit: &str,
+    module: &'a Table,
+) -> Option<&'a str> {
+    for value in module.get("phases")?.as_array()? {
+        if let Some(phase) = value.as_str() {
+            if offers_of(document, unit, phase) > 1 {
+                return Some(phase);
+            }
+        }
+    }
+    None
+}
+
+/// How many modules of the unit offer the phase.
+fn offers_of(document: &Table, unit: &str, phase: &str) -> usize {
+    let Some(modules) = document.get("module").and_then(Value::as_array) else {
+        return 0;
+    };
+    let mut offers: usize = 0;
+    for module in modules {
+        if let Some(module) = module.as_table() {
+            let is_own = module.get("unit").and_then(Value::as_str) == Some(unit);
+            if is_own && times_listed(module, "phases", phase) > 0 {
+                offers = offers.saturating_add(1);
+            }
+        }
+    }
+    offers
+}
+
+/// The word of the tables that the labels of a chart of this kind name. Tables without a chart have none.
+pub(crate) fn word_below(kind: TableKind) -> Option<&'static str> {
+    match kind {
+        TableKind::Procedure => Some("unit_procedure"),
+        TableKind::UnitProcedure => Some("operation"),
+        TableKind::Operation => Some("phase"),
+        _ => None,
+    }
 }
 
 /// The first word of the table's chart, or of its values, that is neither declared in the table's level nor a value.
@@ -98,11 +169,9 @@ pub(crate) fn undeclared_word<'a>(
     table: &'a Table,
     kind: TableKind,
 ) -> Option<&'a str> {
-    match kind {
-        TableKind::Phase => undeclared_value(document, table),
-        TableKind::Procedure => undeclared_part(document, table, "unit_procedure"),
-        TableKind::UnitProcedure => undeclared_part(document, table, "operation"),
-        _ => undeclared_part(document, table, "phase"),
+    match word_below(kind) {
+        Some(below) => undeclared_part(document, table, below),
+        None => undeclared_value(document, table),
     }
 }
 

@@ -109,7 +109,7 @@ fn entry_said(
     spot: Spot,
     fault: EntryFault,
 ) -> Result<String, AllocError> {
-    let wrong = wrong_at(alloc, document, spot, fault)?;
+    let wrong = wrong_at(alloc, text, document, spot, fault)?;
     let tables = tables_of(document, spot.kind);
     let line = line_of(text, spot, tables, wrong.key);
     wrong_said(alloc, spot, line, wrong.what.as_str())

@@ -1,11 +1,14 @@
 //! What is wrong with a table of a document.
-use crate::declared::{
-    reported_twice, times_declared, undeclared_report, undeclared_role, undeclared_word,
-};
+use crate::charts::{no_chart_said, number_said};
 use crate::fits::{Fit, shape_said, suit};
-use crate::keys::{Key, keys_of, word_of};
+use crate::keys::{Key, keys_of, most_of, word_of};
+use crate::lines::line_of;
+use crate::names_declared::{duplicate, undeclared};
+use crate::near::meant_said;
+use crate::needs::{need_out_of_limit, unreadable_need};
 use batch_grammar::is_chart_word;
 use batch_reader::{EntryFault, Spot, TableKind};
+use batch_recipe::{MAX_NODES, MAX_UNITS};
 use std::alloc::{AllocError, Global};
 use toml::{Table, Value};
 
@@ -17,11 +20,14 @@ pub(crate) struct Wrong<'a> {
 }
 
 impl<'a> Wrong<'a> {
-    fn told(alloc: Global, key: &'a str, what: &str) -> Result<Wrong<'a>, AllocError> {
+    pub(crate) fn told(alloc: Global, key: &'a str, what: &str) -> Result<Wrong<'a>, AllocError> {
         Wrong::with(key, String::from_str(alloc, what))
     }
 
-    fn with(key: &'a str, what: Result<String, AllocError>) -> Result<Wrong<'a>, AllocError> {
+    pub(crate) fn with(
+        key: &'a str,
+        what: Result<String, AllocError>,
+    ) -> Result<Wrong<'a>, AllocError> {
         Ok(Wrong { key, what: what? })
     }
 }
@@ -49,29 +55,46 @@ fn entry_at(document: &Table, spot: Spot) -> Option<&Table> {
     }
 }
 
-/// What the fault of the table at the spot is.
+/// What the fault of the table at the spot is, in the document of this text.
 pub(crate) fn wrong_at<'a>(
     alloc: Global,
+    text: &str,
     document: &'a Table,
     spot: Spot,
     fault: EntryFault,
 ) -> Result<Wrong<'a>, AllocError> {
     let keys = keys_of(spot.kind);
     let Some(table) = entry_at(document, spot) else {
-        return Wrong::told(
-            alloc,
-            "",
-            "there is no such table, and one is needed, or they are no tables",
-        );
+        return no_table(alloc, document, spot.kind);
     };
     match fault {
         EntryFault::MissingKey => missing(alloc, keys, table, spot.kind),
-        EntryFault::WrongKind => wrong_kind(alloc, keys, table),
+        EntryFault::WrongKind => wrong_kind(alloc, keys, document, table, spot.kind),
         EntryFault::UnknownKey => unknown(alloc, keys, table, spot.kind),
         EntryFault::Undeclared => undeclared(alloc, document, table, spot.kind),
         EntryFault::Duplicate => duplicate(alloc, document, table),
-        EntryFault::OutOfLimit => out_of_limit(alloc, keys, table),
-        EntryFault::Chart(byte) => no_chart(alloc, table, byte),
+        EntryFault::OutOfLimit => out_of_limit(alloc, keys, table, spot),
+        EntryFault::Chart(byte) => {
+            let line = line_of(text, spot, tables_of(document, spot.kind), "chart");
+            no_chart(alloc, text, line, table, byte, spot.kind)
+        }
+    }
+}
+
+/// That the document has no table of this kind.
+fn no_table(
+    alloc: Global,
+    document: &Table,
+    kind: TableKind,
+) -> Result<Wrong<'static>, AllocError> {
+    let word = word_of(kind).unwrap_or("");
+    if document.contains_key(word) {
+        Wrong::with(
+            "",
+            format!(in alloc; "`{word}` has to be a table, or tables, with a header of their own"),
+        )
+    } else {
+        Wrong::told(alloc, "", "there is no such table, and one is needed")
     }
 }
 
@@ -104,9 +127,10 @@ fn unknown<'a>(
     match unknown_key(keys, table) {
         Some(name) => {
             let known = names_said(alloc, keys)?;
+            let meant = meant_key(alloc, keys, name)?;
             Wrong::with(
                 name,
-                format!(in alloc; "the key `{name}` is unknown here; known are {known}"),
+                format!(in alloc; "the key `{name}` is unknown here; known are {known}{meant}"),
             )
         }
         // Some keys of these two kinds suit one another badly.
@@ -119,6 +143,15 @@ fn unknown<'a>(
             _ => Wrong::told(alloc, "phases", "a module without `unit` has no `phases`"),
         },
     }
+}
+
+/// The key that may have been meant.
+fn meant_key(alloc: Global, keys: &[Key], written: &str) -> Result<String, AllocError> {
+    let mut names = Vec::new(alloc);
+    for key in keys {
+        names.push(key.0)?;
+    }
+    meant_said(alloc, written, &names)
 }
 
 /// The first key of the table that isn't one of these.
@@ -152,17 +185,59 @@ fn names_said(alloc: Global, keys: &[Key]) -> Result<String, AllocError> {
     Ok(names)
 }
 
-fn wrong_kind(alloc: Global, keys: &[Key], table: &Table) -> Result<Wrong<'static>, AllocError> {
-    match first_unfit(keys, table, Fit::WrongKind) {
-        Some(key) => unfit(alloc, key, "has to be"),
-        None => match name_of(table) {
-            Some(name) if is_chart_word(name.as_bytes()) => Wrong::with(
-                "name",
-                format!(in alloc; "the name `{name}` is a word of charts"),
-            ),
-            _ => Wrong::told(alloc, "", "a value is of another kind than its key has"),
-        },
+fn wrong_kind(
+    alloc: Global,
+    keys: &[Key],
+    document: &Table,
+    table: &Table,
+    kind: TableKind,
+) -> Result<Wrong<'static>, AllocError> {
+    if let Some(said) = misheaded(alloc, document, kind)? {
+        return Wrong::with("", Ok(said));
     }
+    if let Some(key) = first_unfit(keys, table, Fit::WrongKind) {
+        return unfit(alloc, key, "has to be");
+    }
+    if let Some(need) = unreadable_need(table) {
+        return Wrong::with(
+            "needs",
+            format!(in alloc;
+                "`{need}` is no need: a need is the name of a resource, with a star and a number behind it where it is of several units, as `STEAM` or `STEAM*2`, and no spaces"
+            ),
+        );
+    }
+    match name_of(table) {
+        Some(name) if is_chart_word(name.as_bytes()) => Wrong::with(
+            "name",
+            format!(in alloc; "the name `{name}` is a word of charts"),
+        ),
+        _ => Wrong::told(alloc, "", "a value is of another kind than its key has"),
+    }
+}
+
+/// That the header of such a table has other brackets: a procedure's single ones, each other double ones.
+fn misheaded(
+    alloc: Global,
+    document: &Table,
+    kind: TableKind,
+) -> Result<Option<String>, AllocError> {
+    let Some(word) = word_of(kind) else {
+        return Ok(None);
+    };
+    let said = match (kind, document.get(word)) {
+        (TableKind::Procedure, Some(Value::Array(_))) => {
+            String::from_str(
+                alloc,
+                "a recipe has one procedure, with the header [procedure]",
+            )
+        }
+        (TableKind::Procedure, _) => return Ok(None),
+        (_, Some(Value::Table(_))) => format!(in alloc;
+            "the header is [[{word}]], since a document may have several of these tables"
+        ),
+        _ => return Ok(None),
+    };
+    Ok(Some(said?))
 }
 
 /// That the value of the key is to be another.
@@ -171,103 +246,70 @@ fn unfit(alloc: Global, key: &Key, front: &str) -> Result<Wrong<'static>, AllocE
     Wrong::with(key.0, format!(in alloc; "`{}` {front} {shape}", key.0))
 }
 
-fn out_of_limit(alloc: Global, keys: &[Key], table: &Table) -> Result<Wrong<'static>, AllocError> {
+fn out_of_limit(
+    alloc: Global,
+    keys: &[Key],
+    table: &Table,
+    spot: Spot,
+) -> Result<Wrong<'static>, AllocError> {
     if let Some(key) = first_unfit(keys, table, Fit::OutOfLimit) {
         return unfit(alloc, key, "is out of its limits: it has to be");
     }
-    let least = table.get("min").and_then(Value::as_integer);
-    let most = table.get("max").and_then(Value::as_integer);
-    match (least, most) {
-        (Some(least), Some(most)) if least > most => {
-            Wrong::told(alloc, "min", "`min` is above `max`")
-        }
-        _ => Wrong::told(
-            alloc,
-            "",
-            "there are too many tables of this kind or none, or a number in it is out of its limits",
-        ),
-    }
-}
-
-fn undeclared(
-    alloc: Global,
-    document: &Table,
-    table: &Table,
-    kind: TableKind,
-) -> Result<Wrong<'static>, AllocError> {
-    let key = match kind {
-        TableKind::Module => {
-            let unit = table.get("unit").and_then(Value::as_str).unwrap_or("");
-            return Wrong::with("unit", format!(in alloc; "no [[unit]] is named `{unit}`"));
-        }
-        TableKind::Phase => "values",
-        _ => "chart",
-    };
-    if let Some(word) = undeclared_word(document, table, kind) {
-        return Wrong::with(key, format!(in alloc; "`{word}` is declared nowhere"));
-    }
-    if let Some(name) = undeclared_report(document, table) {
+    let most = most_of(spot.kind);
+    if spot.entry == most {
         return Wrong::with(
-            "reports",
-            format!(in alloc; "no [[output]] is named `{name}`"),
+            "",
+            format!(in alloc; "a document has at most {most} of these tables"),
         );
     }
-    match undeclared_role(document, table) {
-        Some(role) => Wrong::with("role", format!(in alloc; "no [[role]] is named `{role}`")),
-        None => Wrong::told(alloc, key, "a label or a name is declared nowhere"),
+    if let Some(need) = need_out_of_limit(table) {
+        return Wrong::with(
+            "needs",
+            format!(in alloc; "`{need}` is out of its limits: a need is of 1 to {MAX_UNITS} units"),
+        );
+    }
+    let least = table.get("min").and_then(Value::as_integer);
+    let greatest = table.get("max").and_then(Value::as_integer);
+    match (least, greatest) {
+        (Some(least), Some(greatest)) if least > greatest => {
+            Wrong::told(alloc, "min", "`min` is above `max`")
+        }
+        _ => chart_out_of_limit(alloc, table),
     }
 }
 
-fn duplicate(alloc: Global, document: &Table, table: &Table) -> Result<Wrong<'static>, AllocError> {
-    if let Some(name) = reported_twice(table) {
-        return Wrong::with("reports", format!(in alloc; "`{name}` stands twice"));
+/// That a number of the table's chart is out of its limits, or that the acts are too many.
+fn chart_out_of_limit(alloc: Global, table: &Table) -> Result<Wrong<'static>, AllocError> {
+    if let Some(chart) = chart_of(table) {
+        if let Some(said) = number_said(alloc, chart)? {
+            return Wrong::with("chart", Ok(said));
+        }
     }
-    match name_of(table) {
-        Some(name) if times_declared(document, name) > 1 => Wrong::with(
-            "name",
-            format!(in alloc; "the name `{name}` is declared twice"),
-        ),
-        _ => Wrong::told(alloc, "phases", "a phase is offered twice by one unit"),
-    }
-}
-
-fn no_chart(alloc: Global, table: &Table, byte: usize) -> Result<Wrong<'static>, AllocError> {
-    let rest = match chart_of(table) {
-        Some(chart) => rest_said(alloc, chart, byte)?,
-        None => String::new(alloc),
-    };
     Wrong::with(
-        "chart",
-        format!(in alloc; "`chart` is no chart from byte {byte} on{rest}"),
+        "",
+        format!(in alloc;
+            "the acts come to more than {MAX_NODES} nodes: each label stands for its act, with the chart of that"
+        ),
     )
+}
+
+fn no_chart(
+    alloc: Global,
+    text: &str,
+    line: Option<usize>,
+    table: &Table,
+    byte: usize,
+    kind: TableKind,
+) -> Result<Wrong<'static>, AllocError> {
+    let chart = chart_of(table).unwrap_or("");
+    Wrong::with("chart", no_chart_said(alloc, text, line, chart, byte, kind))
 }
 
 fn chart_of(table: &Table) -> Option<&str> {
     table.get("chart")?.as_str()
 }
 
-/// What stands at the byte of the chart.
-fn rest_said(alloc: Global, chart: &str, byte: usize) -> Result<String, AllocError> {
-    match chart.get(byte..) {
-        Some("") => String::from_str(alloc, ", where it ends"),
-        Some(rest) => {
-            let front = front_of(rest);
-            format!(in alloc; ", at `{front}`")
-        }
-        None => Ok(String::new(alloc)),
-    }
-}
-
-/// The first line of the text, and of it no more than some words.
-fn front_of(text: &str) -> &str {
-    let line = match text.split_once('\n') {
-        Some((line, _)) => line,
-        None => text,
-    };
-    line.get(..20).unwrap_or(line)
-}
-
-fn name_of(table: &Table) -> Option<&str> {
+pub(crate) fn name_of(table: &Table) -> Option<&str> {
     table.get("name")?.as_str()
 }
 

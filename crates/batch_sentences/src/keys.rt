@@ -1,5 +1,7 @@
 //! The keys that tables of documents have.
+use batch_cell::{MAX_MODULES, MAX_SHARED, MAX_UNITS};
 use batch_reader::{MAX_CHART_LEN, TableKind};
+use batch_recipe::{MAX_ACTS, MAX_ENTRIES, MAX_ROLES};
 
 /// What a key's value is to be.
 #[derive(Clone, Copy)]
@@ -129,5 +131,18 @@ pub(crate) fn word_of(kind: TableKind) -> Option<&'static str> {
         TableKind::UnitProcedure => Some("unit_procedure"),
         TableKind::Operation => Some("operation"),
         TableKind::Phase => Some("phase"),
+    }
+}
+
+/// How many tables of this kind a document may have.
+pub(crate) fn most_of(kind: TableKind) -> usize {
+    match kind {
+        TableKind::Cell | TableKind::Recipe | TableKind::Procedure => 1,
+        TableKind::Unit => MAX_UNITS,
+        TableKind::Module => MAX_MODULES,
+        TableKind::Shared => MAX_SHARED,
+        TableKind::Input | TableKind::Parameter | TableKind::Output => MAX_ENTRIES,
+        TableKind::Role => MAX_ROLES,
+        TableKind::UnitProcedure | TableKind::Operation | TableKind::Phase => MAX_ACTS,
     }
 }

@@ -2,6 +2,7 @@
 #![tactic(auto)]
 
 mod certificates;
+mod charts;
 mod declared;
 mod documents;
 mod entries;
@@ -9,6 +10,9 @@ mod fits;
 mod keys;
 mod lines;
 mod names;
+mod names_declared;
+mod near;
+mod needs;
 mod nodes;
 mod ranks;
 mod roles;

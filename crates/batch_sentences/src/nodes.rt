@@ -1,4 +1,6 @@
 //! What is wrong at a node of a recipe.
+use crate::names::resource_name;
+use crate::near::{meant_said, resource_names};
 use crate::ranks::rank_said;
 use crate::roles::{class_of, unit_among, unit_without};
 use batch_cell::Cell;
@@ -115,7 +117,8 @@ fn unknown_said(
     match &act.unit {
         Some(UnitChoice::Unit(unit)) => {
             if cell.unit_of(unit).is_none() {
-                return format!(in alloc; "{unit} is no unit of the cell {}", cell.name);
+                let meant = meant_unit(alloc, cell, unit)?;
+                return format!(in alloc; "{unit} is no unit of the cell {}{meant}", cell.name);
             }
         }
         Some(UnitChoice::Role(role)) => {
@@ -133,12 +136,23 @@ fn unknown_said(
     need_said(alloc, cell, act)
 }
 
+/// The unit that may have been meant.
+fn meant_unit(alloc: Global, cell: &Cell, written: &Name) -> Result<String, AllocError> {
+    let mut names = Vec::new(alloc);
+    for unit in &cell.units {
+        names.push(unit.name.text())?;
+    }
+    meant_said(alloc, written.text(), &names)
+}
+
 /// The first need of the act that is no resource.
 fn need_said(alloc: Global, cell: &Cell, act: &Act) -> Result<String, AllocError> {
     for need in &act.needs {
         if cell.resource_of(&need.resource).is_none() {
+            let names = resource_names(alloc, cell)?;
+            let meant = meant_said(alloc, need.resource.text(), &names)?;
             return format!(in alloc;
-                "its need {} is no resource of the cell {}",
+                "its need {} is no resource of the cell {}{meant}",
                 need.resource, cell.name
             );
         }
@@ -173,14 +187,52 @@ fn phase_said(
     };
     match unit_among(acts) {
         Some(UnitChoice::Unit(unit)) => {
-            format!(in alloc; "the unit {unit} doesn't offer the phase {phase}")
+            let offered = match cell.unit_of(unit) {
+                Some(number) => offered_said(alloc, cell, number)?,
+                None => String::new(alloc),
+            };
+            format!(in alloc; "the unit {unit} doesn't offer the phase {phase}{offered}")
         }
-        Some(UnitChoice::Role(role)) => {
-            let unit = unit_without(cell, recipe, role, phase);
-            format!(in alloc;
-                "the unit {unit}, which may take the role {role}, doesn't offer the phase {phase}"
-            )
-        }
+        Some(UnitChoice::Role(role)) => role_said(alloc, cell, recipe, role, phase),
         None => format!(in alloc; "its unit doesn't offer the phase {phase}"),
     }
+}
+
+/// Which unit that may take the role doesn't offer the phase.
+fn role_said(
+    alloc: Global,
+    cell: &Cell,
+    recipe: &Recipe,
+    role: &Name,
+    phase: &Name,
+) -> Result<String, AllocError> {
+    match unit_without(cell, recipe, role, phase) {
+        Some(unit) => {
+            let name = resource_name(cell, unit);
+            let offered = offered_said(alloc, cell, unit)?;
+            format!(in alloc;
+                "the unit {name}, which may take the role {role}, doesn't offer the phase {phase}{offered}"
+            )
+        }
+        None => format!(in alloc; "a unit of the role {role} doesn't offer the phase {phase}"),
+    }
+}
+
+/// The phases that the unit with this number offers.
+fn offered_said(alloc: Global, cell: &Cell, unit: u16) -> Result<String, AllocError> {
+    let mut said = String::new(alloc);
+    if unit >= cell.units() {
+        return Ok(said);
+    }
+    for number in 0..u16::MAX {
+        let Some(phase) = cell.phase_name(unit, number) else {
+            break;
+        };
+        said.push_str(if number == 0 { "; it offers " } else { ", " })?;
+        said.push_str(phase.text())?;
+    }
+    if said.is_empty() {
+        return String::from_str(alloc, "; it offers none, since no module of it has phases");
+    }
+    Ok(said)
 }

@@ -1,5 +1,4 @@
 //! The roles of recipes, and the units that may take them.
-use crate::names::resource_name;
 use batch_cell::Cell;
 use batch_recipe::{Act, Recipe, UnitChoice};
 use batch_text::Name;
@@ -32,22 +31,15 @@ pub(crate) fn unit_among<'a>(acts: &[&'a Act]) -> Option<&'a UnitChoice> {
     None
 }
 
-/// The first of the units that may take the role which doesn't offer the phase. Without such a unit the text is empty.
-pub(crate) fn unit_without<'a>(
-    cell: &'a Cell,
-    recipe: &Recipe,
-    role: &Name,
-    phase: &Name,
-) -> &'a str {
-    let Some(class) = class_of(recipe, role) else {
-        return "";
-    };
+/// The first of the units that may take the role which doesn't offer the phase, by its number.
+pub(crate) fn unit_without(cell: &Cell, recipe: &Recipe, role: &Name, phase: &Name) -> Option<u16> {
+    let class = class_of(recipe, role)?;
     for index in 0..cell.candidates(class) {
         if let Some(unit) = cell.candidate(class, index) {
             if !cell.offers(unit, phase) {
-                return resource_name(cell, unit);
+                return Some(unit);
             }
         }
     }
-    ""
+    None
 }

@@ -7,11 +7,10 @@ use crate::nodes::broken_said;
 use crate::sentence::Sentence;
 use batch_cell::Cell;
 use batch_check::{CheckFault, Edge};
+use batch_model::MAX_RECIPES;
 use batch_recipe::Recipe;
 use batch_verify::{Broken, Certificate, SetRefusal};
 use std::alloc::{AllocError, Global};
-
-const TWO_OF_A_NAME: &str = "two of the recipes have one name, or there are more than 256";
 
 const NO_MEMORY: &str = "there is no memory to judge the recipes";
 
@@ -31,7 +30,7 @@ pub fn refusal_sentence(
             recipe_said(alloc, cell, recipes, recipe, Some(certificate), broken)
         }
         SetRefusal::Memory => String::from_str(alloc, NO_MEMORY),
-        SetRefusal::Recipes => String::from_str(alloc, TWO_OF_A_NAME),
+        SetRefusal::Recipes => no_set_said(alloc, recipes),
     };
     Sentence::of(alloc, said?.as_str())
 }
@@ -81,6 +80,23 @@ fn recipe_said(
     }
 }
 
+/// Which two of the recipes have one name, or that there are too many.
+fn no_set_said(alloc: Global, recipes: &[Recipe]) -> Result<String, AllocError> {
+    for (first, recipe) in recipes.iter().enumerate() {
+        let name = &recipe.acts.procedure.name;
+        for (later, other) in recipes.iter().enumerate() {
+            if first < later && other.acts.procedure.name == *name {
+                let first = first.saturating_add(1);
+                let later = later.saturating_add(1);
+                return format!(in alloc;
+                    "the recipes number {first} and {later} are both named {name}"
+                );
+            }
+        }
+    }
+    format!(in alloc; "there are more than {MAX_RECIPES} recipes")
+}
+
 /// What it means that the recipes have no certificate.
 pub fn fault_sentence(
     alloc: Global,
@@ -94,7 +110,7 @@ pub fn fault_sentence(
         CheckFault::Recipe { recipe, broken } => {
             recipe_said(alloc, cell, recipes, *recipe, None, *broken)
         }
-        CheckFault::Recipes => String::from_str(alloc, TWO_OF_A_NAME),
+        CheckFault::Recipes => no_set_said(alloc, recipes),
         CheckFault::Circle(edges) => circle_said(alloc, cell, recipes, edges),
         CheckFault::Memory => String::from_str(alloc, NO_MEMORY),
     };

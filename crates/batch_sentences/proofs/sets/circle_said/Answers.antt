@@ -1,4 +1,4 @@
-use Rattle.std.proofs.Common.{◌<◌, ◌++◌, ◌∷◌, ◌∙◌, [], codes, length, get_or, ap, refl, rules, string_bytes}
+use Rattle.std.proofs.Common.{◌<◌, ◌++◌, ◌∙◌, codes, length, get_or, ap, refl, rules, string_bytes}
 use Rattle.batch_check.specs.declared.edge.Edge.{Edge}
 use Rattle.batch_sentences.specs.CircleSentence.{edge_words}
 use Rattle.batch_sentences.proofs.Growing.{texts_more}
