@@ -9,6 +9,7 @@ use Rattle.batch_model.specs.Rest.{Rest, done, acts}
 use Rattle.batch_model.specs.Moves.{is_empty}
 use Rattle.batch_recipe.specs.declared.entry.Entry.{Entry}
 use Rattle.batch_recipe.specs.declared.recipe.Recipe.{Recipe}
+use Rattle.batch_recipe.proofs.Below.{some_count}
 use Rattle.batch_chart.specs.declared.stage.Stage.{Stage}
 use Rattle.batch_chart.specs.declared.stage.Stage.TheVariants.{Ready, Asking, Open, Live, Freeing}
 use Rattle.batch_chart.specs.Stages.{stage_at, is_finished, is_begun, turns_of}
@@ -16,7 +17,7 @@ use Rattle.batch_chart.specs.Meaning.{meaning, act_as}
 use Rattle.batch_chart.specs.Outlined.{end_at, Stands, StandsAct, AreStanding, AreChoices}
 use Rattle.batch_chart.specs.Numbered.{entries, entries_in, numbered, numbered_each, numbered_branch, numbered_chosen}
 use Rattle.batch_chart.specs.Noting.{signs_of, ready_signs, asking_signs, freeing_signs, live_signs, open_signs, sign_in}
-use Rattle.batch_chart.proofs.Standing.{SkipAt, skip_at, skip-at, PhaseAt, phase_at, phase-at, ActAt, act_at, act-at, SeqAt, seq_at, seq-at, ParAt, par_at, par-at, SelAt, sel_at, sel-at, LoopAt, loop_at, loop-at, RowAt, row_at, row-at, row-end, LastAt, last_at, last-at, ChoiceAt, choice_at, choice-at, stood, stood-each, stood-choices, count-pos, choices-pos}
+use Rattle.batch_chart.proofs.Standing.{SkipAt, skip_at, skip-at, PhaseAt, phase_at, phase-at, ActAt, act_at, act-at, SeqAt, seq_at, seq-at, ParAt, par_at, par-at, SelAt, sel_at, sel-at, LoopAt, loop_at, loop-at, RowAt, row_at, row-at, row-end, LastAt, last_at, last-at, ChoiceAt, choice_at, choice-at, stood, stood-each, stood-choices, choices-pos}
 use Rattle.batch_chart.proofs.Found.{numbered-acts}
 
 -- what each act shows, with its number
@@ -137,7 +138,7 @@ module _ (ns : List Entry) (doc : Recipe) (xs : List Stage) where
   -- the trees of a row
   module _ (n m : ℕ) (c : Tree) (ts : Trees) (h : AreStanding ns doc n m (tree c ts)) (same : SameTree n c) where
     more : n ≢ m
-    more e = absurd (omega (arith, e, stood-each ns doc (n + node_count c) m ts h.1, count-pos c))
+    more e = absurd (omega (arith, e, stood-each ns doc (n + node_count c) m ts h.1, some_count c))
 
     own : end_at ns n ≡ n + node_count c
     own = (stood ns doc n c h.0).end

@@ -10,6 +10,7 @@ use Rattle.batch_model.specs.Rest.{in_seq, rest, is_done, all_done, advance, adv
 use Rattle.batch_model.specs.Settled.{IsAdvanced}
 use Rattle.batch_machine.proofs.Advancing.{advance-advanced}
 use Rattle.batch_recipe.specs.declared.entry.Entry.{Entry}
+use Rattle.batch_recipe.proofs.Below.{some_count}
 use Rattle.batch_chart.specs.declared.node.Kind.{Kind}
 use Rattle.batch_chart.specs.declared.node.Kind.TheVariants.{Skip, Act, Seq, Par, Sel, Loop}
 use Rattle.batch_chart.specs.declared.node.Kind.TheVariants as kind
@@ -24,7 +25,7 @@ use Rattle.batch_chart.specs.Told.{TellsWhetherOver, AreTold}
 use Rattle.batch_chart.specs.Reaching.{IsReached, IsFirstReached}
 use Rattle.batch_chart.specs.Advancing.{HasAdvanced, HasFirstAdvanced, HasEachAdvanced, HasChoiceAdvanced}
 use Rattle.batch_chart.specs.Climbing.{all_finished, AreFinished, IsRisen, HasStopped, HasPassed}
-use Rattle.batch_chart.proofs.Standing.{count-pos, stood, stood-each, some-stands, nested, SkipAt, skip_at, skip-at, PhaseAt, phase_at, phase-at, ActAt, act_at, act-at, LoopAt, loop_at, loop-at, RowAt, row_at, row-at, ChoiceAt, choice_at, choice-at, seq-standing, sel-standing, rest-standing, choices-standing}
+use Rattle.batch_chart.proofs.Standing.{stood, stood-each, some-stands, nested, SkipAt, skip_at, skip-at, PhaseAt, phase_at, phase-at, ActAt, act_at, act-at, LoopAt, loop_at, loop-at, RowAt, row_at, row-at, ChoiceAt, choice_at, choice-at, seq-standing, sel-standing, rest-standing, choices-standing}
 use Rattle.batch_chart.proofs.Agreeing.{meaning-agree}
 use Rattle.batch_chart.proofs.Calm.{advanced-still}
 use Rattle.batch_chart.proofs.Choosing.{chosen-false}
@@ -109,7 +110,7 @@ module _ (ns : List Entry) (doc : Recipe) (p n : ℕ) (ys : List Stage) (standin
   n-end = let e : end_at ns n ≤ p + node_count standing.1.0 = nested ns doc n standing.1.0 p standing.1.1 (omega (arith, above.before)) (omega (arith, above.past, p-end)) in omega (arith, p-end)
 
   n-below : n < end_at ns n
-  n-below = omega (arith, (stood ns doc n n-stands.0 n-stands.1).end, count-pos n-stands.0)
+  n-below = omega (arith, (stood ns doc n n-stands.0 n-stands.1).end, some_count n-stands.0)
 
   -- the only tree below a node is at the next one
   pub only-child : (d : Tree) → Stands ns doc (p + 1) d → end_at ns p ≡ p + (1 + node_count d) → n ≡ p + 1
@@ -304,8 +305,8 @@ module _ (ns : List Entry) (doc : Recipe) (vs : ValueList) (p n : ℕ) (ys : Lis
   beside c i s (inl q) = (
     meaning-agree ws ys c i (λ k a b. off-own k (inl (omega arith))),
     meaning-agree xs ws c i (λ k a b. off-was k (inl (omega arith))),
-    off-was i (inl (omega (arith, count-pos c))),
-    off-own i (inl (omega (arith, count-pos c))),
+    off-was i (inl (omega (arith, some_count c))),
+    off-own i (inl (omega (arith, some_count c))),
   )
   beside c i s (inr q) = (
     meaning-agree ws ys c i (λ k a b. off-own k (inr (omega arith))),
@@ -348,7 +349,7 @@ module _ (ns : List Entry) (doc : Recipe) (vs : ValueList) (p n : ℕ) (ys : Lis
   not-yet (tree c us) i j h k fits f =
       let e = (stood ns doc i c h.0).end in
       let l : i + node_count c ≤ n = omega (arith, stood-each ns doc (i + node_count c) n us h.1) in
-      let lt : i < n = omega (arith, count-pos c) in
+      let lt : i < n = omega (arith, some_count c) in
       let ne : i ≢ j = λ q. absurd (omega (arith, below-n)) in
       elim (one-false (is_finished (stage_at ys i)) (all_finished us (i + node_count c) ys) f) [
         | inl q ↦
@@ -362,7 +363,7 @@ module _ (ns : List Entry) (doc : Recipe) (vs : ValueList) (p n : ℕ) (ys : Lis
   went-row no_trees i j h k fits f zs b a = subst (λ z. HasFirstAdvanced ns doc vs z j ws zs b) (sym h) a
   went-row (tree c us) i j h k fits f zs b a =
       let e = (stood ns doc i c h.0).end in
-      let lt : i < n = omega (arith, stood-each ns doc (i + node_count c) n us h.1, count-pos c) in
+      let lt : i < n = omega (arith, stood-each ns doc (i + node_count c) n us h.1, some_count c) in
       let ne : i ≢ j = λ q. absurd (omega (arith, below-n)) in
       let q = both-true (is_finished (stage_at ys i)) (all_finished us (i + node_count c) ys) f in
       moved-later ns doc vs ws i j ne k zs b (sym q.0 ∙ ap is_finished (off-own i (inl lt)))
@@ -390,7 +391,7 @@ module _ (ns : List Entry) (doc : Recipe) (vs : ValueList) (p n : ℕ) (ys : Lis
   not-chosen (tree c us) i j h k fits f =
       let e = (stood ns doc i c h.0).end in
       let l : i + node_count c ≤ n = omega (arith, stood-each ns doc (i + node_count c) n us h.1) in
-      let lt : i < n = omega (arith, count-pos c) in
+      let lt : i < n = omega (arith, some_count c) in
       let ne : end_at ns i ≢ j = λ q. absurd (omega (arith, below-n, e)) in
       let later : HaveBranches ns doc ws (end_at ns i) j = (k.0 + 1, choices-standing ns doc ws ws k.0 i j ne k.1 r.after) in
       elim (one-false (is_finished (stage_at ys i)) (all_finished us (i + node_count c) ys) f) [
@@ -406,7 +407,7 @@ module _ (ns : List Entry) (doc : Recipe) (vs : ValueList) (p n : ℕ) (ys : Lis
   went-choices (tree c us) i j h k fits f a =
       let e = (stood ns doc i c h.0).end in
       let l : i + node_count c ≤ n = omega (arith, stood-each ns doc (i + node_count c) n us h.1) in
-      let lt : i < n = omega (arith, count-pos c) in
+      let lt : i < n = omega (arith, some_count c) in
       let ne : end_at ns i ≢ j = λ q. absurd (omega (arith, below-n, e)) in
       let later : HaveBranches ns doc ws (end_at ns i) j = (k.0 + 1, choices-standing ns doc ws ws k.0 i j ne k.1 r.after) in
       let q = both-true (is_finished (stage_at ys i)) (all_finished us (i + node_count c) ys) f in

@@ -7,6 +7,7 @@ use Rattle.batch_recipe.specs.Nodes.{node_count}
 use Rattle.batch_recipe.specs.Tree.{Step, Task, Tree, runs, follows, act}
 use Rattle.batch_recipe.specs.declared.entry.Entry.{Entry}
 use Rattle.batch_recipe.specs.declared.recipe.Recipe.{Recipe}
+use Rattle.batch_recipe.proofs.Below.{some_count}
 use Rattle.batch_chart.specs.declared.stage.Stage.{Stage}
 use Rattle.batch_chart.specs.declared.stage.Stage.TheVariants.{Finished, Freeing}
 use Rattle.batch_chart.specs.Climbing.{IsRisen, IsNeatlyRisen, IsNeatlyLeft, HasRisen}
@@ -23,7 +24,7 @@ use Rattle.batch_chart.proofs.Advanced.{finished-stage}
 use Rattle.batch_chart.proofs.Agreeing.{stage-set_same, stage-set_other}
 use Rattle.batch_chart.proofs.Neat.{neat-after, neat-one, neat-blank, blank-neat}
 use Rattle.batch_chart.proofs.Risen.{finishes, risen, all-gone, set-out}
-use Rattle.batch_chart.proofs.Standing.{count-pos, stood, some-stands}
+use Rattle.batch_chart.proofs.Standing.{stood, some-stands}
 use Rattle.batch_chart.proofs.Stepping.{act-here}
 use Rattle.batch_chart.proofs.Telling.{nests, nests-below}
 use Rattle.batch_chart.proofs.Upkept.{plain-neat}
@@ -94,7 +95,7 @@ module _ (ns : List Entry) (doc : Recipe) (vs : ValueList) (xs : List Stage) (li
   at-k = some-stands ns doc k lives.0 0 lives.1.stands (omega arith) (omega (arith, lives.1.count))
 
   k-below : k < end_at ns k
-  k-below = omega (arith, (stood ns doc k at-k.0 at-k.1).end, count-pos at-k.0)
+  k-below = omega (arith, (stood ns doc k at-k.0 at-k.1).end, some_count at-k.0)
 
   pub given-count : length sg ≡ length ms
   given-count = elim given [ inl h ↦ h.count | inr h ↦ ap length h.1 ]
@@ -115,7 +116,7 @@ module _ (ns : List Entry) (doc : Recipe) (vs : ValueList) (xs : List Stage) (li
           let same : end_at ns k ≡ k + 1 + node_count d = omega (arith, h.0.2) in
           neat-blank ns doc (k + 1) d xs ms h.1 (λ i f g. some-stands ns doc i d (k + 1) h.1 f g)
           (λ i c f g s. neat i c (omega arith) (omega (arith, g, (stood ns doc (k + 1) d h.1).fits)) s)
-          (finished-stage (stage_at xs (k + 1)) (u (omega (arith, same, count-pos d)))) j a (omega (arith, b, same)))
+          (finished-stage (stage_at xs (k + 1)) (u (omega (arith, same, some_count d)))) j a (omega (arith, b, same)))
       go x1 x2 x3 = absurd (grind arith)
 
   given-blank : AreBlank (k + 1) (end_at ns k) mid sg

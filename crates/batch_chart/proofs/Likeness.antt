@@ -12,13 +12,14 @@ use Rattle.batch_model.specs.Moves.{freed}
 use Rattle.batch_model.specs.Settled.{IsAdvanced, AreAdvanced}
 use Rattle.batch_recipe.specs.declared.entry.Entry.{Entry}
 use Rattle.batch_recipe.specs.declared.recipe.Recipe.{Recipe}
+use Rattle.batch_recipe.proofs.Below.{some_count}
 use Rattle.batch_chart.specs.declared.stage.Stage.{Stage}
 use Rattle.batch_chart.specs.declared.stage.Stage.TheVariants.{Open, Freeing}
 use Rattle.batch_chart.specs.Stages.{stage_at, is_finished, is_begun, turns_of}
 use Rattle.batch_chart.specs.Meaning.{meaning, meaning_each, act_as, loop_as, branch, chosen, AgreeOutside}
 use Rattle.batch_chart.specs.Outlined.{end_at, Stands, AreStanding, AreChoices}
 use Rattle.batch_chart.specs.Told.{TellsWhetherOver, AreTold}
-use Rattle.batch_chart.proofs.Standing.{count-pos, choices-pos, stood, stood-each, stood-choices, nested, PhaseAt, phase_at, phase-at, ActAt, act_at, act-at, SkipAt, skip_at, skip-at, SeqAt, seq_at, seq-at, ParAt, par_at, par-at, SelAt, sel_at, sel-at, LoopAt, loop_at, loop-at}
+use Rattle.batch_chart.proofs.Standing.{choices-pos, stood, stood-each, stood-choices, nested, PhaseAt, phase_at, phase-at, ActAt, act_at, act-at, SkipAt, skip_at, skip-at, SeqAt, seq_at, seq-at, ParAt, par_at, par-at, SelAt, sel_at, sel-at, LoopAt, loop_at, loop-at}
 
 -- as much is left, and as much to be reached
 abbrev pub Alike : Rest → Rest → Type 0
@@ -178,8 +179,8 @@ module _ (ns : List Entry) (doc : Recipe) (p : ℕ) where
 
         alike-each : (ts us : Trees) (n m : ℕ) → AreStanding ns doc n m ts → AreStanding ns doc n m us → Apart n → AllAlike (meaning_each ts n xs) (meaning_each us n ys)
         alike-each no_trees no_trees n m h k a = (refl, λ q. q)
-        alike-each no_trees (tree d us) n m h k a = absurd (omega (arith, h, stood-each ns doc (n + node_count d) m us k.1, count-pos d))
-        alike-each (tree c ts) no_trees n m h k a = absurd (omega (arith, k, stood-each ns doc (n + node_count c) m ts h.1, count-pos c))
+        alike-each no_trees (tree d us) n m h k a = absurd (omega (arith, h, stood-each ns doc (n + node_count d) m us k.1, some_count d))
+        alike-each (tree c ts) no_trees n m h k a = absurd (omega (arith, k, stood-each ns doc (n + node_count c) m ts h.1, some_count c))
         alike-each (tree c ts) (tree d us) n m h k a =
             let e = same-end n c d h.0 k.0 in
             let later = alike-each ts us (n + node_count c) m h.1 (subst (λ z. AreStanding ns doc z m us) e k.1) (after-apart n c h.0 a) in
@@ -188,8 +189,8 @@ module _ (ns : List Entry) (doc : Recipe) (p : ℕ) where
 
         alike-branch : (ts us : Trees) (n m : ℕ) → AreStanding ns doc n m ts → AreStanding ns doc n m us → Apart n → Alike (branch ts n xs) (branch us n ys)
         alike-branch no_trees no_trees n m h k a = (refl, λ q. q)
-        alike-branch no_trees (tree d us) n m h k a = absurd (omega (arith, h, stood-each ns doc (n + node_count d) m us k.1, count-pos d))
-        alike-branch (tree c ts) no_trees n m h k a = absurd (omega (arith, k, stood-each ns doc (n + node_count c) m ts h.1, count-pos c))
+        alike-branch no_trees (tree d us) n m h k a = absurd (omega (arith, h, stood-each ns doc (n + node_count d) m us k.1, some_count d))
+        alike-branch (tree c ts) no_trees n m h k a = absurd (omega (arith, k, stood-each ns doc (n + node_count c) m ts h.1, some_count c))
         alike-branch (tree c ts) (tree d us) n m h k a =
             let e = same-end n c d h.0 k.0 in
             let later = alike-branch ts us (n + node_count c) m h.1 (subst (λ z. AreStanding ns doc z m us) e k.1) (after-apart n c h.0 a) in

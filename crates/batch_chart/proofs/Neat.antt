@@ -6,6 +6,7 @@ use Rattle.batch_recipe.specs.Nodes.{node_count}
 use Rattle.batch_recipe.specs.Tree.{follows, Tree, act}
 use Rattle.batch_recipe.specs.declared.entry.Entry.{Entry}
 use Rattle.batch_recipe.specs.declared.recipe.Recipe.{Recipe}
+use Rattle.batch_recipe.proofs.Below.{some_count}
 use Rattle.batch_chart.specs.declared.stage.Stage.{Stage}
 use Rattle.batch_chart.specs.declared.stage.Stage.TheVariants.{Finished, Open}
 use Rattle.batch_chart.specs.Outlined.{end_at, Stands}
@@ -14,7 +15,7 @@ use Rattle.batch_chart.specs.Neat.{runs_below, is_single, AllFinished, IsLone, a
 use Rattle.batch_chart.specs.Running.{IsLaid}
 use Rattle.batch_signs.specs.Signs.{sign_at}
 use Rattle.batch_chart.specs.Stages.{stage_at, is_finished}
-use Rattle.batch_chart.proofs.Standing.{count-pos, stood, some-stands, nested}
+use Rattle.batch_chart.proofs.Standing.{stood, some-stands, nested}
 use Rattle.batch_chart.proofs.Telling.{AreNested}
 
 -- what stands at a node shows nothing once it is finished
@@ -30,7 +31,7 @@ unbegun-still needs x a b h = refl
 
 -- whether its chart is over concerns an act that follows one alone
 pub shows-same : (c : Tree) (x : Stage) (a b : Bool) → (1 < node_count c → a ≡ b) → shown_of c x a ≡ shown_of c x b
-shows-same (act s (follows name c)) x a b h = unbegun-still (length s.needs) x a b (λ e. h (omega (arith, count-pos c)))
+shows-same (act s (follows name c)) x a b h = unbegun-still (length s.needs) x a b (λ e. h (omega (arith, some_count c)))
 shows-same y x a b h = refl
 
 pub finished-part : (n m i j : ℕ) (xs : List Stage) → n ≤ i → j ≤ m → AllFinished n m xs → AllFinished i j xs
@@ -60,7 +61,7 @@ module _ (ns : List Entry) (doc : Recipe) where
 
   pub neat-agree : (c : Tree) (j : ℕ) (xs ys : List Stage) (old new : List ℕ) → AgreeWithin j (j + node_count c) xs ys → sign_at new j ≡ sign_at old j → IsNeat ns c j xs old → IsNeat ns c j ys new
   neat-agree c j xs ys old new same sign h =
-      let own : stage_at ys j ≡ stage_at xs j = same j (omega arith) (omega (arith, count-pos c)) in
+      let own : stage_at ys j ≡ stage_at xs j = same j (omega arith) (omega (arith, some_count c)) in
       record {
         shut = λ u k a b. same k (omega arith) (omega arith) ∙ h.shut (ap (runs_below c) (sym own) ∙ u) k a b;
         lone = λ one i a b root u k p q out.
@@ -94,7 +95,7 @@ module _ (ns : List Entry) (doc : Recipe) where
   pub neat-blank : (n : ℕ) (c : Tree) (xs : List Stage) (signs : List ℕ) → Stands ns doc n c → (sit : (k : ℕ) → n ≤ k → k < n + node_count c → (d : Tree) × Stands ns doc k d) → AreNeat ns doc n (n + node_count c) xs signs → stage_at xs n ≡ Finished
       → AreBlank n (n + node_count c) xs signs
   neat-blank n c xs signs s sit h e k a b =
-      let all = neat-finished n c xs signs s (h n c (omega arith) (omega (arith, count-pos c)) s) e in
+      let all = neat-finished n c xs signs s (h n c (omega arith) (omega (arith, some_count c)) s) e in
       let at = sit k a b in
       let own = h k at.0 a b at.1 in
       (all k a b, own.shown ∙ ap (λ x. shown_of at.0 x (is_finished (stage_at xs (k + 1)))) (all k a b) ∙ finished-shows at.0 (is_finished (stage_at xs (k + 1))))
@@ -178,13 +179,13 @@ neat-after ns doc t laid p lt xs ys old new outside signs was now before own j c
     at i l = some-stands ns doc i t 0 laid.stands (omega arith) (omega (arith, laid.count))
 
     below : p < end_at ns p
-    below = (let h = at p lt in omega (arith, (stood ns doc p h.0 h.1).end, count-pos h.0))
+    below = (let h = at p lt in omega (arith, (stood ns doc p h.0 h.1).end, some_count h.0))
 
     inner : (i : ℕ) → i ≤ p → p < end_at ns i → end_at ns p ≤ end_at ns i
     inner i le l = (let h = at i (omega arith) in let e = (stood ns doc i h.0 h.1).end in let f = nested ns doc p h.0 i h.1 le (omega (arith, e, l)) in omega (arith, e, f))
 
     clear : (j + node_count c ≤ p) ⊎ (end_at ns p ≤ j) → IsNeat ns c j ys new
-    clear (inl q) = neat-agree ns doc c j xs ys old new (λ k f g. outside k (inl (omega arith))) (signs j (inl (omega (arith, count-pos c)))) (before j c a b s)
+    clear (inl q) = neat-agree ns doc c j xs ys old new (λ k f g. outside k (inl (omega arith))) (signs j (inl (omega (arith, some_count c)))) (before j c a b s)
     clear (inr q) = neat-agree ns doc c j xs ys old new (λ k f g. outside k (inr (omega arith))) (signs j (inr q)) (before j c a b s)
 
     go : (j < p) ⊎ (p ≤ j) → (j < end_at ns p) ⊎ (end_at ns p ≤ j) → IsNeat ns c j ys new

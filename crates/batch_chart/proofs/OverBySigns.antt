@@ -9,6 +9,7 @@ use Rattle.batch_model.specs.Rest.{Rest, acts}
 use Rattle.batch_model.specs.Moves.{is_empty}
 use Rattle.batch_recipe.specs.declared.entry.Entry.{Entry}
 use Rattle.batch_recipe.specs.declared.recipe.Recipe.{Recipe}
+use Rattle.batch_recipe.proofs.Below.{some_count}
 use Rattle.batch_chart.specs.declared.sign.TheConstants.{IS_ACT}
 use Rattle.batch_chart.specs.declared.stage.Stage.{Stage}
 use Rattle.batch_chart.specs.declared.stage.Stage.TheVariants.{Finished}
@@ -30,14 +31,14 @@ use Rattle.batch_chart.proofs.Neat.{finished-shows, neat-part, neat-finished}
 use Rattle.batch_chart.proofs.Picking.{RiseIn, rise, sign-here, shown-not}
 use Rattle.batch_chart.proofs.RisenNeatly.{finished-row}
 use Rattle.batch_chart.proofs.Shown.{link}
-use Rattle.batch_chart.proofs.Standing.{count-pos, stood-each, some-each}
+use Rattle.batch_chart.proofs.Standing.{stood-each, some-each}
 use Rattle.batch_chart.proofs.Telling.{told-part}
 
 module _ (ns : List Entry) (doc : Recipe) (xs : List Stage) (signs : List ℕ) where
   -- a tree of which something is left has an act that shows
   act-shown : (c : Tree) (n : ℕ) → Stands ns doc n c → AreNeat ns doc n (n + node_count c) xs signs → AreTold ns doc n (n + node_count c) xs → is_finished (stage_at xs n) ≡ false → NoneShows signs IS_ACT n (n + node_count c) → ⊥
   act-shown c n s neat told u none =
-      let t = told n c (omega arith) (omega (arith, count-pos c)) s in
+      let t = told n c (omega arith) (omega (arith, some_count c)) s in
       go (numbered c n xs) (numbered-acts xs c n) (rise xs c n) (link ns doc xs signs c n (n + node_count c) refl s neat told) (sym (empty-done (meaning c n xs) t.advanced) ∙ sym t.finished ∙ u) (acts-all (meaning c n xs))
     where
       go : (l : List (ℕ × Rest)) → map (λ (e : ℕ × Rest). e.1) l ≡ acts (meaning c n xs) → RiseIn n (n + node_count c) l → ((k : ℕ) → n ≤ k → k < n + node_count c → sign_in k l 0 ≡ sign_at signs k) → is_empty (acts (meaning c n xs)) ≡ false
@@ -59,7 +60,7 @@ module _ (ns : List Entry) (doc : Recipe) (xs : List Stage) (signs : List ℕ) w
       let front = neat-part ns doc n m n (n + node_count c) xs signs (omega arith) le neat in
       let gone : stage_at xs n ≡ Finished = go (is_finished (stage_at xs n)) refl front (told-part ns doc n m n (n + node_count c) xs (omega arith) le told) (λ k a b. none k a (omega (arith, le))) in
       λ k a b. elim (cases_lt k (n + node_count c)) [
-        | inl q ↦ neat-finished ns doc n c xs signs h.0 (front n c (omega arith) (omega (arith, count-pos c)) h.0) gone k a q
+        | inl q ↦ neat-finished ns doc n c xs signs h.0 (front n c (omega arith) (omega (arith, some_count c)) h.0) gone k a q
         | inr q ↦
             none-left ts (n + node_count c) m h.1 (neat-part ns doc n m (n + node_count c) m xs signs (omega arith) (omega arith) neat) (told-part ns doc n m (n + node_count c) m xs (omega arith) (omega arith) told)
             (λ j f g. none j (omega arith) g) k q b
@@ -76,7 +77,7 @@ module _ (ns : List Entry) (doc : Recipe) (xs : List Stage) (signs : List ℕ) w
       let le : n + node_count c ≤ m = omega (arith, stood-each ns doc (n + node_count c) m ts h.1) in
       let q = both-true (is_finished (stage_at xs n)) (all_finished ts (n + node_count c) xs) f in
       λ k a b. elim (cases_lt k (n + node_count c)) [
-        | inl lt ↦ neat-finished ns doc n c xs signs h.0 (neat n c (omega arith) (omega (arith, le, count-pos c)) h.0) (finished-stage (stage_at xs n) q.0) k a lt
+        | inl lt ↦ neat-finished ns doc n c xs signs h.0 (neat n c (omega arith) (omega (arith, le, some_count c)) h.0) (finished-stage (stage_at xs n) q.0) k a lt
         | inr ge ↦ all-none ts (n + node_count c) m h.1 (neat-part ns doc n m (n + node_count c) m xs signs (omega arith) (omega arith) neat) q.1 k ge b
       ]
 

@@ -6,12 +6,13 @@ use Rattle.batch_recipe.specs.Nodes.{node_count, count_within, count_of_each, co
 use Rattle.batch_recipe.specs.Outlines.{Shape, shapes, shapes_within, shapes_of_each, shapes_of_choices}
 use Rattle.batch_recipe.specs.Tree.{Step, Task, runs, follows, Tree, act, skip, seq, par, sel, loop, Trees, no_trees, tree, Choices, otherwise, choice}
 use Rattle.batch_recipe.proofs.Shaping.{shapes_counted}
+use Rattle.batch_recipe.proofs.Below.{some_count}
 use Rattle.batch_chart.specs.Outlined.{end_at, Stands, StandsAct, AreStanding, AreChoices}
 use Rattle.batch_chart.specs.Parents.{parent_at, IsAbove, HaveParents}
 use Rattle.batch_recipe.specs.declared.entry.Entry.{Entry}
 use Rattle.batch_recipe.specs.declared.recipe.Recipe.{Recipe}
 use Rattle.batch_chart.proofs.Pieces.{AreFrom, from_left, from_right, from_tail, from_head}
-use Rattle.batch_chart.proofs.Standing.{stood-each, stood-choices, nested, count-pos}
+use Rattle.batch_chart.proofs.Standing.{stood-each, stood-choices, nested}
 
 module _ (all : List Shape) (ns : List Entry) (doc : Recipe) (parents : (k : ℕ) (s : Shape) → slice_get all k ≡ Some s → parent_at ns k ≡ s.parent) where
   -- what stands between node u and the number n has ended there
@@ -37,7 +38,7 @@ module _ (all : List Shape) (ns : List Entry) (doc : Recipe) (parents : (k : ℕ
   first_above t n u i k later room clear are low below = elim (eqb_tells n k) [
     | inl q ↦
         let is : parent_at ns k ≡ u = ap (parent_at ns) (sym q.1) ∙ own_parent t n u i are in
-        subst (λ p. IsAbove ns p k) (sym is) (subst (λ z. IsAbove ns u z) q.1 (record { before = later; past = omega (arith, room, count-pos t); between = clear }))
+        subst (λ p. IsAbove ns p k) (sym is) (subst (λ z. IsAbove ns u z) q.1 (record { before = later; past = omega (arith, room, some_count t); between = clear }))
     | inr q ↦ let d = q.1 in below (omega arith)
   ]
 

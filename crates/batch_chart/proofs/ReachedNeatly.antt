@@ -6,6 +6,7 @@ use Rattle.std.proofs.lemmas.Bool.Decides.{eqb_tells}
 use Rattle.batch_recipe.specs.Nodes.{node_count}
 use Rattle.batch_recipe.specs.Tree.{Step, Task, runs, follows, Tree, act, loop}
 use Rattle.batch_recipe.specs.declared.entry.Entry.{Entry}
+use Rattle.batch_recipe.proofs.Below.{some_count}
 use Rattle.batch_chart.specs.declared.node.Kind.TheVariants.{Skip, Act, Seq, Par, Sel, Loop}
 use Rattle.batch_chart.specs.declared.node.Kind.TheVariants as kind
 use Rattle.batch_recipe.specs.declared.recipe.Recipe.{Recipe}
@@ -22,7 +23,7 @@ use Rattle.batch_chart.proofs.Advanced.{finished-stage}
 use Rattle.batch_chart.proofs.Agreeing.{stage-set_same, stage-set_other}
 use Rattle.batch_chart.proofs.Neat.{unfinished-not, blank-neat, blank-part, blank-same, neat-one, neat-join, neat-same, neat-finished, signs-join, signs-wider, signs-same}
 use Rattle.batch_chart.proofs.Reached.{within-set, outside-set, outside-same}
-use Rattle.batch_chart.proofs.Standing.{count-pos, stood, PhaseAt, phase_at, phase-at, ActAt, act_at, act-at, SeqAt, seq_at, seq-at, ParAt, par_at, par-at, SelAt, sel_at, sel-at, LoopAt, loop_at, loop-at, below-end, first-end, first-standing, choice-standing, choice-end}
+use Rattle.batch_chart.proofs.Standing.{stood, PhaseAt, phase_at, phase-at, ActAt, act_at, act-at, SeqAt, seq_at, seq-at, ParAt, par_at, par-at, SelAt, sel_at, sel-at, LoopAt, loop_at, loop-at, below-end, first-end, first-standing, choice-standing, choice-end}
 use Rattle.batch_chart.proofs.Telling.{AreNested, nests, nests-each, nests-choices, nests-below}
 
 module _ (ns : List Entry) (doc : Recipe) (xs : List Stage) (n : ℕ) (standing : HasTree ns doc xs n) where
@@ -179,7 +180,7 @@ module _ (ns : List Entry) (doc : Recipe) (xs : List Stage) (n : ℕ) (standing 
           here : (c : Tree) → LoopAt ns doc n k i c → Stands ns doc n c → AreBlank n (end_at ns n) xs old → AreNeat ns doc (n + 1) (end_at ns n) ys new → SignsOutside (n + 1) (end_at ns n) old new → IsNeat ns c n (slice_set ys n (looped_as b j)) new
           here _ (loop_at p turn v u g) s h inside off =
               over-own ys (looped_as b j) old new lt off (loop k p turn) s (h n (omega arith) below).1 (λ x d. refl)
-              (λ z y o t. neat-finished ns doc (n + 1) turn ys new u (inside (n + 1) turn (omega arith) (omega (arith, g, count-pos turn)) u) (ended b refl z) y o (omega (arith, t, g)))
+              (λ z y o t. neat-finished ns doc (n + 1) turn ys new u (inside (n + 1) turn (omega arith) (omega (arith, g, some_count turn)) u) (ended b refl z) y o (omega (arith, t, g)))
               (λ one. absurd (cc))
 
 -- branches
@@ -202,7 +203,7 @@ module _ (ns : List Entry) (doc : Recipe) (n m : ℕ) (c : Tree) (s : Stands ns 
   row-end = (stood ns doc n c s).end
 
   row-below : n < end_at ns n
-  row-below = omega (arith, row-end, count-pos c)
+  row-below = omega (arith, row-end, some_count c)
 
   row-nest : AreNested ns doc n (end_at ns n)
   row-nest = nests ns doc n c s

@@ -7,6 +7,7 @@ use Rattle.batch_recipe.specs.Tree.{Tree, act, skip, seq, par, sel, loop}
 use Rattle.batch_model.specs.Rest.{in_par, done, is_done, advance}
 use Rattle.batch_recipe.specs.declared.entry.Entry.{Entry}
 use Rattle.batch_recipe.specs.declared.recipe.Recipe.{Recipe}
+use Rattle.batch_recipe.proofs.Below.{some_count}
 use Rattle.batch_chart.specs.declared.stage.Stage.{Stage}
 use Rattle.batch_chart.specs.declared.stage.Stage.TheVariants.{Finished, Freeing}
 use Rattle.batch_chart.specs.Advancing.{HasAdvanced}
@@ -23,7 +24,7 @@ use Rattle.batch_chart.proofs.Agreeing.{stage-set_same, stage-set_other}
 use Rattle.batch_chart.proofs.Likeness.{told-after}
 use Rattle.batch_chart.proofs.Choosing.{chosen-false}
 use Rattle.batch_chart.proofs.Lifted.{lifted}
-use Rattle.batch_chart.proofs.Standing.{count-pos, some-stands, stood}
+use Rattle.batch_chart.proofs.Standing.{some-stands, stood}
 use Rattle.batch_chart.proofs.Stepping.{all-told}
 use Rattle.batch_chart.proofs.Telling.{finished-means, told-finished}
 
@@ -50,7 +51,7 @@ module _ (ns : List Entry) (doc : Recipe) (t : Tree) (laid : IsLaid ns doc t) wh
     risen-stop p ys lt r =
         let at = some-stands ns doc p t 0 laid.stands (omega arith) (omega (arith, laid.count)) in
         let end = (stood ns doc p at.0 at.1).end in
-        let below : p < end_at ns p = omega (arith, end, count-pos at.0) in
+        let below : p < end_at ns p = omega (arith, end, some_count at.0) in
         let fits : end_at ns p ≤ length ns = omega (arith, end, (stood ns doc p at.0 at.1).fits) in
         let kept : is_finished (stage_at ys p) ≡ is_finished (stage_at xs p) = r.kept ∙ ap is_finished r.stage in
         let told : AreTold ns doc 0 (length ns) ys = told-after ns doc p (length ns) xs ys both kept below fits r.told r.below in
@@ -92,7 +93,7 @@ module _ (ns : List Entry) (doc : Recipe) (vs : ValueList) (xs mid : List Stage)
   at-k = some-stands ns doc k lives.0 0 lives.1.stands (omega arith) (omega (arith, lives.1.count))
 
   pub below-k : k < end_at ns k
-  below-k = omega (arith, (stood ns doc k at-k.0 at-k.1).end, count-pos at-k.0)
+  below-k = omega (arith, (stood ns doc k at-k.0 at-k.1).end, some_count at-k.0)
 
   inside : k < length mid
   inside = omega (arith, as-many, fits)

@@ -5,6 +5,7 @@ use Rattle.std.proofs.lemmas.Bool.{cases_lt}
 use Rattle.batch_recipe.specs.Nodes.{node_count}
 use Rattle.batch_recipe.specs.Tree.{runs, follows, Tree, act, skip, seq, par, sel, loop, Trees, no_trees, tree}
 use Rattle.batch_recipe.specs.declared.entry.Entry.{Entry}
+use Rattle.batch_recipe.proofs.Below.{some_count}
 use Rattle.batch_chart.specs.declared.node.Kind.{Kind}
 use Rattle.batch_chart.specs.declared.node.Kind.TheVariants.{Act, Seq, Par, Sel, Loop}
 use Rattle.batch_recipe.specs.declared.recipe.Recipe.{Recipe}
@@ -25,7 +26,7 @@ use Rattle.batch_chart.proofs.Climbed.{only-child, loop-child}
 use Rattle.batch_chart.proofs.Neat.{unfinished-not, finished-shows, finished-stops, blank-neat, blank-part, neat-one, neat-join, neat-same, neat-agree, neat-finished, neat-blank, signs-wider, signs-same}
 use Rattle.batch_chart.proofs.Reached.{within-set, outside-set, finished-closed}
 use Rattle.batch_chart.proofs.ReachedNeatly.{over-own, closed-own, shut-by}
-use Rattle.batch_chart.proofs.Standing.{count-pos, stood, stood-each, some-stands, nested, ActAt, act_at, act-at, SeqAt, seq_at, seq-at, ParAt, par_at, par-at, SelAt, sel_at, sel-at, LoopAt, loop_at, loop-at}
+use Rattle.batch_chart.proofs.Standing.{stood, stood-each, some-stands, nested, ActAt, act_at, act-at, SeqAt, seq_at, seq-at, ParAt, par_at, par-at, SelAt, sel_at, sel-at, LoopAt, loop_at, loop-at}
 use Rattle.batch_chart.proofs.Telling.{AreNested, nests, nests-below}
 
 pub runs-unfinished : (c : Tree) (x : Stage) → runs_below c x ≡ true → is_finished x ≡ false
@@ -43,7 +44,7 @@ finished-row ns doc n m xs h = record { means = λ ts s. go ts n s h }
     go : (ts : Trees) (i : ℕ) → AreStanding ns doc i m ts → AllFinished i m xs → true ≡ all_finished ts i xs
     go no_trees i s f = refl
     go (tree c ts) i s f =
-        let lt : i < m = omega (arith, stood-each ns doc (i + node_count c) m ts s.1, count-pos c) in
+        let lt : i < m = omega (arith, stood-each ns doc (i + node_count c) m ts s.1, some_count c) in
         go ts (i + node_count c) s.1 (λ k a b. f k (omega arith) b)
         ∙ sym (chosen-true (is_finished (stage_at xs i)) (all_finished ts (i + node_count c) xs) false (ap is_finished (f i (omega arith) lt)))
 
@@ -67,7 +68,7 @@ module _ (ns : List Entry) (doc : Recipe) (p n : ℕ) (ys : List Stage) (standin
   n-at = sits n (omega (arith, above.before)) above.past
 
   n-below : n < end_at ns n
-  n-below = omega (arith, (stood ns doc n n-at.0 n-at.1).end, count-pos n-at.0)
+  n-below = omega (arith, (stood ns doc n n-at.0 n-at.1).end, some_count n-at.0)
 
   n-fits : end_at ns n ≤ end_at ns p
   n-fits = let e = nested ns doc n standing.1.0 p standing.1.1 (omega (arith, above.before)) (omega (arith, above.past, p-end)) in omega (arith, e, p-end)
@@ -287,7 +288,7 @@ module _ (ns : List Entry) (doc : Recipe) (p n : ℕ) (ys : List Stage) (standin
         go : (c : Tree) → LoopAt ns doc p k i c → Stands ns doc p c → IsNeat ns c p (slice_set zs p (looped_as b j)) new
         go _ (loop_at q body w a f) s =
             over-own ns doc ys p standing zs (looped_as b j) cur new lt signs (loop k q body) s (no-sign (loop k q body) s (λ x d. refl)) (λ x d. refl)
-            (λ u h v g. neat-finished ns doc (p + 1) body zs new a (neat (p + 1) body (omega arith) (omega (arith, f, count-pos body)) a) (ended b refl u) h v (omega (arith, g, f)))
+            (λ u h v g. neat-finished ns doc (p + 1) body zs new a (neat (p + 1) body (omega arith) (omega (arith, f, some_count body)) a) (ended b refl u) h v (omega (arith, g, f)))
             (λ one. absurd (cc))
 
   -- an act of whose chart nothing is left shows that

@@ -11,6 +11,7 @@ use Rattle.batch_model.specs.Rest.{Rest, open_act, done, is_done, acts}
 use Rattle.batch_model.specs.Moves.{is_empty}
 use Rattle.batch_recipe.specs.declared.entry.Entry.{Entry}
 use Rattle.batch_recipe.specs.declared.recipe.Recipe.{Recipe}
+use Rattle.batch_recipe.proofs.Below.{some_count}
 use Rattle.batch_chart.specs.declared.stage.Stage.{Stage}
 use Rattle.batch_chart.specs.declared.stage.Stage.TheVariants.{Finished, Ready, Asking, Open, Live, Freeing, Turning}
 use Rattle.batch_chart.specs.Outlined.{Stands, StandsAct, AreStanding, AreChoices}
@@ -26,7 +27,7 @@ use Rattle.batch_chart.proofs.Advanced.{finished-stage}
 use Rattle.batch_chart.proofs.MoveKinds.{empty-done}
 use Rattle.batch_chart.proofs.Neat.{finished-shows, neat-part, neat-finished}
 use Rattle.batch_chart.proofs.Picking.{RiseIn, rise, rise-each, rise-branch, rise-chosen, sign-before, sign-here, sign-other}
-use Rattle.batch_chart.proofs.Standing.{count-pos, stood, stood-each, stood-choices, some-stands, some-each, some-choices, nested}
+use Rattle.batch_chart.proofs.Standing.{stood, stood-each, stood-choices, some-stands, some-each, some-choices, nested}
 use Rattle.batch_chart.proofs.Stepping.{all-told}
 use Rattle.batch_chart.proofs.Telling.{told-part}
 
@@ -132,7 +133,7 @@ module _ (ns : List Entry) (doc : Recipe) (xs : List Stage) (signs : List ℕ) w
   -- the first tree of a row, and what follows it
   module _ (n m : ℕ) (c : Tree) (s : Stands ns doc n c) (le : n + node_count c ≤ m) (neat : AreNeat ns doc n m xs signs) where
     pub own-neat : IsNeat ns c n xs signs
-    own-neat = neat n c (omega arith) (omega (arith, le, count-pos c)) s
+    own-neat = neat n c (omega arith) (omega (arith, le, some_count c)) s
 
     pub first-neat : AreNeat ns doc n (n + node_count c) xs signs
     first-neat = neat-part ns doc n m n (n + node_count c) xs signs (omega arith) le neat
@@ -154,12 +155,12 @@ module _ (ns : List Entry) (doc : Recipe) (xs : List Stage) (signs : List ℕ) w
 
     lone-first : IsLone ns n m xs → is_finished (stage_at xs n) ≡ false → AllFinished (n + node_count c) m xs
     lone-first h u k a b =
-        h n (omega arith) (omega (arith, le, count-pos c)) (λ q v w. absurd (omega arith)) u k (omega arith) b (inr (omega (arith, a, (stood ns doc n c s).end)))
+        h n (omega arith) (omega (arith, le, some_count c)) (λ q v w. absurd (omega arith)) u k (omega arith) b (inr (omega (arith, a, (stood ns doc n c s).end)))
 
   zeros-below : (n m : ℕ) (c : Tree) → Stands ns doc n c → n + node_count c ≡ m → AreNeat ns doc n m xs signs → runs_below c (stage_at xs n) ≡ false → (k : ℕ) → n + 1 ≤ k → k < m → sign_at signs k ≡ 0
   zeros-below n m c s e neat u =
       nothing (n + 1) m (λ k a b. some-stands ns doc k c n s (omega arith) (omega (arith, e, b))) (neat-part ns doc n m (n + 1) m xs signs (omega arith) (omega arith) neat)
-      (λ k a b. (neat n c (omega arith) (omega (arith, e, count-pos c)) s).shut u k a (omega (arith, e, b)))
+      (λ k a b. (neat n c (omega arith) (omega (arith, e, some_count c)) s).shut u k a (omega (arith, e, b)))
 
   closed : (n m : ℕ) (c : Tree) → Stands ns doc n c → n + node_count c ≡ m → AreNeat ns doc n m xs signs → sign_at signs n ≡ 0 → runs_below c (stage_at xs n) ≡ false → Shows n m []
   closed n m c s e neat own u = empty n m (λ k a b. elim (eqb_tells n k) [
@@ -220,7 +221,7 @@ module _ (ns : List Entry) (doc : Recipe) (xs : List Stage) (signs : List ℕ) w
     link-step s (follows name c) n m e h neat told =
         (let own = neat n (act s (follows name c)) (omega arith) (omega (arith, e)) h in
         let t = told n (act s (follows name c)) (omega arith) (omega (arith, e)) h in
-        let b = told (n + 1) c (omega arith) (omega (arith, e, count-pos c)) h.1 in
+        let b = told (n + 1) c (omega arith) (omega (arith, e, some_count c)) h.1 in
         let f : n + 1 + node_count c ≡ m = omega (arith, e) in
         shows-act n m s name c (stage_at xs n) (omega (arith, e)) own.shown t.finished
         (λ u. zeros-below n m (act s (follows name c)) h e neat u)

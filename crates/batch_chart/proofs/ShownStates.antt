@@ -16,6 +16,7 @@ use Rattle.batch_model.proofs.Members.{Has-split}
 use Rattle.batch_model.specs.Plant.{Batch, phase_states}
 use Rattle.batch_model.specs.Rest.{same_place, Rest, live, acts, is_done, place_of}
 use Rattle.batch_recipe.specs.declared.entry.Entry.{Entry}
+use Rattle.batch_recipe.proofs.Below.{some_count}
 use Rattle.batch_chart.specs.declared.node.Kind.{Kind}
 use Rattle.batch_chart.specs.declared.node.Kind.TheVariants as kind
 use Rattle.batch_recipe.specs.declared.recipe.Recipe.{Recipe}
@@ -231,20 +232,12 @@ module _ (ns : List Entry) (doc : Recipe) (xs : List Stage) where
   root-place : (t : Tree) → IsActTree t → place_at t 0 ≡ root
   root-place x1 x2 = grind arith
 
-  some-node : (t : Tree) → 0 < node_count t
-  some-node (act s w) = omega arith
-  some-node skip = omega arith
-  some-node (seq ts) = omega arith
-  some-node (par ts) = omega arith
-  some-node (sel ch) = omega arith
-  some-node (loop i p body) = omega arith
-
   module _ (t : Tree) (laid : IsLaid ns doc t) where
     same-number : (j k : ℕ) → j < length ns → k < length ns → same_place (place_at t j) (place_at t k) ≡ nat_eq j k
     same-number j k l m = told (nodes_of t) (in_order (0 ∷ []) [] t).1 k (node_at t k) (node-got ns doc t laid k m) j (node_at t j) (node-got ns doc t laid j l)
 
     is-root : (k : ℕ) → k < length ns → same_place (place_at t k) root ≡ nat_eq k 0
-    is-root k lt = sym (ap (same_place (place_at t k)) (root-place t laid.root)) ∙ same-number k 0 lt (omega (arith, laid.count, some-node t))
+    is-root k lt = sym (ap (same_place (place_at t k)) (root-place t laid.root)) ∙ same-number k 0 lt (omega (arith, laid.count, some_count t))
 
     abbrev there : Place → Rest → Bool
     there p a = same_place (place_of a) p
@@ -394,7 +387,7 @@ module _ (ns : List Entry) (doc : Recipe) (xs : List Stage) where
 
       pub state-root : k ≡ 0 → SomeLives ns doc xs → IsStateAt ns doc xs k x (Some x)
       state-root e lives =
-          let lt : k < length ns = omega (arith, e, lives.1.count, some-node lives.0) in
+          let lt : k < length ns = omega (arith, e, lives.1.count, some_count lives.0) in
           record {
             means = λ t b laid alive m f g r. sym (at-root t laid b k lt f r e ∙ ap Some g);
             past = only-within (Some x) lt;

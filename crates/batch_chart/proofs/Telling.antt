@@ -10,6 +10,7 @@ use Rattle.batch_model.specs.Settled.{IsAdvanced}
 use Rattle.batch_machine.proofs.Advancing.{reach-advanced}
 use Rattle.batch_recipe.specs.declared.entry.Entry.{Entry}
 use Rattle.batch_recipe.specs.declared.recipe.Recipe.{Recipe}
+use Rattle.batch_recipe.proofs.Below.{some_count}
 use Rattle.batch_chart.specs.declared.stage.Stage.{Stage}
 use Rattle.batch_chart.specs.declared.stage.Stage.TheVariants.{Finished}
 use Rattle.batch_chart.specs.Stages.{stage_at, is_finished, is_begun, turns_of}
@@ -18,7 +19,7 @@ use Rattle.batch_chart.specs.Outlined.{end_at, Stands, AreStanding, AreChoices}
 use Rattle.batch_chart.specs.Told.{TellsWhetherOver, AreTold}
 use Rattle.batch_chart.proofs.Agreeing.{meaning-agree, agree-part}
 use Rattle.batch_chart.proofs.Choosing.{chosen-false}
-use Rattle.batch_chart.proofs.Standing.{count-pos, stood, nested, nested-each, nested-choices}
+use Rattle.batch_chart.proofs.Standing.{stood, nested, nested-each, nested-choices}
 
 pub finished-means : (c : Tree) (n : ℕ) (xs : List Stage) → stage_at xs n ≡ Finished → meaning c n xs ≡ done
 finished-means (act s w) n xs e = ap (λ x. act_as s w (meaning_below w (n + 1) xs) x) e
@@ -70,7 +71,7 @@ module _ (ns : List Entry) (doc : Recipe) where
   pub told-agree : (c : Tree) (j : ℕ) (xs ys : List Stage) → AgreeWithin j (j + node_count c) xs ys → TellsWhetherOver c j xs → TellsWhetherOver c j ys
   told-agree c j xs ys h t =
       let m = meaning-agree xs ys c j h in
-      record { finished = ap is_finished (h j (omega arith) (omega (arith, count-pos c))) ∙ t.finished ∙ sym (ap is_done m); advanced = subst IsAdvanced (sym m) t.advanced }
+      record { finished = ap is_finished (h j (omega arith) (omega (arith, some_count c))) ∙ t.finished ∙ sym (ap is_done m); advanced = subst IsAdvanced (sym m) t.advanced }
 
   -- where the stages stay, they go on telling
   pub told-same : (n m : ℕ) (xs ys : List Stage) → AreNested ns doc n m → AgreeWithin n m xs ys → AreTold ns doc n m xs → AreTold ns doc n m ys

@@ -6,6 +6,7 @@ use Rattle.batch_matrix.specs.declared.command.Command.{Command}
 use Rattle.batch_recipe.specs.Nodes.{node_count}
 use Rattle.batch_recipe.specs.Tree.{Task, follows, Tree, act}
 use Rattle.batch_recipe.specs.declared.entry.Entry.{Entry}
+use Rattle.batch_recipe.proofs.Below.{some_count}
 use Rattle.batch_chart.specs.declared.node.Kind.{Kind}
 use Rattle.batch_chart.specs.declared.node.Kind.TheVariants.{Act}
 use Rattle.batch_recipe.specs.declared.recipe.Recipe.{Recipe}
@@ -24,7 +25,7 @@ use Rattle.batch_signs.specs.Signs.{sign_at}
 use Rattle.batch_chart.specs.Upkeep.{IsKeptUp}
 use Rattle.batch_chart.proofs.Agreeing.{stage-set_same, stage-set_other}
 use Rattle.batch_chart.proofs.Neat.{finished-shows, neat-after, neat-one, neat-part, neat-same}
-use Rattle.batch_chart.proofs.Standing.{count-pos, stood, some-stands, ActAt, act_at, act-at}
+use Rattle.batch_chart.proofs.Standing.{stood, some-stands, ActAt, act_at, act-at}
 use Rattle.batch_chart.proofs.Stepping.{fits-count, more-act, act-here}
 use Rattle.batch_chart.proofs.Telling.{nests, nests-below}
 
@@ -57,7 +58,7 @@ module _ (ns : List Entry) (doc : Recipe) (t : Tree) (laid : IsLaid ns doc t) (k
   k-end = (stood ns doc k at-k.0 at-k.1).end
 
   k-below : k < end_at ns k
-  k-below = omega (arith, k-end, count-pos at-k.0)
+  k-below = omega (arith, k-end, some_count at-k.0)
 
   apart : (j : ℕ) → (j < k) ⊎ (end_at ns k ≤ j) → j ≢ k
   apart j (inl q) = λ e. absurd (omega (arith, q, e))
@@ -156,7 +157,7 @@ module _ (ns : List Entry) (doc : Recipe) (t : Tree) (laid : IsLaid ns doc t) (k
       go _ (act_at s name d a f g) = omega (arith, f, (stood ns doc (k + 1) d a).end)
 
   here-below : k < end_at ns k
-  here-below = omega (arith, (stood ns doc k here.0 here.1).end, count-pos here.0)
+  here-below = omega (arith, (stood ns doc k here.0 here.1).end, some_count here.0)
 
   opened : stage_at ys k ≡ Open
   opened = outside k (inl (omega arith)) ∙ stage-set_same xs k Open (omega (arith, lt, fits))

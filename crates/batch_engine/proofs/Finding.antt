@@ -5,7 +5,6 @@ use Rattle.std.proofs.lemmas.List.Quantifiers.{position-Some}
 use Rattle.std.proofs.lemmas.Option.{slice_get_read, slice_get_within, slice_get-get_or, get_or_from_slice_get, slice_get-map}
 use Rattle.batch_recipe.specs.Expanding.{Binding}
 use Rattle.batch_recipe.specs.declared.recipe.Recipe as document
-use Rattle.batch_model.specs.Recipes.{recipe_of}
 use Rattle.batch_recipe.specs.Conditions.{Name, same_name}
 use Rattle.batch_recipe.specs.Tree.{Place, Step, Tree}
 use Rattle.batch_recipe.specs.declared.need.Need.{Need}
@@ -30,7 +29,7 @@ use Rattle.batch_chart.specs.OwnMoves.{grants}
 use Rattle.batch_chart.proofs.Laid.{is_chart}
 use Rattle.batch_chart.specs.Charts.{AsksAt, IsChartFor, IsChartOf, IsRunningOf, IsRunning, remains}
 use Rattle.batch_engine.specs.declared.batch.Batch.{Batch}
-use Rattle.batch_engine.specs.View.{EngineView, setup, no_recipe, master_at, bound_to, recipe_at, recipe_made, batch_of, act_of, share_of, place_in, names_of, number_of, line_at, plant_of, tree_of}
+use Rattle.batch_engine.specs.View.{EngineView, setup, no_recipe, master_at, bound_to, recipe_made, batch_of, act_of, share_of, place_in, names_of, number_of, line_at, plant_of, tree_of}
 use Rattle.batch_engine.specs.Kept.{IsKept, IsRunningBatch}
 use Rattle.batch_engine.proofs.Cells.{length-capacities}
 use Rattle.batch_engine.proofs.Nodes.{same-node, within-or_past}
@@ -217,10 +216,3 @@ module _ (v : EngineView) (k : IsKept v) (i : ℕ) (b : Batch) (at : slice_get v
         let l_is : l ≡ need = same-need node l need (subst (λ z. asks_here z l) same asks) here in
         not_first (serves-first node need q here number (subst₂ (λ y z. served_here y z) same l_is served))
   ]
-
--- the recipe with a number, as it is read
-pub recipe-read : (c : ClearedSet) (rs : List document.Recipe) (j q : ℕ) (r : document.Recipe) → rs ≡ c.recipes → j ≡ q → q < length c.recipes → r ≡ get_or rs j r
-    → (units : List ℕ) → recipe_at c q units ≡ recipe_of r (bound_to c q units)
-recipe-read c rs j q r e f l h units =
-    let at : slice_get c.recipes q ≡ Some r = slice_get_read c.recipes (length c.recipes) q r refl l (h ∙ ap₂ (λ xs i. get_or xs i r) e f) in
-    ap (λ (m : Master). m.control (bound_to c q units)) (master-found c q r at)

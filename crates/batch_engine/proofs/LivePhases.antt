@@ -11,7 +11,7 @@ use Rattle.batch_model.specs.Plant as Model
 use Rattle.batch_model.specs.Rest.{Rest}
 use Rattle.batch_laws.proofs.Entries.{name_same, name_self}
 use Rattle.batch_chart.specs.Looked.{live_by, live_phase_at}
-use Rattle.batch_chart.specs.NodesOf.{node_at, nodes_of, phase_at, phase_named}
+use Rattle.batch_chart.specs.NodesOf.{node_at, nodes_of, phase_at, phase_in, phase_named, task_of}
 use Rattle.batch_engine.proofs.Nodes.{within-or_past}
 use Rattle.batch_engine.proofs.Numbered.{name-at}
 
@@ -26,6 +26,10 @@ phase-within t k names e = elim (within-or_past k (node_count t)) [
     past [] j h = refl
     past (n ∷ ns) zero h = absurd (omega arith)
     past (n ∷ ns) (suc j) h = past ns j (omega arith)
+
+-- it runs the phase with that name
+pub named-phase : (here : Tree) (names : Name × Name) → phase_named here ≡ Some names → (phase_in (task_of here)).name ≡ names.1
+named-phase here names e = grind arith
 
 module _ (t : Tree) (b : Model.Batch) (later : ℕ → List Rest) (unit phase : Name) (node : ℕ) (x : State) (units : List Name) (number : ℕ)
     (own : position (same_name (phase_at t node).unit) units ≡ Some number) where

@@ -32,7 +32,7 @@ use Rattle.batch_engine.specs.declared.batch.Batch.{Batch}
 use Rattle.batch_engine.specs.View as View
 use Rattle.batch_engine.specs.View.{EngineView, act_of, share_of, acts_of, names_of, number_of, line_in, line_at, plant_of, tree_of}
 use Rattle.batch_engine.specs.Kept.{IsKept}
-use Rattle.batch_engine.specs.Steps.{IsNext, IsQuiet}
+use Rattle.batch_engine.specs.Steps.{IsNext}
 use Rattle.batch_engine.proofs.Told.{told, safe, standing}
 use Rattle.batch_engine.proofs.BatchPlaces.{Has-batch_of}
 use Rattle.batch_engine.proofs.Finding.{named, has, batch-runs, tree-placed, claim-act, act-claim, line-units}
@@ -40,6 +40,14 @@ use Rattle.batch_engine.proofs.Placing.{step-place}
 use Rattle.batch_engine.proofs.Allocating.{lines-asked, once-asked, cell-asked, shares-released, cell-released, lines-granted, shares-granted, once-granted, cell-granted, first-of-line}
 use Rattle.batch_engine.proofs.Stepping.{changed, IsMove, plant-after, kept-after}
 use Rattle.batch_engine.proofs.Room.{room-quiet, room-asked, room-granted, room-released}
+
+-- a move that neither asks for anything, nor gives anything back, nor changes the batch's state
+abbrev pub IsQuiet : Move → Type 0
+IsQuiet (Send k command) = Unit {0}
+IsQuiet (Begin k) = Unit {0}
+IsQuiet (Start k) = Unit {0}
+IsQuiet (End k) = Unit {0}
+IsQuiet _ = ⊥
 
 -- what the engine becomes by a move
 pub record Becomes (v : EngineView) (w : EngineView) (m : Moves.Move) : Type 0 where

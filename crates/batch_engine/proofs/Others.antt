@@ -12,7 +12,7 @@ use Rattle.batch_recipe.specs.Values.{are_outputs, left_out}
 use Rattle.batch_model.specs.Lists.{Has}
 use Rattle.batch_model.specs.Plant.{Formula, size_out_of_range, value_out_of_range, scaled, Recipe, Master, Setup, Batch, Share, Plant, opening, batch_at, in_batch}
 use Rattle.batch_model.specs.Moves.{Move, next, after, batch_of, batch_after, batch_moves}
-use Rattle.batch_model.specs.Events.{Event, create, order, remove, report, Reply, ordered, removed, reported, refused, unknown_recipe, unknown_batch, command_not_accepted, no_live_phase, report_not_expected, bad_output, output_left_out, owed, accepting, bad_binding, full, not_idle, moves_pending, Answer, is_full, new_batch, creating, creating_for, binding, is_binding, bound_by, roles_told, commanded, lines_under, ordering, without_batch, removing, LivePhase, live_phase, batch_state_after, outputs_of, batch_reported, reporting, judged, react}
+use Rattle.batch_model.specs.Events.{Event, create, order, remove, report, Reply, ordered, removed, refused, unknown_recipe, unknown_batch, command_not_accepted, no_live_phase, report_not_expected, bad_output, output_left_out, owed, accepting, bad_binding, full, not_idle, moves_pending, Answer, is_full, new_batch, creating, creating_for, binding, is_binding, bound_by, roles_told, commanded, lines_under, ordering, without_batch, removing, LivePhase, live_phase, outputs_of, batch_reported, reporting, judged, react}
 use Rattle.batch_model.specs.Runs.{Out, reply, move, Reacts, Leads}
 use Rattle.batch_model.specs.Records.{waiters_after}
 use Rattle.batch_model.specs.declared.limits.TheConstants.{LAST_NUMBER}

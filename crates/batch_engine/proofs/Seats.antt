@@ -17,8 +17,9 @@ use Rattle.batch_recipe.specs.Tree.{Tree}
 use Rattle.batch_recipe.specs.declared.recipe.Recipe as document
 use Rattle.batch_verify.specs.ClearedSet.{ClearedSet}
 use Rattle.batch_arbiter.specs.Allocation.{Allocation}
-use Rattle.batch_chart.specs.Charts.{IsChartOf, IsRunning, IsRunningOf}
+use Rattle.batch_chart.specs.Charts.{CanMake, IsChartOf, IsRunning, IsRunningOf}
 use Rattle.batch_chart.specs.NodesOf.{node_at, step_at}
+use Rattle.batch_chart.specs.declared.chart_move.Move.{Move}
 use Rattle.batch_engine.specs.Batches.{BatchList, with_batch_at}
 use Rattle.batch_engine.specs.declared.batch.Batch.{Batch}
 use Rattle.batch_engine.specs.declared.numbers.ActNumbers.{ActNumbers}
@@ -28,7 +29,7 @@ use Rattle.batch_engine.specs.Numbered.{AreActsNumbered, IsActNumbered}
 use Rattle.batch_engine.specs.View.{EngineView, batch_of, bound_to, plant_of, seen, setup, tree_of}
 use Rattle.batch_engine.specs.Kept.{IsCounted, IsKept}
 use Rattle.batch_engine.specs.Orders.{IsOrdered}
-use Rattle.batch_engine.specs.Steps.{IsNeedAt, IsNext, Makes}
+use Rattle.batch_engine.specs.Steps.{IsMover, IsNeedAt, IsNext, IsOwnStep, Makes}
 use Rattle.batch_engine.proofs.Answering.{same-at}
 use Rattle.batch_engine.proofs.BatchPlaces.{made_by}
 use Rattle.batch_engine.proofs.Filing.{own-numbers-set}
@@ -83,6 +84,19 @@ seat-of {v} {w} {i} {b} {x} e r h =
       running = runs-here v r.kept i b r.at x listed;
     }
 
+-- The batch that makes the next move
+pub mover : {v w : EngineView} {i : ℕ} {b : Batch} {m : Move} → w ≡ v → IsKept w → IsOwnStep v (IsNext v) i m → b ≡ get_or w.batches i b → IsMover v i b m
+mover {v} {w} {i} {b} {m} e k g h =
+    let r : IsRead v i b = read-there e k g.here.at h in
+    subst (λ (z : Batch). IsMover v i z m) (same-at v.batches i g.batch b g.here.at r.at)
+    (record {
+      kept = r.kept;
+      at = g.here.at;
+      can = λ x f. subst (λ (z : document.Recipe). CanMake z g.batch.running m) (same-at v.cleared.recipes g.batch.recipe g.chart x g.here.listed f) g.can;
+      about = g.about;
+      is = g.is;
+    })
+
 -- The batch with a number
 
 pub record IsFound (v : EngineView) (n i : ℕ) (b : Batch) : Type 0 where
@@ -106,11 +120,9 @@ found-here {v} {w} {n} {i} {b} e k p h =
 -- The act at a node of the batch
 
 -- where a move of it gives back a need, or asks for it
-pub needs-there : {v : EngineView} {i node need : ℕ} {b : Batch} → IsRead v i b → node < node_count (tree_of v.cleared b) → need < length (step_at (tree_of v.cleared b) node).needs → IsNeedAt v v.numbers b node need
-needs-there {v} {i} r few less = record { kept = r.kept; numbers_are = refl; index = i; at = r.at; few = few; less = less }
-
-pub needed : {v : EngineView} {ns : List RecipeNumbers} {b : Batch} {node need : ℕ} → ns ≡ v.numbers → IsNeedAt v v.numbers b node need → IsNeedAt v ns b node need
-needed {v} {ns} {b} {node} {need} e h = subst (λ (xs : List RecipeNumbers). IsNeedAt v xs b node need) (sym e) h
+pub needs-there : {v : EngineView} {ns : List RecipeNumbers} {node need : ℕ} {b : Batch} (i : ℕ) → ns ≡ v.numbers → IsKept v → slice_get v.batches i ≡ Some b
+    → node < node_count (tree_of v.cleared b) → need < length (step_at (tree_of v.cleared b) node).needs → IsNeedAt v ns b node need
+needs-there i e k at few less = record { kept = k; numbers_are = e; index = i; at = at; few = few; less = less }
 
 -- what is read of the numbers of its recipe
 pub acts-here : {v : EngineView} {ns : List RecipeNumbers} {i q : ℕ} {b : Batch} {x : RecipeNumbers} → ns ≡ v.numbers → IsRead v i b → q ≡ b.recipe → x ≡ get_or ns q x

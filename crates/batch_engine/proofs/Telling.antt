@@ -2,7 +2,6 @@
 use Rattle.std.proofs.Common.{◌≡◌, ◌<◌, refl, sym, ◌∙◌, ap, ap₂, subst, ℕ, zero, suc, List, [], ◌∷◌, Option, Some, None, arith, length, get_or}
 use Rattle.std.specs.Prelude.{slice_get, option_map, unwrap_or}
 use Rattle.std.specs.List.{zip}
-use Rattle.std.proofs.lemmas.Option.{slice_get_read}
 use Rattle.batch_matrix.specs.declared.command.Command.{Command}
 use Rattle.batch_matrix.specs.declared.state.State.{State}
 use Rattle.batch_recipe.specs.Conditions.{Name}
@@ -94,9 +93,8 @@ module _ (c : ClearedSet) (recipe : ℕ) (r : Recipe) (at : slice_get c.recipes 
     handed-told k =
         ap Names.handed_of (node-is k) ∙ handed-alike (bound_to c recipe units) r.acts k ∙ ap Names.handed_of (node-bound k) ∙ handed-seen (nodes_of (tree_at c recipe units)) k
 
-    pub reports-told : (k : ℕ) → Names.reports_at c recipe k ≡ (Tree.phase_at (tree_at c recipe units) k).reports
-    reports-told k =
-        ap reports_of (node-is k) ∙ reports-alike (bound_to c recipe units) r.acts k ∙ ap reports_of (node-bound k) ∙ reports-seen (nodes_of (tree_at c recipe units)) k
+    pub reports-read : (k : ℕ) → reports_of (Names.node_of k r) ≡ (Tree.phase_at (tree_at c recipe units) k).reports
+    reports-read k = reports-alike (bound_to c recipe units) r.acts k ∙ ap reports_of (node-bound k) ∙ reports-seen (nodes_of (tree_at c recipe units)) k
 
 pub some-at : (rs : List Recipe) (k : ℕ) → k < length rs → (r : Recipe) × (slice_get rs k ≡ Some r)
 some-at [] k l = absurd (omega arith)
@@ -105,9 +103,6 @@ some-at (r ∷ rs) (suc k) l = some-at rs k (omega arith)
 
 pub resource-told : (c : ClearedSet) (name : Name) (q : ℕ) → number_of c name ≡ Some q → Names.resource_name c q ≡ name
 resource-told c name q e = ap (λ (o : Option Name). unwrap_or o []) (named c name q e)
-
-pub got-recipe : (rs xs : List Recipe) (j q : ℕ) (r : Recipe) → rs ≡ xs → j ≡ q → q < length xs → r ≡ get_or rs j r → slice_get xs q ≡ Some r
-got-recipe rs xs j q r e f l h = slice_get_read xs (length xs) q r refl l (h ∙ ap₂ (λ zs k. get_or zs k r) e f)
 
 -- Lines of the batch at an index
 
@@ -118,15 +113,15 @@ module _ (v : EngineView) (k : IsKept v) (i : ℕ) (b : Batch) (at : slice_get v
   pub place-here : (n : ℕ) → Names.place_at v.cleared b.recipe n ≡ Tree.place_at (tree_of v.cleared b) n
   place-here n = place-told v.cleared b.recipe recipe-here.0 recipe-here.1 b.units n
 
-  pub reports-here-told : (n : ℕ) → Names.reports_at v.cleared b.recipe n ≡ (Tree.phase_at (tree_of v.cleared b) n).reports
-  reports-here-told n = reports-told v.cleared b.recipe recipe-here.0 recipe-here.1 b.units n
+  reports-told : (n : ℕ) → Names.reports_at v.cleared b.recipe n ≡ (Tree.phase_at (tree_of v.cleared b) n).reports
+  reports-told n = ap reports_of (node-is v.cleared b.recipe recipe-here.0 recipe-here.1 n) ∙ reports-read v.cleared b.recipe recipe-here.0 recipe-here.1 b.units n
 
   phase-here : (n u f : ℕ) → Names.resource_name v.cleared u ≡ (Tree.phase_at (tree_of v.cleared b) n).unit → Names.phase_name v.cleared u f ≡ (Tree.phase_at (tree_of v.cleared b) n).name
       → Names.phase_at v.cleared b.recipe n u f ≡ Tree.phase_at (tree_of v.cleared b) n
   phase-here n u f unit name =
       ap₂ (λ x y. let p : Phase = record { unit = x; name = y; handed = Names.handed_at v.cleared b.recipe n; reports = Names.reports_at v.cleared b.recipe n } in p) unit name
       ∙ ap₂ (λ (y z : List Name). let p : Phase = record { unit = (Tree.phase_at (tree_of v.cleared b) n).unit; name = (Tree.phase_at (tree_of v.cleared b) n).name; handed = y; reports = z } in p)
-      (handed-told v.cleared b.recipe recipe-here.0 recipe-here.1 b.units n) (reports-here-told n)
+      (handed-told v.cleared b.recipe recipe-here.0 recipe-here.1 b.units n) (reports-told n)
 
   need-here : (n need q u : ℕ) → number_of v.cleared (need_at (tree_of v.cleared b) n need).resource ≡ Some q → (need_at (tree_of v.cleared b) n need).units ≡ u
       → Names.need_of v.cleared q u ≡ need_at (tree_of v.cleared b) n need

@@ -2,7 +2,8 @@
 use Rattle.std.specs.Prelude.{◌≡◌, ◌<◌, ℕ, List, [], Option, Some, None, IfSome, option_map, slice_get, length, position, ⊤}
 use Rattle.batch_model.specs.Moves as Model
 use Rattle.batch_model.specs.Moves.{next, after, least, batch_moves, grant}
-use Rattle.batch_arbiter.specs.Allocation.{next_grant, batch_node, resource_count}
+use Rattle.batch_model.specs.Plant.{batch_at}
+use Rattle.batch_arbiter.specs.Allocation.{Allocation, asked, batch_node, next_grant, released, resource_count}
 use Rattle.batch_chart.specs.NodesOf.{node_at, place_at, step_at, need_at, phase_at, phase_named}
 use Rattle.batch_cell.specs.LookUps.{units_of}
 use Rattle.batch_recipe.specs.Conditions.{Name, same_name}
@@ -12,7 +13,7 @@ use Rattle.batch_chart.specs.OwnMoves.{grants}
 use Rattle.batch_chart.specs.Seen.{move_of}
 use Rattle.batch_recipe.specs.declared.recipe.Recipe as document
 use Rattle.batch_chart.specs.declared.chart_move.Move.{Move}
-use Rattle.batch_chart.specs.declared.chart_move.Move.TheVariants.{Send, Begin, Start, End}
+use Rattle.batch_chart.specs.declared.chart_move.Move.TheVariants.{Ask, Release, State}
 use Rattle.batch_engine.specs.declared.batch.Batch.{Batch}
 use Rattle.batch_engine.specs.declared.line.ClaimKind.{ClaimKind}
 use Rattle.batch_engine.specs.declared.line.Line.{Line}
@@ -82,6 +83,11 @@ IsNextStep v (Some s) = IsStep v (IsNext v) s
 abbrev pub IsBatch : EngineView → Batch → Type 0
 IsBatch v b = (i : ℕ) × (slice_get v.batches i ≡ Some b)
 
+-- the batch of the engine with this number, if one has it
+abbrev pub IsFoundBy : EngineView → ℕ → Option Batch → Type 0
+IsFoundBy v n None = batch_at (plant_of v) n ≡ None
+IsFoundBy v n (Some b) = IsBatch v b × (batch_at (plant_of v) n ≡ Some (batch_of v.cleared b))
+
 -- the first act in line of a batch that the arbiter would serve
 abbrev pub IsFirstGrant : EngineView → Batch → Option (ℕ × ℕ × ℕ) → Type 0
 IsFirstGrant v b None = grants (setup v.cleared) (plant_of v) (batch_of v.cleared b) ≡ []
@@ -94,13 +100,10 @@ touched_by (Line.Claim ClaimKind.Granted batch recipe node resource units) = Som
 touched_by (Line.Claim ClaimKind.Released batch recipe node resource units) = Some resource
 touched_by _ = None
 
--- a move that neither asks for anything, nor gives anything back, nor changes the batch's state
-abbrev pub IsQuiet : Move → Type 0
-IsQuiet (Send k command) = ⊤
-IsQuiet (Begin k) = ⊤
-IsQuiet (Start k) = ⊤
-IsQuiet (End k) = ⊤
-IsQuiet _ = ⊥
+-- a move of an act, and no change of the batch's state
+abbrev pub IsOfAct : Move → Type 0
+IsOfAct (State state) = ⊥
+IsOfAct m = ⊤
 
 -- the engine makes its plant's next move, m
 pub record Makes (old new : EngineView) (m : Model.Move) : Type 0 where
@@ -125,16 +128,31 @@ abbrev pub IsNumberAt : ClearedSet → Batch → ℕ → ℕ → ℕ → ℕ →
 IsNumberAt c b node need resource units =
     (number_of c (need_at (tree_of c b) node need).resource ≡ Some resource) × ((need_at (tree_of c b) node need).units ≡ units)
 
+-- this batch, at an index, makes its plant's next move
+pub record IsMover (v : EngineView) (i : ℕ) (b : Batch) (m : Move) : Type 0 where
+  pub kept : IsKept v
+  pub at : slice_get v.batches i ≡ Some b
+  pub can : (chart : document.Recipe) → slice_get v.cleared.recipes b.recipe ≡ Some chart → CanMake chart b.running m
+  pub about : StandsFor (tree_of v.cleared b) (remains (tree_of v.cleared b) b.running) m
+  pub is : IsNext v (move_of (tree_of v.cleared b) (batch_of v.cleared b) m)
+
+-- these are the engine's numbers, and its arbiter
+abbrev pub IsMaking : EngineView → List RecipeNumbers → Allocation → ℕ → Batch → Move → Type 0
+IsMaking v numbers allocation i b m = IsMover v i b m × (numbers ≡ v.numbers) × (allocation ≡ v.allocation)
+
+-- the arbiter takes what a move of the batch asks for or gives back
+abbrev pub IsClaimed : ClearedSet → Batch → Move → Allocation → Allocation → Type 0
+IsClaimed c b (Ask node need) old new =
+    (resource : ℕ) × (units : ℕ) × IsNumberAt c b node need resource units × (new ≡ asked resource (record { batch = b.number; node = node; units = units }) old)
+IsClaimed c b (Release node need) old new = (resource : ℕ) × (units : ℕ) × IsNumberAt c b node need resource units × (new ≡ released resource b.number node old)
+IsClaimed c b m old new = new ≡ old
+
 -- a batch of the engine has an act at this node
 pub record IsNodeAt (v : EngineView) (b : Batch) (node : ℕ) : Type 0 where
   pub kept : IsKept v
   pub index : ℕ
   pub at : slice_get v.batches index ≡ Some b
   pub few : node < node_count (tree_of v.cleared b)
-
--- the batch at an index has an act at this node
-abbrev pub HasNode : EngineView → ℕ → ℕ → Type 0
-HasNode v i node = (b : Batch) × (slice_get v.batches i ≡ Some b) × (node < node_count (tree_of v.cleared b))
 
 -- these are the numbers of the phase that the act at the node of a batch runs, if it runs one; the unit's is its number among the units
 pub record IsPhaseAt (c : ClearedSet) (b : Batch) (node unit phase : ℕ) : Type 0 where

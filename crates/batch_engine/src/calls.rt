@@ -93,27 +93,32 @@ impl Engine {
     pub fn state_of(&self, batch: u64, place: &Place) -> Option<State>
         ensures { result ≡ state_of (plant_of self.now) batch place.now }
     {
-        self.control.state_of(batch, place)
+        let batch = self.control.find(batch)?;
+        let cleared = self.control.cleared();
+        let node = cleared.node_of(batch.recipe, place)?;
+        batch
+            .running
+            .state_at(cleared.recipe(batch.recipe), node, batch.state)
     }
 
     /// The value with this name of the batch with this number. None where there is no such batch, or no such value.
     pub fn value_of(&self, batch: u64, name: &Name) -> Option<u64>
         ensures { result ≡ value_in (plant_of self.now) batch name.now }
     {
-        self.control.value_of(batch, name)
+        self.control.find(batch)?.values.value_of(name)
     }
 
     /// The state of the batch with this number. None where there is no such batch.
     pub fn batch_state(&self, batch: u64) -> Option<State>
         ensures { result ≡ batch_state_in (plant_of self.now) batch }
     {
-        self.control.batch_state(batch)
+        Some(self.control.find(batch)?.state)
     }
 
     /// How many batches are neither complete, stopped nor aborted.
     pub fn unfinished(&self) -> usize
         ensures { result ≡ unfinished (plant_of self.now) }
     {
-        self.control.unfinished()
+        self.control.batches().unfinished()
     }
 }

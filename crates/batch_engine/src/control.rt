@@ -1,25 +1,22 @@
 //! The control of batches.
-ghost use Rattle.std.specs.Prelude.{◌≡◌, IfOk, IfErr, Some, None, length};
+ghost use Rattle.std.specs.Prelude.{◌≡◌, IfOk, IfErr, None, option_copied};
 ghost use Rattle.batch_arbiter.specs.Allocation.{resource_count};
-ghost use Rattle.batch_model.specs.ActStates.{state_of};
 ghost use Rattle.batch_model.specs.Moves.{next};
 ghost use Rattle.batch_model.specs.Plant.{opening};
 ghost use Rattle.batch_engine.specs.Answered.{IsAnswered};
 ghost use Rattle.batch_engine.specs.Kept.{IsKept};
-ghost use Rattle.batch_engine.specs.Led.{IsLed};
-ghost use Rattle.batch_engine.specs.Looked.{batch_state_in, value_in};
 ghost use Rattle.batch_engine.specs.Marked.{AreNoted};
+ghost use Rattle.batch_engine.specs.Steps.{IsFoundBy};
 ghost use Rattle.batch_engine.specs.Surface.{event_of};
 ghost use Rattle.batch_engine.specs.View.{setup, plant_of};
 
+use crate::batch::Batch;
 use crate::batches::Batches;
 use crate::event::Event;
 use crate::numbering::number_recipes;
 use crate::numbers::RecipeNumbers;
 use crate::reply::Reply;
 use batch_arbiter::Arbiter;
-use batch_matrix::State;
-use batch_text::{Name, Place};
 use batch_verify::Cleared;
 use std::alloc::{AllocError, Global};
 use std::marker::Model;
@@ -81,8 +78,7 @@ impl Control {
 
     /// The recipes, and their cell.
     pub(crate) fn cleared(&self) -> &Cleared
-        ensures value { result.now ≡ self.now.cleared }
-        ensures led { IsLed self.now }
+        ensures { result.now ≡ self.now.cleared }
     {
         &self.cleared
     }
@@ -94,11 +90,11 @@ impl Control {
         let _number = self.next_number;
     }
 
-    /// How many batches there are.
-    pub(crate) fn len(&self) -> usize
-        ensures { result ≡ length self.now.batches }
+    /// The batches, by rising number.
+    pub(crate) fn batches(&self) -> &Batches
+        ensures { result.now.batches ≡ self.now.batches }
     {
-        self.batches.len()
+        &self.batches
     }
 
     /// How many resources there are.
@@ -127,38 +123,11 @@ impl Control {
         }
     }
 
-    /// The state that the act at a place of the batch with this number shows. None where there is no such batch, or no act at that place.
-    pub(crate) fn state_of(&self, batch: u64, place: &Place) -> Option<State>
-        ensures { result ≡ state_of (plant_of self.now) batch place.now }
+    /// The batch with this number.
+    pub(crate) fn find(&self, number: u64) -> Option<&Batch>
+        ensures { IsFoundBy self.now number (option_copied result) }
     {
-        let Some(index) = self.index_of(batch) else {
-            return None;
-        };
-        let batch = &self.batches[index];
-        let Some(node) = self.cleared.node_of(batch.recipe, place) else {
-            return None;
-        };
-        let chart = self.cleared.recipe(batch.recipe);
-        batch.running.state_at(chart, node, batch.state)
-    }
-
-    /// The value with this name of the batch with this number. None where there is no such batch, or no such value.
-    pub(crate) fn value_of(&self, batch: u64, name: &Name) -> Option<u64>
-        ensures { result ≡ value_in (plant_of self.now) batch name.now }
-    {
-        let Some(index) = self.index_of(batch) else {
-            return None;
-        };
-        self.batches[index].values.value_of(name)
-    }
-
-    /// The state of the batch with this number. None where there is no such batch.
-    pub(crate) fn batch_state(&self, batch: u64) -> Option<State>
-        ensures { result ≡ batch_state_in (plant_of self.now) batch }
-    {
-        let Some(index) = self.index_of(batch) else {
-            return None;
-        };
-        Some(self.batches[index].state)
+        let index = self.index_of(number)?;
+        Some(&self.batches[index])
     }
 }

@@ -102,7 +102,7 @@ impl Control {
         ensures { Tells self.now batch.now (Moves.Start node) result }
     {
         let PhaseNumber { unit, phase } = self.phase_at(batch, node);
-        let recipe = &self.cleared.recipes()[usize::from(batch.recipe)];
+        let recipe = self.cleared.recipe(batch.recipe);
         Line::Start {
             batch: batch.number,
             recipe: batch.recipe,

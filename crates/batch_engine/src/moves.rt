@@ -1,13 +1,35 @@
 //! Making the next move.
-ghost use Rattle.std.specs.Prelude.{Some};
+ghost use Rattle.std.specs.Prelude.{Some, ℕ};
 ghost use Rattle.batch_chart.specs.declared.chart_move.Move.TheVariants as Moves;
-ghost use Rattle.batch_engine.specs.Steps.{IsGrantStep, IsNext, IsNextStep, IsOwnStep, IsQuiet, MakesNext};
+ghost use Rattle.batch_engine.specs.Steps.{IsClaimed, IsGrantStep, IsMaking, IsNext, IsNextStep, IsOfAct, IsOwnStep, MakesNext};
+ghost use Rattle.batch_engine.specs.View.{EngineView};
 
+use crate::batch::Batch;
 use crate::control::Control;
+use crate::numbers::RecipeNumbers;
 use crate::pending::resource_at;
 use crate::step::Step;
+use batch_arbiter::Arbiter;
 use batch_chart::Move;
 use batch_matrix::State;
+
+/// An act that asks for a resource joins its line, and one that releases it gives it back. Other moves need nothing of the arbiter.
+fn claim(arbiter: &mut Arbiter, numbers: &[RecipeNumbers], batch: &Batch, made: Move)
+    requires { (v : EngineView) × (i : ℕ) × IsMaking v numbers.now arbiter.old i batch.now made }
+    ensures { (v : EngineView) (i : ℕ) → IsMaking v numbers.now arbiter.old i batch.now made → IsClaimed v.cleared batch.now made arbiter.old arbiter.new }
+{
+    match made {
+        Move::Ask { node, need } => {
+            let (resource, units) = resource_at(numbers, batch, node, need);
+            arbiter.ask(resource, units, batch.number, node);
+        }
+        Move::Release { node, need } => {
+            let (resource, _units) = resource_at(numbers, batch, node, need);
+            arbiter.release(resource, batch.number, node);
+        }
+        _ => {}
+    }
+}
 
 impl Control {
     /// The batch at an index changes its state.
@@ -19,43 +41,16 @@ impl Control {
         batch.state = state;
     }
 
-    /// The batch at an index makes a move that needs nothing of the arbiter.
+    /// The batch at an index makes a move of an act.
     fn run(&mut self, index: usize, made: Move)
         requires step { IsOwnStep self.old (IsNext self.old) index made }
-        requires quiet { IsQuiet made }
+        requires act { IsOfAct made }
         ensures { MakesNext self.old self.new }
     {
         let batch = &mut self.batches[index];
+        claim(&mut self.arbiter, &self.numbers, batch, made);
         let chart = self.cleared.recipe(batch.recipe);
         batch.running.make(chart, made, &batch.values);
-    }
-
-    /// An act of the batch at an index joins the line of a resource.
-    fn ask(&mut self, index: usize, node: u16, need: u16)
-        requires { IsOwnStep self.old (IsNext self.old) index (Moves.Ask node need) }
-        ensures { MakesNext self.old self.new }
-    {
-        let batch = &mut self.batches[index];
-        let (resource, units) = resource_at(&self.numbers, batch, node, need);
-        self.arbiter.ask(resource, units, batch.number, node);
-        let chart = self.cleared.recipe(batch.recipe);
-        batch
-            .running
-            .make(chart, Move::Ask { node, need }, &batch.values);
-    }
-
-    /// An act of the batch at an index gives a resource back.
-    fn release(&mut self, index: usize, node: u16, need: u16)
-        requires { IsOwnStep self.old (IsNext self.old) index (Moves.Release node need) }
-        ensures { MakesNext self.old self.new }
-    {
-        let batch = &mut self.batches[index];
-        let (resource, _units) = resource_at(&self.numbers, batch, node, need);
-        self.arbiter.release(resource, batch.number, node);
-        let chart = self.cleared.recipe(batch.recipe);
-        batch
-            .running
-            .make(chart, Move::Release { node, need }, &batch.values);
     }
 
     /// The act first in the line of a resource gets it.
@@ -76,8 +71,6 @@ impl Control {
     {
         match made {
             Move::State(state) => self.change_state(index, state),
-            Move::Ask { node, need } => self.ask(index, node, need),
-            Move::Release { node, need } => self.release(index, node, need),
             _ => self.run(index, made),
         }
     }

@@ -52,8 +52,7 @@ impl Control {
     {
         let batch = &mut self.batches[index];
         let chart = self.cleared.recipe(batch.recipe);
-        let recipe = &self.cleared.recipes()[usize::from(batch.recipe)];
-        batch.values.clear_outputs(&recipe.outputs);
+        batch.values.clear_outputs(&chart.outputs);
         batch.state = State::Idle;
         batch.running.reset(chart);
     }

@@ -99,7 +99,7 @@ impl Control {
         let mut from = 0;
         while let Some(index) = marks.next(from) {
             // A mark past the last batch is left where batches were removed.
-            if index >= self.len() {
+            if index >= self.batches.len() {
                 return None;
             }
             if let Some(step) = self.batch_step(index) {

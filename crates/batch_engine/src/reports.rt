@@ -1,23 +1,24 @@
 //! Reports of phases.
-ghost use Rattle.std.specs.Prelude.{◌≡◌, ◌<◌, ◌&&◌, ℕ, List, Some, None, length, not, slice_get};
+ghost use Rattle.std.specs.Prelude.{◌≡◌, ◌<◌, ◌&&◌, ℕ, List, Some, None, length, not, position};
 ghost use Rattle.batch_matrix.specs.Matrix.{same_report};
 ghost use Rattle.batch_model.specs.Events as Events;
-ghost use Rattle.batch_model.specs.Events.{batch_state_after};
+ghost use Rattle.batch_model.specs.Events.{batch_state_after, owed};
 ghost use Rattle.batch_model.specs.Moves.{is_stopping, next};
 ghost use Rattle.batch_engine.specs.Answered.{IsAnswered};
 ghost use Rattle.batch_engine.specs.Marked.{AreNoted};
-ghost use Rattle.batch_engine.specs.Reports.{IsLeftOutAt, IsLiveIn, IsLivePhase};
-ghost use Rattle.batch_engine.specs.Steps.{HasNode, IsPhaseAt};
-ghost use Rattle.batch_engine.specs.declared.batch.Batch.{Batch};
+ghost use Rattle.batch_engine.specs.Names.{node_of};
+ghost use Rattle.batch_engine.specs.Reports.{IsLiveIn, IsLivePhase};
+ghost use Rattle.batch_recipe.specs.Nodes.{reports_of};
+ghost use Rattle.batch_recipe.specs.Values.{have_output};
 ghost use Rattle.batch_engine.specs.View.{number_of, plant_of, setup};
 
 use crate::control::Control;
 use crate::event::PhaseReport;
-use crate::numbers::PhaseNumber;
+use crate::live_phase::LivePhase;
 use crate::refusal::Refusal;
 use crate::reply::Reply;
 use batch_matrix::{Command, Report, State, after, after_report};
-use batch_recipe::{are_outputs, first_left_out, reports_at};
+use batch_recipe::{Recipe, are_outputs, first_left_out, reports_at};
 use batch_text::Name;
 
 /// The state of a batch after a report: a fault takes it to Holding where its state accepts hold.
@@ -40,10 +41,20 @@ fn owes_outputs(word: Report, state: State) -> bool
     matches!(word, Report::Done) && !matches!(state, State::Stopping | State::Aborting)
 }
 
+/// The number, among those that the phase step at a node reports, of the first output that its phase has to report with the word
+/// and leaves out.
+fn left_out(recipe: &Recipe, node: u16, state: State, report: &PhaseReport) -> Option<usize>
+    ensures { result ≡ position (λ name. not (have_output report.now.outputs.items name)) (owed state report.now.word (reports_of (node_of node recipe.now))) }
+{
+    if !owes_outputs(report.word, state) {
+        return None;
+    }
+    first_left_out(reports_at(recipe, node), &report.outputs)
+}
+
 impl Control {
-    /// The live phase with this name that the batch at an index runs on the unit with this number among the resources: its node
-    /// and its state.
-    fn live_in(&self, index: usize, unit: u16, phase: &Name) -> Option<(u16, State)>
+    /// The live phase with this name that the batch at an index runs on the unit with this number among the resources.
+    fn live_in(&self, index: usize, unit: u16, phase: &Name) -> Option<LivePhase>
         requires { index < length self.now.batches }
         ensures { (name : List ℕ) → number_of self.now.cleared name ≡ Some unit → IsLiveIn self.now index name phase.now result }
     {
@@ -51,46 +62,30 @@ impl Control {
         let chart = self.cleared.recipe(batch.recipe);
         let mut from = 0;
         while let Some((node, state)) = batch.running.live(chart, phase, from) {
-            if self.phase_at(batch, node).unit == unit {
-                return Some((node, state));
+            let number = self.phase_at(batch, node);
+            if number.unit == unit {
+                return Some(LivePhase {
+                    index,
+                    recipe: batch.recipe,
+                    node,
+                    state,
+                    phase: number,
+                });
             }
             from = node + 1;
         }
         None
     }
 
-    /// The live phase of the unit with this name: where the batch stands that holds the unit, its node and its state.
-    fn live(&self, holders: &[u64], unit: &Name, phase: &Name) -> Option<(usize, u16, State)>
+    /// The live phase of the unit with this name, in the batch that holds the unit.
+    fn live(&self, holders: &[u64], unit: &Name, phase: &Name) -> Option<LivePhase>
         requires { AreNoted self.now holders.now }
         ensures { IsLivePhase self.now unit.now phase.now result }
     {
         self.is_kept();
         let resource = self.cleared.cell().resource_of(unit)?;
         let index = self.index_of(holders[usize::from(resource)])?;
-        let (node, state) = self.live_in(index, resource, phase)?;
-        Some((index, node, state))
-    }
-
-    /// The first output that the live phase at a node of the batch at an index has to report and leaves out, by its number
-    /// among those that the phase step reports.
-    fn left_out(&self, index: usize, node: u16, state: State, report: &PhaseReport) -> Option<usize>
-        requires { index < length self.now.batches }
-        ensures { IsLeftOutAt self.now index node state report.now.word report.now.outputs.items result }
-    {
-        if !owes_outputs(report.word, state) {
-            return None;
-        }
-        let batch = &self.batches[index];
-        let chart = self.cleared.recipe(batch.recipe);
-        first_left_out(reports_at(chart, node), &report.outputs)
-    }
-
-    /// The numbers of the phase that an act of the batch at an index runs.
-    fn phase_of(&self, index: usize, node: u16) -> PhaseNumber
-        requires { HasNode self.now index node }
-        ensures { (batch : Batch) → slice_get self.now.batches index ≡ Some batch → IsPhaseAt self.now.cleared batch node result.unit result.phase }
-    {
-        self.phase_at(&self.batches[index], node)
+        self.live_in(index, resource, phase)
     }
 
     /// A live phase of a unit tells something.
@@ -99,41 +94,37 @@ impl Control {
         requires noted { AreNoted self.old holders.now }
         ensures { IsAnswered self.old (Events.report report.now.unit report.now.phase report.now.word report.now.outputs.items) result self.new }
     {
-        let Some((index, node, state)) = self.live(holders, &report.unit, &report.phase) else {
+        let Some(live) = self.live(holders, &report.unit, &report.phase) else {
             return Reply::Refused(Refusal::NoLivePhase);
         };
-        let Some(_end) = after_report(state, report.word) else {
-            return Reply::Refused(Refusal::ReportNotExpected(state));
+        let Some(_end) = after_report(live.state, report.word) else {
+            return Reply::Refused(Refusal::ReportNotExpected(live.state));
         };
-        let PhaseNumber { unit, phase } = self.phase_of(index, node);
-        let recipe = self.batches[index].recipe;
-        let outputs = &self.cleared.recipes()[usize::from(recipe)].outputs;
-        if !are_outputs(outputs, &report.outputs) {
+        let chart = self.cleared.recipe(live.recipe);
+        if !are_outputs(&chart.outputs, &report.outputs) {
             return Reply::Refused(Refusal::BadOutput);
         }
-        if let Some(output) = self.left_out(index, node, state, report) {
+        if let Some(output) = left_out(chart, live.node, live.state, report) {
             return Reply::Refused(Refusal::OutputLeftOut {
-                recipe,
-                node,
+                recipe: live.recipe,
+                node: live.node,
                 output,
             });
         }
-        let batch = &mut self.batches[index];
-        let number = batch.number;
-        let chart = self.cleared.recipe(batch.recipe);
+        let batch = &mut self.batches[live.index];
         batch.values.set_outputs(&report.outputs);
         let next = state_after(report.word, batch.state);
         batch.state = next;
         batch
             .running
-            .report(chart, node, report.word, &batch.values);
+            .report(chart, live.node, report.word, &batch.values);
         Reply::Reported {
-            unit,
-            phase,
+            unit: live.phase.unit,
+            phase: live.phase.phase,
             word: report.word,
-            batch: number,
-            recipe,
-            node,
+            batch: batch.number,
+            recipe: live.recipe,
+            node: live.node,
             state: next,
         }
     }

@@ -1,22 +1,20 @@
 //! Batches that are still to be finished.
-ghost use Rattle.std.specs.Prelude.{◌≡◌, ◌||◌, not};
+ghost use Rattle.std.specs.Prelude.{◌≡◌, ◌||◌, count_by, not};
 ghost use Rattle.batch_matrix.specs.Matrix.{same_state};
 ghost use Rattle.batch_matrix.specs.declared.state.State.TheVariants.{Complete};
 ghost use Rattle.batch_model.specs.Moves.{is_stopped};
-ghost use Rattle.batch_engine.specs.Looked.{unfinished};
-ghost use Rattle.batch_engine.specs.View.{plant_of};
 
-use crate::control::Control;
+use crate::batches::Batches;
 use batch_matrix::State;
 
-impl Control {
-    /// How many batches are neither complete, stopped nor aborted.
+impl Batches {
+    /// How many are neither complete, stopped nor aborted.
     pub(crate) fn unfinished(&self) -> usize
-        ensures { result ≡ unfinished (plant_of self.now) }
+        ensures { result ≡ count_by (λ b. not (same_state b.state Complete || is_stopped b.state)) self.now.batches }
     {
         let mut count = 0;
-        for index in 0..self.batches.len() {
-            if is_unfinished(self.batches[index].state) {
+        for index in 0..self.len() {
+            if is_unfinished(self[index].state) {
                 count += 1;
             }
         }

@@ -1,12 +1,10 @@
 use Rattle.std.proofs.Common.{refl}
 use Rattle.batch_model.specs.Moves as Moves
-use Rattle.batch_chart.specs.declared.chart_move.Move.TheVariants as Chart
 use Rattle.batch_engine.specs.declared.batch.Batch.{Batch}
 use Rattle.batch_engine.specs.Steps.{IsNext}
 use Rattle.batch_engine.specs.View.{EngineView}
-use Rattle.batch_engine.proofs.Answering.{step-is}
 use Rattle.batch_engine.proofs.Made.{Becomes, state-changed}
-use Rattle.batch_engine.proofs.Seats.{IsRead, closed-makes, counted-set, read-there}
+use Rattle.batch_engine.proofs.Seats.{closed-makes, counted-set, mover}
 use Rattle.batch_engine.proofs.Stepping.{changed}
 use Rattle.batch_engine.proofs.control.Control.change_state.Goals as goal
 use Rattle.batch_engine.proofs.control.Control.change_state.Goals.{After-index_mut-batch}
@@ -22,9 +20,8 @@ made : (c : After-index_mut-batch) → IsNext c.args.self.now (move c)
 made c =
     let v : EngineView = c.args.self.now in
     let b : Batch = c.index_mut-batch.result.now in
-    let r : IsRead v c.args.index b = read-there c.self.view_is c.self.invariant.kept c.requires.here.at c.index_mut-batch.ensures.value in
-    let is : IsNext v (move c) = step-is v c.args.index b r.at (Chart.State c.args.state) c.requires in
-    (is, state-changed v r.kept c.args.index b r.at c.args.state is)
+    let h = mover c.self.view_is c.self.invariant.kept c.requires c.index_mut-batch.ensures.value in
+    (h.is, state-changed v h.kept c.args.index b h.at c.args.state h.is)
 
 pub invariant_of-self : goal.invariant_of-self
 invariant_of-self c =

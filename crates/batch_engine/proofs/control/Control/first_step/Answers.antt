@@ -1,4 +1,4 @@
-use Rattle.std.proofs.Common.{◌≡◌, ◌<◌, sym, subst, ℕ, arith, length, inl, inr}
+use Rattle.std.proofs.Common.{◌≡◌, ◌<◌, sym, ap, subst, ℕ, arith, length, inl, inr}
 use Rattle.batch_engine.specs.View.{EngineView}
 use Rattle.batch_engine.specs.Marked.{HasNoMove}
 use Rattle.batch_engine.specs.Steps.{IsLeastAt, IsNext, IsBatchStep, index_of}
@@ -12,13 +12,13 @@ returns-then-index-len c =
     let v : EngineView = c.args.self.now in
     none-next v c.is_kept.ensures (λ j lt. elim (within-or_past j c.loop-index.from) [
       | inl q ↦ c.loop-index.invariant.1 j q lt
-      | inr q ↦ c.requires j lt (c.in-Some.ensures.3 j q (omega (arith, lt, c.len.ensures, c.if-index-len.true)))
+      | inr q ↦ c.requires j lt (c.in-Some.ensures.3 j q (omega (arith, lt, c.len.ensures, c.if-index-len.true, ap (λ (z : EngineView). length z.batches) c.self.view_is)))
     ])
 
 pub returns-in-Some-batch_step : goal.returns-in-Some-batch_step
 returns-in-Some-batch_step c =
     let v : EngineView = c.args.self.now in
-    let less : c.in-Some.index < length v.batches = omega (arith, c.len.ensures, c.if-index-len.false) in
+    let less : c.in-Some.index < length v.batches = omega (arith, c.len.ensures, c.if-index-len.false, ap (λ (z : EngineView). length z.batches) c.self.view_is) in
     let before : (j : ℕ) → j < c.in-Some.index → HasNoMove v j = λ j lt. elim (within-or_past j c.loop-index.from) [
       | inl q ↦ c.loop-index.invariant.1 j q (omega (arith, lt, less))
       | inr q ↦ c.requires j (omega (arith, lt, less)) (c.in-Some.ensures.3 j q lt)

@@ -1,12 +1,12 @@
 use Rattle.std.proofs.Common.{◌≡◌, ◌∙◌, refl, sym, ap, []}
 use Rattle.batch_matrix.specs.declared.command.Command.TheVariants.{Reset}
 use Rattle.batch_matrix.specs.declared.state.State.TheVariants.{Idle}
-use Rattle.batch_model.specs.Plant.{Recipe}
+use Rattle.batch_model.specs.Plant.{Master}
 use Rattle.batch_recipe.specs.Conditions.{ValueList}
 use Rattle.batch_recipe.specs.Values.{with_outputs_zero}
 use Rattle.batch_engine.specs.declared.batch.Batch.{Batch}
-use Rattle.batch_engine.specs.View.{EngineView, recipe_made, tree_of}
-use Rattle.batch_engine.proofs.Finding.{in-charts, recipe-read}
+use Rattle.batch_engine.specs.View.{EngineView, bound_to, recipe_made, tree_of}
+use Rattle.batch_engine.proofs.Finding.{master-found}
 use Rattle.batch_engine.proofs.OrderAnswers.{order-at}
 use Rattle.batch_engine.proofs.Ordering.{Ordered, reset-made}
 use Rattle.batch_engine.proofs.Seats.{IsSeat, closed-ordered, counted-set, read-there, seat-of}
@@ -26,8 +26,7 @@ made c s =
     let v : EngineView = c.args.self.now in
     let b : Batch = c.index_mut-batch.result.now in
     let outputs : (recipe_made v.cleared b).outputs ≡ c.deref.result.now =
-    ap (λ (z : Recipe). z.outputs) (recipe-read v.cleared c.recipes.result.now c.from.result b.recipe c.index-recipes-from.result (c.recipes.ensures.value ∙ ap (λ (z : EngineView). z.cleared.recipes) c.self.view_is) c.from.ensures (in-charts v s.kept c.args.index b s.at) c.index-recipes-from.is b.units)
-    ∙ sym c.deref.ensures.value in
+    ap (λ (m : Master). (m.control (bound_to v.cleared b.recipe b.units)).outputs) (master-found v.cleared b.recipe c.recipe-chart.result.now s.listed) ∙ sym c.deref.ensures.value in
     let left = λ (ws : ValueList). c.reset.ensures (tree_of v.cleared b) ws s.chart s.runs in
     reset-made v s.kept c.args.index c.args.number (order-at v c.args.index Reset c.args.number c.requires.order b s.at) c.reset.new.self c.clear_outputs.new.self
     (c.clear_outputs.ensures ∙ ap (λ z. with_outputs_zero z b.values) (sym outputs)) (left []).0 (λ ws. (left ws).1)

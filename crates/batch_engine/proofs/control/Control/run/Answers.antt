@@ -1,48 +1,80 @@
-use Rattle.std.proofs.Common.{refl}
+use Rattle.std.proofs.Common.{◌∙◌, refl, sym, ap, subst, ℕ}
+use Rattle.batch_arbiter.specs.Allocation.{Allocation, asked}
 use Rattle.batch_chart.specs.Seen.{move_of}
-use Rattle.batch_model.specs.Moves as Moves
+use Rattle.batch_chart.specs.declared.chart_move.Move.{Move}
+use Rattle.batch_chart.specs.declared.chart_move.Move.TheVariants.{Ask, Release, State}
+use Rattle.batch_chart.specs.declared.running.Running.{Running}
 use Rattle.batch_engine.specs.declared.batch.Batch.{Batch}
-use Rattle.batch_engine.specs.Steps.{IsNext}
+use Rattle.batch_engine.specs.Steps.{IsClaimed, IsMaking, IsMover, IsOfAct}
 use Rattle.batch_engine.specs.View.{EngineView, batch_of, tree_of}
-use Rattle.batch_engine.proofs.Answering.{step-can, step-is}
-use Rattle.batch_engine.proofs.Made.{Becomes, run-quiet}
-use Rattle.batch_engine.proofs.Seats.{IsSeat, closed-makes, counted-set, read-there, seat-of}
+use Rattle.batch_engine.proofs.Made.{Becomes, MadeChart, ask-made, release-made, run-quiet}
+use Rattle.batch_engine.proofs.RoomForAsk.{room-for-ask}
+use Rattle.batch_engine.proofs.Seats.{IsSeat, chart-within, closed-makes, counted-set, mover, seat-of}
 use Rattle.batch_engine.proofs.Stepping.{changed}
 use Rattle.batch_engine.proofs.control.Control.run.Goals as goal
-use Rattle.batch_engine.proofs.control.Control.run.Goals.{After-make, After-recipe-chart}
+use Rattle.batch_engine.proofs.control.Control.run.Goals.{After-deref, After-index_mut-batch, After-make, After-recipe-chart}
 
-seat : (c : After-recipe-chart) → IsSeat c.args.self.now c.args.index c.index_mut-batch.result.now c.recipe-chart.result.now
-seat c = seat-of c.self.view_is (read-there c.self.view_is c.self.invariant.kept c.requires.step.here.at c.index_mut-batch.ensures.value) c.recipe-chart.ensures
+-- what the engine becomes
+becomes : {v : EngineView} {i : ℕ} {b : Batch} (m : Move) (h : IsMover v i b m) {r : Running} {a : Allocation} → IsOfAct m → IsClaimed v.cleared b m v.allocation a → MadeChart v h.kept i b h.at m r
+    → Becomes v (changed v i (record b { running = r }) a) (move_of (tree_of v.cleared b) (batch_of v.cleared b) m)
+becomes {v} {i} {b} (Ask node need) h {r} {a} act (q, u, number, is) made =
+    subst (λ (z : Allocation). Becomes v (changed v i (record b { running = r }) z) (move_of (tree_of v.cleared b) (batch_of v.cleared b) (Ask node need)))
+    (ap (λ n. asked q (record { batch = b.number; node = node; units = n }) v.allocation) number.1 ∙ sym is)
+    (ask-made v h.kept i b h.at node need q r h.about number.0 made h.is (room-for-ask v h.kept i b h.at node need q h.about number.0 h.is))
+becomes {v} {i} {b} (Release node need) h {r} {a} act (q, u, number, is) made =
+    subst (λ (z : Allocation). Becomes v (changed v i (record b { running = r }) z) (move_of (tree_of v.cleared b) (batch_of v.cleared b) (Release node need))) (sym is)
+    (release-made v h.kept i b h.at node need q r h.about number.0 made h.is)
+becomes (State state) h act is made = absurd act
+becomes {v} {i} {b} m h {r} {a} act is made =
+    subst (λ (z : Allocation). Becomes v (changed v i (record b { running = r }) z) (move_of (tree_of v.cleared b) (batch_of v.cleared b) m)) (sym is)
+    (run-quiet v h.kept i b h.at m r tt made h.is)
 
-abbrev move : After-make → Moves.Move
-move c = move_of (tree_of c.args.self.now.cleared c.index_mut-batch.result.now) (batch_of c.args.self.now.cleared c.index_mut-batch.result.now) c.args.made
+moves : (c : After-index_mut-batch) → IsMover c.args.self.now c.args.index c.index_mut-batch.result.now c.args.made
+moves c = mover c.self.view_is c.self.invariant.kept c.requires.step c.index_mut-batch.ensures.value
 
-abbrev own : After-make → Batch
-own c = record (c.index_mut-batch.result.now) { running = c.make.new.self }
+-- these are the engine's numbers, and its arbiter
+makes : (c : After-deref) → IsMaking c.args.self.now c.deref.result.now c.self.inside.arbiter c.args.index c.index_mut-batch.result.now c.args.made
+makes c =
+    (mover c.self.view_is c.self.invariant.kept c.requires.step c.index_mut-batch.ensures.value, c.deref.ensures.value ∙ ap (λ (z : EngineView). z.numbers) c.self.view_is, ap (λ (z : EngineView). z.allocation) c.self.view_is)
 
-made : (c : After-make) → IsSeat c.args.self.now c.args.index c.index_mut-batch.result.now c.recipe-chart.result.now → IsNext c.args.self.now (move c)
-    × Becomes c.args.self.now (changed c.args.self.now c.args.index (own c) c.args.self.now.allocation) (move c)
-made c s =
-    let v : EngineView = c.args.self.now in
-    let b : Batch = c.index_mut-batch.result.now in
-    let is : IsNext v (move c) = step-is v c.args.index b s.at c.args.made c.requires.step in
-    (is, run-quiet v s.kept c.args.index b s.at c.args.made c.make.new.self c.requires.quiet (c.make.ensures (tree_of v.cleared b) s.chart s.runs) is)
+pub claim-requires : goal.claim-requires
+claim-requires c = (c.args.self.now, c.args.index, makes (goal.at.claim-requires c).After-deref)
+
+seat : (c : After-recipe-chart) → IsMover c.args.self.now c.args.index c.index_mut-batch.result.now c.args.made → IsSeat c.args.self.now c.args.index c.index_mut-batch.result.now c.recipe-chart.result.now
+seat c h = seat-of c.self.view_is (record { kept = h.kept; at = h.at }) c.recipe-chart.ensures
+
+pub recipe-chart-requires : goal.recipe-chart-requires
+recipe-chart-requires c = let h = moves (goal.at.recipe-chart-requires c).After-index_mut-batch in chart-within c.self.view_is (record { kept = h.kept; at = h.at })
 
 pub make-requires-clause-running : goal.make-requires-clause-running
-make-requires-clause-running c = (seat (goal.at.make-requires-clause-running c).After-recipe-chart).running
+make-requires-clause-running c = let w = goal.at.make-requires-clause-running c in (seat w.After-recipe-chart (moves w.After-index_mut-batch)).running
 
 pub make-requires-clause-possible : goal.make-requires-clause-possible
 make-requires-clause-possible c =
-    let s = seat (goal.at.make-requires-clause-possible c).After-recipe-chart in
-    step-can c.args.self.now c.args.index c.index_mut-batch.result.now s.at c.args.made c.requires.step c.recipe-chart.result.now s.listed
+    let w = goal.at.make-requires-clause-possible c in
+    let h = moves w.After-index_mut-batch in
+    h.can c.recipe-chart.result.now (seat w.After-recipe-chart h).listed
+
+-- what the move makes of the view
+abbrev own : After-make → Batch
+own c = record (c.index_mut-batch.result.now) { running = c.make.new.self }
+
+made : (c : After-make) (h : IsMaking c.args.self.now c.deref.result.now c.self.inside.arbiter c.args.index c.index_mut-batch.result.now c.args.made)
+    → IsSeat c.args.self.now c.args.index c.index_mut-batch.result.now c.recipe-chart.result.now
+    → Becomes c.args.self.now (changed c.args.self.now c.args.index (own c) c.claim.new.arbiter) (move_of (tree_of c.args.self.now.cleared c.index_mut-batch.result.now) (batch_of c.args.self.now.cleared c.index_mut-batch.result.now) c.args.made)
+made c h s =
+    becomes c.args.made h.0 c.requires.act
+    (subst (λ (z : Allocation). IsClaimed c.args.self.now.cleared c.index_mut-batch.result.now c.args.made z c.claim.new.arbiter) h.2 (c.claim.ensures c.args.self.now c.args.index h))
+    (c.make.ensures (tree_of c.args.self.now.cleared c.index_mut-batch.result.now) s.chart s.runs)
 
 pub invariant_of-self : goal.invariant_of-self
 invariant_of-self c =
     let w = goal.at.invariant_of-self c in
-    counted-set c.args.index (own w.After-make) (λ a. a) c.self.view_is c.self.invariant c.index_mut-batch.ensures.value refl refl refl (made w.After-make (seat w.After-recipe-chart)).1.kept
+    let h = makes w.After-deref in
+    counted-set c.args.index (own w.After-make) (λ a. c.claim.new.arbiter) c.self.view_is c.self.invariant c.index_mut-batch.ensures.value refl refl refl (made w.After-make h (seat w.After-recipe-chart h.0)).kept
 
 pub returns : goal.returns
 returns c =
     let w = goal.at.returns c in
-    let m = made w.After-make (seat w.After-recipe-chart) in
-    closed-makes c.args.index (own w.After-make) (λ a. a) c.self.view_is refl m.1 m.0
+    let h = makes w.After-deref in
+    closed-makes c.args.index (own w.After-make) (λ a. c.claim.new.arbiter) c.self.view_is refl (made w.After-make h (seat w.After-recipe-chart h.0)) h.0.is

@@ -1,18 +1,12 @@
-use Rattle.std.proofs.Common.{◌≡◌, ◌∙◌, ap, Some}
-use Rattle.std.specs.Prelude.{slice_get}
-use Rattle.batch_recipe.specs.declared.recipe.Recipe.{Recipe}
-use Rattle.batch_engine.specs.declared.batch.Batch.{Batch}
-use Rattle.batch_engine.specs.View.{EngineView}
-use Rattle.batch_engine.proofs.Finding.{in-charts}
-use Rattle.batch_engine.proofs.Telling.{start-told, got-recipe}
+use Rattle.batch_engine.proofs.Finding.{got-chart}
+use Rattle.batch_engine.proofs.Seats.{chart-within}
+use Rattle.batch_engine.proofs.Telling.{start-told}
 use Rattle.batch_engine.proofs.control.Control.start_line.Goals as goal
+
+pub recipe-recipe-requires : goal.recipe-recipe-requires
+recipe-recipe-requires c = chart-within c.self.view_is (record { kept = c.requires.kept; at = c.requires.at })
 
 pub returns : goal.returns
 returns c =
-    let v : EngineView = c.args.self.now in
-    let b : Batch = c.args.batch.now in
-    let x : Recipe = c.index-recipes-from.result in
-    let read : slice_get v.cleared.recipes b.recipe ≡ Some x =
-    got-recipe c.recipes.result.now v.cleared.recipes c.from.result b.recipe x (c.recipes.ensures.value ∙ ap (λ (z : EngineView). z.cleared.recipes) c.self.view_is) c.from.ensures
-    (in-charts v c.requires.kept c.requires.index b c.requires.at) c.index-recipes-from.is in
-    start-told v c.requires.kept c.requires.index b c.requires.at x read c.handed.result c.phase_at-unit.ensures c.handed.ensures
+    start-told c.args.self.now c.requires.kept c.requires.index c.args.batch.now c.requires.at c.recipe-recipe.result.now
+    (got-chart c.args.self.now _ c.args.batch.now.recipe c.recipe-recipe.result.now c.self.view_is c.recipe-recipe.ensures) c.handed.result c.phase_at-unit.ensures c.handed.ensures

@@ -1,0 +1,15 @@
+//! Live phases.
+use crate::numbers::PhaseNumber;
+use batch_matrix::State;
+
+/// A live phase of a batch.
+#[derive(Clone, Copy)]
+pub struct LivePhase {
+    /// Where its batch stands.
+    pub index: usize,
+    /// The number of the batch's recipe.
+    pub recipe: u16,
+    pub node: u16,
+    pub state: State,
+    pub phase: PhaseNumber,
+}
