@@ -1,5 +1,5 @@
-//! Tests of desks and their hub over documents, of plants that run in threads, of commands and the program over streams that fail, and of
-//! the reader of charts, by public names alone. Nothing stands on this crate.
+//! Tests of desks and their hub over documents, of plants that run in threads, and of the reader of charts, by public names alone.
+//! Nothing stands on this crate.
 #![tactic(auto)]
 
 #[cfg(test)]
@@ -31,13 +31,9 @@ mod plants;
 #[cfg(test)]
 mod ports;
 #[cfg(test)]
-mod program;
-#[cfg(test)]
 mod script;
 #[cfg(test)]
 mod seats;
-#[cfg(test)]
-mod shelf;
 #[cfg(test)]
 mod silent;
 #[cfg(test)]
@@ -46,5 +42,3 @@ mod stage;
 mod threads;
 #[cfg(test)]
 mod turns;
-#[cfg(test)]
-mod writes;
