@@ -19,8 +19,6 @@ mod hubs;
 #[cfg(test)]
 mod left;
 #[cfg(test)]
-mod limits;
-#[cfg(test)]
 mod lines;
 #[cfg(test)]
 mod looping;
