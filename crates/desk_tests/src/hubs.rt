@@ -12,11 +12,7 @@ use std::alloc::Global;
 use std::test::Fail;
 
 /// A hub of the engine and the desks of its ports, or why there is none.
-pub(crate) fn new_hub(
-    alloc: Global,
-    engine: Engine,
-    plans: &[PortPlan],
-) -> Result<(Hub, Vec<Desk>), HubFault>
+fn new_hub(alloc: Global, engine: Engine, plans: &[PortPlan]) -> Result<(Hub, Vec<Desk>), HubFault>
     requires { plant_of engine ≡ opening }
     ensures { IfOk result (λ r. rings r.0 ≡ map desk_rings r.1.items) }
 {

@@ -1,5 +1,5 @@
-//! Tests of desks and their hub over documents, of plants that run in threads, of commands and the program over streams that fail, and of
-//! the reader of charts, by public names alone. Nothing stands on this crate.
+//! Tests of desks and their hub over documents, of plants that run in threads, and of the reader of charts, by public names alone.
+//! Nothing stands on this crate.
 #![tactic(auto)]
 
 #[cfg(test)]
@@ -19,8 +19,6 @@ mod hubs;
 #[cfg(test)]
 mod left;
 #[cfg(test)]
-mod limits;
-#[cfg(test)]
 mod lines;
 #[cfg(test)]
 mod looping;
@@ -31,13 +29,9 @@ mod plants;
 #[cfg(test)]
 mod ports;
 #[cfg(test)]
-mod program;
-#[cfg(test)]
 mod script;
 #[cfg(test)]
 mod seats;
-#[cfg(test)]
-mod shelf;
 #[cfg(test)]
 mod silent;
 #[cfg(test)]
@@ -46,5 +40,3 @@ mod stage;
 mod threads;
 #[cfg(test)]
 mod turns;
-#[cfg(test)]
-mod writes;

@@ -20,17 +20,6 @@ fn open_gates() -> PlantGates<Open, Open, Open> {
     }
 }
 
-#[test]
-fn plant_of_three(rt: HostRuntime) -> Result<(), Fail> {
-    let alloc = rt.alloc();
-    let units = steady_units(alloc, 5)?;
-    assert_text(
-        &rt,
-        run(&rt, alloc, units, 1000, 3, 10_000_000, open_gates()),
-        "complete 3, handled 9, PlantRests { console: Some(0), link: Some(0) }",
-    )
-}
-
 fn silent_units(alloc: Global) -> Result<Simulator<Silent>, Fail> {
     let mut drivers = Vec::new(alloc);
     drivers.push(Silent)?;

@@ -2,8 +2,6 @@
 #![tactic(auto)]
 
 #[cfg(test)]
-mod arbiter;
-#[cfg(test)]
 mod boxes;
 #[cfg(test)]
 mod calls;
@@ -19,12 +17,6 @@ mod driving;
 mod ends;
 #[cfg(test)]
 mod faults;
-#[cfg(test)]
-mod judge;
-#[cfg(test)]
-mod paint;
-#[cfg(test)]
-mod paint_plant;
 #[cfg(test)]
 mod record_lines;
 #[cfg(test)]

@@ -47,12 +47,12 @@ pub(crate) fn engine_of(alloc: Global, cell: &str, recipes: &[&str]) -> Result<E
 }
 
 /// The event of a line.
-pub(crate) fn event_of(alloc: Global, line: &str) -> Result<Event, Fail> {
+fn event_of(alloc: Global, line: &str) -> Result<Event, Fail> {
     let event = read_event(alloc, line.as_bytes())?;
     Ok(event.ok_or("no event")?)
 }
 
-fn tell(engine: &Engine, out: Out, record: &mut Vec<u8>) -> Result<(), Fail> {
+pub(crate) fn tell(engine: &Engine, out: Out, record: &mut Vec<u8>) -> Result<(), Fail> {
     Ok(write_out(&out, engine.cleared(), record)?)
 }
 
@@ -68,7 +68,12 @@ fn settle(engine: &mut Engine, record: &mut Vec<u8>) -> Result<(), Fail> {
 }
 
 /// Takes the event of the line.
-fn take(alloc: Global, engine: &mut Engine, line: &str, record: &mut Vec<u8>) -> Result<(), Fail> {
+pub(crate) fn take(
+    alloc: Global,
+    engine: &mut Engine,
+    line: &str,
+    record: &mut Vec<u8>,
+) -> Result<(), Fail> {
     let reply = engine.accept(&event_of(alloc, line)?);
     tell(engine, Out::Reply(reply), record)
 }

@@ -1,9 +1,8 @@
 //! An engine, and the units of its cell.
-use crate::records::{engine_of, event_of};
+use crate::records::{engine_of, take, tell};
 use batch_drive::{DriveFault, drive};
 use batch_engine::{Engine, Line, Out};
 use batch_sim::{Order, Simulator, UnitDriver};
-use batch_wire::write_out;
 use std::alloc::Global;
 use std::io::Write;
 use std::test::Fail;
@@ -34,16 +33,6 @@ fn give_order<D: UnitDriver>(units: &mut Simulator<D>, line: Line) {
         }
         _ => {}
     }
-}
-
-fn tell(engine: &Engine, out: Out, record: &mut Vec<u8>) -> Result<(), Fail> {
-    Ok(write_out(&out, engine.cleared(), record)?)
-}
-
-/// Takes the event of the line.
-fn take(alloc: Global, engine: &mut Engine, line: &str, record: &mut Vec<u8>) -> Result<(), Fail> {
-    let reply = engine.accept(&event_of(alloc, line)?);
-    tell(engine, Out::Reply(reply), record)
 }
 
 /// Makes all moves that are possible, and gives the units their orders.
