@@ -2,7 +2,6 @@
 ghost use Rattle.std.specs.Prelude.{⊤};
 
 use crate::documents::CELL1;
-use batch_cell::Cell;
 use batch_commands::{Documents, Halt};
 use batch_plant::PlantFault;
 use batch_program::{Noted, PlantRunner, plants_are_complete, run_program, serving_is_safe};
@@ -35,7 +34,6 @@ impl PlantRunner for Restless {
         &self,
         _alloc: Global,
         _set: Cleared,
-        _cell: Cell,
         _options: PlantOptions,
     ) -> Result<u64, PlantFault> {
         Err(PlantFault::TurnsOut)
