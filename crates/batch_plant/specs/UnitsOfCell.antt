@@ -1,4 +1,4 @@
--- private: what a link keeps of the units of a cell.
+-- surface: what a link keeps of the units of a cell.
 use Rattle.std.specs.Prelude.{◌≡◌, ℕ, List, Some, slice_get}
 use Rattle.batch_cell.specs.LookUps.{phases_of, resources_of}
 use Rattle.batch_cell.specs.declared.cell.Cell.{Cell}
