@@ -58,7 +58,7 @@ done_success gives request quiet output errors _ (explains texts status asked to
     rw asked (explained_success texts output errors status told cc)
 done_success gives request quiet output errors _ (halts h status _ told) is = absurd (no_success quiet output errors h status told cc)
 done_success gives request quiet output errors _ (serves _ _ _ _ _ _) is = absurd cc
-done_success gives request quiet output errors _ (plants _ _ _ _ _ _ _ _) is = absurd cc
+done_success gives request quiet output errors _ (plants _ _ _ _ _ _) is = absurd cc
 
 told_success : (gives : Gives) (words : List Text) (output errors : Stream) (request : Request) (course : Course)
     → AskFor words request → IsRun gives words output errors course → course ≡ Ends 0 → IsSuccess gives request output
@@ -88,7 +88,7 @@ done_serving gives request quiet output errors set hushed _ (serves source set2 
 done_serving gives request quiet output errors set hushed _ (judges _ _ _ _ _ _) is = absurd cc
 done_serving gives request quiet output errors set hushed _ (explains _ _ _ _) is = absurd cc
 done_serving gives request quiet output errors set hushed _ (halts _ _ _ _) is = absurd cc
-done_serving gives request quiet output errors set hushed _ (plants _ _ _ _ _ _ _ _) is = absurd cc
+done_serving gives request quiet output errors set hushed _ (plants _ _ _ _ _ _) is = absurd cc
 
 served_set : (gives : Gives) (words : List Text) (output errors : Stream) (request : Request) (set : ClearedSet) (quiet : Bool) (course : Course)
     → AskFor words request → IsRun gives words output errors course → course ≡ Serves set quiet
@@ -112,7 +112,7 @@ demo_done gives request quiet output errors _ demo_asked (serves source set aske
 demo_done gives request quiet output errors _ demo_asked (halts h status halted _) = inr (inl (h, subst (λ r. Halts gives r h) demo_asked halted))
 demo_done gives request quiet output errors _ demo_asked (judges _ _ _ asked _ _) = absurd cc
 demo_done gives request quiet output errors _ demo_asked (explains _ _ asked _) = absurd cc
-demo_done gives request quiet output errors _ demo_asked (plants _ _ _ asked _ _ _ _) = absurd cc
+demo_done gives request quiet output errors _ demo_asked (plants _ _ asked _ _ _) = absurd cc
 
 pub no_command_serves : (gives : Gives) → NoCommandServes gives
 no_command_serves gives words output errors _ asked (commands other course asked2 came) =

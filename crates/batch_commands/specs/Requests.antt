@@ -1,11 +1,10 @@
 -- trusted: what comes of a request: what is printed, the set that is to be served, or why there is none.
 use Rattle.std.specs.Prelude.{◌≡◌, List, ℕ, [], ◌∷◌}
-use Rattle.batch_cell.specs.declared.cell.Cell.{Cell}
 use Rattle.batch_verify.specs.ClearedSet.{ClearedSet}
 use Rattle.batch_words.specs.CommandLine.{Judgement, check, draw, verify, Source, demo, documents, Request, judge, serve, plant, explain}
 use Rattle.batch_commands.specs.DemoDocuments.{demo_text}
 use Rattle.batch_commands.specs.Halting.{HaltsCheck, HaltsClearing, HaltsDrawing}
-use Rattle.batch_commands.specs.Reading.{AreCleared, ChecksDocuments, DrawsDocuments, Gives, ReadsCell, VerifiesDocuments}
+use Rattle.batch_commands.specs.Reading.{AreCleared, ChecksDocuments, DrawsDocuments, Gives, VerifiesDocuments}
 use Rattle.batch_commands.specs.declared.demo.TheConstants.{CELL_PATH, CERTIFICATE_PATH, RECIPE_PATH}
 use Rattle.batch_commands.specs.declared.refusal.Halt.{Halt}
 
@@ -16,10 +15,6 @@ demo_gives path reading = reading ≡ demo_text path
 -- the set of the demo, cleared by its certificate
 abbrev pub IsDemoSet : ClearedSet → Type 0
 IsDemoSet set = AreCleared demo_gives CELL_PATH.now CERTIFICATE_PATH.now (RECIPE_PATH.now ∷ []) set
-
--- the cell of the demo
-abbrev pub IsDemoCell : Cell → Type 0
-IsDemoCell c = ReadsCell demo_gives CELL_PATH.now c
 
 -- why there is no set of the demo
 abbrev pub HaltsDemo : Halt → Type 0

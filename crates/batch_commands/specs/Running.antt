@@ -9,9 +9,8 @@ use Rattle.batch_explain.specs.Explaining.{HaveNoCode, Tells}
 use Rattle.batch_words.specs.CommandLine.{IsShown, Judgement, Request, Source, asked_by, asks_quiet, explain, judge, plant, program_app, serve}
 use Rattle.batch_commands.specs.Judging.{status_of}
 use Rattle.batch_commands.specs.Reading.{Gives}
-use Rattle.batch_commands.specs.Requests.{Halts, IsDemoCell, IsDemoSet, IsSetOf, IsVerdict}
+use Rattle.batch_commands.specs.Requests.{Halts, IsDemoSet, IsSetOf, IsVerdict}
 use Rattle.batch_commands.specs.Saying.{IsSaid}
-use Rattle.batch_cell.specs.declared.cell.Cell.{Cell}
 use Rattle.batch_verify.specs.ClearedSet.{ClearedSet}
 use Rattle.batch_words.specs.declared.plant_options.PlantOptions.{PlantOptions}
 use Rattle.batch_commands.specs.declared.course.Course.{Course}
@@ -103,9 +102,9 @@ pub data IsDone (gives : Gives) (request : Request) (quiet : Bool) (output error
   serves : (source : Source) (set : ClearedSet)
       → request ≡ serve source → IsSetOf gives source set → IsUnwritten output → IsUnwritten errors
       → IsDone gives request quiet output errors (Serves set quiet)
-  plants : (set : ClearedSet) (c : Cell) (options : PlantOptions)
-      → request ≡ plant options.batches options.ticks options.ring → IsDemoSet set → IsDemoCell c → IsUnwritten output → IsUnwritten errors
-      → IsDone gives request quiet output errors (Plants set c options)
+  plants : (set : ClearedSet) (options : PlantOptions)
+      → request ≡ plant options.batches options.ticks options.ring → IsDemoSet set → IsUnwritten output → IsUnwritten errors
+      → IsDone gives request quiet output errors (Plants set options)
   explains : (texts : List Text) (status : ℕ)
       → request ≡ explain texts → IsExplained texts output errors status → IsDone gives request quiet output errors (Ends status)
   -- there is no verdict that accepts, or no set

@@ -1,5 +1,4 @@
 //! What the words of the program come to.
-use batch_cell::Cell;
 use batch_verify::Cleared;
 use batch_words::PlantOptions;
 
@@ -9,14 +8,7 @@ pub enum Course {
     /// All is said, and the program ends with this exit status.
     Ends(u8),
     /// The program is to serve event lines over this set, and to say nothing beside the record where quiet is asked for.
-    Serves {
-        set: Cleared,
-        quiet: bool,
-    },
-    /// The program is to run the plant of this set, which is that of the demo. The cell is the set's, read once more.
-    Plants {
-        set: Cleared,
-        cell: Cell,
-        options: PlantOptions,
-    },
+    Serves { set: Cleared, quiet: bool },
+    /// The program is to run the plant of this set, which is that of the demo.
+    Plants { set: Cleared, options: PlantOptions },
 }

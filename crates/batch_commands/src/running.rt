@@ -2,17 +2,16 @@
 ghost use Rattle.std.specs.Prelude.{◌≡◌, IfErr, IfOk, OnOk, map, string_bytes};
 ghost use Rattle.batch_words.specs.CommandLine.{judgement_of, request_of, source_of};
 ghost use Rattle.std.specs.Io.KnownBytes.{Appends};
-ghost use Rattle.batch_commands.specs.Requests.{HaltsDemo, HaltsJudgement, HaltsSource, IsDemoCell, IsDemoSet, IsSetOf, IsVerdict};
+ghost use Rattle.batch_commands.specs.Requests.{HaltsDemo, HaltsJudgement, HaltsSource, IsDemoSet, IsSetOf, IsVerdict};
 ghost use Rattle.batch_commands.specs.Running.{IsAnnounced, IsDone, IsExplained, IsPrinted, IsRefused, IsRun, fault_status};
 
 use crate::course::Course;
 use crate::demo::{CELL_PATH, CERTIFICATE_PATH, Demo, RECIPE_PATH};
 use crate::documents::{
-    Documents, check_documents, clear_documents, draw_documents, read_cell, verify_documents,
+    Documents, check_documents, clear_documents, draw_documents, verify_documents,
 };
 use crate::refusal::{DocumentRefusal, Halt};
 use crate::saying::say;
-use batch_cell::Cell;
 use batch_explain::explain;
 use batch_verify::Cleared;
 use batch_words::{CommandFault, CommandWords, Judgement, Source, Subcommand, parse};
@@ -91,8 +90,8 @@ fn run_command<D: Documents, O: Write, E: Write>(
             Ok(set) => Course::Serves { set, quiet },
             Err(halt) => Course::Ends(announce(alloc, quiet, &halt, output, errors)),
         },
-        Subcommand::Plant(options) => match read_plant(alloc) {
-            Ok((set, cell)) => Course::Plants { set, cell, options },
+        Subcommand::Plant(options) => match clear_demo(alloc) {
+            Ok(set) => Course::Plants { set, options },
             Err(halt) => Course::Ends(announce(alloc, quiet, &halt, output, errors)),
         },
         Subcommand::Explain { texts } => { Course::Ends(tell_codes(alloc, &texts, output, errors)) }
@@ -141,17 +140,6 @@ fn clear_demo(alloc: Global) -> Result<Cleared, Halt>
 {
     let recipes = [String::from_str(alloc, RECIPE_PATH)?];
     clear_documents(alloc, &Demo, CELL_PATH, CERTIFICATE_PATH, &recipes)
-}
-
-/// The set of the demo, and its cell once more.
-fn read_plant(alloc: Global) -> Result<(Cleared, Cell), Halt>
-    ensures set { IfOk result (λ read. IsDemoSet read.0) }
-    ensures cell { IfOk result (λ read. IsDemoCell read.1) }
-    ensures halted { IfErr result HaltsDemo }
-{
-    let set = clear_demo(alloc)?;
-    let cell = read_cell(alloc, &Demo, CELL_PATH)?;
-    Ok((set, cell))
 }
 
 /// Tells why a command ends so, and gives the exit status.

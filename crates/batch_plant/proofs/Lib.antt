@@ -1,3 +1,4 @@
 pub mod Deeds
 pub mod Closings
 pub mod Joins
+pub mod UnitsKept

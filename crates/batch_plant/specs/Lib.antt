@@ -3,3 +3,4 @@ pub mod LinkSteps
 pub mod Plants
 pub mod Parts
 pub mod Faults
+pub mod UnitsOfCell

@@ -2,6 +2,7 @@
 #![tactic(auto)]
 
 mod answer;
+mod cell_units;
 mod closing;
 mod console_thread;
 mod ending;
@@ -21,7 +22,9 @@ mod plant_rests;
 mod plant_task;
 mod reporting;
 mod running;
+mod unit_phases;
 
+pub use cell_units::CellUnits;
 pub use linking::link_loop;
 pub use plant_end::PlantEnd;
 pub use plant_fault::PlantFault;

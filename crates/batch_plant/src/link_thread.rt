@@ -3,11 +3,11 @@ ghost use Rattle.std.specs.Prelude.{◌≡◌, Err, IfOk, IfSome, IsNone, IsSome
 ghost use Rattle.batch_plant.specs.Parts.{LinkRan};
 ghost use Rattle.batch_plant.specs.declared.plant_fault.PlantFault.TheVariants.{Thread};
 
+use crate::cell_units::CellUnits;
 use crate::ending::ended;
 use crate::flag::FlagGate;
 use crate::linking::link_loop;
 use crate::plant_fault::PlantFault;
-use batch_cell::Cell;
 use batch_desk::{Desk, Gate, LoopEnd};
 use batch_sim::{Simulator, UnitDriver};
 use std::alloc::Global;
@@ -19,7 +19,7 @@ use std::thread::{Promise, PromisedHandle, Threads};
 #[derive(Drop)]
 pub(crate) struct LinkPromise<D: Drop> {
     desk: Snapshot<Desk>,
-    cell: Snapshot<Cell>,
+    cell: Snapshot<CellUnits>,
     units: Snapshot<Simulator<D>>,
 }
 
@@ -36,7 +36,7 @@ fn run<D: UnitDriver, G: Gate + Drop>(
     alloc: Global,
     desk: Desk,
     units: Simulator<D>,
-    cell: Cell,
+    cell: CellUnits,
     batches: u64,
     gate: FlagGate<G>,
     limit: u64,
@@ -63,7 +63,7 @@ pub(crate) fn start_link<
     alloc: Global,
     desk: Desk,
     units: Simulator<D>,
-    cell: Cell,
+    cell: CellUnits,
     batches: u64,
     gate: FlagGate<G>,
     limit: u64,

@@ -9,10 +9,10 @@ ghost use Rattle.batch_plant.specs.Links.{IsLink, Links, TakeOut, listed, report
 ghost use Rattle.batch_plant.specs.LinkSteps.{Counts, KnowsUnits, SendsKept, TicksUnit, kept_in, linked};
 
 use crate::answer::Answer;
+use crate::cell_units::CellUnits;
 use crate::link::Link;
 use crate::ordering::give_order;
 use crate::reporting::report_event;
-use batch_cell::Cell;
 use batch_desk::{Desk, Full, Gate, LoopEnd};
 use batch_engine::{Event, Line, Out};
 use batch_matrix::State;
@@ -28,7 +28,7 @@ pub fn link_loop<D: UnitDriver, G: Gate>(
     alloc: Global,
     desk: &mut Desk,
     units: &mut Simulator<D>,
-    cell: &Cell,
+    cell: &CellUnits,
     batches: u64,
     gate: &mut G,
     limit: u64,
@@ -62,7 +62,7 @@ fn make_turn<D: UnitDriver>(
     link: &mut Link,
     desk: &mut Desk,
     units: &mut Simulator<D>,
-    cell: &Cell,
+    cell: &CellUnits,
 )
     requires { KnowsUnits cell.now link.old }
     ensures knows { KnowsUnits cell.now link.new }
@@ -115,7 +115,7 @@ fn is_complete(out: Out) -> bool
 }
 
 /// Sends the report that is kept, if memory is found and the ring has a place for it.
-fn send_report(alloc: Global, link: &mut Link, desk: &mut Desk, cell: &Cell, answer: Answer)
+fn send_report(alloc: Global, link: &mut Link, desk: &mut Desk, cell: &CellUnits, answer: Answer)
     requires kept { link.old.kept ≡ Some answer }
     requires unit { answer.unit < length (units_of cell.now) }
     ensures none { (link.new.kept ≡ None) ⊎ (link.new.kept ≡ link.old.kept) }
@@ -144,7 +144,7 @@ fn send_event(link: &mut Link, desk: &mut Desk, event: Event)
 }
 
 /// A moment passes at the next unit, and the report that it answers with is kept.
-fn tick_next<D: UnitDriver>(link: &mut Link, units: &mut Simulator<D>, cell: &Cell)
+fn tick_next<D: UnitDriver>(link: &mut Link, units: &mut Simulator<D>, cell: &CellUnits)
     requires knows { KnowsUnits cell.now link.old }
     requires none { link.old.kept ≡ None }
     ensures knows { KnowsUnits cell.now link.new }
@@ -157,7 +157,7 @@ fn tick_next<D: UnitDriver>(link: &mut Link, units: &mut Simulator<D>, cell: &Ce
 }
 
 /// A moment passes at the unit, and gives what it answers, if that is to be reported.
-fn tick_unit<D: UnitDriver>(units: &mut Simulator<D>, cell: &Cell, unit: u16) -> Option<Answer>
+fn tick_unit<D: UnitDriver>(units: &mut Simulator<D>, cell: &CellUnits, unit: u16) -> Option<Answer>
     requires { unit < length (units_of cell.now) }
     ensures ticks { TicksUnit D.tick_gives cell.now unit units.old result units.new }
     ensures unit { IfSome result (λ kept. kept.unit ≡ unit) }
@@ -169,7 +169,7 @@ fn tick_unit<D: UnitDriver>(units: &mut Simulator<D>, cell: &Cell, unit: u16) ->
 }
 
 /// The answer, if the unit has a phase with that number.
-fn report_kept(cell: &Cell, answer: Answer) -> Option<Answer>
+fn report_kept(cell: &CellUnits, answer: Answer) -> Option<Answer>
     requires { answer.unit < length (units_of cell.now) }
     ensures kept { kept_in cell.now result ≡ listed (report_in cell.now answer.unit (Some (answer.phase, answer.word))) }
     ensures unit { IfSome result (λ kept. kept.unit ≡ answer.unit) }
@@ -181,7 +181,7 @@ fn report_kept(cell: &Cell, answer: Answer) -> Option<Answer>
 }
 
 /// The unit that comes after this one, in turn.
-fn unit_after(cell: &Cell, unit: u16) -> u16
+fn unit_after(cell: &CellUnits, unit: u16) -> u16
     requires { unit < length (units_of cell.now) }
     ensures value { result ≡ unit_after (length (units_of cell.now)) unit }
     ensures known { result < length (units_of cell.now) }

@@ -5,7 +5,7 @@ ghost use Rattle.batch_engine.specs.Surface.{event_of};
 ghost use Rattle.batch_plant.specs.Links.{report_in};
 
 use crate::answer::Answer;
-use batch_cell::Cell;
+use crate::cell_units::CellUnits;
 use batch_engine::{Event, PhaseReport};
 use batch_text::TextFault;
 use std::alloc::Global;
@@ -13,7 +13,7 @@ use std::alloc::Global;
 /// The event of what a unit answered. None where the unit doesn't have a phase with that number; an error only for want of memory.
 pub(crate) fn report_event(
     alloc: Global,
-    cell: &Cell,
+    cell: &CellUnits,
     answer: Answer,
 ) -> Result<Option<Event>, TextFault>
     requires { answer.unit < length (units_of cell.now) }

@@ -9,6 +9,7 @@ ghost use Rattle.batch_plant.specs.Faults.{IsFirstOf};
 ghost use Rattle.batch_plant.specs.Parts.{AreParts, HubRan, LinkRan};
 ghost use Rattle.batch_plant.specs.Plants.{ComesFromDesks, HasEventRings, HasLink, HasRings, event_rings};
 
+use crate::cell_units::CellUnits;
 use crate::closing::close_port;
 use crate::console_thread::{join_console, start_console};
 use crate::faults::both;
@@ -21,7 +22,6 @@ use crate::plant_fault::PlantFault;
 use crate::plant_gates::{FlagGates, PlantGates};
 use crate::plant_rests::PlantRests;
 use crate::plant_task::PlantTask;
-use batch_cell::Cell;
 use batch_desk::{Gate, Hub};
 use batch_sim::{Simulator, UnitDriver};
 use batch_verify::Cleared;
@@ -31,8 +31,7 @@ use std::thread::Threads;
 /// Runs a plant until as many batches are complete: a hub in the thread that calls, with a console and an equipment link, each in
 /// a thread of its own.
 ///
-/// `cell` is the cell of the cleared set, which the link looks its units up in. The console has port 0 and the link port 1, both
-/// told of all moves. All threads that were started are joined, also after a fault. Then both desks finish, their ports are
+/// The console has port 0 and the link port 1, both told of all moves; the link looks its units up in the set's cell. All threads that were started are joined, also after a fault. Then both desks finish, their ports are
 /// closed and sealed, and it is counted how many outs are still to be taken. Of several faults the first is told: want of memory,
 /// a thread that can't be started, a create or a start that is refused, a loop whose turns run out. Where one comes, the loops
 /// that run make no more turns. The units are dropped in each case.
@@ -46,7 +45,6 @@ pub fn plant_run<
     rt: &R,
     alloc: Global,
     cleared: Cleared,
-    cell: Cell,
     units: Simulator<D>,
     task: PlantTask,
     gates: PlantGates<H, C, L>,
@@ -55,11 +53,14 @@ pub fn plant_run<
     ensures set { IfOk result (λ end. end.hub.engine.cleared ≡ cleared) }
     ensures complete { IfOk result (λ end. AreComplete task.batches end.hub) }
     ensures account { IfOk result (λ end. IsHub end.hub) }
-    ensures link { IfOk result (λ end. HasLink D.command_gives D.tick_gives cell units end.hub end.rests.link) }
+    ensures link { IfOk result (λ end. HasLink D.command_gives D.tick_gives cleared.cell units end.hub end.rests.link) }
     ensures rings { IfOk result (λ end. HasEventRings task.ring end.hub) }
     ensures desks { IfOk result (λ end. ComesFromDesks task.recipe task.size task.batches end.hub end.rests) }
 {
     let Ok(gates) = gates.with_flag(alloc) else {
+        return Err(PlantFault::Memory);
+    };
+    let Ok(cell) = CellUnits::of(alloc, cleared.cell()) else {
         return Err(PlantFault::Memory);
     };
     let parts = open(alloc, cleared, task.ring)?;
@@ -78,7 +79,7 @@ fn run_three<
     rt: &R,
     alloc: Global,
     parts: Parts,
-    cell: Cell,
+    cell: CellUnits,
     units: Simulator<D>,
     task: PlantTask,
     gates: FlagGates<H, C, L>,

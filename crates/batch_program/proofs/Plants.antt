@@ -4,7 +4,6 @@ use Rattle.std.proofs.lemmas.List.{length-map}
 use Rattle.batch_matrix.specs.declared.state.State.TheVariants.{Complete}
 use Rattle.batch_model.specs.Plant.{Batch, batch_at, opening}
 use Rattle.batch_model.specs.Runs.{Leads}
-use Rattle.batch_cell.specs.declared.cell.Cell.{Cell}
 use Rattle.batch_words.specs.declared.plant_options.PlantOptions.{PlantOptions}
 use Rattle.batch_plant.specs.declared.plant_fault.PlantFault.{PlantFault}
 use Rattle.batch_program.specs.PlantWork.{RunsBy}
@@ -30,6 +29,6 @@ hub_ran set batches handled h is same all count = record {
   count = count ∙ sym (length-map h.history (λ entry. event_of entry.1));
 }
 
-pub has_run : (set : ClearedSet) (cell : Cell) (options : PlantOptions) (end : Result ℕ PlantFault) → IfOk end (RunsBy set cell options) → IfOk end (HasRun set options.batches)
-has_run set cell options (Ok handled) ran = hub_ran set options.batches handled ran.hub ran.account ran.over ran.complete ran.count
-has_run set cell options (Err fault) ran = tt
+pub has_run : (set : ClearedSet) (options : PlantOptions) (end : Result ℕ PlantFault) → IfOk end (RunsBy set options) → IfOk end (HasRun set options.batches)
+has_run set options (Ok handled) ran = hub_ran set options.batches handled ran.hub ran.account ran.over ran.complete ran.count
+has_run set options (Err fault) ran = tt

@@ -9,7 +9,6 @@ use Rattle.batch_engine.specs.View.{setup}
 use Rattle.batch_wire.specs.Transcript.{lines_of, whole_lines}
 use Rattle.batch_wire.specs.Written.{AppendsBeginning}
 use Rattle.batch_serve.specs.Safe.{BeginsSafely, WritesSafely, WritesWholeSafely}
-use Rattle.batch_cell.specs.declared.cell.Cell.{Cell}
 use Rattle.batch_words.specs.CommandLine.{Request, Source, plant, serve}
 use Rattle.batch_words.specs.declared.plant_options.PlantOptions.{PlantOptions}
 use Rattle.batch_commands.specs.Reading.{Gives}
@@ -136,28 +135,28 @@ set_to_serve gives words output errors _ set quiet (running.starves _) is = absu
 
 -- The plant
 
-done_to_plant : (gives : Gives) (request : Request) (quiet : Bool) (output errors : Stream) (course : Course) (set : ClearedSet) (c : Cell) (options : PlantOptions)
-    → IsDone gives request quiet output errors course → course ≡ course_of.Plants set c options
+done_to_plant : (gives : Gives) (request : Request) (quiet : Bool) (output errors : Stream) (course : Course) (set : ClearedSet) (options : PlantOptions)
+    → IsDone gives request quiet output errors course → course ≡ course_of.Plants set options
     → (request ≡ plant options.batches options.ticks options.ring) × IsDemoSet set × IsUnwritten output × IsUnwritten errors
-done_to_plant gives request quiet output errors _ set c options (running.plants other d own asked cleared read kept silent) is =
+done_to_plant gives request quiet output errors _ set options (running.plants other own asked cleared kept silent) is =
     let same : other ≡ set = cc in
     let chosen : own ≡ options = cc in
     (subst (λ (o : PlantOptions). request ≡ plant o.batches o.ticks o.ring) chosen asked, subst IsDemoSet same cleared, kept, silent)
-done_to_plant gives request quiet output errors _ set c options (running.serves _ _ _ _ _ _) is = absurd cc
-done_to_plant gives request quiet output errors _ set c options (running.halts _ _ _ _) is = absurd cc
-done_to_plant gives request quiet output errors _ set c options (running.judges _ _ _ _ _ _) is = absurd cc
-done_to_plant gives request quiet output errors _ set c options (running.explains _ _ _ _) is = absurd cc
+done_to_plant gives request quiet output errors _ set options (running.serves _ _ _ _ _ _) is = absurd cc
+done_to_plant gives request quiet output errors _ set options (running.halts _ _ _ _) is = absurd cc
+done_to_plant gives request quiet output errors _ set options (running.judges _ _ _ _ _ _) is = absurd cc
+done_to_plant gives request quiet output errors _ set options (running.explains _ _ _ _) is = absurd cc
 
 -- the plant that is to be run is the demo's, with the options that the words have, and nothing was written
-pub plant_to_run : (gives : Gives) (words : List Text) (output errors : Stream) (course : Course) (set : ClearedSet) (c : Cell) (options : PlantOptions)
-    → IsRun gives words output errors course → course ≡ course_of.Plants set c options
+pub plant_to_run : (gives : Gives) (words : List Text) (output errors : Stream) (course : Course) (set : ClearedSet) (options : PlantOptions)
+    → IsRun gives words output errors course → course ≡ course_of.Plants set options
     → AskFor words (plant options.batches options.ticks options.ring) × IsDemoSet set × IsUnwritten output × IsUnwritten errors
-plant_to_run gives words output errors _ set c options (running.commands request course asked came) is =
-    let (planted, cleared, kept, silent) = done_to_plant gives request (ask_quiet words) output errors course set c options came is in
+plant_to_run gives words output errors _ set options (running.commands request course asked came) is =
+    let (planted, cleared, kept, silent) = done_to_plant gives request (ask_quiet words) output errors course set options came is in
     (rw (← planted) asked, cleared, kept, silent)
-plant_to_run gives words output errors _ set c options (running.helps _ _ _ _) is = absurd cc
-plant_to_run gives words output errors _ set c options (running.misuses _ _) is = absurd cc
-plant_to_run gives words output errors _ set c options (running.starves _) is = absurd cc
+plant_to_run gives words output errors _ set options (running.helps _ _ _ _) is = absurd cc
+plant_to_run gives words output errors _ set options (running.misuses _ _) is = absurd cc
+plant_to_run gives words output errors _ set options (running.starves _) is = absurd cc
 
 printed_kept : (before mid after quiet still loud : Option (List ℕ)) (text : List ℕ) (wanted status : ℕ) → Keeps before mid → Keeps quiet still
     → IsPrinted (record { before = mid; after = after }) (record { before = still; after = loud }) text wanted status
@@ -240,7 +239,7 @@ explained_in_range texts output errors status (inr (_, inr memory)) = rw memory 
 done_in_range : (gives : Gives) (request : Request) (quiet : Bool) (output errors : Stream) (course : Course) (status : ℕ)
     → IsDone gives request quiet output errors course → course ≡ Ends status → status ≤ 4
 done_in_range gives request quiet output errors _ status (running.serves _ _ _ _ _ _) is = absurd cc
-done_in_range gives request quiet output errors _ status (running.plants _ _ _ _ _ _ _ _) is = absurd cc
+done_in_range gives request quiet output errors _ status (running.plants _ _ _ _ _ _) is = absurd cc
 done_in_range gives request quiet output errors _ status (running.halts h told _ at) is =
     let same : told ≡ status = cc in rw (← same) (announced_in_range quiet output errors h told at)
 done_in_range gives request quiet output errors _ status (running.judges _ text told _ _ at) is =

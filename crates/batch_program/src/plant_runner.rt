@@ -2,7 +2,6 @@
 ghost use Rattle.std.specs.Prelude.{IfOk};
 ghost use Rattle.batch_program.specs.PlantWork.{RunsBy};
 
-use batch_cell::Cell;
 use batch_plant::PlantFault;
 use batch_verify::Cleared;
 use batch_words::PlantOptions;
@@ -11,15 +10,14 @@ use std::alloc::Global;
 /// Who runs a plant: the program by threads of its process, and a test as it likes.
 pub trait PlantRunner {
     /// Creates and starts the batches, and runs until all are complete, with rings of as many places and phases of as many ticks
-    /// as the options say. The cell is the set's, read once more. Gives how many events the hub has handled.
+    /// as the options say. Gives how many events the hub has handled.
     ///
     /// The errors are those of [`plant_run`](batch_plant::plant_run).
     fn run_plant(
         &self,
         alloc: Global,
         set: Cleared,
-        cell: Cell,
         options: PlantOptions,
     ) -> Result<u64, PlantFault>
-        ensures { IfOk result (RunsBy set cell options) };
+        ensures { IfOk result (RunsBy set options) };
 }

@@ -55,8 +55,8 @@ pub fn run_program<D: Documents, P: PlantRunner, R: Read, W: Write, E: Write>(
             let reason = reason_of(served, input, output);
             tell_served(alloc, quiet, served, reason, errors)
         }
-        Course::Plants { set, cell, options } => {
-            let end = plants.run_plant(alloc, set, cell, options);
+        Course::Plants { set, options } => {
+            let end = plants.run_plant(alloc, set, options);
             report_of_plant(alloc, options.batches, &end, output, errors)
         }
     }

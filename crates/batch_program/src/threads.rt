@@ -2,7 +2,6 @@
 use crate::patient_gate::PatientGate;
 use crate::plant_runner::PlantRunner;
 use crate::steady_units::steady_units;
-use batch_cell::Cell;
 use batch_plant::{PlantFault, PlantGates, PlantTask, plant_run};
 use batch_sim::Simulator;
 use batch_text::Name;
@@ -33,13 +32,12 @@ impl<R: Threads> PlantRunner for ThreadsOf<'_, R> {
         &self,
         alloc: Global,
         set: Cleared,
-        cell: Cell,
         options: PlantOptions,
     ) -> Result<u64, PlantFault> {
         let Ok(recipe) = Name::read(alloc, RECIPE) else {
             return Err(PlantFault::Memory);
         };
-        let Ok(units) = steady_units(alloc, &cell, options.ticks) else {
+        let Ok(units) = steady_units(alloc, set.cell(), options.ticks) else {
             return Err(PlantFault::Memory);
         };
         let simulator = Simulator::new(units);
@@ -55,7 +53,7 @@ impl<R: Threads> PlantRunner for ThreadsOf<'_, R> {
             console: PatientGate(self.clock),
             link: PatientGate(self.clock),
         };
-        let end = plant_run(self.threads, alloc, set, cell, simulator, task, gates)?;
+        let end = plant_run(self.threads, alloc, set, simulator, task, gates)?;
         Ok(end.hub.history().len() as u64)
     }
 }

@@ -4,7 +4,7 @@
 //! Nothing runs here. The functions are empty: their contracts are the rows, which the prover computes.
 #![tactic(auto)]
 
-ghost use Rattle.batch_rows.specs.Example.{PremisesCanBeMet};
+ghost use Rattle.batch_rows.specs.Example.{NoUnitIsAskedFor, OneUnitIsAskedFor, PremisesCanBeMet, TwoUnitsAreAskedFor};
 
 mod clearance;
 mod runs;
@@ -35,4 +35,11 @@ pub use settlement::{holders_at_work, waits_for_nothing};
 /// batches can point at each other.
 pub fn premises_can_be_met()
     ensures { PremisesCanBeMet }
+{}
+
+/// A unit procedure asks for one unit of its unit, and not for none, nor for two.
+pub fn units_of_a_unit_procedure()
+    ensures one { OneUnitIsAskedFor }
+    ensures none { NoUnitIsAskedFor }
+    ensures two { TwoUnitsAreAskedFor }
 {}

@@ -1,7 +1,6 @@
 //! Plants over the demo cell, and what is told of their end.
-use crate::documents::{A, CELL1};
-use crate::lines::{cell_of, cleared_of};
-use batch_cell::Cell;
+use crate::documents::A;
+use crate::lines::cleared_of;
 use batch_desk::{Gate, Hub};
 use batch_engine::{Line, Out};
 use batch_matrix::State;
@@ -13,20 +12,17 @@ use std::alloc::Global;
 use std::test::Fail;
 use std::thread::Threads;
 
-/// Recipe A, cleared for the demo cell, that cell, and the recipe's name.
+/// Recipe A, cleared for the demo cell, and the recipe's name.
 #[derive(Drop)]
 struct DemoSet {
     cleared: Cleared,
-    cell: Cell,
     recipe: Name,
 }
 
 fn demo_set(alloc: Global) -> Result<DemoSet, Fail> {
     let recipe = Name::read(alloc, b"A")?;
-    let cell = cell_of(alloc, CELL1)?;
     Ok(DemoSet {
         cleared: cleared_of(alloc, A)?,
-        cell,
         recipe,
     })
 }
@@ -98,6 +94,6 @@ pub(crate) fn run<
         ring: 1,
         limit,
     };
-    let end = plant_run(rt, alloc, demo.cleared, demo.cell, units, task, gates);
+    let end = plant_run(rt, alloc, demo.cleared, units, task, gates);
     text_of(alloc, &end)
 }

@@ -23,14 +23,13 @@ returns-in-Serve g c =
     rw c.in-Serve.is
     (halts c.in-Err-clear_source.halt _ (rw c.in-Serve.source-is at c.in-Err-clear_source.ensures.halted) c.announce-in-Err-clear_source.ensures)
 
-pub returns-in-Ok-read_plant : goal.returns-in-Ok-read_plant
-returns-in-Ok-read_plant g c =
-    let read = c.in-Ok-read_plant in
-    rw c.in-Plant.is (plants read.set read.cell c.in-Plant.options refl read.ensures.set read.ensures.cell (Keeps-refl _) (Keeps-refl _))
+pub returns-in-Ok-clear_demo : goal.returns-in-Ok-clear_demo
+returns-in-Ok-clear_demo g c =
+    rw c.in-Plant.is (plants c.in-Ok-clear_demo.set c.in-Plant.options refl c.in-Ok-clear_demo.ensures.set (Keeps-refl _) (Keeps-refl _))
 
 pub returns-in-Plant : goal.returns-in-Plant
 returns-in-Plant g c =
-    rw c.in-Plant.is (halts c.in-Err-read_plant.halt _ c.in-Err-read_plant.ensures.halted c.announce-in-Err-read_plant.ensures)
+    rw c.in-Plant.is (halts c.in-Err-clear_demo.halt _ c.in-Err-clear_demo.ensures.halted c.announce-in-Err-clear_demo.ensures)
 
 pub returns : goal.returns
 returns g c =

@@ -1,5 +1,7 @@
-use Rattle.std.proofs.Common.{ap, ◌∙◌}
+use Rattle.std.proofs.Common.{ap, subst, ◌∙◌}
+use Rattle.batch_cell.specs.declared.cell.Cell.{Cell}
 use Rattle.batch_engine.specs.View.{EngineView}
+use Rattle.batch_plant.specs.Plants.{HasLink}
 use Rattle.batch_plant.proofs.Closings.{comes, linked_at_end, parts_stay, rings_at_end, still_complete}
 use Rattle.batch_plant.proofs.running.plant_run.Goals as goal
 
@@ -30,8 +32,10 @@ returns-clause-link g c =
     let stays =
     parts_stay parts.hub ran.hub parts.console ran.console parts.link ran.link is.hub.rings is.console.events is.console.outs is.link.events is.link.outs
     c.in_ok-parts.ensures.parts in
-    linked_at_end g.D.UnitDriver.command_gives g.D.UnitDriver.tick_gives c.args.cell c.args.units c.in_ok-ran.ran.hub c.close.result.hub c.close.result.rests.link
-    c.in_ok-parts.parts.link c.in_ok-ran.ran.link c.in_ok-parts.ensures.sent.1 stays.of_link c.close.ensures.rings is.link c.close.ensures.link
+    subst (λ (cell : Cell). HasLink g.D.UnitDriver.command_gives g.D.UnitDriver.tick_gives cell c.args.units c.close.result.hub c.close.result.rests.link)
+    (c.in-Ok-of.ensures ∙ c.cell.ensures.value)
+    (linked_at_end g.D.UnitDriver.command_gives g.D.UnitDriver.tick_gives c.in-Ok-of.cell c.args.units c.in_ok-ran.ran.hub c.close.result.hub c.close.result.rests.link
+    c.in_ok-parts.parts.link c.in_ok-ran.ran.link c.in_ok-parts.ensures.sent.1 stays.of_link c.close.ensures.rings is.link c.close.ensures.link)
 
 pub returns-clause-desks : goal.returns-clause-desks
 returns-clause-desks g c =
@@ -39,5 +43,5 @@ returns-clause-desks g c =
     let ran = c.in_ok-ran.ran in
     let is = c.in_ok-ran.ensures in
     let new = c.in_ok-parts.ensures.sent in
-    comes g.D.UnitDriver.command_gives g.D.UnitDriver.tick_gives c.args.cell c.args.units c.args.task.recipe c.args.task.size c.args.task.batches c.close.result.hub c.close.result.rests parts.console ran.console parts.link ran.link new.0 new.1
+    comes g.D.UnitDriver.command_gives g.D.UnitDriver.tick_gives c.in-Ok-of.cell c.args.units c.args.task.recipe c.args.task.size c.args.task.batches c.close.result.hub c.close.result.rests parts.console ran.console parts.link ran.link new.0 new.1
     is.console is.link c.close.ensures.console c.close.ensures.link

@@ -26,7 +26,7 @@ returns-in-Plants g c =
     let course = c.in-Plants in
     let end = c.run_plant-end in
     let (asked, cleared, kept, silent) =
-    plant_to_run (g.D.Documents.gives c.args.documents.now) (map string_bytes c.args.words.now) _ _ _ course.set course.cell course.options
+    plant_to_run (g.D.Documents.gives c.args.documents.now) (map string_bytes c.args.words.now) _ _ _ course.set course.options
     c.run_words.ensures course.is in
-    plants course.set course.options end.result c.report_of_plant.result asked cleared (has_run course.set course.cell course.options end.result end.ensures)
+    plants course.set course.options end.result c.report_of_plant.result asked cleared (has_run course.set course.options end.result end.ensures)
     (told_kept _ _ _ _ _ _ course.options.batches end.result _ kept silent c.report_of_plant.ensures) (Keeps-refl _)
