@@ -1,0 +1,5 @@
+mod Shares
+mod Lives
+mod Telling
+mod Sorting
+mod Lines
