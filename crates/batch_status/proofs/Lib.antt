@@ -1,5 +1,6 @@
 mod Shares
 mod Lives
-mod Telling
 mod Sorting
-mod Lines
+mod Ordered
+mod ReadingLemmas
+mod Promises

@@ -1,5 +1,6 @@
 -- Live phases that change and end, as they are kept and as they are told.
-use Rattle.std.proofs.Common.{◌≡◌, ℕ, Bool, true, false, not, List, [], ◌∷◌, ◌++◌, map, filter, take, drop, refl, sym, ap, ◌∙◌}
+use Rattle.std.proofs.Common.{◌≡◌, ℕ, Bool, true, false, not, List, [], ◌∷◌, ◌++◌, map, filter, refl, sym, ap, ◌∙◌}
+use Rattle.batch_matrix.specs.declared.command.Command.{Command}
 use Rattle.batch_matrix.specs.declared.report.Report.{Report}
 use Rattle.batch_matrix.specs.declared.state.State.{State}
 use Rattle.batch_recipe.specs.Conditions.{Name}
@@ -7,7 +8,7 @@ use Rattle.batch_model.specs.Plant.{BatchAct, is_same_act}
 use Rattle.batch_model.specs.Events.{reported}
 use Rattle.batch_model.specs.Records.{ends_phase}
 use Rattle.batch_model.specs.Runs.{reply}
-use Rattle.batch_status.specs.Telling.{Live, is_at, moved_at, said_by}
+use Rattle.batch_status.specs.Telling.{is_at, led_by, moved_at, said_by}
 use Rattle.batch_status.specs.Kept.{live_of, lives_of, is_elsewhere, LiveAfter, phase_changed, changed_by}
 use Rattle.batch_status.specs.declared.live.Change.{Change}
 use Rattle.batch_status.specs.declared.live.LivePhase.{LivePhase}
@@ -36,21 +37,28 @@ report-ends old new u p word n place at s is same e =
     ap lives_of (e ∙ ap (λ q. filter (is_elsewhere (n, q)) old) same) ∙ ended-live (n, place) old
     ∙ sym (ap (λ b. elim b [ true ↦ filter (λ x. not (is_at (n, place) x)) (lives_of old) | false ↦ moved_at (n, place) (said_by word) (lives_of old) ]) is)
 
--- a report that says in which state its phase goes on
-pub report-goes_on : (old new : List LivePhase) (u p : Name) (word : Report) (n : ℕ) (place at : List ℕ) (s : State) → ends_phase word ≡ false → at ≡ place → lives_of new ≡ moved_at (n, at) (said_by word) (lives_of old)
-    → LiveAfter old (reply (reported u p word n place s)) new
-report-goes_on old new u p word n place at s is same e =
-    e ∙ ap (λ q. moved_at (n, q) (said_by word) (lives_of old)) same
-    ∙ sym (ap (λ b. elim b [ true ↦ filter (λ x. not (is_at (n, place) x)) (lives_of old) | false ↦ moved_at (n, place) (said_by word) (lives_of old) ]) is)
-
 -- the phases at an act that go on in another state
 module _ (act : BatchAct) (change : Change) where
-  changed_more : (x : LivePhase) (xs : List LivePhase) (b : Bool) → is_same_act (x.batch, x.place) act ≡ b
-      → lives_of (map (phase_changed act change) xs) ≡ moved_at act (changed_by change) (lives_of xs)
-      → lives_of (map (phase_changed act change) (x ∷ xs)) ≡ moved_at act (changed_by change) (lives_of (x ∷ xs))
-  changed_more x xs true e h = rw (e, e) (ap (λ ys. record { act = (x.batch, x.place); unit = x.unit; name = x.phase; state = changed_by change x.state } ∷ ys) h)
-  changed_more x xs false e h = rw (e, e) (ap (λ ys. live_of x ∷ ys) h)
+  changed-one : (x : LivePhase) (b : Bool) → live_of (elim b [ true ↦ record x { state = changed_by change x.state } | false ↦ x ])
+      ≡ elim b [ true ↦ record { act = (x.batch, x.place); unit = x.unit; name = x.phase; state = changed_by change x.state } | false ↦ live_of x ]
+  changed-one x true = refl
+  changed-one x false = refl
 
-  pub changed-live : (xs : List LivePhase) → lives_of (map (phase_changed act change) xs) ≡ moved_at act (changed_by change) (lives_of xs)
+  changed-live : (xs : List LivePhase) → lives_of (map (phase_changed act change) xs) ≡ moved_at act (changed_by change) (lives_of xs)
   changed-live [] = refl
-  changed-live (x ∷ xs) = changed_more x xs (is_same_act (x.batch, x.place) act) refl (changed-live xs)
+  changed-live (x ∷ xs) =
+      ap (λ y. y ∷ lives_of (map (phase_changed act change) xs)) (changed-one x (is_same_act (x.batch, x.place) act))
+      ∙ ap (λ ys. elim (is_at act (live_of x)) [ true ↦ record { act = (x.batch, x.place); unit = x.unit; name = x.phase; state = changed_by change x.state } | false ↦ live_of x ] ∷ ys) (changed-live xs)
+
+-- a command was sent
+pub sent-on : (old new : List LivePhase) (n : ℕ) (place at : List ℕ) (command : Command) → at ≡ place → new ≡ map (phase_changed (n, at) (Change.Led command)) old
+    → lives_of new ≡ moved_at (n, place) (led_by command) (lives_of old)
+sent-on old new n place at command same e =
+    ap lives_of e ∙ changed-live (n, at) (Change.Led command) old ∙ ap (λ q. moved_at (n, q) (led_by command) (lives_of old)) same
+
+-- a report that says in which state its phase goes on
+pub report-goes_on : (old new : List LivePhase) (u p : Name) (word : Report) (n : ℕ) (place at : List ℕ) (s : State) → ends_phase word ≡ false → at ≡ place
+    → new ≡ map (phase_changed (n, at) (Change.Said word)) old → LiveAfter old (reply (reported u p word n place s)) new
+report-goes_on old new u p word n place at s is same e =
+    ap lives_of e ∙ changed-live (n, at) (Change.Said word) old ∙ ap (λ q. moved_at (n, q) (said_by word) (lives_of old)) same
+    ∙ sym (ap (λ b. elim b [ true ↦ filter (λ x. not (is_at (n, place) x)) (lives_of old) | false ↦ moved_at (n, place) (said_by word) (lives_of old) ]) is)

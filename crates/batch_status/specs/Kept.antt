@@ -99,8 +99,11 @@ abbrev pub listed_of : Batch → Listed
 listed_of batch = record { recipe = batch.recipe; size = batch.size; state = batch.state }
 
 -- the batches with their numbers, in order
+abbrev pub entry_row : ℕ × Batch → ℕ × Listed
+entry_row entry = (entry.0, listed_of entry.1)
+
 abbrev pub rows_of : Batches → List (ℕ × Listed)
-rows_of batches = map (λ entry. (entry.0, listed_of entry.1)) batches.listed.entries
+rows_of batches = map entry_row batches.listed.entries
 
 abbrev pub listed_in : Batches → ℕ → Option Listed
 listed_in batches number = option_map listed_of (get nat_cmp batches.listed number)

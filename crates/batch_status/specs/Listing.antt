@@ -1,5 +1,5 @@
 -- trusted: the lines that say what a record tells, and their order.
-use Rattle.std.specs.Prelude.{◌≡◌, ℕ, List, [], ◌∷◌, ◌++◌, map, filter, flat_map, Bool, ◌&&◌, codes, decimal, Option}
+use Rattle.std.specs.Prelude.{◌≡◌, ℕ, List, [], ◌∷◌, ◌++◌, map, filter, flat_map, ◌&&◌, codes, decimal}
 use Rattle.std.specs.Cmp.Lexicographic.{slice_cmp}
 use Rattle.std.specs.List.Sorted.{IsSorted, IsStrictlySortedBy}
 use Rattle.std.specs.Map.{keys_of, lookup}
@@ -68,10 +68,10 @@ pub record AreRowsOf (tale : Tale) (rows : Rows) : Type 0 where
 -- Lines
 
 abbrev pub batch_words : ℕ × Listed → List (List ℕ)
-batch_words (number, listed) = codes "batch" ∷ decimal number ∷ listed.recipe ∷ decimal listed.size ∷ state_text listed.state ∷ []
+batch_words row = codes "batch" ∷ decimal row.0 ∷ row.1.recipe ∷ decimal row.1.size ∷ state_text row.1.state ∷ []
 
 abbrev pub claim_words : List ℕ → Claim → List (List ℕ)
-claim_words word (resource, share) = word ∷ resource ∷ decimal share.act.0 ∷ place_text share.act.1 ∷ decimal share.units ∷ []
+claim_words word claim = word ∷ claim.0 ∷ decimal claim.1.act.0 ∷ place_text claim.1.act.1 ∷ decimal claim.1.units ∷ []
 
 abbrev pub live_words : Live → List (List ℕ)
 live_words live =

@@ -8,7 +8,7 @@ use Rattle.batch_matrix.specs.declared.report.Report.{Report}
 use Rattle.batch_matrix.specs.Matrix.{after}
 use Rattle.batch_recipe.specs.Conditions.{Name}
 use Rattle.batch_model.specs.Plant.{BatchAct, Share, is_same_act}
-use Rattle.batch_model.specs.Moves.{send, state, start}
+use Rattle.batch_model.specs.Moves as moves
 use Rattle.batch_model.specs.Events.{created, ordered, removed, reported}
 use Rattle.batch_model.specs.Runs.{Out, reply, move}
 use Rattle.batch_model.specs.Records.{ends_phase, holders_after, waiters_after}
@@ -35,7 +35,7 @@ listed_after number old (reply (created batch recipe size roles)) =
 listed_after number old (reply (ordered command batch becomes)) = state_told_to number batch becomes old
 listed_after number old (reply (removed batch)) = elim (nat_eq batch number) [ true ↦ None | false ↦ old ]
 listed_after number old (reply (reported unit name word batch place becomes)) = state_told_to number batch becomes old
-listed_after number old (move (state batch becomes)) = state_told_to number batch becomes old
+listed_after number old (move (moves.state batch becomes)) = state_told_to number batch becomes old
 listed_after number old _ = old
 
 -- Live phases
@@ -68,9 +68,9 @@ said_by _ now = now
 
 -- a phase runs from its start, then it is in the state to which each command leads it and each report says, until it ends
 abbrev pub live_after : List Live → Out → List Live
-live_after lives (move (start number place phase handed)) =
+live_after lives (move (moves.start number place phase handed)) =
     lives ++ (record { act = (number, place); unit = phase.unit; name = phase.name; state = Running }) ∷ []
-live_after lives (move (send number place phase command)) = moved_at (number, place) (led_by command) lives
+live_after lives (move (moves.send number place phase command)) = moved_at (number, place) (led_by command) lives
 live_after lives (reply (reported unit name word number place becomes)) =
     elim (ends_phase word) [ true ↦ filter (λ live. not (is_at (number, place) live)) lives | false ↦ moved_at (number, place) (said_by word) lives ]
 live_after lives _ = lives

@@ -2,14 +2,19 @@
 #![tactic(auto)]
 
 mod batches;
+mod block;
+mod course;
+mod laws;
 mod live;
 mod memory;
+mod reading;
+mod rows;
 mod standing;
 mod status;
 mod text;
 
-pub use batches::{Batch, Batches};
-pub use live::{LivePhase, LivePhases};
+pub use laws::{lines_tell_their_outs, tales_are_modelled};
 pub use memory::NoMemory;
-pub use standing::{Kept, Standing};
+pub use reading::{StatusFault, read_status};
+pub use rows::{told_blocks, told_lines};
 pub use status::Status;

@@ -120,9 +120,9 @@ impl LivePhases {
         let place = read_place(alloc, told.place)?;
         if ends_phase(told.word) {
             self.end(told.batch, &place);
-        } else {
-            self.go_on(told.batch, &place, Change::Said(told.word));
+            return Ok(());
         }
+        self.go_on(told.batch, &place, Change::Said(told.word));
         Ok(())
     }
 
@@ -135,7 +135,7 @@ impl LivePhases {
 
     /// The phases at the act go on in another state.
     fn go_on(&mut self, batch: u64, place: &Place, change: Change)
-        ensures { lives_of self.new.phases.items ≡ moved_at (batch, place.now) (changed_by change) (lives_of self.old.phases.items) }
+        ensures { self.new.phases.items ≡ map (phase_changed (batch, place.now) change) self.old.phases.items }
     {
         change_each(self.phases.as_mut_slice(), batch, place, change);
     }

@@ -144,7 +144,7 @@ impl Standing {
         self.leave_batch(batch);
     }
 
-    fn claim_joins(&mut self, alloc: Global, claim: Claim<'_>) -> Result<(), NoMemory>
+    pub(crate) fn claim_joins(&mut self, alloc: Global, claim: Claim<'_>) -> Result<(), NoMemory>
         ensures ok { OnOk result (Joins self.old.shares.items (claim_told claim.entry) self.new.shares.items) }
         ensures err { OnErr result (self.new.shares.items ≡ self.old.shares.items) }
     {

@@ -1,5 +1,8 @@
 //! The lines of what a record tells.
 ghost use Rattle.std.specs.Prelude.{◌≡◌, ◌++◌, ◌∷◌, [], IfOk, OnOk, codes, decimal, map};
+ghost use Rattle.std.specs.List.Sorted.{IsStrictlySortedBy};
+ghost use Rattle.std.specs.Map.{keys_of};
+ghost use Rattle.std.specs.Ordering.{nat_cmp};
 ghost use Rattle.batch_recipe.specs.Texts.{line_text, place_text};
 ghost use Rattle.batch_status.specs.Kept.{Keeps, claim_of, claims_of, live_of, lives_of, listed_of, rows_of};
 ghost use Rattle.batch_status.specs.Listing.{IsTextOf, batch_words, claim_words, live_words, lines_behind};
@@ -35,7 +38,8 @@ impl Status {
 }
 
 fn put_batches(text: &mut Vec<u8>, mark: &[u8], batches: &Batches) -> Result<(), NoMemory>
-    ensures { OnOk result (text.new.items ≡ text.old.items ++ lines_behind mark.now (map batch_words (rows_of batches.now))) }
+    ensures rise { OnOk result (IsStrictlySortedBy nat_cmp (keys_of (rows_of batches.now))) }
+    ensures put { OnOk result (text.new.items ≡ text.old.items ++ lines_behind mark.now (map batch_words (rows_of batches.now))) }
 {
     for (number, batch) in batches.listed.iter() {
         put_batch(text, mark, *number, batch)?;
@@ -85,7 +89,7 @@ fn put_batch(text: &mut Vec<u8>, mark: &[u8], number: u64, batch: &Batch) -> Res
             number_digits.format(number).as_bytes(),
             batch.recipe.text().as_bytes(),
             size_digits.format(batch.size).as_bytes(),
-            state_text(batch.state),
+            state_text(&batch.state),
         ],
     )
 }
@@ -134,7 +138,7 @@ fn put_phase(
             phase.phase.text().as_bytes(),
             digits.format(phase.batch).as_bytes(),
             place.as_slice(),
-            state_text(phase.state),
+            state_text(&phase.state),
         ],
     )
 }
@@ -190,7 +194,8 @@ fn put_number(text: &mut Vec<u8>, number: u16) -> Result<(), NoMemory>
     put(text, digits.format(number).as_bytes())
 }
 
-fn put(text: &mut Vec<u8>, bytes: &[u8]) -> Result<(), NoMemory>
+/// Adds the bytes.
+pub(crate) fn put(text: &mut Vec<u8>, bytes: &[u8]) -> Result<(), NoMemory>
     ensures { OnOk result (text.new.items ≡ text.old.items ++ bytes.now) }
 {
     match text.extend_from_slice(bytes) {
@@ -199,10 +204,10 @@ fn put(text: &mut Vec<u8>, bytes: &[u8]) -> Result<(), NoMemory>
     }
 }
 
-fn state_text(state: State) -> &'static [u8]
-    ensures { result.now ≡ state_text state }
+fn state_text(state: &State) -> &[u8]
+    ensures { result.now ≡ state_text state.now }
 {
-    match state {
+    match *state {
         State::Idle => b"idle",
         State::Running => b"running",
         State::Pausing => b"pausing",
