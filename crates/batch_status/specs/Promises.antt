@@ -1,4 +1,4 @@
--- trusted: what reading a record promises.
+-- surface: what reading a record promises.
 use Rattle.std.specs.Prelude.{◌≡◌, ◌⊎◌, ℕ, List, [], ◌∷◌, map, Some, None, true}
 use Rattle.batch_model.specs.Plant.{BatchAct}
 use Rattle.batch_model.specs.Records.{Active, active_told, holders_told, state_told, waiters_told}

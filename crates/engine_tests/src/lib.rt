@@ -42,4 +42,6 @@ mod stage;
 #[cfg(test)]
 mod steady;
 #[cfg(test)]
+mod told;
+#[cfg(test)]
 mod writers;
