@@ -34,4 +34,6 @@ mod stage;
 #[cfg(test)]
 mod steady;
 #[cfg(test)]
+mod told;
+#[cfg(test)]
 mod writers;

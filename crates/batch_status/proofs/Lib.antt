@@ -1,0 +1,6 @@
+mod Shares
+mod Lives
+mod Sorting
+mod Ordered
+mod ReadingLemmas
+mod Promises

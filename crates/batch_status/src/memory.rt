@@ -1,0 +1,32 @@
+//! Memory that is refused, and names and places that take it.
+ghost use Rattle.std.specs.Prelude.{◌≡◌, IfOk};
+ghost use Rattle.batch_text.specs.PlaceText.{numbers_of};
+
+use batch_text::{Name, Place};
+use std::alloc::{AllocError, Global};
+use thiserror::Error;
+
+/// Memory was refused.
+#[derive(Clone, Copy, Debug, PartialEq, Eq, Error)]
+#[error("out of memory")]
+pub struct NoMemory;
+
+/// The name that a line of a record tells.
+pub(crate) fn read_name(alloc: Global, bytes: &[u8]) -> Result<Name, NoMemory>
+    ensures { IfOk result (λ name. name ≡ bytes.now) }
+{
+    match Name::read(alloc, bytes) {
+        Ok(name) => Ok(name),
+        Err(_) => Err(NoMemory),
+    }
+}
+
+/// The place that a line of a record tells.
+pub(crate) fn read_place(alloc: Global, bytes: &[u8]) -> Result<Place, NoMemory>
+    ensures { IfOk result (λ place. place ≡ numbers_of bytes.now) }
+{
+    match Place::read(alloc, bytes) {
+        Ok(place) => Ok(place),
+        Err(_) => Err(NoMemory),
+    }
+}

@@ -1,0 +1,23 @@
+//! Records, worked out. The function is empty: its contract is what their lines tell.
+ghost use Rattle.batch_status.specs.RowsOfStatus.{ArePassedOver, HasStopped, IsBrokenOff, IsElsewhere, IsHeld, IsHolding, IsRestarting, NoRecord, Removed, Rests, Runs, StopsWaiting, TakesThePlace, TellsNothingYet, Waits};
+
+pub fn told_lines()
+    ensures waits { Waits }
+    ensures runs { Runs }
+    ensures rests { Rests }
+    ensures removed { Removed }
+    ensures stops_waiting { StopsWaiting }
+    ensures is_holding { IsHolding }
+    ensures is_held { IsHeld }
+    ensures is_restarting { IsRestarting }
+    ensures has_stopped { HasStopped }
+    ensures is_elsewhere { IsElsewhere }
+{}
+
+pub fn told_blocks()
+    ensures takes_the_place { TakesThePlace }
+    ensures tells_nothing_yet { TellsNothingYet }
+    ensures is_broken_off { IsBrokenOff }
+    ensures are_passed_over { ArePassedOver }
+    ensures no_record { NoRecord }
+{}

@@ -1,0 +1,46 @@
+//! All that a record tells.
+ghost use Rattle.std.specs.Prelude.{OnOk};
+ghost use Rattle.batch_record.specs.Reading.{out_of};
+ghost use Rattle.batch_status.specs.Kept.{Keeps};
+ghost use Rattle.batch_status.specs.Telling.{Tale, silence, tale_after};
+
+use crate::batches::Batches;
+use crate::live::LivePhases;
+use crate::memory::NoMemory;
+use crate::standing::Standing;
+use batch_record::Told;
+use std::alloc::Global;
+
+/// Which batches there are, who holds and who waits, and which phases are live. It takes memory for what stands, and none for what
+/// has been.
+#[derive(Drop)]
+pub struct Status {
+    pub(crate) batches: Batches,
+    pub(crate) holders: Standing,
+    pub(crate) waiters: Standing,
+    pub(crate) live: LivePhases,
+}
+
+impl Status {
+    /// What a record without a line tells.
+    pub fn new(alloc: Global) -> Status
+        ensures { Keeps result silence }
+    {
+        Status {
+            batches: Batches::new(alloc),
+            holders: Standing::new(alloc),
+            waiters: Standing::new(alloc),
+            live: LivePhases::new(alloc),
+        }
+    }
+
+    /// What the record tells with one out more. At Err the out may be told in part, and the record must be read anew.
+    pub fn tell(&mut self, alloc: Global, told: Told<'_>) -> Result<(), NoMemory>
+        ensures { OnOk result ((tale : Tale) → Keeps self.old tale → Keeps self.new (tale_after tale (out_of told.entry))) }
+    {
+        self.batches.tell(alloc, told)?;
+        self.holders.tell_holders(alloc, told)?;
+        self.waiters.tell_waiters(alloc, told)?;
+        self.live.tell(alloc, told)
+    }
+}
