@@ -101,18 +101,20 @@ module _ (bytes : List ℕ) (at len : ℕ) (looked : List (List ℕ)) (splits : 
   closes_twice : (count : ℕ) → ClosesFirst count looked → journal_format.own (take len (drop at bytes)) ≡ true → (twice : ClosesTwice (whole_from [] bytes)) × (count ≡ length twice.front)
   closes_twice count first own =
       let line = take len (drop at bytes) in
-      let rest = whole_from [] (drop (at + (len + 1)) bytes) in
-      (record {
-        front = first.front;
-        closing = first.closing;
-        more = (first.between ++ line ∷ []) ++ rest;
-        splits = line_more ∙ ap (λ l. (l ++ line ∷ []) ++ rest) first.splits
-            ∙ ap (λ l. l ++ rest) (append_assoc first.front (first.closing ∷ first.between) (line ∷ []))
-            ∙ append_assoc first.front (first.closing ∷ (first.between ++ line ∷ [])) rest;
-        others = first.others;
-        own = first.own;
-        another = omega (arith, closings_both (first.between ++ line ∷ []) rest, closings_both first.between (line ∷ []), one_closing line own);
-      }, first.count)
+      let rest = whole_from [] (drop (at + (len + 1)) bytes) in (
+        record {
+          front = first.front;
+          closing = first.closing;
+          more = (first.between ++ line ∷ []) ++ rest;
+          splits = line_more ∙ ap (λ l. (l ++ line ∷ []) ++ rest) first.splits
+              ∙ ap (λ l. l ++ rest) (append_assoc first.front (first.closing ∷ first.between) (line ∷ []))
+              ∙ append_assoc first.front (first.closing ∷ (first.between ++ line ∷ [])) rest;
+          others = first.others;
+          own = first.own;
+          another = omega (arith, closings_both (first.between ++ line ∷ []) rest, closings_both first.between (line ∷ []), one_closing line own);
+        },
+        first.count,
+      )
 
   pub found_twice : (first : Option ℕ) → IsSome first → IfSome first (λ count. ClosesFirst count looked) → journal_format.own (take len (drop at bytes)) ≡ true
       → MatchOption first (closings (whole_from [] bytes) ≤ 1) (λ count. (twice : ClosesTwice (whole_from [] bytes)) × (count ≡ length twice.front))
@@ -149,11 +151,11 @@ front_of : (begun text line : List ℕ) (more : List (List ℕ)) → whole_from 
 front_of begun [] line more is = absurd (cc is)
 front_of begun (b ∷ text) line more is = elim (bool_cases (b == 10)) [
   | inl feed ↦ let all : begun ∷ whole_from [] text ≡ line ∷ more = rw feed at is in
-        let head : begun ≡ line = cc all in let tail : whole_from [] text ≡ more = cc all in
-        (text, ap (λ l. l ++ b ∷ text) head ∙ ap (λ x. line ++ x ∷ text) (feed_of b feed), tail)
+      let head : begun ≡ line = cc all in let tail : whole_from [] text ≡ more = cc all in
+      (text, ap (λ l. l ++ b ∷ text) head ∙ ap (λ x. line ++ x ∷ text) (feed_of b feed), tail)
   | inr other ↦ let below : whole_from (begun ++ b ∷ []) text ≡ line ∷ more = rw other at is in
-        let found = front_of (begun ++ b ∷ []) text line more below in
-        (found.0, sym (append_assoc begun (b ∷ []) text) ∙ found.1, found.2)
+      let found = front_of (begun ++ b ∷ []) text line more below in
+      (found.0, sym (append_assoc begun (b ∷ []) text) ∙ found.1, found.2)
 ]
 
 -- lines that stand first in a text

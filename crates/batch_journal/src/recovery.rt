@@ -154,9 +154,7 @@ fn standing_of(bytes: &[u8], documents: &[u8; 64]) -> Result<Option<Taken>, Reco
     let taken = take_groups(&bytes[header.len()..], documents);
     let end = header.len() + taken.end;
     match closing_before_another(&bytes[end..]) {
-        Some(before) => Err(RecoveryFault::Damaged(
-            line_count(&bytes[..end]) + before + 1,
-        )),
+        Some(before) => Err(RecoveryFault::Damaged(line_count(&bytes[..end]) + before + 1)),
         None => Ok(Some(Taken {
             end,
             sum: taken.sum,
