@@ -1,15 +1,12 @@
 -- Groups that are taken.
 use Rattle.std.proofs.Common.{◌≡◌, ◌⊎◌, ℕ, Bool, true, false, List, [], ◌∷◌, ◌++◌, Some, None, not, refl, sym, ◌∙◌, ap, subst, inl, inr, append_assoc}
+use Rattle.std.proofs.lemmas.Bool.{not-true}
 use Rattle.std.proofs.lemmas.List.{append-nil}
 use Rattle.batch_journal.specs.Groups.{Format, taken, is_left, at_rest, last_sum, AreOthers, GroupsGoOn, GroupIsTaken, TornIsLeft}
 
 pub bool_cases : (t : Bool) → (t ≡ true) ⊎ (t ≡ false)
 bool_cases true = inl refl
 bool_cases false = inr refl
-
-not_true : (t : Bool) → not t ≡ true → t ≡ false
-not_true true is = absurd (cc is)
-not_true false is = refl
 
 abbrev Both : Format → List ℕ → List ℕ → List (List ℕ) → List (List ℕ) → List (List ℕ) → Type 0
 Both f sum last begun a b = (taken f sum begun (a ++ b) ≡ taken f sum begun a ++ taken f last [] b) × (last_sum f sum begun (a ++ b) ≡ last_sum f last [] b)
@@ -74,14 +71,14 @@ pub left_wrong : (f : Format) (sum : List ℕ) (lines : List (List ℕ)) (line :
     → AreOthers f lines → f.own line ≡ true → f.closes (f.next sum lines) line ≡ false
 left_wrong f sum lines line more left others own =
     let here : not (f.closes (f.next sum lines) line) ≡ true = rw own at (sym (left_on f sum [] lines (line ∷ more) others) ∙ left) in
-    not_true (f.closes (f.next sum lines) line) here
+    not-true (f.closes (f.next sum lines) line) here
 
 left_if : (f : Format) (sum : List ℕ) (begun : List (List ℕ)) (line : List ℕ) (lines : List (List ℕ)) → (f.own line ≡ true) ⊎ (f.own line ≡ false)
     → is_left f sum begun (line ∷ lines) ≡ true → (is_left f sum (begun ++ line ∷ []) lines ≡ true → taken f sum (begun ++ line ∷ []) lines ≡ [])
     → taken f sum begun (line ∷ lines) ≡ []
 left_if f sum begun line lines (inl own) left on =
     let here : not (f.closes (f.next sum begun) line) ≡ true = rw own at left in
-    rw (own, not_true (f.closes (f.next sum begun) line) here) refl
+    rw (own, not-true (f.closes (f.next sum begun) line) here) refl
 left_if f sum begun line lines (inr other) left on =
     let below : is_left f sum (begun ++ line ∷ []) lines ≡ true = rw other at left in
     rw other (on below)

@@ -1,9 +1,9 @@
 -- Sums and closing lines are lines.
 use Rattle.std.proofs.Common.{rules, ◌≡◌, ◌≢◌, ℕ, zero, suc, ◌+◌, ◌*◌, ◌/◌, ◌%◌, ◌^◌, ◌≤◌, ◌<◌, Bool, true, false, ◌==◌, List, [], ◌∷◌, ◌++◌, length, take, drop, decimal, slice_index, get_or, codes, nat_eq, refl, sym, ◌∙◌, ap, subst, arith, append_assoc}
-use Rattle.std.proofs.lemmas.Fmt.{decimal_by_steps, decimal_nonempty}
+use Rattle.std.proofs.lemmas.Fmt.{decimal_by_steps, decimal_nonempty, length-decimal-le}
 use Rattle.std.proofs.lemmas.List.{drop_at}
 use Rattle.std.proofs.lemmas.List.Folds.{list_all-append}
-use Rattle.std.proofs.lemmas.Bool.{lt-ltb}
+use Rattle.std.proofs.lemmas.Bool.{lt-ltb, le-leb}
 use Rattle.std.specs.Char.{is_ascii_digit}
 use Rattle.std.specs.List.{starts_with, list_all}
 use Rattle.std.proofs.lemmas.Bool.Decides.{Decides-eqb}
@@ -75,7 +75,7 @@ decimal_time n fits =
     let all : list_all is_ascii_digit (decimal n) ≡ true = decimal_by_steps (λ n ds. list_all is_ascii_digit ds ≡ true)
     (λ n lt. rw (digit n lt) refl)
     (λ n ds le is. list_all-append is_ascii_digit ds ((48 + n % 10) ∷ []) ∙ rw (is, digit (n % 10) (search rules)) refl) n fits in
-    rw (lt-ltb 0 (length (decimal n)) (decimal_nonempty n fits), all) refl
+    rw (lt-ltb 0 (length (decimal n)) (decimal_nonempty n fits), le-leb (length (decimal n)) 20 (length-decimal-le 20 n (omega arith) (omega (arith, fits)) fits), all) refl
 
 pub closing_closes : (sum : List ℕ) (n : ℕ) → n < 2 ^ 64 → journal_format.closes sum (closing_line sum n) ≡ true
 closing_closes sum n fits =

@@ -1,5 +1,5 @@
 -- surface: the text of a journal: a header, and groups of lines with sums.
-use Rattle.std.specs.Prelude.{◌≡◌, ℕ, Bool, List, [], ◌∷◌, ◌++◌, length, take, drop, Some, codes, nat_eq, nat_lt, ◌&&◌}
+use Rattle.std.specs.Prelude.{◌≡◌, ℕ, Bool, List, [], ◌∷◌, ◌++◌, length, take, drop, Some, codes, nat_eq, nat_lt, nat_le, ◌&&◌}
 use Rattle.std.specs.Char.{is_ascii_digit}
 use Rattle.std.specs.List.{starts_with, list_all}
 use Rattle.hex.specs.Hex.{encode_lower}
@@ -13,9 +13,9 @@ use Rattle.batch_journal.specs.declared.sum.Sum.TheVariants.{Documents, Group}
 abbrev pub next_sum : List ℕ → List ℕ → List ℕ
 next_sum before text = take 16 (encode_lower (sha256 (before ++ 10 ∷ text)))
 
--- a time in milliseconds: decimal digits, and some
+-- a time in milliseconds: one to twenty decimal digits
 abbrev pub is_time : List ℕ → Bool
-is_time bytes = nat_lt 0 (length bytes) && list_all is_ascii_digit bytes
+is_time bytes = (nat_lt 0 (length bytes) && nat_le (length bytes) 20) && list_all is_ascii_digit bytes
 
 -- a closing line says so, then its sum; behind that stands a time, of which nothing more is asked
 abbrev pub closing_mark : List ℕ

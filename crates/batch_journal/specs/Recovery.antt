@@ -1,9 +1,10 @@
 -- surface: what recovery finds in a file, and why it refuses one.
 use Rattle.std.specs.Prelude.{◌≡◌, ℕ, ◌+◌, ◌≤◌, ◌<◌, List, [], ◌∷◌, ◌++◌, length, take, drop, filter, ⊤, false, true, codes, nat_eq, slice_index, ◌==◌}
 use Rattle.std.specs.List.{starts_with}
-use Rattle.batch_journal.specs.Lines.{AreLines, whole_from, whole_lines}
+use Rattle.batch_journal.specs.Disks.{IsPart}
+use Rattle.batch_journal.specs.Lines.{IsLine, AreLines, text_of, whole_from, whole_lines}
 use Rattle.batch_journal.specs.Groups.{taken, is_left, AreOthers}
-use Rattle.batch_journal.specs.Journals.{header, journal_format, IsClosed, IsJournal}
+use Rattle.batch_journal.specs.Journals.{header, journal_format, recovered, IsClosed, IsJournal}
 use Rattle.batch_journal.specs.declared.recovery.RecoveryFault.{RecoveryFault}
 use Rattle.batch_journal.specs.declared.recovery.RecoveryFault.TheVariants.{Disk, NoJournal, OtherDocuments, Damaged}
 
@@ -50,6 +51,20 @@ pub record IsDamaged (documents file : List ℕ) (line : ℕ) : Type 0 where
   pub behind : ClosesTwice (raw_lines (drop end file))
   pub wrong : AreLines (behind.front ++ behind.closing ∷ []) → journal_format.closes (journal_format.next sum behind.front) behind.closing ≡ false
   pub number : line ≡ length (raw_lines (take end file)) + (length behind.front + 1)
+
+-- behind a journal a group of these lines was written and not synced: whatever a crash left of it isn't taken for damage
+abbrev pub CrashIsNoDamage : Type 0
+CrashIsNoDamage =
+    (documents synced sum closing tail : List ℕ) (lines : List (List ℕ)) (line : ℕ) → IsJournal documents synced sum → AreLines lines → AreOthers journal_format lines
+    → IsLine closing → IsPart tail (text_of lines ++ (closing ++ 10 ∷ [])) → IsDamaged documents (synced ++ tail) line → ⊥
+
+-- whole lines are lines
+abbrev pub WholeLinesAreLines : Type 0
+WholeLinesAreLines = (text : List ℕ) → AreLines (whole_lines text)
+
+-- what recovery gives are lines
+abbrev pub RecoveredAreLines : Type 0
+RecoveredAreLines = (documents file : List ℕ) → AreLines (recovered documents file)
 
 -- why a file is refused
 abbrev pub IsRefusedFor : List ℕ → List ℕ → RecoveryFault → Type 0

@@ -24,11 +24,11 @@ pub(crate) fn closes(line: &[u8], sum: &[u8; 16]) -> bool
     line.starts_with(&mark) && is_time(&line[mark.len()..])
 }
 
-/// Whether the bytes are decimal digits, and some.
+/// Whether the bytes are one to twenty decimal digits.
 fn is_time(bytes: &[u8]) -> bool
     ensures { result ≡ is_time bytes.now }
 {
-    !bytes.is_empty() && are_digits(bytes)
+    !bytes.is_empty() && bytes.len() <= 20 && are_digits(bytes)
 }
 
 fn are_digits(bytes: &[u8]) -> bool

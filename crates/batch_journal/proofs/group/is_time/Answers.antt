@@ -1,5 +1,5 @@
 use Rattle.std.proofs.Common.{rules}
 use Rattle.batch_journal.proofs.group.is_time.Goals as goal
 
-pub returns-then-not-is_empty : goal.returns-then-not-is_empty
-returns-then-not-is_empty c = search rules
+pub returns-then-bytes-le20 : goal.returns-then-bytes-le20
+returns-then-bytes-le20 c = search rules
