@@ -1,8 +1,10 @@
 -- Lines that close groups, counted in any text.
-use Rattle.std.proofs.Common.{◌≡◌, ◌⊎◌, ℕ, zero, suc, ◌+◌, ◌≤◌, ◌<◌, Bool, true, false, ◌==◌, List, [], ◌∷◌, ◌++◌, length, take, drop, filter, slice_index, get_or, Option, Some, None, IsSome, is_some, rules, refl, sym, ◌∙◌, ap, subst, arith, append_assoc, inl, inr}
+use Rattle.std.proofs.Common.{◌≡◌, ◌⊎◌, ℕ, zero, suc, ◌+◌, ◌≤◌, ◌<◌, Bool, true, false, ◌==◌, List, [], ◌∷◌, ◌++◌, length, take, drop, filter, slice_index, get_or, Option, Some, None, IfSome, IsSome, MatchOption, is_some, rules, refl, sym, ◌∙◌, ap, subst, arith, append_assoc, inl, inr}
 use Rattle.std.proofs.lemmas.List.{append-nil, drop-drop}
-use Rattle.batch_journal.specs.Lines.{whole_from}
+use Rattle.batch_journal.specs.Lines.{text_of, whole_from}
+use Rattle.batch_journal.specs.Groups.{AreOthers}
 use Rattle.batch_journal.specs.Journals.{journal_format}
+use Rattle.batch_journal.specs.Recovery.{ClosesTwice, closings}
 use Rattle.batch_journal.proofs.GroupLemmas.{bool_cases}
 
 abbrev pub NoFeedBefore : ℕ → List ℕ → Type 0
@@ -32,10 +34,6 @@ raw_none begun (b ∷ text) none =
     let other : (b == 10) ≡ false = not_feed (b == 10) (none 0 (omega arith)) in
     rw other (raw_none (begun ++ b ∷ []) text (λ k le is. none (suc k) (omega (arith, le)) is))
 
--- how many of the lines close a group
-abbrev pub closings : List (List ℕ) → ℕ
-closings lines = length (filter journal_format.own lines)
-
 closings_if : (line : List ℕ) (a b : List (List ℕ)) → (journal_format.own line ≡ true) ⊎ (journal_format.own line ≡ false) → closings (a ++ b) ≡ closings a + closings b
     → closings (line ∷ (a ++ b)) ≡ closings (line ∷ a) + closings b
 closings_if line a b (inl own) below = rw own (omega (arith, below))
@@ -51,6 +49,41 @@ one_closing line own = rw own refl
 pub no_closing : (line : List ℕ) → journal_format.own line ≡ false → closings (line ∷ []) ≡ 0
 no_closing line other = rw other refl
 
+none_closes_if : (line : List ℕ) (lines : List (List ℕ)) → (journal_format.own line ≡ true) ⊎ (journal_format.own line ≡ false) → closings (line ∷ lines) ≡ 0
+    → (closings lines ≡ 0 → AreOthers journal_format lines) → AreOthers journal_format (line ∷ lines)
+none_closes_if line lines (inl own) none on = let some : suc (closings lines) ≡ 0 = rw own at none in absurd (omega (arith, some))
+none_closes_if line lines (inr other) none on = let below : closings lines ≡ 0 = rw other at none in (other, on below)
+
+-- where none is counted, none closes a group
+pub none_closes : (lines : List (List ℕ)) → closings lines ≡ 0 → AreOthers journal_format lines
+none_closes [] none = tt
+none_closes (line ∷ lines) none = none_closes_if line lines (bool_cases (journal_format.own line)) none (none_closes lines)
+
+-- so many lines stand before the first that closes a group
+pub record ClosesFirst (n : ℕ) (lines : List (List ℕ)) : Type 0 where
+  pub front : List (List ℕ)
+  pub closing : List ℕ
+  pub between : List (List ℕ)
+  pub splits : lines ≡ front ++ closing ∷ between
+  pub count : n ≡ length front
+  pub others : AreOthers journal_format front
+  pub own : journal_format.own closing ≡ true
+
+pub first_here : (count : ℕ) (lines : List (List ℕ)) (line : List ℕ) → count ≡ length lines → closings lines ≡ 0 → journal_format.own line ≡ true → ClosesFirst count (lines ++ line ∷ [])
+first_here count lines line is none own = record { front = lines; closing = line; between = []; splits = refl; count = is; others = none_closes lines none; own = own }
+
+pub first_more : (first : Option ℕ) (lines : List (List ℕ)) (line : List ℕ) → IfSome first (λ count. ClosesFirst count lines) → IfSome first (λ count. ClosesFirst count (lines ++ line ∷ []))
+first_more None lines line found = tt
+first_more (Some count) lines line found = record {
+  front = found.front;
+  closing = found.closing;
+  between = found.between ++ line ∷ [];
+  splits = ap (λ l. l ++ line ∷ []) found.splits ∙ append_assoc found.front (found.closing ∷ found.between) (line ∷ []);
+  count = found.count;
+  others = found.others;
+  own = found.own;
+}
+
 -- how many were found
 abbrev pub found_count : Option ℕ → ℕ
 found_count None = 0
@@ -64,19 +97,29 @@ module _ (bytes : List ℕ) (at len : ℕ) (looked : List (List ℕ)) (splits : 
   line_more = splits ∙ ap (λ l. looked ++ l) (raw_line [] (drop at bytes) len none within feed ∙ ap (λ l. take len (drop at bytes) ∷ whole_from [] l) (drop-drop (len + 1) at bytes))
       ∙ sym (append_assoc looked (take len (drop at bytes) ∷ []) (whole_from [] (drop (at + (len + 1)) bytes)))
 
-  pub two_closings : closings looked ≡ 1 → journal_format.own (take len (drop at bytes)) ≡ true → 1 < closings (whole_from [] bytes)
-  two_closings one own = omega (
-    arith,
-    ap closings line_more,
-    closings_both (looked ++ take len (drop at bytes) ∷ []) (whole_from [] (drop (at + (len + 1)) bytes)),
-    closings_both looked (take len (drop at bytes) ∷ []),
-    one,
-    one_closing (take len (drop at bytes)) own,
-  )
+  -- the line closes a group, and one before it does
+  closes_twice : (count : ℕ) → ClosesFirst count looked → journal_format.own (take len (drop at bytes)) ≡ true → (twice : ClosesTwice (whole_from [] bytes)) × (count ≡ length twice.front)
+  closes_twice count first own =
+      let line = take len (drop at bytes) in
+      let rest = whole_from [] (drop (at + (len + 1)) bytes) in (
+        record {
+          front = first.front;
+          closing = first.closing;
+          more = (first.between ++ line ∷ []) ++ rest;
+          splits = line_more ∙ ap (λ l. (l ++ line ∷ []) ++ rest) first.splits
+              ∙ ap (λ l. l ++ rest) (append_assoc first.front (first.closing ∷ first.between) (line ∷ []))
+              ∙ append_assoc first.front (first.closing ∷ (first.between ++ line ∷ [])) rest;
+          others = first.others;
+          own = first.own;
+          another = omega (arith, closings_both (first.between ++ line ∷ []) rest, closings_both first.between (line ∷ []), one_closing line own);
+        },
+        first.count,
+      )
 
-pub count_some : (first : Option ℕ) → IsSome first → found_count first ≡ 1
-count_some None is = absurd (cc is)
-count_some (Some at) is = refl
+  pub found_twice : (first : Option ℕ) → IsSome first → IfSome first (λ count. ClosesFirst count looked) → journal_format.own (take len (drop at bytes)) ≡ true
+      → MatchOption first (closings (whole_from [] bytes) ≤ 1) (λ count. (twice : ClosesTwice (whole_from [] bytes)) × (count ≡ length twice.front))
+  found_twice None some found own = absurd (cc some)
+  found_twice (Some count) some found own = closes_twice count found own
 
 pub count_none : (first : Option ℕ) → is_some first ≡ false → found_count first ≡ 0
 count_none None not = refl
@@ -99,7 +142,26 @@ pub ends_there : (hay rest : List ℕ) (len : ℕ) → hay ≡ rest → NoFeedBe
 ends_there hay rest len same none lt is = subst (EndsThere len) same (record { none = none; within = lt; feed = feed_of (slice_index hay len) is })
 
 pub few_closings : (bytes rest : List ℕ) (looked : List (List ℕ)) (first : Option ℕ) → whole_from [] bytes ≡ looked ++ whole_from [] rest → NoFeedBefore (length rest) rest
-    → closings looked ≡ found_count first → 1 < closings (whole_from [] bytes) → ⊥
-few_closings bytes rest looked first splits none counts lt =
+    → closings looked ≡ found_count first → closings (whole_from [] bytes) ≤ 1
+few_closings bytes rest looked first splits none counts =
     let all : whole_from [] bytes ≡ looked = splits ∙ ap (λ l. looked ++ l) (raw_none [] rest none) ∙ append-nil looked in
-    omega (arith, lt, ap closings all, counts, count_few first)
+    omega (arith, ap closings all, counts, count_few first)
+
+front_of : (begun text line : List ℕ) (more : List (List ℕ)) → whole_from begun text ≡ line ∷ more → (rest : List ℕ) × (begun ++ text ≡ line ++ 10 ∷ rest) × (whole_from [] rest ≡ more)
+front_of begun [] line more is = absurd (cc is)
+front_of begun (b ∷ text) line more is = elim (bool_cases (b == 10)) [
+  | inl feed ↦ let all : begun ∷ whole_from [] text ≡ line ∷ more = rw feed at is in
+      let head : begun ≡ line = cc all in let tail : whole_from [] text ≡ more = cc all in
+      (text, ap (λ l. l ++ b ∷ text) head ∙ ap (λ x. line ++ x ∷ text) (feed_of b feed), tail)
+  | inr other ↦ let below : whole_from (begun ++ b ∷ []) text ≡ line ∷ more = rw other at is in
+      let found = front_of (begun ++ b ∷ []) text line more below in
+      (found.0, sym (append_assoc begun (b ∷ []) text) ∙ found.1, found.2)
+]
+
+-- lines that stand first in a text
+pub lines_front : (front more : List (List ℕ)) (text : List ℕ) → whole_from [] text ≡ front ++ more → (rest : List ℕ) × (text ≡ text_of front ++ rest)
+lines_front [] more text splits = (text, refl)
+lines_front (line ∷ front) more text splits =
+    let first = front_of [] text line (front ++ more) splits in
+    let others = lines_front front more first.0 first.2 in
+    (others.0, first.1 ∙ ap (λ l. line ++ 10 ∷ l) others.1 ∙ sym (append_assoc line (10 ∷ text_of front) others.0))

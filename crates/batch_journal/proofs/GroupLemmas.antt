@@ -1,7 +1,8 @@
 -- Groups that are taken.
-use Rattle.std.proofs.Common.{◌≡◌, ◌⊎◌, ℕ, Bool, true, false, List, [], ◌∷◌, ◌++◌, Some, None, refl, sym, ◌∙◌, ap, subst, inl, inr, append_assoc}
+use Rattle.std.proofs.Common.{◌≡◌, ◌⊎◌, ℕ, Bool, true, false, List, [], ◌∷◌, ◌++◌, Some, None, not, refl, sym, ◌∙◌, ap, subst, inl, inr, append_assoc}
+use Rattle.std.proofs.lemmas.Bool.{not-true}
 use Rattle.std.proofs.lemmas.List.{append-nil}
-use Rattle.batch_journal.specs.Groups.{Format, taken, at_rest, last_sum, AreOthers, GroupsGoOn, GroupIsTaken, TornIsLeft}
+use Rattle.batch_journal.specs.Groups.{Format, taken, is_left, at_rest, last_sum, AreOthers, GroupsGoOn, GroupIsTaken, TornIsLeft}
 
 pub bool_cases : (t : Bool) → (t ≡ true) ⊎ (t ≡ false)
 bool_cases true = inl refl
@@ -56,14 +57,36 @@ torn f sum begun [] are = refl
 torn f sum begun (line ∷ lines) are = rw are.0 (torn f sum (begun ++ line ∷ []) lines are.1)
 
 -- lines that begun, and others behind them, are one group
-pub begun_on : (f : Format) (sum : List ℕ) (begun a b : List (List ℕ)) → AreOthers f a → taken f sum begun (a ++ b) ≡ taken f sum (begun ++ a) b
-begun_on f sum begun [] b are = ap (λ l. taken f sum l b) (sym (append-nil begun))
-begun_on f sum begun (line ∷ a) b are = rw are.0 (begun_on f sum (begun ++ line ∷ []) a b are.1 ∙ ap (λ l. taken f sum l b) (append_assoc begun (line ∷ []) a))
+pub left_on : (f : Format) (sum : List ℕ) (begun a b : List (List ℕ)) → AreOthers f a → is_left f sum begun (a ++ b) ≡ is_left f sum (begun ++ a) b
+left_on f sum begun [] b are = ap (λ l. is_left f sum l b) (sym (append-nil begun))
+left_on f sum begun (line ∷ a) b are = rw are.0 (left_on f sum (begun ++ line ∷ []) a b are.1 ∙ ap (λ l. is_left f sum l b) (append_assoc begun (line ∷ []) a))
 
 -- at a closing line with another sum nothing more is taken
 pub wrong_sum : (f : Format) (sum : List ℕ) (begun : List (List ℕ)) (line : List ℕ) (more : List (List ℕ)) → f.own line ≡ true → f.closes (f.next sum begun) line ≡ false
-    → taken f sum begun (line ∷ more) ≡ []
+    → is_left f sum begun (line ∷ more) ≡ true
 wrong_sum f sum begun line more own closes = rw (own, closes) refl
+
+-- and only there
+pub left_wrong : (f : Format) (sum : List ℕ) (lines : List (List ℕ)) (line : List ℕ) (more : List (List ℕ)) → is_left f sum [] (lines ++ line ∷ more) ≡ true
+    → AreOthers f lines → f.own line ≡ true → f.closes (f.next sum lines) line ≡ false
+left_wrong f sum lines line more left others own =
+    let here : not (f.closes (f.next sum lines) line) ≡ true = rw own at (sym (left_on f sum [] lines (line ∷ more) others) ∙ left) in
+    not-true (f.closes (f.next sum lines) line) here
+
+left_if : (f : Format) (sum : List ℕ) (begun : List (List ℕ)) (line : List ℕ) (lines : List (List ℕ)) → (f.own line ≡ true) ⊎ (f.own line ≡ false)
+    → is_left f sum begun (line ∷ lines) ≡ true → (is_left f sum (begun ++ line ∷ []) lines ≡ true → taken f sum (begun ++ line ∷ []) lines ≡ [])
+    → taken f sum begun (line ∷ lines) ≡ []
+left_if f sum begun line lines (inl own) left on =
+    let here : not (f.closes (f.next sum begun) line) ≡ true = rw own at left in
+    rw (own, not-true (f.closes (f.next sum begun) line) here) refl
+left_if f sum begun line lines (inr other) left on =
+    let below : is_left f sum (begun ++ line ∷ []) lines ≡ true = rw other at left in
+    rw other (on below)
+
+-- then nothing is taken
+pub nothing_taken : (f : Format) (sum : List ℕ) (begun lines : List (List ℕ)) → is_left f sum begun lines ≡ true → taken f sum begun lines ≡ []
+nothing_taken f sum begun [] left = refl
+nothing_taken f sum begun (line ∷ lines) left = left_if f sum begun line lines (bool_cases (f.own line)) left (nothing_taken f sum (begun ++ line ∷ []) lines)
 
 none_of_both : {A : Type 0} (a b : List A) → a ++ b ≡ [] → (a ≡ []) × (b ≡ [])
 none_of_both [] b is = (refl, is)

@@ -65,7 +65,7 @@ module _ (documents : List ℕ) where
   pub closed_start : IsClosed documents [] documents
   closed_start = record { whole = refl; closed = refl }
 
-  groups_behind : (file tail : List ℕ) → file ≡ header documents ++ groups_in documents file → groups_in documents (file ++ tail) ≡ groups_in documents file ++ tail
+  pub groups_behind : (file tail : List ℕ) → file ≡ header documents ++ groups_in documents file → groups_in documents (file ++ tail) ≡ groups_in documents file ++ tail
   groups_behind file tail begins = drop-append-le (length (header documents)) file tail (omega (arith, ap length begins, length-append (header documents) (groups_in documents file)))
 
   -- behind a journal

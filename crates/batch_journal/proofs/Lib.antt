@@ -12,3 +12,4 @@ mod ClosingLemmas
 mod SumLemmas
 mod WritingLemmas
 mod ReaderLemmas
+mod DamageLemmas

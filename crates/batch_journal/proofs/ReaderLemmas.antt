@@ -83,7 +83,7 @@ group_kept documents base durable seen given sum bytes items next new_durable ne
     subst (λ l. IsKept documents base new_durable new_seen new_given (take end l) next) bytes_are
     (kept_more documents base durable seen given sum (take end bytes) next new_durable new_seen new_given milliseconds kept
     (whole_text (take end bytes) (whole_lines bytes) (are_whole_lines bytes) text) others next_is is_seen is_durable is_given
-    (closing_is_line next milliseconds is_line fits) (closing_is_own next milliseconds) (closing_closes next milliseconds))
+    (closing_is_line next milliseconds is_line fits) (closing_is_own next milliseconds) (closing_closes next milliseconds fits))
 
 pub part_of : (count ready : ℕ) (l : List ℕ) → count ≤ ready → take ready l ≡ take count l ++ take (ready - count) (drop count l)
 part_of count ready l le =

@@ -5,17 +5,18 @@ use Rattle.std.proofs.Math.Seq.{take-append-add}
 use lib.Seq.{take-add}
 use Rattle.std.specs.List.{starts_with}
 use Rattle.batch_journal.specs.Disks.{IsPart, Left, MayLeave, MayCut, Elapses, LeavesOnly}
-use Rattle.batch_journal.specs.Lines.{until_zero, whole_from, whole_lines}
-use Rattle.batch_journal.specs.Groups.{taken}
+use Rattle.batch_journal.specs.Lines.{AreLines, until_zero, whole_from, whole_lines}
+use Rattle.batch_journal.specs.Groups.{taken, is_left}
 use Rattle.batch_journal.specs.Journals.{journal_format, header, groups_in, recovered, IsClosed, IsJournal}
-use Rattle.batch_journal.specs.Recovery.{IsTakenTo, StandsTo, IsDamaged, closing_count}
+use Rattle.batch_journal.specs.Recovery.{IsTakenTo, StandsTo, IsDamaged, ClosesTwice, closing_count, raw_lines}
 use Rattle.batch_journal.proofs.CrashLemmas.{leaves_all}
 use Rattle.batch_journal.proofs.MomentLemmas.{started, goes_on}
 use Rattle.std.proofs.lemmas.Bool.{cases_lt}
 use Rattle.std.proofs.lemmas.Bool.Decides.{Decides-eqb}
 use Rattle.std.proofs.lemmas.Slice.Eq.{starts_is}
-use Rattle.batch_journal.proofs.GroupLemmas.{bool_cases, none_taken_first}
-use Rattle.batch_journal.proofs.JournalLemmas.{recovered_behind, closed_start}
+use Rattle.batch_journal.proofs.GroupLemmas.{bool_cases, none_taken_first, nothing_taken, left_wrong}
+use Rattle.batch_journal.proofs.JournalLemmas.{recovered_behind, closed_start, lines_behind}
+use Rattle.batch_journal.proofs.ClosingLemmas.{lines_front}
 
 -- Fronts
 
@@ -146,6 +147,12 @@ module _ (documents file sum : List ℕ) (end : ℕ) (stands : StandsTo document
       ∙ ap (λ l. recovered documents (take end file) ++ l) (none_of_front sum (drop end file) (kept - end) stands.no_more)
       ∙ append-nil (recovered documents (take end file)) ∙ sym lines_to
 
+-- Lines that stand first in a text, whatever stands behind them, are its first whole ones
+front_read : (front more : List (List ℕ)) (text : List ℕ) → raw_lines text ≡ front ++ more → AreLines front → (others : List (List ℕ)) × (whole_lines text ≡ front ++ others)
+front_read front more text splits are =
+    let found = lines_front front more text splits in
+    (whole_lines found.0, ap whole_lines found.1 ∙ lines_behind front found.0 are)
+
 -- How far a file is a journal
 
 module _ (documents file sum : List ℕ) (n end : ℕ) (is : n ≡ length (header documents)) (begins : file ≡ header documents ++ drop n file)
@@ -162,11 +169,25 @@ module _ (documents file sum : List ℕ) (n end : ℕ) (is : n ≡ length (heade
     closed = subst (λ l. IsClosed documents l sum) (sym groups_to) found.closed;
   }
 
-  pub no_more_to : taken journal_format sum [] (whole_lines (drop (n + end) file)) ≡ []
-  no_more_to = ap (λ l. taken journal_format sum [] (whole_lines l)) (sym (drop-drop end n file)) ∙ found.no_more
+  left_to : is_left journal_format sum [] (whole_lines (drop (n + end) file)) ≡ true
+  left_to = ap (λ l. is_left journal_format sum [] (whole_lines l)) (sym (drop-drop end n file)) ∙ found.left
 
   pub stands_to : closing_count (drop (n + end) file) ≤ 1 → StandsTo documents file (n + end) sum
-  stands_to few = record { within = omega (arith, found.within, length-drop n file, ap length begins, length-append (header documents) (drop n file), is); journal = journal_to; no_more = no_more_to; few = few }
+  stands_to few = record { within = omega (arith, found.within, length-drop n file, ap length begins, length-append (header documents) (drop n file), is); journal = journal_to; no_more = nothing_taken journal_format sum [] (whole_lines (drop (n + end) file)) left_to; few = few }
+
+  pub damaged_to : (line : ℕ) (behind : ClosesTwice (raw_lines (drop (n + end) file))) → line ≡ length (raw_lines (take (n + end) file)) + (length behind.front + 1)
+      → IsDamaged documents file line
+  damaged_to line behind number = record {
+    end = n + end;
+    sum = sum;
+    journal = journal_to;
+    behind = behind;
+    wrong = λ are.
+        let read = front_read (behind.front ++ behind.closing ∷ []) behind.more (drop (n + end) file) (behind.splits ∙ sym (append_assoc behind.front (behind.closing ∷ []) behind.more)) are in
+        left_wrong journal_format sum behind.front behind.closing read.0
+        (ap (is_left journal_format sum []) (sym (append_assoc behind.front (behind.closing ∷ []) read.0) ∙ sym read.1) ∙ left_to) behind.others behind.own;
+    number = number;
+  }
 
 -- Moments
 

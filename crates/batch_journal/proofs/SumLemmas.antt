@@ -1,11 +1,16 @@
 -- Sums and closing lines are lines.
-use Rattle.std.proofs.Common.{rules, ◌≡◌, ◌≢◌, ℕ, zero, suc, ◌+◌, ◌*◌, ◌/◌, ◌%◌, ◌^◌, ◌≤◌, ◌<◌, Bool, true, false, ◌==◌, List, [], ◌∷◌, ◌++◌, length, take, drop, decimal, slice_index, get_or, codes, refl, sym, ◌∙◌, ap, subst, arith, append_assoc}
-use Rattle.std.proofs.lemmas.Fmt.{decimal_by_steps}
+use Rattle.std.proofs.Common.{rules, ◌≡◌, ◌≢◌, ℕ, zero, suc, ◌+◌, ◌*◌, ◌/◌, ◌%◌, ◌^◌, ◌≤◌, ◌<◌, Bool, true, false, ◌==◌, List, [], ◌∷◌, ◌++◌, length, take, drop, decimal, slice_index, get_or, codes, nat_eq, refl, sym, ◌∙◌, ap, subst, arith, append_assoc}
+use Rattle.std.proofs.lemmas.Fmt.{decimal_by_steps, decimal_nonempty, length-decimal-le}
+use Rattle.std.proofs.lemmas.List.{drop_at}
+use Rattle.std.proofs.lemmas.List.Folds.{list_all-append}
+use Rattle.std.proofs.lemmas.Bool.{lt-ltb, le-leb}
+use Rattle.std.specs.Char.{is_ascii_digit}
+use Rattle.std.specs.List.{starts_with, list_all}
 use Rattle.std.proofs.lemmas.Bool.Decides.{Decides-eqb}
 use Rattle.std.proofs.lemmas.Slice.Eq.{starts_is}
 use Rattle.hex.specs.Hex.{encode_with, encode_lower, lower_digits}
 use Rattle.batch_journal.specs.Lines.{IsLine}
-use Rattle.batch_journal.specs.Journals.{closing_mark, closing_start, journal_format}
+use Rattle.batch_journal.specs.Journals.{closing_mark, closing_start, is_time, journal_format}
 use Rattle.batch_journal.specs.Writing.{closing_line}
 use Rattle.batch_journal.proofs.LineLemmas.{line_more}
 use Rattle.batch_journal.proofs.WholeEnd.{is_not}
@@ -62,6 +67,18 @@ closing_is_own sum n =
     (starts_is Decides-eqb (closing_line sum n) closing_mark (journal_format.own (closing_line sum n)) refl).1 ((sum ++ 32 ∷ []) ++ decimal n)
     (append_assoc closing_mark (sum ++ 32 ∷ []) (decimal n))
 
-pub closing_closes : (sum : List ℕ) (n : ℕ) → journal_format.closes sum (closing_line sum n) ≡ true
-closing_closes sum n =
-    (starts_is Decides-eqb (closing_line sum n) (closing_start sum) (journal_format.closes sum (closing_line sum n)) refl).1 (decimal n) refl
+digit : (d : ℕ) → d < 10 → is_ascii_digit (48 + d) ≡ true
+digit d lt = search (rules, lt)
+
+decimal_time : (n : ℕ) → n < 2 ^ 64 → is_time (decimal n) ≡ true
+decimal_time n fits =
+    let all : list_all is_ascii_digit (decimal n) ≡ true = decimal_by_steps (λ n ds. list_all is_ascii_digit ds ≡ true)
+    (λ n lt. rw (digit n lt) refl)
+    (λ n ds le is. list_all-append is_ascii_digit ds ((48 + n % 10) ∷ []) ∙ rw (is, digit (n % 10) (search rules)) refl) n fits in
+    rw (lt-ltb 0 (length (decimal n)) (decimal_nonempty n fits), le-leb (length (decimal n)) 20 (length-decimal-le 20 n (omega arith) (omega (arith, fits)) fits), all) refl
+
+pub closing_closes : (sum : List ℕ) (n : ℕ) → n < 2 ^ 64 → journal_format.closes sum (closing_line sum n) ≡ true
+closing_closes sum n fits =
+    let starts : starts_with nat_eq (closing_line sum n) (closing_start sum) ≡ true =
+    (starts_is Decides-eqb (closing_line sum n) (closing_start sum) (starts_with nat_eq (closing_line sum n) (closing_start sum)) refl).1 (decimal n) refl in
+    rw (starts, drop_at (closing_start sum) (decimal n) (length (closing_start sum)) refl, decimal_time n fits) refl

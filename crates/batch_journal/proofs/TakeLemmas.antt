@@ -4,9 +4,9 @@ use Rattle.std.proofs.lemmas.List.{append-nil, take_at, drop_at, drop_more, take
 use lib.Seq.{take-add}
 use Rattle.batch_journal.specs.Lines.{IsLine, AreLines, text_of, until_zero, whole_lines}
 use Rattle.batch_journal.specs.Ends.{EndsLine}
-use Rattle.batch_journal.specs.Groups.{taken, AreOthers}
+use Rattle.batch_journal.specs.Groups.{is_left, AreOthers}
 use Rattle.batch_journal.specs.Journals.{journal_format, next_sum, IsClosed}
-use Rattle.batch_journal.proofs.GroupLemmas.{begun_on, wrong_sum}
+use Rattle.batch_journal.proofs.GroupLemmas.{left_on, wrong_sum}
 use Rattle.batch_journal.proofs.LineLemmas.{text_both, lines_both}
 use Rattle.batch_journal.proofs.JournalLemmas.{lines_behind, closed_with}
 use Rattle.batch_journal.proofs.WholeEnd.{nothing_behind, at_zero}
@@ -72,17 +72,17 @@ module _ (documents bytes : List ℕ) (end at len : ℕ) (sum : List ℕ) (begun
   lines_left : whole_lines (drop end bytes) ≡ begun ++ whole_lines (drop at bytes)
   lines_left = ap whole_lines behind ∙ ap (λ l. whole_lines (l ++ drop at bytes)) text_is ∙ lines_behind begun (drop at bytes) are
 
-  taken_left : taken journal_format sum [] (whole_lines (drop end bytes)) ≡ taken journal_format sum begun (whole_lines (drop at bytes))
-  taken_left = ap (taken journal_format sum []) lines_left ∙ begun_on journal_format sum [] begun (whole_lines (drop at bytes)) others
+  begun_left : is_left journal_format sum [] (whole_lines (drop end bytes)) ≡ is_left journal_format sum begun (whole_lines (drop at bytes))
+  begun_left = ap (is_left journal_format sum []) lines_left ∙ left_on journal_format sum [] begun (whole_lines (drop at bytes)) others
 
-  pub none_left : whole_lines (drop at bytes) ≡ [] → taken journal_format sum [] (whole_lines (drop end bytes)) ≡ []
-  none_left none = taken_left ∙ ap (taken journal_format sum begun) none
+  pub none_left : whole_lines (drop at bytes) ≡ [] → is_left journal_format sum [] (whole_lines (drop end bytes)) ≡ true
+  none_left none = begun_left ∙ ap (is_left journal_format sum begun) none
 
   pub none_closed : (line : List ℕ) → EndsLine len (drop at bytes) → line ≡ take len (drop at bytes) → journal_format.own line ≡ true
-      → journal_format.closes (next_sum sum (slice_range bytes end at)) line ≡ false → taken journal_format sum [] (whole_lines (drop end bytes)) ≡ []
+      → journal_format.closes (next_sum sum (slice_range bytes end at)) line ≡ false → is_left journal_format sum [] (whole_lines (drop end bytes)) ≡ true
   none_closed line ends line_is own closes =
       let first = first_line len (drop at bytes) ends in
-      taken_left ∙ ap (taken journal_format sum begun) (first ∙ ap (λ l. l ∷ whole_lines (drop (len + 1) (drop at bytes))) (sym line_is))
+      begun_left ∙ ap (is_left journal_format sum begun) (first ∙ ap (λ l. l ∷ whole_lines (drop (len + 1) (drop at bytes))) (sym line_is))
       ∙ wrong_sum journal_format sum begun line (whole_lines (drop (len + 1) (drop at bytes))) own (subst (λ t. journal_format.closes (next_sum sum t) line ≡ false) text_is closes)
 
   -- the line and its line feed

@@ -1,13 +1,21 @@
 -- A group as it is written.
-use Rattle.std.proofs.Common.{◌≡◌, ℕ, List, [], ◌∷◌, ◌++◌, length, take, drop, Bool, true, false, ◌==◌, ◌^◌, ◌<◌, decimal, sym, refl, ◌∙◌, ap, subst, append_assoc, rules}
+use Rattle.std.proofs.Common.{◌≡◌, ℕ, List, [], ◌∷◌, ◌++◌, length, take, drop, Bool, true, false, ◌==◌, ◌&&◌, nat_eq, ◌^◌, ◌<◌, decimal, sym, refl, ◌∙◌, ap, subst, append_assoc, rules}
 use Rattle.batch_journal.specs.Disks.{Left, MayLeave}
 use Rattle.batch_journal.specs.Lines.{IsLine}
-use Rattle.batch_journal.specs.Journals.{closing_start, journal_format}
+use Rattle.std.specs.List.{starts_with}
+use Rattle.batch_journal.specs.Journals.{closing_start, is_time, journal_format}
 use Rattle.batch_journal.specs.Writing.{closing_line, group_text, MayKeep}
 use Rattle.batch_journal.proofs.CrashLemmas.{as_of}
 
 pub keeps_so : (durable seen given d g : List ℕ) (left : Left) → d ≡ durable → g ≡ given → MayLeave d seen g left → MayKeep durable given left
 keeps_so durable seen given d g left is_d is_g may = (seen, as_of left is_d refl is_g may)
+
+-- a line that starts so closes, where a time stands behind that
+pub closes_so : (line mark start : List ℕ) (n : ℕ) (starts time : Bool) → mark ≡ start → n ≡ length start → starts ≡ starts_with nat_eq line mark → starts ≡ true
+    → time ≡ is_time (drop n line) → time ≡ (starts_with nat_eq line start && is_time (drop (length start) line))
+closes_so line mark start n starts time is size starts_is so time_is =
+    let yes_so : starts_with nat_eq line start ≡ true = ap (starts_with nat_eq line) (sym is) ∙ sym starts_is ∙ so in
+    rw yes_so (time_is ∙ ap (λ k. is_time (drop k line)) size)
 
 -- the appends come to the group
 pub joined : (old lines sum digits one two three start time : List ℕ) → start ≡ closing_start sum → time ≡ digits ++ 10 ∷ []

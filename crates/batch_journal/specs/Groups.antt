@@ -1,5 +1,5 @@
 -- surface: groups of lines, each with a closing line, whatever the sums are.
-use Rattle.std.specs.Prelude.{◌≡◌, ℕ, Bool, true, false, List, [], ◌∷◌, ◌++◌, Option, Some, None, ⊤, if◌then◌else◌}
+use Rattle.std.specs.Prelude.{◌≡◌, ℕ, Bool, true, false, List, [], ◌∷◌, ◌++◌, Option, Some, None, ⊤, if◌then◌else◌, not}
 
 -- the sum of a group by the sum before it; which lines close a group at all; and which of them close one with this sum
 pub record Format : Type 0 where
@@ -14,6 +14,12 @@ taken f sum begun (line ∷ lines) =
     if f.own line
     then (if f.closes (f.next sum begun) line then begun ++ taken f (f.next sum begun) [] lines else [])
     else taken f sum (begun ++ line ∷ []) lines
+
+-- nothing is taken: the first line that closes a group doesn't close the one that has begun, or there is none
+abbrev pub is_left : Format → List ℕ → List (List ℕ) → List (List ℕ) → Bool
+is_left f sum begun [] = true
+is_left f sum begun (line ∷ lines) =
+    if f.own line then not (f.closes (f.next sum begun) line) else is_left f sum (begun ++ line ∷ []) lines
 
 -- nothing has begun
 abbrev pub at_rest : List ℕ → List (List ℕ) → Option (List ℕ)

@@ -1,6 +1,7 @@
 -- surface: the text of a journal: a header, and groups of lines with sums.
-use Rattle.std.specs.Prelude.{◌≡◌, ℕ, List, [], ◌∷◌, ◌++◌, length, take, drop, Some, codes, nat_eq}
-use Rattle.std.specs.List.{starts_with}
+use Rattle.std.specs.Prelude.{◌≡◌, ℕ, Bool, List, [], ◌∷◌, ◌++◌, length, take, drop, Some, codes, nat_eq, nat_lt, nat_le, ◌&&◌}
+use Rattle.std.specs.Char.{is_ascii_digit}
+use Rattle.std.specs.List.{starts_with, list_all}
 use Rattle.hex.specs.Hex.{encode_lower}
 use Rattle.sha2.specs.Sha256.{sha256}
 use Rattle.batch_journal.specs.Lines.{text_of, whole_lines}
@@ -12,7 +13,11 @@ use Rattle.batch_journal.specs.declared.sum.Sum.TheVariants.{Documents, Group}
 abbrev pub next_sum : List ℕ → List ℕ → List ℕ
 next_sum before text = take 16 (encode_lower (sha256 (before ++ 10 ∷ text)))
 
--- a closing line says so, then its sum; behind that stands the time, of which nothing is asked
+-- a time in milliseconds: one to twenty decimal digits
+abbrev pub is_time : List ℕ → Bool
+is_time bytes = (nat_lt 0 (length bytes) && nat_le (length bytes) 20) && list_all is_ascii_digit bytes
+
+-- a closing line says so, then its sum; behind that stands a time, of which nothing more is asked
 abbrev pub closing_mark : List ℕ
 closing_mark = codes "# sum "
 
@@ -23,7 +28,7 @@ abbrev pub journal_format : Format
 journal_format = record {
   next = λ sum lines. next_sum sum (text_of lines);
   own = λ line. starts_with nat_eq line closing_mark;
-  closes = λ sum line. starts_with nat_eq line (closing_start sum);
+  closes = λ sum line. starts_with nat_eq line (closing_start sum) && is_time (drop (length (closing_start sum)) line);
 }
 
 -- the first line, which names the documents by 64 digits; they are the sum before the first group

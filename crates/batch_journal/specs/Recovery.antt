@@ -1,9 +1,10 @@
 -- surface: what recovery finds in a file, and why it refuses one.
-use Rattle.std.specs.Prelude.{◌≡◌, ℕ, ◌≤◌, ◌<◌, List, [], length, take, drop, filter, ⊤, false, true, codes, nat_eq, slice_index, ◌==◌}
+use Rattle.std.specs.Prelude.{◌≡◌, ℕ, ◌+◌, ◌≤◌, ◌<◌, List, [], ◌∷◌, ◌++◌, length, take, drop, filter, ⊤, false, true, codes, nat_eq, slice_index, ◌==◌}
 use Rattle.std.specs.List.{starts_with}
-use Rattle.batch_journal.specs.Lines.{whole_from, whole_lines}
-use Rattle.batch_journal.specs.Groups.{taken}
-use Rattle.batch_journal.specs.Journals.{header, journal_format, IsClosed, IsJournal}
+use Rattle.batch_journal.specs.Disks.{IsPart}
+use Rattle.batch_journal.specs.Lines.{IsLine, AreLines, text_of, whole_from, whole_lines}
+use Rattle.batch_journal.specs.Groups.{taken, is_left, AreOthers}
+use Rattle.batch_journal.specs.Journals.{header, journal_format, recovered, IsClosed, IsJournal}
 use Rattle.batch_journal.specs.declared.recovery.RecoveryFault.{RecoveryFault}
 use Rattle.batch_journal.specs.declared.recovery.RecoveryFault.TheVariants.{Disk, NoJournal, OtherDocuments, Damaged}
 
@@ -11,11 +12,19 @@ use Rattle.batch_journal.specs.declared.recovery.RecoveryFault.TheVariants.{Disk
 pub record IsTakenTo (documents groups : List ℕ) (end : ℕ) (sum : List ℕ) : Type 0 where
   pub within : end ≤ length groups
   pub closed : IsClosed documents (take end groups) sum
-  pub no_more : taken journal_format sum [] (whole_lines (drop end groups)) ≡ []
+  pub left : is_left journal_format sum [] (whole_lines (drop end groups)) ≡ true
 
--- how many lines of a text close a group, whatever their sums, and whatever stands in them
+-- the lines that a line feed ends, whatever stands in them
+abbrev pub raw_lines : List ℕ → List (List ℕ)
+raw_lines text = whole_from [] text
+
+-- how many of the lines close a group, whatever their sums
+abbrev pub closings : List (List ℕ) → ℕ
+closings lines = length (filter journal_format.own lines)
+
+-- how many lines of a text do
 abbrev pub closing_count : List ℕ → ℕ
-closing_count text = length (filter journal_format.own (whole_from [] text))
+closing_count text = closings (raw_lines text)
 
 -- a journal up to there, behind which stands at most one closing line: what a crash may leave
 pub record StandsTo (documents file : List ℕ) (end : ℕ) (sum : List ℕ) : Type 0 where
@@ -24,20 +33,45 @@ pub record StandsTo (documents file : List ℕ) (end : ℕ) (sum : List ℕ) : T
   pub no_more : taken journal_format sum [] (whole_lines (drop end file)) ≡ []
   pub few : closing_count (drop end file) ≤ 1
 
--- a group isn't taken, and another one follows it
-pub record IsDamaged (documents file : List ℕ) : Type 0 where
+-- a line closes a group, the first that does so, and another does behind it
+pub record ClosesTwice (lines : List (List ℕ)) : Type 0 where
+  pub front : List (List ℕ)
+  pub closing : List ℕ
+  pub more : List (List ℕ)
+  pub splits : lines ≡ front ++ closing ∷ more
+  pub others : AreOthers journal_format front
+  pub own : journal_format.own closing ≡ true
+  pub another : 0 < closings more
+
+-- behind whole groups stands one that has a zero byte or another sum, and another one follows it; this line, from 1, closes it
+pub record IsDamaged (documents file : List ℕ) (line : ℕ) : Type 0 where
   pub end : ℕ
   pub sum : List ℕ
   pub journal : IsJournal documents (take end file) sum
-  pub no_more : taken journal_format sum [] (whole_lines (drop end file)) ≡ []
-  pub many : 1 < closing_count (drop end file)
+  pub behind : ClosesTwice (raw_lines (drop end file))
+  pub wrong : AreLines (behind.front ++ behind.closing ∷ []) → journal_format.closes (journal_format.next sum behind.front) behind.closing ≡ false
+  pub number : line ≡ length (raw_lines (take end file)) + (length behind.front + 1)
+
+-- behind a journal a group of these lines was written and not synced: whatever a crash left of it isn't taken for damage
+abbrev pub CrashIsNoDamage : Type 0
+CrashIsNoDamage =
+    (documents synced sum closing tail : List ℕ) (lines : List (List ℕ)) (line : ℕ) → IsJournal documents synced sum → AreLines lines → AreOthers journal_format lines
+    → IsLine closing → IsPart tail (text_of lines ++ (closing ++ 10 ∷ [])) → IsDamaged documents (synced ++ tail) line → ⊥
+
+-- whole lines are lines
+abbrev pub WholeLinesAreLines : Type 0
+WholeLinesAreLines = (text : List ℕ) → AreLines (whole_lines text)
+
+-- what recovery gives are lines
+abbrev pub RecoveredAreLines : Type 0
+RecoveredAreLines = (documents file : List ℕ) → AreLines (recovered documents file)
 
 -- why a file is refused
 abbrev pub IsRefusedFor : List ℕ → List ℕ → RecoveryFault → Type 0
 IsRefusedFor documents file (Disk fault) = ⊤
 IsRefusedFor documents file NoJournal = starts_with nat_eq file (codes "# batchd journal 1 ") ≡ false
 IsRefusedFor documents file OtherDocuments = (starts_with nat_eq file (codes "# batchd journal 1 ") ≡ true) × (starts_with nat_eq file (header documents) ≡ false)
-IsRefusedFor documents file (Damaged line) = IsDamaged documents file
+IsRefusedFor documents file (Damaged line) = IsDamaged documents file line
 
 -- the text is all of the file, synced, and a journal
 pub record AreRests (documents text sum durable seen : List ℕ) : Type 0 where

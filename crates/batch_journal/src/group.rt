@@ -1,7 +1,9 @@
 //! Groups of lines, as they are written.
 ghost use Rattle.std.specs.Prelude.{◌≡◌, OnOk, decimal, ◌++◌, ◌∷◌, []};
+ghost use Rattle.std.specs.Char.{is_ascii_digit};
+ghost use Rattle.std.specs.List.{list_all};
 ghost use Rattle.batch_journal.specs.Disks.{Elapses};
-ghost use Rattle.batch_journal.specs.Journals.{journal_format, closing_start};
+ghost use Rattle.batch_journal.specs.Journals.{journal_format, closing_start, is_time};
 ghost use Rattle.batch_journal.specs.Writing.{group_text, MayKeep};
 
 use crate::disk::{Disk, DiskError};
@@ -18,7 +20,21 @@ pub(crate) fn is_closing(line: &[u8]) -> bool
 pub(crate) fn closes(line: &[u8], sum: &[u8; 16]) -> bool
     ensures { result ≡ journal_format.closes sum.now line.now }
 {
-    line.starts_with(&closing_mark(sum))
+    let mark = closing_mark(sum);
+    line.starts_with(&mark) && is_time(&line[mark.len()..])
+}
+
+/// Whether the bytes are one to twenty decimal digits.
+fn is_time(bytes: &[u8]) -> bool
+    ensures { result ≡ is_time bytes.now }
+{
+    !bytes.is_empty() && bytes.len() <= 20 && are_digits(bytes)
+}
+
+fn are_digits(bytes: &[u8]) -> bool
+    ensures { result ≡ list_all is_ascii_digit bytes.now }
+{
+    bytes.iter().all(|byte| byte.is_ascii_digit())
 }
 
 /// The beginning of the line that closes a group of this sum.

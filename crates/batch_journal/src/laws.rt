@@ -1,6 +1,7 @@
 //! Laws of groups and lines. Nothing runs here: the contracts are the laws.
 ghost use Rattle.batch_journal.specs.Groups.{GroupsGoOn, GroupIsTaken, TornIsLeft};
 ghost use Rattle.batch_journal.specs.Readers.{LinesBegin};
+ghost use Rattle.batch_journal.specs.Recovery.{CrashIsNoDamage, RecoveredAreLines, WholeLinesAreLines};
 
 /// Behind groups that are taken others are taken as by themselves, whatever the sums are.
 pub fn groups_go_on()
@@ -20,4 +21,15 @@ pub fn torn_is_left()
 /// Where the text of a file's lines begins with that of some lines, they are the first that recovery gives.
 pub fn lines_begin()
     ensures { LinesBegin }
+{}
+
+/// Whatever a crash leaves of a group that was being written isn't taken for damage.
+pub fn crash_is_no_damage()
+    ensures { CrashIsNoDamage }
+{}
+
+/// Whole lines, and what recovery gives, are lines: none has a line feed or a zero byte.
+pub fn recovered_are_lines()
+    ensures whole { WholeLinesAreLines }
+    ensures recovered { RecoveredAreLines }
 {}

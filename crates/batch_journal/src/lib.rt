@@ -14,7 +14,10 @@ mod window;
 
 pub use disk::{Disk, DiskError};
 pub use file_disk::FileDisk;
-pub use laws::{group_is_taken, groups_go_on, lines_begin, torn_is_left};
+pub use laws::{
+    crash_is_no_damage, group_is_taken, groups_go_on, lines_begin, recovered_are_lines,
+    torn_is_left,
+};
 pub use memory::{Memory, Past};
 pub use reader::{JournalReader, Run};
 pub use recovery::{Recovered, RecoveryFault, recover};

@@ -1,9 +1,9 @@
 //! Recovery: the groups of a journal whose end a crash may have torn.
-ghost use Rattle.std.specs.Prelude.{◌≡◌, ◌⊎◌, ◌≤◌, ◌<◌, [], None, false, length, IfOk, IfErr, IsTrue, IsSome, IfSome, MatchOption, ◌↔◌, nat_eq};
+ghost use Rattle.std.specs.Prelude.{◌≡◌, ◌⊎◌, ◌≤◌, [], None, false, length, IfOk, IfErr, IsTrue, IfSome, MatchOption, nat_eq};
 ghost use Rattle.std.specs.List.{starts_with};
 ghost use Rattle.batch_journal.specs.Disks.{LeavesOnly};
 ghost use Rattle.batch_journal.specs.Journals.{header, recovered, sum_text};
-ghost use Rattle.batch_journal.specs.Recovery.{HasNoFeed, IsRefusedFor, IsTakenTo, StandsTo, AreRests, closing_count};
+ghost use Rattle.batch_journal.specs.Recovery.{HasNoFeed, IsRefusedFor, IsTakenTo, StandsTo, AreRests, ClosesTwice, closing_count, raw_lines};
 
 use crate::disk::{Disk, DiskError};
 use crate::group::{closes, is_closing};
@@ -154,7 +154,7 @@ fn standing_of(bytes: &[u8], documents: &[u8; 64]) -> Result<Option<Taken>, Reco
     let taken = take_groups(&bytes[header.len()..], documents);
     let end = header.len() + taken.end;
     match closing_before_another(&bytes[end..]) {
-        Some(at) => Err(RecoveryFault::Damaged(line_number(&bytes[..end + at]))),
+        Some(before) => Err(RecoveryFault::Damaged(line_count(&bytes[..end]) + before + 1)),
         None => Ok(Some(Taken {
             end,
             sum: taken.sum,
@@ -214,31 +214,42 @@ fn take_groups(bytes: &[u8], documents: &[u8; 64]) -> Taken
     Taken { end, sum }
 }
 
-/// Where the first line begins that closes a group, if another such line follows it.
+/// How many lines stand before the first one that closes a group, if another such line follows it.
 fn closing_before_another(bytes: &[u8]) -> Option<usize>
-    ensures found { IsSome result ↔ (1 < closing_count bytes.now) }
-    ensures within { IfSome result (λ at. at ≤ length bytes.now) }
+    ensures found { MatchOption result (closing_count bytes.now ≤ 1) (λ count. (behind : ClosesTwice (raw_lines bytes.now)) × (count ≡ length behind.front)) }
+    ensures within { IfSome result (λ count. count ≤ length bytes.now) }
 {
     let mut first = None;
+    let mut count = 0;
     let mut at = 0;
     while let Some(len) = memchr(b'\n', &bytes[at..]) {
         let line = &bytes[at..at + len];
-        let begins = at;
+        let before = count;
         at += len + 1;
+        count += 1;
         if !is_closing(line) {
             continue;
         }
         if first.is_some() {
             return first;
         }
-        first = Some(begins);
+        first = Some(before);
     }
     None
 }
 
-/// The number, from 1, of the line that begins behind these bytes.
-fn line_number(bytes: &[u8]) -> usize {
-    bytes.iter().filter(|byte| **byte == b'\n').count() + 1
+/// How many lines end in the bytes.
+fn line_count(bytes: &[u8]) -> usize
+    ensures count { result ≡ length (raw_lines bytes.now) }
+    ensures within { result ≤ length bytes.now }
+{
+    let mut count = 0;
+    let mut at = 0;
+    while let Some(len) = memchr(b'\n', &bytes[at..]) {
+        at += len + 1;
+        count += 1;
+    }
+    count
 }
 
 /// The header of a journal of these documents.

@@ -1,9 +1,9 @@
-use Rattle.std.proofs.Common.{rules, ◌≡◌, ◌+◌, ◌-◌, ◌<◌, ◌++◌, ◌∷◌, [], true, false, IsSome, is_some, length, length-append, take, drop, slice_range, refl, sym, ◌∙◌, ap, subst, arith}
+use Rattle.std.proofs.Common.{rules, ◌≡◌, ◌+◌, ◌-◌, ◌<◌, ◌≤◌, ◌++◌, ◌∷◌, [], ℕ, Option, Some, None, IfSome, IsSome, true, false, length, length-append, take, drop, slice_range, refl, sym, ◌∙◌, ap, subst, arith}
 use Rattle.std.proofs.lemmas.List.{length-drop}
 use Rattle.batch_journal.specs.Journals.{journal_format}
+use Rattle.batch_journal.specs.Recovery.{closings}
 use Rattle.batch_journal.proofs.TakeLemmas.{line_at, to_end}
-use Rattle.batch_journal.proofs.RecoveryLemmas.{not_both}
-use Rattle.batch_journal.proofs.ClosingLemmas.{NoFeedBefore, EndsThere, ends_there, line_more, two_closings, few_closings, closings_both, one_closing, no_closing, count_some, count_none}
+use Rattle.batch_journal.proofs.ClosingLemmas.{NoFeedBefore, EndsThere, ends_there, line_more, found_twice, few_closings, closings_both, one_closing, no_closing, count_none, first_here, first_more}
 use Rattle.batch_journal.proofs.recovery.closing_before_another.Goals as goal
 
 pub returns : goal.returns
@@ -14,7 +14,7 @@ returns c =
     let none : NoFeedBefore (length (drop at bytes)) (drop at bytes) =
     subst (λ l. NoFeedBefore (length l) l) (to_end bytes at) (λ k lt is. c.in_default.ensures k (omega arith) lt is) in
     record {
-      found = (λ is. absurd (not_both false is refl), λ lt. absurd (few_closings bytes (drop at bytes) so_far.looked c.loop-len.first so_far.splits none so_far.counts lt));
+      found = few_closings bytes (drop at bytes) so_far.looked c.loop-len.first so_far.splits none so_far.counts;
       within = tt;
     }
 
@@ -32,12 +32,15 @@ loop-len-preserved-then-not-is_closing c =
       within = omega (arith, so_far.within, ends.within, length-drop at bytes);
       looked = so_far.looked ++ line ∷ [];
       splits = line_more bytes at len so_far.looked so_far.splits ends.none ends.within ends.feed;
-      found = so_far.found;
+      count = omega (arith, so_far.count, length-append so_far.looked (line ∷ []));
+      few = omega (arith, so_far.few);
+      found = first_more c.loop-len.first so_far.looked line so_far.found;
+      before = so_far.before;
       counts = omega (arith, closings_both so_far.looked (line ∷ []), so_far.counts, no_closing line other);
     }
 
-pub returns-then-is_some-clause-found : goal.returns-then-is_some-clause-found
-returns-then-is_some-clause-found c =
+pub returns-then-is_some : goal.returns-then-is_some
+returns-then-is_some c =
     let so_far = c.loop-len.invariant in
     let bytes = c.args.bytes.now in
     let at = c.loop-len.at in
@@ -47,7 +50,10 @@ returns-then-is_some-clause-found c =
     let ends : EndsThere len (drop at bytes) = ends_there (take (length bytes - at) (drop at bytes)) (drop at bytes) len (to_end bytes at) (λ k lt is. found.0.before k (omega arith) lt is) found.0.high found.1 in
     let own : journal_format.own line ≡ true = ap journal_format.own (sym (line_at bytes at len)) ∙ sym c.is_closing.ensures ∙ c.if-not-is_closing.false in
     let some : IsSome c.loop-len.first = search rules in
-    (λ is. two_closings bytes at len so_far.looked so_far.splits ends.none ends.within ends.feed (so_far.counts ∙ count_some c.loop-len.first some) own, λ lt. some)
+    record {
+      found = found_twice bytes at len so_far.looked so_far.splits ends.none ends.within ends.feed c.loop-len.first some so_far.found own;
+      within = so_far.before;
+    }
 
 pub loop-len-preserved : goal.loop-len-preserved
 loop-len-preserved c =
@@ -59,11 +65,14 @@ loop-len-preserved c =
     let found = c.in-Some.ensures in
     let ends : EndsThere len (drop at bytes) = ends_there (take (length bytes - at) (drop at bytes)) (drop at bytes) len (to_end bytes at) (λ k lt is. found.0.before k (omega arith) lt is) found.0.high found.1 in
     let own : journal_format.own line ≡ true = ap journal_format.own (sym (line_at bytes at len)) ∙ sym c.is_closing.ensures ∙ c.if-not-is_closing.false in
-    let none : is_some c.loop-len.first ≡ false = search rules in
+    let none : closings so_far.looked ≡ 0 = so_far.counts ∙ count_none c.loop-len.first (search rules) in
     record {
       within = omega (arith, so_far.within, ends.within, length-drop at bytes);
       looked = so_far.looked ++ line ∷ [];
       splits = line_more bytes at len so_far.looked so_far.splits ends.none ends.within ends.feed;
-      found = so_far.within;
-      counts = omega (arith, closings_both so_far.looked (line ∷ []), so_far.counts, count_none c.loop-len.first none, one_closing line own);
+      count = omega (arith, so_far.count, length-append so_far.looked (line ∷ []));
+      few = omega (arith, so_far.few);
+      found = first_here c.loop-len.count so_far.looked line so_far.count none own;
+      before = omega (arith, so_far.few, so_far.within);
+      counts = omega (arith, closings_both so_far.looked (line ∷ []), none, one_closing line own);
     }

@@ -1,6 +1,7 @@
 use Rattle.std.proofs.Common.{◌≡◌, ℕ, ◌-◌, ◌≤◌, List, [], ◌++◌, length, drop, IfSome}
 use Rattle.batch_journal.specs.Lines.{whole_from}
-use Rattle.batch_journal.proofs.ClosingLemmas.{closings, found_count}
+use Rattle.batch_journal.specs.Recovery.{closings}
+use Rattle.batch_journal.proofs.ClosingLemmas.{ClosesFirst, found_count}
 use Rattle.batch_journal.proofs.recovery.closing_before_another.Given as goal
 
 abbrev pub invariant-loop-len : goal.invariant-loop-len
@@ -8,7 +9,10 @@ invariant-loop-len l = record {
   within : l.at ≤ length l.bytes;
   looked : List (List ℕ);
   splits : whole_from [] l.bytes ≡ looked ++ whole_from [] (drop l.at l.bytes);
-  found : IfSome l.first (λ p. p ≤ length l.bytes);
+  count : l.count ≡ length looked;
+  few : l.count ≤ l.at;
+  found : IfSome l.first (λ before. ClosesFirst before looked);
+  before : IfSome l.first (λ before. before ≤ length l.bytes);
   counts : closings looked ≡ found_count l.first;
 }
 

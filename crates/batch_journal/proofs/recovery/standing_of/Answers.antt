@@ -1,8 +1,8 @@
-use Rattle.std.proofs.Common.{rules, ◌≡◌, ◌+◌, ◌≤◌, ◌<◌, ◌++◌, List, ℕ, is_some, length, drop, refl, sym, ◌∙◌, ap, subst, arith}
+use Rattle.std.proofs.Common.{rules, ◌≡◌, ◌+◌, ◌≤◌, ◌++◌, List, ℕ, take, length, drop, refl, sym, ◌∙◌, ap, subst, arith}
 use Rattle.batch_journal.specs.Journals.{header, sum_text}
-use Rattle.batch_journal.specs.Recovery.{IsTakenTo, closing_count}
+use Rattle.batch_journal.specs.Recovery.{IsTakenTo, ClosesTwice, closing_count, raw_lines}
 use Rattle.batch_journal.proofs.TakeLemmas.{to_end}
-use Rattle.batch_journal.proofs.RecoveryLemmas.{header_size, begins_so, stands_to, journal_to, no_more_to, at_most_one, not_both}
+use Rattle.batch_journal.proofs.RecoveryLemmas.{header_size, begins_so, stands_to, damaged_to}
 use Rattle.batch_journal.proofs.recovery.standing_of.Goals as goal
 
 pub returns-in-None-clause-ok : goal.returns-in-None-clause-ok
@@ -13,8 +13,7 @@ returns-in-None-clause-ok c =
     let size : 84 ≡ length (header documents) = header_size documents (search rules) in
     let begins = begins_so documents bytes c.header_text-header.result c.starts_with.result c.header_text-header.ensures size c.starts_with.ensures.value c.if-not-starts_with.false in
     let found : IsTakenTo documents (drop 84 bytes) taken.end (sum_text taken.sum) = subst (λ l. IsTakenTo documents l taken.end (sum_text taken.sum)) (to_end bytes 84) c.take_groups-taken.ensures in
-    let few = at_most_one (closing_count (drop (84 + taken.end) bytes))
-    (λ lt. not_both (is_some c.closing_before_another.result) (c.closing_before_another.ensures.found.1 (subst (λ l. 1 < closing_count l) (sym (to_end bytes (84 + taken.end))) lt)) (ap is_some c.in-None.is)) in
+    let few = subst (λ l. closing_count l ≤ 1) (to_end bytes (84 + taken.end)) c.in-None.ensures.found in
     stands_to documents bytes (sum_text taken.sum) 84 taken.end size begins found few
 
 pub returns-in-Some-clause-refused : goal.returns-in-Some-clause-refused
@@ -25,10 +24,5 @@ returns-in-Some-clause-refused c =
     let size : 84 ≡ length (header documents) = header_size documents (search rules) in
     let begins = begins_so documents bytes c.header_text-header.result c.starts_with.result c.header_text-header.ensures size c.starts_with.ensures.value c.if-not-starts_with.false in
     let found : IsTakenTo documents (drop 84 bytes) taken.end (sum_text taken.sum) = subst (λ l. IsTakenTo documents l taken.end (sum_text taken.sum)) (to_end bytes 84) c.take_groups-taken.ensures in
-    record {
-      end = 84 + taken.end;
-      sum = sum_text taken.sum;
-      journal = journal_to documents bytes (sum_text taken.sum) 84 taken.end size begins found;
-      no_more = no_more_to documents bytes (sum_text taken.sum) 84 taken.end size begins found;
-      many = subst (λ l. 1 < closing_count l) (to_end bytes (84 + taken.end)) (c.closing_before_another.ensures.found.0 (ap is_some c.in-Some.is));
-    }
+    let behind = subst (λ l. (twice : ClosesTwice (raw_lines l)) × (c.in-Some.before ≡ length twice.front)) (to_end bytes (84 + taken.end)) c.in-Some.ensures.found in
+    damaged_to documents bytes (sum_text taken.sum) 84 taken.end size begins found _ behind.0 (omega (arith, c.line_count.ensures.count, behind.1))

@@ -20,7 +20,7 @@ returns-then-not-closes c =
     record {
       within = omega (arith, so_far.order, so_far.within);
       closed = so_far.closed;
-      no_more = none_closed c.args.documents.now bytes end at len (sum_text c.loop-len.sum) so_far.begun so_far.order so_far.within so_far.text so_far.are so_far.others
+      left = none_closed c.args.documents.now bytes end at len (sum_text c.loop-len.sum) so_far.begun so_far.order so_far.within so_far.text so_far.are so_far.others
           line ends (line_at bytes at len) (sym c.is_closing.ensures ∙ c.if-is_closing.true)
           (subst (λ s. journal_format.closes s line ≡ false) c.next-next.ensures.sum other);
     }
@@ -79,6 +79,6 @@ returns c =
     record {
       within = omega (arith, so_far.order, so_far.within);
       closed = so_far.closed;
-      no_more = none_left c.args.documents.now bytes end at 0 (sum_text c.loop-len.sum) so_far.begun so_far.order so_far.within so_far.text so_far.are so_far.others
+      left = none_left c.args.documents.now bytes end at 0 (sum_text c.loop-len.sum) so_far.begun so_far.order so_far.within so_far.text so_far.are so_far.others
           (ap whole_lines (sym (to_end bytes at)) ∙ c.in_default.ensures);
     }
