@@ -6,3 +6,5 @@ pub mod Cut
 pub mod Serves
 pub mod RowsOfUnfinished
 pub mod Replays
+pub mod CleanLines
+pub mod Held
