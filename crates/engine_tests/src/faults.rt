@@ -33,7 +33,9 @@ fn max_reads(rt: HostRuntime) -> Result<(), Fail> {
     assert_cut(&rt, alloc, 0, b"")?;
     // The input has 41 bytes, and its end is read too.
     assert_cut(&rt, alloc, 41, RECORD)?;
-    assert_outcome(&rt, run(alloc, OneByOne::of(INPUT), 42), Ok(0), RECORD)
+    assert_outcome(&rt, run(alloc, OneByOne::of(INPUT), 42), Ok(0), RECORD)?;
+    // In one piece it is one call, and its end another.
+    assert_outcome(&rt, run(alloc, INPUT, 2), Ok(0), RECORD)
 }
 
 /// The first call of a reader at which a failure isn't answered by the record of the whole lines read.
