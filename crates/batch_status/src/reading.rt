@@ -63,15 +63,20 @@ pub fn read_status<R: Read>(
 {
     let mut reading = Reading::new(alloc);
     let mut piece = [0u8; PIECE_LEN];
+    let mut interrupted = false;
     for _ in 0..max_reads {
         match reader.read(&mut piece) {
             Ok(0) => return Ok(reading.course.status),
             Ok(count) => reading.feed(alloc, &piece[..count])?,
-            Err(error) if error.kind() == ErrorKind::Interrupted => {}
+            Err(error) if error.kind() == ErrorKind::Interrupted => interrupted = true,
             Err(_) => return Err(StatusFault::Read),
         }
     }
-    Err(StatusFault::TooManyReads)
+    Err(if interrupted {
+        StatusFault::Read
+    } else {
+        StatusFault::TooManyReads
+    })
 }
 
 impl Reading {
