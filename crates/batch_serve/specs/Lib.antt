@@ -6,3 +6,6 @@ pub mod Cut
 pub mod Serves
 pub mod RowsOfUnfinished
 pub mod Replays
+pub mod CleanLines
+pub mod Held
+pub mod RowsOfCleanLines

@@ -1,6 +1,6 @@
 -- trusted: transcripts in which there was memory for each event: that they agree, that want of memory shows in the text, and that
 -- a replay tells again whatever was told.
-use Rattle.std.specs.Prelude.{◌≡◌, ℕ, List, [], ◌∷◌, ◌++◌, Option, Some, None, Result, Ok, Err, codes}
+use Rattle.std.specs.Prelude.{◌≡◌, ◌⊎◌, ℕ, List, [], ◌∷◌, ◌++◌, Option, Some, None, Result, Ok, Err, codes}
 use Rattle.batch_model.specs.Events.{Event}
 use Rattle.batch_model.specs.Plant.{Setup, Plant}
 use Rattle.batch_model.specs.Runs.{Out}
@@ -56,5 +56,18 @@ ToldIsRecovered =
     (c : Setup) (old mid new last : Plant) (before lines more : List (List ℕ)) (said then_said whole : Exchange) (told rest : List ℕ)
     → Transcript c old before said mid → ShowsNoWant said.text
     → Transcript c mid lines then_said new → ShowsNoWant then_said.text → then_said.text ≡ told ++ rest
+    → Transcript c old (before ++ (lines ++ more)) whole last → ShowsNoWant whole.text
+    → BeginsText (said.text ++ told) whole.text
+
+-- whole lines: the text is empty or ends with a line feed
+abbrev pub IsWholeLines : List ℕ → Type 0
+IsWholeLines text = (text ≡ []) ⊎ ((front : List ℕ) × (text ≡ front ++ 10 ∷ []))
+
+-- The same where of the other lines' text whole lines were told that show no want of memory: it may have been wanted behind them.
+abbrev pub WantIsNotTold : Type 0
+WantIsNotTold =
+    (c : Setup) (old mid new last : Plant) (before lines more : List (List ℕ)) (said then_said whole : Exchange) (told rest : List ℕ)
+    → Transcript c old before said mid → ShowsNoWant said.text
+    → Transcript c mid lines then_said new → then_said.text ≡ told ++ rest → IsWholeLines told → ShowsNoWant told
     → Transcript c old (before ++ (lines ++ more)) whole last → ShowsNoWant whole.text
     → BeginsText (said.text ++ told) whole.text

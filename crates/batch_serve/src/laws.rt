@@ -1,5 +1,7 @@
 //! Laws of transcripts. Nothing runs here: the contracts are the laws.
-ghost use Rattle.batch_serve.specs.Replays.{NoWantIsWell, ServingAgrees, ToldIsRecovered};
+ghost use Rattle.batch_serve.specs.CleanLines.{CleanLinesAgree, CleanLinesServeAlike};
+ghost use Rattle.batch_serve.specs.Replays.{NoWantIsWell, ServingAgrees, ToldIsRecovered, WantIsNotTold};
+ghost use Rattle.batch_serve.specs.RowsOfCleanLines.{CleanLineRows};
 ghost use Rattle.batch_serve.specs.RowsOfUnfinished.{UnfinishedRows};
 ghost use Rattle.batch_serve.specs.Safe.{TranscriptsAreSafe, TranscriptsLeaveNobodyInVain};
 ghost use Rattle.batch_serve.specs.Settled.{TranscriptsSettle};
@@ -46,4 +48,24 @@ pub fn no_want_is_well()
 /// Whatever was told of lines in two lives of a plant is told again by a replay of lines that begin with them.
 pub fn told_is_recovered()
     ensures { ToldIsRecovered }
+{}
+
+/// A line as a journal has it gives the event that it gave before, or is refused alike; one that is left out gave nothing.
+pub fn clean_lines_agree()
+    ensures { CleanLinesAgree }
+{}
+
+/// Which lines are kept, changed or left out, and which text is whole lines.
+pub fn clean_line_rows()
+    ensures { CleanLineRows }
+{}
+
+/// Whatever may come of the lines of an input as a journal has them may come of the input.
+pub fn clean_lines_serve_alike()
+    ensures { CleanLinesServeAlike }
+{}
+
+/// The same where memory may have been wanted behind what was told, if that is whole lines which show no want.
+pub fn want_is_not_told()
+    ensures { WantIsNotTold }
 {}

@@ -2,17 +2,22 @@
 #![tactic(auto)]
 
 mod answering;
+mod clean_lines;
 mod fault;
+mod held;
 mod laws;
 mod limits;
 mod line_buffer;
 mod serving;
 mod set;
 
+pub use clean_lines::CleanReader;
 pub use fault::{ServeFault, SetFault};
+pub use held::{Held, Start};
 pub use laws::{
-    no_want_is_well, serving_agrees, told_is_recovered, transcripts_are_safe,
-    transcripts_leave_nobody_in_vain, transcripts_settle, unfinished_rows,
+    clean_line_rows, clean_lines_agree, clean_lines_serve_alike, no_want_is_well, serving_agrees,
+    told_is_recovered, transcripts_are_safe, transcripts_leave_nobody_in_vain, transcripts_settle,
+    unfinished_rows, want_is_not_told,
 };
 pub use limits::piece_limit_is_fixed;
 pub use serving::serve;

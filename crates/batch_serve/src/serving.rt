@@ -135,7 +135,7 @@ fn answer_ended<W: Write>(
 }
 
 /// Where the first line feed stands.
-fn line_feed(bytes: &[u8]) -> Option<usize>
+pub(crate) fn line_feed(bytes: &[u8]) -> Option<usize>
     ensures { MatchOption result (HasNoFeed bytes.now) (λ at. EndsLine at bytes.now) }
 {
     memchr(b'\n', bytes)

@@ -1,4 +1,4 @@
-use Rattle.std.proofs.Common.{◌<◌, ℕ, false, List, Option, None, Some, length, take, get_or, ◌∙◌, ap, eqb, arith}
+use Rattle.std.proofs.Common.{◌<◌, ℕ, false, List, Option, None, Some, take, get_or, ◌∙◌, ap, eqb, arith}
 use Rattle.std.specs.Prelude.{◌≡◌, MatchOption}
 use Rattle.std.proofs.lemmas.Bool.{eqb-true, false_from_ne_true}
 use Rattle.std.proofs.lemmas.List.{get_or-take, length-take}
