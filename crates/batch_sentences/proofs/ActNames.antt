@@ -1,5 +1,5 @@
 -- A recipe has an act, or none, at each of its nodes, and at no other number.
-use Rattle.std.proofs.Common.{arith, ◌≡◌, ℕ, ◌+◌, ◌≤◌, ◌<◌, List, [], ◌∷◌, length, slice_get, Option, Some, None, refl, sym, ap, ◌∙◌}
+use Rattle.std.proofs.Common.{arith, ◌≡◌, ℕ, ◌≤◌, List, [], ◌∷◌, length, slice_get, None, refl}
 use Rattle.std.proofs.lemmas.Option.{slice_get_past}
 use Rattle.batch_recipe.proofs.NodeActs.{procedure_acts_are}
 use Rattle.batch_recipe.specs.ActsAtNodes.{ActList, AreActsAt, procedure_acts}

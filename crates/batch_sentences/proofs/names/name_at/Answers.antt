@@ -1,6 +1,5 @@
-use Rattle.std.proofs.Common.{◌≡◌, ◌≤◌, length, refl, inl, inr}
+use Rattle.std.proofs.Common.{length, refl, inl, inr}
 use Rattle.std.proofs.lemmas.Bool.{cases_lt}
-use Rattle.batch_recipe.specs.ActsAtNodes.{procedure_acts}
 use Rattle.batch_recipe.specs.Procedure.{procedure_nodes}
 use Rattle.batch_sentences.proofs.ActNames.{none_past}
 use Rattle.batch_sentences.proofs.names.name_at.Goals as goal
