@@ -1,2 +1,3 @@
 mod ShownLines
 mod Growing
+pub mod ActNames

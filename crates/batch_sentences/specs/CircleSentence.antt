@@ -1,8 +1,9 @@
 -- surface: what a circle means, in words.
-use Rattle.std.specs.Prelude.{◌≡◌, ℕ, List, [], ◌++◌, codes, slice_get, unwrap_or, option_map, ⊤}
+use Rattle.std.specs.Prelude.{◌≡◌, ℕ, List, [], ◌++◌, codes, slice_get, unwrap_or, option_map, Some, None, ⊤}
 use Rattle.std.specs.List.{flat_map}
 use Rattle.batch_cell.specs.LookUps.{resources_of}
 use Rattle.batch_cell.specs.declared.cell.Cell.{Cell}
+use Rattle.batch_recipe.specs.ActsAtNodes.{procedure_acts}
 use Rattle.batch_recipe.specs.declared.recipe.Recipe.{Recipe}
 use Rattle.batch_check.specs.declared.edge.Edge.{Edge}
 use Rattle.batch_check.specs.declared.fault.CheckFault.{CheckFault}
@@ -15,11 +16,18 @@ resource_name cell resource = unwrap_or (slice_get (resources_of cell) resource)
 abbrev pub recipe_name : List Recipe → ℕ → List ℕ
 recipe_name recipes recipe = unwrap_or (option_map (λ (r : Recipe). r.acts.procedure.name) (slice_get recipes recipe)) []
 
--- a batch of the edge's recipe holds the one resource and asks for the other
+-- the name of the act at a node of a recipe
+abbrev pub name_at : Recipe → ℕ → List ℕ
+name_at r node = elim (slice_get (procedure_acts r.acts) node) [ None ↦ [] | Some found ↦ elim found [ None ↦ [] | Some a ↦ a.name ] ]
+
+abbrev pub act_name : List Recipe → ℕ → ℕ → List ℕ
+act_name recipes recipe node = unwrap_or (option_map (λ r. name_at r node) (slice_get recipes recipe)) []
+
+-- a batch of the edge's recipe holds the one resource and asks for the other, in the act at the edge's node
 abbrev pub edge_words : Cell → List Recipe → Edge → List ℕ
 edge_words cell recipes e =
     codes "; " ++ (recipe_name recipes e.recipe ++ (codes " holds " ++ (resource_name cell e.earlier
-    ++ (codes " and asks for " ++ resource_name cell e.later))))
+    ++ (codes " and asks for " ++ (resource_name cell e.later ++ (codes " in " ++ act_name recipes e.recipe e.node))))))
 
 abbrev pub circle_words : Cell → List Recipe → List Edge → List ℕ
 circle_words cell recipes edges = codes "batches can wait in a circle" ++ flat_map (edge_words cell recipes) edges

@@ -1,9 +1,9 @@
 //! What verdicts name by number.
 ghost use Rattle.std.specs.Prelude.{◌≡◌};
-ghost use Rattle.batch_sentences.specs.CircleSentence.{recipe_name, resource_name};
+ghost use Rattle.batch_sentences.specs.CircleSentence.{act_name, name_at, recipe_name, resource_name};
 
 use batch_cell::Cell;
-use batch_recipe::Recipe;
+use batch_recipe::{Recipe, act_at};
 
 pub(crate) fn resource_name(cell: &Cell, resource: u16) -> &str
     ensures { result.now ≡ resource_name cell.now resource }
@@ -20,6 +20,25 @@ pub(crate) fn recipe_name(recipes: &[Recipe], recipe: u16) -> &str
 {
     match recipes.get(usize::from(recipe)) {
         Some(recipe) => recipe.acts.procedure.name.text(),
+        None => "",
+    }
+}
+
+/// The name of the act at a node of the recipe with this number.
+pub(crate) fn act_name(recipes: &[Recipe], recipe: u16, node: u16) -> &str
+    ensures { result.now ≡ act_name recipes.now recipe node }
+{
+    match recipes.get(usize::from(recipe)) {
+        Some(recipe) => name_at(recipe, node),
+        None => "",
+    }
+}
+
+fn name_at(recipe: &Recipe, node: u16) -> &str
+    ensures { result.now ≡ name_at recipe.now node }
+{
+    match act_at(recipe, node) {
+        Some(act) => act.name.text(),
         None => "",
     }
 }

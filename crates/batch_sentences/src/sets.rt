@@ -2,7 +2,7 @@
 ghost use Rattle.std.specs.Prelude.{◌≡◌, IfOk, string_bytes};
 ghost use Rattle.batch_sentences.specs.CircleSentence.{SaysCircle, circle_words, edge_words};
 
-use crate::names::{recipe_name, resource_name};
+use crate::names::{act_name, recipe_name, resource_name};
 use crate::nodes::broken_said;
 use crate::sentence::Sentence;
 use batch_cell::Cell;
@@ -144,7 +144,8 @@ fn edge_said(
     let name = recipe_name(recipes, edge.recipe);
     let earlier = resource_name(cell, edge.earlier);
     let later = resource_name(cell, edge.later);
-    format!(in alloc; "; {name} holds {earlier} and asks for {later}")
+    let act = act_name(recipes, edge.recipe, edge.node);
+    format!(in alloc; "; {name} holds {earlier} and asks for {later} in {act}")
 }
 
 fn entry_name(certificate: &Certificate, entry: usize) -> &str {
