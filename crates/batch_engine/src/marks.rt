@@ -86,7 +86,10 @@ impl Marks {
         ensures { (i : ℕ) → index ≤ i → mark_at self.new i ≡ mark_at self.old i }
     {
         let mut from = 0;
-        while let Some(marked) = self.next(from) {
+        while from < index {
+            let Some(marked) = self.next(from) else {
+                return;
+            };
             if marked >= index {
                 return;
             }
