@@ -49,7 +49,7 @@ none-found : {X : Type 0} (p : X → Bool) (xs : List X) (d : X) → ((k : ℕ) 
 none-found p xs d b =
     ap (λ n. cond (nat_lt n (length xs)) (Some n) None) (none-len p xs d b) ∙ ap (λ t. cond t (Some (length xs)) None) (le-ltb (length xs) (length xs) (omega arith))
 
-no_entry : Entry
+pub no_entry : Entry
 no_entry = record { number = 0; key = 0 }
 
 module _ (es : List Entry) (rising : AreRising es) (n : ℕ) where
@@ -59,13 +59,15 @@ module _ (es : List Entry) (rising : AreRising es) (n : ℕ) where
       grind (arith, numbers-rise es i j no_entry rising, λ (same : i ≡ j). ap (λ k. (get_or es k no_entry).number) same) in
       grind (arith, nat_tests))
 
-  pub searched : (r : Result ℕ ℕ) → IsSearchInRange r (length es) → IsBinarySearchResult (λ (e : Entry). nat_cmp e.number n) es r
-      → result_ok r ≡ position (λ m. nat_eq m n) (map entry_number es)
-  searched (Ok i) within equal =
-      let here : (get_or es i no_entry).number ≡ n = ranked _ n _ (sym (equal no_entry)) in
+  pub found-at : (i : ℕ) → i < length es → (get_or es i no_entry).number ≡ n → Some i ≡ position (λ m. nat_eq m n) (map entry_number es)
+  found-at i within here =
       sym (position-map (λ m. nat_eq m n) entry_number es
       ∙ first-found (λ (e : Entry). nat_eq e.number n) es i no_entry within (grind (arith, here))
       (λ k lt. differs _ n (λ same. omega (arith, numbers-rise es k i no_entry rising lt within, here, same))))
+
+  pub searched : (r : Result ℕ ℕ) → IsSearchInRange r (length es) → IsBinarySearchResult (λ (e : Entry). nat_cmp e.number n) es r
+      → result_ok r ≡ position (λ m. nat_eq m n) (map entry_number es)
+  searched (Ok i) within equal = found-at i within (ranked _ n _ (sym (equal no_entry)))
   searched (Err i) within parted =
       sym (position-map (λ m. nat_eq m n) entry_number es
       ∙ none-found (λ (e : Entry). nat_eq e.number n) es no_entry (λ k lt. differs _ n (λ same. elim (cases_lt k i) [

@@ -1,5 +1,5 @@
 //! The batches: in a slab under keys, and beside them the order of their numbers.
-ghost use Rattle.std.specs.Prelude.{◌≡◌, ◌<◌, length, nat_eq, position, slice_index_or, OnOk, OnErr};
+ghost use Rattle.std.specs.Prelude.{◌≡◌, ◌<◌, IfSome, Some, length, nat_eq, position, slice_index_or, OnOk, OnErr};
 ghost use Rattle.std.specs.Borrow.{sem};
 ghost use Rattle.batch_engine.specs.Batches.{IsNewNumber, no_batches, with_batch, without_batch};
 
@@ -58,6 +58,30 @@ impl Batches {
 
     /// Where the batch that was added with this number stands.
     pub(crate) fn index_of(&self, number: u64) -> Option<usize>
+        ensures { result ≡ position (λ n. nat_eq n number) self.now.numbers }
+    {
+        match self.guess(number) {
+            Some(index) => Some(index),
+            None => self.search(number),
+        }
+    }
+
+    /// Where it stands if no batch between the first and it was removed: as many places behind the first as its number is above.
+    fn guess(&self, number: u64) -> Option<usize>
+        ensures { IfSome result (λ index. Some index ≡ position (λ n. nat_eq n number) self.now.numbers) }
+    {
+        let first = self.entries.first()?;
+        let index = number.wrapping_sub(first.number) as usize;
+        let entry = self.entries.get(index)?;
+        if entry.number == number {
+            Some(index)
+        } else {
+            None
+        }
+    }
+
+    /// Where it stands, by halves.
+    fn search(&self, number: u64) -> Option<usize>
         ensures { result ≡ position (λ n. nat_eq n number) self.now.numbers }
     {
         self.entries

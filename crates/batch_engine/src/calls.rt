@@ -78,7 +78,7 @@ impl Engine {
     {
         let Some(step) = self.control.first_step(&self.marks) else {
             // Each marked batch was looked at in vain. So it isn't looked at again before something changes.
-            self.marks = Marks::new();
+            self.marks.clear_all();
             return None;
         };
         let line = self.control.line_of(step);

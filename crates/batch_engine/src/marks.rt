@@ -60,13 +60,36 @@ impl Marks {
         }
     }
 
+    /// Takes all marks away, in as many steps as there are words with one.
+    pub(crate) fn clear_all(&mut self) {
+        let mut from = 0;
+        while from < 64 {
+            let Some(word) = lowest_from(self.summary, from) else {
+                return;
+            };
+            self.clear_word(word);
+            from = word + 1;
+        }
+    }
+
+    /// Takes the marks of 64 numbers away.
+    fn clear_word(&mut self, word: usize)
+        requires { word < 64 }
+    {
+        self.words[word] = 0;
+        self.summary = without_bit(self.summary, word);
+    }
+
     /// Takes the marks below a number away, in as many steps as there are of them.
     pub(crate) fn clear_below(&mut self, index: usize)
         requires { index ≤ 4096 }
         ensures { (i : ℕ) → index ≤ i → mark_at self.new i ≡ mark_at self.old i }
     {
         let mut from = 0;
-        while let Some(marked) = self.next(from) {
+        while from < index {
+            let Some(marked) = self.next(from) else {
+                return;
+            };
             if marked >= index {
                 return;
             }

@@ -1,5 +1,5 @@
 //! Room for one line, so that its writer gets it in one piece.
-ghost use Rattle.std.specs.Prelude.{◌≡◌, [], Some, take};
+ghost use Rattle.std.specs.Prelude.{◌≡◌, ◌≤◌, [], Some, take};
 
 use std::io::{Result, Write};
 
@@ -11,6 +11,7 @@ const ROOM: usize = 384;
 pub(crate) struct LineRoom {
     len: usize,
     bytes: [u8; ROOM],
+    ghost few: { len ≤ 384 },
 }
 
 impl LineRoom {
@@ -34,7 +35,7 @@ impl LineRoom {
     pub(crate) fn line(&self) -> &[u8]
         ensures { result.now ≡ take self.now.len self.now.bytes }
     {
-        &self.bytes[..self.len.min(ROOM)]
+        &self.bytes[..self.len]
     }
 }
 
@@ -44,11 +45,15 @@ impl Write for LineRoom {
     #[inline(always)]
     fn write(&mut self, piece: &[u8]) -> Result<usize> {
         let start = self.len;
-        if start >= ROOM || piece.len() > ROOM - start {
+        let end = start + piece.len();
+        if end > ROOM {
             return Ok(0);
         }
-        let end = start + piece.len();
-        self.bytes[start..end].copy_from_slice(piece);
+        match piece {
+            // One byte needs no call.
+            [byte] => self.bytes[start] = *byte,
+            _ => self.bytes[start..end].copy_from_slice(piece),
+        }
         self.len = end;
         Ok(piece.len())
     }

@@ -122,11 +122,14 @@ impl RecipePlaces {
         ensures known { AreKnownBy (text_of_place recipe.now) self.new }
         ensures found { IfSome result (λ end. EndsAt (text_of_place recipe.now node) end self.new) }
     {
-        if usize::from(node) < recipe.outline.entries.len() {
-            self.reach(recipe, node)
-        } else {
-            None
+        if usize::from(node) >= recipe.outline.entries.len() {
+            return None;
         }
+        // Half of the lines tell the place that was told last.
+        if let Some(end) = self.end_of(node) {
+            return Some(end);
+        }
+        self.reach(recipe, node)
     }
 
     /// The digits of the batch stand in front of the place, unless there is no room for them.

@@ -25,7 +25,7 @@ note_grant-requires c = subst (λ n. IfSome (touched_by c.line_of-line.result) (
 
 pub invariant_of-self : goal.invariant_of-self
 invariant_of-self c =
-    record { kept = c.self.invariant.kept; marked = settled-marked c.self.inside.control c.in_default.ensures c.new-self-inside.result; noted_are = c.self.invariant.noted_are }
+    record { kept = c.self.invariant.kept; marked = settled-marked c.self.inside.control c.in_default.ensures c.clear_all.new.self; noted_are = c.self.invariant.noted_are }
 
 pub invariant_of-self-2 : goal.invariant_of-self-2
 invariant_of-self-2 c =

@@ -3,7 +3,7 @@ use Rattle.std.specs.Prelude.{nat_eq, position}
 use Rattle.std.proofs.lemmas.List.Sorted.{answers_always}
 use Rattle.batch_engine.specs.Batches.{BatchList}
 use Rattle.batch_engine.proofs.Searching.{searched}
-use Rattle.batch_engine.proofs.batches.Batches.index_of.Goals as goal
+use Rattle.batch_engine.proofs.batches.Batches.search.Goals as goal
 
 -- the closure gives an entry's number, and the slice is the entries
 pub returns : goal.returns
