@@ -1,11 +1,11 @@
 -- What was told is told again.
-use Rattle.std.proofs.Common.{◌≡◌, ℕ, List, [], ◌∷◌, ◌++◌, length, take, drop, take-append-drop, Option, Some, refl, sym, ◌∙◌, ap, subst, append_assoc}
+use Rattle.std.proofs.Common.{◌≡◌, ℕ, List, [], ◌∷◌, ◌++◌, take, drop, take-append-drop, Option, Some, refl, sym, ◌∙◌, ap, subst, append_assoc}
 use Rattle.std.proofs.lemmas.List.{append-nil, append_cancel_left}
 use Rattle.std.specs.Io.KnownBytes.{Appends, append_known}
 use Rattle.batch_model.specs.Plant.{Setup, Plant}
-use Rattle.batch_wire.specs.Transcript.{Exchange, Transcript}
+use Rattle.batch_wire.specs.Transcript.{Transcript}
 use Rattle.batch_serve.specs.Held.{TellsClear}
-use Rattle.batch_serve.specs.Replays.{BeginsText, IsWholeLines, ShowsNoWant, WantIsNotTold}
+use Rattle.batch_serve.specs.Replays.{WantIsNotTold}
 use Rattle.batch_journal.specs.Disks.{Left, MayLeave}
 use Rattle.batch_journal.specs.Journals.{recovered}
 use Rattle.batch_journal.specs.Lines.{AreLines, text_of}

@@ -1,8 +1,8 @@
 -- The lines that a journal has for itself are comments.
-use Rattle.std.proofs.Common.{rules, ◌≡◌, ◌⊎◌, ℕ, zero, suc, ◌+◌, ◌-◌, ◌<◌, ◌≤◌, Bool, true, false, ◌==◌, ◌&&◌, List, [], ◌∷◌, ◌++◌, length, length-append, take, drop, Option, Some, None, Ok, Err, cond, codes, nat_eq, nat_le, nat_lt, get_or, refl, sym, ◌∙◌, ap, subst, append_assoc, inl, inr, arith}
+use Rattle.std.proofs.Common.{rules, ◌≡◌, ◌⊎◌, ℕ, suc, ◌+◌, ◌-◌, ◌<◌, ◌≤◌, Bool, true, false, ◌==◌, ◌&&◌, List, [], ◌∷◌, ◌++◌, length, length-append, take, drop, Option, Some, None, Ok, Err, cond, codes, nat_eq, nat_le, nat_lt, get_or, refl, sym, ◌∙◌, ap, subst, append_assoc, inl, inr, arith}
 use Rattle.std.proofs.lemmas.Bool.{and_parts, cases_Bool, leb-true, le-ltb}
 use Rattle.std.proofs.lemmas.Bool.Decides.{Decides-eqb}
-use Rattle.std.proofs.lemmas.List.{append-nil, length-take, length-drop}
+use Rattle.std.proofs.lemmas.List.{length-take}
 use Rattle.std.proofs.lemmas.Slice.Eq.{starts_is}
 use Rattle.std.specs.Char.{is_ascii_digit}
 use Rattle.std.specs.List.{starts_with, list_all}
@@ -15,8 +15,8 @@ use Rattle.batch_wire.specs.Transcript.{lines_of, Exchange, silence, followed_by
 use Rattle.batch_wire.specs.WrittenTranscript.{WritesTranscript}
 use Rattle.batch_wire.specs.declared.event_line.TheConstants.{MAX_LINE_LEN}
 use Rattle.batch_wire.specs.declared.fault.WireFault.TheVariants.{TooLong}
-use Rattle.batch_journal.specs.Groups.{Format, taken, last_sum, at_rest}
-use Rattle.batch_journal.specs.Journals.{journal_format, closing_start, closing_mark, is_time, next_sum, header, groups_in, recovered, IsJournal}
+use Rattle.batch_journal.specs.Groups.{taken, last_sum, at_rest}
+use Rattle.batch_journal.specs.Journals.{journal_format, closing_start, is_time, next_sum, header, groups_in, recovered, IsJournal}
 use Rattle.batch_journal.specs.Lines.{IsLine, AreLines, text_of, whole_lines}
 use Rattle.batch_keep.proofs.Telling.{lines_of_text, no_last}
 

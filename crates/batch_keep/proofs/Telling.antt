@@ -1,11 +1,13 @@
 -- What was told is told of what was given.
-use Rattle.std.proofs.Common.{◌≡◌, ◌⊎◌, ℕ, ◌-◌, ◌<◌, ◌≤◌, ◌∷◌, ◌==◌, zero, suc, get_or, false, inl, inr, List, [], ◌++◌, length, take, Option, Some, None, Result, Ok, Err, OnOk, IfSome, IsErrOf, refl, sym, ◌∙◌, ap, subst, arith}
+use Rattle.std.proofs.Common.{◌≡◌, ◌⊎◌, ℕ, ◌-◌, ◌<◌, ◌≤◌, ◌∷◌, ◌==◌, zero, suc, get_or, false, true, inl, inr, List, [], ◌++◌, length, take, Option, Some, None, Result, Ok, Err, OnOk, IfSome, IsOk, IsErrOf, refl, sym, ◌∙◌, ap, subst, arith}
 use Rattle.std.proofs.lemmas.List.{append-nil, append_cancel_right, take_all, length-append, take-append-le}
-use Rattle.std.specs.Io.KnownBytes.{prepend_known, Consumes, IsAtEnd}
+use Rattle.std.specs.Io.KnownBytes.{Appends, Consumes, IsAtEnd, append_known, prepend_known}
 use Rattle.batch_model.specs.Plant.{Setup, Plant}
 use Rattle.batch_wire.specs.Transcript.{lines_of, whole_lines, silence, followed_by}
 use Rattle.batch_wire.specs.WrittenTranscript.{WritesTranscript, BeginsTranscript, WritesWholeLines}
 use Rattle.batch_serve.specs.Cut.{BeginsLinesRead}
+use Rattle.batch_serve.specs.Held.{TellsAll}
+use Rattle.batch_serve.specs.Replays.{IsWholeLines, TranscriptsAreWhole}
 use Rattle.batch_serve.specs.declared.fault.ServeFault.{ServeFault}
 use Rattle.batch_serve.specs.declared.fault.ServeFault.TheVariants as faults
 use Rattle.std.specs.List.{All}
@@ -124,3 +126,51 @@ pub tells_known : (c : Setup) (old new : Plant) (r : Result (Unit {0}) ServeFaul
     → IsServedBy c old new r unread left before after → TellsLines c old given before after
 tells_known c old new r known unread left before after all given is some account whole_lines_given are h =
     tells_lines c old given before after whole_lines_given are (tells c old new r all given left before after account (subst (λ (u : Option (List ℕ)). IsServedBy c old new r u left before after) (from_none known unread all is some) h))
+
+-- Served to the end
+
+prepend_none : (known : Option (List ℕ)) → prepend_known [] known ≡ known
+prepend_none None = refl
+prepend_none (Some all) = refl
+
+pub served_known : (unread known : Option (List ℕ)) (r : Result (Unit {0}) ServeFault) (P : List ℕ → Type 0) → unread ≡ prepend_known [] known → OnOk r (IfSome unread P) → OnOk r (IfSome known P)
+served_known unread known r P is served = subst (λ (u : Option (List ℕ)). OnOk r (IfSome u P)) (is ∙ prepend_none known) served
+
+appended : (x : List ℕ) (now : Option (List ℕ)) (text : List ℕ) → Appends (Some x) now text → now ≡ Some (x ++ text)
+appended x None text appends = absurd appends
+appended x (Some y) text appends = ap Some appends
+
+appends_all : (first before taken now : Option (List ℕ)) (text : List ℕ) → before ≡ append_known first [] → Appends before taken text → IsWholeLines text → TellsAll first taken now → Appends first now text
+appends_all None before taken now text is appends whole tells = tt
+appends_all (Some held) before taken now text is appends whole tells =
+    let all : taken ≡ Some (held ++ text) =
+    appended (held ++ []) taken text (subst (λ (b : Option (List ℕ)). Appends b taken text) is appends) ∙ ap (λ l. Some (l ++ text)) (append-nil held) in
+    subst (λ (n : Option (List ℕ)). Appends (Some held) n text) (sym (tells held text refl all whole)) refl
+
+-- what was written to a writer that held it back was told
+pub tells_transcript : (c : Setup) (old : Plant) (lines : List (List ℕ)) (new : Plant) (first before taken now : Option (List ℕ)) → TranscriptsAreWhole → before ≡ append_known first [] → TellsAll first taken now
+    → WritesTranscript c old lines new before taken → WritesTranscript c old lines new first now
+tells_transcript c old lines new first before taken now are_whole is tells w = record {
+  said = w.said;
+  transcript = w.transcript;
+  leads = w.leads;
+  appends = appends_all first before taken now w.said.text is w.appends (are_whole c old new lines w.said w.transcript) tells;
+}
+
+pub ok_is : {A E : Type 0} (r : Result A E) (x : A) (P : Type 0) → r ≡ Ok x → OnOk r P → P
+ok_is r x P is p = subst (λ s. OnOk s P) is p
+
+-- of a last flush that ended well
+pub on_told : {A E F B : Type 0} (r : Result A E) (t : Result B F) (P Q : Type 0) → OnOk r (IsOk t) → OnOk t P → (P → Q) → OnOk r Q
+on_told (Ok x) (Ok y) P Q is p f = f p
+on_told (Ok x) (Err e) P Q is p f = let clash : false ≡ true = is in absurd (cc clash)
+on_told (Err e) t P Q is p f = tt
+
+on_some : (known : Option (List ℕ)) (P Q : List ℕ → Type 0) → ((all : List ℕ) → P all → Q all) → IfSome known P → IfSome known Q
+on_some None P Q f p = tt
+on_some (Some all) P Q f p = f all p
+
+pub tells_known_transcript : (c : Setup) (old new : Plant) (known first before taken now : Option (List ℕ)) → TranscriptsAreWhole → before ≡ append_known first [] → TellsAll first taken now
+    → IfSome known (λ all. WritesTranscript c old (lines_of all) new before taken) → IfSome known (λ all. WritesTranscript c old (lines_of all) new first now)
+tells_known_transcript c old new known first before taken now are_whole is tells w =
+    on_some known _ _ (λ all written. tells_transcript c old (lines_of all) new first before taken now are_whole is tells written) w

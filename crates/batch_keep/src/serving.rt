@@ -1,9 +1,11 @@
 //! Serving over a journal.
-ghost use Rattle.std.specs.Prelude.{◌≡◌, List, ℕ, [], Some};
+ghost use Rattle.std.specs.Prelude.{◌≡◌, List, ℕ, [], Some, IfSome, OnOk};
 ghost use Rattle.batch_engine.specs.View.{setup, plant_of};
 ghost use Rattle.batch_journal.specs.Journals.{recovered, sum_text};
 ghost use Rattle.batch_journal.specs.Lines.{text_of};
 ghost use Rattle.batch_journal.specs.Readers.{IsKept, IsWhole, HasRecalled, IsAccounted};
+ghost use Rattle.batch_wire.specs.Transcript.{lines_of};
+ghost use Rattle.batch_wire.specs.WrittenTranscript.{WritesTranscript};
 ghost use Rattle.batch_keep.specs.Told.{IsAtRest, IsTold, IsToldAgain, TellsLines};
 
 use batch_engine::Engine;
@@ -45,6 +47,10 @@ pub fn serve_journalled<R: Read + Drop, D: Disk, K: Clock + Drop, W: Write>(
     requires { D.is_disk journal.disk → IsAtRest journal.documents (D.durable journal.disk) (D.seen journal.disk) (D.given journal.disk) (sum_text journal.sum) }
     // A crash at any moment leaves the lines from before, and all that the machine had been given by then.
     ensures any_moment { D.is_disk result.1 → HasRecalled journal.documents (text_of (recovered journal.documents (D.seen journal.disk))) (D.moment journal.disk) (D.moment result.1) (D.left_since result.1) }
+    ensures cleared { engine.new.cleared ≡ engine.old.cleared }
+    // Where the input ends, the text of a transcript of all its lines is told.
+    ensures served { OnOk result.0 (IfSome (R.remaining input) (λ all.
+        WritesTranscript (setup engine.old.cleared) (plant_of engine.old) (lines_of all) (plant_of engine.new) (W.contents writer.old) (W.contents writer.new))) }
     // What was told is told of lines that the machine was given.
     ensures told { D.is_disk result.1 → IsTold (setup engine.old.cleared) (plant_of engine.old) (R.remaining input) (D.given result.1) (W.contents writer.old) (W.contents writer.new) }
     // And it is told again, behind what was told before.
@@ -64,6 +70,7 @@ pub fn serve_in_memory<K: Clock + Drop>(
     max_reads: u64,
 ) -> (Result<(), ServeFault>, Memory)
     requires { IsAtRest journal.documents (⟦<Memory as Disk>⟧.durable journal.disk) (⟦<Memory as Disk>⟧.seen journal.disk) (⟦<Memory as Disk>⟧.given journal.disk) (sum_text journal.sum) }
+    ensures served { OnOk result.0 (WritesTranscript (setup engine.old.cleared) (plant_of engine.old) (lines_of input.now) (plant_of engine.new) (Some writer.old.items) (Some writer.new.items)) }
     ensures told { TellsLines (setup engine.old.cleared) (plant_of engine.old) (⟦<Memory as Disk>⟧.given result.1) (Some writer.old.items) (Some writer.new.items) }
 {
     serve_journalled(alloc, engine, input, journal, writer, max_reads)
@@ -82,6 +89,9 @@ fn serve_at<R: Read + Drop, D: Disk, K: Clock + Drop, W: Write, C: Run>(
     requires began { D.is_disk journal.disk → C.since ≡ D.moment journal.disk }
     requires input { D.is_disk journal.disk → IsAccounted C.input (D.given journal.disk) (R.remaining input) }
     ensures any_moment { D.is_disk result.1 → HasRecalled C.documents C.base C.since (D.moment result.1) (D.left_since result.1) }
+    ensures cleared { engine.new.cleared ≡ engine.old.cleared }
+    ensures served { OnOk result.0 (IfSome (R.remaining input) (λ all.
+        WritesTranscript (setup engine.old.cleared) (plant_of engine.old) (lines_of all) (plant_of engine.new) (W.contents writer.old) (W.contents writer.new))) }
     ensures told { D.is_disk result.1 → C.input ≡ R.remaining input → IsTold (setup engine.old.cleared) (plant_of engine.old) C.input (D.given result.1) (W.contents writer.old) (W.contents writer.new) }
     ensures again { D.is_disk result.1 → C.input ≡ R.remaining input → (all start : List ℕ) → C.input ≡ Some all → C.base ≡ text_of (recovered C.documents start)
         → IsToldAgain (setup engine.old.cleared) (plant_of engine.old) C.documents start (D.durable result.1) (D.seen result.1) (D.given result.1) (W.contents writer.old) (W.contents writer.new) }

@@ -1,8 +1,11 @@
 use Rattle.std.proofs.Common.{sym, ◌∙◌}
 use Rattle.batch_engine.specs.View.{setup, plant_of}
-use Rattle.batch_keep.proofs.Telling.{tells_known}
+use Rattle.batch_keep.proofs.Telling.{served_known, tells_known}
 use Rattle.batch_keep.proofs.Again.{again, all_given}
 use Rattle.batch_keep.proofs.serving.serve_at.Goals as goal
+
+pub returns-clause-served : goal.returns-clause-served
+returns-clause-served g c = served_known _ _ c.serve-result.result _ c.new-reader.ensures.remaining c.serve-result.ensures.served
 
 pub returns-clause-told : goal.returns-clause-told
 returns-clause-told g c = λ d known all is.
