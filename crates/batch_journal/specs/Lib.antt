@@ -8,3 +8,4 @@ pub mod Journals
 pub mod Writing
 pub mod Recovery
 pub mod Readers
+pub mod Folders

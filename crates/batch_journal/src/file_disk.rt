@@ -1,5 +1,7 @@
 //! A journal in a file of the system. Its clauses say nothing: that a file is a disk is a premise, which the README states in words.
-ghost use Rattle.std.specs.Prelude.{[]};
+ghost use Rattle.std.specs.Prelude.{◌≡◌, [], IfOk};
+ghost use Rattle.std.specs.Path.{path_parent};
+ghost use Rattle.batch_journal.specs.Folders.{folder_text};
 
 use crate::disk::{Disk, DiskError};
 use std::alloc::Global;
@@ -20,7 +22,10 @@ impl FileDisk {
     /// # Errors
     ///
     /// `WouldBlock` where another process has it; else whatever the system says.
-    pub fn open(rt: &HostRuntime, path: &str) -> io::Result<FileDisk> {
+    pub fn open(rt: &HostRuntime, path: &str) -> io::Result<FileDisk>
+        // What `recover` asks of a disk after a restart.
+        ensures { IfOk result (λ disk. ⟦<FileDisk as Disk>⟧.is_disk disk → (⟦<FileDisk as Disk>⟧.durable disk ≡ ⟦<FileDisk as Disk>⟧.seen disk) × (⟦<FileDisk as Disk>⟧.given disk ≡ [])) }
+    {
         let file: File = OpenOptions::new()
             .read(true)
             .write(true)
@@ -35,7 +40,9 @@ impl FileDisk {
 }
 
 /// The folder that a path lies in.
-fn folder_of(path: &str) -> &str {
+fn folder_of(path: &str) -> &str
+    ensures { result.now ≡ folder_text (path_parent path.now) }
+{
     match Path::new(path).parent() {
         Some(folder) if !folder.as_str().is_empty() => folder.as_str(),
         _ => ".",

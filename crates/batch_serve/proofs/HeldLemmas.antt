@@ -1,12 +1,10 @@
 -- What a writer that holds back passes on.
-use Rattle.std.proofs.Common.{◌≡◌, ◌⊎◌, ℕ, ◌+◌, ◌-◌, ◌≤◌, true, false, List, [], ◌∷◌, ◌++◌, length, take, drop, take-append-drop, Option, Some, None, option_map, is_some, codes, refl, sym, ◌∙◌, ap, subst, append_assoc, inl, inr, ⊎_elim, arith}
+use Rattle.std.proofs.Common.{◌≡◌, ◌⊎◌, ℕ, ◌+◌, ◌-◌, ◌≤◌, true, List, [], ◌∷◌, ◌++◌, length, take, drop, take-append-drop, Option, Some, None, option_map, codes, refl, sym, ◌∙◌, ap, subst, append_assoc, inl, inr, ⊎_elim, arith}
 use Rattle.std.proofs.KnownBytes.{Appends-nil, Appends-kept, append_known-moved}
 use Rattle.std.proofs.lemmas.Bool.{eqb-true}
-use Rattle.std.proofs.lemmas.List.{take_all, take_rest, drop_all, take_at, drop_at, take-append-le, drop-append-le, drop-take, take-take, length-take, length-append}
+use Rattle.std.proofs.lemmas.List.{take_all, drop_all, take-append-le, drop-append-le, drop-take, take-take, length-take}
 use Rattle.std.specs.List.{list_all}
 use Rattle.std.specs.Io.KnownBytes.{Appends, Keeps, append_known}
-use Rattle.memchr.specs.Find.{FindsNeedle}
-use Rattle.memchr.proofs.lemmas.MatchLemmas.{OccursAt-from_part}
 use Rattle.batch_serve.specs.Held.{is_whole, IsClear, IsPassed, TellsClear}
 use Rattle.batch_serve.specs.Replays.{Has, IsWholeLines}
 use Rattle.batch_serve.proofs.Replays.{is_other, whole_line}
@@ -62,13 +60,13 @@ none_there : (needle front rest : List ℕ) (b : ℕ) → [] ≡ front ++ ((b �
 none_there needle [] rest b is = absurd (cc is)
 none_there needle (x ∷ front) rest b is = absurd (cc is)
 
-clear_nothing : IsClear []
+pub clear_nothing : IsClear []
 clear_nothing = record {
   whole = refl;
   shows = record { no_event = λ has. none_there (codes "efused E11\n") has.front has.rest 114 has.splits; no_line = λ has. none_there (codes "efused W6\n") has.front has.rest 114 has.splits };
 }
 
-clear_both : (a b : List ℕ) → IsClear a → IsClear b → IsClear (a ++ b)
+pub clear_both : (a b : List ℕ) → IsClear a → IsClear b → IsClear (a ++ b)
 clear_both a b one other = record {
   whole = whole_both a b one.whole other.whole;
   shows = record {
@@ -76,17 +74,6 @@ clear_both a b one other = record {
     no_line = λ has. ⊎_elim one.shows.no_line other.shows.no_line (across (codes "refused W6") refl a b has.front has.rest one.whole has.splits);
   };
 }
-
--- a search that finds none
-pub not_there : (text needle : List ℕ) (found : Option ℕ) → FindsNeedle text needle 0 found → is_some found ≡ false → Has needle text → ⊥
-not_there text needle (Some at) finds none has = absurd (cc none)
-not_there text needle None finds none has =
-    let front = has.front in
-    let rest = has.rest in
-    let size : length text ≡ length front + (length needle + length rest) = ap length has.splits ∙ length-append front (needle ++ rest) ∙ ap (λ n. length front + n) (length-append needle rest) in
-    let part : take (length needle) (drop (length front) text) ≡ needle =
-    ap (λ l. take (length needle) (drop (length front) l)) has.splits ∙ ap (take (length needle)) (drop_at front (needle ++ rest) (length front) refl) ∙ take_at needle rest (length needle) refl in
-    finds (length front) (omega arith) (omega (arith, size)) (OccursAt-from_part text needle (length front) (omega (arith, size)) part)
 
 -- What was passed on
 
@@ -147,12 +134,6 @@ tells_clear first (Some x) items held cleared known is =
     }
 
 -- What is waiting
-
--- all of it, with what was held back
-pub waits_all : (items held : List ℕ) (cleared : ℕ) → held ≡ items → take (length held) items ≡ take cleared items ++ take (length held - cleared) (drop cleared held)
-waits_all items held cleared is =
-    take_all (length held) items (omega (arith, ap length is)) ∙ sym (take-append-drop cleared items) ∙ ap (λ l. take cleared items ++ l) (sym (take_rest items cleared))
-    ∙ ap (λ l. take cleared items ++ take (length l - cleared) (drop cleared l)) (sym is)
 
 pub passed_longer : (first contents : Option (List ℕ)) (items more now : List ℕ) (cleared : ℕ) → cleared ≤ length items → now ≡ items ++ more
     → IsPassed first contents (take cleared items) → IsPassed first contents (take cleared now)

@@ -33,7 +33,7 @@ serving_agrees c old one other (line ∷ lines) said told (first, others, mid, a
 
 -- Want of memory shows in the text
 
-in_front : (needle a b : List ℕ) → Has needle a → Has needle (a ++ b)
+pub in_front : (needle a b : List ℕ) → Has needle a → Has needle (a ++ b)
 in_front needle a b has = record {
   front = has.front;
   rest = has.rest ++ b;
@@ -213,7 +213,7 @@ whole_behind [] t front is = inr (front, is)
 whole_behind (x ∷ a) t [] is = let none : a ++ t ≡ [] = cc is in inl (none_of_both a t none)
 whole_behind (x ∷ a) t (y ∷ front) is = let tail : a ++ t ≡ front ++ 10 ∷ [] = cc is in whole_behind a t front tail
 
-whole_then : (told a t : List ℕ) → told ≡ a ++ t → IsWholeLines told → IsWholeLines t
+pub whole_then : (told a t : List ℕ) → told ≡ a ++ t → IsWholeLines told → IsWholeLines t
 whole_then told a t is (inl none) = inl (none_of_both a t (sym is ∙ none))
 whole_then told a t is (inr (front, ends)) = whole_behind a t front (sym is ∙ ends)
 

@@ -1,5 +1,6 @@
 -- trusted: what is passed on of a record that is held back.
-use Rattle.std.specs.Prelude.{◌≡◌, ℕ, Bool, true, List, [], ◌∷◌, ◌++◌, length, take, drop, Option, Some, option_map, ◌==◌}
+use Rattle.std.specs.Prelude.{◌≡◌, ℕ, ◌≤◌, Bool, true, false, List, [], ◌∷◌, ◌++◌, length, take, drop, Option, Some, option_map, ◌==◌}
+use Rattle.std.specs.List.{All}
 use Rattle.batch_serve.specs.Replays.{IsWholeLines, ShowsNoWant}
 
 -- the text is empty or ends with a line feed
@@ -12,6 +13,14 @@ is_whole (b ∷ c ∷ text) = is_whole (c ∷ text)
 pub record IsClear (text : List ℕ) : Type 0 where
   pub whole : is_whole text ≡ true
   pub shows : ShowsNoWant text
+
+-- no line ends in the text
+abbrev pub IsUnended : List ℕ → Type 0
+IsUnended text = All (λ b. (b == 10) ≡ false) text
+
+-- no beginning of the text is clear: it begins with an unfinished line, or with a refusal for want of memory
+abbrev pub IsHeldBack : List ℕ → Type 0
+IsHeldBack text = (n : ℕ) → n ≤ length text → IsClear (take n text) → n ≡ 0
 
 -- where it is known what a writer held first: it holds that, and then clear text but for what is waiting of it
 pub record IsPassed (first contents : Option (List ℕ)) (waiting : List ℕ) : Type 0 where
@@ -27,3 +36,7 @@ pub record TellsClear (held : List ℕ) (contents taken : Option (List ℕ)) : T
   pub was_taken : taken ≡ Some (held ++ ((told ++ waiting) ++ rest))
   pub whole : IsWholeLines (told ++ waiting)
   pub shows : ShowsNoWant (told ++ waiting)
+
+-- where whole lines were taken behind what the writer held first, it was told all of them
+abbrev pub TellsAll : Option (List ℕ) → Option (List ℕ) → Option (List ℕ) → Type 0
+TellsAll first taken contents = (held text : List ℕ) → first ≡ Some held → taken ≡ Some (held ++ text) → IsWholeLines text → contents ≡ Some (held ++ text)

@@ -8,4 +8,6 @@ pub mod RowsOfUnfinished
 pub mod Replays
 pub mod CleanLines
 pub mod Held
+pub mod Holding
+pub mod RowsOfHeld
 pub mod RowsOfCleanLines

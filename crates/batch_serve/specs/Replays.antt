@@ -71,3 +71,7 @@ WantIsNotTold =
     → Transcript c mid lines then_said new → then_said.text ≡ told ++ rest → IsWholeLines told → ShowsNoWant told
     → Transcript c old (before ++ (lines ++ more)) whole last → ShowsNoWant whole.text
     → BeginsText (said.text ++ told) whole.text
+
+-- what a transcript tells is whole lines
+abbrev pub TranscriptsAreWhole : Type 0
+TranscriptsAreWhole = (c : Setup) (old new : Plant) (lines : List (List ℕ)) (said : Exchange) → Transcript c old lines said new → IsWholeLines said.text

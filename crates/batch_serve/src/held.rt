@@ -1,10 +1,10 @@
 //! A writer that holds answers back until they show no want of memory.
-ghost use Rattle.std.specs.Prelude.{◌≡◌, ◌-◌, ◌≤◌, ℕ, List, Option, Some, true, [], ◌++◌, length, take, drop, IsTrue, IsFalse};
+ghost use Rattle.std.specs.Prelude.{◌≡◌, ◌⊎◌, ◌<◌, ◌≤◌, ℕ, List, Option, Some, [], length, take, drop, IsTrue, IsFalse, MatchOption, OnOk};
 ghost use Rattle.std.specs.Io.KnownBytes.{Appends, Keeps, append_known};
-ghost use Rattle.batch_serve.specs.Held.{IsPassed, TellsClear, is_whole};
-ghost use Rattle.batch_serve.specs.Replays.{Has, ShowsNoWant};
+ghost use Rattle.batch_serve.specs.Held.{IsPassed, IsHeldBack, IsUnended, TellsAll, TellsClear};
+ghost use Rattle.batch_serve.specs.Holding.{FindsFirst, IsWholeTo, StopsAt, sooner};
 
-use memchr::memmem;
+use memchr::{memmem, memrchr};
 use std::alloc::Global;
 use std::io;
 use std::io::{ErrorKind, Write};
@@ -16,9 +16,10 @@ pub trait Start {
     ghost contents: { Option (List ℕ) };
 }
 
-/// Takes what is written, and passes it on at a flush, if it is whole lines none of which is a refusal for want of memory.
+/// Takes what is written, and passes on at a flush whatever of it is whole lines, up to the first that is a refusal for want of
+/// memory.
 ///
-/// Where one is, or there is no memory to hold what is written, nothing more is passed on.
+/// From that one on, and where there is no memory to hold what is written, each flush fails.
 #[derive(Drop)]
 pub struct Held<W: Write, C: Start> {
     inner: W,
@@ -60,26 +61,35 @@ impl<W: Write, C: Start> Held<W, C> {
         self.inner
     }
 
-    /// Clears what is held, if it is whole lines.
-    fn clear(&mut self) -> io::Result<()>
-        ensures { Keeps (append_known (W.contents self.old.inner) self.old.held.items) (append_known (W.contents self.new.inner) self.new.held.items) }
+    /// Passes on what may be, and gives the writer. What it was told since the start is clear; where all of it was whole lines and it
+    /// ended well, all was told.
+    pub fn finish(mut self) -> (io::Result<()>, W)
+        ensures clear { (held : List ℕ) → C.contents ≡ Some held → TellsClear held (W.contents result.1) (append_known (W.contents self.inner) self.held.items) }
+        ensures all { OnOk result.0 (TellsAll C.contents (append_known (W.contents self.inner) self.held.items) (W.contents result.1)) }
     {
-        let held = self.held.as_slice();
-        let group = &held[self.cleared..];
-        if self.has_want || shows_want(group) {
-            self.has_want = true;
-            return Err(io::Error::from(ErrorKind::OutOfMemory));
-        }
-        if !is_whole(group) {
-            return Ok(());
-        }
-        self.cleared = held.len();
-        Ok(())
+        let result = self.flush();
+        (result, self.inner)
+    }
+
+    /// Clears of what is held the whole lines before the first refusal for want of memory, and tells whether there is one.
+    fn clear(&mut self) -> bool
+        ensures bytes { Keeps (append_known (W.contents self.old.inner) self.old.held.items) (append_known (W.contents self.new.inner) self.new.held.items) }
+        ensures has_want { self.new.has_want ≡ self.old.has_want }
+        ensures rest { IsHeldBack (drop self.new.cleared self.new.held.items) }
+        ensures none { IsFalse result → IsUnended (drop self.new.cleared self.new.held.items) }
+    {
+        let group = &self.held.as_slice()[self.cleared..];
+        let (end, has_want) = want_or_end(group);
+        let len = whole_len(&group[..end]);
+        self.cleared += len;
+        has_want
     }
 
     /// Passes on what is cleared.
     fn pass_on(&mut self) -> io::Result<()>
-        ensures { Keeps (append_known (W.contents self.old.inner) self.old.held.items) (append_known (W.contents self.new.inner) self.new.held.items) }
+        ensures bytes { Keeps (append_known (W.contents self.old.inner) self.old.held.items) (append_known (W.contents self.new.inner) self.new.held.items) }
+        ensures has_want { self.new.has_want ≡ self.old.has_want }
+        ensures ok { OnOk result (self.new.held.items ≡ drop self.old.cleared self.old.held.items) }
     {
         let cleared = &self.held.as_slice()[..self.cleared];
         let (count, outcome) = write_out(&mut self.inner, cleared);
@@ -102,10 +112,24 @@ impl<W: Write, C: Start> Write for Held<W, C> {
         }
     }
 
-    fn flush(&mut self) -> io::Result<()> {
-        self.clear()?;
+    fn flush(&mut self) -> io::Result<()>
+        ensures bytes { Keeps (append_known (W.contents self.old.inner) self.old.held.items) (append_known (W.contents self.new.inner) self.new.held.items) }
+        // Nothing is held back but an unfinished line; or from a refusal for want of memory on, before which all is passed on.
+        ensures passed { OnOk result (IsUnended self.new.held.items) }
+        ensures want { IsTrue self.new.has_want → IsTrue self.old.has_want ⊎ IsHeldBack self.new.held.items }
+    {
+        let has_want = self.clear();
         self.pass_on()?;
-        self.inner.flush()
+        self.inner.flush()?;
+        if has_want {
+            self.has_want = true;
+            return Err(io::Error::from(ErrorKind::OutOfMemory));
+        }
+        if self.has_want {
+            // There was no memory to hold all that was written.
+            return Err(io::Error::from(ErrorKind::OutOfMemory));
+        }
+        Ok(())
     }
 }
 
@@ -113,6 +137,7 @@ impl<W: Write, C: Start> Write for Held<W, C> {
 fn write_out<W: Write>(writer: &mut W, bytes: &[u8]) -> (usize, io::Result<()>)
     ensures bound { result.0 ≤ length bytes.now }
     ensures bytes { Appends (W.contents writer.old) (W.contents writer.new) (take result.0 bytes.now) }
+    ensures all { OnOk result.1 (result.0 ≡ length bytes.now) }
 {
     let mut written = 0;
     while written < bytes.len() {
@@ -134,27 +159,53 @@ fn remove_front(bytes: &mut Vec<u8>, count: usize)
     bytes.truncate(len - count);
 }
 
-/// Whether a line of the text is a refusal for want of memory.
-fn shows_want(text: &[u8]) -> bool
-    ensures { IsFalse result → ShowsNoWant text.now }
+/// Where the first refusal for want of memory begins, or the text ends; and whether there is one.
+fn want_or_end(text: &[u8]) -> (usize, bool)
+    ensures stops { StopsAt text.now result.0 }
+    ensures end { IsFalse result.1 → result.0 ≡ length text.now }
 {
-    occurs(b"refused E11\n", text) || occurs(b"refused W6\n", text)
-}
-
-fn occurs(needle: &[u8], text: &[u8]) -> bool
-    ensures { IsFalse result → Has needle.now text.now → ⊥ }
-{
-    memmem::find(text, needle).is_some()
-}
-
-/// Whether the text is empty or ends with a line feed.
-fn is_whole(text: &[u8]) -> bool
-    ensures { IsTrue result → is_whole text.now ≡ true }
-{
-    if text.is_empty() {
-        return true;
+    match first_want(text) {
+        Some(at) => (at, true),
+        None => (text.len(), false),
     }
-    text.ends_with(b"\n")
+}
+
+/// Where the first refusal for want of memory begins.
+fn first_want(text: &[u8]) -> Option<usize>
+    ensures { MatchOption result (StopsAt text.now (length text.now)) (StopsAt text.now) }
+{
+    let event = first_of(b"refused E11\n", text);
+    let line = first_of(b"refused W6\n", text);
+    sooner(event, line)
+}
+
+/// The least of the places that there are.
+fn sooner(one: Option<usize>, other: Option<usize>) -> Option<usize>
+    ensures { result ≡ sooner one other }
+{
+    match (one, other) {
+        (Some(one), Some(other)) => Some(one.min(other)),
+        (Some(one), None) => Some(one),
+        (None, other) => other,
+    }
+}
+
+/// Where the needle first stands in the text.
+fn first_of(needle: &[u8], text: &[u8]) -> Option<usize>
+    requires { 0 < length needle.now }
+    ensures { FindsFirst needle.now text.now result }
+{
+    memmem::find(text, needle)
+}
+
+/// How much of the text is whole lines.
+fn whole_len(text: &[u8]) -> usize
+    ensures { IsWholeTo text.now result }
+{
+    match memrchr(b'\n', text) {
+        Some(at) => at + 1,
+        None => 0,
+    }
 }
 
 impl Start for Brand {

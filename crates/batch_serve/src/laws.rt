@@ -1,7 +1,8 @@
 //! Laws of transcripts. Nothing runs here: the contracts are the laws.
 ghost use Rattle.batch_serve.specs.CleanLines.{CleanLinesAgree, CleanLinesServeAlike};
-ghost use Rattle.batch_serve.specs.Replays.{NoWantIsWell, ServingAgrees, ToldIsRecovered, WantIsNotTold};
+ghost use Rattle.batch_serve.specs.Replays.{NoWantIsWell, ServingAgrees, ToldIsRecovered, TranscriptsAreWhole, WantIsNotTold};
 ghost use Rattle.batch_serve.specs.RowsOfCleanLines.{CleanLineRows};
+ghost use Rattle.batch_serve.specs.RowsOfHeld.{HeldRows};
 ghost use Rattle.batch_serve.specs.RowsOfUnfinished.{UnfinishedRows};
 ghost use Rattle.batch_serve.specs.Safe.{TranscriptsAreSafe, TranscriptsLeaveNobodyInVain};
 ghost use Rattle.batch_serve.specs.Settled.{TranscriptsSettle};
@@ -68,4 +69,14 @@ pub fn clean_lines_serve_alike()
 /// The same where memory may have been wanted behind what was told, if that is whole lines which show no want.
 pub fn want_is_not_told()
     ensures { WantIsNotTold }
+{}
+
+/// What a transcript tells is whole lines.
+pub fn transcripts_are_whole()
+    ensures { TranscriptsAreWhole }
+{}
+
+/// What is held back of a text.
+pub fn held_rows()
+    ensures { HeldRows }
 {}

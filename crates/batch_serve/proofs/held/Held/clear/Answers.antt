@@ -1,11 +1,26 @@
-use Rattle.std.proofs.Common.{ap, length, arith}
-use Rattle.batch_serve.proofs.HeldLemmas.{passed_more, waits_all}
+use Rattle.batch_serve.proofs.HoldingLemmas.{cleared_all, cleared_fits, cleared_passed, cleared_rest}
 use Rattle.batch_serve.proofs.held.Held.clear.Goals as goal
 
-pub invariant_of-self-2 : goal.invariant_of-self-2
-invariant_of-self-2 g c =
-    let held = c.as_slice-held in
+pub invariant_of-self : goal.invariant_of-self
+invariant_of-self g c =
+    let now = c.args.self.now in
+    let held = c.as_slice.result.now in
+    let stop = c.want_or_end-end in
     record {
-      within = omega (arith, ap length held.ensures.value);
-      told = passed_more _ _ _ _ _ (record { whole = c.is_whole.ensures c.if-not-is_whole.false; shows = c.shows_want.ensures c.if-shows_want.false }) (waits_all _ held.result.now _ held.ensures.value) c.args.self.now.told;
+      within = cleared_fits now.held.items held now.cleared stop.result.0 c.whole_len-len.result c.as_slice.ensures.value now.within stop.ensures.stops c.whole_len-len.ensures;
+      told = cleared_passed now.held.items held now.cleared stop.result.0 c.whole_len-len.result c.as_slice.ensures.value now.within stop.ensures.stops c.whole_len-len.ensures _ _ now.told;
     }
+
+pub returns-clause-rest : goal.returns-clause-rest
+returns-clause-rest g c =
+    let now = c.args.self.now in
+    let held = c.as_slice.result.now in
+    let stop = c.want_or_end-end in
+    cleared_rest now.held.items held now.cleared stop.result.0 c.whole_len-len.result c.as_slice.ensures.value now.within stop.ensures.stops c.whole_len-len.ensures
+
+pub returns-clause-none : goal.returns-clause-none
+returns-clause-none g c = λ none.
+    let now = c.args.self.now in
+    let held = c.as_slice.result.now in
+    let stop = c.want_or_end-end in
+    cleared_all now.held.items held now.cleared stop.result.0 c.whole_len-len.result c.as_slice.ensures.value now.within stop.ensures.stops c.whole_len-len.ensures (stop.ensures.end none)

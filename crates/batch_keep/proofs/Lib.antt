@@ -1,0 +1,3 @@
+mod Telling
+mod Again
+mod Comments

@@ -1,0 +1,117 @@
+//! Serving over a journal, where want of memory ends the run before it is told.
+ghost use Rattle.std.specs.Prelude.{◌≡◌, List, ℕ, Some, IfSome, IsFalse, IsOk, IsTrue, OnOk};
+ghost use Rattle.batch_engine.specs.View.{setup, plant_of};
+ghost use Rattle.batch_journal.specs.Journals.{recovered, sum_text};
+ghost use Rattle.batch_journal.specs.Lines.{text_of};
+ghost use Rattle.batch_journal.specs.Readers.{HasRecalled};
+ghost use Rattle.batch_wire.specs.Transcript.{lines_of};
+ghost use Rattle.batch_wire.specs.WrittenTranscript.{WritesTranscript};
+ghost use Rattle.batch_keep.specs.Told.{IsAtRest, IsNeverLost};
+
+use crate::serving::{Journal, serve_journalled};
+use batch_engine::Engine;
+use batch_journal::Disk;
+use batch_serve::{Held, ServeFault, Start, transcripts_are_whole};
+use std::alloc::Global;
+use std::io;
+use std::io::{Read, Write};
+use std::marker::Brand;
+use std::time::Clock;
+use thiserror::Error;
+
+/// Why a run over a journal stopped before its input ended. What was read is in the journal.
+#[derive(Clone, Copy, Debug, PartialEq, Eq, Error)]
+pub enum KeepFault {
+    /// There was no memory for an event or for the answers of a group, of which none is told.
+    #[error("out of memory")]
+    Memory,
+    /// The input or the journal failed, or the output.
+    #[error("{0}")]
+    Serve(ServeFault),
+}
+
+/// Answers the lines of an input, each of which is journalled and synced before the machine is given it.
+///
+/// The answers of what one read brought are told together, once they show no want of memory. Whatever came of it, the disk and the
+/// writer are given back.
+///
+/// # Errors
+///
+/// `Memory` where an event or a line was refused for want of memory, or there was none to hold the answers; else those of `serve`,
+/// `Read` among them where a call of the disk failed. After each of them nothing more is told.
+pub fn serve_holding<R: Read + Drop, D: Disk, K: Clock + Drop, W: Write>(
+    alloc: Global,
+    engine: &mut Engine,
+    input: R,
+    journal: Journal<D, K>,
+    writer: W,
+    max_reads: u64,
+) -> (Result<(), KeepFault>, D, W)
+    requires { D.is_disk journal.disk → IsAtRest journal.documents (D.durable journal.disk) (D.seen journal.disk) (D.given journal.disk) (sum_text journal.sum) }
+    // A crash at any moment leaves the lines from before, and all that the machine had been given by then.
+    ensures any_moment { D.is_disk result.1 → HasRecalled journal.documents (text_of (recovered journal.documents (D.seen journal.disk))) (D.moment journal.disk) (D.moment result.1) (D.left_since result.1) }
+    ensures cleared { engine.new.cleared ≡ engine.old.cleared }
+    // Where the input ends, all is told.
+    ensures served { OnOk result.0 (IfSome (R.remaining input) (λ all.
+        WritesTranscript (setup engine.old.cleared) (plant_of engine.old) (lines_of all) (plant_of engine.new) (W.contents writer) (W.contents result.2))) }
+    // Whatever was told is told again.
+    ensures never_lost { D.is_disk result.1 → (all : List ℕ) → R.remaining input ≡ Some all → IsNeverLost (setup engine.old.cleared) (plant_of engine.old) journal.documents (D.seen journal.disk)
+        (D.durable result.1) (D.seen result.1) (D.given result.1) (W.contents writer) (W.contents result.2) }
+{
+    serve_holding_at::<R, D, K, W, Brand>(alloc, engine, input, journal, writer, max_reads)
+}
+
+fn serve_holding_at<R: Read + Drop, D: Disk, K: Clock + Drop, W: Write, C: Start>(
+    alloc: Global,
+    engine: &mut Engine,
+    input: R,
+    journal: Journal<D, K>,
+    writer: W,
+    max_reads: u64,
+) -> (Result<(), KeepFault>, D, W)
+    requires at_rest { D.is_disk journal.disk → IsAtRest journal.documents (D.durable journal.disk) (D.seen journal.disk) (D.given journal.disk) (sum_text journal.sum) }
+    requires first { C.contents ≡ W.contents writer }
+    ensures any_moment { D.is_disk result.1 → HasRecalled journal.documents (text_of (recovered journal.documents (D.seen journal.disk))) (D.moment journal.disk) (D.moment result.1) (D.left_since result.1) }
+    ensures cleared { engine.new.cleared ≡ engine.old.cleared }
+    ensures served { OnOk result.0 (IfSome (R.remaining input) (λ all.
+        WritesTranscript (setup engine.old.cleared) (plant_of engine.old) (lines_of all) (plant_of engine.new) C.contents (W.contents result.2))) }
+    ensures never_lost { D.is_disk result.1 → (all : List ℕ) → R.remaining input ≡ Some all → IsNeverLost (setup engine.old.cleared) (plant_of engine.old) journal.documents (D.seen journal.disk)
+        (D.durable result.1) (D.seen result.1) (D.given result.1) C.contents (W.contents result.2) }
+{
+    transcripts_are_whole();
+    let mut held: Held<W, C> = Held::new(alloc, writer);
+    let (served, disk) = serve_journalled(alloc, engine, input, journal, &mut held, max_reads);
+    match served {
+        Ok(()) => {
+            // All was handed on already, and is told; here that is seen.
+            let (told, writer) = held.finish();
+            (told_outcome(told), disk, writer)
+        }
+        Err(fault) => {
+            let fault = keep_fault(fault, held.has_want());
+            (Err(fault), disk, held.into_inner())
+        }
+    }
+}
+
+/// Why the run stopped: a writer that wanted memory refused what was written.
+fn keep_fault(fault: ServeFault, has_want: bool) -> KeepFault
+    ensures memory { IsTrue has_want → result ≡ KeepFault.Memory }
+    ensures serve { IsFalse has_want → result ≡ KeepFault.Serve fault }
+{
+    if has_want {
+        KeepFault::Memory
+    } else {
+        KeepFault::Serve(fault)
+    }
+}
+
+/// What a run that went to its end comes to, by the outcome of its last flush.
+fn told_outcome(told: io::Result<()>) -> Result<(), KeepFault>
+    ensures { OnOk result (IsOk told) }
+{
+    match told {
+        Ok(()) => Ok(()),
+        Err(_) => Err(KeepFault::Serve(ServeFault::Write)),
+    }
+}

@@ -1,0 +1,10 @@
+//! Serving over a journal: nothing that was answered is lost.
+#![tactic(auto)]
+
+mod holding;
+mod replaying;
+mod serving;
+
+pub use holding::{KeepFault, serve_holding};
+pub use replaying::replay;
+pub use serving::{Journal, serve_in_memory, serve_journalled};

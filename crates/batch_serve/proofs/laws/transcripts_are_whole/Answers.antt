@@ -1,0 +1,5 @@
+use Rattle.batch_serve.proofs.Wholes.{transcripts_are_whole}
+use Rattle.batch_serve.proofs.laws.transcripts_are_whole.Goals as goal
+
+pub returns : goal.returns
+returns c = transcripts_are_whole

@@ -1,0 +1,31 @@
+-- private: what is looked for in a text that is held back.
+use Rattle.std.specs.Prelude.{◌≡◌, ℕ, ◌+◌, ◌≤◌, true, List, ◌++◌, length, take, drop, min, Option, Some, None, MatchOption}
+use Rattle.batch_serve.specs.Held.{IsClear, IsUnended, is_whole}
+use Rattle.batch_serve.specs.Replays.{Has, ShowsNoWant}
+
+-- the needle first stands there in the text
+pub record StandsFirst (needle text : List ℕ) (at : ℕ) : Type 0 where
+  pub within : at ≤ length text
+  pub here : text ≡ take at text ++ (needle ++ drop (at + length needle) text)
+  pub before : Has needle (take at text) → ⊥
+
+abbrev pub FindsFirst : List ℕ → List ℕ → Option ℕ → Type 0
+FindsFirst needle text found = MatchOption found (Has needle text → ⊥) (StandsFirst needle text)
+
+-- no want shows before there, and no beginning of the text that ends behind it is clear
+pub record StopsAt (text : List ℕ) (at : ℕ) : Type 0 where
+  pub within : at ≤ length text
+  pub shows : ShowsNoWant (take at text)
+  pub stops : (n : ℕ) → n ≤ length text → IsClear (take n text) → n ≤ at
+
+-- the text is whole lines up to there, and an unfinished one behind
+pub record IsWholeTo (text : List ℕ) (n : ℕ) : Type 0 where
+  pub within : n ≤ length text
+  pub whole : is_whole (take n text) ≡ true
+  pub rest : IsUnended (drop n text)
+
+-- the least of the places that there are
+abbrev pub sooner : Option ℕ → Option ℕ → Option ℕ
+sooner None other = other
+sooner (Some one) None = Some one
+sooner (Some one) (Some other) = Some (min one other)
