@@ -5,7 +5,7 @@ use Rattle.batch_program.proofs.record_status.tell_record.Goals as goal
 pub returns-in-Ok : goal.returns-in-Ok
 returns-in-Ok g c =
     rw c.in-Some.is
-    (Keeps-refl _, inl (_, rw c.deref-in-Some.ensures at c.in-Ok.ensures, rw c.new.ensures at c.tell_status-in-Ok.ensures))
+    (Keeps-refl _, inl (_, rw c.deref.ensures at c.in-Ok.ensures, rw c.new.ensures at c.tell_status-in-Ok.ensures))
 
-pub returns-in-Err : goal.returns-in-Err
-returns-in-Err g c = rw c.in-Some.is (Keeps-refl _, inr (Keeps-refl _, c.complain_unopened.ensures))
+pub returns-in-None : goal.returns-in-None
+returns-in-None g c = rw c.in-None.is c.tell_status.ensures

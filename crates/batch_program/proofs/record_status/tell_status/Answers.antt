@@ -5,7 +5,7 @@ use Rattle.batch_program.proofs.RecordsTold.{refused_is_told}
 use Rattle.batch_program.proofs.record_status.tell_status.Goals as goal
 
 pub returns-in-Ok : goal.returns-in-Ok
-returns-in-Ok g c = prints c.in-Ok.text.items c.in-Ok.ensures.told (rw c.deref.ensures at c.print_bytes.ensures)
+returns-in-Ok g c = prints c.in-Ok.text.items c.in-Ok.ensures.told (rw c.deref.ensures.value at c.print_bytes.ensures)
 
 pub returns-in-Err-NoRecord : goal.returns-in-Err-NoRecord
 returns-in-Err-NoRecord g c =
