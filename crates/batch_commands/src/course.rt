@@ -9,6 +9,8 @@ pub enum Course {
     Ends(u8),
     /// The program is to serve event lines over this set, and to say nothing beside the record where quiet is asked for.
     Serves { set: Cleared, quiet: bool },
+    /// The program is to tell what a record says: the one at this path, or the one on its input.
+    Reads { path: Option<String> },
     /// The program is to run the plant of this set, which is that of the demo.
     Plants { set: Cleared, options: PlantOptions },
 }

@@ -28,7 +28,9 @@ pub use laws::statuses_tell;
 pub use limits::file_limits_are_fixed;
 pub use reading::{MAX_READS, ReadFault, read_document};
 pub use refusal::{DocumentRefusal, Halt, RefusalKind};
-pub use running::{FILE_FAULT, NO_MEMORY, OUT_OF_MEMORY, USAGE, complain, print, run_words};
+pub use running::{
+    FILE_FAULT, NO_MEMORY, OUT_OF_MEMORY, SUCCESS, USAGE, complain, print, print_bytes, run_words,
+};
 pub use saying::tell;
 pub use texts::{
     certificate_refused, certificate_text, document_text, fault_text, graph_text, refusal_text,

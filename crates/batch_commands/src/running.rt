@@ -21,8 +21,8 @@ use std::io;
 use std::io::Write;
 use thiserror::Error;
 
-/// The exit status where help was asked for.
-const SUCCESS: u8 = 0;
+/// The exit status where what was asked for is printed.
+pub const SUCCESS: u8 = 0;
 
 /// The exit status where the words are no command.
 pub const USAGE: u8 = 2;
@@ -45,7 +45,8 @@ const UNKNOWN_CODE: &str =
 #[error("the output can't be written: {0}")]
 struct FailedWrite(io::Error);
 
-/// Does what the words ask for: judges documents and tells the verdict, or clears the set that is to be served.
+/// Does what the words ask for: judges documents and tells the verdict, clears the set that is to be served, or names the record
+/// that is to be read.
 ///
 /// Verdicts, explanations and help go to the output, and all else to the errors: what a refusal means, in one line, unless the
 /// words ask for quiet, and what failed, in a free text. Where that can't be written the exit status is the same. Without words
@@ -90,6 +91,7 @@ fn run_command<D: Documents, O: Write, E: Write>(
             Ok(set) => Course::Serves { set, quiet },
             Err(halt) => Course::Ends(announce(alloc, quiet, &halt, output, errors)),
         },
+        Subcommand::Status { path } => Course::Reads { path },
         Subcommand::Plant(options) => match clear_demo(alloc) {
             Ok(set) => Course::Plants { set, options },
             Err(halt) => Course::Ends(announce(alloc, quiet, &halt, output, errors)),
@@ -171,7 +173,7 @@ fn refuse<O: Write, E: Write>(
     ensures { IsRefused quiet (record { before = O.contents output.old; after = O.contents output.new })
         (record { before = E.contents errors.old; after = E.contents errors.new }) refusal.now result }
 {
-    match write_out(output, &refusal.text) {
+    match write_out(output, refusal.text.as_bytes()) {
         Ok(()) => {
             say(alloc, quiet, &refusal.sentence, errors);
             refusal.kind.status()
@@ -202,7 +204,20 @@ pub fn print<O: Write, E: Write>(output: &mut O, errors: &mut E, text: &str, wan
     ensures { IsPrinted (record { before = O.contents output.old; after = O.contents output.new })
         (record { before = E.contents errors.old; after = E.contents errors.new }) text.now wanted result }
 {
-    match write_out(output, text) {
+    print_bytes(output, errors, text.as_bytes(), wanted)
+}
+
+/// Prints these bytes, and gives the wanted exit status, or that of a write that fails.
+pub fn print_bytes<O: Write, E: Write>(
+    output: &mut O,
+    errors: &mut E,
+    bytes: &[u8],
+    wanted: u8,
+) -> u8
+    ensures { IsPrinted (record { before = O.contents output.old; after = O.contents output.new })
+        (record { before = E.contents errors.old; after = E.contents errors.new }) bytes.now wanted result }
+{
+    match write_out(output, bytes) {
         Ok(()) => wanted,
         Err(error) => unwritten(errors, error),
     }
@@ -215,11 +230,11 @@ fn unwritten<E: Write>(errors: &mut E, error: io::Error) -> u8
     complain(errors, FailedWrite(error), FILE_FAULT)
 }
 
-/// Writes the text and hands it on.
-fn write_out<O: Write>(output: &mut O, text: &str) -> io::Result<()>
-    ensures { OnOk result (Appends (O.contents output.old) (O.contents output.new) text.now) }
+/// Writes the bytes and hands them on.
+fn write_out<O: Write>(output: &mut O, bytes: &[u8]) -> io::Result<()>
+    ensures { OnOk result (Appends (O.contents output.old) (O.contents output.new) bytes.now) }
 {
-    output.write_all(text.as_bytes())?;
+    output.write_all(bytes)?;
     output.flush()
 }
 

@@ -5,7 +5,7 @@ ghost use Rattle.batch_explain.specs.Explaining.{refusal_codes};
 use crate::explanation::Explanation;
 
 /// The explanations of all codes of refusals, in order of letter and number.
-pub fn explanations() -> [Explanation; 45]
+pub fn explanations() -> [Explanation; 46]
     ensures { map (λ explanation. explanation.code.now) result ≡ refusal_codes }
 {
     // By a reference, so that the proof holds one place and not each of its texts.
@@ -13,7 +13,7 @@ pub fn explanations() -> [Explanation; 45]
     *table
 }
 
-static EXPLANATIONS: [Explanation; 45] = [
+static EXPLANATIONS: [Explanation; 46] = [
     Explanation {
         code: "C1",
         meaning: "the recipes can bring batches into a circle of waiting",
@@ -158,6 +158,11 @@ static EXPLANATIONS: [Explanation; 45] = [
         code: "K4",
         meaning: "there is no memory to read the certificate",
         remedy: "give the program more memory",
+    },
+    Explanation {
+        code: "R1",
+        meaning: "the line with this number is no line of a record",
+        remedy: "ask `batchd status` of a record as `run` or `batchd` alone wrote it, without other lines in it",
     },
     Explanation {
         code: "V1",

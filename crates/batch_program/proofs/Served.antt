@@ -1,6 +1,7 @@
 -- What a run that serves tells, and one that runs a plant.
 use Rattle.std.proofs.Common.{◌≡◌, ℕ, zero, suc, ◌≤◌, Bool, true, false, List, Option, Some, None, Result, Ok, Err, IfOk, inl, inr, refl, subst, arith, ◌∙◌}
-use Rattle.std.specs.Prelude.{IfSome, take}
+use Rattle.std.specs.Prelude.{IfSome, String, option_map, string_bytes, take}
+use Rattle.std.specs.Global.{Global}
 use Rattle.std.specs.Io.KnownBytes.{Appends, Keeps}
 use Rattle.clap.specs.Walk.{Text}
 use Rattle.batch_verify.specs.ClearedSet.{ClearedSet}
@@ -9,7 +10,7 @@ use Rattle.batch_engine.specs.View.{setup}
 use Rattle.batch_wire.specs.Transcript.{lines_of, whole_lines}
 use Rattle.batch_wire.specs.Written.{AppendsBeginning}
 use Rattle.batch_serve.specs.Safe.{BeginsSafely, WritesSafely, WritesWholeSafely}
-use Rattle.batch_words.specs.CommandLine.{Request, Source, plant, serve}
+use Rattle.batch_words.specs.CommandLine.{Request, Source, plant, serve, tell}
 use Rattle.batch_words.specs.declared.plant_options.PlantOptions.{PlantOptions}
 use Rattle.batch_commands.specs.Reading.{Gives}
 use Rattle.batch_commands.specs.Requests.{IsDemoSet, IsSetOf}
@@ -31,10 +32,11 @@ use Rattle.batch_serve.specs.declared.fault.ServeFault.TheVariants.{Read, Write,
 use Rattle.batch_serve.specs.declared.fault.SetFault.{SetFault}
 use Rattle.batch_serve.specs.declared.fault.SetFault.TheVariants.{Memory, Stopped}
 use Rattle.batch_program.specs.declared.program.TheConstants.{MAX_READS}
-use Rattle.batch_program.specs.Programs.{IsLeftTold, IsProgramRun, PlantsAreComplete, ServingIsSafe, tells, serves, plants, status_of_serving, output_of}
+use Rattle.batch_program.specs.Programs.{IsLeftTold, IsProgramRun, PlantsAreComplete, ServingIsSafe, tells, serves, reads, plants, status_of_serving}
 use Rattle.batch_plant.specs.declared.plant_fault.PlantFault.{PlantFault}
 use Rattle.batch_plant.specs.declared.plant_fault.PlantFault.TheVariants as plant_fault
 use Rattle.batch_program.specs.PlantRuns.{HasRun, IsPlantTold, plant_text, refused_status}
+use Rattle.batch_program.specs.RecordRuns.{Holds, IsRecordTold, IsStatusTold, IsUntold, prints, refuses, stops, no_record_text, output_of}
 
 -- Streams
 
@@ -143,6 +145,7 @@ done_to_plant gives request quiet output errors _ set options (running.plants ot
     let chosen : own ≡ options = cc in
     (subst (λ (o : PlantOptions). request ≡ plant o.batches o.ticks o.ring) chosen asked, subst IsDemoSet same cleared, kept, silent)
 done_to_plant gives request quiet output errors _ set options (running.serves _ _ _ _ _ _) is = absurd cc
+done_to_plant gives request quiet output errors _ set options (running.reads _ _ _ _) is = absurd cc
 done_to_plant gives request quiet output errors _ set options (running.halts _ _ _ _) is = absurd cc
 done_to_plant gives request quiet output errors _ set options (running.judges _ _ _ _ _ _) is = absurd cc
 done_to_plant gives request quiet output errors _ set options (running.explains _ _ _ _) is = absurd cc
@@ -182,6 +185,53 @@ told_kept before mid after quiet still loud batches (Err plant_fault.Thread) sta
 told_kept before mid after quiet still loud batches (Err plant_fault.Refused) status kept silent (untouched, is) =
     (kept_then_kept before mid after kept untouched, is)
 
+-- Records
+
+done_to_read : (gives : Gives) (request : Request) (quiet : Bool) (output errors : Stream) (course : Course) (path : Option (String Global))
+    → IsDone gives request quiet output errors course → course ≡ course_of.Reads path
+    → (request ≡ tell (option_map string_bytes path)) × IsUnwritten output × IsUnwritten errors
+done_to_read gives request quiet output errors _ path (running.reads other asked kept silent) is =
+    let same : other ≡ path = cc in
+    (subst (λ (p : Option (String Global)). request ≡ tell (option_map string_bytes p)) same asked, kept, silent)
+done_to_read gives request quiet output errors _ path (running.serves _ _ _ _ _ _) is = absurd cc
+done_to_read gives request quiet output errors _ path (running.plants _ _ _ _ _ _) is = absurd cc
+done_to_read gives request quiet output errors _ path (running.halts _ _ _ _) is = absurd cc
+done_to_read gives request quiet output errors _ path (running.judges _ _ _ _ _ _) is = absurd cc
+done_to_read gives request quiet output errors _ path (running.explains _ _ _ _) is = absurd cc
+
+-- the record that is to be read is the one that the words name, and nothing was written
+pub record_to_read : (gives : Gives) (words : List Text) (output errors : Stream) (course : Course) (path : Option (String Global))
+    → IsRun gives words output errors course → course ≡ course_of.Reads path
+    → AskFor words (tell (option_map string_bytes path)) × IsUnwritten output × IsUnwritten errors
+record_to_read gives words output errors _ path (running.commands request course asked came) is =
+    let (named, kept, silent) = done_to_read gives request (ask_quiet words) output errors course path came is in
+    (rw (← named) asked, kept, silent)
+record_to_read gives words output errors _ path (running.helps _ _ _ _) is = absurd cc
+record_to_read gives words output errors _ path (running.misuses _ _) is = absurd cc
+record_to_read gives words output errors _ path (running.starves _) is = absurd cc
+
+status_kept : (unread before mid after quiet still loud : Option (List ℕ)) (status : ℕ) → Keeps before mid → Keeps quiet still
+    → IsStatusTold unread (record { before = mid; after = after }) (record { before = still; after = loud }) status
+    → IsStatusTold unread (record { before = before; after = after }) (record { before = quiet; after = loud }) status
+status_kept unread before mid after quiet still loud status kept silent (prints text told printed) =
+    prints text told (printed_kept before mid after quiet still loud text success_status status kept silent printed)
+status_kept unread before mid after quiet still loud status kept silent (refuses number refused printed) =
+    refuses number refused (printed_kept before mid after quiet still loud (no_record_text number) refused_status status kept silent printed)
+status_kept unread before mid after quiet still loud status kept silent (stops (untouched, is)) =
+    stops (kept_then_kept before mid after kept untouched, is)
+
+-- telling what a record says, after the streams were left as they were
+pub record_kept : (holds : Holds) (path : Option Text) (unread left before mid after quiet still loud : Option (List ℕ)) (status : ℕ)
+    → Keeps before mid → Keeps quiet still
+    → IsRecordTold holds path (record { unread = unread; left = left; before = mid; after = after }) (record { before = still; after = loud }) status
+    → IsRecordTold holds path (record { unread = unread; left = left; before = before; after = after }) (record { before = quiet; after = loud }) status
+record_kept holds None unread left before mid after quiet still loud status kept silent told =
+    status_kept unread before mid after quiet still loud status kept silent told
+record_kept holds (Some path) unread left before mid after quiet still loud status kept silent (same, inl (given, held, told)) =
+    (same, inl (given, held, status_kept given before mid after quiet still loud status kept silent told))
+record_kept holds (Some path) unread left before mid after quiet still loud status kept silent (same, inr (untouched, is)) =
+    (same, inr (kept_then_kept before mid after kept untouched, is))
+
 -- Exit statuses
 
 ran_to_the_end : (set : ClearedSet) (served : Result ℕ SetFault) (ends : serving.Ends) (quiet : Bool) (errors : Stream) → Serves set MAX_READS served ends
@@ -199,23 +249,31 @@ told_at_once gives words output errors request status asked came is =
 same_source : (a b : Source) → serve a ≡ serve b → a ≡ b
 same_source a b is = cc
 
+serves_no_record : (source : Source) (path : Option Text) → serve source ≡ tell path → ⊥
+serves_no_record source path is = cc
+
+plants_no_record : (batches ticks ring : ℕ) (path : Option Text) → plant batches ticks ring ≡ tell path → ⊥
+plants_no_record batches ticks ring path is = cc
+
 serves_no_plant : (source : Source) (batches ticks ring : ℕ) → serve source ≡ plant batches ticks ring → ⊥
 serves_no_plant source batches ticks ring is = cc
 
-safe_at : (gives : Gives) (words : List Text) (ends : serving.Ends) (errors : Stream) (source : Source) (status : ℕ)
-    → AskFor words (serve source) → IsProgramRun gives words ends errors status → status ≡ 0
+safe_at : (gives : Gives) (holds : Holds) (words : List Text) (ends : serving.Ends) (errors : Stream) (source : Source) (status : ℕ)
+    → AskFor words (serve source) → IsProgramRun gives holds words ends errors status → status ≡ 0
     → (set : ClearedSet) × (left : ℕ) × IsSetOf gives source set × AnswersAll set left ends × IsLeftTold (ask_quiet words) errors left
-safe_at gives words ends errors source _ asked (tells status came _) is =
+safe_at gives holds words ends errors source _ asked (tells status came _) is =
     absurd (told_at_once gives words (output_of ends) errors (serve source) status asked came is)
-safe_at gives words ends errors source _ asked (serves other set served asked2 is_set all told) is =
+safe_at gives holds words ends errors source _ asked (serves other set served asked2 is_set all told) is =
     let same = same_source other source (same_request words (serve other) (serve source) asked2 asked) in
     let (left, answers, says) = ran_to_the_end set served ends (ask_quiet words) errors all told is in
     (set, left, subst (λ s. IsSetOf gives s set) same is_set, answers, says)
-safe_at gives words ends errors source _ asked (plants _ options _ _ asked2 _ _ _ _) is =
+safe_at gives holds words ends errors source _ asked (reads path _ asked2 _) is =
+    absurd (serves_no_record source path (same_request words (serve source) (tell path) asked asked2))
+safe_at gives holds words ends errors source _ asked (plants _ options _ _ asked2 _ _ _ _) is =
     absurd (serves_no_plant source options.batches options.ticks options.ring (same_request words (serve source) _ asked asked2))
 
-pub serving_is_safe : (gives : Gives) → ServingIsSafe gives
-serving_is_safe gives words ends errors source asked came = safe_at gives words ends errors source 0 asked came refl
+pub serving_is_safe : (gives : Gives) (holds : Holds) → ServingIsSafe gives holds
+serving_is_safe gives holds words ends errors source asked came = safe_at gives holds words ends errors source 0 asked came refl
 
 kind_in_range : (kind : RefusalKind) → status_of kind ≤ 4
 kind_in_range Fault = omega arith
@@ -239,6 +297,7 @@ explained_in_range texts output errors status (inr (_, inr memory)) = rw memory 
 done_in_range : (gives : Gives) (request : Request) (quiet : Bool) (output errors : Stream) (course : Course) (status : ℕ)
     → IsDone gives request quiet output errors course → course ≡ Ends status → status ≤ 4
 done_in_range gives request quiet output errors _ status (running.serves _ _ _ _ _ _) is = absurd cc
+done_in_range gives request quiet output errors _ status (running.reads _ _ _ _) is = absurd cc
 done_in_range gives request quiet output errors _ status (running.plants _ _ _ _ _ _) is = absurd cc
 done_in_range gives request quiet output errors _ status (running.halts h told _ at) is =
     let same : told ≡ status = cc in rw (← same) (announced_in_range quiet output errors h told at)
@@ -271,11 +330,26 @@ plant_in_range output errors batches (Err plant_fault.Memory) status (_, memory)
 plant_in_range output errors batches (Err plant_fault.Thread) status (_, memory) = rw memory (omega arith)
 plant_in_range output errors batches (Err plant_fault.Refused) status (_, memory) = rw memory (omega arith)
 
-pub run_in_range : (gives : Gives) (words : List Text) (ends : serving.Ends) (errors : Stream) (status : ℕ)
-    → IsProgramRun gives words ends errors status → status ≤ 4
-run_in_range gives words ends errors _ (tells status came _) = course_in_range gives words (output_of ends) errors (Ends status) status came refl
-run_in_range gives words ends errors _ (serves _ _ served _ _ _ _) = serving_in_range served
-run_in_range gives words ends errors status (plants _ options end _ _ _ _ told _) = plant_in_range (output_of ends) errors options.batches end status told
+untold_in_range : (output : Stream) (status : ℕ) → IsUntold output status → status ≤ 4
+untold_in_range output status (_, inl fault) = rw fault (omega arith)
+untold_in_range output status (_, inr memory) = rw memory (omega arith)
+
+status_in_range : (unread : Option (List ℕ)) (output errors : Stream) (status : ℕ) → IsStatusTold unread output errors status → status ≤ 4
+status_in_range unread output errors status (prints text _ printed) = printed_in_range output errors text success_status status (omega arith) printed
+status_in_range unread output errors status (refuses number _ printed) = printed_in_range output errors _ refused_status status (omega arith) printed
+status_in_range unread output errors status (stops untold) = untold_in_range output status untold
+
+record_in_range : (holds : Holds) (path : Option Text) (ends : serving.Ends) (errors : Stream) (status : ℕ) → IsRecordTold holds path ends errors status → status ≤ 4
+record_in_range holds None ends errors status told = status_in_range ends.unread (output_of ends) errors status told
+record_in_range holds (Some path) ends errors status (_, inl (unread, _, told)) = status_in_range unread (output_of ends) errors status told
+record_in_range holds (Some path) ends errors status (_, inr untold) = untold_in_range (output_of ends) status untold
+
+pub run_in_range : (gives : Gives) (holds : Holds) (words : List Text) (ends : serving.Ends) (errors : Stream) (status : ℕ)
+    → IsProgramRun gives holds words ends errors status → status ≤ 4
+run_in_range gives holds words ends errors _ (tells status came _) = course_in_range gives words (output_of ends) errors (Ends status) status came refl
+run_in_range gives holds words ends errors _ (serves _ _ served _ _ _ _) = serving_in_range served
+run_in_range gives holds words ends errors status (reads path _ _ told) = record_in_range holds path ends errors status told
+run_in_range gives holds words ends errors status (plants _ options end _ _ _ _ told _) = plant_in_range (output_of ends) errors options.batches end status told
 
 -- What a plant tells
 
@@ -295,18 +369,20 @@ complete_at output errors set batches (Err plant_fault.Refused) status ran (_, m
 same_batches : (a b ticks more ring places : ℕ) → plant a ticks ring ≡ plant b more places → a ≡ b
 same_batches a b ticks more ring places is = cc
 
-told_plant : (gives : Gives) (words : List Text) (ends : serving.Ends) (errors : Stream) (batches ticks ring status : ℕ)
-    → AskFor words (plant batches ticks ring) → IsProgramRun gives words ends errors status → status ≡ 0
+told_plant : (gives : Gives) (holds : Holds) (words : List Text) (ends : serving.Ends) (errors : Stream) (batches ticks ring status : ℕ)
+    → AskFor words (plant batches ticks ring) → IsProgramRun gives holds words ends errors status → status ≡ 0
     → (set : ClearedSet) × (handled : ℕ) × IsDemoSet set × HasRun set batches handled × Appends ends.before ends.after (plant_text batches handled)
-told_plant gives words ends errors batches ticks ring _ asked (tells status came _) is =
+told_plant gives holds words ends errors batches ticks ring _ asked (tells status came _) is =
     absurd (told_at_once gives words (output_of ends) errors (plant batches ticks ring) status asked came is)
-told_plant gives words ends errors batches ticks ring _ asked (serves source _ _ asked2 _ _ _) is =
+told_plant gives holds words ends errors batches ticks ring _ asked (serves source _ _ asked2 _ _ _) is =
     absurd (serves_no_plant source batches ticks ring (same_request words (serve source) (plant batches ticks ring) asked2 asked))
-told_plant gives words ends errors batches ticks ring status asked (plants set options end _ asked2 demo ran told _) is =
+told_plant gives holds words ends errors batches ticks ring _ asked (reads path _ asked2 _) is =
+    absurd (plants_no_record batches ticks ring path (same_request words (plant batches ticks ring) (tell path) asked asked2))
+told_plant gives holds words ends errors batches ticks ring status asked (plants set options end _ asked2 demo ran told _) is =
     let same = same_batches options.batches batches options.ticks ticks options.ring ring (same_request words _ (plant batches ticks ring) asked2 asked) in
     let (handled, came, appends) = complete_at (output_of ends) errors set options.batches end status ran told is in
     (set, handled, demo, subst (λ n. HasRun set n handled) same came, subst (λ n. Appends ends.before ends.after (plant_text n handled)) same appends)
 
-pub plants_are_complete : (gives : Gives) → PlantsAreComplete gives
-plants_are_complete gives words ends errors batches ticks ring asked came =
-    told_plant gives words ends errors batches ticks ring 0 asked came refl
+pub plants_are_complete : (gives : Gives) (holds : Holds) → PlantsAreComplete gives holds
+plants_are_complete gives holds words ends errors batches ticks ring asked came =
+    told_plant gives holds words ends errors batches ticks ring 0 asked came refl

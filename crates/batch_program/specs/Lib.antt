@@ -1,3 +1,4 @@
 pub mod PlantRuns
 pub mod PlantWork
 pub mod Programs
+pub mod RecordRuns

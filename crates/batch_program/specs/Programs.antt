@@ -1,11 +1,11 @@
 -- trusted: what comes of the program's words, input and documents.
-use Rattle.std.specs.Prelude.{◌≤◌, ◌++◌, ℕ, zero, suc, Bool, true, false, IfOk, List, Result, Ok, Err, codes, decimal, if◌then◌else◌, nat_eq}
+use Rattle.std.specs.Prelude.{◌≤◌, ◌++◌, ℕ, zero, suc, Bool, true, false, IfOk, List, Option, Result, Ok, Err, codes, decimal, if◌then◌else◌, nat_eq}
 use Rattle.std.specs.Io.KnownBytes.{Appends, Keeps}
 use Rattle.std.specs.Process.{exit_status}
 use Rattle.std.specs.declared.process.ExitCode.{ExitCode}
 use Rattle.clap.specs.Walk.{Text}
 use Rattle.batch_verify.specs.ClearedSet.{ClearedSet}
-use Rattle.batch_words.specs.CommandLine.{Source, plant, serve}
+use Rattle.batch_words.specs.CommandLine.{Source, plant, serve, tell}
 use Rattle.batch_words.specs.declared.plant_options.PlantOptions.{PlantOptions}
 use Rattle.batch_commands.specs.Reading.{Gives}
 use Rattle.batch_commands.specs.Requests.{IsDemoSet, IsSetOf}
@@ -18,6 +18,7 @@ use Rattle.batch_serve.specs.declared.fault.SetFault.{SetFault}
 use Rattle.batch_serve.specs.declared.fault.SetFault.TheVariants.{Memory, Stopped}
 use Rattle.batch_plant.specs.declared.plant_fault.PlantFault.{PlantFault}
 use Rattle.batch_program.specs.PlantRuns.{HasRun, IsPlantTold, plant_text}
+use Rattle.batch_program.specs.RecordRuns.{Holds, IsRecordTold, output_of}
 use Rattle.batch_program.specs.declared.program.TheConstants.{MAX_READS}
 
 abbrev pub IsExitStatus : ExitCode → Type 0
@@ -28,10 +29,6 @@ abbrev pub status_of_serving : Result ℕ SetFault → ℕ
 status_of_serving (Ok left) = 0
 status_of_serving (Err Memory) = memory_status
 status_of_serving (Err (Stopped fault)) = fault_status
-
--- the writer's bytes among those of reader and writer
-abbrev pub output_of : serving.Ends → Stream
-output_of ends = record { before = ends.before; after = ends.after }
 
 -- the line on so many batches that are neither complete, stopped nor aborted when the input ends
 abbrev pub left_text : ℕ → List ℕ
@@ -47,35 +44,38 @@ IsLeftTold false errors zero = IsUnwritten errors
 IsLeftTold false errors (suc more) = WritesFront errors.before errors.after (left_text (suc more))
 
 -- what comes of the words, over the input and the output, with the exit status
-pub data IsProgramRun (gives : Gives) (words : List Text) (ends : serving.Ends) (errors : Stream) : ℕ → Type 0 where
+pub data IsProgramRun (gives : Gives) (holds : Holds) (words : List Text) (ends : serving.Ends) (errors : Stream) : ℕ → Type 0 where
   -- a verdict, help or a fault is told, and the input isn't read
   tells : (status : ℕ) → IsRun gives words (output_of ends) errors (Ends status) → Keeps ends.unread ends.left
-      → IsProgramRun gives words ends errors status
+      → IsProgramRun gives holds words ends errors status
   -- the set that the words name is served, by the engine that is made from it
   serves : (source : Source) (set : ClearedSet) (served : Result ℕ SetFault)
       → AskFor words (serve source) → IsSetOf gives source set → Serves set MAX_READS served ends
-      → IfOk served (IsLeftTold (ask_quiet words) errors) → IsProgramRun gives words ends errors (status_of_serving served)
+      → IfOk served (IsLeftTold (ask_quiet words) errors) → IsProgramRun gives holds words ends errors (status_of_serving served)
+  -- what the record that the words name tells is printed, or what the input tells
+  reads : (path : Option Text) (status : ℕ)
+      → AskFor words (tell path) → IsRecordTold holds path ends errors status → IsProgramRun gives holds words ends errors status
   -- the plant of the demo is run with the options that the words have, its end is told, and the input isn't read
   plants : (set : ClearedSet) (options : PlantOptions) (end : Result ℕ PlantFault) (status : ℕ)
       → AskFor words (plant options.batches options.ticks options.ring) → IsDemoSet set
       → IfOk end (HasRun set options.batches) → IsPlantTold (output_of ends) errors options.batches end status → Keeps ends.unread ends.left
-      → IsProgramRun gives words ends errors status
+      → IsProgramRun gives holds words ends errors status
 
 -- Laws
 
 -- a run that was to serve and ends with status 0 has answered all lines of its input, by the engine of the set that its documents
 -- make, cleared by their certificate; AnswersAll says that what it wrote is a safe record. On the errors it has written nothing but
 -- how many batches the input left unfinished
-abbrev pub ServingIsSafe : Gives → Type 0
-ServingIsSafe gives =
+abbrev pub ServingIsSafe : Gives → Holds → Type 0
+ServingIsSafe gives holds =
     (words : List Text) (ends : serving.Ends) (errors : Stream) (source : Source)
-    → AskFor words (serve source) → IsProgramRun gives words ends errors 0
+    → AskFor words (serve source) → IsProgramRun gives holds words ends errors 0
     → (set : ClearedSet) × (left : ℕ) × IsSetOf gives source set × AnswersAll set left ends × IsLeftTold (ask_quiet words) errors left
 
 -- a run of `plant` that ends with status 0 has written its three lines, and a record over the demo's set, of so many events as the
 -- third line says, leads to where the batches that were asked for are complete
-abbrev pub PlantsAreComplete : Gives → Type 0
-PlantsAreComplete gives =
+abbrev pub PlantsAreComplete : Gives → Holds → Type 0
+PlantsAreComplete gives holds =
     (words : List Text) (ends : serving.Ends) (errors : Stream) (batches ticks ring : ℕ)
-    → AskFor words (plant batches ticks ring) → IsProgramRun gives words ends errors 0
+    → AskFor words (plant batches ticks ring) → IsProgramRun gives holds words ends errors 0
     → (set : ClearedSet) × (handled : ℕ) × IsDemoSet set × HasRun set batches handled × Appends ends.before ends.after (plant_text batches handled)

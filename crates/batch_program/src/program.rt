@@ -5,6 +5,8 @@ ghost use Rattle.batch_program.specs.Programs.{IsLeftTold, IsProgramRun, left_te
 use crate::noted::Noted;
 use crate::plant::report_of_plant;
 use crate::plant_runner::PlantRunner;
+use crate::record_status::tell_record;
+use crate::records::Records;
 use crate::statuses::serving_status;
 use batch_commands::{Course, Documents, complain, run_words, tell};
 use batch_serve::{ServeFault, SetFault, serve_set};
@@ -13,7 +15,7 @@ use std::io;
 use std::io::{Read, Write};
 use thiserror::Error;
 
-/// How often standard input may be read, interrupted calls among them. No clause counts them; tests do, with other limits.
+/// How often standard input or a record may be read, interrupted calls among them. No clause counts them; tests do, with other limits.
 pub const MAX_READS: u64 = 1_000_000_000;
 
 /// Why serving stopped, and the reason that the stream gave.
@@ -25,12 +27,12 @@ struct Stop {
 }
 
 /// Does what the words ask for, and gives the exit status: judges documents, serves event lines from the input over the set
-/// that they name, or has the demo's plant run.
+/// that they name, tells what a record says, or has the demo's plant run.
 ///
-/// Verdicts, help, the record and the lines of a plant go to the output, and all else, in a free text, to the errors. Refused
+/// Verdicts, help, the record, what one tells and the lines of a plant go to the output, and all else, in a free text, to the errors. Refused
 /// events are part of the record and don't change the status. Where the input ends while batches are neither complete, stopped
 /// nor aborted, one line on the errors says how many, unless quiet is asked for; where none is, nothing is written there.
-pub fn run_program<D: Documents, P: PlantRunner, R: Read, W: Write, E: Write>(
+pub fn run_program<D: Documents + Records, P: PlantRunner, R: Read, W: Write, E: Write>(
     alloc: Global,
     words: &[String],
     documents: &D,
@@ -39,7 +41,7 @@ pub fn run_program<D: Documents, P: PlantRunner, R: Read, W: Write, E: Write>(
     output: &mut Noted<W>,
     errors: &mut E,
 ) -> u8
-    ensures { IsProgramRun (D.gives documents.now) (map string_bytes words.now)
+    ensures { IsProgramRun (D.gives documents.now) (D.holds documents.now) (map string_bytes words.now)
         (record {
           unread = R.remaining input.old.stream;
           left = R.remaining input.new.stream;
@@ -55,6 +57,7 @@ pub fn run_program<D: Documents, P: PlantRunner, R: Read, W: Write, E: Write>(
             let reason = reason_of(served, input, output);
             tell_served(alloc, quiet, served, reason, errors)
         }
+        Course::Reads { path } => tell_record(alloc, path, documents, input, output, errors),
         Course::Plants { set, options } => {
             let end = plants.run_plant(alloc, set, options);
             report_of_plant(alloc, options.batches, &end, output, errors)

@@ -1,4 +1,4 @@
--- surface: the text of an out is one.
+-- trusted: the text of an out is one.
 use Rattle.std.specs.Prelude.{◌≡◌, ℕ, Bool, ◌||◌, List, ◌++◌, codes, MatchOption}
 use Rattle.std.specs.Str.{bytes_eq}
 use Rattle.batch_model.specs.Runs.{Out}

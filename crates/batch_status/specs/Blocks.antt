@@ -1,4 +1,4 @@
--- surface: what the lines of a record tell, one after the other, recovery blocks among them.
+-- trusted: what the lines of a record tell, one after the other, recovery blocks among them.
 use Rattle.std.specs.Prelude.{ℕ, Bool, true, false, ◌&&◌, List, [], ◌∷◌, ◌++◌, Option, Some, None, option_map, codes, nat_eq, nat_le, nat_lt, if◌then◌else◌}
 use Rattle.std.specs.Str.{bytes_eq}
 use Rattle.batch_matrix.specs.declared.state.State.{State}

@@ -1,4 +1,4 @@
--- surface: the lines that say what a record tells, and their order.
+-- trusted: the lines that say what a record tells, and their order.
 use Rattle.std.specs.Prelude.{◌≡◌, ℕ, List, [], ◌∷◌, ◌++◌, map, filter, flat_map, ◌&&◌, codes, decimal}
 use Rattle.std.specs.Cmp.Lexicographic.{slice_cmp}
 use Rattle.std.specs.List.Sorted.{IsSorted, IsStrictlySortedBy}

@@ -1,4 +1,4 @@
--- surface: what is read of a record.
+-- trusted: what is read of a record.
 use Rattle.std.specs.Prelude.{◌≡◌, ℕ, ◌+◌, ◌-◌, ◌^◌, List, [], ◌∷◌, ◌++◌, length, flat_map, min, Some, None, ◌==◌, false}
 use Rattle.std.specs.List.{All}
 use Rattle.batch_model.specs.Lists.{Each}

@@ -1,4 +1,4 @@
--- surface: what a record tells of a plant, beside who holds and who waits: which batches are listed, and in which state each live
+-- trusted: what a record tells of a plant, beside who holds and who waits: which batches are listed, and in which state each live
 -- phase is.
 use Rattle.std.specs.Prelude.{ℕ, List, [], ◌∷◌, ◌++◌, map, filter, fold, Bool, true, false, not, Option, Some, None, option_map, unwrap_or, nat_eq}
 use Rattle.batch_matrix.specs.declared.state.State.{State}

@@ -2,7 +2,7 @@
 use Rattle.std.proofs.Common.{◌≡◌, ℕ, Bool, true, false, List, [], ◌∷◌, Option, Some, None, codes, refl, option_map}
 use Rattle.clap.specs.Faults.{fault_of}
 use Rattle.clap.specs.Simple.{subcommand_of}
-use Rattle.clap.specs.Walk.{Text, Row}
+use Rattle.clap.specs.Walk.{Text, Row, first_of}
 use Rattle.clap.specs.declared.error.kind.ErrorKind.TheVariants.{DisplayHelp, DisplayVersion, InvalidSubcommand, MissingRequiredArgument, UnknownArgument, ValueValidation}
 use Rattle.clap.proofs.OnLiterals.{clap_on_literals}
 use Rattle.batch_words.specs.CommandLine.{batches_of, is_given, program_app, ring_of, ticks_of, word_of, words_of}
@@ -109,6 +109,24 @@ no_text_is_read = refl
 no_text_is_taken : fault_of program_app (codes "explain" ∷ []) ≡ []
 unfolding clap_on_literals
 no_text_is_taken = refl
+
+-- a record
+
+-- the path of the record that was entered, where there is one
+abbrev entered_path : Option (Text × List Row) → Option (Text × Option Text)
+entered_path = option_map (λ p. (p.0, first_of (codes "RECORD") p.1))
+
+path_is_read : entered_path (subcommand_of program_app (codes "status" ∷ codes "r" ∷ [])) ≡ Some (codes "status", Some (codes "r"))
+unfolding clap_on_literals
+path_is_read = refl
+
+no_path_is_read : entered_path (subcommand_of program_app (codes "status" ∷ [])) ≡ Some (codes "status", None)
+unfolding clap_on_literals
+no_path_is_read = refl
+
+no_path_is_taken : fault_of program_app (codes "status" ∷ []) ≡ []
+unfolding clap_on_literals
+no_path_is_taken = refl
 
 -- clap answers at `help`, and by which of the two kinds isn't said
 help_enters_nothing : fault_of program_app (codes "help" ∷ codes "check" ∷ []) ≡ DisplayHelp ∷ InvalidSubcommand ∷ []

@@ -3,7 +3,7 @@ ghost use Rattle.std.specs.Prelude.{◌≡◌, IfOk, IsOkAnd, codes, false};
 ghost use Rattle.clap.specs.Words.{app_of, rule_of};
 ghost use Rattle.clap.specs.Words.{AddsSubcommand};
 ghost use Rattle.clap.specs.declared.builder.command.Command.TheViews.{out-Command};
-ghost use Rattle.batch_words.specs.CommandLine.{bare_app, certified_app, check_app, explain_app, flag_rule, number_rule, plant_app, program_app, several_rule, word_rule};
+ghost use Rattle.batch_words.specs.CommandLine.{bare_app, certified_app, check_app, explain_app, flag_rule, number_rule, optional_rule, plant_app, program_app, several_rule, status_app, word_rule};
 
 use clap::builder::ValueParser;
 use clap::{Arg, ArgAction, Command};
@@ -27,7 +27,7 @@ The demo, without a command; type these lines:
   report R1 ADD done
 
 Exit status:
-  0  accepted, or the input ran to its end, or the plant's batches are complete, or help was asked for
+  0  accepted, or the input ran to its end, or the plant's batches are complete, or what was asked for is told
   1  refused: a line on standard output, and what it means on standard error
   2  the words are no command
   3  a file, the input or the output failed
@@ -53,6 +53,11 @@ An example, in examples/paint_plant; type the lines below it:
   report MIXER1 CHARGE done
 ";
 
+const STATUS_HELP: &str = "\
+An example, of a server whose record is written to day.record:
+  batchd status day.record
+";
+
 const PLANT_HELP: &str = "\
 An example:
   batchd plant --batches 10 --ticks 20
@@ -72,7 +77,8 @@ pub(crate) fn program<'a>(alloc: Global) -> Result<Command<'a>, AllocError>
     let checking = with_command(bare(alloc)?, check(alloc))?;
     let verifying = with_command(checking, verify(alloc))?;
     let running = with_command(verifying, run(alloc))?;
-    let planting = with_command(running, plant(alloc))?;
+    let telling = with_command(running, status(alloc))?;
+    let planting = with_command(telling, plant(alloc))?;
     with_command(planting, explain(alloc))
 }
 
@@ -147,6 +153,19 @@ fn certified<'a>(
         .arg(quiet(alloc))
 }
 
+fn status<'a>(alloc: Global) -> Result<Command<'a>, AllocError>
+    ensures { IfOk result (λ status. (app_of status ≡ status_app) × ((out-Command status).has_globals ≡ false)) }
+{
+    Command::new(alloc, "status")
+        .about("Prints what a record tells: batches, who holds, who waits, and live phases")
+        .after_help(STATUS_HELP)
+        .arg(optional(
+            alloc,
+            "RECORD",
+            "The record, which may still be written [default: standard input]",
+        ))
+}
+
 fn plant<'a>(alloc: Global) -> Result<Command<'a>, AllocError>
     ensures { IfOk result (λ plant. (app_of plant ≡ plant_app) × ((out-Command plant).has_globals ≡ false)) }
 {
@@ -201,6 +220,14 @@ fn word<'a>(alloc: Global, name: &'a str, help: &'a str) -> Arg<'a>
         .required(true)
         .action(ArgAction::Set)
         .help(help)
+}
+
+/// A word that may be left out.
+fn optional<'a>(alloc: Global, name: &'a str, help: &'a str) -> Arg<'a>
+    ensures rule { rule_of result ≡ optional_rule name.entry.now }
+    ensures local { result.global ≡ false }
+{
+    Arg::new(alloc, name).action(ArgAction::Set).help(help)
 }
 
 /// Any number of words.

@@ -1,5 +1,5 @@
 //! The words of the command line.
-ghost use Rattle.std.specs.Prelude.{◌≡◌, ◌≤◌, ◌⊎◌, IfOk, IfErr, MatchOption, Some, map, string_bytes, codes, []};
+ghost use Rattle.std.specs.Prelude.{◌≡◌, ◌≤◌, ◌⊎◌, IfOk, IfErr, MatchOption, Some, map, option_map, string_bytes, codes, []};
 ghost use Rattle.std.specs.Str.Parse.{digits_value, without_leading_plus};
 ghost use Rattle.clap.specs.Words.{FailsBy, IsUnsignedIn, fault_of, first_of, found_of, kind_of, rows_of, subcommand_of, subcommand_rows_of};
 ghost use Rattle.batch_words.specs.CommandLine.{AreWordsOf, HasOptionsOf, IsFaultOf, IsFaultOfKind, certified_by, checked_by, is_given, named_by, number_given, program_app, request_of, word_of, words_of};
@@ -57,6 +57,10 @@ fn command_of(alloc: Global, name: &str, words: &ArgMatches<'_>) -> Result<Subco
     }
     if name == "plant" {
         return Ok(Subcommand::Plant(plant_options(words)));
+    }
+    if name == "status" {
+        let path = optional(alloc, words, "RECORD")?;
+        return Ok(Subcommand::Status { path });
     }
     if name == "check" {
         return check_command(alloc, words);
@@ -165,6 +169,16 @@ fn word(alloc: Global, words: &ArgMatches<'_>, name: &str) -> Result<String, All
     match words.get_str(name) {
         Some(word) => String::from_str(alloc, word),
         None => Ok(String::new(alloc)),
+    }
+}
+
+/// The word that was given for the argument, where one was.
+fn optional(alloc: Global, words: &ArgMatches<'_>, name: &str) -> Result<Option<String>, AllocError>
+    ensures { IfOk result (λ given. option_map string_bytes given ≡ first_of name.now (rows_of (found_of words.now))) }
+{
+    match words.get_str(name) {
+        Some(word) => Ok(Some(String::from_str(alloc, word)?)),
+        None => Ok(None),
     }
 }
 

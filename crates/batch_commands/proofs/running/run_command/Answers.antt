@@ -1,7 +1,7 @@
 use Rattle.std.proofs.Common.{map, refl, string_bytes}
 use Rattle.std.proofs.KnownBytes.{Keeps-refl}
 use Rattle.batch_words.specs.CommandLine.{judgement_of, source_of}
-use Rattle.batch_commands.specs.Running.{explains, halts, judges, plants, serves}
+use Rattle.batch_commands.specs.Running.{explains, halts, judges, plants, reads, serves}
 use Rattle.batch_commands.proofs.running.run_command.Goals as goal
 
 pub returns-in-Ok : goal.returns-in-Ok
@@ -22,6 +22,9 @@ pub returns-in-Serve : goal.returns-in-Serve
 returns-in-Serve g c =
     rw c.in-Serve.is
     (halts c.in-Err-clear_source.halt _ (rw c.in-Serve.source-is at c.in-Err-clear_source.ensures.halted) c.announce-in-Err-clear_source.ensures)
+
+pub returns-in-Status : goal.returns-in-Status
+returns-in-Status g c = rw c.in-Status.is (reads c.in-Status.path refl (Keeps-refl _) (Keeps-refl _))
 
 pub returns-in-Ok-clear_demo : goal.returns-in-Ok-clear_demo
 returns-in-Ok-clear_demo g c =
