@@ -54,7 +54,7 @@ closing before line text closes =
 
 -- The other lines
 
-abbrev others : List (List ℕ) → List (List ℕ)
+abbrev pub others : List (List ℕ) → List (List ℕ)
 others [] = []
 others (line ∷ lines) = cond (journal_format.own line) (others lines) (line ∷ others lines)
 
@@ -81,6 +81,10 @@ taken_others sum last begun [] is = none_begun sum last begun is
 taken_others sum last begun (line ∷ lines) is =
     taken_if sum last begun line lines (cases_Bool (journal_format.own line)) (cases_Bool (journal_format.closes (journal_format.next sum begun) line)) is
     (taken_others (journal_format.next sum begun) last [] lines) (taken_others sum last (begun ++ line ∷ []) lines)
+
+-- what a journal stands for: its lines, but for its own
+pub recovered_others : (documents text sum : List ℕ) → IsJournal documents text sum → recovered documents text ≡ others (whole_lines (groups_in documents text))
+recovered_others documents text sum journal = taken_others documents sum [] (whole_lines (groups_in documents text)) journal.closed.closed
 
 -- a line that gives nothing says nothing
 silent : (c : Setup) (old new : Plant) (line : List ℕ) (lines : List (List ℕ)) (said : Exchange) → event_of_line line ≡ Ok None → Transcript c old (line ∷ lines) said new → Transcript c old lines said new

@@ -1,3 +1,5 @@
 mod Telling
 mod Again
 mod Comments
+mod Counting
+mod Blocks

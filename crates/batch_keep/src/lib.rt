@@ -1,10 +1,12 @@
 //! Serving over a journal: nothing that was answered is lost.
 #![tactic(auto)]
 
+mod block;
 mod holding;
 mod replaying;
 mod serving;
 
+pub use block::{BlockFault, block_rows, recovery_block};
 pub use holding::{KeepFault, serve_holding};
 pub use replaying::replay;
 pub use serving::{Journal, serve_in_memory, serve_journalled};

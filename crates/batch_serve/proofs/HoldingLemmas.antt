@@ -1,5 +1,5 @@
 -- What is held back of a text.
-use Rattle.std.proofs.Common.{◌≡◌, ◌⊎◌, ℕ, zero, suc, ◌+◌, ◌-◌, ◌<◌, ◌≤◌, Bool, true, false, not, ◌||◌, ◌==◌, nat_eq, nat_le, List, [], ◌∷◌, ◌++◌, length, take, drop, take-append-drop, drop-drop, min, get_or, codes, Option, Some, None, MatchOption, option_map, refl, sym, ◌∙◌, ap, subst, append_assoc, inl, inr, arith, length-take, length-drop, length-append}
+use Rattle.std.proofs.Common.{◌≡◌, ◌⊎◌, ℕ, zero, suc, ◌+◌, ◌-◌, ◌<◌, ◌≤◌, Bool, true, false, not, ◌||◌, ◌==◌, nat_eq, nat_le, List, [], ◌∷◌, ◌++◌, length, take, drop, take-append-drop, drop-drop, min, get_or, codes, Option, Some, None, MatchOption, is_some, option_map, refl, sym, ◌∙◌, ap, subst, append_assoc, inl, inr, arith, length-take, length-drop, length-append}
 use Rattle.std.proofs.lemmas.Bool.{and_parts, or_left, or_right, cases_lt, eqb-true, false_from_ne_true, leb-true}
 use Rattle.std.proofs.lemmas.Bool.Decides.{Decides-eqb}
 use Rattle.std.proofs.lemmas.List.{append-nil, append_cancel_left, take_all, take_at, take_rest, drop_at, drop-take, take-take, take_more, get_or-drop}
@@ -124,6 +124,14 @@ stops_where text (Some at) (Some other) event line = elim (cases_lt other at) [
       let least : min at other ≡ at = omega (arith, few) in
       subst (StopsAt text) (sym least) (stops_at_event text at event (not_before (codes "refused W6\n") text at other few line.before))
 ]
+
+pub found_none : (needle text : List ℕ) (found : Option ℕ) → FindsFirst needle text found → is_some found ≡ false → Has needle text → ⊥
+found_none needle text None finds none = finds
+found_none needle text (Some at) finds none = let clash : true ≡ false = none in absurd (cc clash)
+
+pub found_some : (needle text : List ℕ) (found : Option ℕ) → FindsFirst needle text found → is_some found ≡ true → Has needle text
+found_some needle text None finds some = let clash : false ≡ true = some in absurd (cc clash)
+found_some needle text (Some at) finds some = record { front = take at text; rest = drop (at + length needle) text; splits = finds.here }
 
 -- What is held back
 

@@ -2,6 +2,7 @@
 ghost use Rattle.std.specs.Prelude.{◌≡◌, ◌⊎◌, ◌<◌, ◌≤◌, ℕ, List, Option, Some, [], length, take, drop, IsTrue, IsFalse, MatchOption, OnOk};
 ghost use Rattle.std.specs.Io.KnownBytes.{Appends, Keeps, append_known};
 ghost use Rattle.batch_serve.specs.Held.{IsPassed, IsHeldBack, IsUnended, TellsAll, TellsClear};
+ghost use Rattle.batch_serve.specs.Replays.{Has, ShowsNoWant};
 ghost use Rattle.batch_serve.specs.Holding.{FindsFirst, IsWholeTo, StopsAt, sooner};
 
 use memchr::{memmem, memrchr};
@@ -188,6 +189,22 @@ fn sooner(one: Option<usize>, other: Option<usize>) -> Option<usize>
         (Some(one), None) => Some(one),
         (None, other) => other,
     }
+}
+
+/// Whether a line of the text is a refusal for want of memory.
+pub fn shows_want(text: &[u8]) -> bool
+    ensures none { IsFalse result → ShowsNoWant text.now }
+    ensures some { IsTrue result → ShowsNoWant text.now → ⊥ }
+{
+    occurs(b"refused E11\n", text) || occurs(b"refused W6\n", text)
+}
+
+fn occurs(needle: &[u8], text: &[u8]) -> bool
+    requires { 0 < length needle.now }
+    ensures none { IsFalse result → Has needle.now text.now → ⊥ }
+    ensures some { IsTrue result → Has needle.now text.now }
+{
+    first_of(needle, text).is_some()
 }
 
 /// Where the needle first stands in the text.

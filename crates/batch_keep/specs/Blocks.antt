@@ -1,0 +1,31 @@
+-- surface: the block that stands before all that is told after a start over a journal.
+use Rattle.std.specs.Prelude.{◌≡◌, ℕ, List, ◌++◌, length, codes, decimal}
+use Rattle.batch_model.specs.Plant.{Setup, Plant}
+use Rattle.batch_model.specs.Runs.{Leads}
+use Rattle.batch_wire.specs.Transcript.{Exchange, Transcript}
+use Rattle.batch_serve.specs.Replays.{ShowsNoWant}
+use Rattle.batch_status.specs.Blocks.{Stage}
+use Rattle.batch_status.specs.Listing.{IsTextOf}
+use Rattle.batch_status.specs.Reading.{LeadsTo}
+
+-- the text of a transcript of these lines, in which memory was never wanted
+pub record IsReplayed (c : Setup) (old : Plant) (lines : List (List ℕ)) (new : Plant) (record_text : List ℕ) : Type 0 where
+  pub said : Exchange
+  pub transcript : Transcript c old lines said new
+  pub leads : Leads c old said.events said.outs new
+  pub shows : ShowsNoWant said.text
+  pub is : record_text ≡ said.text
+
+-- how many lines there were, the rows of what they tell, and the end
+abbrev pub block_text : ℕ → List ℕ → List ℕ
+block_text count rows = codes "# recovered " ++ (decimal count ++ (codes " lines\n" ++ (rows ++ codes "# end\n")))
+
+-- these lines, served again, tell what the rows of the block say
+pub record IsBlockOf (c : Setup) (old : Plant) (lines : List (List ℕ)) (new : Plant) (block : List ℕ) : Type 0 where
+  pub told : List ℕ
+  pub replayed : IsReplayed c old lines new told
+  pub stage : Stage
+  pub leads_to : LeadsTo told stage
+  pub rows : List ℕ
+  pub are_rows : IsTextOf stage.tale (codes "# ") rows
+  pub is : block ≡ block_text (length lines) rows
