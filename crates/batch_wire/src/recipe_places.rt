@@ -160,6 +160,7 @@ impl RecipePlaces {
 
     /// Makes the place of a node known from that of the node above it, and tells where its text ends. None where there is no
     /// room for it.
+    #[cycle(reach)]
     fn reach(&mut self, recipe: &Recipe, node: u16) -> Option<usize>
         requires within { node < length recipe.now.outline.entries.items }
         requires known { AreKnownBy (text_of_place recipe.now) self.old }
@@ -177,7 +178,7 @@ impl RecipePlaces {
             self.depth = 0;
             put_number(&mut self.text, PLACE_START, child)
         } else {
-            let above = self.reach(recipe, parent)?;
+            let above = self.reach_above(recipe, parent)?;
             if above + MAX_STEP_LEN > MAX_PLACE_END {
                 return None;
             }
@@ -185,6 +186,24 @@ impl RecipePlaces {
         };
         self.keep(node, end);
         Some(end)
+    }
+
+    /// The same of the node above another one, which mostly is the last node once those after it are forgotten.
+    #[inline(always)]
+    #[cycle(reach)]
+    fn reach_above(&mut self, recipe: &Recipe, node: u16) -> Option<usize>
+        requires within { node < length recipe.now.outline.entries.items }
+        requires known { AreKnownBy (text_of_place recipe.now) self.old }
+        ensures recipe { self.new.recipe ≡ self.old.recipe }
+        ensures batch { self.new.batch ≡ self.old.batch }
+        ensures known { AreKnownBy (text_of_place recipe.now) self.new }
+        ensures reached { IfSome result (λ end. EndsAt (text_of_place recipe.now node) end self.new) }
+    {
+        self.forget_past(node);
+        if let Some(end) = self.end_of(node) {
+            return Some(end);
+        }
+        self.reach(recipe, node)
     }
 
     /// Forgets the last nodes, as far as they come after this one.
