@@ -18,6 +18,8 @@ mod ends;
 #[cfg(test)]
 mod faults;
 #[cfg(test)]
+mod journalled;
+#[cfg(test)]
 mod record_lines;
 #[cfg(test)]
 mod records;
