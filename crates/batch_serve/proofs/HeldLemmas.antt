@@ -22,7 +22,7 @@ whole_lines [] is = inl refl
 whole_lines (b ∷ []) is = inr ([], ap (λ x. x ∷ []) (eqb-true b 10 is))
 whole_lines (b ∷ c ∷ text) is = whole_behind b (c ∷ text) (whole_lines (c ∷ text) is) (λ none. absurd (cc none))
 
-whole_both : (a b : List ℕ) → is_whole a ≡ true → is_whole b ≡ true → is_whole (a ++ b) ≡ true
+pub whole_both : (a b : List ℕ) → is_whole a ≡ true → is_whole b ≡ true → is_whole (a ++ b) ≡ true
 whole_both [] b is others = others
 whole_both (x ∷ []) [] is others = is
 whole_both (x ∷ []) (y ∷ b) is others = others
@@ -68,7 +68,7 @@ clear_nothing = record {
   shows = record { no_event = λ has. none_there (codes "efused E11\n") has.front has.rest 114 has.splits; no_line = λ has. none_there (codes "efused W6\n") has.front has.rest 114 has.splits };
 }
 
-clear_both : (a b : List ℕ) → IsClear a → IsClear b → IsClear (a ++ b)
+pub clear_both : (a b : List ℕ) → IsClear a → IsClear b → IsClear (a ++ b)
 clear_both a b one other = record {
   whole = whole_both a b one.whole other.whole;
   shows = record {
