@@ -1,11 +1,18 @@
-"""What earlier runs on this machine found of edits, each under a sum of all that a try of it reads: so an entry never goes stale."""
+"""What earlier runs on this machine found of edits, each under a sum of all that a try of it reads: so an entry never goes stale.
+
+Usage: tools/edits/kept.py RLIB: a sum of what other crates can see of a library as it was built, for tools/quick.
+"""
 import hashlib
 import json
 import os
+import sys
 import tempfile
 
 PARTS = ("src", "specs", "proofs")
 HERE = os.path.dirname(os.path.abspath(__file__))
+# where a built library lists the modules that are made of it, and those of a function that its own proof alone can name
+MADE = "lang/antt/made.json"
+OF_ITS_PROOF = tuple(f'{{"{it}"' for it in "Code Mir Lts Parts Given Needs Kinds Layout Named MadeProof Read Close ImplProof MemberCode MemberProof CycleCode CycleInParts TieOfCycle".split())
 # of a crate, the longest unused go first
 MOST = 2000
 
@@ -34,8 +41,7 @@ class Kept:
 
     def library(self, name):
         if name not in self.libraries:
-            rlib = self.crates.rlib(name)
-            self.libraries[name] = [sum_of(f"{rlib}/{it}") for it in ("interface", "lang")]
+            self.libraries[name] = seen(self.crates.rlib(name))
         return self.libraries[name]
 
     def read(self, name):
@@ -65,6 +71,26 @@ class Kept:
             os.replace(it.name, f"{self.folder}/{name}.json")
         except OSError as error:
             print(f"note: what edits of {name} came to is not kept: {error}", flush=True)
+
+
+def seen(rlib):
+    """A sum of what another crate can read of a built library: its interface, its definitions, lemmas and contracts, and no body."""
+    files = [it for part in ("interface", "lang") for it in files_of(f"{rlib}/{part}") if os.path.isfile(it) and not it.endswith(MADE)]
+    return sum_of_text([[(os.path.relpath(it, rlib), sum_of(it)) for it in files], made(f"{rlib}/{MADE}")])
+
+
+def made(file):
+    """The modules that are made of a library, each a line with its name and lines with how, but for those that one function's proof sees."""
+    if not os.path.isfile(file):
+        return []
+    kept, is_seen, is_first = [], True, False
+    with open(file, encoding="utf-8") as it:
+        for line in it:
+            is_name = line.startswith('"')
+            is_seen = is_name or (not line.startswith(OF_ITS_PROOF) if is_first else is_seen)
+            is_first = is_name
+            kept += [line] * is_seen
+    return kept
 
 
 def sum_of_text(parts):
@@ -98,3 +124,7 @@ def kit_sum(kit):
     files = [path for part in ("bin", "toolchain", "logic_built", "rattle", *rlibs) for path in files_of(f"{kit}/{part}") if "/__pycache__/" not in path]
     found = [(path[len(kit) :], os.lstat(path)) for path in files if os.path.lexists(path)]
     return sum_of_text([names, [(path, it.st_mode, it.st_size, it.st_mtime_ns) for path, it in found]])
+
+
+if __name__ == "__main__":
+    print(seen(sys.argv[1]))
