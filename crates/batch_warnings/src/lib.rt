@@ -1,0 +1,11 @@
+//! Parts of a cell and of its recipes that are taken though they can hardly be meant so.
+#![tactic(auto)]
+
+mod cells;
+mod mentions;
+mod recipes;
+mod warning;
+
+pub use cells::units_without_modules;
+pub use recipes::recipes;
+pub use warning::RecipeWarning;
