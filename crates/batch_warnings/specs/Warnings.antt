@@ -1,12 +1,12 @@
 -- surface: what of a cell and of a recipe can hardly be meant so, though it is taken.
-use Rattle.std.specs.Prelude.{ℕ, ◌+◌, Bool, true, false, ◌&&◌, not, List, [], ◌∷◌, ◌++◌, map, Some, None, if◌then◌else◌}
+use Rattle.std.specs.Prelude.{ℕ, ◌+◌, Bool, true, false, ◌&&◌, ◌||◌, not, List, [], ◌∷◌, ◌++◌, map, Some, None, if◌then◌else◌}
 use Rattle.std.specs.List.{list_any, list_all}
 use Rattle.batch_cell.specs.Equipment.{belongs_to}
 use Rattle.batch_cell.specs.declared.cell.Cell.{Cell}
 use Rattle.batch_grammar.specs.ChartForm.{labels_of, values_of}
 use Rattle.batch_recipe.specs.Conditions.{Name, same_name}
 use Rattle.batch_recipe.specs.Diagram.{Diagram, diagram_of}
-use Rattle.batch_recipe.specs.Formula.{is_in_range, quantities_of}
+use Rattle.batch_recipe.specs.Formula.{is_in_range}
 use Rattle.batch_recipe.specs.WellFormed.{is_among, reports_with}
 use Rattle.batch_recipe.specs.declared.act.Act.{Act}
 use Rattle.batch_recipe.specs.declared.act.UnitChoice.TheVariants.{Unit, Role}
@@ -17,6 +17,8 @@ use Rattle.batch_recipe.specs.declared.acts.LabelTable.TheVariants.{UnitProcedur
 use Rattle.batch_recipe.specs.Procedure.{table_at}
 use Rattle.batch_recipe.specs.declared.quantity.Quantity.{Quantity}
 use Rattle.batch_recipe.specs.declared.recipe.Recipe.{Recipe}
+use Rattle.batch_warnings.specs.declared.warning.QuantityTable.{QuantityTable}
+use Rattle.batch_warnings.specs.declared.warning.QuantityTable.TheVariants.{Inputs, Parameters}
 use Rattle.batch_warnings.specs.declared.warning.RecipeWarning.{RecipeWarning}
 use Rattle.batch_warnings.specs.declared.warning.RecipeWarning.TheVariants.{UnnamedAct, ValueOutOfRange, UnreportedOutput, UnusedRole, ScaledParameter}
 
@@ -42,7 +44,8 @@ abbrev pub is_named : Acts → LabelTable → Act → Bool
 is_named acts table a = list_any (act_has_label a.name) (acts_above acts table)
 
 abbrev pub is_compared : Acts → Name → Bool
-is_compared acts name = list_any (act_compares name) (acts.procedure ∷ acts.unit_procedures.items ++ acts.operations.items)
+is_compared acts name =
+    (act_compares name acts.procedure || list_any (act_compares name) acts.unit_procedures.items) || list_any (act_compares name) acts.operations.items
 
 abbrev pub act_reports : Name → Act → Bool
 act_reports name a = is_among (reports_with a.work) name
@@ -50,8 +53,8 @@ act_reports name a = is_among (reports_with a.work) name
 abbrev pub takes_role : Name → Act → Bool
 takes_role name a = elim a.unit [ None ↦ false | Some choice ↦ elim choice [ Unit unit ↦ false | Role role ↦ same_name name role ] ]
 
-abbrev pub is_handed : Name → Act → Bool
-is_handed name a = elim a.work [ Follows c ↦ false | Runs phase values reports ↦ is_among values.items name ]
+abbrev pub takes_value : Name → Act → Bool
+takes_value name a = elim a.work [ Follows c ↦ false | Runs phase values reports ↦ is_among values.items name ]
 
 -- the numbers, counted from n, of those that pass
 abbrev pub numbers_of : {X : Type 0} → (X → Bool) → ℕ → List X → List ℕ
@@ -61,8 +64,12 @@ numbers_of p n (x ∷ xs) = if p x then n ∷ numbers_of p (n + 1) xs else numbe
 abbrev pub unnamed_in : Acts → LabelTable → List RecipeWarning
 unnamed_in acts table = map (UnnamedAct table) (numbers_of (λ a. not (is_named acts table a)) 0 (table_at acts table))
 
-abbrev pub out_of_range : Recipe → List RecipeWarning
-out_of_range r = map ValueOutOfRange (numbers_of (λ q. not (is_in_range r.basis r.basis q)) 0 (quantities_of r))
+abbrev pub quantities_in : Recipe → QuantityTable → List Quantity
+quantities_in r Inputs = r.inputs.items
+quantities_in r Parameters = r.parameters.items
+
+abbrev pub out_of_range : Recipe → QuantityTable → List RecipeWarning
+out_of_range r table = map (ValueOutOfRange table) (numbers_of (λ q. not (is_in_range r.basis r.basis q)) 0 (quantities_in r table))
 
 abbrev pub unreported : Recipe → List RecipeWarning
 unreported r = map UnreportedOutput
@@ -73,13 +80,13 @@ unused_roles r = map UnusedRole (numbers_of (λ role. not (list_any (takes_role 
 
 abbrev pub scaled_parameters : Recipe → List RecipeWarning
 scaled_parameters r = map ScaledParameter
-    (numbers_of (λ q. not q.fixed && list_any (is_handed q.name) r.acts.phases.items) 0 r.parameters.items)
+    (numbers_of (λ q. not q.fixed && list_any (takes_value q.name) r.acts.phases.items) 0 r.parameters.items)
 
 -- the warnings on a recipe, in their order
 abbrev pub warnings_of : Recipe → List RecipeWarning
 warnings_of r =
     unnamed_in r.acts UnitProcedures ++ unnamed_in r.acts Operations ++ unnamed_in r.acts Phases
-    ++ out_of_range r ++ unreported r ++ unused_roles r ++ scaled_parameters r
+    ++ out_of_range r Inputs ++ out_of_range r Parameters ++ unreported r ++ unused_roles r ++ scaled_parameters r
 
 -- the numbers of a cell's units to which no module belongs
 abbrev pub units_without_modules : Cell → List ℕ
