@@ -19,9 +19,11 @@ mod roles;
 mod sentence;
 mod sets;
 mod showing;
+mod warnings;
 
 pub use certificates::certificate_sentence;
 pub use documents::{Asked, document_sentence};
 pub use sentence::Sentence;
 pub use sets::{fault_sentence, refusal_sentence};
 pub use showing::shown;
+pub use warnings::{recipe_warning, unit_warning};
