@@ -7,3 +7,5 @@ pub mod Outcomes
 pub mod Successes
 mod Fronts
 pub mod NodesTold
+pub mod Warned
+pub mod WarningLines

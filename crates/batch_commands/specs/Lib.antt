@@ -1,4 +1,5 @@
 pub mod VerdictTexts
+pub mod WarningTexts
 pub mod Judging
 pub mod Bytes
 pub mod Reading

@@ -11,7 +11,7 @@ use Rattle.batch_words.specs.CommandLine.{IsShown, Judgement, Request, Source, a
 use Rattle.batch_commands.specs.Judging.{status_of}
 use Rattle.batch_commands.specs.Reading.{Gives}
 use Rattle.batch_commands.specs.Requests.{Halts, IsDemoSet, IsSetOf, IsVerdict}
-use Rattle.batch_commands.specs.Saying.{IsSaid}
+use Rattle.batch_commands.specs.Saying.{IsSaid, IsWarned}
 use Rattle.batch_verify.specs.ClearedSet.{ClearedSet}
 use Rattle.batch_words.specs.declared.plant_options.PlantOptions.{PlantOptions}
 use Rattle.batch_commands.specs.declared.course.Course.{Course}
@@ -98,8 +98,10 @@ IsExplained texts output errors status =
 -- what comes of a request: the exit status, or the set that the program is to serve, quietly or not, or whose plant it is to run, or
 -- the record that it is to read
 pub data IsDone (gives : Gives) (request : Request) (quiet : Bool) (output errors : Stream) : Course → Type 0 where
-  judges : (judgement : Judgement) (text : List ℕ) (status : ℕ)
-      → request ≡ judge judgement → IsVerdict gives judgement text → IsPrinted output errors text success_status status
+  -- what the errors hold once it is warned is what they hold before the verdict is printed
+  judges : (judgement : Judgement) (text : List ℕ) (status : ℕ) (warned : Option (List ℕ))
+      → request ≡ judge judgement → IsVerdict gives (IsWarned quiet errors.before warned) judgement text
+      → IsPrinted output (record { before = warned; after = errors.after }) text success_status status
       → IsDone gives request quiet output errors (Ends status)
   serves : (source : Source) (set : ClearedSet)
       → request ≡ serve source → IsSetOf gives source set → IsUnwritten output → IsUnwritten errors
@@ -113,8 +115,10 @@ pub data IsDone (gives : Gives) (request : Request) (quiet : Bool) (output error
   explains : (texts : List Text) (status : ℕ)
       → request ≡ explain texts → IsExplained texts output errors status → IsDone gives request quiet output errors (Ends status)
   -- there is no verdict that accepts, or no set
-  halts : (h : Halt) (status : ℕ)
-      → Halts gives request h → IsAnnounced quiet output errors h status → IsDone gives request quiet output errors (Ends status)
+  halts : (h : Halt) (status : ℕ) (warned : Option (List ℕ))
+      → Halts gives (IsWarned quiet errors.before warned) request h
+      → IsAnnounced quiet output (record { before = warned; after = errors.after }) h status
+      → IsDone gives request quiet output errors (Ends status)
 
 -- what comes of the words
 pub data IsRun (gives : Gives) (words : List Text) (output errors : Stream) : Course → Type 0 where

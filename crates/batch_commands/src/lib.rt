@@ -14,6 +14,7 @@ mod refusal;
 mod running;
 mod saying;
 mod texts;
+mod warnings;
 
 pub use course::Course;
 pub use documents::{

@@ -4,6 +4,7 @@ ghost use Rattle.batch_words.specs.CommandLine.{judgement_of, request_of, source
 ghost use Rattle.std.specs.Io.KnownBytes.{Appends};
 ghost use Rattle.batch_commands.specs.Requests.{HaltsDemo, HaltsJudgement, HaltsSource, IsDemoSet, IsSetOf, IsVerdict};
 ghost use Rattle.batch_commands.specs.Running.{IsAnnounced, IsDone, IsExplained, IsPrinted, IsRefused, IsRun, fault_status};
+ghost use Rattle.batch_commands.specs.Saying.{IsWarned};
 
 use crate::course::Course;
 use crate::demo::{CELL_PATH, CERTIFICATE_PATH, Demo, RECIPE_PATH};
@@ -83,7 +84,7 @@ fn run_command<D: Documents, O: Write, E: Write>(
 {
     let quiet = words.quiet;
     match words.command {
-        Subcommand::Judge(judgement) => match judge(alloc, documents, &judgement) {
+        Subcommand::Judge(judgement) => match judge(alloc, documents, &judgement, quiet, errors) {
             Ok(text) => Course::Ends(print(output, errors, &text, SUCCESS)),
             Err(halt) => Course::Ends(announce(alloc, quiet, &halt, output, errors)),
         },
@@ -100,19 +101,31 @@ fn run_command<D: Documents, O: Write, E: Write>(
     }
 }
 
-/// What a judgement prints.
-fn judge<D: Documents>(alloc: Global, documents: &D, judgement: &Judgement) -> Result<String, Halt>
-    ensures verdict { IfOk result (λ text. IsVerdict (D.gives documents.now) (judgement_of judgement.now) (string_bytes text)) }
-    ensures halted { IfErr result (HaltsJudgement (D.gives documents.now) (judgement_of judgement.now)) }
+/// What a judgement prints. It warns of its documents unless quiet is asked for.
+fn judge<D: Documents, E: Write>(
+    alloc: Global,
+    documents: &D,
+    judgement: &Judgement,
+    quiet: bool,
+    errors: &mut E,
+) -> Result<String, Halt>
+    ensures verdict { IfOk result (λ text. IsVerdict (D.gives documents.now) (IsWarned quiet (E.contents errors.old) (E.contents errors.new))
+        (judgement_of judgement.now) (string_bytes text)) }
+    ensures halted { IfErr result (HaltsJudgement (D.gives documents.now) (IsWarned quiet (E.contents errors.old) (E.contents errors.new))
+        (judgement_of judgement.now)) }
 {
     match judgement {
-        Judgement::Check { cell, recipes } => check_documents(alloc, documents, cell, recipes),
-        Judgement::Draw { cell, recipes } => draw_documents(alloc, documents, cell, recipes),
+        Judgement::Check { cell, recipes } => {
+            check_documents(alloc, documents, cell, recipes, quiet, errors)
+        }
+        Judgement::Draw { cell, recipes } => {
+            draw_documents(alloc, documents, cell, recipes, quiet, errors)
+        }
         Judgement::Verify {
             cell,
             certificate,
             recipes,
-        } => verify_documents(alloc, documents, cell, certificate, recipes),
+        } => verify_documents(alloc, documents, cell, certificate, recipes, quiet, errors),
     }
 }
 

@@ -146,8 +146,8 @@ done_to_plant gives request quiet output errors _ set options (running.plants ot
     (subst (λ (o : PlantOptions). request ≡ plant o.batches o.ticks o.ring) chosen asked, subst IsDemoSet same cleared, kept, silent)
 done_to_plant gives request quiet output errors _ set options (running.serves _ _ _ _ _ _) is = absurd cc
 done_to_plant gives request quiet output errors _ set options (running.reads _ _ _ _) is = absurd cc
-done_to_plant gives request quiet output errors _ set options (running.halts _ _ _ _) is = absurd cc
-done_to_plant gives request quiet output errors _ set options (running.judges _ _ _ _ _ _) is = absurd cc
+done_to_plant gives request quiet output errors _ set options (running.halts _ _ _ _ _) is = absurd cc
+done_to_plant gives request quiet output errors _ set options (running.judges _ _ _ _ _ _ _) is = absurd cc
 done_to_plant gives request quiet output errors _ set options (running.explains _ _ _ _) is = absurd cc
 
 -- the plant that is to be run is the demo's, with the options that the words have, and nothing was written
@@ -195,8 +195,8 @@ done_to_read gives request quiet output errors _ path (running.reads other asked
     (subst (λ (p : Option (String Global)). request ≡ tell (option_map string_bytes p)) same asked, kept, silent)
 done_to_read gives request quiet output errors _ path (running.serves _ _ _ _ _ _) is = absurd cc
 done_to_read gives request quiet output errors _ path (running.plants _ _ _ _ _ _) is = absurd cc
-done_to_read gives request quiet output errors _ path (running.halts _ _ _ _) is = absurd cc
-done_to_read gives request quiet output errors _ path (running.judges _ _ _ _ _ _) is = absurd cc
+done_to_read gives request quiet output errors _ path (running.halts _ _ _ _ _) is = absurd cc
+done_to_read gives request quiet output errors _ path (running.judges _ _ _ _ _ _ _) is = absurd cc
 done_to_read gives request quiet output errors _ path (running.explains _ _ _ _) is = absurd cc
 
 -- the record that is to be read is the one that the words name, and nothing was written
@@ -242,7 +242,7 @@ ran_to_the_end set (Err (Stopped fault)) ends quiet errors all told is = absurd 
 
 -- a run that ends with status 0 before it has served was no run to serve, and none of a plant
 told_at_once : (gives : Gives) (words : List Text) (output errors : Stream) (request : Request) (status : ℕ)
-    → AskFor words request → IsRun gives words output errors (Ends status) → status ≡ 0 → IsSuccess gives request output
+    → AskFor words request → IsRun gives words output errors (Ends status) → status ≡ 0 → IsSuccess gives (ask_quiet words) request output errors
 told_at_once gives words output errors request status asked came is =
     success_is_told gives words output errors request asked (subst (λ k. IsRun gives words output errors (Ends k)) is came)
 
@@ -299,10 +299,12 @@ done_in_range : (gives : Gives) (request : Request) (quiet : Bool) (output error
 done_in_range gives request quiet output errors _ status (running.serves _ _ _ _ _ _) is = absurd cc
 done_in_range gives request quiet output errors _ status (running.reads _ _ _ _) is = absurd cc
 done_in_range gives request quiet output errors _ status (running.plants _ _ _ _ _ _) is = absurd cc
-done_in_range gives request quiet output errors _ status (running.halts h told _ at) is =
-    let same : told ≡ status = cc in rw (← same) (announced_in_range quiet output errors h told at)
-done_in_range gives request quiet output errors _ status (running.judges _ text told _ _ at) is =
-    let same : told ≡ status = cc in rw (← same) (printed_in_range output errors text success_status told (omega arith) at)
+done_in_range gives request quiet output errors _ status (running.halts h told warned _ at) is =
+    let same : told ≡ status = cc in
+    rw (← same) (announced_in_range quiet output (record { before = warned; after = errors.after }) h told at)
+done_in_range gives request quiet output errors _ status (running.judges _ text told warned _ _ at) is =
+    let same : told ≡ status = cc in
+    rw (← same) (printed_in_range output (record { before = warned; after = errors.after }) text success_status told (omega arith) at)
 done_in_range gives request quiet output errors _ status (running.explains texts told _ at) is =
     let same : told ≡ status = cc in rw (← same) (explained_in_range texts output errors told at)
 

@@ -1,3 +1,4 @@
 mod ShownLines
 mod Growing
+pub mod Said
 pub mod ActNames
