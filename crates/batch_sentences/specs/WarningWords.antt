@@ -1,7 +1,7 @@
 -- surface: what a warning says, in words.
 use Rattle.std.specs.Prelude.{ℕ, List, [], ◌++◌, codes, decimal, slice_get, unwrap_or, option_map}
 use Rattle.batch_cell.specs.declared.cell.Cell.{Cell}
-use Rattle.batch_cell.specs.declared.cell.Unit.{Unit}
+use Rattle.batch_cell.specs.declared.unit.Unit.{Unit}
 use Rattle.batch_recipe.specs.Conditions.{Name}
 use Rattle.batch_recipe.specs.Procedure.{table_at}
 use Rattle.batch_recipe.specs.declared.act.Act.{Act}
