@@ -60,7 +60,7 @@ done_success gives request quiet output errors _ (judges judgement text status w
       text,
       appends,
       verdict_more gives (IsWarned quiet errors.before warned) (IsWarned quiet errors.before errors.after) judgement text
-      (λ lines. warned_kept quiet errors.before warned errors.after lines silent) told,
+          (λ lines. warned_kept quiet errors.before warned errors.after lines silent) told,
     )
 done_success gives request quiet output errors _ (explains texts status asked told) is =
     rw asked (explained_success texts output errors status told cc)

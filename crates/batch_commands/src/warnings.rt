@@ -62,12 +62,7 @@ fn warnings_text(
     format!(in alloc; "{of_cell}{of_recipes}")
 }
 
-fn units_text(
-    alloc: Global,
-    path: &str,
-    cell: &Cell,
-    units: &[usize],
-) -> Result<String, AllocError>
+fn units_text(alloc: Global, path: &str, cell: &Cell, units: &[usize]) -> Result<String, AllocError>
     ensures { IfOk result (λ text. string_bytes text ≡ units_text path.now cell.now units.now) }
 {
     let mut text = String::new(alloc);
@@ -85,11 +80,7 @@ fn unit_line(alloc: Global, path: &str, cell: &Cell, unit: usize) -> Result<Stri
     told_line(alloc, &sentence.text)
 }
 
-fn recipes_text(
-    alloc: Global,
-    paths: &[String],
-    recipes: &[Recipe],
-) -> Result<String, AllocError>
+fn recipes_text(alloc: Global, paths: &[String], recipes: &[Recipe]) -> Result<String, AllocError>
     ensures { IfOk result (λ text. string_bytes text ≡ recipes_text (map string_bytes paths.now) recipes.now) }
 {
     let mut text = String::new(alloc);

@@ -1,4 +1,4 @@
--- surface: what a warning says, in words.
+-- trusted: what a warning says, in words.
 use Rattle.std.specs.Prelude.{ℕ, List, [], ◌++◌, codes, decimal, slice_get, unwrap_or, option_map}
 use Rattle.batch_cell.specs.declared.cell.Cell.{Cell}
 use Rattle.batch_cell.specs.declared.unit.Unit.{Unit}

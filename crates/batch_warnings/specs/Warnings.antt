@@ -1,17 +1,18 @@
--- surface: what of a cell and of a recipe can hardly be meant so, though it is taken.
+-- trusted: what of a cell and of a recipe can hardly be meant so, though it is taken.
 use Rattle.std.specs.Prelude.{ℕ, ◌+◌, Bool, true, false, ◌&&◌, ◌||◌, not, List, [], ◌∷◌, ◌++◌, map, Some, None, if◌then◌else◌}
 use Rattle.std.specs.List.{list_any, list_all}
 use Rattle.batch_cell.specs.Equipment.{belongs_to}
 use Rattle.batch_cell.specs.declared.cell.Cell.{Cell}
-use Rattle.batch_grammar.specs.ChartForm.{labels_of, values_of}
 use Rattle.batch_recipe.specs.Conditions.{Name, same_name}
-use Rattle.batch_recipe.specs.Diagram.{Diagram, diagram_of}
+use Rattle.batch_recipe.specs.Diagram.{Cases, Diagram, Diagrams, diagram_of, label, loop, more, none, otherwise, par, sel, seq, skip, when}
 use Rattle.batch_recipe.specs.Formula.{is_in_range}
 use Rattle.batch_recipe.specs.WellFormed.{is_among, reports_with}
 use Rattle.batch_recipe.specs.declared.act.Act.{Act}
 use Rattle.batch_recipe.specs.declared.act.UnitChoice.TheVariants.{Unit, Role}
 use Rattle.batch_recipe.specs.declared.act.Work.TheVariants.{Follows, Runs}
 use Rattle.batch_recipe.specs.declared.acts.Acts.{Acts}
+use Rattle.batch_recipe.specs.declared.condition.Cond.{Cond}
+use Rattle.batch_recipe.specs.declared.condition.Term.TheVariants.{Named, Number}
 use Rattle.batch_recipe.specs.declared.acts.LabelTable.{LabelTable}
 use Rattle.batch_recipe.specs.declared.acts.LabelTable.TheVariants.{UnitProcedures, Operations, Phases}
 use Rattle.batch_recipe.specs.Procedure.{table_at}
@@ -22,11 +23,45 @@ use Rattle.batch_warnings.specs.declared.warning.QuantityTable.TheVariants.{Inpu
 use Rattle.batch_warnings.specs.declared.warning.RecipeWarning.{RecipeWarning}
 use Rattle.batch_warnings.specs.declared.warning.RecipeWarning.TheVariants.{UnnamedAct, ValueOutOfRange, UnreportedOutput, UnusedRole, ScaledParameter}
 
-abbrev pub has_label : Name → Diagram → Bool
-has_label name chart = is_among (labels_of chart) name
+-- the chart has this label
+abbrev mutual
+  pub has_label : Name → Diagram → Bool
+  has_label name (label own) = same_name name own
+  has_label name skip = false
+  has_label name (seq ds) = branch_has_label name ds
+  has_label name (par ds) = branch_has_label name ds
+  has_label name (sel cs) = choice_has_label name cs
+  has_label name (loop turns c d) = has_label name d
 
-abbrev pub compares : Name → Diagram → Bool
-compares name chart = is_among (values_of chart) name
+  pub branch_has_label : Name → Diagrams → Bool
+  branch_has_label name none = false
+  branch_has_label name (more d ds) = has_label name d || branch_has_label name ds
+
+  pub choice_has_label : Name → Cases → Bool
+  choice_has_label name (otherwise d) = has_label name d
+  choice_has_label name (when c d cs) = has_label name d || choice_has_label name cs
+
+-- the condition compares the value of this name
+abbrev pub condition_names : Name → Cond → Bool
+condition_names name c = same_name name c.name || elim c.term [ Named other ↦ same_name name other | Number n ↦ false ]
+
+-- a condition of the chart does
+abbrev mutual
+  pub compares : Name → Diagram → Bool
+  compares name (label own) = false
+  compares name skip = false
+  compares name (seq ds) = branch_compares name ds
+  compares name (par ds) = branch_compares name ds
+  compares name (sel cs) = choice_compares name cs
+  compares name (loop turns c d) = condition_names name c || compares name d
+
+  pub branch_compares : Name → Diagrams → Bool
+  branch_compares name none = false
+  branch_compares name (more d ds) = compares name d || branch_compares name ds
+
+  pub choice_compares : Name → Cases → Bool
+  choice_compares name (otherwise d) = compares name d
+  choice_compares name (when c d cs) = (condition_names name c || compares name d) || choice_compares name cs
 
 abbrev pub act_has_label : Name → Act → Bool
 act_has_label name a = elim a.work [ Follows c ↦ has_label name (diagram_of c) | Runs phase values reports ↦ false ]

@@ -1,10 +1,8 @@
 //! What charts name.
 ghost use Rattle.std.specs.Prelude.{◌≡◌, ◌||◌};
 ghost use Rattle.std.specs.List.{list_any};
-ghost use Rattle.batch_grammar.specs.ChartForm.{names_compared};
 ghost use Rattle.batch_recipe.specs.Diagram.{diagram_of};
-ghost use Rattle.batch_recipe.specs.WellFormed.{is_among};
-ghost use Rattle.batch_warnings.specs.Warnings.{act_compares, act_has_label, compares, has_label};
+ghost use Rattle.batch_warnings.specs.Warnings.{act_compares, act_has_label, compares, condition_names, has_label};
 
 use batch_recipe::{Act, Chart, Cond, Term, Work};
 use batch_text::Name;
@@ -95,7 +93,7 @@ fn any_compares(charts: &[Chart], name: &Name) -> bool
 
 #[cycle(values)]
 fn any_choice_compares(choices: &[(Cond, Chart)], name: &Name) -> bool
-    ensures { result ≡ list_any (λ choice. is_among (names_compared choice.0) name.now || compares name.now (diagram_of choice.1)) choices.now }
+    ensures { result ≡ list_any (λ choice. condition_names name.now choice.0 || compares name.now (diagram_of choice.1)) choices.now }
 {
     for choice in choices {
         if is_compared(&choice.0, name) || compares(&choice.1, name) {
@@ -107,7 +105,7 @@ fn any_choice_compares(choices: &[(Cond, Chart)], name: &Name) -> bool
 
 /// Whether the condition compares the value of this name.
 fn is_compared(condition: &Cond, name: &Name) -> bool
-    ensures { result ≡ is_among (names_compared condition.now) name.now }
+    ensures { result ≡ condition_names name.now condition.now }
 {
     *name == condition.name
         || match &condition.term {

@@ -34,7 +34,8 @@ pub returns-clause-verdict : goal.returns-clause-verdict
 returns-clause-verdict g c =
     let set = c.in_ok-set.set in
     let cleared = c.in_ok-clear_recipes in
-    let warned = rw c.deref.ensures.value at c.warn.ensures in
-    (c.in_ok-from_str.ensures.ok,
-    verified _ _ _ _ _ set.cell set.certificate.ranks.items set.recipes.items cleared.field-0 cleared.ensures.set.0 cleared.ensures.set.1
-    c.in_ok-set.ensures.read cleared.ensures.cleared warned)
+    let warned = rw c.deref.ensures.value at c.warn.ensures in (
+      c.in_ok-from_str.ensures.ok,
+      verified _ _ _ _ _ set.cell set.certificate.ranks.items set.recipes.items cleared.field-0 cleared.ensures.set.0 cleared.ensures.set.1
+          c.in_ok-set.ensures.read cleared.ensures.cleared warned,
+    )
