@@ -1,0 +1,12 @@
+//! Audits: a record is compared with what the machine tells of the lines that were sent.
+#![tactic(auto)]
+
+mod audit;
+mod comparing;
+mod finding;
+mod rows;
+mod wants;
+
+pub use audit::audit;
+pub use finding::{AuditFault, Finding};
+pub use rows::audit_rows;
