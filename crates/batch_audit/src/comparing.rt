@@ -1,5 +1,5 @@
 //! Comparing a record with the text that is due.
-ghost use Rattle.std.specs.Prelude.{◌≡◌, ◌++◌, IfOk, MatchOption};
+ghost use Rattle.std.specs.Prelude.{◌≡◌, ◌≢◌, ◌++◌, ℕ, List, IfOk, MatchOption};
 ghost use Rattle.batch_serve.specs.Replays.{BeginsText, ShowsNoWant};
 ghost use Rattle.batch_serve.specs.Serving.{EndsLine, HasNoFeed};
 ghost use Rattle.batch_wire.specs.EventLine.{is_comment};
@@ -49,7 +49,14 @@ fn left_behind<'a>(line: &[u8], due: &'a [u8]) -> Option<&'a [u8]>
     if is_comment(line) {
         return Some(due);
     }
-    due.strip_prefix(line)?.strip_prefix(b"\n")
+    behind(behind(due, line)?, b"\n")
+}
+
+/// What stands in the text behind this front.
+fn behind<'a>(text: &'a [u8], front: &[u8]) -> Option<&'a [u8]>
+    ensures { MatchOption result ((rest : List ℕ) → text.now ≢ front.now ++ rest) (λ rest. text.now ≡ front.now ++ rest.now) }
+{
+    text.strip_prefix(front)
 }
 
 fn is_comment(line: &[u8]) -> bool
