@@ -1,12 +1,12 @@
 //! Audits: a record is compared with what the machine tells of the lines that were sent.
 #![tactic(auto)]
 
-mod audit;
+mod auditing;
 mod comparing;
 mod finding;
 mod rows;
 mod wants;
 
-pub use audit::audit;
+pub use auditing::audit;
 pub use finding::{AuditFault, Finding};
 pub use rows::audit_rows;

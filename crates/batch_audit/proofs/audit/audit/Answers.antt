@@ -1,2 +1,0 @@
-use Rattle.batch_audit.proofs.Audited.{finds_of_input}
-use Rattle.batch_audit.proofs.audit.audit.Goals as goal
