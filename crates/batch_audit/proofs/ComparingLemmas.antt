@@ -1,6 +1,6 @@
 -- How a record is compared line by line.
 use Rattle.std.proofs.Common.{◌≡◌, ℕ, ◌+◌, ◌-◌, ◌^◌, Bool, true, false, eqb, List, [], ◌∷◌, ◌++◌, Option, Some, None, cond, flat_map, length, min, take, drop, refl, sym, ap, subst, ◌∙◌, append_assoc, append-nil, inl, inr, arith}
-use Rattle.std.specs.Prelude.{◌≢◌, ◌⊎◌, MatchOption}
+use Rattle.std.specs.Prelude.{◌==◌, ◌≢◌, ◌⊎◌, MatchOption}
 use Rattle.std.specs.Borrow.{Bor}
 use Rattle.std.proofs.lemmas.Grind.{flat_map-append}
 use Rattle.std.proofs.lemmas.List.{append_cancel_left, drop_more, length-append, take-append-drop, take_more}
@@ -48,6 +48,13 @@ other_line line due is other = if_told false line due (λ l. BeginsText l due �
 pub other_end : (line due more : List ℕ) → is_comment line ≡ false → due ≡ line ++ more → ((rest : List ℕ) → more ≢ (10 ∷ []) ++ rest) → BeginsText (told_line line) due → ⊥
 other_end line due more is e other = if_told false line due (λ l. BeginsText l due → ⊥) is
     (λ begins. other begins.rest (append_cancel_left line more (10 ∷ begins.rest) (sym e ∙ begins.splits ∙ fed line begins.rest)))
+
+-- what is due behind a line that is no comment
+pub behind_line : (line due more : List ℕ) (o : Option (Bor (List ℕ))) → is_comment line ≡ false → due ≡ line ++ more
+    → MatchOption o ((rest : List ℕ) → more ≢ (10 ∷ []) ++ rest) (λ rest. more ≡ (10 ∷ []) ++ rest.now)
+    → MatchOption o (BeginsText (told_line line) due → ⊥) (λ left. due ≡ told_line line ++ left.now)
+behind_line line due more None is e other = other_end line due more is e other
+behind_line line due more (Some left) is e f = line_is_due line due more left.now is e f
 
 -- Lines more
 
@@ -106,10 +113,19 @@ compared_other text due rest left count number at before here other shows is =
     (differs_at text due rest left count number at before here other (subst ShowsNoWant whole shows) is)
     (λ none. absurd (omega (arith, ap length none, length-slice_split is_end (drop (at + 1) rest))))
 
-pub compared_all : (text due rest left : List ℕ) (count : ℕ) → IsCompared text due rest left count → rest ≡ [] → left ≡ [] → Compares text due Agrees
+nothing_left : (l : List ℕ) → (length l == 0) ≡ true → l ≡ []
+nothing_left [] is = refl
+nothing_left (x ∷ l) is = absurd cc
+
+pub something_left : (l : List ℕ) → (length l == 0) ≡ false → l ≢ []
+something_left [] no is = cc
+something_left (x ∷ l) no is = cc
+
+pub compared_all : (text due rest left : List ℕ) (count : ℕ) → IsCompared text due rest left count → (length rest == 0) ≡ true → (length left == 0) ≡ true
+    → Compares text due Agrees
 compared_all text due rest left count before ended all = agrees before.lines
-    (before.read ∙ ap (λ l. before.lines ++ lines_of l) ended)
-    (before.told ∙ ap (λ l. told_text before.lines ++ l) all ∙ append-nil (told_text before.lines))
+    (before.read ∙ ap (λ l. before.lines ++ lines_of l) (nothing_left rest ended))
+    (before.told ∙ ap (λ l. told_text before.lines ++ l) (nothing_left left all) ∙ append-nil (told_text before.lines))
 
 pub compared_more : (text due rest left : List ℕ) (count number : ℕ) → IsCompared text due rest left count → HasNoFeed rest
     → (rest ≢ []) ⊎ (left ≢ []) → number ≡ min (count + 1) (2 ^ 64 - 1) → Compares text due (EndsBefore number)

@@ -8,14 +8,14 @@ ghost use Rattle.batch_audit.specs.Comparing.{Compares};
 ghost use Rattle.batch_audit.specs.declared.finding.Finding.TheVariants.{Differs};
 
 use crate::finding::{AuditFault, Finding};
-use crate::wants::shows_want;
+use batch_serve::shows_want;
 use memchr::memchr;
 
 /// Compares a record, without its comments, with the text that is due, line by line.
-pub(crate) fn compare(record: &[u8], due: &[u8]) -> Result<Finding, AuditFault>
-    ensures { IfOk result (Compares record.now due.now) }
+pub(crate) fn compare(text: &[u8], due: &[u8]) -> Result<Finding, AuditFault>
+    ensures { IfOk result (Compares text.now due.now) }
 {
-    let mut rest = record;
+    let mut rest = text;
     let mut left = due;
     let mut count: u64 = 0;
     while let Some(at) = line_feed(rest) {

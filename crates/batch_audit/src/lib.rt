@@ -5,7 +5,6 @@ mod auditing;
 mod comparing;
 mod finding;
 mod rows;
-mod wants;
 
 pub use auditing::audit;
 pub use finding::{AuditFault, Finding};

@@ -1,7 +1,7 @@
 -- trusted: what comes of a request: what is printed, the set that is to be served, or why there is none.
 use Rattle.std.specs.Prelude.{◌≡◌, List, ℕ, [], ◌∷◌}
 use Rattle.batch_verify.specs.ClearedSet.{ClearedSet}
-use Rattle.batch_words.specs.CommandLine.{Judgement, check, draw, verify, Source, demo, documents, Request, judge, serve, tell, plant, explain}
+use Rattle.batch_words.specs.CommandLine.{Judgement, check, draw, verify, Source, demo, documents, Request, judge, serve, tell, audit, plant, explain}
 use Rattle.batch_commands.specs.DemoDocuments.{demo_text}
 use Rattle.batch_commands.specs.Halting.{HaltsCheck, HaltsClearing, HaltsDrawing}
 use Rattle.batch_commands.specs.Reading.{AreCleared, ChecksDocuments, DrawsDocuments, Gives, VerifiesDocuments}
@@ -31,7 +31,7 @@ abbrev pub IsSetOf : Gives → Source → ClearedSet → Type 0
 IsSetOf gives demo set = IsDemoSet set
 IsSetOf gives (documents cell certificate recipes) set = AreCleared gives cell certificate recipes set
 
--- why there is no verdict, no set to be served, or none whose plant is run
+-- why there is no verdict, no set to be served or audited over, or none whose plant is run
 
 abbrev pub HaltsJudgement : Gives → Judgement → Halt → Type 0
 HaltsJudgement gives (check cell recipes) h = HaltsCheck gives cell recipes h
@@ -46,5 +46,6 @@ abbrev pub Halts : Gives → Request → Halt → Type 0
 Halts gives (judge judgement) h = HaltsJudgement gives judgement h
 Halts gives (serve source) h = HaltsSource gives source h
 Halts gives (tell path) h = ⊥
+Halts gives (audit beginning path source) h = HaltsSource gives source h
 Halts gives (plant batches ticks ring) h = HaltsDemo h
 Halts gives (explain texts) h = ⊥
