@@ -5,7 +5,6 @@ ghost use Rattle.batch_audit.specs.Audits.{Finds};
 
 use crate::comparing::compare;
 use crate::finding::{AuditFault, Finding};
-
 use batch_serve::{serve_set, shows_want};
 use batch_verify::Cleared;
 use std::alloc::Global;

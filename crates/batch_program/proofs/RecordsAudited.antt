@@ -97,8 +97,7 @@ true_at gives holds words ends errors beginning path source _ asked (reads other
 true_at gives holds words ends errors beginning path source _ asked (plants _ options _ _ asked2 _ _ _ _) is =
     absurd (plants_no_audit options.batches options.ticks options.ring source beginning path (same_request words _ (audit beginning path source) asked2 asked))
 true_at gives holds words ends errors beginning path source _ asked (audits wide other from set status asked2 is_set told) is =
-    let same = same_request words (audit wide other from) (audit beginning path source) asked2 asked in
-    (
+    let same = same_request words (audit wide other from) (audit beginning path source) asked2 asked in (
       set,
       subst (λ s. IsSetOf gives s set) (same_documents wide beginning other path from source same) is_set,
       subst (λ p. IsFound holds set beginning p ends) (same_path wide beginning other path from source same)

@@ -63,7 +63,9 @@ pub fn run_program<D: Documents + Records, P: PlantRunner, R: Read, W: Write, E:
             set,
             beginning,
             path,
-        } => audit_record(alloc, set, beginning, &path, documents, input, output, errors),
+        } => audit_record(
+            alloc, set, beginning, &path, documents, input, output, errors,
+        ),
         Course::Plants { set, options } => {
             let end = plants.run_plant(alloc, set, options);
             report_of_plant(alloc, options.batches, &end, output, errors)

@@ -1,10 +1,7 @@
 //! Comparing a record with what was sent.
-ghost use Rattle.std.specs.Prelude.{◌≡◌, ◌⊎◌, IfOk, IfSome, string_bytes};
-ghost use Rattle.batch_audit.specs.Audits.{Finds};
+ghost use Rattle.std.specs.Prelude.{◌≡◌, ◌⊎◌, ℕ, List, Option, IfOk, IfSome, string_bytes};
 ghost use Rattle.batch_commands.specs.Running.{IsPrinted, IsUnwritten, fault_status, memory_status};
 ghost use Rattle.batch_program.specs.AuditRuns.{IsAuditTold, finding_status, finding_text};
-ghost use Rattle.batch_program.specs.RecordRuns.{Holds};
-ghost use Rattle.batch_wire.specs.Transcript.{lines_of};
 
 use crate::noted::Noted;
 use crate::program::MAX_READS;
@@ -71,7 +68,8 @@ fn record_at<D: Records>(alloc: Global, path: &str, records: &D) -> io::Result<V
     ensures { IfOk result (λ text. (given : Option (List ℕ)) × D.holds records.now path.now given × IfSome given (λ bytes. text.items ≡ bytes)) }
 {
     let mut text = Vec::new(alloc);
-    records.open(path)?.read_to_end(&mut text)?;
+    let mut record = records.open(path)?;
+    record.read_to_end(&mut text)?;
     Ok(text)
 }
 

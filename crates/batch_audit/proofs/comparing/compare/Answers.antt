@@ -34,7 +34,7 @@ returns c =
     compared_more c.args.text.now c.args.due.now c.loop-at.rest.now c.loop-at.left.now c.loop-at.count c.saturating_add-2.result c.loop-at.invariant.compared
     c.in_default.ensures
     (elim c.else-is_empty.branch [
-      else-is_empty-via-then-is_empty+else-is_empty-2 w ↦ inr (something_left c.loop-at.left.now (sym w.is_empty-then-is_empty.ensures ∙ w.if-is_empty-2.false))
+      | else-is_empty-via-then-is_empty+else-is_empty-2 w ↦ inr (something_left c.loop-at.left.now (sym w.is_empty-then-is_empty.ensures ∙ w.if-is_empty-2.false))
       | else-is_empty-via-else-is_empty w ↦ inl (something_left c.loop-at.rest.now (sym c.is_empty.ensures ∙ w.if-is_empty.false))
     ])
     c.saturating_add-2.ensures

@@ -4,9 +4,9 @@ use Rattle.batch_words.proofs.line.audit.Goals as goal
 
 pub returns : goal.returns
 returns c =
-    let named = with_texts c.new.result c.about.result c.about.ensures c.after_help.ensures c.new.ensures.app c.new.ensures.local in
-    let record = with_arg c.in_ok-arg.ensures c.word.ensures.rule c.word.ensures.local named in
-    let cell = with_arg c.in_ok-arg-2.ensures c.word-2.ensures.rule c.word-2.ensures.local record in
+    let bare = with_texts c.new.result c.about.result c.about.ensures c.after_help.ensures c.new.ensures.app c.new.ensures.local in
+    let path = with_arg c.in_ok-arg.ensures c.word.ensures.rule c.word.ensures.local bare in
+    let cell = with_arg c.in_ok-arg-2.ensures c.word-2.ensures.rule c.word-2.ensures.local path in
     let certificate = with_arg c.in_ok-arg-3.ensures c.word-3.ensures.rule c.word-3.ensures.local cell in
     let recipes = with_arg c.in_ok-arg-4.ensures c.several.ensures.rule c.several.ensures.local certificate in
     let beginning = with_arg c.in_ok-arg-5.ensures c.flag.ensures.rule c.flag.ensures.local recipes in
