@@ -1,9 +1,10 @@
 -- How a record is compared line by line.
-use Rattle.std.proofs.Common.{◌≡◌, ℕ, ◌+◌, ◌-◌, ◌^◌, Bool, true, false, eqb, List, [], ◌∷◌, ◌++◌, Option, Some, None, cond, flat_map, length, min, take, drop, refl, sym, ap, subst, ◌∙◌, append_assoc, append-nil, inl, inr, arith}
+use Rattle.std.proofs.Common.{◌≡◌, ◌≤◌, ℕ, ◌+◌, ◌-◌, ◌^◌, Bool, true, false, eqb, List, [], ◌∷◌, ◌++◌, Option, Some, None, cond, count_by, flat_map, length, min, take, drop, refl, sym, ap, subst, ◌∙◌, append_assoc, append-nil, inl, inr, arith}
 use Rattle.std.specs.Prelude.{◌==◌, ◌≢◌, ◌⊎◌, MatchOption}
 use Rattle.std.specs.Borrow.{Bor}
 use Rattle.std.proofs.lemmas.Grind.{flat_map-append}
-use Rattle.std.proofs.lemmas.List.{append_cancel_left, drop_more, length-append, take-append-drop, take_more}
+use Rattle.std.proofs.lemmas.Bool.{eqb-true}
+use Rattle.std.proofs.lemmas.List.{append_cancel_left, drop_more, length-append, length-drop, nil_from_length, take-append-drop, take_more, take_rest}
 use Rattle.std.proofs.lemmas.List.Splits.{length-slice_split, slice_split_at, slice_split_none}
 use Rattle.batch_wire.specs.EventLine.{is_comment}
 use Rattle.batch_wire.specs.Transcript.{lines_of}
@@ -14,7 +15,7 @@ use Rattle.batch_audit.specs.Comparing.{Compares, IsCompared, agrees, differs, e
 use Rattle.batch_audit.specs.declared.finding.Finding.{Finding}
 use Rattle.batch_audit.specs.declared.finding.Finding.TheVariants.{Agrees, Differs, EndsBefore}
 
-is_end : ℕ → Bool
+abbrev is_end : ℕ → Bool
 is_end b = eqb b 10
 
 -- A line
@@ -68,20 +69,28 @@ counted_more : (count length : ℕ) → count ≡ min length (2 ^ 64 - 1) → mi
 counted_more count length is = omega (arith, is)
 
 pub line_compared : (text due rest left more : List ℕ) (count later at : ℕ) → IsCompared text due rest left count → EndsLine at rest
-    → left ≡ told_line (take at rest) ++ more → later ≡ min (count + 1) (2 ^ 64 - 1) → IsCompared text due (drop (at + 1) rest) more later
-line_compared text due rest left more count later at before here told is = record {
-  lines = before.lines ++ take at rest ∷ [];
-  read = before.read ∙ ap (λ l. before.lines ++ l) (lines_apart rest at here) ∙ sym (append_assoc before.lines (take at rest ∷ []) (lines_of (drop (at + 1) rest)));
-  told = before.told ∙ ap (λ l. told_text before.lines ++ l) told ∙ sym (append_assoc (told_text before.lines) (told_line (take at rest)) more)
-      ∙ ap (λ l. l ++ more) (sym (told_more before.lines (take at rest)));
-  counted = is ∙ counted_more count (length before.lines) before.counted ∙ ap (λ n. min n (2 ^ 64 - 1)) (sym (length-append before.lines (take at rest ∷ [])));
-}
+    → left ≡ told_line (take at rest) ++ more → later ≡ min (count + 1) (2 ^ 64 - 1)
+    → IsCompared text due (take (length rest - (at + 1)) (drop (at + 1) rest)) more later
+line_compared text due rest left more count later at before here told is =
+    subst (λ l. IsCompared text due l more later) (sym (take_rest rest (at + 1))) (record {
+      lines = before.lines ++ take at rest ∷ [];
+      read = before.read ∙ ap (λ l. before.lines ++ l) (lines_apart rest at here) ∙ sym (append_assoc before.lines (take at rest ∷ []) (lines_of (drop (at + 1) rest)));
+      told = before.told ∙ ap (λ l. told_text before.lines ++ l) told ∙ sym (append_assoc (told_text before.lines) (told_line (take at rest)) more)
+          ∙ ap (λ l. l ++ more) (sym (told_more before.lines (take at rest)));
+      counted = is ∙ counted_more count (length before.lines) before.counted ∙ ap (λ n. min n (2 ^ 64 - 1)) (sym (length-append before.lines (take at rest ∷ [])));
+    })
 
 -- the last of the lines, which no line feed ends
 last_of : (text : List ℕ) → HasNoFeed text → lines_of text ≡ text ∷ []
 last_of text none = slice_split_none (λ b. eqb b 10) text none
 
 -- What is found
+
+-- there is a last line, which may be empty
+some_lines : (text : List ℕ) → lines_of text ≢ []
+some_lines text none =
+    let counted : length (lines_of text) ≡ count_by is_end text + 1 = length-slice_split is_end text in
+    absurd (omega (arith, ap length none, counted))
 
 -- lines, of which the last may be empty, have a last
 has_last : (lines : List (List ℕ)) (P : Type 0) → ((front : List (List ℕ)) (last : List ℕ) → lines ≡ front ++ last ∷ [] → P) → (lines ≡ [] → ⊥) → P
@@ -111,21 +120,25 @@ compared_other text due rest left count number at before here other shows is =
     let whole : take (at + 1) rest ≡ take at rest ++ 10 ∷ [] = take_more rest at 0 here.within ∙ ap (λ b. take at rest ++ b ∷ []) here.feed in
     has_last (lines_of (drop (at + 1) rest)) (Compares text due (Differs number))
     (differs_at text due rest left count number at before here other (subst ShowsNoWant whole shows) is)
-    (λ none. absurd (omega (arith, ap length none, length-slice_split is_end (drop (at + 1) rest))))
+    (some_lines (drop (at + 1) rest))
 
 nothing_left : (l : List ℕ) → (length l == 0) ≡ true → l ≡ []
-nothing_left [] is = refl
-nothing_left (x ∷ l) is = absurd cc
+nothing_left l is = nil_from_length l (eqb-true (length l) 0 is)
 
 pub something_left : (l : List ℕ) → (length l == 0) ≡ false → l ≢ []
-something_left [] no is = cc
-something_left (x ∷ l) no is = cc
+something_left l some is =
+    let t : true ≡ false = subst (λ k. (length k == 0) ≡ false) is some in
+    cc t
 
 pub compared_all : (text due rest left : List ℕ) (count : ℕ) → IsCompared text due rest left count → (length rest == 0) ≡ true → (length left == 0) ≡ true
     → Compares text due Agrees
 compared_all text due rest left count before ended all = agrees before.lines
     (before.read ∙ ap (λ l. before.lines ++ lines_of l) (nothing_left rest ended))
     (before.told ∙ ap (λ l. told_text before.lines ++ l) (nothing_left left all) ∙ append-nil (told_text before.lines))
+
+-- what is left is no longer
+pub left_shorter : (rest : List ℕ) (at most : ℕ) → length rest ≤ most → length (take (length rest - (at + 1)) (drop (at + 1) rest)) ≤ most
+left_shorter rest at most within = subst (λ l. length l ≤ most) (sym (take_rest rest (at + 1))) (omega (arith, within, length-drop (at + 1) rest))
 
 pub compared_more : (text due rest left : List ℕ) (count number : ℕ) → IsCompared text due rest left count → HasNoFeed rest
     → (rest ≢ []) ⊎ (left ≢ []) → number ≡ min (count + 1) (2 ^ 64 - 1) → Compares text due (EndsBefore number)

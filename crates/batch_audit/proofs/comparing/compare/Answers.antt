@@ -1,8 +1,7 @@
-use Rattle.std.proofs.Common.{◌+◌, inl, inr, sym, subst, arith, ◌∙◌}
-use Rattle.std.proofs.lemmas.List.{length-drop}
+use Rattle.std.proofs.Common.{inl, inr, length, sym, subst, arith, ◌∙◌}
 use Rattle.std.proofs.lemmas.Result.{IfOk-weaker}
 use Rattle.batch_audit.specs.Comparing.{Compares}
-use Rattle.batch_audit.proofs.ComparingLemmas.{compared_all, compared_more, compared_other, line_compared, nothing_compared, something_left}
+use Rattle.batch_audit.proofs.ComparingLemmas.{compared_all, compared_more, compared_other, left_shorter, line_compared, nothing_compared, something_left}
 use Rattle.batch_audit.proofs.comparing.compare.Goals as goal
 use Rattle.batch_audit.proofs.comparing.compare.Goals.{else-is_empty-via-then-is_empty+else-is_empty-2, else-is_empty-via-else-is_empty}
 
@@ -13,7 +12,7 @@ pub loop-at-preserved : goal.loop-at-preserved
 loop-at-preserved c = record {
   compared = line_compared c.args.text.now c.args.due.now c.loop-at.rest.now c.loop-at.left.now c.in-Some-left_behind.more.now c.loop-at.count
       c.saturating_add-count.result c.in-Some.at c.loop-at.invariant.compared c.in-Some.ensures c.in-Some-left_behind.ensures c.saturating_add-count.ensures;
-  within = omega (arith, c.loop-at.invariant.within, length-drop (c.in-Some.at + 1) c.loop-at.rest.now);
+  within = left_shorter c.loop-at.rest.now c.in-Some.at (length c.args.text.now) c.loop-at.invariant.within;
 }
 
 pub returns-in_default-left_behind : goal.returns-in_default-left_behind
