@@ -17,7 +17,7 @@ pub enum Finding {
 #[derive(Clone, Copy, Debug, PartialEq, Eq, Error)]
 pub enum AuditFault {
     /// The line with this number ends as a refusal for want of memory does. What comes of such a record isn't judged.
-    #[error("line {0} says that there was no memory")]
+    #[error("line {0} of the record says that there was no memory")]
     Wants(u64),
     /// What was sent can't be read.
     #[error("the input can't be read")]
