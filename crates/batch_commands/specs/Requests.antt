@@ -1,7 +1,7 @@
 -- trusted: what comes of a request: what is printed, the set that is to be served, or why there is none.
 use Rattle.std.specs.Prelude.{◌≡◌, List, ℕ, [], ◌∷◌}
 use Rattle.batch_verify.specs.ClearedSet.{ClearedSet}
-use Rattle.batch_words.specs.CommandLine.{Judgement, check, draw, verify, Source, demo, documents, Request, judge, serve, tell, plant, explain}
+use Rattle.batch_words.specs.CommandLine.{Judgement, check, draw, verify, Source, demo, documents, Request, judge, serve, tell, audit, plant, explain}
 use Rattle.batch_commands.specs.DemoDocuments.{demo_text}
 use Rattle.batch_commands.specs.Halting.{HaltsCheck, HaltsClearing, HaltsDrawing, HaltsVerifying}
 use Rattle.batch_commands.specs.Reading.{AreCleared, ChecksDocuments, DrawsDocuments, Gives, VerifiesDocuments, Warns}
@@ -31,7 +31,7 @@ abbrev pub IsSetOf : Gives → Source → ClearedSet → Type 0
 IsSetOf gives demo set = IsDemoSet set
 IsSetOf gives (documents cell certificate recipes) set = AreCleared gives cell certificate recipes set
 
--- why there is no verdict, no set to be served, or none whose plant is run
+-- why there is no verdict, no set to be served or audited over, or none whose plant is run
 
 abbrev pub HaltsJudgement : Gives → Warns → Judgement → Halt → Type 0
 HaltsJudgement gives warns (check cell recipes) h = HaltsCheck gives warns cell recipes h
@@ -46,6 +46,7 @@ HaltsSource gives (documents cell certificate recipes) h = HaltsClearing gives c
 abbrev pub Halts : Gives → Warns → Request → Halt → Type 0
 Halts gives warns (judge judgement) h = HaltsJudgement gives warns judgement h
 Halts gives warns (serve source) h = HaltsSource gives source h × warns []
+Halts gives warns (audit beginning path source) h = HaltsSource gives source h × warns []
 Halts gives warns (tell path) h = ⊥
 Halts gives warns (plant batches ticks ring) h = HaltsDemo h × warns []
 Halts gives warns (explain texts) h = ⊥

@@ -46,8 +46,8 @@ const UNKNOWN_CODE: &str =
 #[error("the output can't be written: {0}")]
 struct FailedWrite(io::Error);
 
-/// Does what the words ask for: judges documents and tells the verdict, clears the set that is to be served, or names the record
-/// that is to be read.
+/// Does what the words ask for: judges documents and tells the verdict, clears the set that is to be served or over which a record is
+/// to be audited, or names the record that is to be read.
 ///
 /// Verdicts, explanations and help go to the output, and all else to the errors: what a refusal means, in one line, unless the
 /// words ask for quiet, and what failed, in a free text. Where that can't be written the exit status is the same. Without words
@@ -93,6 +93,18 @@ fn run_command<D: Documents, O: Write, E: Write>(
             Err(halt) => Course::Ends(announce(alloc, quiet, &halt, output, errors)),
         },
         Subcommand::Status { path } => Course::Reads { path },
+        Subcommand::Audit {
+            beginning,
+            path,
+            source,
+        } => match clear_source(alloc, documents, &source) {
+            Ok(set) => Course::Audits {
+                set,
+                beginning,
+                path,
+            },
+            Err(halt) => Course::Ends(announce(alloc, quiet, &halt, output, errors)),
+        },
         Subcommand::Plant(options) => match clear_demo(alloc) {
             Ok(set) => Course::Plants { set, options },
             Err(halt) => Course::Ends(announce(alloc, quiet, &halt, output, errors)),
@@ -129,7 +141,7 @@ fn judge<D: Documents, E: Write>(
     }
 }
 
-/// The set that is to be served.
+/// The set that is to be served, or over which a record is to be audited.
 fn clear_source<D: Documents>(
     alloc: Global,
     documents: &D,

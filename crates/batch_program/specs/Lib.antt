@@ -1,3 +1,4 @@
+pub mod AuditRuns
 pub mod PlantRuns
 pub mod PlantWork
 pub mod Programs

@@ -2,7 +2,7 @@
 ghost use Rattle.std.specs.Prelude.{◌≡◌, ◌≤◌, ◌⊎◌, IfOk, IfErr, MatchOption, Some, map, option_map, string_bytes, codes, []};
 ghost use Rattle.std.specs.Str.Parse.{digits_value, without_leading_plus};
 ghost use Rattle.clap.specs.Words.{FailsBy, IsUnsignedIn, fault_of, first_of, found_of, kind_of, rows_of, subcommand_of, subcommand_rows_of};
-ghost use Rattle.batch_words.specs.CommandLine.{AreWordsOf, HasOptionsOf, IsFaultOf, IsFaultOfKind, certified_by, checked_by, is_given, named_by, number_given, program_app, request_of, word_of, words_of};
+ghost use Rattle.batch_words.specs.CommandLine.{AreWordsOf, HasOptionsOf, IsFaultOf, IsFaultOfKind, audited_by, certified_by, checked_by, is_given, named_by, number_given, program_app, request_of, word_of, words_of};
 
 use crate::command::{CommandFault, CommandWords, Judgement, Source, Subcommand};
 use crate::line::program;
@@ -62,10 +62,28 @@ fn command_of(alloc: Global, name: &str, words: &ArgMatches<'_>) -> Result<Subco
         let path = optional(alloc, words, "RECORD")?;
         return Ok(Subcommand::Status { path });
     }
+    if name == "audit" {
+        return audit_command(alloc, words);
+    }
     if name == "check" {
         return check_command(alloc, words);
     }
     certified_command(alloc, name, words)
+}
+
+/// `audit`, of a record that has to be whole or of one that may end too soon.
+fn audit_command(alloc: Global, words: &ArgMatches<'_>) -> Result<Subcommand, AllocError>
+    ensures { IfOk result (λ command. request_of command ≡ audited_by (rows_of (found_of words.now))) }
+{
+    Ok(Subcommand::Audit {
+        beginning: flag(words, "beginning"),
+        path: word(alloc, words, "RECORD")?,
+        source: Source::Documents {
+            cell: word(alloc, words, "CELL")?,
+            certificate: word(alloc, words, "CERT")?,
+            recipes: several(alloc, words, "RECIPE")?,
+        },
+    })
 }
 
 /// `check`, with a drawing or without one.

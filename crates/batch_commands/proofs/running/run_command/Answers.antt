@@ -1,7 +1,7 @@
 use Rattle.std.proofs.Common.{map, refl, string_bytes}
 use Rattle.std.proofs.KnownBytes.{Keeps-refl}
 use Rattle.batch_words.specs.CommandLine.{judgement_of, source_of}
-use Rattle.batch_commands.specs.Running.{explains, halts, judges, plants, reads, serves}
+use Rattle.batch_commands.specs.Running.{audits, explains, halts, judges, plants, reads, serves}
 use Rattle.batch_commands.proofs.Warned.{silent}
 use Rattle.batch_commands.proofs.running.run_command.Goals as goal
 
@@ -27,6 +27,18 @@ returns-in-Serve g c =
 
 pub returns-in-Status : goal.returns-in-Status
 returns-in-Status g c = rw c.in-Status.is (reads c.in-Status.path refl (Keeps-refl _) (Keeps-refl _))
+
+pub returns-in-Ok-clear_source-2 : goal.returns-in-Ok-clear_source-2
+returns-in-Ok-clear_source-2 g c =
+    rw c.in-Audit.is
+    (audits c.in-Audit.beginning c.in-Audit.path (source_of c.in-Audit.source) c.in-Ok-clear_source-2.set refl
+    (rw c.in-Audit.source-is at c.in-Ok-clear_source-2.ensures.set) (Keeps-refl _) (Keeps-refl _))
+
+pub returns-in-Audit : goal.returns-in-Audit
+returns-in-Audit g c =
+    rw c.in-Audit.is
+    (halts c.in-Err-clear_source-2.halt _ _ (rw c.in-Audit.source-is at c.in-Err-clear_source-2.ensures.halted, silent _ _)
+    c.announce-in-Err-clear_source-2.ensures)
 
 pub returns-in-Ok-clear_demo : goal.returns-in-Ok-clear_demo
 returns-in-Ok-clear_demo g c =
