@@ -45,7 +45,7 @@ pub verdict_more : (gives : Gives) (these those : Warns) (judgement : Judgement)
 verdict_more gives these those (check cell paths) text follows told = so_more gives these those cell paths _ follows told
 verdict_more gives these those (draw cell paths) text follows told = so_more gives these those cell paths _ follows told
 verdict_more gives these those (verify cell certificate paths) text follows (is, (set, cleared, warned)) =
-    (is, set, cleared, follows _ warned)
+    (is, (set, cleared, follows _ warned))
 
 -- documents that were read and warned of make a cleared set
 pub verified : (gives : Gives) (warns : Warns) (cell certificate : List ℕ) (paths : List (List ℕ)) (c : Cell) (ranks : List Rank) (rs : List Recipe) (set : ClearedSet)
