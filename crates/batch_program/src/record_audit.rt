@@ -10,6 +10,7 @@ use crate::records::Records;
 use batch_audit::{AuditFault, Finding, audit};
 use batch_commands::{FILE_FAULT, NO_MEMORY, OUT_OF_MEMORY, SUCCESS, complain, print};
 use batch_verify::Cleared;
+use batch_words::AuditWords;
 use std::alloc::{AllocError, Global};
 use std::io;
 use std::io::{ErrorKind, Read, Write};
@@ -26,22 +27,21 @@ struct FailedAudit {
     reason: io::Error,
 }
 
-/// Tells whether the record at the path is that of the event lines of the input over the set, and gives the exit status. A record that
-/// ends too soon is accepted where `beginning` stands.
+/// Tells whether the record that the words name is that of the event lines of the input over the set, and gives the exit status. A record that
+/// ends too soon is accepted where they say so.
 ///
 /// The record is kept in memory, and so is what is due. A record in which the first line that differs says that there was no memory isn't
 /// judged: that is told on the errors, with the status of want of memory.
 pub fn audit_record<D: Records, R: Read, W: Write, E: Write>(
     alloc: Global,
     set: Cleared,
-    beginning: bool,
-    path: &str,
+    words: &AuditWords,
     records: &D,
     input: &mut Noted<R>,
     output: &mut W,
     errors: &mut E,
 ) -> u8
-    ensures { IsAuditTold (D.holds records.now) set beginning path.now
+    ensures { IsAuditTold (D.holds records.now) set words.now.beginning (string_bytes words.now.path)
         (record {
           unread = R.remaining input.old.stream;
           left = R.remaining input.new.stream;
@@ -50,15 +50,15 @@ pub fn audit_record<D: Records, R: Read, W: Write, E: Write>(
         })
         (record { before = E.contents errors.old; after = E.contents errors.new }) result }
 {
-    let text = match record_at(alloc, path, records) {
+    let text = match record_at(alloc, &words.path, records) {
         Ok(text) => text,
         Err(reason) if reason.kind() == ErrorKind::OutOfMemory => {
             return complain(errors, OUT_OF_MEMORY, NO_MEMORY);
         }
-        Err(reason) => return complain_unopened(alloc, path, reason, errors),
+        Err(reason) => return complain_unopened(alloc, &words.path, reason, errors),
     };
     match audit(alloc, set, input, &text, MAX_READS) {
-        Ok(finding) => tell_finding(alloc, beginning, finding, output, errors),
+        Ok(finding) => tell_finding(alloc, words.beginning, finding, output, errors),
         Err(fault) => complain_unfound(fault, input.failure(), errors),
     }
 }
