@@ -68,7 +68,7 @@ done_success gives request quiet output errors _ (halts h status warned _ told) 
     absurd (no_success quiet output (record { before = warned; after = errors.after }) h status told cc)
 done_success gives request quiet output errors _ (serves _ _ _ _ _ _) is = absurd cc
 done_success gives request quiet output errors _ (reads _ _ _ _) is = absurd cc
-done_success gives request quiet output errors _ (audits _ _ _ _ _ _ _ _) is = absurd cc
+done_success gives request quiet output errors _ (audits _ _ _ _ _ _) is = absurd cc
 done_success gives request quiet output errors _ (plants _ _ _ _ _ _) is = absurd cc
 
 told_success : (gives : Gives) (words : List Text) (output errors : Stream) (request : Request) (course : Course)
@@ -100,7 +100,7 @@ done_serving gives request quiet output errors set hushed _ (judges _ _ _ _ _ _ 
 done_serving gives request quiet output errors set hushed _ (explains _ _ _ _) is = absurd cc
 done_serving gives request quiet output errors set hushed _ (halts _ _ _ _ _) is = absurd cc
 done_serving gives request quiet output errors set hushed _ (reads _ _ _ _) is = absurd cc
-done_serving gives request quiet output errors set hushed _ (audits _ _ _ _ _ _ _ _) is = absurd cc
+done_serving gives request quiet output errors set hushed _ (audits _ _ _ _ _ _) is = absurd cc
 done_serving gives request quiet output errors set hushed _ (plants _ _ _ _ _ _) is = absurd cc
 
 served_set : (gives : Gives) (words : List Text) (output errors : Stream) (request : Request) (set : ClearedSet) (quiet : Bool) (course : Course)
@@ -127,7 +127,7 @@ demo_done gives request quiet output errors _ demo_asked (halts h status warned 
 demo_done gives request quiet output errors _ demo_asked (judges _ _ _ _ asked _ _) = absurd cc
 demo_done gives request quiet output errors _ demo_asked (explains _ _ asked _) = absurd cc
 demo_done gives request quiet output errors _ demo_asked (reads _ asked _ _) = absurd cc
-demo_done gives request quiet output errors _ demo_asked (audits _ _ _ _ asked _ _ _) = absurd cc
+demo_done gives request quiet output errors _ demo_asked (audits _ _ asked _ _ _) = absurd cc
 demo_done gives request quiet output errors _ demo_asked (plants _ _ asked _ _ _) = absurd cc
 
 pub no_command_serves : (gives : Gives) → NoCommandServes gives

@@ -7,12 +7,13 @@ use Rattle.clap.specs.Walk.{Text}
 use Rattle.clap.specs.Words.{fault_of, subcommand_of}
 use Rattle.clap.specs.declared.error.kind.ErrorKind.{ErrorKind}
 use Rattle.batch_explain.specs.Explaining.{HaveNoCode, Tells}
-use Rattle.batch_words.specs.CommandLine.{IsShown, Judgement, Request, Source, asked_by, asks_quiet, audit, explain, judge, plant, program_app, serve, tell}
+use Rattle.batch_words.specs.CommandLine.{IsShown, Judgement, Request, Source, asked_by, asks_quiet, audit, explain, judge, plant, program_app, serve, source_of, tell}
 use Rattle.batch_commands.specs.Judging.{status_of}
 use Rattle.batch_commands.specs.Reading.{Gives}
 use Rattle.batch_commands.specs.Requests.{Halts, IsDemoSet, IsSetOf, IsVerdict}
 use Rattle.batch_commands.specs.Saying.{IsSaid, IsWarned}
 use Rattle.batch_verify.specs.ClearedSet.{ClearedSet}
+use Rattle.batch_words.specs.declared.command.AuditWords.{AuditWords}
 use Rattle.batch_words.specs.declared.plant_options.PlantOptions.{PlantOptions}
 use Rattle.batch_commands.specs.declared.course.Course.{Course}
 use Rattle.batch_commands.specs.declared.course.Course.TheVariants.{Ends, Serves, Reads, Audits, Plants}
@@ -109,9 +110,9 @@ pub data IsDone (gives : Gives) (request : Request) (quiet : Bool) (output error
   reads : (path : Option (String Global))
       → request ≡ tell (option_map string_bytes path) → IsUnwritten output → IsUnwritten errors
       → IsDone gives request quiet output errors (Reads path)
-  audits : (beginning : Bool) (path : String Global) (source : Source) (set : ClearedSet)
-      → request ≡ audit beginning (string_bytes path) source → IsSetOf gives source set → IsUnwritten output → IsUnwritten errors
-      → IsDone gives request quiet output errors (Audits set beginning path)
+  audits : (asked : AuditWords) (set : ClearedSet)
+      → request ≡ audit asked.beginning (string_bytes asked.path) (source_of asked.source) → IsSetOf gives (source_of asked.source) set
+      → IsUnwritten output → IsUnwritten errors → IsDone gives request quiet output errors (Audits set asked)
   plants : (set : ClearedSet) (options : PlantOptions)
       → request ≡ plant options.batches options.ticks options.ring → IsDemoSet set → IsUnwritten output → IsUnwritten errors
       → IsDone gives request quiet output errors (Plants set options)

@@ -1,6 +1,6 @@
 //! What the words of the program come to.
 use batch_verify::Cleared;
-use batch_words::PlantOptions;
+use batch_words::{AuditWords, PlantOptions};
 
 /// What the words of the program come to.
 #[derive(Drop)]
@@ -8,24 +8,11 @@ pub enum Course {
     /// All is said, and the program ends with this exit status.
     Ends(u8),
     /// The program is to serve event lines over this set, and to say nothing beside the record where quiet is asked for.
-    Serves {
-        set: Cleared,
-        quiet: bool,
-    },
+    Serves { set: Cleared, quiet: bool },
     /// The program is to tell what a record says: the one at this path, or the one on its input.
-    Reads {
-        path: Option<String>,
-    },
-    /// The program is to compare the record at this path with what event lines come to over this set, and to accept one that ends
-    /// too soon where `beginning` stands.
-    Audits {
-        set: Cleared,
-        beginning: bool,
-        path: String,
-    },
+    Reads { path: Option<String> },
+    /// The program is to compare the record that the words name with what event lines come to over this set.
+    Audits { set: Cleared, audit: AuditWords },
     /// The program is to run the plant of this set, which is that of the demo.
-    Plants {
-        set: Cleared,
-        options: PlantOptions,
-    },
+    Plants { set: Cleared, options: PlantOptions },
 }

@@ -93,16 +93,8 @@ fn run_command<D: Documents, O: Write, E: Write>(
             Err(halt) => Course::Ends(announce(alloc, quiet, &halt, output, errors)),
         },
         Subcommand::Status { path } => Course::Reads { path },
-        Subcommand::Audit {
-            beginning,
-            path,
-            source,
-        } => match clear_source(alloc, documents, &source) {
-            Ok(set) => Course::Audits {
-                set,
-                beginning,
-                path,
-            },
+        Subcommand::Audit(audit) => match clear_source(alloc, documents, &audit.source) {
+            Ok(set) => Course::Audits { set, audit },
             Err(halt) => Course::Ends(announce(alloc, quiet, &halt, output, errors)),
         },
         Subcommand::Plant(options) => match clear_demo(alloc) {

@@ -1,5 +1,5 @@
 -- What an audit that accepts says of the record.
-use Rattle.std.proofs.Common.{◌≡◌, ℕ, Bool, true, false, List, [], Option, Some, None, inl, inr, refl, sym, subst, append-nil, ◌∙◌}
+use Rattle.std.proofs.Common.{◌≡◌, ◌⊎◌, ◌++◌, ℕ, Bool, true, false, List, [], Option, Some, None, inl, inr, refl, sym, subst, append-nil, ◌∙◌}
 use Rattle.std.specs.Prelude.{IfSome}
 use Rattle.std.specs.Io.KnownBytes.{Appends}
 use Rattle.clap.specs.Walk.{Text}
@@ -12,14 +12,43 @@ use Rattle.batch_audit.specs.declared.finding.Finding.{Finding}
 use Rattle.batch_audit.specs.declared.finding.Finding.TheVariants.{Agrees, Differs, EndsBefore}
 use Rattle.batch_commands.specs.Reading.{Gives}
 use Rattle.batch_commands.specs.Requests.{IsSetOf}
-use Rattle.batch_commands.specs.Running.{AskFor, Stream}
+use Rattle.batch_commands.specs.Running.{AskFor, IsPrinted, IsUnwritten, Stream, memory_status}
 use Rattle.batch_commands.specs.VerdictTexts.{accepted_text}
 use Rattle.batch_commands.proofs.Successes.{same_request}
 use Rattle.batch_serve.specs.Serves as serving
 use Rattle.batch_program.specs.AuditRuns.{IsAccepted, IsAuditTold, finding_status, finding_text, finds, stops}
 use Rattle.batch_program.specs.Programs.{AuditsAreTrue, IsProgramRun, tells, serves, reads, audits, plants}
-use Rattle.batch_program.specs.RecordRuns.{Holds, output_of}
+use Rattle.batch_program.specs.RecordRuns.{Holds, IsUntold, output_of}
+use Rattle.batch_program.specs.Telling.{IsFindingTold}
 use Rattle.batch_program.proofs.Served.{plants_no_audit, serves_no_audit, told_at_once}
+
+-- what was read
+
+pub read_all : (given : Option (List ℕ)) (before after : List ℕ) → before ≡ [] → IfSome given (λ xs. after ≡ before ++ xs) → IfSome given (λ xs. after ≡ xs)
+read_all None before after none is = tt
+read_all (Some xs) before after none is = rw none at is
+
+found_there : (set : ClearedSet) (finding : Finding) (given unread : Option (List ℕ)) (text : List ℕ) → IfSome given (λ bytes. text ≡ bytes)
+    → IfSome unread (λ input. Finds set (lines_of input) text finding)
+    → IfSome given (λ bytes. IfSome unread (λ input. Finds set (lines_of input) bytes finding))
+found_there set finding None unread text read found = tt
+found_there set finding (Some bytes) unread text read found = rw read at found
+
+-- what is found of the text at the path
+pub told_at : (holds : Holds) (set : ClearedSet) (beginning : Bool) (path text : List ℕ) (ends : serving.Ends) (errors : Stream) (status : ℕ)
+    → (given : Option (List ℕ)) × holds path given × IfSome given (λ bytes. text ≡ bytes)
+    → IsFindingTold set beginning ends.unread text (output_of ends) errors status ⊎ IsUntold (output_of ends) status
+    → IsAuditTold holds set beginning path ends errors status
+told_at holds set beginning path text ends errors status (given, held, read) (inl told) =
+    finds given told.finding held (found_there set told.finding given ends.unread text read told.found) told.printed
+told_at holds set beginning path text ends errors status read (inr untold) = stops untold
+
+pub finding_told : (set : ClearedSet) (beginning : Bool) (unread : Option (List ℕ)) (text : List ℕ) (output errors : Stream) (status : ℕ) (finding : Finding)
+    → IfSome unread (λ input. Finds set (lines_of input) text finding)
+    → IsPrinted output errors (finding_text beginning finding) (finding_status beginning finding) status ⊎ (IsUnwritten output × (status ≡ memory_status))
+    → IsFindingTold set beginning unread text output errors status ⊎ IsUntold output status
+finding_told set beginning unread text output errors status finding found (inl printed) = inl (record { finding = finding; found = found; printed = printed })
+finding_told set beginning unread text output errors status finding found (inr (untouched, memory)) = inr (untouched, inr memory)
 
 -- what is found with status 0
 

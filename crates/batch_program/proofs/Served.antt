@@ -10,7 +10,8 @@ use Rattle.batch_engine.specs.View.{setup}
 use Rattle.batch_wire.specs.Transcript.{lines_of, whole_lines}
 use Rattle.batch_wire.specs.Written.{AppendsBeginning}
 use Rattle.batch_serve.specs.Safe.{BeginsSafely, WritesSafely, WritesWholeSafely}
-use Rattle.batch_words.specs.CommandLine.{Request, Source, audit, plant, serve, tell}
+use Rattle.batch_words.specs.CommandLine.{Request, Source, audit, plant, serve, source_of, tell}
+use Rattle.batch_words.specs.declared.command.AuditWords.{AuditWords}
 use Rattle.batch_words.specs.declared.plant_options.PlantOptions.{PlantOptions}
 use Rattle.batch_commands.specs.Reading.{Gives}
 use Rattle.batch_commands.specs.Requests.{IsDemoSet, IsSetOf}
@@ -150,7 +151,7 @@ done_to_plant gives request quiet output errors _ set options (running.plants ot
     (subst (λ (o : PlantOptions). request ≡ plant o.batches o.ticks o.ring) chosen asked, subst IsDemoSet same cleared, kept, silent)
 done_to_plant gives request quiet output errors _ set options (running.serves _ _ _ _ _ _) is = absurd cc
 done_to_plant gives request quiet output errors _ set options (running.reads _ _ _ _) is = absurd cc
-done_to_plant gives request quiet output errors _ set options (running.audits _ _ _ _ _ _ _ _) is = absurd cc
+done_to_plant gives request quiet output errors _ set options (running.audits _ _ _ _ _ _) is = absurd cc
 done_to_plant gives request quiet output errors _ set options (running.halts _ _ _ _ _) is = absurd cc
 done_to_plant gives request quiet output errors _ set options (running.judges _ _ _ _ _ _ _) is = absurd cc
 done_to_plant gives request quiet output errors _ set options (running.explains _ _ _ _) is = absurd cc
@@ -200,7 +201,7 @@ done_to_read gives request quiet output errors _ path (running.reads other asked
     (subst (λ (p : Option (String Global)). request ≡ tell (option_map string_bytes p)) same asked, kept, silent)
 done_to_read gives request quiet output errors _ path (running.serves _ _ _ _ _ _) is = absurd cc
 done_to_read gives request quiet output errors _ path (running.plants _ _ _ _ _ _) is = absurd cc
-done_to_read gives request quiet output errors _ path (running.audits _ _ _ _ _ _ _ _) is = absurd cc
+done_to_read gives request quiet output errors _ path (running.audits _ _ _ _ _ _) is = absurd cc
 done_to_read gives request quiet output errors _ path (running.halts _ _ _ _ _) is = absurd cc
 done_to_read gives request quiet output errors _ path (running.judges _ _ _ _ _ _ _) is = absurd cc
 done_to_read gives request quiet output errors _ path (running.explains _ _ _ _) is = absurd cc
@@ -241,43 +242,33 @@ record_kept holds (Some path) unread left before mid after quiet still loud stat
 -- Audits
 
 -- what is to be audited is the record that the words name, over the set of the documents that they name, and nothing was written
-pub record IsToAudit (gives : Gives) (words : List Text) (output errors : Stream) (set : ClearedSet) (beginning : Bool) (path : Text) : Type 0 where
-  pub source : Source
-  pub asked : AskFor words (audit beginning path source)
-  pub is_set : IsSetOf gives source set
+pub record IsToAudit (gives : Gives) (words : List Text) (output errors : Stream) (set : ClearedSet) (own : AuditWords) : Type 0 where
+  pub asked : AskFor words (audit own.beginning (string_bytes own.path) (source_of own.source))
+  pub is_set : IsSetOf gives (source_of own.source) set
   pub unwritten : Keeps output.before output.after
   pub silent : Keeps errors.before errors.after
 
-done_to_audit : (gives : Gives) (words : List Text) (request : Request) (quiet : Bool) (output errors : Stream) (course : Course) (set : ClearedSet) (beginning : Bool)
-    (path : String Global) → AskFor words request → IsDone gives request quiet output errors course → course ≡ course_of.Audits set beginning path
-    → IsToAudit gives words output errors set beginning (string_bytes path)
-done_to_audit gives words request quiet output errors _ set beginning path asked (running.audits wide other source cleared is_asked is_set kept silent) is =
+done_to_audit : (gives : Gives) (words : List Text) (request : Request) (quiet : Bool) (output errors : Stream) (course : Course) (set : ClearedSet) (own : AuditWords)
+    → AskFor words request → IsDone gives request quiet output errors course → course ≡ course_of.Audits set own → IsToAudit gives words output errors set own
+done_to_audit gives words request quiet output errors _ set own asked (running.audits other cleared is_asked is_set kept silent) is =
     let same : cleared ≡ set = cc in
-    let width : wide ≡ beginning = cc in
-    let named : other ≡ path = cc in
-    record {
-      source = source;
-      asked = subst (λ (p : String Global). AskFor words (audit beginning (string_bytes p) source)) named
-          (subst (λ b. AskFor words (audit b (string_bytes other) source)) width (subst (AskFor words) is_asked asked));
-      is_set = subst (IsSetOf gives source) same is_set;
-      unwritten = kept;
-      silent = silent;
-    }
-done_to_audit gives words request quiet output errors _ set beginning path asked (running.serves _ _ _ _ _ _) is = absurd cc
-done_to_audit gives words request quiet output errors _ set beginning path asked (running.reads _ _ _ _) is = absurd cc
-done_to_audit gives words request quiet output errors _ set beginning path asked (running.plants _ _ _ _ _ _) is = absurd cc
-done_to_audit gives words request quiet output errors _ set beginning path asked (running.halts _ _ _ _ _) is = absurd cc
-done_to_audit gives words request quiet output errors _ set beginning path asked (running.judges _ _ _ _ _ _ _) is = absurd cc
-done_to_audit gives words request quiet output errors _ set beginning path asked (running.explains _ _ _ _) is = absurd cc
+    let chosen : other ≡ own = cc in
+    subst (IsToAudit gives words output errors set) chosen
+    (record { asked = subst (AskFor words) is_asked asked; is_set = subst (IsSetOf gives (source_of other.source)) same is_set; unwritten = kept; silent = silent })
+done_to_audit gives words request quiet output errors _ set own asked (running.serves _ _ _ _ _ _) is = absurd cc
+done_to_audit gives words request quiet output errors _ set own asked (running.reads _ _ _ _) is = absurd cc
+done_to_audit gives words request quiet output errors _ set own asked (running.plants _ _ _ _ _ _) is = absurd cc
+done_to_audit gives words request quiet output errors _ set own asked (running.halts _ _ _ _ _) is = absurd cc
+done_to_audit gives words request quiet output errors _ set own asked (running.judges _ _ _ _ _ _ _) is = absurd cc
+done_to_audit gives words request quiet output errors _ set own asked (running.explains _ _ _ _) is = absurd cc
 
-pub set_to_audit : (gives : Gives) (words : List Text) (output errors : Stream) (course : Course) (set : ClearedSet) (beginning : Bool) (path : String Global)
-    → IsRun gives words output errors course → course ≡ course_of.Audits set beginning path
-    → IsToAudit gives words output errors set beginning (string_bytes path)
-set_to_audit gives words output errors _ set beginning path (running.commands request course asked came) is =
-    done_to_audit gives words request (ask_quiet words) output errors course set beginning path asked came is
-set_to_audit gives words output errors _ set beginning path (running.helps _ _ _ _) is = absurd cc
-set_to_audit gives words output errors _ set beginning path (running.misuses _ _) is = absurd cc
-set_to_audit gives words output errors _ set beginning path (running.starves _) is = absurd cc
+pub set_to_audit : (gives : Gives) (words : List Text) (output errors : Stream) (course : Course) (set : ClearedSet) (own : AuditWords)
+    → IsRun gives words output errors course → course ≡ course_of.Audits set own → IsToAudit gives words output errors set own
+set_to_audit gives words output errors _ set own (running.commands request course asked came) is =
+    done_to_audit gives words request (ask_quiet words) output errors course set own asked came is
+set_to_audit gives words output errors _ set own (running.helps _ _ _ _) is = absurd cc
+set_to_audit gives words output errors _ set own (running.misuses _ _) is = absurd cc
+set_to_audit gives words output errors _ set own (running.starves _) is = absurd cc
 
 -- telling what is found of a record, after the streams were left as they were
 pub audit_kept : (holds : Holds) (set : ClearedSet) (beginning : Bool) (path : Text) (unread left before mid after quiet still loud : Option (List ℕ)) (status : ℕ)
@@ -364,7 +355,7 @@ done_in_range : (gives : Gives) (request : Request) (quiet : Bool) (output error
     → IsDone gives request quiet output errors course → course ≡ Ends status → status ≤ 4
 done_in_range gives request quiet output errors _ status (running.serves _ _ _ _ _ _) is = absurd cc
 done_in_range gives request quiet output errors _ status (running.reads _ _ _ _) is = absurd cc
-done_in_range gives request quiet output errors _ status (running.audits _ _ _ _ _ _ _ _) is = absurd cc
+done_in_range gives request quiet output errors _ status (running.audits _ _ _ _ _ _) is = absurd cc
 done_in_range gives request quiet output errors _ status (running.plants _ _ _ _ _ _) is = absurd cc
 done_in_range gives request quiet output errors _ status (running.halts h told warned _ at) is =
     let same : told ≡ status = cc in

@@ -3,3 +3,4 @@ pub mod PlantRuns
 pub mod PlantWork
 pub mod Programs
 pub mod RecordRuns
+pub mod Telling

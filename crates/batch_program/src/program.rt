@@ -59,13 +59,9 @@ pub fn run_program<D: Documents + Records, P: PlantRunner, R: Read, W: Write, E:
             tell_served(alloc, quiet, served, reason, errors)
         }
         Course::Reads { path } => tell_record(alloc, path, documents, input, output, errors),
-        Course::Audits {
-            set,
-            beginning,
-            path,
-        } => audit_record(
-            alloc, set, beginning, &path, documents, input, output, errors,
-        ),
+        Course::Audits { set, audit } => {
+            audit_record(alloc, set, &audit, documents, input, output, errors)
+        }
         Course::Plants { set, options } => {
             let end = plants.run_plant(alloc, set, options);
             report_of_plant(alloc, options.batches, &end, output, errors)

@@ -2,6 +2,8 @@
 ghost use Rattle.std.specs.Prelude.{◌≡◌, ◌⊎◌, ℕ, List, Option, IfOk, IfSome, string_bytes};
 ghost use Rattle.batch_commands.specs.Running.{IsPrinted, IsUnwritten, fault_status, memory_status};
 ghost use Rattle.batch_program.specs.AuditRuns.{IsAuditTold, finding_status, finding_text};
+ghost use Rattle.batch_program.specs.RecordRuns.{IsUntold};
+ghost use Rattle.batch_program.specs.Telling.{IsFindingTold};
 
 use crate::noted::Noted;
 use crate::program::MAX_READS;
@@ -10,6 +12,7 @@ use crate::records::Records;
 use batch_audit::{AuditFault, Finding, audit};
 use batch_commands::{FILE_FAULT, NO_MEMORY, OUT_OF_MEMORY, SUCCESS, complain, print};
 use batch_verify::Cleared;
+use batch_words::AuditWords;
 use std::alloc::{AllocError, Global};
 use std::io;
 use std::io::{ErrorKind, Read, Write};
@@ -26,22 +29,21 @@ struct FailedAudit {
     reason: io::Error,
 }
 
-/// Tells whether the record at the path is that of the event lines of the input over the set, and gives the exit status. A record that
-/// ends too soon is accepted where `beginning` stands.
+/// Tells whether the record that the words name is that of the event lines of the input over the set, and gives the exit status. A record that
+/// ends too soon is accepted where they say so.
 ///
 /// The record is kept in memory, and so is what is due. A record in which the first line that differs says that there was no memory isn't
 /// judged: that is told on the errors, with the status of want of memory.
 pub fn audit_record<D: Records, R: Read, W: Write, E: Write>(
     alloc: Global,
     set: Cleared,
-    beginning: bool,
-    path: &str,
+    words: &AuditWords,
     records: &D,
     input: &mut Noted<R>,
     output: &mut W,
     errors: &mut E,
 ) -> u8
-    ensures { IsAuditTold (D.holds records.now) set beginning path.now
+    ensures { IsAuditTold (D.holds records.now) set words.now.beginning (string_bytes words.now.path)
         (record {
           unread = R.remaining input.old.stream;
           left = R.remaining input.new.stream;
@@ -50,16 +52,9 @@ pub fn audit_record<D: Records, R: Read, W: Write, E: Write>(
         })
         (record { before = E.contents errors.old; after = E.contents errors.new }) result }
 {
-    let text = match record_at(alloc, path, records) {
-        Ok(text) => text,
-        Err(reason) if reason.kind() == ErrorKind::OutOfMemory => {
-            return complain(errors, OUT_OF_MEMORY, NO_MEMORY);
-        }
-        Err(reason) => return complain_unopened(alloc, path, reason, errors),
-    };
-    match audit(alloc, set, input, &text, MAX_READS) {
-        Ok(finding) => tell_finding(alloc, beginning, finding, output, errors),
-        Err(fault) => complain_unfound(fault, input.failure(), errors),
+    match record_at(alloc, &words.path, records) {
+        Ok(text) => tell_audit(alloc, set, words.beginning, &text, input, output, errors),
+        Err(reason) => complain_unread(alloc, &words.path, reason, errors),
     }
 }
 
@@ -68,9 +63,30 @@ fn record_at<D: Records>(alloc: Global, path: &str, records: &D) -> io::Result<V
     ensures { IfOk result (λ text. (given : Option (List ℕ)) × D.holds records.now path.now given × IfSome given (λ bytes. text.items ≡ bytes)) }
 {
     let mut text = Vec::new(alloc);
-    let mut record = records.open(path)?;
-    record.read_to_end(&mut text)?;
+    let mut opened = records.open(path)?;
+    opened.read_to_end(&mut text)?;
     Ok(text)
+}
+
+/// Tells whether the text is the record of the event lines of the input over the set, and gives the exit status.
+fn tell_audit<R: Read, W: Write, E: Write>(
+    alloc: Global,
+    set: Cleared,
+    beginning: bool,
+    text: &[u8],
+    input: &mut Noted<R>,
+    output: &mut W,
+    errors: &mut E,
+) -> u8
+    ensures { IsFindingTold set beginning (R.remaining input.old.stream) text.now
+        (record { before = W.contents output.old; after = W.contents output.new })
+        (record { before = E.contents errors.old; after = E.contents errors.new }) result
+        ⊎ IsUntold (record { before = W.contents output.old; after = W.contents output.new }) result }
+{
+    match audit(alloc, set, input, text, MAX_READS) {
+        Ok(finding) => tell_finding(alloc, beginning, finding, output, errors),
+        Err(fault) => complain_unfound(fault, input.failure(), errors),
+    }
 }
 
 /// Prints what is found of a record, and gives the exit status.
@@ -111,6 +127,16 @@ fn finding_status(beginning: bool, finding: Finding) -> u8
         Finding::EndsBefore(_) if beginning => SUCCESS,
         _ => REFUSED,
     }
+}
+
+/// Tells why the record at the path can't be opened or read, and gives the exit status.
+fn complain_unread<E: Write>(alloc: Global, path: &str, reason: io::Error, errors: &mut E) -> u8
+    ensures { (result ≡ fault_status) ⊎ (result ≡ memory_status) }
+{
+    if reason.kind() == ErrorKind::OutOfMemory {
+        return complain(errors, OUT_OF_MEMORY, NO_MEMORY);
+    }
+    complain_unopened(alloc, path, reason, errors)
 }
 
 /// Tells why a record wasn't compared, with the reason that the stream gave, where it gave one, and gives the exit status.

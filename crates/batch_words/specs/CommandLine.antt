@@ -190,7 +190,7 @@ abbrev pub request_of : Subcommand → Request
 request_of (Judge judgement) = judge (judgement_of judgement)
 request_of (Serve source) = serve (source_of source)
 request_of (Status path) = tell (option_map string_bytes path)
-request_of (Audit beginning path source) = audit beginning (string_bytes path) (source_of source)
+request_of (Audit words) = audit words.beginning (string_bytes words.path) (source_of words.source)
 request_of (Plant options) = plant options.batches options.ticks options.ring
 request_of (Explain texts) = explain (map string_bytes texts.items)
 

@@ -22,22 +22,24 @@ pub enum Subcommand {
     /// To serve event lines from standard input over a set.
     Serve(Source),
     /// To tell what a record says: the one at this path, or the one on standard input.
-    Status {
-        path: Option<String>,
-    },
-    /// To compare the record at this path with what event lines from standard input come to over a set. Where `beginning` stands a
-    /// record that ends too soon is accepted.
-    Audit {
-        beginning: bool,
-        path: String,
-        source: Source,
-    },
+    Status { path: Option<String> },
+    /// To compare a record with what event lines from standard input come to over a set.
+    Audit(AuditWords),
     /// To run the demo's plant: its hub in the thread that calls, its console and its link to the units in threads of their own.
     Plant(PlantOptions),
     /// To say what the first code in these texts means, or where there are none what all codes mean.
-    Explain {
-        texts: Vec<String>,
-    },
+    Explain { texts: Vec<String> },
+}
+
+/// An audit.
+#[derive(Debug, Drop)]
+pub struct AuditWords {
+    /// A record that ends too soon is accepted.
+    pub beginning: bool,
+    /// The path of the record.
+    pub path: String,
+    /// Whose set it is.
+    pub source: Source,
 }
 
 /// A judgement of documents, with their paths.

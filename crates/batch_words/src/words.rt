@@ -4,7 +4,7 @@ ghost use Rattle.std.specs.Str.Parse.{digits_value, without_leading_plus};
 ghost use Rattle.clap.specs.Words.{FailsBy, IsUnsignedIn, fault_of, first_of, found_of, kind_of, rows_of, subcommand_of, subcommand_rows_of};
 ghost use Rattle.batch_words.specs.CommandLine.{AreWordsOf, HasOptionsOf, IsFaultOf, IsFaultOfKind, audited_by, certified_by, checked_by, is_given, named_by, number_given, program_app, request_of, word_of, words_of};
 
-use crate::command::{CommandFault, CommandWords, Judgement, Source, Subcommand};
+use crate::command::{AuditWords, CommandFault, CommandWords, Judgement, Source, Subcommand};
 use crate::line::program;
 use crate::plant_options::PlantOptions;
 use clap::error::ErrorKind;
@@ -75,7 +75,7 @@ fn command_of(alloc: Global, name: &str, words: &ArgMatches<'_>) -> Result<Subco
 fn audit_command(alloc: Global, words: &ArgMatches<'_>) -> Result<Subcommand, AllocError>
     ensures { IfOk result (λ command. request_of command ≡ audited_by (rows_of (found_of words.now))) }
 {
-    Ok(Subcommand::Audit {
+    Ok(Subcommand::Audit(AuditWords {
         beginning: flag(words, "beginning"),
         path: word(alloc, words, "RECORD")?,
         source: Source::Documents {
@@ -83,7 +83,7 @@ fn audit_command(alloc: Global, words: &ArgMatches<'_>) -> Result<Subcommand, Al
             certificate: word(alloc, words, "CERT")?,
             recipes: several(alloc, words, "RECIPE")?,
         },
-    })
+    }))
 }
 
 /// `check`, with a drawing or without one.

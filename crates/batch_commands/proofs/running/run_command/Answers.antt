@@ -31,13 +31,12 @@ returns-in-Status g c = rw c.in-Status.is (reads c.in-Status.path refl (Keeps-re
 pub returns-in-Ok-clear_source-2 : goal.returns-in-Ok-clear_source-2
 returns-in-Ok-clear_source-2 g c =
     rw c.in-Audit.is
-    (audits c.in-Audit.beginning c.in-Audit.path (source_of c.in-Audit.source) c.in-Ok-clear_source-2.set refl
-    (rw c.in-Audit.source-is at c.in-Ok-clear_source-2.ensures.set) (Keeps-refl _) (Keeps-refl _))
+    (audits c.in-Audit.audit c.in-Ok-clear_source-2.set refl (rw c.in-Audit.audit-is at c.in-Ok-clear_source-2.ensures.set) (Keeps-refl _) (Keeps-refl _))
 
 pub returns-in-Audit : goal.returns-in-Audit
 returns-in-Audit g c =
     rw c.in-Audit.is
-    (halts c.in-Err-clear_source-2.halt _ _ (rw c.in-Audit.source-is at c.in-Err-clear_source-2.ensures.halted, silent _ _)
+    (halts c.in-Err-clear_source-2.halt _ _ (rw c.in-Audit.audit-is at c.in-Err-clear_source-2.ensures.halted, silent _ _)
     c.announce-in-Err-clear_source-2.ensures)
 
 pub returns-in-Ok-clear_demo : goal.returns-in-Ok-clear_demo

@@ -1,5 +1,6 @@
 use Rattle.std.proofs.Common.{map, option_map, string_bytes}
 use Rattle.std.proofs.KnownBytes.{Keeps-refl}
+use Rattle.batch_words.specs.CommandLine.{source_of}
 use Rattle.batch_program.specs.Programs.{tells, serves, reads, audits, plants}
 use Rattle.batch_program.specs.declared.program.TheConstants.{MAX_READS}
 use Rattle.batch_program.proofs.Plants.{has_run}
@@ -31,11 +32,11 @@ returns-in-Reads g c =
 pub returns-in-Audits : goal.returns-in-Audits
 returns-in-Audits g c =
     let course = c.in-Audits in
-    let is = set_to_audit (g.D.Documents.gives c.args.documents.now) (map string_bytes c.args.words.now) _ _ _ course.set course.beginning course.path
-    c.run_words.ensures course.is in
-    audits course.beginning (string_bytes course.path) is.source course.set c.audit_record.result is.asked is.is_set
-    (audit_kept (g.D.Records.holds c.args.documents.now) course.set course.beginning (string_bytes course.path) _ _ _ _ _ _ _ _ _ is.unwritten is.silent
-    (rw c.deref.ensures at c.audit_record.ensures))
+    let own = course.audit in
+    let is = set_to_audit (g.D.Documents.gives c.args.documents.now) (map string_bytes c.args.words.now) _ _ _ course.set own c.run_words.ensures course.is in
+    audits own.beginning (string_bytes own.path) (source_of own.source) course.set c.audit_record.result is.asked is.is_set
+    (audit_kept (g.D.Records.holds c.args.documents.now) course.set own.beginning (string_bytes own.path) _ _ _ _ _ _ _ _ _ is.unwritten is.silent
+    c.audit_record.ensures)
 
 pub returns-in-Plants : goal.returns-in-Plants
 returns-in-Plants g c =
