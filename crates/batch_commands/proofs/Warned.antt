@@ -6,7 +6,7 @@ use Rattle.batch_cell.specs.declared.cell.Cell.{Cell}
 use Rattle.batch_recipe.specs.declared.recipe.Recipe.{Recipe}
 use Rattle.batch_verify.specs.CertificateText.{Rank}
 use Rattle.batch_verify.specs.ClearedSet.{ClearedSet}
-use Rattle.batch_words.specs.CommandLine.{Judgement, check, draw, verify}
+use Rattle.batch_words.specs.CommandLine.{Judgement, check, draw, show, verify}
 use Rattle.batch_commands.specs.Judging.{IsClearedBy}
 use Rattle.batch_commands.specs.Reading.{AreCleared, AreRead, Gives, Warns, IsSoWarned}
 use Rattle.batch_commands.specs.Requests.{IsVerdict}
@@ -44,6 +44,7 @@ pub verdict_more : (gives : Gives) (these those : Warns) (judgement : Judgement)
     → IsVerdict gives these judgement text → IsVerdict gives those judgement text
 verdict_more gives these those (check cell paths) text follows told = so_more gives these those cell paths _ follows told
 verdict_more gives these those (draw cell paths) text follows told = so_more gives these those cell paths _ follows told
+verdict_more gives these those (show cell paths) text follows (told, said) = (told, follows _ said)
 verdict_more gives these those (verify cell certificate paths) text follows (is, (set, cleared, warned)) =
     (is, (set, cleared, follows _ warned))
 

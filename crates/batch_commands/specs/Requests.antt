@@ -1,10 +1,10 @@
 -- trusted: what comes of a request: what is printed, the set that is to be served, or why there is none.
 use Rattle.std.specs.Prelude.{◌≡◌, List, ℕ, [], ◌∷◌}
 use Rattle.batch_verify.specs.ClearedSet.{ClearedSet}
-use Rattle.batch_words.specs.CommandLine.{Judgement, check, draw, verify, Source, demo, documents, Request, judge, serve, tell, audit, plant, explain}
+use Rattle.batch_words.specs.CommandLine.{Judgement, check, draw, verify, Source, demo, documents, Request, judge, serve, tell, audit, plant, explain, show}
 use Rattle.batch_commands.specs.DemoDocuments.{demo_text}
-use Rattle.batch_commands.specs.Halting.{HaltsCheck, HaltsClearing, HaltsDrawing, HaltsVerifying}
-use Rattle.batch_commands.specs.Reading.{AreCleared, ChecksDocuments, DrawsDocuments, Gives, VerifiesDocuments, Warns}
+use Rattle.batch_commands.specs.Halting.{HaltsCheck, HaltsClearing, HaltsDrawing, HaltsVerifying, HaltsAtDocuments}
+use Rattle.batch_commands.specs.Reading.{AreCleared, ChecksDocuments, DrawsDocuments, Gives, VerifiesDocuments, Warns, ShowsDocuments}
 use Rattle.batch_commands.specs.declared.demo.TheConstants.{CELL_PATH, CERTIFICATE_PATH, RECIPE_PATH}
 use Rattle.batch_commands.specs.declared.refusal.Halt.{Halt}
 
@@ -25,6 +25,7 @@ abbrev pub IsVerdict : Gives → Warns → Judgement → List ℕ → Type 0
 IsVerdict gives warns (check cell recipes) text = ChecksDocuments gives warns cell recipes text
 IsVerdict gives warns (draw cell recipes) text = DrawsDocuments gives warns cell recipes text
 IsVerdict gives warns (verify cell certificate recipes) text = VerifiesDocuments gives warns cell certificate recipes text
+IsVerdict gives warns (show cell recipes) text = ShowsDocuments gives cell recipes text × warns []
 
 -- the set that is to be served: the demo's, or that of the documents, cleared by their certificate
 abbrev pub IsSetOf : Gives → Source → ClearedSet → Type 0
@@ -37,6 +38,7 @@ abbrev pub HaltsJudgement : Gives → Warns → Judgement → Halt → Type 0
 HaltsJudgement gives warns (check cell recipes) h = HaltsCheck gives warns cell recipes h
 HaltsJudgement gives warns (draw cell recipes) h = HaltsDrawing gives warns cell recipes h
 HaltsJudgement gives warns (verify cell certificate recipes) h = HaltsVerifying gives warns cell certificate recipes h
+HaltsJudgement gives warns (show cell recipes) h = HaltsAtDocuments gives cell recipes h × warns []
 
 abbrev pub HaltsSource : Gives → Source → Halt → Type 0
 HaltsSource gives demo h = HaltsDemo h

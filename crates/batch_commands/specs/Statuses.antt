@@ -17,7 +17,7 @@ use Rattle.batch_commands.specs.declared.refusal.Halt.{Halt}
 abbrev pub AreCodesTold : List Text → Stream → Type 0
 AreCodesTold texts output = (text : List ℕ) × Tells texts text × Appends output.before output.after text
 
--- `check` wrote the certificate with the least ranks, or the drawing of recipes that can be cleared; `verify` wrote that it accepts
+-- `check` wrote the certificate with the least ranks, or the drawing of recipes that can be cleared; `show` wrote the recipes' nodes; `verify` wrote that it accepts
 -- the set of the documents, which their certificate clears; on the errors both wrote their warnings alone. Nothing else ends so
 -- before it has served
 abbrev pub IsSuccess : Gives → Bool → Request → Stream → Stream → Type 0

@@ -9,7 +9,7 @@ ghost use Rattle.batch_commands.specs.Saying.{IsWarned};
 use crate::course::Course;
 use crate::demo::{CELL_PATH, CERTIFICATE_PATH, Demo, RECIPE_PATH};
 use crate::documents::{
-    Documents, check_documents, clear_documents, draw_documents, verify_documents,
+    Documents, check_documents, clear_documents, draw_documents, show_documents, verify_documents,
 };
 use crate::refusal::{DocumentRefusal, Halt};
 use crate::saying::say;
@@ -130,6 +130,7 @@ fn judge<D: Documents, E: Write>(
             certificate,
             recipes,
         } => verify_documents(alloc, documents, cell, certificate, recipes, quiet, errors),
+        Judgement::Show { cell, recipes } => show_documents(alloc, documents, cell, recipes),
     }
 }
 
