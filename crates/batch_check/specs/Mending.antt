@@ -1,4 +1,4 @@
--- trusted: what would be left of the recipes' orders without one of them.
+-- surface: what would be left of the recipes' orders without one of them.
 use Rattle.std.specs.Prelude.{◌≡◌, ℕ, ◌<◌, List, Bool, ◌&&◌, nat_eq, false}
 use Rattle.std.specs.List.{All, Contains}
 use Rattle.batch_cell.specs.declared.cell.Cell.{Cell}

@@ -7,3 +7,4 @@ pub mod Outcomes
 pub mod Successes
 mod Fronts
 pub mod NodesTold
+pub mod OnCircles

@@ -10,3 +10,4 @@ pub mod Requests
 pub mod GraphTexts
 pub mod Drawing
 pub mod Saying
+pub mod Reached

@@ -11,6 +11,7 @@ use crate::refusal::Halt;
 use batch_cell::Cell;
 use batch_reader::MAX_DOCUMENT_LEN;
 use batch_recipe::Recipe;
+use batch_sentences::Source;
 use batch_verify::{Certificate, Cleared};
 use std::alloc::Global;
 
@@ -36,8 +37,9 @@ pub fn check_documents<D: Documents>(
     ensures halted { IfErr result (HaltsCheck (D.gives documents.now) cell.now (map string_bytes recipes.now)) }
 {
     let cell = read_cell(alloc, documents, cell)?;
-    let recipes = read_recipes(alloc, documents, recipes)?;
-    check_recipes(alloc, &cell, &recipes)
+    let mut sources = Vec::new(alloc);
+    let recipes = read_recipes(alloc, documents, recipes, &mut sources)?;
+    check_recipes(alloc, &cell, &recipes, &sources)
 }
 
 /// The drawing that `check --dot` makes of the documents at these paths. It ends as [`check_documents`] does, and draws a circle.
@@ -51,8 +53,9 @@ pub fn draw_documents<D: Documents>(
     ensures halted { IfErr result (HaltsDrawing (D.gives documents.now) cell.now (map string_bytes recipes.now)) }
 {
     let cell = read_cell(alloc, documents, cell)?;
-    let recipes = read_recipes(alloc, documents, recipes)?;
-    draw_recipes(alloc, &cell, &recipes)
+    let mut sources = Vec::new(alloc);
+    let recipes = read_recipes(alloc, documents, recipes, &mut sources)?;
+    draw_recipes(alloc, &cell, &recipes, &sources)
 }
 
 /// What `verify` prints of the documents at these paths: it accepts the set that [`clear_documents`] gives, and its errors
@@ -87,7 +90,13 @@ pub fn clear_documents<D: Documents>(
     ensures halted { IfErr result (HaltsClearing (D.gives documents.now) cell.now certificate.now (map string_bytes recipes.now)) }
 {
     let read = read_set(alloc, documents, cell, certificate, recipes)?;
-    clear_recipes(alloc, read.cell, read.recipes, &read.certificate)
+    clear_recipes(
+        alloc,
+        read.cell,
+        read.recipes,
+        &read.sources,
+        &read.certificate,
+    )
 }
 
 /// What the documents of a set say.
@@ -96,6 +105,8 @@ struct DocumentSet {
     cell: Cell,
     certificate: Certificate,
     recipes: Vec<Recipe>,
+    /// Where the acts of the recipes stand.
+    sources: Vec<Source>,
 }
 
 fn read_set<D: Documents>(
@@ -111,11 +122,13 @@ fn read_set<D: Documents>(
 {
     let cell = read_cell(alloc, documents, cell)?;
     let certificate = read_certificate(alloc, documents, certificate)?;
-    let recipes = read_recipes(alloc, documents, recipes)?;
+    let mut sources = Vec::new(alloc);
+    let recipes = read_recipes(alloc, documents, recipes, &mut sources)?;
     Ok(DocumentSet {
         cell,
         certificate,
         recipes,
+        sources,
     })
 }
 
@@ -143,25 +156,34 @@ fn read_certificate<D: Documents>(
     judge_certificate(alloc, path, &text)
 }
 
-fn read_recipe<D: Documents>(alloc: Global, documents: &D, path: &str) -> Result<Recipe, Halt>
+/// The recipe of the document at the path, whose source is put behind those of the recipes before it.
+fn read_recipe<D: Documents>(
+    alloc: Global,
+    documents: &D,
+    path: &str,
+    sources: &mut Vec<Source>,
+) -> Result<Recipe, Halt>
     ensures read { IfOk result (ReadsRecipe (D.gives documents.now) path.now) }
     ensures halted { IfErr result (HaltsAtRecipe (D.gives documents.now) path.now) }
 {
     let bytes = documents.read(alloc, path, MAX_DOCUMENT_LEN)?;
-    judge_recipe(alloc, path, &bytes)
+    let recipe = judge_recipe(alloc, path, &bytes)?;
+    sources.push(Source::of(alloc, path, &bytes)?)?;
+    Ok(recipe)
 }
 
 fn read_recipes<D: Documents>(
     alloc: Global,
     documents: &D,
     paths: &[String],
+    sources: &mut Vec<Source>,
 ) -> Result<Vec<Recipe>, Halt>
     ensures read { IfOk result (λ recipes. ReadsRecipes (D.gives documents.now) (map string_bytes paths.now) recipes.items) }
     ensures halted { IfErr result (HaltsAtRecipes (D.gives documents.now) (map string_bytes paths.now)) }
 {
     let mut recipes = Vec::new(alloc);
     for path in paths {
-        let recipe = read_recipe(alloc, documents, path.as_str())?;
+        let recipe = read_recipe(alloc, documents, path.as_str(), sources)?;
         recipes.push(recipe)?;
     }
     Ok(recipes)

@@ -1,3 +1,4 @@
 mod ShownLines
 mod Growing
 pub mod ActNames
+mod ToldCircles
