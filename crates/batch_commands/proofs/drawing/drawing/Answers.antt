@@ -16,7 +16,7 @@ returns-in-Ok c =
     IfOk-weaker c.graph_text.result (λ text. string_bytes text ≡ graph_text (act_name recipes) cell recipes c.deref-in-Ok.result.now c.deref-in-Ok-2.result.now)
     (λ text. IsDrawingOf cell recipes circle (string_bytes text))
     (λ text is.
-        let told : string_bytes text ≡ graph_text (act_name recipes) cell recipes edges (circle ++ red.0) =
-        rw (c.deref-in-Ok.ensures.value, c.deref-in-Ok-2.ensures.value, red.1) at is in
-        (act_name recipes, edges, red.0, c.in-Ok.ensures.edges, c.in-Ok.ensures.circle, lying, told))
+    let told : string_bytes text ≡ graph_text (act_name recipes) cell recipes edges (circle ++ red.0) =
+    rw (c.deref-in-Ok.ensures.value, c.deref-in-Ok-2.ensures.value, red.1) at is in
+    (act_name recipes, edges, red.0, c.in-Ok.ensures.edges, c.in-Ok.ensures.circle, lying, told))
     c.graph_text.ensures

@@ -18,6 +18,6 @@ returns-in-Circle c =
     IfOk-weaker c.drawing.result (λ text. IsDrawingOf cell recipes c.deref.result.now (string_bytes text))
     (λ text. IsFaultDrawn cell recipes c.args.fault.now (string_bytes text))
     (λ text h.
-        let drawn : IsDrawingOf cell recipes c.in-Circle.circle.items (string_bytes text) = rw c.deref.ensures.value at h in
-        rw c.in-Circle.is drawn)
+    let drawn : IsDrawingOf cell recipes c.in-Circle.circle.items (string_bytes text) = rw c.deref.ensures.value at h in
+    rw c.in-Circle.is drawn)
     c.drawing.ensures
