@@ -9,3 +9,4 @@ mod Fronts
 pub mod NodesTold
 pub mod Warned
 pub mod WarningLines
+pub mod OnCircles

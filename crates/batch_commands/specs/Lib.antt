@@ -11,3 +11,4 @@ pub mod Requests
 pub mod GraphTexts
 pub mod Drawing
 pub mod Saying
+pub mod Reached

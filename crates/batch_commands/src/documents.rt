@@ -14,6 +14,7 @@ use batch_cell::Cell;
 use batch_outline::show_recipes;
 use batch_reader::MAX_DOCUMENT_LEN;
 use batch_recipe::Recipe;
+use batch_sentences::Source;
 use batch_verify::{Certificate, Cleared};
 use std::alloc::Global;
 use std::io::Write;
@@ -45,7 +46,7 @@ pub fn check_documents<D: Documents, E: Write>(
         cell.now (map string_bytes recipes.now)) }
 {
     let read = read_warned(alloc, documents, cell, recipes, quiet, errors)?;
-    check_recipes(alloc, &read.cell, &read.recipes)
+    check_recipes(alloc, &read.cell, &read.recipes, &read.sources)
 }
 
 /// The drawing that `check --dot` makes of the documents at these paths. It ends and warns as [`check_documents`] does, and draws
@@ -64,7 +65,7 @@ pub fn draw_documents<D: Documents, E: Write>(
         cell.now (map string_bytes recipes.now)) }
 {
     let read = read_warned(alloc, documents, cell, recipes, quiet, errors)?;
-    draw_recipes(alloc, &read.cell, &read.recipes)
+    draw_recipes(alloc, &read.cell, &read.recipes, &read.sources)
 }
 
 /// What the documents of a cell and of its recipes say.
@@ -72,6 +73,8 @@ pub fn draw_documents<D: Documents, E: Write>(
 struct CellDocuments {
     cell: Cell,
     recipes: Vec<Recipe>,
+    /// Where the acts of the recipes stand.
+    sources: Vec<Source>,
 }
 
 /// Reads the documents, and warns of them.
@@ -91,9 +94,14 @@ fn read_warned<D: Documents, E: Write>(
     let path = cell;
     let cell = read_cell(alloc, documents, path)?;
     let paths = recipes;
-    let recipes = read_recipes(alloc, documents, paths)?;
+    let mut sources = Vec::new(alloc);
+    let recipes = read_recipes(alloc, documents, paths, &mut sources)?;
     warn(alloc, quiet, path, &cell, paths, &recipes, errors);
-    Ok(CellDocuments { cell, recipes })
+    Ok(CellDocuments {
+        cell,
+        recipes,
+        sources,
+    })
 }
 
 /// What `verify` prints of the documents at these paths: it accepts the set that [`clear_documents`] gives, and its errors
@@ -114,7 +122,7 @@ pub fn verify_documents<D: Documents, E: Write>(
 {
     let set = read_set(alloc, documents, cell, certificate, recipes)?;
     warn(alloc, quiet, cell, &set.cell, recipes, &set.recipes, errors);
-    clear_recipes(alloc, set.cell, set.recipes, &set.certificate)?;
+    clear_recipes(alloc, set.cell, set.recipes, &set.sources, &set.certificate)?;
     Ok(String::from_str(alloc, "accepted\n")?)
 }
 
@@ -130,7 +138,8 @@ pub fn show_documents<D: Documents>(
     ensures halted { IfErr result (HaltsAtDocuments (D.gives documents.now) cell.now (map string_bytes recipes.now)) }
 {
     read_cell(alloc, documents, cell)?;
-    let recipes = read_recipes(alloc, documents, recipes)?;
+    let mut sources = Vec::new(alloc);
+    let recipes = read_recipes(alloc, documents, recipes, &mut sources)?;
     Ok(show_recipes(alloc, &recipes)?)
 }
 
@@ -149,7 +158,13 @@ pub fn clear_documents<D: Documents>(
     ensures halted { IfErr result (HaltsClearing (D.gives documents.now) cell.now certificate.now (map string_bytes recipes.now)) }
 {
     let read = read_set(alloc, documents, cell, certificate, recipes)?;
-    clear_recipes(alloc, read.cell, read.recipes, &read.certificate)
+    clear_recipes(
+        alloc,
+        read.cell,
+        read.recipes,
+        &read.sources,
+        &read.certificate,
+    )
 }
 
 /// What the documents of a set say.
@@ -158,6 +173,8 @@ struct DocumentSet {
     cell: Cell,
     certificate: Certificate,
     recipes: Vec<Recipe>,
+    /// Where the acts of the recipes stand.
+    sources: Vec<Source>,
 }
 
 fn read_set<D: Documents>(
@@ -173,11 +190,13 @@ fn read_set<D: Documents>(
 {
     let cell = read_cell(alloc, documents, cell)?;
     let certificate = read_certificate(alloc, documents, certificate)?;
-    let recipes = read_recipes(alloc, documents, recipes)?;
+    let mut sources = Vec::new(alloc);
+    let recipes = read_recipes(alloc, documents, recipes, &mut sources)?;
     Ok(DocumentSet {
         cell,
         certificate,
         recipes,
+        sources,
     })
 }
 
@@ -205,25 +224,34 @@ fn read_certificate<D: Documents>(
     judge_certificate(alloc, path, &text)
 }
 
-fn read_recipe<D: Documents>(alloc: Global, documents: &D, path: &str) -> Result<Recipe, Halt>
+/// The recipe of the document at the path, whose source is put behind those of the recipes before it.
+fn read_recipe<D: Documents>(
+    alloc: Global,
+    documents: &D,
+    path: &str,
+    sources: &mut Vec<Source>,
+) -> Result<Recipe, Halt>
     ensures read { IfOk result (ReadsRecipe (D.gives documents.now) path.now) }
     ensures halted { IfErr result (HaltsAtRecipe (D.gives documents.now) path.now) }
 {
     let bytes = documents.read(alloc, path, MAX_DOCUMENT_LEN)?;
-    judge_recipe(alloc, path, &bytes)
+    let recipe = judge_recipe(alloc, path, &bytes)?;
+    sources.push(Source::of(alloc, path, &bytes)?)?;
+    Ok(recipe)
 }
 
 fn read_recipes<D: Documents>(
     alloc: Global,
     documents: &D,
     paths: &[String],
+    sources: &mut Vec<Source>,
 ) -> Result<Vec<Recipe>, Halt>
     ensures read { IfOk result (λ recipes. ReadsRecipes (D.gives documents.now) (map string_bytes paths.now) recipes.items) }
     ensures halted { IfErr result (HaltsAtRecipes (D.gives documents.now) (map string_bytes paths.now)) }
 {
     let mut recipes = Vec::new(alloc);
     for path in paths {
-        let recipe = read_recipe(alloc, documents, path.as_str())?;
+        let recipe = read_recipe(alloc, documents, path.as_str(), sources)?;
         recipes.push(recipe)?;
     }
     Ok(recipes)

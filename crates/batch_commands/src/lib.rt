@@ -11,6 +11,7 @@ mod laws;
 mod limits;
 mod reading;
 mod refusal;
+mod rings;
 mod running;
 mod saying;
 mod texts;

@@ -2,3 +2,4 @@ mod ShownLines
 mod Growing
 pub mod Said
 pub mod ActNames
+mod ToldCircles
