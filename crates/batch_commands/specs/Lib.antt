@@ -2,6 +2,7 @@ pub mod VerdictTexts
 pub mod Judging
 pub mod Bytes
 pub mod Reading
+pub mod Digested
 pub mod Halting
 pub mod Running
 pub mod Statuses

@@ -3,6 +3,7 @@
 
 mod course;
 mod demo;
+mod digested;
 mod documents;
 mod drawing;
 mod files;
@@ -16,6 +17,7 @@ mod saying;
 mod texts;
 
 pub use course::Course;
+pub use digested::{Digested, clear_digested};
 pub use documents::{
     Documents, check_documents, clear_documents, draw_documents, verify_documents,
 };

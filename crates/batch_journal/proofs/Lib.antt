@@ -11,5 +11,5 @@ mod RecoveryLemmas
 mod ClosingLemmas
 mod SumLemmas
 mod WritingLemmas
-mod ReaderLemmas
+pub mod ReaderLemmas
 mod DamageLemmas

@@ -22,10 +22,10 @@ pub trait Run {
     /// The digits of its documents.
     ghost documents: { List ℕ };
 
-    /// The text of the lines that the journal had when it began.
+    /// The text of the lines that the journal had then.
     ghost base: { List ℕ };
 
-    /// The moment of that.
+    /// A moment from which on a crash left these lines.
     ghost since: { ℕ };
 
     /// The bytes of the input, where they are known.
@@ -60,7 +60,7 @@ impl<R: Read, D: Disk, K: Clock, C: Run> JournalReader<R, D, K, C> {
     pub fn new(inner: R, disk: D, clock: K, sum: Sum) -> JournalReader<R, D, K, C>
         requires at_rest { D.is_disk disk → IsKept C.documents C.base (D.durable disk) (D.seen disk) (D.given disk) [] (sum_text sum) }
         requires whole { D.is_disk disk → IsWhole (D.given disk) }
-        requires began { D.is_disk disk → C.since ≡ D.moment disk }
+        requires recalled { D.is_disk disk → HasRecalled C.documents C.base C.since (D.moment disk) (D.left_since disk) }
         requires input { D.is_disk disk → IsAccounted C.input (D.given disk) (R.remaining inner) }
         ensures remaining { prepend_known (items result.window) (R.remaining result.inner) ≡ prepend_known [] (R.remaining inner) }
         ensures disk { result.disk ≡ disk }

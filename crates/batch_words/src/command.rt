@@ -21,6 +21,13 @@ pub enum Subcommand {
     Judge(Judgement),
     /// To serve event lines from standard input over a set.
     Serve(Source),
+    /// To serve them over the set of the documents at these paths, with a journal of them in the file at the first one.
+    Keep {
+        journal: String,
+        cell: String,
+        certificate: String,
+        recipes: Vec<String>,
+    },
     /// To tell what a record says: the one at this path, or the one on standard input.
     Status { path: Option<String> },
     /// To run the demo's plant: its hub in the thread that calls, its console and its link to the units in threads of their own.
