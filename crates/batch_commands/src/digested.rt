@@ -1,7 +1,7 @@
 //! Reading the documents of a set of which a journal is kept.
 ghost use Rattle.std.specs.Prelude.{◌≡◌, ◌++◌, ◌∷◌, [], ℕ, List, map, IfOk, IfErr, string_bytes};
 ghost use Rattle.batch_journal.specs.Digests.{HasTaken};
-ghost use Rattle.batch_commands.specs.Digested.{AreDigested, ReadsCellText, ReadsRecipeText, ReadsTexts};
+ghost use Rattle.batch_commands.specs.Digested.{AreDigested, AreTaken, ReadsCellText, ReadsRecipeText};
 ghost use Rattle.batch_commands.specs.Halting.{HaltsAtCell, HaltsAtRecipe, HaltsAtRecipes, HaltsClearing};
 
 use crate::documents::{Documents, read_certificate};
@@ -83,8 +83,7 @@ fn read_recipes<D: Documents>(
     paths: &[String],
     digest: &mut DocumentsDigest,
 ) -> Result<Vec<Recipe>, Halt>
-    ensures read { IfOk result (λ recipes. (read : List (List ℕ)) × ReadsTexts (D.gives documents.now) (map string_bytes paths.now) read recipes.items
-        × ((texts : List (List ℕ)) → HasTaken digest.old texts → HasTaken digest.new (texts ++ read))) }
+    ensures read { IfOk result (λ recipes. AreTaken (D.gives documents.now) (map string_bytes paths.now) recipes.items digest.old digest.new) }
     ensures halted { IfErr result (HaltsAtRecipes (D.gives documents.now) (map string_bytes paths.now)) }
 {
     let mut recipes = Vec::new(alloc);

@@ -13,3 +13,4 @@ mod SumLemmas
 mod WritingLemmas
 pub mod ReaderLemmas
 mod DamageLemmas
+mod DigestLemmas

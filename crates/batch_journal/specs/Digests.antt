@@ -1,5 +1,5 @@
 -- surface: the digest of the documents that a journal is of.
-use Rattle.std.specs.Prelude.{ℕ, List, [], ◌∷◌, ◌++◌, length, decimal}
+use Rattle.std.specs.Prelude.{◌≡◌, ◌==◌, ◌<◌, ℕ, false, slice_index, List, [], ◌∷◌, ◌++◌, length, decimal}
 use Rattle.hex.specs.Hex.{encode_lower}
 use Rattle.sha2.specs.Hashers.{Holds256}
 use Rattle.sha2.specs.Sha256.{sha256}
@@ -16,3 +16,7 @@ digits_of texts = encode_lower (sha256 (counted texts))
 
 abbrev pub HasTaken : DocumentsDigest → List (List ℕ) → Type 0
 HasTaken digest texts = Holds256 digest.hasher (counted texts)
+
+-- no zero and no line feed
+abbrev pub IsPlain : List ℕ → Type 0
+IsPlain text = (k : ℕ) → k < length text → ((slice_index text k == 0) ≡ false) × ((slice_index text k == 10) ≡ false)

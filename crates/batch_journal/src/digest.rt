@@ -1,6 +1,7 @@
 //! The digest of the documents that a journal is of.
-ghost use Rattle.std.specs.Prelude.{◌≡◌, ◌++◌, ◌∷◌, [], List, ℕ};
-ghost use Rattle.batch_journal.specs.Digests.{HasTaken, digits_of};
+ghost use Rattle.std.specs.Prelude.{◌≡◌, ◌++◌, ◌∷◌, [], List, ℕ, length};
+ghost use Rattle.batch_journal.specs.Digests.{HasTaken, IsPlain, digits_of};
+ghost use Rattle.hex.specs.Hex.{encode_lower};
 ghost use Rattle.batch_journal.specs.Lines.{IsLine};
 
 use itoa::Buffer;
@@ -10,7 +11,7 @@ use sha2::{Digest, Sha256};
 #[derive(Clone, Copy, Debug, PartialEq, Eq)]
 pub struct Digits {
     text: [u8; 64],
-    ghost line: { IsLine text },
+    ghost plain: { IsPlain text },
 }
 
 impl Digits {
@@ -53,8 +54,18 @@ impl DocumentsDigest {
     pub fn digits(self) -> Digits
         ensures { (texts : List (List ℕ)) → HasTaken self texts → result.text ≡ digits_of texts }
     {
-        let mut text = [0u8; 64];
-        let _written = hex::encode_to_slice(&self.hasher.finalize(), &mut text);
+        let text = hex_digits(&self.hasher.finalize());
         Digits { text }
     }
+}
+
+/// The digits of a digest.
+fn hex_digits(digest: &[u8]) -> [u8; 64]
+    requires { length digest.now ≡ 32 }
+    ensures digits { result ≡ encode_lower digest.now }
+    ensures plain { IsPlain result }
+{
+    let mut digits = [0u8; 64];
+    let _written = hex::encode_to_slice(digest, &mut digits);
+    digits
 }

@@ -8,7 +8,7 @@ mod serving;
 mod start;
 
 pub use block::{BlockFault, block_rows, recovery_block};
-pub use holding::{KeepFault, serve_holding};
+pub use holding::{KeepFault, serve_holding, serve_started};
 pub use replaying::replay;
 pub use serving::{Journal, serve_in_memory, serve_journalled};
 pub use start::{StartFault, Started, start};

@@ -1,3 +1,5 @@
+pub mod JournalRuns
+pub mod Keeping
 pub mod PlantRuns
 pub mod PlantWork
 pub mod Programs

@@ -1,45 +1,35 @@
 //! Serving over a journal.
+ghost use Rattle.std.specs.Prelude.{◌≡◌, ◌⊎◌, [], IsOk};
+ghost use Rattle.batch_engine.specs.View.{setup, plant_of};
+ghost use Rattle.batch_wire.specs.Written.{Writes};
+ghost use Rattle.batch_journal.specs.Journals.{recovered, sum_text};
+ghost use Rattle.batch_journal.specs.Lines.{text_of};
+ghost use Rattle.batch_journal.specs.Readers.{HasRecalled, IsAccounted, IsKept, IsWhole};
+ghost use Rattle.batch_commands.specs.Running.{fault_status, memory_status, success_status};
+ghost use Rattle.batch_program.specs.JournalRuns.{IsJournalRun, IsOverFile};
+ghost use Rattle.batch_program.specs.Keeping.{IsToldBehind, cleaned};
+
+use crate::journal_faults::{
+    complain_block, complain_stopped, complain_unopened, refuse_start, tell_cut,
+};
 use crate::journals::Journals;
 use crate::noted::Noted;
 use crate::program::{MAX_READS, tell_left};
-use batch_commands::{
-    Digested, FILE_FAULT, NO_MEMORY, OUT_OF_MEMORY, SUCCESS, complain, print, print_bytes, tell,
-};
-use batch_journal::{Disk, DiskError, RecoveryFault};
-use batch_keep::{BlockFault, Journal, KeepFault, StartFault, Started, serve_holding, start};
-use batch_sentences::shown;
-use batch_serve::{CleanReader, ServeFault};
-use batch_status::StatusFault;
-use std::alloc::{AllocError, Global};
-use std::fmt::Display;
+use batch_commands::{Digested, SUCCESS};
+use batch_engine::Engine;
+use batch_journal::{Disk, Run};
+use batch_keep::{Journal, KeepFault, Started, serve_started, start};
+use batch_serve::{CleanReader, clean_lines_serve_alike, write_out};
+use std::alloc::Global;
 use std::io;
-use std::io::{ErrorKind, Read, Write};
+use std::io::{Read, Write};
+use std::marker::Brand;
 use std::time::Clock;
-use thiserror::Error;
 
-/// The exit status where a journal is refused.
-const REFUSED: u8 = 1;
-
-/// Why nothing can be served over the journal at this path.
-#[derive(Debug, Error, Drop)]
-#[error("{path}: {reason}")]
-struct FailedJournal<T> {
-    path: String,
-    reason: T,
-}
-
-/// Why serving stopped, and the reason that the stream gave.
-#[derive(Debug, Error, Drop)]
-#[error("{fault}: {reason}")]
-struct Stop {
-    fault: ServeFault,
-    reason: io::Error,
-}
-
-/// Serves event lines from the input over the set, with a journal in the file at the path, and gives the exit status.
+/// Serves event lines from the input over the set, with a journal of them in the file at the path, and gives the exit status.
 ///
 /// The lines that the journal has are served again first, without their answers being written, and the recovery block stands before all
-/// else on the output. A journal that is damaged, or of other documents, is refused by a line on the output.
+/// else on the output. A file that is no journal, or one of other documents, or damaged, is refused by a line on the output.
 pub fn keep_journal<J: Journals, R: Read, W: Write, E: Write>(
     alloc: Global,
     digested: Digested,
@@ -49,12 +39,28 @@ pub fn keep_journal<J: Journals, R: Read, W: Write, E: Write>(
     input: &mut Noted<R>,
     output: Noted<W>,
     errors: &mut E,
-) -> (u8, Noted<W>) {
+) -> (u8, Noted<W>)
+    ensures { IsJournalRun (record {
+          File = J.File;
+          opens = J.opens journals.now;
+          is_disk = J.File.is_disk;
+          durable = J.File.durable;
+          seen = J.File.seen;
+          given = J.File.given;
+          moment = J.File.moment;
+          left_since = J.File.left_since;
+        }) digested.set digested.documents.text path.now
+        (record {
+          unread = R.remaining input.old.stream;
+          left = R.remaining input.new.stream;
+          before = W.contents output.stream;
+          after = W.contents result.1.stream;
+        }) result.0 }
+{
     match journals.open_journal(path) {
         Ok(disk) => {
-            let clock = journals.clock();
-            let (status, _, output) = serve_disk(
-                alloc, digested, quiet, path, disk, clock, input, output, errors,
+            let (status, _, output) = serve_file::<J, R, W, E, Brand>(
+                alloc, digested, quiet, path, journals, disk, input, output, errors,
             );
             (status, output)
         }
@@ -62,45 +68,65 @@ pub fn keep_journal<J: Journals, R: Read, W: Write, E: Write>(
     }
 }
 
-/// The same over the disk that was opened, which is given back.
-pub fn serve_disk<D: Disk, K: Clock + Drop, R: Read, W: Write, E: Write>(
+/// The same over the file that was opened, which is given back.
+fn serve_file<J: Journals, R: Read, W: Write, E: Write, C: Run>(
     alloc: Global,
     digested: Digested,
     quiet: bool,
     path: &str,
-    mut disk: D,
-    clock: K,
+    journals: &J,
+    mut disk: J::File,
     input: &mut Noted<R>,
     mut output: Noted<W>,
     errors: &mut E,
-) -> (u8, D, Noted<W>) {
+) -> (u8, J::File, Noted<W>)
+    requires fresh { J.File.is_disk disk → (J.File.durable disk ≡ J.File.seen disk) × (J.File.given disk ≡ []) }
+    requires base { C.base ≡ text_of (recovered digested.documents.text (J.File.seen disk)) }
+    requires since { C.since ≡ J.File.moment disk }
+    requires input { C.input ≡ cleaned (R.remaining input.old.stream) }
+    ensures { IsOverFile (record {
+          File = J.File;
+          opens = J.opens journals.now;
+          is_disk = J.File.is_disk;
+          durable = J.File.durable;
+          seen = J.File.seen;
+          given = J.File.given;
+          moment = J.File.moment;
+          left_since = J.File.left_since;
+        }) digested.set digested.documents.text path.now disk result.1
+        (record {
+          unread = R.remaining input.old.stream;
+          left = R.remaining input.new.stream;
+          before = W.contents output.stream;
+          after = W.contents result.2.stream;
+        }) result.0 }
+{
     match start(alloc, digested.set, &mut disk, digested.documents) {
         Ok(started) => {
             tell_cut(alloc, quiet, path, started.cut, errors);
-            let status = print_bytes(&mut output, errors, &started.block, SUCCESS);
-            if status != SUCCESS {
-                return (status, disk, output);
-            }
-            let Started { mut engine, sum, .. } = started;
+            let Started {
+                mut engine,
+                sum,
+                block,
+                ..
+            } = started;
             let journal = Journal {
                 disk,
-                clock,
+                clock: journals.clock(),
                 sum,
                 documents: digested.documents.text(),
             };
-            let reader = CleanReader::new(&mut *input);
-            let (served, disk, output) =
-                serve_holding(alloc, &mut engine, reader, journal, output, MAX_READS);
-            match served {
-                Ok(()) => {
-                    tell_left(alloc, quiet, engine.unfinished(), errors);
-                    (SUCCESS, disk, output)
-                }
-                Err(fault) => {
-                    let status = complain_stopped(alloc, path, fault, input, &output, errors);
-                    (status, disk, output)
-                }
-            }
+            serve_behind::<J::File, J::Time, R, W, E, Brand>(
+                alloc,
+                &mut engine,
+                &block,
+                quiet,
+                path,
+                journal,
+                input,
+                output,
+                errors,
+            )
         }
         Err(fault) => {
             let status = refuse_start(alloc, quiet, path, fault, &mut output, errors);
@@ -109,127 +135,77 @@ pub fn serve_disk<D: Disk, K: Clock + Drop, R: Read, W: Write, E: Write>(
     }
 }
 
-/// Prints why a journal is refused, or tells why it can't be served over, and gives the exit status.
-fn refuse_start<W: Write, E: Write>(
+/// Writes the recovery block, and serves the input behind it.
+fn serve_behind<D: Disk, K: Clock + Drop, R: Read, W: Write, E: Write, C: Run>(
+    alloc: Global,
+    engine: &mut Engine,
+    block: &[u8],
+    quiet: bool,
+    path: &str,
+    journal: Journal<D, K>,
+    input: &mut Noted<R>,
+    mut output: Noted<W>,
+    errors: &mut E,
+) -> (u8, D, Noted<W>)
+    requires at_rest { D.is_disk journal.disk → IsKept C.documents C.base (D.durable journal.disk) (D.seen journal.disk) (D.given journal.disk) [] (sum_text journal.sum) }
+    requires whole { D.is_disk journal.disk → IsWhole (D.given journal.disk) }
+    requires recalled { D.is_disk journal.disk → HasRecalled C.documents C.base C.since (D.moment journal.disk) (D.left_since journal.disk) }
+    requires accounted { D.is_disk journal.disk → IsAccounted C.input (D.given journal.disk) (cleaned (R.remaining input.old.stream)) }
+    requires input { C.input ≡ cleaned (R.remaining input.old.stream) }
+    requires was { D.is_disk journal.disk → C.was }
+    ensures any_moment { D.is_disk result.1 → HasRecalled C.documents C.base C.since (D.moment result.1) (D.left_since result.1) }
+    ensures stays { D.is_disk result.1 → ∥ C.was ∥₁ }
+    ensures told { IsToldBehind (setup engine.old.cleared) (plant_of engine.old) C.documents C.base (D.is_disk result.1)
+        (D.durable result.1) (D.seen result.1) (D.given result.1) block.now (R.remaining input.old.stream) (W.contents output.stream) (W.contents result.2.stream) result.0 }
+{
+    clean_lines_serve_alike();
+    if let Err(error) = write_block(&mut output, block) {
+        return (complain_block(error, errors), journal.disk, output);
+    }
+    let reader = CleanReader::new(&mut *input);
+    let (served, disk, output) =
+        serve_started::<CleanReader<&mut Noted<R>>, D, K, Noted<W>, C>(alloc, engine, reader, journal, output, MAX_READS);
+    let status = tell_end(
+        alloc,
+        quiet,
+        path,
+        served,
+        engine.unfinished(),
+        input,
+        &output,
+        errors,
+    );
+    (status, disk, output)
+}
+
+/// Tells how many batches the end of the input left unfinished, or why serving stopped, and gives the exit status.
+fn tell_end<R: Read, W: Write, E: Write>(
     alloc: Global,
     quiet: bool,
     path: &str,
-    fault: StartFault,
-    output: &mut W,
-    errors: &mut E,
-) -> u8 {
-    match fault {
-        StartFault::Recovery(RecoveryFault::Disk(DiskError::File)) => {
-            complain_journal(alloc, path, DiskError::File, FILE_FAULT, errors)
-        }
-        StartFault::Recovery(RecoveryFault::Disk(DiskError::Memory)) | StartFault::Memory => {
-            complain(errors, OUT_OF_MEMORY, NO_MEMORY)
-        }
-        StartFault::Recovery(refusal) => refuse(alloc, quiet, path, refusal, output, errors),
-        StartFault::Block(BlockFault::Memory)
-        | StartFault::Block(BlockFault::Status(StatusFault::Memory)) => {
-            complain(errors, OUT_OF_MEMORY, NO_MEMORY)
-        }
-        StartFault::Block(fault) => complain_journal(alloc, path, fault, FILE_FAULT, errors),
-    }
-}
-
-/// Prints the refusal of a journal, and says what it means, unless quiet is asked for.
-fn refuse<W: Write, E: Write>(
-    alloc: Global,
-    quiet: bool,
-    path: &str,
-    refusal: RecoveryFault,
-    output: &mut W,
-    errors: &mut E,
-) -> u8 {
-    let Ok(text) = refusal_text(alloc, path, refusal) else {
-        return complain(errors, OUT_OF_MEMORY, NO_MEMORY);
-    };
-    let status = print(output, errors, &text, REFUSED);
-    if status == REFUSED && !quiet {
-        complain_journal(alloc, path, refusal, REFUSED, errors);
-    }
-    status
-}
-
-/// The line of the refusal of a journal.
-fn refusal_text(alloc: Global, path: &str, refusal: RecoveryFault) -> Result<String, AllocError> {
-    match refusal {
-        RecoveryFault::OtherDocuments => format!(in alloc; "refused J2 {path}\n"),
-        RecoveryFault::Damaged(line) => format!(in alloc; "refused J3 {path} {line}\n"),
-        _ => format!(in alloc; "refused J1 {path}\n"),
-    }
-}
-
-/// Tells how many bytes were cut off behind the last whole group, where there were any and quiet isn't asked for.
-fn tell_cut<E: Write>(alloc: Global, quiet: bool, path: &str, cut: usize, errors: &mut E) {
-    if quiet || cut == 0 {
-        return;
-    }
-    let Ok(path) = shown(alloc, path) else {
-        return;
-    };
-    if let Ok(line) = cut_text(alloc, &path, cut) {
-        tell(errors, &line);
-    }
-}
-
-fn cut_text(alloc: Global, path: &str, cut: usize) -> Result<String, AllocError> {
-    if cut == 1 {
-        format!(in alloc; "batchd: {path}: 1 byte behind the last whole group was cut off\n")
-    } else {
-        format!(in alloc; "batchd: {path}: {cut} bytes behind the last whole group were cut off\n")
-    }
-}
-
-/// Tells why serving over a journal stopped, and gives the exit status.
-fn complain_stopped<R: Read, W: Write, E: Write>(
-    alloc: Global,
-    path: &str,
-    fault: KeepFault,
+    served: Result<(), KeepFault>,
+    left: usize,
     input: &Noted<R>,
     output: &Noted<W>,
     errors: &mut E,
-) -> u8 {
-    match fault {
-        KeepFault::Memory => complain(errors, OUT_OF_MEMORY, NO_MEMORY),
-        KeepFault::Serve(ServeFault::Read) => match input.failure() {
-            Some(reason) => complain_stream(ServeFault::Read, Some(reason), errors),
-            None => complain_journal(alloc, path, DiskError::File, FILE_FAULT, errors),
-        },
-        KeepFault::Serve(ServeFault::Write) => {
-            complain_stream(ServeFault::Write, output.failure(), errors)
+) -> u8
+    ensures well { result ≡ success_status → IsOk served }
+    ensures ends { (result ≡ success_status) ⊎ (result ≡ fault_status) ⊎ (result ≡ memory_status) }
+{
+    match served {
+        Ok(()) => {
+            tell_left(alloc, quiet, left, errors);
+            SUCCESS
         }
-        KeepFault::Serve(fault) => complain_stream(fault, None, errors),
+        Err(fault) => complain_stopped(alloc, path, fault, input, output, errors),
     }
 }
 
-fn complain_stream<E: Write>(fault: ServeFault, reason: Option<io::Error>, errors: &mut E) -> u8 {
-    match reason {
-        Some(reason) => complain(errors, Stop { fault, reason }, FILE_FAULT),
-        None => complain(errors, fault, FILE_FAULT),
-    }
-}
-
-/// Tells why the journal at the path can't be opened.
-fn complain_unopened<E: Write>(alloc: Global, path: &str, reason: io::Error, errors: &mut E) -> u8 {
-    if reason.kind() == ErrorKind::WouldBlock {
-        return complain_journal(alloc, path, "another process has it", FILE_FAULT, errors);
-    }
-    complain_journal(alloc, path, reason, FILE_FAULT, errors)
-}
-
-/// Tells what is wrong with the journal at the path, and gives the exit status, or that of want of memory.
-fn complain_journal<T: Display + Drop, E: Write>(
-    alloc: Global,
-    path: &str,
-    reason: T,
-    status: u8,
-    errors: &mut E,
-) -> u8 {
-    match shown(alloc, path) {
-        Ok(path) => complain(errors, FailedJournal { path, reason }, status),
-        Err(_) => complain(errors, OUT_OF_MEMORY, NO_MEMORY),
-    }
+/// Writes the block and hands it on.
+fn write_block<W: Write>(output: &mut W, block: &[u8]) -> io::Result<()>
+    ensures { Writes (W.contents output.old) (W.contents output.new) result block.now }
+{
+    let (_, outcome) = write_out(output, block);
+    outcome?;
+    output.flush()
 }

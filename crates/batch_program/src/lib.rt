@@ -1,6 +1,7 @@
 //! The program: what its words ask for, over files and streams. `main` of the program and of every stored run calls it.
 #![tactic(auto)]
 
+mod journal_faults;
 mod journals;
 mod keeping;
 mod laws;
@@ -18,7 +19,7 @@ mod steady_units;
 mod threads;
 
 pub use journals::Journals;
-pub use keeping::{keep_journal, serve_disk};
+pub use keeping::keep_journal;
 pub use laws::{plants_are_complete, serving_is_safe};
 pub use limits::{read_limit_is_fixed, turn_limit_is_fixed};
 pub use noted::Noted;

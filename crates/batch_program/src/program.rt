@@ -29,7 +29,7 @@ struct Stop {
 }
 
 /// Does what the words ask for, and gives the exit status: judges documents, serves event lines from the input over the set
-/// that they name, tells what a record says, or has the demo's plant run.
+/// that they name, with a journal or without one, tells what a record says, or has the demo's plant run.
 ///
 /// Verdicts, help, the record, what one tells and the lines of a plant go to the output, and all else, in a free text, to the errors. Refused
 /// events are part of the record and don't change the status. Where the input ends while batches are neither complete, stopped
@@ -49,7 +49,18 @@ pub fn run_program<
     mut output: Noted<W>,
     errors: &mut E,
 ) -> (u8, Noted<W>)
-    ensures { IsProgramRun (D.gives documents.now) (D.holds documents.now) (map string_bytes words.now)
+    ensures { IsProgramRun (D.gives documents.now) (D.holds documents.now)
+        (record {
+          File = D.File;
+          opens = D.opens documents.now;
+          is_disk = D.File.is_disk;
+          durable = D.File.durable;
+          seen = D.File.seen;
+          given = D.File.given;
+          moment = D.File.moment;
+          left_since = D.File.left_since;
+        })
+        (map string_bytes words.now)
         (record {
           unread = R.remaining input.old.stream;
           left = R.remaining input.new.stream;

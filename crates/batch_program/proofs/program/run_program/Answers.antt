@@ -1,9 +1,9 @@
 use Rattle.std.proofs.Common.{map, option_map, string_bytes}
 use Rattle.std.proofs.KnownBytes.{Keeps-refl}
-use Rattle.batch_program.specs.Programs.{tells, serves, reads, plants}
+use Rattle.batch_program.specs.Programs.{tells, serves, keeps, reads, plants}
 use Rattle.batch_program.specs.declared.program.TheConstants.{MAX_READS}
 use Rattle.batch_program.proofs.Plants.{has_run}
-use Rattle.batch_program.proofs.Served.{left_kept, plant_to_run, record_kept, record_to_read, served_kept, set_to_serve, told_kept}
+use Rattle.batch_program.proofs.Served.{journal_kept, left_kept, plant_to_run, record_kept, record_to_read, served_kept, set_to_keep, set_to_serve, told_kept}
 use Rattle.batch_program.proofs.program.run_program.Goals as goal
 
 pub returns-in-Ends : goal.returns-in-Ends
@@ -20,6 +20,14 @@ returns-in-Serves g c =
     rw c.tell_served.ensures.status
     (serves is.source set served.result is.asked is.is_set (served_kept set MAX_READS served.result _ _ _ _ _ is.unwritten served.ensures)
     (rw is.hushed at told))
+
+pub returns-in-Keeps : goal.returns-in-Keeps
+returns-in-Keeps g c =
+    let digested = c.in-Keeps.digested in
+    let is = set_to_keep (g.D.Documents.gives c.args.documents.now) (map string_bytes c.args.words.now) _ _ _ digested c.in-Keeps.quiet c.in-Keeps.path
+    c.run_words.ensures c.in-Keeps.is in
+    keeps (string_bytes c.in-Keeps.path) is.cell is.certificate is.recipes digested.set digested.documents.text c.keep_journal.result.0 is.asked is.is_set
+    (journal_kept _ digested.set digested.documents.text (string_bytes c.in-Keeps.path) _ _ _ _ _ _ is.unwritten (rw c.deref.ensures at c.keep_journal.ensures))
 
 pub returns-in-Reads : goal.returns-in-Reads
 returns-in-Reads g c =

@@ -1,4 +1,5 @@
 use Rattle.std.proofs.Common.{refl, arith}
+use Rattle.std.proofs.lemmas.Grind.{merely}
 use Rattle.batch_journal.proofs.ReaderLemmas.{accounted_new}
 use Rattle.batch_journal.proofs.reader.JournalReader.new.Goals as goal
 
@@ -10,4 +11,5 @@ invariant_of-result g c = record {
   whole = λ d. c.requires.whole d;
   recalled = λ d. c.requires.recalled d;
   accounted = λ d. accounted_new _ _ _ _ c.new.ensures (c.requires.input d);
+  stays = λ d. merely (c.requires.was d);
 }
