@@ -84,6 +84,7 @@ fn refuse<W: Write, E: Write>(
 fn refusal_text(alloc: Global, path: &str, refusal: RecoveryFault) -> Result<String, AllocError>
     ensures { IfOk result (λ text. string_bytes text ≡ journal_text path.now refusal) }
 {
+    let path = shown(alloc, path)?;
     match refusal {
         RecoveryFault::Disk(_) | RecoveryFault::NoJournal => {
             format!(in alloc; "refused J1 {path}\n")

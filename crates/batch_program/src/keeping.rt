@@ -19,10 +19,10 @@ use batch_commands::{Digested, SUCCESS};
 use batch_engine::Engine;
 use batch_journal::{Disk, Run};
 use batch_keep::{Journal, KeepFault, Started, serve_started, start};
-use batch_serve::{CleanReader, clean_lines_serve_alike, write_out};
+use batch_serve::{CleanReader, clean_lines_serve_alike};
 use std::alloc::Global;
 use std::io;
-use std::io::{Read, Write};
+use std::io::{ErrorKind, Read, Write};
 use std::marker::Brand;
 use std::time::Clock;
 
@@ -201,11 +201,17 @@ fn tell_end<R: Read, W: Write, E: Write>(
     }
 }
 
-/// Writes the block and hands it on.
+/// Writes the block, as far as the output takes it, and hands it on.
 fn write_block<W: Write>(output: &mut W, block: &[u8]) -> io::Result<()>
     ensures { Writes (W.contents output.old) (W.contents output.new) result block.now }
 {
-    let (_, outcome) = write_out(output, block);
-    outcome?;
+    let mut written = 0;
+    while written < block.len() {
+        match output.write(&block[written..]) {
+            Ok(0) => return Err(io::Error::from(ErrorKind::WriteZero)),
+            Ok(count) => written += count,
+            Err(error) => return Err(error),
+        }
+    }
     output.flush()
 }

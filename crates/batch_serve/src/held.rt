@@ -134,8 +134,8 @@ impl<W: Write, C: Start> Write for Held<W, C> {
     }
 }
 
-/// Writes the bytes, and gives how many were written. The error is the writer's, or `WriteZero` where it took nothing.
-pub fn write_out<W: Write>(writer: &mut W, bytes: &[u8]) -> (usize, io::Result<()>)
+/// Writes the bytes, and gives how many were written.
+fn write_out<W: Write>(writer: &mut W, bytes: &[u8]) -> (usize, io::Result<()>)
     ensures bound { result.0 ≤ length bytes.now }
     ensures bytes { Appends (W.contents writer.old) (W.contents writer.new) (take result.0 bytes.now) }
     ensures all { OnOk result.1 (result.0 ≡ length bytes.now) }

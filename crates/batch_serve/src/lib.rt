@@ -13,7 +13,7 @@ mod set;
 
 pub use clean_lines::CleanReader;
 pub use fault::{ServeFault, SetFault};
-pub use held::{Held, Start, shows_want, write_out};
+pub use held::{Held, Start, shows_want};
 pub use laws::{
     clean_line_rows, clean_lines_agree, clean_lines_serve_alike, held_rows, no_want_is_well,
     serving_agrees, told_is_recovered, transcripts_are_safe, transcripts_are_whole,
