@@ -7,7 +7,8 @@ _batchd() {
     fi
     case ${COMP_WORDS[1]} in
         check) options="--dot --quiet --help" ;;
-        verify | run) options="--quiet --help" ;;
+        verify) options="--quiet --help" ;;
+        run) options="--journal --quiet --help" ;;
         plant) options="--batches --ticks --ring --help" ;;
         help) options="check verify run status plant explain" ;;
         explain) options="--help $("${COMP_WORDS[0]}" explain 2>/dev/null | cut -d : -f 1)" ;;
@@ -16,7 +17,7 @@ _batchd() {
     case $before in --batches | --ticks | --ring) return ;; esac
     if [[ $word == -* || ${COMP_WORDS[1]} =~ ^(plant|explain|help)$ ]]; then
         mapfile -t COMPREPLY < <(compgen -W "$options" -- "$word")
-    elif [ "${COMP_WORDS[1]}" = status ]; then
+    elif [ "${COMP_WORDS[1]}" = status ] || [ "$before" = --journal ]; then
         mapfile -t COMPREPLY < <(compgen -f -- "$word")
     else
         mapfile -t COMPREPLY < <(compgen -f -X '!*.@(toml|txt)' -- "$word"; compgen -d -S / -- "$word")

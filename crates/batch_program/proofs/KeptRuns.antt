@@ -15,8 +15,8 @@ use Rattle.batch_journal.specs.Readers.{IsAccounted, IsKept, IsWhole}
 use Rattle.batch_journal.specs.Recovery.{AreRests, IsRefusedFor}
 use Rattle.batch_journal.specs.declared.recovery.RecoveryFault.{RecoveryFault}
 use Rattle.batch_keep.specs.Starts.{IsStartRefused}
-use Rattle.batch_keep.specs.declared.start.StartFault.{StartFault}
-use Rattle.batch_keep.specs.declared.start.StartFault.TheVariants.{Recovery}
+use Rattle.batch_keep.specs.declared.starting.StartFault.{StartFault}
+use Rattle.batch_keep.specs.declared.starting.StartFault.TheVariants.{Recovery}
 use Rattle.batch_journal.specs.Disks.{Left}
 use Rattle.batch_journal.specs.Readers.{HasRecalled}
 use Rattle.batch_model.specs.Plant.{opening}

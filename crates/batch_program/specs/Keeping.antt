@@ -10,8 +10,8 @@ use Rattle.batch_journal.specs.Journals.{recovered}
 use Rattle.batch_journal.specs.Lines.{text_of}
 use Rattle.batch_journal.specs.declared.recovery.RecoveryFault.{RecoveryFault}
 use Rattle.batch_keep.specs.Told.{IsNeverLost}
-use Rattle.batch_keep.specs.declared.start.StartFault.{StartFault}
-use Rattle.batch_keep.specs.declared.start.StartFault.TheVariants.{Recovery}
+use Rattle.batch_keep.specs.declared.starting.StartFault.{StartFault}
+use Rattle.batch_keep.specs.declared.starting.StartFault.TheVariants.{Recovery}
 use Rattle.batch_commands.specs.Running.{Stream, fault_status, memory_status, success_status}
 use Rattle.batch_program.specs.JournalRuns.{IsJournalRefused}
 use Rattle.batch_program.specs.RecordRuns.{IsUntold}

@@ -69,29 +69,30 @@ pub fn run_program<
         })
         (record { before = E.contents errors.old; after = E.contents errors.new }) result.0 }
 {
-    let status = match run_words(alloc, words, documents, &mut output, errors) {
-        Course::Ends(status) => status,
+    match run_words(alloc, words, documents, &mut output, errors) {
+        Course::Ends(status) => (status, output),
         Course::Serves { set, quiet } => {
             let served = serve_set(alloc, set, input, &mut output, MAX_READS);
             let reason = reason_of(served, input, &output);
-            tell_served(alloc, quiet, served, reason, errors)
+            (tell_served(alloc, quiet, served, reason, errors), output)
         }
         Course::Keeps {
             digested,
             quiet,
             path,
-        } => {
-            return keep_journal(
-                alloc, digested, quiet, &path, documents, input, output, errors,
-            );
+        } => keep_journal(
+            alloc, digested, quiet, &path, documents, input, output, errors,
+        ),
+        Course::Reads { path } => {
+            let status = tell_record(alloc, path, documents, input, &mut output, errors);
+            (status, output)
         }
-        Course::Reads { path } => tell_record(alloc, path, documents, input, &mut output, errors),
         Course::Plants { set, options } => {
             let end = plants.run_plant(alloc, set, options);
-            report_of_plant(alloc, options.batches, &end, &mut output, errors)
+            let status = report_of_plant(alloc, options.batches, &end, &mut output, errors);
+            (status, output)
         }
-    };
-    (status, output)
+    }
 }
 
 /// The reason that the stream gave which stopped serving. A writer that takes nothing gives none.

@@ -33,8 +33,8 @@ pub returns-in-Reads : goal.returns-in-Reads
 returns-in-Reads g c =
     let path = c.in-Reads.path in
     let (asked, kept, silent) = record_to_read (g.D.Documents.gives c.args.documents.now) (map string_bytes c.args.words.now) _ _ _ path c.run_words.ensures c.in-Reads.is in
-    reads (option_map string_bytes path) c.tell_record.result asked
-    (record_kept (g.D.Records.holds c.args.documents.now) (option_map string_bytes path) _ _ _ _ _ _ _ _ _ kept silent c.tell_record.ensures)
+    reads (option_map string_bytes path) c.tell_record-status.result asked
+    (record_kept (g.D.Records.holds c.args.documents.now) (option_map string_bytes path) _ _ _ _ _ _ _ _ _ kept silent c.tell_record-status.ensures)
 
 pub returns-in-Plants : goal.returns-in-Plants
 returns-in-Plants g c =
@@ -43,5 +43,5 @@ returns-in-Plants g c =
     let (asked, cleared, kept, silent) =
     plant_to_run (g.D.Documents.gives c.args.documents.now) (map string_bytes c.args.words.now) _ _ _ course.set course.options
     c.run_words.ensures course.is in
-    plants course.set course.options end.result c.report_of_plant.result asked cleared (has_run course.set course.options end.result end.ensures)
-    (told_kept _ _ _ _ _ _ course.options.batches end.result _ kept silent c.report_of_plant.ensures) (Keeps-refl _)
+    plants course.set course.options end.result c.report_of_plant-status.result asked cleared (has_run course.set course.options end.result end.ensures)
+    (told_kept _ _ _ _ _ _ course.options.batches end.result _ kept silent c.report_of_plant-status.ensures) (Keeps-refl _)

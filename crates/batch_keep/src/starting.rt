@@ -30,7 +30,7 @@ pub enum StartFault {
 }
 
 impl From<RecoveryFault> for StartFault {
-    ghost use Rattle.batch_keep.specs.declared.start.StartFault.TheVariants as faults;
+    ghost use Rattle.batch_keep.specs.declared.starting.StartFault.TheVariants as faults;
 
     ghost from_gives = { λ refusal fault. fault ≡ faults.Recovery refusal };
 
@@ -40,7 +40,7 @@ impl From<RecoveryFault> for StartFault {
 }
 
 impl From<BlockFault> for StartFault {
-    ghost use Rattle.batch_keep.specs.declared.start.StartFault.TheVariants as faults;
+    ghost use Rattle.batch_keep.specs.declared.starting.StartFault.TheVariants as faults;
 
     ghost from_gives = { λ block fault. fault ≡ faults.Block block };
 

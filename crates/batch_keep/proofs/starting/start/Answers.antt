@@ -1,6 +1,6 @@
 use Rattle.std.proofs.Common.{◌≡◌}
 use Rattle.batch_journal.specs.Journals.{recovered}
-use Rattle.batch_keep.proofs.start.start.Goals as goal
+use Rattle.batch_keep.proofs.starting.start.Goals as goal
 
 pub returns-clause-block : goal.returns-clause-block
 returns-clause-block g c =
