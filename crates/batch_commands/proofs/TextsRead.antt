@@ -4,7 +4,8 @@ use Rattle.std.proofs.lemmas.List.{append-nil, map-append, take_more}
 use Rattle.batch_recipe.specs.declared.recipe.Recipe.{Recipe}
 use Rattle.batch_journal.specs.Digests.{HasTaken}
 use Rattle.batch_journal.specs.declared.digest.DocumentsDigest.{DocumentsDigest}
-use Rattle.batch_commands.specs.Digested.{AreTaken, ReadsRecipeText, ReadsTexts}
+use Rattle.batch_commands.specs.Digested.{ReadsRecipeText, ReadsTexts}
+use Rattle.batch_commands.specs.Taking.{AreTaken}
 use Rattle.batch_commands.specs.Reading.{Gives, ReadsRecipe, ReadsRecipes}
 
 pub none_taken : (gives : Gives) (rs : List Recipe) (digest : DocumentsDigest) → rs ≡ [] → AreTaken gives [] rs digest digest

@@ -1,13 +1,12 @@
 -- trusted: documents that are read one after the other, with the digest of their texts, by which a journal names them.
-use Rattle.std.specs.Prelude.{◌≡◌, ℕ, List, [], ◌∷◌, ◌++◌, Some, ⊤}
+use Rattle.std.specs.Prelude.{◌≡◌, ℕ, List, [], ◌∷◌, Some, ⊤}
 use Rattle.batch_cell.specs.declared.cell.Cell.{Cell}
 use Rattle.batch_recipe.specs.declared.recipe.Recipe.{Recipe}
 use Rattle.batch_reader.specs.CellDocument.{IsCellDocument}
 use Rattle.batch_reader.specs.RecipeDocument.{IsRecipeDocument}
 use Rattle.batch_verify.specs.CertificateText.{Rank}
 use Rattle.batch_verify.specs.ClearedSet.{ClearedSet}
-use Rattle.batch_journal.specs.Digests.{HasTaken, digits_of}
-use Rattle.batch_journal.specs.declared.digest.DocumentsDigest.{DocumentsDigest}
+use Rattle.batch_journal.specs.Digests.{digits_of}
 use Rattle.batch_commands.specs.Judging.{IsClearedBy}
 use Rattle.batch_commands.specs.Reading.{Gives, ReadsCertificate}
 
@@ -35,9 +34,3 @@ pub record AreDigested (gives : Gives) (cell certificate : List ℕ) (paths : Li
   pub recipes_read : ReadsTexts gives paths texts set.recipes
   pub cleared : IsClearedBy set.cell set.recipes ranks
   pub names : digits ≡ digits_of (cell_text ∷ texts)
-
--- these texts were read, and taken into the digest
-pub record AreTaken (gives : Gives) (paths : List (List ℕ)) (rs : List Recipe) (old new : DocumentsDigest) : Type 0 where
-  pub read : List (List ℕ)
-  pub texts : ReadsTexts gives paths read rs
-  pub taken : (before : List (List ℕ)) → HasTaken old before → HasTaken new (before ++ read)

@@ -3,6 +3,7 @@ pub mod Judging
 pub mod Bytes
 pub mod Reading
 pub mod Digested
+pub mod Taking
 pub mod Halting
 pub mod Running
 pub mod Statuses

@@ -1,7 +1,8 @@
 //! Reading the documents of a set of which a journal is kept.
 ghost use Rattle.std.specs.Prelude.{◌≡◌, ◌++◌, ◌∷◌, [], ℕ, List, map, IfOk, IfErr, string_bytes};
 ghost use Rattle.batch_journal.specs.Digests.{HasTaken};
-ghost use Rattle.batch_commands.specs.Digested.{AreDigested, AreTaken, ReadsCellText, ReadsRecipeText};
+ghost use Rattle.batch_commands.specs.Digested.{AreDigested, ReadsCellText, ReadsRecipeText};
+ghost use Rattle.batch_commands.specs.Taking.{AreTaken};
 ghost use Rattle.batch_commands.specs.Halting.{HaltsAtCell, HaltsAtRecipe, HaltsAtRecipes, HaltsClearing};
 
 use crate::documents::{Documents, read_certificate};

@@ -1,4 +1,4 @@
--- surface: the digest of the documents that a journal is of.
+-- trusted: the digest of the documents that a journal is of.
 use Rattle.std.specs.Prelude.{◌≡◌, ◌==◌, ◌<◌, ℕ, false, slice_index, List, [], ◌∷◌, ◌++◌, length, decimal}
 use Rattle.hex.specs.Hex.{encode_lower}
 use Rattle.sha2.specs.Hashers.{Holds256}

@@ -1,4 +1,4 @@
--- surface: what recovery finds in a file, and why it refuses one.
+-- trusted: what recovery finds in a file, and why it refuses one.
 use Rattle.std.specs.Prelude.{◌≡◌, ℕ, ◌+◌, ◌≤◌, ◌<◌, List, [], ◌∷◌, ◌++◌, length, take, drop, filter, ⊤, false, true, codes, nat_eq, slice_index, ◌==◌}
 use Rattle.std.specs.List.{starts_with}
 use Rattle.batch_journal.specs.Disks.{IsPart, Left, Begins}

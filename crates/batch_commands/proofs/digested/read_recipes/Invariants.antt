@@ -1,5 +1,5 @@
 use Rattle.std.proofs.Common.{map, take, string_bytes}
-use Rattle.batch_commands.specs.Digested.{AreTaken}
+use Rattle.batch_commands.specs.Taking.{AreTaken}
 use Rattle.batch_commands.proofs.digested.read_recipes.Given as goal
 
 abbrev pub invariant-loop-path : goal.invariant-loop-path
