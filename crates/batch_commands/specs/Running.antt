@@ -16,7 +16,8 @@ use Rattle.batch_commands.specs.Saying.{IsSaid}
 use Rattle.batch_verify.specs.ClearedSet.{ClearedSet}
 use Rattle.batch_words.specs.declared.plant_options.PlantOptions.{PlantOptions}
 use Rattle.batch_commands.specs.declared.course.Course.{Course}
-use Rattle.batch_commands.specs.declared.course.Course.TheVariants.{Ends, Serves, Keeps, Reads, Plants}
+use Rattle.batch_commands.specs.declared.course.Course.TheVariants.{Ends, Serves, Reads, Plants}
+use Rattle.batch_commands.specs.declared.course.Course.TheVariants as courses
 use Rattle.batch_commands.specs.declared.digested.Digested.{Digested}
 use Rattle.batch_commands.specs.declared.refusal.Halt.{Halt}
 use Rattle.batch_commands.specs.declared.refusal.Halt.TheVariants as halt
@@ -109,7 +110,7 @@ pub data IsDone (gives : Gives) (request : Request) (quiet : Bool) (output error
   -- with a journal at this path, which names the set by the digits of its documents
   keeps : (cell certificate : Text) (recipes : List Text) (journal : String Global) (digested : Digested)
       → request ≡ keep (string_bytes journal) cell certificate recipes → AreDigested gives cell certificate recipes digested.set digested.documents.text
-      → IsUnwritten output → IsUnwritten errors → IsDone gives request quiet output errors (Keeps digested quiet journal)
+      → IsUnwritten output → IsUnwritten errors → IsDone gives request quiet output errors (courses.Keeps digested quiet journal)
   reads : (path : Option (String Global))
       → request ≡ tell (option_map string_bytes path) → IsUnwritten output → IsUnwritten errors
       → IsDone gives request quiet output errors (Reads path)

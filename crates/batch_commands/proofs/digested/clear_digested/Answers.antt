@@ -12,10 +12,10 @@ returns-clause-digested g c =
       cell_text = cell.0;
       texts = recipes.read;
       ranks = c.in_ok-certificate.certificate.ranks.items;
-      cell_read = rw (← set.set.0) cell.1;
+      cell_read = rw set.set.0 cell.1;
       certificate_read = c.in_ok-certificate.ensures.read;
-      recipes_read = rw (← set.set.1) recipes.texts;
-      cleared = rw (← set.set.0, ← set.set.1) set.cleared;
+      recipes_read = rw set.set.1 recipes.texts;
+      cleared = rw (set.set.0, set.set.1) set.cleared;
       names = c.digits.ensures (cell.0 ∷ recipes.read) (recipes.taken (cell.0 ∷ []) (cell.2 [] c.new-digest.ensures));
     }
 
@@ -47,7 +47,7 @@ returns-in_err-set-clause-halted g c =
       record {
         cell_read = (cell.0, cell.1.0, cell.1.1);
         certificate_read = c.in_ok-certificate.ensures.read;
-        recipes_read = reads_recipes _ _ recipes.read _ recipes.texts;
+        recipes_read = reads_recipes (g.D.Documents.gives c.args.documents.now) _ recipes.read c.in_ok-recipes.recipes.items recipes.texts;
       },
       c.in_err-set.ensures.refused,
     ))

@@ -23,7 +23,7 @@ returns-in_err-recipe-clause-halted g c =
     let so_far = c.loop-path.invariant in
     let Halted : List ℕ → Type 0 = λ text. HaltsAtRecipe (g.D.Documents.gives c.args.documents.now) text c.in_err-recipe.field-0.0 in
     rw (p.1, p.2) (halts_at (g.D.Documents.gives c.args.documents.now) string_bytes c.args.paths.now c.loop-path.path-index c.path-item.result
-    c.loop-path.recipes.items c.in_err-recipe.field-0.0 within c.path-item.is (reads_recipes _ _ so_far.read _ so_far.texts)
+    c.loop-path.recipes.items c.in_err-recipe.field-0.0 within c.path-item.is (reads_recipes (g.D.Documents.gives c.args.documents.now) _ so_far.read c.loop-path.recipes.items so_far.texts)
     (subst Halted c.as_str.ensures.value c.in_err-recipe.ensures.halted))
 
 pub returns-in_err-push-clause-halted : goal.returns-in_err-push-clause-halted
