@@ -3,3 +3,4 @@ mod Again
 mod Comments
 mod Counting
 mod Blocks
+pub mod Beginning

@@ -1,13 +1,24 @@
 //! Laws over runs of the program.
 ghost use Rattle.batch_program.specs.Programs.{AuditsAreTrue, PlantsAreComplete, ServingIsSafe};
 
+use crate::journals::Journals;
 use crate::records::Records;
 use batch_commands::Documents;
 
 /// What the exit status 0 of a run that serves tells: the set is that of the documents, cleared by their certificate, all lines
 /// of the input were answered, and what was written is the text of a safe record.
-pub fn serving_is_safe<D: Documents + Records>(documents: &D)
-    ensures { ServingIsSafe (D.gives documents.now) (D.holds documents.now) }
+pub fn serving_is_safe<D: Documents + Records + Journals>(documents: &D)
+    ensures { ServingIsSafe (D.gives documents.now) (D.holds documents.now)
+        (record {
+          File = D.File;
+          opens = D.opens documents.now;
+          is_disk = D.File.is_disk;
+          durable = D.File.durable;
+          seen = D.File.seen;
+          given = D.File.given;
+          moment = D.File.moment;
+          left_since = D.File.left_since;
+        }) }
 {
     let _documents = documents;
 }
@@ -22,8 +33,18 @@ pub fn audits_are_true<D: Documents + Records>(documents: &D)
 
 /// What the exit status 0 of a run of `plant` tells: the three lines were written, and a record over the demo's set, of so many
 /// events as the third line says, leads to where the batches are complete that were asked for.
-pub fn plants_are_complete<D: Documents + Records>(documents: &D)
-    ensures { PlantsAreComplete (D.gives documents.now) (D.holds documents.now) }
+pub fn plants_are_complete<D: Documents + Records + Journals>(documents: &D)
+    ensures { PlantsAreComplete (D.gives documents.now) (D.holds documents.now)
+        (record {
+          File = D.File;
+          opens = D.opens documents.now;
+          is_disk = D.File.is_disk;
+          durable = D.File.durable;
+          seen = D.File.seen;
+          given = D.File.given;
+          moment = D.File.moment;
+          left_since = D.File.left_since;
+        }) }
 {
     let _documents = documents;
 }
