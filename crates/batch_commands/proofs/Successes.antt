@@ -135,10 +135,11 @@ done_keeping gives request quiet output errors digested hushed journal _ (keeps 
       silent = silent;
     }, cc)
 done_keeping gives request quiet output errors digested hushed journal _ (serves _ _ _ _ _ _) is = absurd cc
-done_keeping gives request quiet output errors digested hushed journal _ (judges _ _ _ _ _ _) is = absurd cc
+done_keeping gives request quiet output errors digested hushed journal _ (judges _ _ _ _ _ _ _) is = absurd cc
 done_keeping gives request quiet output errors digested hushed journal _ (explains _ _ _ _) is = absurd cc
-done_keeping gives request quiet output errors digested hushed journal _ (halts _ _ _ _) is = absurd cc
+done_keeping gives request quiet output errors digested hushed journal _ (halts _ _ _ _ _) is = absurd cc
 done_keeping gives request quiet output errors digested hushed journal _ (reads _ _ _ _) is = absurd cc
+done_keeping gives request quiet output errors digested hushed journal _ (audits _ _ _ _ _ _) is = absurd cc
 done_keeping gives request quiet output errors digested hushed journal _ (plants _ _ _ _ _ _) is = absurd cc
 
 served_set : (gives : Gives) (words : List Text) (output errors : Stream) (request : Request) (set : ClearedSet) (quiet : Bool) (course : Course)

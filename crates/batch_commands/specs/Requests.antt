@@ -47,7 +47,7 @@ HaltsSource gives (documents cell certificate recipes) h = HaltsClearing gives c
 -- of documents that are only judged it is warned
 abbrev pub Halts : Gives → Warns → Request → Halt → Type 0
 Halts gives warns (judge judgement) h = HaltsJudgement gives warns judgement h
-Halts gives (keep journal cell certificate recipes) h = HaltsClearing gives cell certificate recipes h
+Halts gives warns (keep journal cell certificate recipes) h = HaltsClearing gives cell certificate recipes h × warns []
 Halts gives warns (serve source) h = HaltsSource gives source h × warns []
 Halts gives warns (audit beginning path source) h = HaltsSource gives source h × warns []
 Halts gives warns (tell path) h = ⊥

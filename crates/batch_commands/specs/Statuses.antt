@@ -22,8 +22,8 @@ AreCodesTold texts output = (text : List ℕ) × Tells texts text × Appends out
 -- before it has served
 abbrev pub IsSuccess : Gives → Bool → Request → Stream → Stream → Type 0
 IsSuccess gives quiet (judge judgement) output errors =
-IsSuccess gives (keep journal cell certificate recipes) output = ⊥
     (text : List ℕ) × Appends output.before output.after text × IsVerdict gives (IsWarned quiet errors.before errors.after) judgement text
+IsSuccess gives quiet (keep journal cell certificate recipes) output errors = ⊥
 IsSuccess gives quiet (audit beginning path source) output errors = ⊥
 IsSuccess gives quiet (serve source) output errors = ⊥
 IsSuccess gives quiet (tell path) output errors = ⊥

@@ -12,6 +12,7 @@ use batch_cell::Cell;
 use batch_journal::{Digits, DocumentsDigest};
 use batch_reader::MAX_DOCUMENT_LEN;
 use batch_recipe::Recipe;
+use batch_sentences::Source;
 use batch_verify::Cleared;
 use std::alloc::Global;
 
@@ -38,8 +39,9 @@ pub fn clear_digested<D: Documents>(
     let mut digest = DocumentsDigest::new();
     let cell = read_cell(alloc, documents, cell, &mut digest)?;
     let certificate = read_certificate(alloc, documents, certificate)?;
-    let recipes = read_recipes(alloc, documents, recipes, &mut digest)?;
-    let set = clear_recipes(alloc, cell, recipes, &certificate)?;
+    let mut sources = Vec::new(alloc);
+    let recipes = read_recipes(alloc, documents, recipes, &mut sources, &mut digest)?;
+    let set = clear_recipes(alloc, cell, recipes, &sources, &certificate)?;
     Ok(Digested {
         set,
         documents: digest.digits(),
@@ -62,10 +64,12 @@ fn read_cell<D: Documents>(
     Ok(cell)
 }
 
+/// The recipe of the document at the path, whose source is put behind those of the recipes before it.
 fn read_recipe<D: Documents>(
     alloc: Global,
     documents: &D,
     path: &str,
+    sources: &mut Vec<Source>,
     digest: &mut DocumentsDigest,
 ) -> Result<Recipe, Halt>
     ensures read { IfOk result (λ recipe. (text : List ℕ) × ReadsRecipeText (D.gives documents.now) path.now text recipe
@@ -75,6 +79,7 @@ fn read_recipe<D: Documents>(
     let bytes = documents.read(alloc, path, MAX_DOCUMENT_LEN)?;
     let recipe = judge_recipe(alloc, path, &bytes)?;
     digest.take(&bytes);
+    sources.push(Source::of(alloc, path, &bytes)?)?;
     Ok(recipe)
 }
 
@@ -82,6 +87,7 @@ fn read_recipes<D: Documents>(
     alloc: Global,
     documents: &D,
     paths: &[String],
+    sources: &mut Vec<Source>,
     digest: &mut DocumentsDigest,
 ) -> Result<Vec<Recipe>, Halt>
     ensures read { IfOk result (λ recipes. AreTaken (D.gives documents.now) (map string_bytes paths.now) recipes.items digest.old digest.new) }
@@ -89,7 +95,7 @@ fn read_recipes<D: Documents>(
 {
     let mut recipes = Vec::new(alloc);
     for path in paths {
-        let recipe = read_recipe(alloc, documents, path.as_str(), digest)?;
+        let recipe = read_recipe(alloc, documents, path.as_str(), sources, digest)?;
         recipes.push(recipe)?;
     }
     Ok(recipes)

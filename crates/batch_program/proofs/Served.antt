@@ -263,6 +263,7 @@ done_to_audit gives words request quiet output errors _ set own asked (running.a
     subst (IsToAudit gives words output errors set) chosen
     (record { asked = subst (AskFor words) is_asked asked; is_set = subst (IsSetOf gives (source_of other.source)) same is_set; unwritten = kept; silent = silent })
 done_to_audit gives words request quiet output errors _ set own asked (running.serves _ _ _ _ _ _) is = absurd cc
+done_to_audit gives words request quiet output errors _ set own asked (running.keeps _ _ _ _ _ _ _ _ _) is = absurd cc
 done_to_audit gives words request quiet output errors _ set own asked (running.reads _ _ _ _) is = absurd cc
 done_to_audit gives words request quiet output errors _ set own asked (running.plants _ _ _ _ _ _) is = absurd cc
 done_to_audit gives words request quiet output errors _ set own asked (running.halts _ _ _ _ _) is = absurd cc
@@ -383,6 +384,10 @@ serves_no_journal source path cell certificate recipes is = cc
 plants_no_journal : (batches ticks ring : ℕ) (path cell certificate : Text) (recipes : List Text) → plant batches ticks ring ≡ keep path cell certificate recipes → ⊥
 plants_no_journal batches ticks ring path cell certificate recipes is = cc
 
+pub audits_no_journal : (beginning : Bool) (record_path : Text) (source : Source) (path cell certificate : Text) (recipes : List Text)
+    → audit beginning record_path source ≡ keep path cell certificate recipes → ⊥
+audits_no_journal beginning record_path source path cell certificate recipes is = cc
+
 safe_at : (gives : Gives) (holds : Holds) (disks : DiskKind) (words : List Text) (ends : serving.Ends) (errors : Stream) (source : Source) (status : ℕ)
     → AskFor words (serve source) → IsProgramRun gives holds disks words ends errors status → status ≡ 0
     → (set : ClearedSet) × (left : ℕ) × IsSetOf gives source set × AnswersAll set left ends × IsLeftTold (ask_quiet words) errors left
@@ -396,7 +401,7 @@ safe_at gives holds disks words ends errors source _ asked (keeps path cell cert
     absurd (serves_no_journal source path cell certificate recipes (same_request words (serve source) (keep path cell certificate recipes) asked asked2))
 safe_at gives holds disks words ends errors source _ asked (reads path _ asked2 _) is =
     absurd (serves_no_record source path (same_request words (serve source) (tell path) asked asked2))
-safe_at gives holds words ends errors source _ asked (audits beginning path other _ _ asked2 _ _) is =
+safe_at gives holds disks words ends errors source _ asked (audits beginning path other _ _ asked2 _ _) is =
     absurd (serves_no_audit source other beginning path (same_request words (serve source) (audit beginning path other) asked asked2))
 safe_at gives holds disks words ends errors source _ asked (plants _ options _ _ asked2 _ _ _ _) is =
     absurd (serves_no_plant source options.batches options.ticks options.ring (same_request words (serve source) _ asked asked2))
@@ -494,7 +499,6 @@ refusal_in_range path fault output status (inl (_, refused)) = rw refused (omega
 refusal_in_range path fault output status (inr (inl fails)) = rw fails (omega arith)
 refusal_in_range path fault output status (inr (inr (_, memory))) = rw memory (omega arith)
 
-run_in_range gives holds words ends errors status (audits beginning path _ set _ _ _ told) = audit_in_range holds set beginning path ends errors status told
 ends_in_range : (status : ℕ) → (status ≡ success_status) ⊎ (status ≡ fault_status) ⊎ (status ≡ memory_status) → status ≤ 4
 ends_in_range status (inl well) = rw well (omega arith)
 ends_in_range status (inr (inl fails)) = rw fails (omega arith)
@@ -517,6 +521,7 @@ run_in_range gives holds disks words ends errors _ (tells status came _) = cours
 run_in_range gives holds disks words ends errors _ (serves _ _ served _ _ _ _) = serving_in_range served
 run_in_range gives holds disks words ends errors status (keeps path _ _ _ set digits _ _ _ ran) = kept_in_range disks set digits path ends status ran
 run_in_range gives holds disks words ends errors status (reads path _ _ told) = record_in_range holds path ends errors status told
+run_in_range gives holds disks words ends errors status (audits beginning path _ set _ _ _ told) = audit_in_range holds set beginning path ends errors status told
 run_in_range gives holds disks words ends errors status (plants _ options end _ _ _ _ told _) = plant_in_range (output_of ends) errors options.batches end status told
 
 -- What a plant tells
@@ -548,7 +553,7 @@ told_plant gives holds disks words ends errors batches ticks ring _ asked (keeps
     absurd (plants_no_journal batches ticks ring path cell certificate recipes (same_request words (plant batches ticks ring) (keep path cell certificate recipes) asked asked2))
 told_plant gives holds disks words ends errors batches ticks ring _ asked (reads path _ asked2 _) is =
     absurd (plants_no_record batches ticks ring path (same_request words (plant batches ticks ring) (tell path) asked asked2))
-told_plant gives holds words ends errors batches ticks ring _ asked (audits beginning path source _ _ asked2 _ _) is =
+told_plant gives holds disks words ends errors batches ticks ring _ asked (audits beginning path source _ _ asked2 _ _) is =
     absurd (plants_no_audit batches ticks ring source beginning path (same_request words (plant batches ticks ring) (audit beginning path source) asked asked2))
 told_plant gives holds disks words ends errors batches ticks ring status asked (plants set options end _ asked2 demo ran told _) is =
     let same = same_batches options.batches batches options.ticks ticks options.ring ring (same_request words _ (plant batches ticks ring) asked2 asked) in

@@ -67,7 +67,7 @@ pub data IsProgramRun (gives : Gives) (holds : Holds) (disks : DiskKind) (words 
   -- what is found of the record that the words name, against the lines of the input over the set that they name, is printed
   audits : (beginning : Bool) (path : Text) (source : Source) (set : ClearedSet) (status : ℕ)
       → AskFor words (audit beginning path source) → IsSetOf gives source set → IsAuditTold holds set beginning path ends errors status
-      → IsProgramRun gives holds words ends errors status
+      → IsProgramRun gives holds disks words ends errors status
   -- the plant of the demo is run with the options that the words have, its end is told, and the input isn't read
   plants : (set : ClearedSet) (options : PlantOptions) (end : Result ℕ PlantFault) (status : ℕ)
       → AskFor words (plant options.batches options.ticks options.ring) → IsDemoSet set
@@ -87,10 +87,10 @@ ServingIsSafe gives holds disks =
 
 -- a run of `audit` that ends with status 0 has written `accepted`, and what the record at its path holds is the record of the lines of
 -- the input, or begins it where that is accepted, over the set of its documents, cleared by their certificate
-abbrev pub AuditsAreTrue : Gives → Holds → Type 0
-AuditsAreTrue gives holds =
+abbrev pub AuditsAreTrue : Gives → Holds → DiskKind → Type 0
+AuditsAreTrue gives holds disks =
     (words : List Text) (ends : serving.Ends) (errors : Stream) (beginning : Bool) (path : Text) (source : Source)
-    → AskFor words (audit beginning path source) → IsProgramRun gives holds words ends errors 0
+    → AskFor words (audit beginning path source) → IsProgramRun gives holds disks words ends errors 0
     → (set : ClearedSet) × (given : Option (List ℕ)) × IsSetOf gives source set × holds path given × Appends ends.before ends.after accepted_text
     × IfSome given (λ text. IfSome ends.unread (λ input. IsAccepted set beginning (lines_of input) text))
 

@@ -25,8 +25,18 @@ pub fn serving_is_safe<D: Documents + Records + Journals>(documents: &D)
 
 /// What the exit status 0 of a run of `audit` tells: `accepted` was written, and the record is that of the lines of the input, or
 /// begins it where that is accepted, over the set of the documents, cleared by their certificate.
-pub fn audits_are_true<D: Documents + Records>(documents: &D)
-    ensures { AuditsAreTrue (D.gives documents.now) (D.holds documents.now) }
+pub fn audits_are_true<D: Documents + Records + Journals>(documents: &D)
+    ensures { AuditsAreTrue (D.gives documents.now) (D.holds documents.now)
+        (record {
+          File = D.File;
+          opens = D.opens documents.now;
+          is_disk = D.File.is_disk;
+          durable = D.File.durable;
+          seen = D.File.seen;
+          given = D.File.given;
+          moment = D.File.moment;
+          left_since = D.File.left_since;
+        }) }
 {
     let _documents = documents;
 }

@@ -89,7 +89,8 @@ pub fn run_program<
             (status, output)
         }
         Course::Audits { set, audit } => {
-            audit_record(alloc, set, &audit, documents, input, output, errors)
+            let status = audit_record(alloc, set, &audit, documents, input, &mut output, errors);
+            (status, output)
         }
         Course::Plants { set, options } => {
             let end = plants.run_plant(alloc, set, options);

@@ -36,8 +36,8 @@ returns-in-Ok-clear_digested g c =
 pub returns-in-Keep : goal.returns-in-Keep
 returns-in-Keep g c =
     rw c.in-Keep.is
-    (halts c.in-Err-clear_digested.halt _
-    (rw (c.deref-in-Keep.ensures, c.deref-in-Keep-2.ensures, c.deref-in-Keep-3.ensures.value) at c.in-Err-clear_digested.ensures.halted)
+    (halts c.in-Err-clear_digested.halt _ _
+    (rw (c.deref-in-Keep.ensures, c.deref-in-Keep-2.ensures, c.deref-in-Keep-3.ensures.value) at c.in-Err-clear_digested.ensures.halted, silent _ _)
     c.announce-in-Err-clear_digested.ensures)
 
 pub returns-in-Status : goal.returns-in-Status

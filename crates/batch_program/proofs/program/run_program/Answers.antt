@@ -42,9 +42,9 @@ returns-in-Audits g c =
     let course = c.in-Audits in
     let own = course.audit in
     let is = set_to_audit (g.D.Documents.gives c.args.documents.now) (map string_bytes c.args.words.now) _ _ _ course.set own c.run_words.ensures course.is in
-    audits own.beginning (string_bytes own.path) (source_of own.source) course.set c.audit_record.result is.asked is.is_set
+    audits own.beginning (string_bytes own.path) (source_of own.source) course.set c.audit_record-status.result is.asked is.is_set
     (audit_kept (g.D.Records.holds c.args.documents.now) course.set own.beginning (string_bytes own.path) _ _ _ _ _ _ _ _ _ is.unwritten is.silent
-    c.audit_record.ensures)
+    c.audit_record-status.ensures)
 
 pub returns-in-Plants : goal.returns-in-Plants
 returns-in-Plants g c =
