@@ -151,7 +151,7 @@ static EXPLANATIONS: [Explanation; 49] = [
     },
     Explanation {
         code: "J3",
-        meaning: "the group that the line with this number closes is damaged",
+        meaning: "the group that this line (from 1) closes is damaged",
         remedy: "put a copy that has all its groups in its place; an older copy leads to another plant than the one that was told",
     },
     Explanation {
