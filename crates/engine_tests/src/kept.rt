@@ -15,7 +15,8 @@ use std::time::{Clock, Duration};
 const DOCUMENTS: [u8; 64] = [b'0'; 64];
 
 /// The journal of the input, in one group.
-const FILE: &[u8] = b"# batchd journal 1 0000000000000000000000000000000000000000000000000000000000000000
+const FILE: &[u8] =
+    b"# batchd journal 1 0000000000000000000000000000000000000000000000000000000000000000
 create A 1000
 start 1
 report R1 ADD done
@@ -106,10 +107,7 @@ fn begun(alloc: Global, syncs: u32) -> Result<Journal<Pages, Seven>, Fail> {
 }
 
 /// How serving the input ends where answers are held back, what the file has then, and what is told.
-fn held(
-    alloc: Global,
-    syncs: u32,
-) -> Result<(Result<(), KeepFault>, Vec<u8>, Vec<u8>), Fail> {
+fn held(alloc: Global, syncs: u32) -> Result<(Result<(), KeepFault>, Vec<u8>, Vec<u8>), Fail> {
     let mut engine = engine_of(alloc, CELL1, &[A])?;
     let journal = begun(alloc, syncs)?;
     let (ending, disk, told) = serve_holding(
