@@ -1,20 +1,27 @@
 use Rattle.std.proofs.Common.{◌≡◌}
 use Rattle.std.proofs.lemmas.Result.{err_from_is_err_and}
 use Rattle.batch_journal.specs.Journals.{recovered}
+use Rattle.batch_keep.proofs.Started.{block_as, same_lines}
 use Rattle.batch_keep.proofs.starting.start.Goals as goal
 
 pub returns-clause-block : goal.returns-clause-block
 returns-clause-block g c =
     let recovery = c.in_ok-recovered in
     let engine = c.in-Ok.ensures in
-    (recovered c.args.documents.text recovery.recovered.text.items,
-    rw (engine.cleared, engine.opening, c.text-digits.ensures.digits, c.deref.ensures.value) at c.in_ok-block.ensures.block,
-    rw c.text-digits.ensures.digits at recovery.ensures.lines)
+    (
+      recovered c.args.documents.text recovery.recovered.text.items,
+      block_as _ _ _ _ _ _ _ _ _ _ engine.cleared engine.opening c.text-digits.ensures.digits c.deref.ensures.value c.in_ok-block.ensures.block,
+      λ d. same_lines _ _ _ _ c.text-digits.ensures.digits (recovery.ensures.lines d),
+    )
 
 pub returns-clause-at_rest : goal.returns-clause-at_rest
 returns-clause-at_rest g c = λ d.
     let recovery = c.in_ok-recovered in
-    (recovery.recovered.text.items, rw c.text-digits.ensures.digits at (recovery.ensures.at_rest d), rw c.text-digits.ensures.digits at (recovery.ensures.lines d))
+    (
+      recovery.recovered.text.items,
+      rw c.text-digits.ensures.digits at (recovery.ensures.at_rest d),
+      same_lines _ _ _ _ c.text-digits.ensures.digits (recovery.ensures.lines d),
+    )
 
 pub returns-in_err-recovered-clause-refused : goal.returns-in_err-recovered-clause-refused
 returns-in_err-recovered-clause-refused g c = λ d.
