@@ -4,4 +4,4 @@ mod Comments
 mod Counting
 mod Blocks
 pub mod Beginning
-mod Started
+mod StartWords

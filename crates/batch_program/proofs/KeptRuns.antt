@@ -24,7 +24,9 @@ use Rattle.batch_verify.specs.ClearedSet.{ClearedSet}
 use Rattle.batch_engine.specs.View.{setup}
 use Rattle.batch_serve.specs.Serves as serving
 use Rattle.batch_keep.specs.Blocks.{IsBlockOf}
-use Rattle.batch_program.specs.JournalRuns.{DiskKind, IsJournalTold, refuses, stops, serves, fails}
+use Rattle.batch_commands.specs.Running.{IsPrinted, Stream, fault_status, memory_status}
+use Rattle.batch_program.specs.JournalRuns.{DiskKind, IsJournalRefused, IsJournalTold, journal_text, refuses, stops, serves, fails}
+use Rattle.batch_program.specs.PlantRuns.{refused_status}
 use Rattle.batch_program.specs.Keeping.{IsStartTold, IsToldBehind, cleaned}
 use Rattle.batch_program.specs.RecordRuns.{output_of}
 
@@ -82,7 +84,36 @@ pub start_refused : {A : Type 0} (documents file : List ℕ) (r : Result A Start
 start_refused documents file r fault refusal is recovery refused =
     subst (λ f. IsStartRefused documents file f) recovery (subst (λ (x : Result _ StartFault). IfErr x (IsStartRefused documents file)) is refused)
 
+-- Refusals
+
+pub journal_refused : (path : List ℕ) (fault : RecoveryFault) (output errors : Stream) (text : List ℕ) (status : ℕ) → text ≡ journal_text path fault
+    → IsPrinted output errors text refused_status status → IsJournalRefused path fault output status
+journal_refused path fault output errors text status is (inl (appends, _, refused)) = inl (subst (Appends output.before output.after) is appends, refused)
+journal_refused path fault output errors text status is (inr fails) = inr (inl fails)
+
+pub journal_starved : (path : List ℕ) (fault : RecoveryFault) (output : Stream) (status : ℕ) → Keeps output.before output.after → status ≡ memory_status
+    → IsJournalRefused path fault output status
+journal_starved path fault output status kept memory = inr (inr (kept, memory))
+
+pub start_told : (path : List ℕ) (fault : StartFault) (refusal : RecoveryFault) (output : Stream) (status : ℕ) → fault ≡ Recovery refusal
+    → IsJournalRefused path refusal output status → IsStartTold path fault output status
+start_told path fault refusal output status is told = inl (refusal, is, told)
+
+pub start_untold : (path : List ℕ) (fault : StartFault) (output : Stream) (status : ℕ) → Keeps output.before output.after
+    → (status ≡ fault_status) ⊎ (status ≡ memory_status) → IsStartTold path fault output status
+start_untold path fault output status kept is = inr (kept, is)
+
 -- Over the file
+
+-- what was told behind the block, by the set, the digits and the block that it was started with
+pub told_as : (set now_set : ClearedSet) (plant : Plant) (digits now_digits base : List ℕ) (is_disk : Type 0) (durable seen given block now_block : List ℕ) (unread before after : Option (List ℕ)) (status : ℕ)
+    → set ≡ now_set → digits ≡ now_digits → block ≡ now_block
+    → IsToldBehind (setup set) plant digits base is_disk durable seen given block unread before after status
+    → IsToldBehind (setup now_set) plant now_digits base is_disk durable seen given now_block unread before after status
+told_as set now_set plant digits now_digits base is_disk durable seen given block now_block unread before after status same_set same_digits same_block told =
+    subst (λ (b : List ℕ). IsToldBehind (setup now_set) plant now_digits base is_disk durable seen given b unread before after status) same_block
+    (subst (λ (d : List ℕ). IsToldBehind (setup now_set) plant d base is_disk durable seen given block unread before after status) same_digits
+    (subst (λ (s : ClearedSet). IsToldBehind (setup s) plant digits base is_disk durable seen given block unread before after status) same_set told))
 
 pub moments_as : {documents base now_documents now_base : List ℕ} {since now_since moment : ℕ} {left_since : ℕ → Left → Type 0} → documents ≡ now_documents → base ≡ now_base → since ≡ now_since
     → HasRecalled documents base since moment left_since → HasRecalled now_documents now_base now_since moment left_since

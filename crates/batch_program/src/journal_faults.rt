@@ -37,6 +37,7 @@ struct Stop {
 }
 
 /// Prints why a journal is refused, or tells why it can't be served over, and gives the exit status.
+#[tactic(auto, using(crate::proofs::KeptRuns::start_told, crate::proofs::KeptRuns::start_untold))]
 pub(crate) fn refuse_start<W: Write, E: Write>(
     alloc: Global,
     quiet: bool,
@@ -60,6 +61,7 @@ pub(crate) fn refuse_start<W: Write, E: Write>(
 }
 
 /// Prints the refusal of a journal, and says what it means, unless quiet is asked for.
+#[tactic(auto, using(crate::proofs::KeptRuns::journal_refused, crate::proofs::KeptRuns::journal_starved))]
 fn refuse<W: Write, E: Write>(
     alloc: Global,
     quiet: bool,

@@ -30,14 +30,14 @@ returns-in-Ok-clear_digested g c =
     rw c.in-Keep.is
     (keeps (string_bytes c.in-Keep.cell) (string_bytes c.in-Keep.certificate) (map string_bytes c.in-Keep.recipes.items) c.in-Keep.journal
     c.in-Ok-clear_digested.digested refl
-    (rw (c.deref-in-Keep.ensures, c.deref-in-Keep-2.ensures, c.deref-in-Keep-3.ensures.value) at c.in-Ok-clear_digested.ensures.digested)
+    (rw (c.deref-in-Keep.ensures, c.deref-in-Keep-2.ensures, c.deref-in-Keep-3.ensures.value, c.in-Keep.cell-is, c.in-Keep.certificate-is, c.in-Keep.recipes-is) at c.in-Ok-clear_digested.ensures.digested)
     (Keeps-refl _) (Keeps-refl _))
 
 pub returns-in-Keep : goal.returns-in-Keep
 returns-in-Keep g c =
     rw c.in-Keep.is
     (halts c.in-Err-clear_digested.halt _ _
-    (rw (c.deref-in-Keep.ensures, c.deref-in-Keep-2.ensures, c.deref-in-Keep-3.ensures.value) at c.in-Err-clear_digested.ensures.halted, silent _ _)
+    (rw (c.deref-in-Keep.ensures, c.deref-in-Keep-2.ensures, c.deref-in-Keep-3.ensures.value, c.in-Keep.cell-is, c.in-Keep.certificate-is, c.in-Keep.recipes-is) at c.in-Err-clear_digested.ensures.halted, silent _ _)
     c.announce-in-Err-clear_digested.ensures)
 
 pub returns-in-Status : goal.returns-in-Status

@@ -1,7 +1,7 @@
 use Rattle.std.proofs.Common.{◌≡◌}
 use Rattle.std.proofs.lemmas.Result.{err_from_is_err_and}
 use Rattle.batch_journal.specs.Journals.{recovered}
-use Rattle.batch_keep.proofs.Started.{block_as, same_lines}
+use Rattle.batch_keep.proofs.StartWords.{block_as, same_lines}
 use Rattle.batch_keep.proofs.starting.start.Goals as goal
 
 pub returns-clause-block : goal.returns-clause-block

@@ -7,8 +7,8 @@ use Rattle.batch_program.proofs.keeping.keep_journal.Given as goal
 abbrev pub ghosts-serve_file : goal.ghosts-serve_file
 ghosts-serve_file g a = record {
   documents = a.digested.documents.text;
-  base = text_of (recovered a.digested.documents.text (g.J.File.seen a.disk));
-  since = g.J.File.moment a.disk;
+  base = text_of (recovered a.digested.documents.text (g.J.File.Disk.seen a.disk));
+  since = g.J.File.Disk.moment a.disk;
   input = cleaned (g.R.Read.remaining a.input.stream);
   was = ⊤;
 }
