@@ -11,7 +11,7 @@ returns-clause-block g c =
     (
       recovered c.args.documents.text recovery.recovered.text.items,
       block_as _ _ _ _ _ _ _ _ _ _ engine.cleared engine.opening c.text-digits.ensures.digits c.deref.ensures.value c.in_ok-block.ensures.block,
-      λ d. same_lines _ _ _ _ c.text-digits.ensures.digits (recovery.ensures.lines d),
+      λ d. same_lines _ _ recovery.recovered.text.items (g.D.Disk.seen c.args.disk.now) c.text-digits.ensures.digits (recovery.ensures.lines d),
     )
 
 pub returns-clause-at_rest : goal.returns-clause-at_rest
@@ -20,7 +20,7 @@ returns-clause-at_rest g c = λ d.
     (
       recovery.recovered.text.items,
       rw c.text-digits.ensures.digits at (recovery.ensures.at_rest d),
-      same_lines _ _ _ _ c.text-digits.ensures.digits (recovery.ensures.lines d),
+      same_lines _ _ recovery.recovered.text.items (g.D.Disk.seen c.args.disk.now) c.text-digits.ensures.digits (recovery.ensures.lines d),
     )
 
 pub returns-in_err-recovered-clause-refused : goal.returns-in_err-recovered-clause-refused
