@@ -32,16 +32,6 @@ use Rattle.batch_program.specs.RecordRuns.{output_of}
 
 -- The block
 
-pub part_written : (old new : Option (List ℕ)) (n : ℕ) (text : List ℕ) → Appends old new (take n text) → AppendsBeginning old new text
-part_written old new n text appends = record { written = take n text; rest = drop n text; splits = sym (take-append-drop n text); appends = appends }
-
--- after a call that wrote nothing more
-pub part_kept : (old mid new : Option (List ℕ)) (n : ℕ) (text : List ℕ) → Appends old mid (take n text) → Keeps mid new → AppendsBeginning old new text
-part_kept old mid new n text appends kept = part_written old new n text (Appends-kept old mid new (take n text) appends kept)
-
-pub whole_taken : (old new : Option (List ℕ)) (n : ℕ) (text : List ℕ) → length text ≤ n → Appends old new (take n text) → Appends old new text
-whole_taken old new n text enough appends = subst (Appends old new) (take_all n text enough) appends
-
 pub then_flushed : {A E : Type 0} (old mid new : Option (List ℕ)) (r : Result A E) (text : List ℕ) → Appends old mid text → Keeps mid new → Writes old new r text
 then_flushed old mid new (Ok x) text appends kept = Appends-kept old mid new text appends kept
 then_flushed old mid new (Err e) text appends kept =
@@ -52,7 +42,7 @@ then_flushed old mid new (Err e) text appends kept =
 pub answered : (c : Setup) (plant new : Plant) {A E : Type 0} (r : Result A E) (unread given middle after : Option (List ℕ)) → CleanLinesServeAlike → given ≡ cleaned unread → IsOk r
     → OnOk r (IfSome given (λ all. WritesTranscript c plant (lines_of all) new middle after)) → IfSome unread (λ input. (last : Plant) × WritesTranscript c plant (lines_of input) last middle after)
 answered c plant new r None given middle after alike is ok served = tt
-answered c plant new (Err e) (Some input) given middle after alike is ok served = absurd ok
+answered c plant new (Err e) (Some input) given middle after alike is ok served = absurd cc
 answered c plant new (Ok x) (Some input) given middle after alike is ok served =
     let w = subst (λ (g : Option (List ℕ)). IfSome g (λ all. WritesTranscript c plant (lines_of all) new middle after)) is served in
     (new, record { said = w.said; transcript = alike c plant new input w.said w.transcript; leads = w.leads; appends = w.appends })
@@ -89,7 +79,7 @@ start_refused documents file r fault refusal is recovery refused =
 pub journal_refused : (path : List ℕ) (fault : RecoveryFault) (output errors : Stream) (text : List ℕ) (status : ℕ) → text ≡ journal_text path fault
     → IsPrinted output errors text refused_status status → IsJournalRefused path fault output status
 journal_refused path fault output errors text status is (inl (appends, _, refused)) = inl (subst (Appends output.before output.after) is appends, refused)
-journal_refused path fault output errors text status is (inr fails) = inr (inl fails)
+journal_refused path fault output errors text status is (inr failed) = inr (inl failed)
 
 pub journal_starved : (path : List ℕ) (fault : RecoveryFault) (output : Stream) (status : ℕ) → Keeps output.before output.after → status ≡ memory_status
     → IsJournalRefused path fault output status

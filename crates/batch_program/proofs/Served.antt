@@ -333,10 +333,10 @@ journal_told_kept disks set digits path start end unread left before mid after s
     journal.refuses fault refused (refusal_kept path fault before mid after status kept told)
 journal_told_kept disks set digits path start end unread left before mid after status kept (journal.stops untold) =
     journal.stops (untold_kept before mid after status kept untold)
-journal_told_kept disks set digits path start end unread left before mid after status kept (journal.serves lines plant block middle are is_block appends behind) =
-    journal.serves lines plant block middle are is_block (kept_then_appended before mid middle block kept appends) behind
-journal_told_kept disks set digits path start end unread left before mid after status kept (journal.fails lines plant block is_block begins is) =
-    journal.fails lines plant block is_block (kept_then_begun before mid after block kept begins) is
+journal_told_kept disks set digits path start end unread left before mid after status kept (journal.serves lines reached block middle are is_block appends behind) =
+    journal.serves lines reached block middle are is_block (kept_then_appended before mid middle block kept appends) behind
+journal_told_kept disks set digits path start end unread left before mid after status kept (journal.fails lines reached block is_block begins is) =
+    journal.fails lines reached block is_block (kept_then_begun before mid after block kept begins) is
 
 -- serving over a journal, after the writer was left as it was
 pub journal_kept : (disks : DiskKind) (set : ClearedSet) (digits path : List ℕ) (unread left before mid after : Option (List ℕ)) (status : ℕ) → Keeps before mid

@@ -124,10 +124,10 @@ fn cut_text(alloc: Global, path: &str, cut: usize) -> Result<String, AllocError>
 }
 
 /// Tells that the recovery block can't be written.
-pub(crate) fn complain_block<E: Write>(reason: io::Error, errors: &mut E) -> u8
+pub(crate) fn complain_block<E: Write>(reason: Option<io::Error>, errors: &mut E) -> u8
     ensures { result ≡ fault_status }
 {
-    complain_stream(ServeFault::Write, Some(reason), errors)
+    complain_stream(ServeFault::Write, reason, errors)
 }
 
 /// Tells why serving over a journal stopped, and gives the exit status.

@@ -1,5 +1,6 @@
 //! Serving over a journal.
 ghost use Rattle.std.specs.Prelude.{◌≡◌, ◌⊎◌, [], IsOk};
+ghost use Rattle.std.specs.Io.KnownBytes.{Keeps};
 ghost use Rattle.batch_engine.specs.View.{setup, plant_of};
 ghost use Rattle.batch_wire.specs.Written.{Writes};
 ghost use Rattle.batch_journal.specs.Journals.{recovered, sum_text};
@@ -20,9 +21,9 @@ use batch_engine::Engine;
 use batch_journal::{Disk, Run};
 use batch_keep::{Journal, KeepFault, Started, serve_started, start};
 use batch_serve::{CleanReader, clean_lines_serve_alike};
+use batch_wire::{WriteFault, write_all};
 use std::alloc::Global;
-use std::io;
-use std::io::{ErrorKind, Read, Write};
+use std::io::{Read, Write};
 use std::marker::Brand;
 use std::time::Clock;
 
@@ -159,8 +160,9 @@ fn serve_behind<D: Disk, K: Clock + Drop, R: Read, W: Write, E: Write, C: Run>(
         (D.durable result.1) (D.seen result.1) (D.given result.1) block.now (R.remaining input.old.stream) (W.contents output.stream) (W.contents result.2.stream) result.0 }
 {
     clean_lines_serve_alike();
-    if let Err(error) = write_block(&mut output, block) {
-        return (complain_block(error, errors), journal.disk, output);
+    if let Err(_) = write_block(&mut output, block) {
+        let status = complain_block(output.failure(), errors);
+        return (status, journal.disk, output);
     }
     let reader = CleanReader::new(&mut *input);
     let (served, disk, output) =
@@ -202,16 +204,21 @@ fn tell_end<R: Read, W: Write, E: Write>(
 }
 
 /// Writes the block, as far as the output takes it, and hands it on.
-fn write_block<W: Write>(output: &mut W, block: &[u8]) -> io::Result<()>
+fn write_block<W: Write>(output: &mut W, block: &[u8]) -> Result<(), WriteFault>
     ensures { Writes (W.contents output.old) (W.contents output.new) result block.now }
 {
-    let mut written = 0;
-    while written < block.len() {
-        match output.write(&block[written..]) {
-            Ok(0) => return Err(io::Error::from(ErrorKind::WriteZero)),
-            Ok(count) => written += count,
-            Err(error) => return Err(error),
-        }
+    match write_all(output, block) {
+        Ok(()) => flush(output),
+        Err(fault) => Err(fault),
     }
-    output.flush()
+}
+
+/// Hands on what is written.
+fn flush<W: Write>(output: &mut W) -> Result<(), WriteFault>
+    ensures { Keeps (W.contents output.old) (W.contents output.new) }
+{
+    match output.flush() {
+        Ok(()) => Ok(()),
+        Err(_) => Err(WriteFault),
+    }
 }

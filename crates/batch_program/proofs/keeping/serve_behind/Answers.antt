@@ -8,7 +8,7 @@ pub returns-in-Err-clause-stays : goal.returns-in-Err-clause-stays
 returns-in-Err-clause-stays g c = λ d. merely (c.requires.was d)
 
 pub returns-in-Err-clause-told : goal.returns-in-Err-clause-told
-returns-in-Err-clause-told g c = inr (c.in-Err.ensures, c.complain_block.ensures)
+returns-in-Err-clause-told g c = inr (c.in-Err.ensures, c.complain_block-status.ensures)
 
 pub returns-clause-told : goal.returns-clause-told
 returns-clause-told g c =
