@@ -4,6 +4,9 @@ pub mod Settled
 pub mod Safe
 pub mod Cut
 pub mod Serves
+pub mod Comments
+pub mod Remarking
+pub mod RemarkedSet
 pub mod RowsOfUnfinished
 pub mod Replays
 pub mod CleanLines

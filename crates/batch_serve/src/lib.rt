@@ -8,6 +8,10 @@ mod held;
 mod laws;
 mod limits;
 mod line_buffer;
+mod remarked;
+mod remarked_set;
+mod remarking;
+mod remarks;
 mod serving;
 mod set;
 
@@ -20,5 +24,8 @@ pub use laws::{
     transcripts_leave_nobody_in_vain, transcripts_settle, unfinished_rows, want_is_not_told,
 };
 pub use limits::piece_limit_is_fixed;
+pub use remarked_set::serve_remarked;
+pub use remarking::Remarking;
+pub use remarks::{NoRemarks, Remarks};
 pub use serving::serve;
 pub use set::serve_set;

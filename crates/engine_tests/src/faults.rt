@@ -130,7 +130,14 @@ fn is_settled_after(
     record: &mut Vec<u8>,
 ) -> Result<bool, Fail> {
     let mut input = input;
-    serve(alloc, engine, &mut input, record, MANY_READS)?;
+    serve(
+        alloc,
+        engine,
+        &mut input,
+        record,
+        &mut NoRemarks,
+        MANY_READS,
+    )?;
     Ok(engine.settled())
 }
 
