@@ -8,7 +8,10 @@ pub enum Course {
     /// All is said, and the program ends with this exit status.
     Ends(u8),
     /// The program is to serve event lines over this set, and to say nothing beside the record where quiet is asked for.
-    Serves { set: Cleared, quiet: bool },
+    Serves {
+        set: Cleared,
+        quiet: bool,
+    },
     /// The same with comments in the record.
     Remarks {
         set: Cleared,
@@ -16,7 +19,12 @@ pub enum Course {
         comments: Comments,
     },
     /// The program is to tell what a record says: the one at this path, or the one on its input.
-    Reads { path: Option<String> },
+    Reads {
+        path: Option<String>,
+    },
     /// The program is to run the plant of this set, which is that of the demo.
-    Plants { set: Cleared, options: PlantOptions },
+    Plants {
+        set: Cleared,
+        options: PlantOptions,
+    },
 }

@@ -28,12 +28,5 @@ pub fn replay<W: Write>(
     ensures { OnOk result (WritesTranscript (setup engine.old.cleared) (plant_of engine.old) (recovered documents.now text.now) (plant_of engine.new) (W.contents writer.old) (W.contents writer.new)) }
 {
     recovered_are_lines();
-    serve(
-        alloc,
-        engine,
-        &mut text,
-        writer,
-        &mut NoRemarks,
-        u64::MAX,
-    )
+    serve(alloc, engine, &mut text, writer, &mut NoRemarks, u64::MAX)
 }

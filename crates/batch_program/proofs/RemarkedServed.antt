@@ -50,14 +50,16 @@ done_remarking : (gives : Gives) (request : Request) (quiet : Bool) (output erro
     → IsToRemark gives request output errors set comments × (hushed ≡ quiet)
 done_remarking gives request quiet output errors set hushed comments _ (running.remarks source set2 own asked served kept silent) is =
     let same : set2 ≡ set = cc in
-    let chosen : own ≡ comments = cc in
-    (record {
-      source = source;
-      asked = subst (λ (o : Comments). request ≡ remark source o.echo o.times) chosen asked;
-      is_set = subst (λ s. IsSetOf gives source s) same served;
-      unwritten = kept;
-      silent = silent;
-    }, cc)
+    let chosen : own ≡ comments = cc in (
+      record {
+        source = source;
+        asked = subst (λ (o : Comments). request ≡ remark source o.echo o.times) chosen asked;
+        is_set = subst (λ s. IsSetOf gives source s) same served;
+        unwritten = kept;
+        silent = silent;
+      },
+      cc,
+    )
 done_remarking gives request quiet output errors set hushed comments _ (running.serves _ _ _ _ _ _) is = absurd cc
 done_remarking gives request quiet output errors set hushed comments _ (running.judges _ _ _ _ _ _) is = absurd cc
 done_remarking gives request quiet output errors set hushed comments _ (running.explains _ _ _ _) is = absurd cc

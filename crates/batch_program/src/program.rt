@@ -64,14 +64,7 @@ pub fn run_program<
     match run_words(alloc, words, documents, &mut output, errors) {
         Course::Ends(status) => (status, output),
         Course::Serves { set, quiet } => {
-            let served = serve_set(
-                alloc,
-                set,
-                input,
-                &mut output,
-                &mut NoRemarks,
-                MAX_READS,
-            );
+            let served = serve_set(alloc, set, input, &mut output, &mut NoRemarks, MAX_READS);
             let reason = reason_of(served, input, &output);
             (tell_served(alloc, quiet, served, reason, errors), output)
         }
@@ -81,8 +74,7 @@ pub fn run_program<
             comments,
         } => {
             let remarking = Remarking::new(clock, comments.echo, comments.times);
-            let (served, output) =
-                serve_remarked(alloc, set, input, output, remarking, MAX_READS);
+            let (served, output) = serve_remarked(alloc, set, input, output, remarking, MAX_READS);
             let reason = reason_of(served, input, &output);
             (tell_served(alloc, quiet, served, reason, errors), output)
         }

@@ -1,21 +1,33 @@
 -- Texts with comments.
-use Rattle.std.proofs.Common.{◌≡◌, ℕ, ◌+◌, ◌/◌, ◌%◌, ◌<◌, Bool, true, false, not, ◌&&◌, List, [], ◌∷◌, ◌++◌, length, take, take-append-drop, drop, get_or, Option, Some, None, refl, sym, ◌∙◌, ap, subst, append_assoc, append-nil, eqb, arith}
-use Rattle.std.proofs.lemmas.Bool.{and_parts, eqb-true, false_from_ne_true}
-use Rattle.std.proofs.lemmas.List.{drop_at, take_at, take_more}
+use Rattle.std.proofs.Common.{◌≡◌, ℕ, ◌+◌, ◌/◌, ◌%◌, ◌<◌, ◌≤◌, ◌^◌, min, Bool, true, false, not, ◌&&◌, List, [], ◌∷◌, ◌++◌, length, take, take-append-drop, drop, get_or, Option, Some, None, inl, inr, decimal, refl, sym, ◌∙◌, ap, subst, append_assoc, append-nil, eqb, arith}
+use Rattle.std.proofs.lemmas.Bool.{and_parts, cases_lt, eqb-true, false_from_ne_true}
+use Rattle.std.proofs.lemmas.Fmt.{digits_decimal}
+use Rattle.std.proofs.lemmas.List.{drop_at, take_all, take_at, take_more}
 use Rattle.std.proofs.lemmas.List.Elements.{All-from_get_or}
+use Rattle.std.proofs.lemmas.Str.Parse.{tells_all_ascii_digits}
 use Rattle.std.proofs.lemmas.List.Sums.{list_all-from_AllPass}
 use Rattle.std.proofs.KnownBytes.{Keeps-refl}
 use Rattle.std.specs.Io.KnownBytes.{Appends, Keeps}
 use Rattle.std.specs.List.{list_all}
 use Rattle.std.specs.Prelude.{⊤, if◌then◌else◌, nat_lt, option_map}
 use Rattle.memchr.specs.Find.{IsFirstByte, is_byte}
-use Rattle.std.specs.Str.{all_ascii_digits, is_ascii_digit}
+use Rattle.std.specs.Char.{is_ascii_digit}
+use Rattle.std.specs.Str.{all_ascii_digits}
 use Rattle.batch_serve.specs.Comments.{escape, escaped_byte, hex_digit, is_hidden, is_printable, kept_from, next_spot, spot_behind, without_comments, IsRemarked}
 use Rattle.batch_serve.specs.Remarking.{IsPart, StandsAt, is_plain, uncommented}
 use Rattle.batch_serve.specs.declared.remarked.Spot.{Spot}
 use Rattle.batch_serve.specs.declared.remarked.Spot.TheVariants.{Start, Line, Comment}
 use Rattle.batch_serve.proofs.Replays.{is_other}
 use Rattle.batch_wire.specs.Written.{AppendsBeginning}
+
+pub same_spot : (first x : Option (List ℕ)) (spot other : Spot) (cut whole : Bool) → (cut ≡ whole) → (spot ≡ other) → StandsAt first x spot cut → StandsAt first x other whole
+same_spot first x spot other cut whole is same at = subst (λ t. StandsAt first x other t) is (subst (λ s. StandsAt first x s cut) same at)
+
+pub take_min : (n m : ℕ) (xs : List ℕ) → n ≡ min (length xs) m → take n xs ≡ take m xs
+take_min n m xs is = elim (cases_lt m (length xs)) [
+  | inl lt ↦ let k : n ≡ m = grind (arith, is, lt) in ap (λ j. take j xs) k
+  | inr le ↦ let k : n ≡ length xs = grind (arith, is, le) in take_all n xs (omega (arith, k)) ∙ sym (take_all m xs le)
+]
 
 -- One text behind another
 
@@ -121,6 +133,11 @@ digits_other (d ∷ ds) is =
     let parts = and_parts (is_ascii_digit d) (all_ascii_digits ds) is in
     both (is_other d) (list_all is_other ds) (passes is_ascii_digit d refl parts.0) (digits_other ds parts.1)
 
+pub decimal_part : (ds : List ℕ) (n : ℕ) → ds ≡ decimal n → n < 2 ^ 64 → IsPart Comment ds Comment
+decimal_part ds n is fits =
+    let digits : all_ascii_digits (decimal n) ≡ true = digits_decimal tells_all_ascii_digits n fits in
+    comment_part ds (digits_other ds (ap all_ascii_digits is ∙ digits))
+
 hex_other : (d : ℕ) → is_other (hex_digit d) ≡ true
 hex_other d = other_byte (hex_digit d) (go (nat_lt d 10))
   where
@@ -202,9 +219,11 @@ remarked (Some held) contents spot cut at =
     let told = has_told held contents spot cut at in
     record {
       known = λ other is.
-          let same : held ≡ other = cc is in
-          (told.text, told.has ∙ ap (λ l. Some (l ++ told.text)) same,
-          ap (uncommented (Some held)) told.has ∙ uncommented_is held told.text ∙ ap (λ l. Some (l ++ without_comments told.text)) same);
+          let same : held ≡ other = cc is in (
+            told.text,
+            told.has ∙ ap (λ l. Some (l ++ told.text)) same,
+            ap (uncommented (Some held)) told.has ∙ uncommented_is held told.text ∙ ap (λ l. Some (l ++ without_comments told.text)) same,
+          );
     }
 
 -- a text was written: of it what is no comment counts
@@ -218,8 +237,7 @@ module _ (held text : List ℕ) (spot : Spot) (stands : spot_behind Start text �
       kept-append Start text t ∙ ap (λ s. without_comments text ++ kept_from s t) stands in
       let kept : held ++ without_comments (drop (length held) ys) ≡ (held ++ without_comments text) ++ kept_from spot t =
       ap (λ l. held ++ without_comments (drop (length held) l)) all ∙ ap (λ l. held ++ without_comments l) (drop_at held (text ++ t) (length held) refl)
-      ∙ ap (λ l. held ++ l) plain ∙ sym (append_assoc held (without_comments text) (kept_from spot t)) in
-      (
+      ∙ ap (λ l. held ++ l) plain ∙ sym (append_assoc held (without_comments text) (kept_from spot t)) in (
         subst (λ (o : Option (List ℕ)). Appends o (Some (held ++ without_comments (drop (length held) ys))) (kept_from spot t))
             (sym (ap (uncommented (Some held)) is ∙ uncommented_is held text)) kept,
         record { text = text ++ t; has = ap Some all; stands = λ _. spot-append Start text t ∙ ap (λ s. spot_behind s t) stands },
@@ -247,21 +265,19 @@ kept_nil (Some x) (Some y) keeps = keeps ∙ sym (append-nil x)
 pub told_part : (first x y : Option (List ℕ)) (spot to : Spot) (t : List ℕ) → IsPart spot t to → StandsAt first x spot false → Appends x y t
     → Keeps (uncommented first x) (uncommented first y) × StandsAt first y to false
 told_part first x y spot to t part at appends =
-    let now = told first x y spot t at appends in
-    (
+    let now = told first x y spot t at appends in (
       keeps_nil (uncommented first x) (uncommented first y) (subst (Appends (uncommented first x) (uncommented first y)) part.hidden now.0),
       subst (λ s. StandsAt first y s false) part.stands now.1,
     )
 
 -- or a beginning of it
-pub told_cut : (first x y : Option (List ℕ)) (spot to : Spot) (t : List ℕ) → IsPart spot t to → StandsAt first x spot false → AppendsBeginning x y t
-    → Keeps (uncommented first x) (uncommented first y) × StandsAt first y spot true
-told_cut first x y spot to t part at begins =
+pub told_cut : (first x y : Option (List ℕ)) (spot to other : Spot) (t : List ℕ) → IsPart spot t to → StandsAt first x spot false → AppendsBeginning x y t
+    → Keeps (uncommented first x) (uncommented first y) × StandsAt first y other true
+told_cut first x y spot to other t part at begins =
     let now = told first x y spot begins.written at begins.appends in
     let none : kept_from spot begins.written ≡ [] =
     none_first (kept_from spot begins.written) (kept_from (spot_behind spot begins.written) begins.rest)
-    (sym (kept-append spot begins.written begins.rest) ∙ ap (kept_from spot) (sym begins.splits) ∙ part.hidden) in
-    (
+    (sym (kept-append spot begins.written begins.rest) ∙ ap (kept_from spot) (sym begins.splits) ∙ part.hidden) in (
       keeps_nil (uncommented first x) (uncommented first y) (subst (Appends (uncommented first x) (uncommented first y)) none now.0),
       record { kept = now.1.kept; stands = λ held all is same whole. absurd (cc whole) },
     )

@@ -1,7 +1,6 @@
 -- A remark before an answer, and as much of the answer as was written behind it.
 use Rattle.std.proofs.Common.{◌≡◌, ℕ, List, [], Option, Some, None, Result, Ok, Err, refl, inl}
 use Rattle.std.proofs.KnownBytes.{Appends-trans}
-use Rattle.std.proofs.lemmas.Bool.{false≢true}
 use Rattle.std.specs.Io.KnownBytes.{Keeps}
 use Rattle.batch_model.specs.Events as Model
 use Rattle.batch_model.specs.Plant.{Setup, Plant}
@@ -9,7 +8,7 @@ use Rattle.batch_wire.specs.Reading.{Reads}
 use Rattle.batch_wire.specs.Transcript.{Exchange, refusal, Answers}
 use Rattle.batch_wire.specs.Written.{AppendsBeginning}
 use Rattle.batch_wire.specs.declared.fault.WireFault.{WireFault}
-use Rattle.batch_wire.specs.declared.fault.WireFault.TheVariants.{UnknownWord, MissingArgument, ExtraArgument, BadArgument, TooLong, Memory}
+use Rattle.batch_wire.specs.declared.fault.WireFault.TheVariants.{Memory}
 use Rattle.batch_wire.specs.declared.fault.WriteFault.{WriteFault}
 use Rattle.batch_serve.specs.Answering.{WritesAnswer}
 use Rattle.batch_serve.proofs.AnswersWritten.{refused}
@@ -37,14 +36,3 @@ event_unanswered c old said event x y is keeps = (refusal Memory, old, rw is (in
 pub line_unanswered : (c : Setup) (old : Plant) (said : Result (Option Model.Event) WireFault) (fault : WireFault) (x y : Option (List ℕ)) → Reads (Err fault) said → Keeps x y
     → (exchange : Exchange) × (last : Plant) × Answers c old said exchange last × AppendsBeginning x y exchange.text
 line_unanswered c old said fault x y reads keeps = (refusal fault, old, refused c old said fault reads, nothing_begun x y (refusal fault).text keeps)
-
--- a line that is refused gives something
-pub refused_gives : (said : Result (Option Model.Event) WireFault) (fault : WireFault) → Reads (Err fault) said → said ≡ Ok None → ⊥
-refused_gives said UnknownWord reads is = absurd (cc (reads, is))
-refused_gives said MissingArgument reads is = absurd (cc (reads, is))
-refused_gives said ExtraArgument reads is = absurd (cc (reads, is))
-refused_gives said BadArgument reads is = absurd (cc (reads, is))
-refused_gives said TooLong reads is = absurd (cc (reads, is))
-refused_gives (Ok (Some event)) Memory reads is = absurd (cc is)
-refused_gives (Ok None) Memory reads is = absurd (false≢true reads)
-refused_gives (Err fault) Memory reads is = absurd reads

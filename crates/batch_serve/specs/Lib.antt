@@ -13,4 +13,5 @@ pub mod CleanLines
 pub mod Held
 pub mod Holding
 pub mod RowsOfHeld
+pub mod RowsOfComments
 pub mod RowsOfCleanLines

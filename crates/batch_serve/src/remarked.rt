@@ -1,5 +1,5 @@
 //! A writer of a record with comments.
-ghost use Rattle.std.specs.Prelude.{◌≡◌, true, OnOk, IsTrue};
+ghost use Rattle.std.specs.Prelude.{◌≡◌, ◌≢◌, true, false, OnOk, IsTrue};
 ghost use Rattle.std.specs.List.{list_all};
 ghost use Rattle.std.specs.Io.KnownBytes.{Appends, Keeps};
 ghost use Rattle.batch_serve.specs.Comments.{IsRemarked, next_spot, spot_behind};
@@ -63,7 +63,7 @@ impl<W: Write, C: Start> Remarked<W, C> {
         ensures kept { Keeps (uncommented C.contents (W.contents self.old.inner)) (uncommented C.contents (W.contents self.new.inner)) }
         ensures written { OnOk result (Appends (W.contents self.old.inner) (W.contents self.new.inner) part.now) }
     {
-        if self.is_cut || self.spot != from {
+        if !is_ready(self.spot, self.is_cut, from) {
             return Err(WriteFault);
         }
         match write_all(&mut self.inner, part) {
@@ -83,7 +83,7 @@ impl<W: Write, C: Start> Write for Remarked<W, C> {
     ghost contents = { λ w. uncommented C.contents (W.contents w.inner) };
 
     fn write(&mut self, bytes: &[u8]) -> io::Result<usize> {
-        if self.is_cut || self.spot == Spot::Comment || !is_plain(bytes) {
+        if !takes(self.spot, self.is_cut, bytes) {
             return Err(io::Error::from(ErrorKind::InvalidInput));
         }
         let count = self.inner.write(bytes)?;
@@ -93,6 +93,41 @@ impl<W: Write, C: Start> Write for Remarked<W, C> {
 
     fn flush(&mut self) -> io::Result<()> {
         self.inner.flush()
+    }
+}
+
+/// Whether a text that stands here, and of which no part of a comment is missing, stands where a part begins.
+fn is_ready(spot: Spot, is_cut: bool, from: Spot) -> bool
+    ensures { IsTrue result → (is_cut ≡ false) × (spot ≡ from) }
+{
+    !is_cut && is_at(spot, from)
+}
+
+fn is_at(spot: Spot, from: Spot) -> bool
+    ensures { IsTrue result → spot ≡ from }
+{
+    match (spot, from) {
+        (Spot::Start, Spot::Start) => true,
+        (Spot::Line, Spot::Line) => true,
+        (Spot::Comment, Spot::Comment) => true,
+        _ => false,
+    }
+}
+
+/// Whether the bytes may go on a record that stands here.
+fn takes(spot: Spot, is_cut: bool, bytes: &[u8]) -> bool
+    ensures { IsTrue result → (is_cut ≡ false) × (spot ≢ Spot.Comment) × (list_all is_plain bytes.now ≡ true) }
+{
+    !is_cut && is_outside(spot) && is_plain(bytes)
+}
+
+fn is_outside(spot: Spot) -> bool
+    ensures { IsTrue result → spot ≢ Spot.Comment }
+{
+    match spot {
+        Spot::Comment => false,
+        Spot::Start => true,
+        Spot::Line => true,
     }
 }
 
@@ -107,6 +142,7 @@ fn is_plain(bytes: &[u8]) -> bool
 }
 
 /// Where a text stands behind these bytes.
+#[tactic(auto, using(crate::proofs::CommentLemmas::spot_on))]
 fn spot_behind(spot: Spot, bytes: &[u8]) -> Spot
     ensures { result ≡ spot_behind spot bytes.now }
 {

@@ -1,5 +1,5 @@
 //! Comments on the lines that are served: when they came, and the lines themselves.
-ghost use Rattle.std.specs.Prelude.{◌≡◌, ◌<◌, ℕ, OnOk};
+ghost use Rattle.std.specs.Prelude.{◌≡◌, ◌<◌, ℕ, OnOk, false};
 ghost use Rattle.std.specs.Io.KnownBytes.{Appends, Keeps};
 ghost use Rattle.batch_serve.specs.Comments.{echo_text, echoed, escape, escaped, escaped_byte, hex_digit, is_printable, time_text};
 ghost use Rattle.batch_serve.specs.Remarking.{WritesRemark, uncommented};
@@ -44,13 +44,11 @@ impl<W: Write, K: Clock, C: Start> Remarks<Remarked<W, C>> for Remarking<K> {
         self.is_due = self.times;
     }
 
-    fn answer_begins(
-        &mut self,
-        line: &[u8],
-        writer: &mut Remarked<W, C>,
-    ) -> Result<(), WriteFault>
+    fn answer_begins(&mut self, line: &[u8], writer: &mut Remarked<W, C>) -> Result<(), WriteFault>
         ensures kept { Keeps (uncommented C.contents (W.contents writer.old.inner)) (uncommented C.contents (W.contents writer.new.inner)) }
         ensures written { OnOk result (WritesRemark self.old.is_due self.old.echo line.now (W.contents writer.old.inner) (W.contents writer.new.inner)) }
+        ensures once { OnOk result (self.new.is_due ≡ false) }
+        ensures asked { (self.new.echo ≡ self.old.echo) × (self.new.times ≡ self.old.times) }
     {
         if self.is_due {
             write_time(&self.clock, writer)?;
@@ -131,10 +129,7 @@ fn write_escaped<W: Write, C: Start>(
     Ok(())
 }
 
-fn write_byte<W: Write, C: Start>(
-    byte: u8,
-    writer: &mut Remarked<W, C>,
-) -> Result<(), WriteFault>
+fn write_byte<W: Write, C: Start>(byte: u8, writer: &mut Remarked<W, C>) -> Result<(), WriteFault>
     ensures kept { Keeps (uncommented C.contents (W.contents writer.old.inner)) (uncommented C.contents (W.contents writer.new.inner)) }
     ensures written { OnOk result (Appends (W.contents writer.old.inner) (W.contents writer.new.inner) (escaped_byte byte)) }
 {

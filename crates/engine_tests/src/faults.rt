@@ -5,7 +5,7 @@ use crate::records::engine_of;
 use crate::serving::{INPUT, MANY_READS, RECORD, answered, assert_outcome, run, run_into};
 use batch_engine::Engine;
 use batch_serve::{
-    ServeFault, SetFault, serve, transcripts_are_safe, transcripts_leave_nobody_in_vain,
+    NoRemarks, ServeFault, SetFault, serve, transcripts_are_safe, transcripts_leave_nobody_in_vain,
     transcripts_settle,
 };
 use std::alloc::Global;
