@@ -1,10 +1,10 @@
 -- Texts with comments.
-use Rattle.std.proofs.Common.{◌≡◌, ℕ, ◌+◌, ◌/◌, ◌%◌, ◌<◌, ◌≤◌, ◌^◌, min, Bool, true, false, not, ◌&&◌, List, [], ◌∷◌, ◌++◌, length, take, take-append-drop, drop, get_or, Option, Some, None, inl, inr, decimal, refl, sym, ◌∙◌, ap, subst, append_assoc, append-nil, eqb, arith}
+use Rattle.std.proofs.Common.{◌≡◌, ℕ, zero, suc, ◌+◌, ◌/◌, ◌%◌, ◌<◌, ◌≤◌, ◌^◌, min, Bool, true, false, not, ◌&&◌, List, [], ◌∷◌, ◌++◌, length, take, take-append-drop, drop, get_or, Option, Some, None, inl, inr, decimal, refl, sym, ◌∙◌, ap, subst, append_assoc, append-nil, eqb, arith}
 use Rattle.std.proofs.lemmas.Bool.{and_parts, cases_lt, eqb-true, false_from_ne_true}
 use Rattle.std.proofs.lemmas.Fmt.{digits_decimal}
 use Rattle.std.proofs.lemmas.List.{drop_at, take_all, take_at, take_more}
 use Rattle.std.proofs.lemmas.List.Elements.{All-from_get_or}
-use Rattle.std.proofs.lemmas.Str.Parse.{tells_all_ascii_digits}
+use Rattle.std.proofs.lemmas.Str.Parse.{numerals_by_value, tells_all_ascii_digits}
 use Rattle.std.proofs.lemmas.List.Sums.{list_all-from_AllPass}
 use Rattle.std.proofs.KnownBytes.{Keeps-refl}
 use Rattle.std.specs.Io.KnownBytes.{Appends, Keeps}
@@ -127,6 +127,13 @@ both false t is other = absurd (cc is)
 passes : (test : ℕ → Bool) (b : ℕ) → test 10 ≡ false → test b ≡ true → is_other b ≡ true
 passes test b fails is = other_byte b (λ feed. let clash : false ≡ true = sym fails ∙ ap test (sym feed) ∙ is in absurd (cc clash))
 
+pub plain_take : (n : ℕ) (bytes : List ℕ) → list_all is_plain bytes ≡ true → list_all is_plain (take n bytes) ≡ true
+plain_take zero bytes is = refl
+plain_take (suc n) [] is = refl
+plain_take (suc n) (b ∷ bytes) is =
+    let parts = and_parts (is_plain b) (list_all is_plain bytes) is in
+    both (is_plain b) (list_all is_plain (take n bytes)) parts.0 (plain_take n bytes parts.1)
+
 pub digits_other : (ds : List ℕ) → all_ascii_digits ds ≡ true → list_all is_other ds ≡ true
 digits_other [] is = refl
 digits_other (d ∷ ds) is =
@@ -135,7 +142,7 @@ digits_other (d ∷ ds) is =
 
 pub decimal_part : (ds : List ℕ) (n : ℕ) → ds ≡ decimal n → n < 2 ^ 64 → IsPart Comment ds Comment
 decimal_part ds n is fits =
-    let digits : all_ascii_digits (decimal n) ≡ true = digits_decimal tells_all_ascii_digits n fits in
+    let digits : all_ascii_digits (decimal n) ≡ true = digits_decimal (numerals_by_value _ tells_all_ascii_digits) n fits in
     comment_part ds (digits_other ds (ap all_ascii_digits is ∙ digits))
 
 hex_other : (d : ℕ) → is_other (hex_digit d) ≡ true

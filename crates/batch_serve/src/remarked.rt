@@ -63,18 +63,19 @@ impl<W: Write, C: Start> Remarked<W, C> {
         ensures kept { Keeps (uncommented C.contents (W.contents self.old.inner)) (uncommented C.contents (W.contents self.new.inner)) }
         ensures written { OnOk result (Appends (W.contents self.old.inner) (W.contents self.new.inner) part.now) }
     {
-        if !is_ready(self.spot, self.is_cut, from) {
-            return Err(WriteFault);
-        }
-        match write_all(&mut self.inner, part) {
-            Ok(()) => {
-                self.spot = to;
-                Ok(())
+        if is_ready(self.spot, self.is_cut, from) {
+            match write_all(&mut self.inner, part) {
+                Ok(()) => {
+                    self.spot = to;
+                    Ok(())
+                }
+                Err(fault) => {
+                    self.is_cut = true;
+                    Err(fault)
+                }
             }
-            Err(fault) => {
-                self.is_cut = true;
-                Err(fault)
-            }
+        } else {
+            Err(WriteFault)
         }
     }
 }
@@ -83,12 +84,13 @@ impl<W: Write, C: Start> Write for Remarked<W, C> {
     ghost contents = { λ w. uncommented C.contents (W.contents w.inner) };
 
     fn write(&mut self, bytes: &[u8]) -> io::Result<usize> {
-        if !takes(self.spot, self.is_cut, bytes) {
-            return Err(io::Error::from(ErrorKind::InvalidInput));
+        if takes(self.spot, self.is_cut, bytes) {
+            let count = self.inner.write(bytes)?;
+            self.spot = spot_behind(self.spot, &bytes[..count]);
+            Ok(count)
+        } else {
+            Err(io::Error::from(ErrorKind::InvalidInput))
         }
-        let count = self.inner.write(bytes)?;
-        self.spot = spot_behind(self.spot, &bytes[..count]);
-        Ok(count)
     }
 
     fn flush(&mut self) -> io::Result<()> {
