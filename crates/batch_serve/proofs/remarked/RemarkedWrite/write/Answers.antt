@@ -8,8 +8,8 @@ invariant_of-self g c =
     let now = c.args.self.now in
     record { stands = (told_nothing g.C.Start.contents (g.W.Write.contents now.inner) (g.W.Write.contents c.write.new.self) now.spot now.is_cut c.in_err-count.ensures.bytes now.stands).1 }
 
-pub invariant_of-self-2 : goal.invariant_of-self-2
-invariant_of-self-2 g c =
+pub invariant_of-self-then-takes : goal.invariant_of-self-then-takes
+invariant_of-self-then-takes g c =
     let now = c.args.self.now in
     let first = g.C.Start.contents in
     let x = g.W.Write.contents now.inner in
@@ -20,8 +20,8 @@ invariant_of-self-2 g c =
     let told = told_plain first x y now.spot text taken.1 (plain_take c.in_ok-count.count c.args.bytes.now taken.2) at c.in_ok-count.ensures.bytes in
     record { stands = same_spot first y (spot_behind now.spot text) c.spot_behind-self.result false now.is_cut (sym taken.0) (sym c.spot_behind-self.ensures) told.1 }
 
-pub returns-clause-bytes : goal.returns-clause-bytes
-returns-clause-bytes g c =
+pub returns-in_ok-count-clause-bytes : goal.returns-in_ok-count-clause-bytes
+returns-in_ok-count-clause-bytes g c =
     let now = c.args.self.now in
     let first = g.C.Start.contents in
     let x = g.W.Write.contents now.inner in
