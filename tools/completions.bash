@@ -6,14 +6,17 @@ _batchd() {
         return
     fi
     case ${COMP_WORDS[1]} in
-        check) options="--dot --quiet --help" ;;
+        check) options="--dot --write --quiet --help" ;;
         verify | run) options="--quiet --help" ;;
         plant) options="--batches --ticks --ring --help" ;;
         help) options="check verify run status plant explain" ;;
         explain) options="--help $("${COMP_WORDS[0]}" explain 2>/dev/null | cut -d : -f 1)" ;;
         *) options="--help" ;;
     esac
-    case $before in --batches | --ticks | --ring) return ;; esac
+    case $before in
+        --batches | --ticks | --ring) return ;;
+        --write) mapfile -t COMPREPLY < <(compgen -f -- "$word"); return ;;
+    esac
     if [[ $word == -* || ${COMP_WORDS[1]} =~ ^(plant|explain|help)$ ]]; then
         mapfile -t COMPREPLY < <(compgen -W "$options" -- "$word")
     elif [ "${COMP_WORDS[1]}" = status ]; then

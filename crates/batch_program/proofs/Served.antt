@@ -10,7 +10,7 @@ use Rattle.batch_engine.specs.View.{setup}
 use Rattle.batch_wire.specs.Transcript.{lines_of, whole_lines}
 use Rattle.batch_wire.specs.Written.{AppendsBeginning}
 use Rattle.batch_serve.specs.Safe.{BeginsSafely, WritesSafely, WritesWholeSafely}
-use Rattle.batch_words.specs.CommandLine.{Request, Source, plant, serve, tell}
+use Rattle.batch_words.specs.CommandLine.{Judgement, Request, Source, plant, serve, tell, write}
 use Rattle.batch_words.specs.declared.plant_options.PlantOptions.{PlantOptions}
 use Rattle.batch_commands.specs.Reading.{Gives}
 use Rattle.batch_commands.specs.Requests.{IsDemoSet, IsSetOf}
@@ -32,9 +32,10 @@ use Rattle.batch_serve.specs.declared.fault.ServeFault.TheVariants.{Read, Write,
 use Rattle.batch_serve.specs.declared.fault.SetFault.{SetFault}
 use Rattle.batch_serve.specs.declared.fault.SetFault.TheVariants.{Memory, Stopped}
 use Rattle.batch_program.specs.declared.program.TheConstants.{MAX_READS}
-use Rattle.batch_program.specs.Programs.{IsLeftTold, IsProgramRun, PlantsAreComplete, ServingIsSafe, tells, serves, reads, plants, status_of_serving}
+use Rattle.batch_program.specs.Programs.{IsLeftTold, IsProgramRun, PlantsAreComplete, ServingIsSafe, tells, writes, serves, reads, plants, status_of_serving}
 use Rattle.batch_plant.specs.declared.plant_fault.PlantFault.{PlantFault}
 use Rattle.batch_plant.specs.declared.plant_fault.PlantFault.TheVariants as plant_fault
+use Rattle.batch_program.specs.FileWriting.{IsWritten}
 use Rattle.batch_program.specs.PlantRuns.{HasRun, IsPlantTold, plant_text, refused_status}
 use Rattle.batch_program.specs.RecordRuns.{Holds, IsRecordTold, IsStatusTold, IsUntold, prints, refuses, stops, no_record_text, output_of}
 
@@ -146,6 +147,7 @@ done_to_plant gives request quiet output errors _ set options (running.plants ot
     (subst (λ (o : PlantOptions). request ≡ plant o.batches o.ticks o.ring) chosen asked, subst IsDemoSet same cleared, kept, silent)
 done_to_plant gives request quiet output errors _ set options (running.serves _ _ _ _ _ _) is = absurd cc
 done_to_plant gives request quiet output errors _ set options (running.reads _ _ _ _) is = absurd cc
+done_to_plant gives request quiet output errors _ set options (running.writes _ _ _ _ _ _) is = absurd cc
 done_to_plant gives request quiet output errors _ set options (running.halts _ _ _ _ _) is = absurd cc
 done_to_plant gives request quiet output errors _ set options (running.judges _ _ _ _ _ _ _) is = absurd cc
 done_to_plant gives request quiet output errors _ set options (running.explains _ _ _ _) is = absurd cc
@@ -195,6 +197,7 @@ done_to_read gives request quiet output errors _ path (running.reads other asked
     (subst (λ (p : Option (String Global)). request ≡ tell (option_map string_bytes p)) same asked, kept, silent)
 done_to_read gives request quiet output errors _ path (running.serves _ _ _ _ _ _) is = absurd cc
 done_to_read gives request quiet output errors _ path (running.plants _ _ _ _ _ _) is = absurd cc
+done_to_read gives request quiet output errors _ path (running.writes _ _ _ _ _ _) is = absurd cc
 done_to_read gives request quiet output errors _ path (running.halts _ _ _ _ _) is = absurd cc
 done_to_read gives request quiet output errors _ path (running.judges _ _ _ _ _ _ _) is = absurd cc
 done_to_read gives request quiet output errors _ path (running.explains _ _ _ _) is = absurd cc
@@ -241,7 +244,7 @@ ran_to_the_end set (Err Memory) ends quiet errors all told is = absurd cc
 ran_to_the_end set (Err (Stopped fault)) ends quiet errors all told is = absurd cc
 
 -- a run that ends with status 0 before it has served was no run to serve, and none of a plant
-told_at_once : (gives : Gives) (words : List Text) (output errors : Stream) (request : Request) (status : ℕ)
+pub told_at_once : (gives : Gives) (words : List Text) (output errors : Stream) (request : Request) (status : ℕ)
     → AskFor words request → IsRun gives words output errors (Ends status) → status ≡ 0 → IsSuccess gives (ask_quiet words) request output errors
 told_at_once gives words output errors request status asked came is =
     success_is_told gives words output errors request asked (subst (λ k. IsRun gives words output errors (Ends k)) is came)
@@ -251,6 +254,12 @@ same_source a b is = cc
 
 serves_no_record : (source : Source) (path : Option Text) → serve source ≡ tell path → ⊥
 serves_no_record source path is = cc
+
+pub serves_no_file : (source : Source) (path : Text) (judgement : Judgement) → serve source ≡ write path judgement → ⊥
+serves_no_file source path judgement is = cc
+
+pub plants_no_file : (batches ticks ring : ℕ) (path : Text) (judgement : Judgement) → plant batches ticks ring ≡ write path judgement → ⊥
+plants_no_file batches ticks ring path judgement is = cc
 
 plants_no_record : (batches ticks ring : ℕ) (path : Option Text) → plant batches ticks ring ≡ tell path → ⊥
 plants_no_record batches ticks ring path is = cc
@@ -263,6 +272,8 @@ safe_at : (gives : Gives) (holds : Holds) (words : List Text) (ends : serving.En
     → (set : ClearedSet) × (left : ℕ) × IsSetOf gives source set × AnswersAll set left ends × IsLeftTold (ask_quiet words) errors left
 safe_at gives holds words ends errors source _ asked (tells status came _) is =
     absurd (told_at_once gives words (output_of ends) errors (serve source) status asked came is)
+safe_at gives holds words ends errors source _ asked (writes path judgement _ _ _ asked2 _ _ _ _) is =
+    absurd (serves_no_file source path judgement (same_request words (serve source) (write path judgement) asked asked2))
 safe_at gives holds words ends errors source _ asked (serves other set served asked2 is_set all told) is =
     let same = same_source other source (same_request words (serve other) (serve source) asked2 asked) in
     let (left, answers, says) = ran_to_the_end set served ends (ask_quiet words) errors all told is in
@@ -299,6 +310,7 @@ done_in_range : (gives : Gives) (request : Request) (quiet : Bool) (output error
 done_in_range gives request quiet output errors _ status (running.serves _ _ _ _ _ _) is = absurd cc
 done_in_range gives request quiet output errors _ status (running.reads _ _ _ _) is = absurd cc
 done_in_range gives request quiet output errors _ status (running.plants _ _ _ _ _ _) is = absurd cc
+done_in_range gives request quiet output errors _ status (running.writes _ _ _ _ _ _) is = absurd cc
 done_in_range gives request quiet output errors _ status (running.halts h told warned _ at) is =
     let same : told ≡ status = cc in
     rw (← same) (announced_in_range quiet output (record { before = warned; after = errors.after }) h told at)
@@ -346,9 +358,16 @@ record_in_range holds None ends errors status told = status_in_range ends.unread
 record_in_range holds (Some path) ends errors status (_, inl (unread, _, told)) = status_in_range unread (output_of ends) errors status told
 record_in_range holds (Some path) ends errors status (_, inr untold) = untold_in_range (output_of ends) status untold
 
+written_in_range : (holds : Holds) (path text : List ℕ) (errors : Stream) (status : ℕ) → IsWritten holds path text errors status → status ≤ 4
+written_in_range holds path text errors status (inl (_, _, success)) = rw success (omega arith)
+written_in_range holds path text errors status (inr (inl fault)) = rw fault (omega arith)
+written_in_range holds path text errors status (inr (inr memory)) = rw memory (omega arith)
+
 pub run_in_range : (gives : Gives) (holds : Holds) (words : List Text) (ends : serving.Ends) (errors : Stream) (status : ℕ)
     → IsProgramRun gives holds words ends errors status → status ≤ 4
 run_in_range gives holds words ends errors _ (tells status came _) = course_in_range gives words (output_of ends) errors (Ends status) status came refl
+run_in_range gives holds words ends errors status (writes path _ text warned _ _ _ written _ _) =
+    written_in_range holds path text (record { before = warned; after = errors.after }) status written
 run_in_range gives holds words ends errors _ (serves _ _ served _ _ _ _) = serving_in_range served
 run_in_range gives holds words ends errors status (reads path _ _ told) = record_in_range holds path ends errors status told
 run_in_range gives holds words ends errors status (plants _ options end _ _ _ _ told _) = plant_in_range (output_of ends) errors options.batches end status told
@@ -376,6 +395,8 @@ told_plant : (gives : Gives) (holds : Holds) (words : List Text) (ends : serving
     → (set : ClearedSet) × (handled : ℕ) × IsDemoSet set × HasRun set batches handled × Appends ends.before ends.after (plant_text batches handled)
 told_plant gives holds words ends errors batches ticks ring _ asked (tells status came _) is =
     absurd (told_at_once gives words (output_of ends) errors (plant batches ticks ring) status asked came is)
+told_plant gives holds words ends errors batches ticks ring _ asked (writes path judgement _ _ _ asked2 _ _ _ _) is =
+    absurd (plants_no_file batches ticks ring path judgement (same_request words (plant batches ticks ring) (write path judgement) asked asked2))
 told_plant gives holds words ends errors batches ticks ring _ asked (serves source _ _ asked2 _ _ _) is =
     absurd (serves_no_plant source batches ticks ring (same_request words (serve source) (plant batches ticks ring) asked2 asked))
 told_plant gives holds words ends errors batches ticks ring _ asked (reads path _ asked2 _) is =

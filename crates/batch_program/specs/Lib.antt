@@ -1,3 +1,4 @@
+pub mod FileWriting
 pub mod PlantRuns
 pub mod PlantWork
 pub mod Programs

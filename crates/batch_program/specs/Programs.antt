@@ -1,22 +1,23 @@
 -- trusted: what comes of the program's words, input and documents.
-use Rattle.std.specs.Prelude.{◌≤◌, ◌++◌, ℕ, zero, suc, Bool, true, false, IfOk, List, Option, Result, Ok, Err, codes, decimal, if◌then◌else◌, nat_eq}
+use Rattle.std.specs.Prelude.{◌≤◌, ◌++◌, ℕ, zero, suc, Bool, true, false, IfOk, List, Option, Some, Result, Ok, Err, codes, decimal, if◌then◌else◌, nat_eq}
 use Rattle.std.specs.Io.KnownBytes.{Appends, Keeps}
 use Rattle.std.specs.Process.{exit_status}
 use Rattle.std.specs.declared.process.ExitCode.{ExitCode}
 use Rattle.clap.specs.Walk.{Text}
 use Rattle.batch_verify.specs.ClearedSet.{ClearedSet}
-use Rattle.batch_words.specs.CommandLine.{Source, plant, serve, tell}
+use Rattle.batch_words.specs.CommandLine.{Judgement, Source, plant, serve, tell, write}
 use Rattle.batch_words.specs.declared.plant_options.PlantOptions.{PlantOptions}
 use Rattle.batch_commands.specs.Reading.{Gives}
-use Rattle.batch_commands.specs.Requests.{IsDemoSet, IsSetOf}
+use Rattle.batch_commands.specs.Requests.{IsDemoSet, IsSetOf, IsVerdict}
 use Rattle.batch_commands.specs.Running.{AskFor, IsRun, IsUnwritten, Stream, ask_quiet, fault_status, memory_status}
-use Rattle.batch_commands.specs.Saying.{WritesFront}
+use Rattle.batch_commands.specs.Saying.{IsWarned, WritesFront}
 use Rattle.batch_commands.specs.declared.course.Course.TheVariants.{Ends}
 use Rattle.batch_serve.specs.Serves as serving
 use Rattle.batch_serve.specs.Serves.{AnswersAll, Serves}
 use Rattle.batch_serve.specs.declared.fault.SetFault.{SetFault}
 use Rattle.batch_serve.specs.declared.fault.SetFault.TheVariants.{Memory, Stopped}
 use Rattle.batch_plant.specs.declared.plant_fault.PlantFault.{PlantFault}
+use Rattle.batch_program.specs.FileWriting.{IsWritten}
 use Rattle.batch_program.specs.PlantRuns.{HasRun, IsPlantTold, plant_text}
 use Rattle.batch_program.specs.RecordRuns.{Holds, IsRecordTold, output_of}
 use Rattle.batch_program.specs.declared.program.TheConstants.{MAX_READS}
@@ -48,6 +49,12 @@ pub data IsProgramRun (gives : Gives) (holds : Holds) (words : List Text) (ends 
   -- a verdict, help or a fault is told, and the input isn't read
   tells : (status : ℕ) → IsRun gives words (output_of ends) errors (Ends status) → Keeps ends.unread ends.left
       → IsProgramRun gives holds words ends errors status
+  -- the documents are accepted, it is warned of them, the text that says so is written into the file that the words name, and
+  -- neither is the input read nor the output written
+  writes : (path : Text) (judgement : Judgement) (text : List ℕ) (warned : Option (List ℕ)) (status : ℕ)
+      → AskFor words (write path judgement) → IsVerdict gives (IsWarned (ask_quiet words) errors.before warned) judgement text
+      → IsWritten holds path text (record { before = warned; after = errors.after }) status
+      → IsUnwritten (output_of ends) → Keeps ends.unread ends.left → IsProgramRun gives holds words ends errors status
   -- the set that the words name is served, by the engine that is made from it
   serves : (source : Source) (set : ClearedSet) (served : Result ℕ SetFault)
       → AskFor words (serve source) → IsSetOf gives source set → Serves set MAX_READS served ends
@@ -71,6 +78,15 @@ ServingIsSafe gives holds =
     (words : List Text) (ends : serving.Ends) (errors : Stream) (source : Source)
     → AskFor words (serve source) → IsProgramRun gives holds words ends errors 0
     → (set : ClearedSet) × (left : ℕ) × IsSetOf gives source set × AnswersAll set left ends × IsLeftTold (ask_quiet words) errors left
+
+-- a run of `check --write` that ends with status 0 has put into its file, and nowhere else, the text of a verdict that accepts its
+-- documents: the certificate with the least ranks, or the drawing; on the errors it has written its warnings alone
+abbrev pub CertificatesAreKept : Gives → Holds → Type 0
+CertificatesAreKept gives holds =
+    (words : List Text) (ends : serving.Ends) (errors : Stream) (path : Text) (judgement : Judgement)
+    → AskFor words (write path judgement) → IsProgramRun gives holds words ends errors 0
+    → (text : List ℕ) × IsVerdict gives (IsWarned (ask_quiet words) errors.before errors.after) judgement text × holds path (Some text)
+    × IsUnwritten (output_of ends)
 
 -- a run of `plant` that ends with status 0 has written its three lines, and a record over the demo's set, of so many events as the
 -- third line says, leads to where the batches that were asked for are complete

@@ -1,5 +1,5 @@
 //! Laws over runs of the program.
-ghost use Rattle.batch_program.specs.Programs.{PlantsAreComplete, ServingIsSafe};
+ghost use Rattle.batch_program.specs.Programs.{CertificatesAreKept, PlantsAreComplete, ServingIsSafe};
 
 use crate::records::Records;
 use batch_commands::Documents;
@@ -8,6 +8,14 @@ use batch_commands::Documents;
 /// of the input were answered, and what was written is the text of a safe record.
 pub fn serving_is_safe<D: Documents + Records>(documents: &D)
     ensures { ServingIsSafe (D.gives documents.now) (D.holds documents.now) }
+{
+    let _documents = documents;
+}
+
+/// What the exit status 0 of a run of `check --write` tells: the file holds the text of a verdict that accepts the documents, where
+/// it is known what it holds, and nothing was written to standard output.
+pub fn certificates_are_kept<D: Documents + Records>(documents: &D)
+    ensures { CertificatesAreKept (D.gives documents.now) (D.holds documents.now) }
 {
     let _documents = documents;
 }

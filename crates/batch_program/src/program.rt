@@ -2,6 +2,7 @@
 ghost use Rattle.std.specs.Prelude.{◌≡◌, IfOk, map, string_bytes};
 ghost use Rattle.batch_program.specs.Programs.{IsLeftTold, IsProgramRun, left_text, status_of_serving};
 
+use crate::file_writing::write_file;
 use crate::noted::Noted;
 use crate::plant::report_of_plant;
 use crate::plant_runner::PlantRunner;
@@ -26,7 +27,7 @@ struct Stop {
     reason: io::Error,
 }
 
-/// Does what the words ask for, and gives the exit status: judges documents, serves event lines from the input over the set
+/// Does what the words ask for, and gives the exit status: judges documents, and prints the verdict or writes it into a file, serves event lines from the input over the set
 /// that they name, tells what a record says, or has the demo's plant run.
 ///
 /// Verdicts, help, the record, what one tells and the lines of a plant go to the output, and all else, in a free text, to the errors. Refused
@@ -52,6 +53,7 @@ pub fn run_program<D: Documents + Records, P: PlantRunner, R: Read, W: Write, E:
 {
     match run_words(alloc, words, documents, output, errors) {
         Course::Ends(status) => status,
+        Course::Writes { path, text } => write_file(alloc, &path, &text, documents, errors),
         Course::Serves { set, quiet } => {
             let served = serve_set(alloc, set, input, output, MAX_READS);
             let reason = reason_of(served, input, output);

@@ -28,10 +28,10 @@ struct FailedRead {
     reason: io::Error,
 }
 
-/// Why the record at this path can't be opened.
+/// Why the file at this path can't be opened or written.
 #[derive(Debug, Error, Drop)]
 #[error("{path}: {reason}")]
-struct FailedOpen {
+struct FailedFile {
     path: String,
     reason: io::Error,
 }
@@ -58,7 +58,7 @@ pub fn tell_record<D: Records, R: Read, W: Write, E: Write>(
         None => tell_status(alloc, input, output, errors),
         Some(path) => match records.open(&path) {
             Ok(opened) => tell_status(alloc, &mut Noted::new(opened), output, errors),
-            Err(reason) => complain_unopened(alloc, &path, reason, errors),
+            Err(reason) => complain_of(alloc, &path, reason, errors),
         },
     }
 }
@@ -122,12 +122,17 @@ fn complain_unread<E: Write>(fault: StatusFault, reason: Option<io::Error>, erro
     }
 }
 
-/// Tells why the record at the path can't be opened.
-fn complain_unopened<E: Write>(alloc: Global, path: &str, reason: io::Error, errors: &mut E) -> u8
+/// Tells why the file at the path can't be opened or written.
+pub(crate) fn complain_of<E: Write>(
+    alloc: Global,
+    path: &str,
+    reason: io::Error,
+    errors: &mut E,
+) -> u8
     ensures { (result ≡ fault_status) ⊎ (result ≡ memory_status) }
 {
     match shown(alloc, path) {
-        Ok(path) => complain(errors, FailedOpen { path, reason }, FILE_FAULT),
+        Ok(path) => complain(errors, FailedFile { path, reason }, FILE_FAULT),
         Err(_) => complain(errors, OUT_OF_MEMORY, NO_MEMORY),
     }
 }

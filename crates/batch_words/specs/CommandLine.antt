@@ -12,7 +12,7 @@ use Rattle.clap.specs.declared.builder.value_parser.ValueParser.TheVariants.{Uns
 use Rattle.clap.specs.declared.error.kind.ErrorKind.{ErrorKind}
 use Rattle.clap.specs.declared.error.kind.ErrorKind.TheVariants.{DisplayHelp, DisplayVersion, OutOfMemory}
 use Rattle.batch_words.specs.declared.command.Subcommand.{Subcommand}
-use Rattle.batch_words.specs.declared.command.Subcommand.TheVariants.{Judge, Serve, Status, Plant, Explain}
+use Rattle.batch_words.specs.declared.command.Subcommand.TheVariants.{Judge, Write, Serve, Status, Plant, Explain}
 use Rattle.batch_words.specs.declared.command.Judgement as judgements
 use Rattle.batch_words.specs.declared.command.Judgement.TheVariants.{Check, Draw, Verify}
 use Rattle.batch_words.specs.declared.command.Source as sources
@@ -41,6 +41,10 @@ several_rule name = record (new_rule name) {
 abbrev pub flag_rule : Text → Rule
 flag_rule name = record (new_rule name) { long = Some name; action = Some SetTrue }
 
+-- an option that takes a path, as `--write FILE`
+abbrev pub path_rule : Text → Rule
+path_rule name = record (new_rule name) { long = Some name; value_names = 1; action = Some Set }
+
 -- an option that takes a number of this range, as `--batches 7`
 abbrev pub number_rule : Text → ℕ → ℕ → Rule
 number_rule name least most = record (new_rule name) {
@@ -51,8 +55,8 @@ number_rule name least most = record (new_rule name) {
 }
 
 abbrev pub check_app : App
-check_app = with_rule (with_rule (with_rule (with_rule (new_app (codes "check"))
-    (word_rule (codes "CELL"))) (several_rule (codes "RECIPE"))) (flag_rule (codes "dot"))) (flag_rule (codes "quiet"))
+check_app = with_rule (with_rule (with_rule (with_rule (with_rule (new_app (codes "check"))
+    (word_rule (codes "CELL"))) (several_rule (codes "RECIPE"))) (flag_rule (codes "dot"))) (path_rule (codes "write"))) (flag_rule (codes "quiet"))
 
 -- `verify` and `run`, by the name
 abbrev pub certified_app : Text → App
@@ -123,6 +127,8 @@ pub data Source : Type 0 where
 
 pub data Request : Type 0 where
   judge : Judgement → Request
+  -- to write into the file at this path what is printed of documents that are accepted
+  write : (path : Text) → Judgement → Request
   serve : Source → Request
   -- to tell what the record at this path says, or the one on standard input
   tell : (path : Option Text) → Request
@@ -131,11 +137,20 @@ pub data Request : Type 0 where
   -- to say what the first code in these texts means, or where there are none what all codes mean
   explain : (texts : List Text) → Request
 
+-- which judgement the words behind `check` ask for
+abbrev pub judged_by : List Row → Judgement
+judged_by rows =
+    if is_given (codes "dot") rows then draw (word_of (codes "CELL") rows) (words_of (codes "RECIPE") rows)
+    else check (word_of (codes "CELL") rows) (words_of (codes "RECIPE") rows)
+
+-- it is printed, or written into the file that they name
+abbrev pub written_by : Option Text → Judgement → Request
+written_by None judgement = judge judgement
+written_by (Some path) judgement = write path judgement
+
 -- what the words behind `check` ask for
 abbrev pub checked_by : List Row → Request
-checked_by rows =
-    if is_given (codes "dot") rows then judge (draw (word_of (codes "CELL") rows) (words_of (codes "RECIPE") rows))
-    else judge (check (word_of (codes "CELL") rows) (words_of (codes "RECIPE") rows))
+checked_by rows = written_by (first_of (codes "write") rows) (judged_by rows)
 
 -- what the words behind `verify` or `run` ask for
 abbrev pub certified_by : Text → List Row → Request
@@ -173,6 +188,7 @@ source_of (Documents cell certificate recipes) = documents (string_bytes cell) (
 
 abbrev pub request_of : Subcommand → Request
 request_of (Judge judgement) = judge (judgement_of judgement)
+request_of (Write path judgement) = write (string_bytes path) (judgement_of judgement)
 request_of (Serve source) = serve (source_of source)
 request_of (Status path) = tell (option_map string_bytes path)
 request_of (Plant options) = plant options.batches options.ticks options.ring

@@ -3,7 +3,7 @@ ghost use Rattle.std.specs.Prelude.{◌≡◌, IfOk, IsOkAnd, codes, false};
 ghost use Rattle.clap.specs.Words.{app_of, rule_of};
 ghost use Rattle.clap.specs.Words.{AddsSubcommand};
 ghost use Rattle.clap.specs.declared.builder.command.Command.TheViews.{out-Command};
-ghost use Rattle.batch_words.specs.CommandLine.{bare_app, certified_app, check_app, explain_app, flag_rule, number_rule, optional_rule, plant_app, program_app, several_rule, status_app, word_rule};
+ghost use Rattle.batch_words.specs.CommandLine.{bare_app, certified_app, check_app, explain_app, flag_rule, number_rule, optional_rule, path_rule, plant_app, program_app, several_rule, status_app, word_rule};
 
 use clap::builder::ValueParser;
 use clap::{Arg, ArgAction, Command};
@@ -17,7 +17,7 @@ const ABOUT: &str =
 
 const AFTER_HELP: &str = "\
 An example, in examples/paint_plant:
-  batchd check cell.toml primer.toml rinse-mended.toml > certificate.new
+  batchd check --write certificate.new cell.toml primer.toml rinse-mended.toml
   batchd verify cell.toml certificate.new primer.toml rinse-mended.toml
   batchd run cell.toml certificate.new primer.toml rinse-mended.toml
 
@@ -36,7 +36,7 @@ Exit status:
 
 const CHECK_HELP: &str = "\
 An example, in examples/paint_plant:
-  batchd check cell.toml primer.toml rinse-mended.toml > certificate.new
+  batchd check --write certificate.new cell.toml primer.toml rinse-mended.toml
   batchd check --dot cell.toml topcoat.toml rinse.toml | dot -Tsvg > circle.svg
 ";
 
@@ -116,6 +116,11 @@ fn check<'a>(alloc: Global) -> Result<Command<'a>, AllocError>
             alloc,
             "dot",
             "Draws what is asked for after what, for Graphviz, a circle in red",
+        ))?
+        .arg(path(
+            alloc,
+            "write",
+            "Writes the certificate into this file in place of printing it; where there is none the file stays",
         ))?
         .arg(quiet(alloc))
 }
@@ -254,6 +259,18 @@ fn number<'a>(alloc: Global, name: &'a str, least: u64, most: u64, help: &'a str
         .help(help)
 }
 
+/// A path behind two dashes.
+fn path<'a>(alloc: Global, name: &'a str, help: &'a str) -> Arg<'a>
+    ensures rule { rule_of result ≡ path_rule name.entry.now }
+    ensures local { result.global ≡ false }
+{
+    Arg::new(alloc, name)
+        .long(name)
+        .value_name("FILE")
+        .action(ArgAction::Set)
+        .help(help)
+}
+
 fn quiet<'a>(alloc: Global) -> Arg<'a>
     ensures rule { rule_of result ≡ flag_rule (codes "quiet") }
     ensures local { result.global ≡ false }
@@ -261,7 +278,7 @@ fn quiet<'a>(alloc: Global) -> Arg<'a>
     flag(
         alloc,
         "quiet",
-        "Says nothing in words on standard error of a refusal",
+        "Says nothing in words on standard error of a refusal, and no warning",
     )
 }
 
