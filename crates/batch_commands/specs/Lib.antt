@@ -4,6 +4,7 @@ pub mod Judging
 pub mod Bytes
 pub mod Reading
 pub mod Halting
+pub mod Every
 pub mod Running
 pub mod Statuses
 pub mod DemoDocuments

@@ -1,11 +1,13 @@
 -- trusted: what comes of a request: what is printed, the set that is to be served, or why there is none.
-use Rattle.std.specs.Prelude.{◌≡◌, List, ℕ, [], ◌∷◌}
+use Rattle.std.specs.Prelude.{◌≡◌, List, ℕ, true, false, [], ◌∷◌}
 use Rattle.batch_verify.specs.ClearedSet.{ClearedSet}
 use Rattle.batch_words.specs.CommandLine.{Judgement, check, draw, verify, Source, demo, documents, Request, judge, write, serve, tell, plant, explain}
 use Rattle.batch_commands.specs.DemoDocuments.{demo_text}
 use Rattle.batch_commands.specs.Halting.{HaltsCheck, HaltsClearing, HaltsDrawing, HaltsVerifying}
 use Rattle.batch_commands.specs.Reading.{AreCleared, ChecksDocuments, DrawsDocuments, Gives, VerifiesDocuments, Warns}
 use Rattle.batch_commands.specs.declared.demo.TheConstants.{CELL_PATH, CERTIFICATE_PATH, RECIPE_PATH}
+use Rattle.batch_commands.specs.Every.{AreRefusalsOf}
+use Rattle.batch_commands.specs.declared.refusal.DocumentRefusal.{DocumentRefusal}
 use Rattle.batch_commands.specs.declared.refusal.Halt.{Halt}
 
 -- what is read of the demo
@@ -22,8 +24,8 @@ HaltsDemo h = HaltsClearing demo_gives CELL_PATH.now CERTIFICATE_PATH.now (RECIP
 
 -- what is printed where nothing is refused
 abbrev pub IsVerdict : Gives → Warns → Judgement → List ℕ → Type 0
-IsVerdict gives warns (check cell recipes) text = ChecksDocuments gives warns cell recipes text
-IsVerdict gives warns (draw cell recipes) text = DrawsDocuments gives warns cell recipes text
+IsVerdict gives warns (check all cell recipes) text = ChecksDocuments gives warns cell recipes text
+IsVerdict gives warns (draw all cell recipes) text = DrawsDocuments gives warns cell recipes text
 IsVerdict gives warns (verify cell certificate recipes) text = VerifiesDocuments gives warns cell certificate recipes text
 
 -- the set that is to be served: the demo's, or that of the documents, cleared by their certificate
@@ -31,11 +33,17 @@ abbrev pub IsSetOf : Gives → Source → ClearedSet → Type 0
 IsSetOf gives demo set = IsDemoSet set
 IsSetOf gives (documents cell certificate recipes) set = AreCleared gives cell certificate recipes set
 
+-- every refusal of the documents, where the words ask for all, and else none
+abbrev pub AreRefusals : Gives → Judgement → List DocumentRefusal → Type 0
+AreRefusals gives (check true cell recipes) refusals = AreRefusalsOf gives cell recipes refusals
+AreRefusals gives (draw true cell recipes) refusals = AreRefusalsOf gives cell recipes refusals
+AreRefusals gives judgement refusals = refusals ≡ []
+
 -- why there is no verdict, no set to be served, or none whose plant is run
 
 abbrev pub HaltsJudgement : Gives → Warns → Judgement → Halt → Type 0
-HaltsJudgement gives warns (check cell recipes) h = HaltsCheck gives warns cell recipes h
-HaltsJudgement gives warns (draw cell recipes) h = HaltsDrawing gives warns cell recipes h
+HaltsJudgement gives warns (check all cell recipes) h = HaltsCheck gives warns cell recipes h
+HaltsJudgement gives warns (draw all cell recipes) h = HaltsDrawing gives warns cell recipes h
 HaltsJudgement gives warns (verify cell certificate recipes) h = HaltsVerifying gives warns cell certificate recipes h
 
 abbrev pub HaltsSource : Gives → Source → Halt → Type 0

@@ -86,12 +86,16 @@ fn run_command<D: Documents, O: Write, E: Write>(
     match words.command {
         Subcommand::Judge(judgement) => match judge(alloc, documents, &judgement, quiet, errors) {
             Ok(text) => Course::Ends(print(output, errors, &text, SUCCESS)),
-            Err(halt) => Course::Ends(announce(alloc, quiet, &halt, output, errors)),
+            Err(halt) => Course::Ends(announce_every(
+                alloc, documents, &judgement, quiet, &halt, output, errors,
+            )),
         },
         Subcommand::Write { path, judgement } => {
             match judge(alloc, documents, &judgement, quiet, errors) {
                 Ok(text) => Course::Writes { path, text },
-                Err(halt) => Course::Ends(announce(alloc, quiet, &halt, output, errors)),
+                Err(halt) => Course::Ends(announce_every(
+                    alloc, documents, &judgement, quiet, &halt, output, errors,
+                )),
             }
         }
         Subcommand::Serve(source) => match clear_source(alloc, documents, &source) {
@@ -121,10 +125,10 @@ fn judge<D: Documents, E: Write>(
         (judgement_of judgement.now)) }
 {
     match judgement {
-        Judgement::Check { cell, recipes } => {
+        Judgement::Check { cell, recipes, .. } => {
             check_documents(alloc, documents, cell, recipes, quiet, errors)
         }
-        Judgement::Draw { cell, recipes } => {
+        Judgement::Draw { cell, recipes, .. } => {
             draw_documents(alloc, documents, cell, recipes, quiet, errors)
         }
         Judgement::Verify {
@@ -132,6 +136,78 @@ fn judge<D: Documents, E: Write>(
             certificate,
             recipes,
         } => verify_documents(alloc, documents, cell, certificate, recipes, quiet, errors),
+    }
+}
+
+/// Tells every refusal of the documents, where the words ask for all and there is one, or else why the judgement ended.
+fn announce_every<D: Documents, O: Write, E: Write>(
+    alloc: Global,
+    documents: &D,
+    judgement: &Judgement,
+    quiet: bool,
+    halt: &Halt,
+    output: &mut O,
+    errors: &mut E,
+) -> u8
+    ensures { IsEveryAnnounced (D.gives documents.now) (judgement_of judgement.now) quiet
+        (record { before = O.contents output.old; after = O.contents output.new })
+        (record { before = E.contents errors.old; after = E.contents errors.new }) halt.now result }
+{
+    match every_refusal(alloc, documents, judgement) {
+        Ok(refusals) if !refusals.is_empty() => {
+            refuse_all(alloc, quiet, &refusals, output, errors)
+        }
+        _ => announce(alloc, quiet, halt, output, errors),
+    }
+}
+
+/// Every refusal of the documents of the judgement, where it asks for all, and else none.
+fn every_refusal<D: Documents>(
+    alloc: Global,
+    documents: &D,
+    judgement: &Judgement,
+) -> Result<Vec<DocumentRefusal>, Halt>
+    ensures { IfOk result (λ refusals. AreRefusals (D.gives documents.now) (judgement_of judgement.now) refusals.items) }
+{
+    match judgement {
+        Judgement::Check { all: true, cell, recipes } | Judgement::Draw { all: true, cell, recipes } => {
+            refusals_of(alloc, documents, cell, recipes)
+        }
+        _ => Ok(Vec::new(alloc)),
+    }
+}
+
+/// Prints the refusals, and says what they mean.
+fn refuse_all<O: Write, E: Write>(
+    alloc: Global,
+    quiet: bool,
+    refusals: &[DocumentRefusal],
+    output: &mut O,
+    errors: &mut E,
+) -> u8
+    ensures { AreRefused quiet (record { before = O.contents output.old; after = O.contents output.new })
+        (record { before = E.contents errors.old; after = E.contents errors.new }) refusals.now result }
+{
+    let Ok(text) = texts_of(alloc, refusals) else {
+        return complain(errors, OUT_OF_MEMORY, NO_MEMORY);
+    };
+    match write_out(output, text.as_bytes()) {
+        Ok(()) => {
+            say_all(alloc, quiet, refusals, errors);
+            status_of_all(refusals)
+        }
+        Err(error) => unwritten(errors, error),
+    }
+}
+
+/// The exit status of these refusals: that of want of memory where one is for that.
+fn status_of_all(refusals: &[DocumentRefusal]) -> u8
+    ensures { result ≡ status_of_all refusals.now }
+{
+    if refusals.iter().any(|refusal| refusal.kind.status() == NO_MEMORY) {
+        NO_MEMORY
+    } else {
+        REFUSED
     }
 }
 

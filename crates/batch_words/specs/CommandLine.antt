@@ -55,8 +55,9 @@ number_rule name least most = record (new_rule name) {
 }
 
 abbrev pub check_app : App
-check_app = with_rule (with_rule (with_rule (with_rule (with_rule (new_app (codes "check"))
-    (word_rule (codes "CELL"))) (several_rule (codes "RECIPE"))) (flag_rule (codes "dot"))) (path_rule (codes "write"))) (flag_rule (codes "quiet"))
+check_app = with_rule (with_rule (with_rule (with_rule (with_rule (with_rule (new_app (codes "check"))
+    (word_rule (codes "CELL"))) (several_rule (codes "RECIPE"))) (flag_rule (codes "dot"))) (path_rule (codes "write"))) (flag_rule (codes "all")))
+    (flag_rule (codes "quiet"))
 
 -- `verify` and `run`, by the name
 abbrev pub certified_app : Text → App
@@ -115,9 +116,10 @@ HasOptionsOf rows options = (options.batches ≡ batches_of rows) × (options.ti
 
 -- documents that are to be judged, by their paths
 pub data Judgement : Type 0 where
-  check : (cell : Text) (recipes : List Text) → Judgement
+  -- every refusal is to be told, or the first alone
+  check : (all : Bool) (cell : Text) (recipes : List Text) → Judgement
   -- to draw what they ask for
-  draw : (cell : Text) (recipes : List Text) → Judgement
+  draw : (all : Bool) (cell : Text) (recipes : List Text) → Judgement
   verify : (cell certificate : Text) (recipes : List Text) → Judgement
 
 -- whose set is to be served: the demo's, or that of the documents at these paths
@@ -140,8 +142,8 @@ pub data Request : Type 0 where
 -- which judgement the words behind `check` ask for
 abbrev pub judged_by : List Row → Judgement
 judged_by rows =
-    if is_given (codes "dot") rows then draw (word_of (codes "CELL") rows) (words_of (codes "RECIPE") rows)
-    else check (word_of (codes "CELL") rows) (words_of (codes "RECIPE") rows)
+    if is_given (codes "dot") rows then draw (is_given (codes "all") rows) (word_of (codes "CELL") rows) (words_of (codes "RECIPE") rows)
+    else check (is_given (codes "all") rows) (word_of (codes "CELL") rows) (words_of (codes "RECIPE") rows)
 
 -- it is printed, or written into the file that they name
 abbrev pub written_by : Option Text → Judgement → Request
@@ -178,8 +180,8 @@ asks_quiet None = false
 asks_quiet (Some entered) = is_given (codes "quiet") entered.1
 
 abbrev pub judgement_of : judgements.Judgement → Judgement
-judgement_of (Check cell recipes) = check (string_bytes cell) (map string_bytes recipes.items)
-judgement_of (Draw cell recipes) = draw (string_bytes cell) (map string_bytes recipes.items)
+judgement_of (Check all cell recipes) = check all (string_bytes cell) (map string_bytes recipes.items)
+judgement_of (Draw all cell recipes) = draw all (string_bytes cell) (map string_bytes recipes.items)
 judgement_of (Verify cell certificate recipes) = verify (string_bytes cell) (string_bytes certificate) (map string_bytes recipes.items)
 
 abbrev pub source_of : sources.Source → Source

@@ -34,13 +34,15 @@ pub enum Subcommand {
 /// A judgement of documents, with their paths.
 #[derive(Debug, Drop)]
 pub enum Judgement {
-    /// To find a certificate for the recipes.
+    /// To find a certificate for the recipes, and to tell every refusal where `all` is given.
     Check {
+        all: bool,
         cell: String,
         recipes: Vec<String>,
     },
-    /// To draw what the recipes ask for after what.
+    /// To draw what the recipes ask for after what, and to tell every refusal where `all` is given.
     Draw {
+        all: bool,
         cell: String,
         recipes: Vec<String>,
     },

@@ -122,6 +122,11 @@ fn check<'a>(alloc: Global) -> Result<Command<'a>, AllocError>
             "write",
             "Writes the certificate into this file in place of printing it; where there is none the file stays",
         ))?
+        .arg(flag(
+            alloc,
+            "all",
+            "Tells every document that is refused, or else every recipe that breaks a rule, and not the first alone",
+        ))?
         .arg(quiet(alloc))
 }
 
