@@ -4,6 +4,7 @@ use Rattle.batch_cell.specs.declared.cell.Cell.{Cell}
 use Rattle.batch_recipe.specs.declared.recipe.Recipe.{Recipe}
 use Rattle.batch_reader.specs.CellDocument.{IsCellDocument}
 use Rattle.batch_reader.specs.RecipeDocument.{IsRecipeDocument}
+use Rattle.batch_outline.specs.Showing.{shown}
 use Rattle.batch_verify.specs.CertificateText.{Rank, IsCertificateText}
 use Rattle.batch_verify.specs.ClearedSet.{ClearedSet}
 use Rattle.batch_commands.specs.Drawing.{IsDrawn}
@@ -52,6 +53,10 @@ ChecksDocuments gives cell paths text = IsSoOf gives cell paths (λ c rs. IsChec
 -- what `check --dot` prints of them
 abbrev pub DrawsDocuments : Gives → List ℕ → List (List ℕ) → List ℕ → Type 0
 DrawsDocuments gives cell paths text = IsSoOf gives cell paths (λ c rs. IsDrawn c rs text)
+
+-- what `show` prints of them: the nodes of the recipes' expanded trees, whether they can be cleared or not
+abbrev pub ShowsDocuments : Gives → List ℕ → List (List ℕ) → List ℕ → Type 0
+ShowsDocuments gives cell paths text = IsSoOf gives cell paths (λ c rs. text ≡ shown rs)
 
 -- the documents at these paths are the cell, a certificate of these ranks, and the recipes
 pub record AreRead (gives : Gives) (cell certificate : List ℕ) (paths : List (List ℕ)) (equipment : Cell) (ranks : List Rank) (recipes : List Recipe) : Type 0 where

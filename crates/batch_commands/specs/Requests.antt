@@ -1,10 +1,10 @@
 -- trusted: what comes of a request: what is printed, the set that is to be served, or why there is none.
 use Rattle.std.specs.Prelude.{◌≡◌, List, ℕ, [], ◌∷◌}
 use Rattle.batch_verify.specs.ClearedSet.{ClearedSet}
-use Rattle.batch_words.specs.CommandLine.{Judgement, check, draw, verify, Source, demo, documents, Request, judge, serve, tell, plant, explain}
+use Rattle.batch_words.specs.CommandLine.{Judgement, check, draw, verify, show, Source, demo, documents, Request, judge, serve, tell, plant, explain}
 use Rattle.batch_commands.specs.DemoDocuments.{demo_text}
-use Rattle.batch_commands.specs.Halting.{HaltsCheck, HaltsClearing, HaltsDrawing}
-use Rattle.batch_commands.specs.Reading.{AreCleared, ChecksDocuments, DrawsDocuments, Gives, VerifiesDocuments}
+use Rattle.batch_commands.specs.Halting.{HaltsAtDocuments, HaltsCheck, HaltsClearing, HaltsDrawing}
+use Rattle.batch_commands.specs.Reading.{AreCleared, ChecksDocuments, DrawsDocuments, Gives, ShowsDocuments, VerifiesDocuments}
 use Rattle.batch_commands.specs.declared.demo.TheConstants.{CELL_PATH, CERTIFICATE_PATH, RECIPE_PATH}
 use Rattle.batch_commands.specs.declared.refusal.Halt.{Halt}
 
@@ -25,6 +25,7 @@ abbrev pub IsVerdict : Gives → Judgement → List ℕ → Type 0
 IsVerdict gives (check cell recipes) text = ChecksDocuments gives cell recipes text
 IsVerdict gives (draw cell recipes) text = DrawsDocuments gives cell recipes text
 IsVerdict gives (verify cell certificate recipes) text = VerifiesDocuments gives cell certificate recipes text
+IsVerdict gives (show cell recipes) text = ShowsDocuments gives cell recipes text
 
 -- the set that is to be served: the demo's, or that of the documents, cleared by their certificate
 abbrev pub IsSetOf : Gives → Source → ClearedSet → Type 0
@@ -37,6 +38,7 @@ abbrev pub HaltsJudgement : Gives → Judgement → Halt → Type 0
 HaltsJudgement gives (check cell recipes) h = HaltsCheck gives cell recipes h
 HaltsJudgement gives (draw cell recipes) h = HaltsDrawing gives cell recipes h
 HaltsJudgement gives (verify cell certificate recipes) h = HaltsClearing gives cell certificate recipes h
+HaltsJudgement gives (show cell recipes) h = HaltsAtDocuments gives cell recipes h
 
 abbrev pub HaltsSource : Gives → Source → Halt → Type 0
 HaltsSource gives demo h = HaltsDemo h

@@ -16,7 +16,7 @@ use Rattle.batch_commands.specs.declared.refusal.Halt.{Halt}
 abbrev pub AreCodesTold : List Text → Stream → Type 0
 AreCodesTold texts output = (text : List ℕ) × Tells texts text × Appends output.before output.after text
 
--- `check` wrote the certificate with the least ranks, or the drawing of recipes that can be cleared; `verify` wrote that it accepts
+-- `check` wrote the certificate with the least ranks, or the drawing of recipes that can be cleared; `show` wrote the recipes' nodes; `verify` wrote that it accepts
 -- the set of the documents, which their certificate clears. Nothing else ends so before it has served
 abbrev pub IsSuccess : Gives → Request → Stream → Type 0
 IsSuccess gives (judge judgement) output = (text : List ℕ) × Appends output.before output.after text × IsVerdict gives judgement text

@@ -1,7 +1,7 @@
 //! Reading and judging documents, each before the next.
 ghost use Rattle.std.specs.Prelude.{◌≡◌, ℕ, List, Option, map, IfOk, IfErr, string_bytes};
-ghost use Rattle.batch_commands.specs.Halting.{HaltsAtCell, HaltsAtCertificate, HaltsAtRecipe, HaltsAtRecipes, HaltsCheck, HaltsClearing, HaltsDrawing, HaltsReading};
-ghost use Rattle.batch_commands.specs.Reading.{AreCleared, AreRead, ChecksDocuments, DrawsDocuments, IsUnread, ReadsCell, ReadsCertificate, ReadsRecipe, ReadsRecipes, VerifiesDocuments};
+ghost use Rattle.batch_commands.specs.Halting.{HaltsAtCell, HaltsAtCertificate, HaltsAtDocuments, HaltsAtRecipe, HaltsAtRecipes, HaltsCheck, HaltsClearing, HaltsDrawing, HaltsReading};
+ghost use Rattle.batch_commands.specs.Reading.{AreCleared, AreRead, ChecksDocuments, DrawsDocuments, IsUnread, ReadsCell, ReadsCertificate, ReadsRecipe, ReadsRecipes, ShowsDocuments, VerifiesDocuments};
 
 use crate::drawing::draw_recipes;
 use crate::judging::{
@@ -9,6 +9,7 @@ use crate::judging::{
 };
 use crate::refusal::Halt;
 use batch_cell::Cell;
+use batch_outline::show_recipes;
 use batch_reader::MAX_DOCUMENT_LEN;
 use batch_recipe::Recipe;
 use batch_verify::{Certificate, Cleared};
@@ -70,6 +71,22 @@ pub fn verify_documents<D: Documents>(
 {
     clear_documents(alloc, documents, cell, certificate, recipes)?;
     Ok(String::from_str(alloc, "accepted\n")?)
+}
+
+/// What `show` prints of the documents at these paths: the nodes of the recipes, whether they can be cleared or not. The first
+/// document that can't be read or is refused ends it, as [`check_documents`].
+pub fn show_documents<D: Documents>(
+    alloc: Global,
+    documents: &D,
+    cell: &str,
+    recipes: &[String],
+) -> Result<String, Halt>
+    ensures verdict { IfOk result (λ text. ShowsDocuments (D.gives documents.now) cell.now (map string_bytes recipes.now) (string_bytes text)) }
+    ensures halted { IfErr result (HaltsAtDocuments (D.gives documents.now) cell.now (map string_bytes recipes.now)) }
+{
+    read_cell(alloc, documents, cell)?;
+    let recipes = read_recipes(alloc, documents, recipes)?;
+    Ok(show_recipes(alloc, &recipes)?)
 }
 
 /// The set that the documents at these paths make, cleared by the certificate among them: the one way from documents to a set

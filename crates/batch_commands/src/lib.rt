@@ -17,7 +17,7 @@ mod texts;
 
 pub use course::Course;
 pub use documents::{
-    Documents, check_documents, clear_documents, draw_documents, verify_documents,
+    Documents, check_documents, clear_documents, draw_documents, show_documents, verify_documents,
 };
 pub use drawing::draw_recipes;
 pub use files::FilesOf;

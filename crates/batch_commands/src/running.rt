@@ -8,7 +8,7 @@ ghost use Rattle.batch_commands.specs.Running.{IsAnnounced, IsDone, IsExplained,
 use crate::course::Course;
 use crate::demo::{CELL_PATH, CERTIFICATE_PATH, Demo, RECIPE_PATH};
 use crate::documents::{
-    Documents, check_documents, clear_documents, draw_documents, verify_documents,
+    Documents, check_documents, clear_documents, draw_documents, show_documents, verify_documents,
 };
 use crate::refusal::{DocumentRefusal, Halt};
 use crate::saying::say;
@@ -113,6 +113,7 @@ fn judge<D: Documents>(alloc: Global, documents: &D, judgement: &Judgement) -> R
             certificate,
             recipes,
         } => verify_documents(alloc, documents, cell, certificate, recipes),
+        Judgement::Show { cell, recipes } => show_documents(alloc, documents, cell, recipes),
     }
 }
 

@@ -110,6 +110,10 @@ no_text_is_taken : fault_of program_app (codes "explain" ∷ []) ≡ []
 unfolding clap_on_literals
 no_text_is_taken = refl
 
+show_entered : entered_words (subcommand_of program_app (codes "show" ∷ codes "c" ∷ codes "r" ∷ [])) ≡ Some (codes "show", codes "c", [], codes "r" ∷ [])
+unfolding clap_on_literals
+show_entered = refl
+
 -- a record
 
 -- the path of the record that was entered, where there is one

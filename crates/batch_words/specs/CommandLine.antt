@@ -1,4 +1,4 @@
--- trusted: the command line: `check CELL RECIPE..`, `verify CELL CERT RECIPE..`, `run CELL CERT RECIPE..`, `status RECORD`, `plant`, `explain CODE..`, and no words at all.
+-- trusted: the command line: `check CELL RECIPE..`, `verify CELL CERT RECIPE..`, `show CELL RECIPE..`, `run CELL CERT RECIPE..`, `status RECORD`, `plant`, `explain CODE..`, and no words at all.
 use Rattle.std.specs.Prelude.{◌≡◌, ◌≢◌, ◌⊎◌, [], ℕ, Bool, List, Option, Some, None, map, option_map, codes, true, false, unwrap_or, string_bytes, if◌then◌else◌, ⊤}
 use Rattle.std.specs.Str.{bytes_eq}
 use Rattle.std.specs.Str.Parse.{digits_value, without_leading_plus}
@@ -14,7 +14,7 @@ use Rattle.clap.specs.declared.error.kind.ErrorKind.TheVariants.{DisplayHelp, Di
 use Rattle.batch_words.specs.declared.command.Subcommand.{Subcommand}
 use Rattle.batch_words.specs.declared.command.Subcommand.TheVariants.{Judge, Serve, Status, Plant, Explain}
 use Rattle.batch_words.specs.declared.command.Judgement as judgements
-use Rattle.batch_words.specs.declared.command.Judgement.TheVariants.{Check, Draw, Verify}
+use Rattle.batch_words.specs.declared.command.Judgement.TheVariants.{Check, Draw, Verify, Show}
 use Rattle.batch_words.specs.declared.command.Source as sources
 use Rattle.batch_words.specs.declared.command.Source.TheVariants.{Demo, Documents}
 use Rattle.batch_words.specs.declared.command.CommandWords.{CommandWords}
@@ -59,6 +59,10 @@ abbrev pub certified_app : Text → App
 certified_app name = with_rule (with_rule (with_rule (with_rule (new_app name)
     (word_rule (codes "CELL"))) (word_rule (codes "CERT"))) (several_rule (codes "RECIPE"))) (flag_rule (codes "quiet"))
 
+abbrev pub show_app : App
+show_app = with_rule (with_rule (with_rule (new_app (codes "show"))
+    (word_rule (codes "CELL"))) (several_rule (codes "RECIPE"))) (flag_rule (codes "quiet"))
+
 abbrev pub status_app : App
 status_app = with_rule (new_app (codes "status")) (optional_rule (codes "RECORD"))
 
@@ -75,8 +79,8 @@ bare_app = on_top (λ s. record s { has_version = true; no_binary_name = true })
 -- the whole command line
 abbrev pub program_app : App
 program_app =
-    with_subcommand (with_subcommand (with_subcommand (with_subcommand (with_subcommand (with_subcommand bare_app
-    check_app.top) (certified_app (codes "verify")).top) (certified_app (codes "run")).top) status_app.top) plant_app.top) explain_app.top
+    with_subcommand (with_subcommand (with_subcommand (with_subcommand (with_subcommand (with_subcommand (with_subcommand bare_app
+    check_app.top) (certified_app (codes "verify")).top) show_app.top) (certified_app (codes "run")).top) status_app.top) plant_app.top) explain_app.top
 
 -- the word that was given for an argument
 abbrev pub word_of : Text → List Row → Text
@@ -115,6 +119,8 @@ pub data Judgement : Type 0 where
   -- to draw what they ask for
   draw : (cell : Text) (recipes : List Text) → Judgement
   verify : (cell certificate : Text) (recipes : List Text) → Judgement
+  -- to show their nodes
+  show : (cell : Text) (recipes : List Text) → Judgement
 
 -- whose set is to be served: the demo's, or that of the documents at these paths
 pub data Source : Type 0 where
@@ -137,6 +143,10 @@ checked_by rows =
     if is_given (codes "dot") rows then judge (draw (word_of (codes "CELL") rows) (words_of (codes "RECIPE") rows))
     else judge (check (word_of (codes "CELL") rows) (words_of (codes "RECIPE") rows))
 
+-- what the words behind `show` ask for
+abbrev pub shown_by : List Row → Request
+shown_by rows = judge (show (word_of (codes "CELL") rows) (words_of (codes "RECIPE") rows))
+
 -- what the words behind `verify` or `run` ask for
 abbrev pub certified_by : Text → List Row → Request
 certified_by name rows =
@@ -150,7 +160,8 @@ named_by name rows =
     if bytes_eq name (codes "explain") then explain (words_of (codes "CODE") rows)
     else (if bytes_eq name (codes "plant") then plant (batches_of rows) (ticks_of rows) (ring_of rows)
     else (if bytes_eq name (codes "status") then tell (first_of (codes "RECORD") rows)
-    else (if bytes_eq name (codes "check") then checked_by rows else certified_by name rows)))
+    else (if bytes_eq name (codes "check") then checked_by rows
+    else (if bytes_eq name (codes "show") then shown_by rows else certified_by name rows))))
 
 -- what is asked for, whether or not a command was entered
 abbrev pub asked_by : Option (Text × List Row) → Request
@@ -166,6 +177,7 @@ abbrev pub judgement_of : judgements.Judgement → Judgement
 judgement_of (Check cell recipes) = check (string_bytes cell) (map string_bytes recipes.items)
 judgement_of (Draw cell recipes) = draw (string_bytes cell) (map string_bytes recipes.items)
 judgement_of (Verify cell certificate recipes) = verify (string_bytes cell) (string_bytes certificate) (map string_bytes recipes.items)
+judgement_of (Show cell recipes) = show (string_bytes cell) (map string_bytes recipes.items)
 
 abbrev pub source_of : sources.Source → Source
 source_of Demo = demo

@@ -48,6 +48,11 @@ pub enum Judgement {
         certificate: String,
         recipes: Vec<String>,
     },
+    /// To show the nodes of the recipes.
+    Show {
+        cell: String,
+        recipes: Vec<String>,
+    },
 }
 
 /// Where the set comes from that is to be served.

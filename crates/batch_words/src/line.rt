@@ -3,7 +3,7 @@ ghost use Rattle.std.specs.Prelude.{◌≡◌, IfOk, IsOkAnd, codes, false};
 ghost use Rattle.clap.specs.Words.{app_of, rule_of};
 ghost use Rattle.clap.specs.Words.{AddsSubcommand};
 ghost use Rattle.clap.specs.declared.builder.command.Command.TheViews.{out-Command};
-ghost use Rattle.batch_words.specs.CommandLine.{bare_app, certified_app, check_app, explain_app, flag_rule, number_rule, optional_rule, plant_app, program_app, several_rule, status_app, word_rule};
+ghost use Rattle.batch_words.specs.CommandLine.{bare_app, certified_app, check_app, explain_app, flag_rule, number_rule, optional_rule, plant_app, program_app, several_rule, show_app, status_app, word_rule};
 
 use clap::builder::ValueParser;
 use clap::{Arg, ArgAction, Command};
@@ -45,6 +45,11 @@ An example, in examples/paint_plant:
   batchd verify cell.toml certificate.txt primer.toml rinse-mended.toml
 ";
 
+const SHOW_HELP: &str = "\
+An example, in examples/paint_plant:
+  batchd show cell.toml primer.toml
+";
+
 const RUN_HELP: &str = "\
 An example, in examples/paint_plant; type the lines below it:
   batchd run cell.toml certificate.txt primer.toml rinse-mended.toml
@@ -76,7 +81,8 @@ pub(crate) fn program<'a>(alloc: Global) -> Result<Command<'a>, AllocError>
 {
     let checking = with_command(bare(alloc)?, check(alloc))?;
     let verifying = with_command(checking, verify(alloc))?;
-    let running = with_command(verifying, run(alloc))?;
+    let showing = with_command(verifying, show(alloc))?;
+    let running = with_command(showing, run(alloc))?;
     let telling = with_command(running, status(alloc))?;
     let planting = with_command(telling, plant(alloc))?;
     with_command(planting, explain(alloc))
@@ -125,6 +131,17 @@ fn verify<'a>(alloc: Global) -> Result<Command<'a>, AllocError>
 {
     let about = "Prints whether the certificate clears the recipes for the cell";
     certified(alloc, "verify", about, VERIFY_HELP)
+}
+
+fn show<'a>(alloc: Global) -> Result<Command<'a>, AllocError>
+    ensures { IfOk result (λ show. (app_of show ≡ show_app) × ((out-Command show).has_globals ≡ false)) }
+{
+    Command::new(alloc, "show")
+        .about("Prints the nodes of the recipes, each with its place, as records name it")
+        .after_help(SHOW_HELP)
+        .arg(word(alloc, "CELL", "The cell document"))?
+        .arg(several(alloc, "RECIPE", "The master recipes"))?
+        .arg(quiet(alloc))
 }
 
 fn run<'a>(alloc: Global) -> Result<Command<'a>, AllocError>

@@ -7,6 +7,10 @@ pub returns-in-Draw-clause-halted : goal.returns-in-Draw-clause-halted
 returns-in-Draw-clause-halted g c =
     rw c.in-Draw.is (rw (c.deref-in-Draw.ensures, c.deref-in-Draw-2.ensures.value) at c.draw_documents.ensures.halted)
 
+pub returns-in-Show-clause-halted : goal.returns-in-Show-clause-halted
+returns-in-Show-clause-halted g c =
+    rw c.in-Show.is (rw (c.deref-in-Show.ensures, c.deref-in-Show-2.ensures.value) at c.show_documents.ensures.halted)
+
 pub returns-in-Verify-clause-verdict : goal.returns-in-Verify-clause-verdict
 returns-in-Verify-clause-verdict g c =
     rw c.in-Verify.is
