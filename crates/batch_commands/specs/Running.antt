@@ -7,7 +7,7 @@ use Rattle.clap.specs.Walk.{Text}
 use Rattle.clap.specs.Words.{fault_of, subcommand_of}
 use Rattle.clap.specs.declared.error.kind.ErrorKind.{ErrorKind}
 use Rattle.batch_explain.specs.Explaining.{HaveNoCode, Tells}
-use Rattle.batch_words.specs.CommandLine.{IsShown, Judgement, Request, Source, asked_by, asks_quiet, explain, judge, plant, program_app, serve, tell}
+use Rattle.batch_words.specs.CommandLine.{IsShown, Judgement, Request, Source, asked_by, asks_quiet, explain, judge, picture, plant, program_app, serve, tell}
 use Rattle.batch_commands.specs.Judging.{status_of}
 use Rattle.batch_commands.specs.Reading.{Gives}
 use Rattle.batch_commands.specs.Requests.{Halts, IsDemoSet, IsSetOf, IsVerdict}
@@ -15,7 +15,7 @@ use Rattle.batch_commands.specs.Saying.{IsSaid}
 use Rattle.batch_verify.specs.ClearedSet.{ClearedSet}
 use Rattle.batch_words.specs.declared.plant_options.PlantOptions.{PlantOptions}
 use Rattle.batch_commands.specs.declared.course.Course.{Course}
-use Rattle.batch_commands.specs.declared.course.Course.TheVariants.{Ends, Serves, Reads, Plants}
+use Rattle.batch_commands.specs.declared.course.Course.TheVariants.{Ends, Serves, Reads, Draws, Plants}
 use Rattle.batch_commands.specs.declared.refusal.Halt.{Halt}
 use Rattle.batch_commands.specs.declared.refusal.Halt.TheVariants as halt
 use Rattle.batch_commands.specs.declared.refusal.DocumentRefusal.{DocumentRefusal}
@@ -96,7 +96,7 @@ IsExplained texts output errors status =
 -- Runs
 
 -- what comes of a request: the exit status, or the set that the program is to serve, quietly or not, or whose plant it is to run, or
--- the record that it is to read
+-- the record that it is to read or to draw
 pub data IsDone (gives : Gives) (request : Request) (quiet : Bool) (output errors : Stream) : Course → Type 0 where
   judges : (judgement : Judgement) (text : List ℕ) (status : ℕ)
       → request ≡ judge judgement → IsVerdict gives judgement text → IsPrinted output errors text success_status status
@@ -107,6 +107,9 @@ pub data IsDone (gives : Gives) (request : Request) (quiet : Bool) (output error
   reads : (path : Option (String Global))
       → request ≡ tell (option_map string_bytes path) → IsUnwritten output → IsUnwritten errors
       → IsDone gives request quiet output errors (Reads path)
+  draws : (path : Option (String Global))
+      → request ≡ picture (option_map string_bytes path) → IsUnwritten output → IsUnwritten errors
+      → IsDone gives request quiet output errors (Draws path)
   plants : (set : ClearedSet) (options : PlantOptions)
       → request ≡ plant options.batches options.ticks options.ring → IsDemoSet set → IsUnwritten output → IsUnwritten errors
       → IsDone gives request quiet output errors (Plants set options)

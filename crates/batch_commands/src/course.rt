@@ -11,6 +11,8 @@ pub enum Course {
     Serves { set: Cleared, quiet: bool },
     /// The program is to tell what a record says: the one at this path, or the one on its input.
     Reads { path: Option<String> },
+    /// The program is to draw what a record says: the one at this path, or the one on its input.
+    Draws { path: Option<String> },
     /// The program is to run the plant of this set, which is that of the demo.
     Plants { set: Cleared, options: PlantOptions },
 }

@@ -92,6 +92,7 @@ fn run_command<D: Documents, O: Write, E: Write>(
             Err(halt) => Course::Ends(announce(alloc, quiet, &halt, output, errors)),
         },
         Subcommand::Status { path } => Course::Reads { path },
+        Subcommand::Draw { path } => Course::Draws { path },
         Subcommand::Plant(options) => match clear_demo(alloc) {
             Ok(set) => Course::Plants { set, options },
             Err(halt) => Course::Ends(announce(alloc, quiet, &halt, output, errors)),

@@ -10,7 +10,7 @@ use Rattle.batch_engine.specs.View.{setup}
 use Rattle.batch_wire.specs.Transcript.{lines_of, whole_lines}
 use Rattle.batch_wire.specs.Written.{AppendsBeginning}
 use Rattle.batch_serve.specs.Safe.{BeginsSafely, WritesSafely, WritesWholeSafely}
-use Rattle.batch_words.specs.CommandLine.{Request, Source, plant, serve, tell}
+use Rattle.batch_words.specs.CommandLine.{Request, Source, picture, plant, serve, tell}
 use Rattle.batch_words.specs.declared.plant_options.PlantOptions.{PlantOptions}
 use Rattle.batch_commands.specs.Reading.{Gives}
 use Rattle.batch_commands.specs.Requests.{IsDemoSet, IsSetOf}
@@ -32,11 +32,11 @@ use Rattle.batch_serve.specs.declared.fault.ServeFault.TheVariants.{Read, Write,
 use Rattle.batch_serve.specs.declared.fault.SetFault.{SetFault}
 use Rattle.batch_serve.specs.declared.fault.SetFault.TheVariants.{Memory, Stopped}
 use Rattle.batch_program.specs.declared.program.TheConstants.{MAX_READS}
-use Rattle.batch_program.specs.Programs.{IsLeftTold, IsProgramRun, PlantsAreComplete, ServingIsSafe, tells, serves, reads, plants, status_of_serving}
+use Rattle.batch_program.specs.Programs.{IsLeftTold, IsProgramRun, PlantsAreComplete, ServingIsSafe, tells, serves, reads, draws, plants, status_of_serving}
 use Rattle.batch_plant.specs.declared.plant_fault.PlantFault.{PlantFault}
 use Rattle.batch_plant.specs.declared.plant_fault.PlantFault.TheVariants as plant_fault
 use Rattle.batch_program.specs.PlantRuns.{HasRun, IsPlantTold, plant_text, refused_status}
-use Rattle.batch_program.specs.RecordRuns.{Holds, IsRecordTold, IsStatusTold, IsUntold, prints, refuses, stops, no_record_text, output_of}
+use Rattle.batch_program.specs.RecordRuns.{Holds, IsRecordDrawn, IsRecordTold, IsStatusTold, IsUntold, declines, fails, pictures, prints, refuses, stops, no_record_text, output_of}
 
 -- Streams
 
@@ -146,6 +146,7 @@ done_to_plant gives request quiet output errors _ set options (running.plants ot
     (subst (λ (o : PlantOptions). request ≡ plant o.batches o.ticks o.ring) chosen asked, subst IsDemoSet same cleared, kept, silent)
 done_to_plant gives request quiet output errors _ set options (running.serves _ _ _ _ _ _) is = absurd cc
 done_to_plant gives request quiet output errors _ set options (running.reads _ _ _ _) is = absurd cc
+done_to_plant gives request quiet output errors _ set options (running.draws _ _ _ _) is = absurd cc
 done_to_plant gives request quiet output errors _ set options (running.halts _ _ _ _) is = absurd cc
 done_to_plant gives request quiet output errors _ set options (running.judges _ _ _ _ _ _) is = absurd cc
 done_to_plant gives request quiet output errors _ set options (running.explains _ _ _ _) is = absurd cc
@@ -198,6 +199,7 @@ done_to_read gives request quiet output errors _ path (running.plants _ _ _ _ _ 
 done_to_read gives request quiet output errors _ path (running.halts _ _ _ _) is = absurd cc
 done_to_read gives request quiet output errors _ path (running.judges _ _ _ _ _ _) is = absurd cc
 done_to_read gives request quiet output errors _ path (running.explains _ _ _ _) is = absurd cc
+done_to_read gives request quiet output errors _ path (running.draws _ _ _ _) is = absurd cc
 
 -- the record that is to be read is the one that the words name, and nothing was written
 pub record_to_read : (gives : Gives) (words : List Text) (output errors : Stream) (course : Course) (path : Option (String Global))
@@ -209,6 +211,41 @@ record_to_read gives words output errors _ path (running.commands request course
 record_to_read gives words output errors _ path (running.helps _ _ _ _) is = absurd cc
 record_to_read gives words output errors _ path (running.misuses _ _) is = absurd cc
 record_to_read gives words output errors _ path (running.starves _) is = absurd cc
+
+done_to_draw : (gives : Gives) (request : Request) (quiet : Bool) (output errors : Stream) (course : Course) (path : Option (String Global))
+    → IsDone gives request quiet output errors course → course ≡ course_of.Draws path
+    → (request ≡ picture (option_map string_bytes path)) × IsUnwritten output × IsUnwritten errors
+done_to_draw gives request quiet output errors _ path (running.draws other asked kept silent) is =
+    let same : other ≡ path = cc in
+    (subst (λ (p : Option (String Global)). request ≡ picture (option_map string_bytes p)) same asked, kept, silent)
+done_to_draw gives request quiet output errors _ path (running.serves _ _ _ _ _ _) is = absurd cc
+done_to_draw gives request quiet output errors _ path (running.reads _ _ _ _) is = absurd cc
+done_to_draw gives request quiet output errors _ path (running.plants _ _ _ _ _ _) is = absurd cc
+done_to_draw gives request quiet output errors _ path (running.halts _ _ _ _) is = absurd cc
+done_to_draw gives request quiet output errors _ path (running.judges _ _ _ _ _ _) is = absurd cc
+done_to_draw gives request quiet output errors _ path (running.explains _ _ _ _) is = absurd cc
+
+-- the record that is to be drawn is the one that the words name, and nothing was written
+pub record_to_draw : (gives : Gives) (words : List Text) (output errors : Stream) (course : Course) (path : Option (String Global))
+    → IsRun gives words output errors course → course ≡ course_of.Draws path
+    → AskFor words (picture (option_map string_bytes path)) × IsUnwritten output × IsUnwritten errors
+record_to_draw gives words output errors _ path (running.commands request course asked came) is =
+    let (named, kept, silent) = done_to_draw gives request (ask_quiet words) output errors course path came is in
+    (rw (← named) asked, kept, silent)
+record_to_draw gives words output errors _ path (running.helps _ _ _ _) is = absurd cc
+record_to_draw gives words output errors _ path (running.misuses _ _) is = absurd cc
+record_to_draw gives words output errors _ path (running.starves _) is = absurd cc
+
+-- drawing a record, after the streams were left as they were
+pub drawn_kept : (before mid after quiet still loud : Option (List ℕ)) (status : ℕ) → Keeps before mid → Keeps quiet still
+    → IsRecordDrawn (record { before = mid; after = after }) (record { before = still; after = loud }) status
+    → IsRecordDrawn (record { before = before; after = after }) (record { before = quiet; after = loud }) status
+drawn_kept before mid after quiet still loud status kept silent (pictures text printed) =
+    pictures text (printed_kept before mid after quiet still loud text success_status status kept silent printed)
+drawn_kept before mid after quiet still loud status kept silent (declines number printed) =
+    declines number (printed_kept before mid after quiet still loud (no_record_text number) refused_status status kept silent printed)
+drawn_kept before mid after quiet still loud status kept silent (fails (untouched, is)) =
+    fails (kept_then_kept before mid after kept untouched, is)
 
 status_kept : (unread before mid after quiet still loud : Option (List ℕ)) (status : ℕ) → Keeps before mid → Keeps quiet still
     → IsStatusTold unread (record { before = mid; after = after }) (record { before = still; after = loud }) status
@@ -255,6 +292,12 @@ serves_no_record source path is = cc
 plants_no_record : (batches ticks ring : ℕ) (path : Option Text) → plant batches ticks ring ≡ tell path → ⊥
 plants_no_record batches ticks ring path is = cc
 
+serves_no_picture : (source : Source) (path : Option Text) → serve source ≡ picture path → ⊥
+serves_no_picture source path is = cc
+
+plants_no_picture : (batches ticks ring : ℕ) (path : Option Text) → plant batches ticks ring ≡ picture path → ⊥
+plants_no_picture batches ticks ring path is = cc
+
 serves_no_plant : (source : Source) (batches ticks ring : ℕ) → serve source ≡ plant batches ticks ring → ⊥
 serves_no_plant source batches ticks ring is = cc
 
@@ -269,6 +312,8 @@ safe_at gives holds words ends errors source _ asked (serves other set served as
     (set, left, subst (λ s. IsSetOf gives s set) same is_set, answers, says)
 safe_at gives holds words ends errors source _ asked (reads path _ asked2 _) is =
     absurd (serves_no_record source path (same_request words (serve source) (tell path) asked asked2))
+safe_at gives holds words ends errors source _ asked (draws path _ asked2 _) is =
+    absurd (serves_no_picture source path (same_request words (serve source) (picture path) asked asked2))
 safe_at gives holds words ends errors source _ asked (plants _ options _ _ asked2 _ _ _ _) is =
     absurd (serves_no_plant source options.batches options.ticks options.ring (same_request words (serve source) _ asked asked2))
 
@@ -298,6 +343,7 @@ done_in_range : (gives : Gives) (request : Request) (quiet : Bool) (output error
     → IsDone gives request quiet output errors course → course ≡ Ends status → status ≤ 4
 done_in_range gives request quiet output errors _ status (running.serves _ _ _ _ _ _) is = absurd cc
 done_in_range gives request quiet output errors _ status (running.reads _ _ _ _) is = absurd cc
+done_in_range gives request quiet output errors _ status (running.draws _ _ _ _) is = absurd cc
 done_in_range gives request quiet output errors _ status (running.plants _ _ _ _ _ _) is = absurd cc
 done_in_range gives request quiet output errors _ status (running.halts h told _ at) is =
     let same : told ≡ status = cc in rw (← same) (announced_in_range quiet output errors h told at)
@@ -339,6 +385,11 @@ status_in_range unread output errors status (prints text _ printed) = printed_in
 status_in_range unread output errors status (refuses number _ printed) = printed_in_range output errors _ refused_status status (omega arith) printed
 status_in_range unread output errors status (stops untold) = untold_in_range output status untold
 
+drawn_in_range : (output errors : Stream) (status : ℕ) → IsRecordDrawn output errors status → status ≤ 4
+drawn_in_range output errors status (pictures text printed) = printed_in_range output errors text success_status status (omega arith) printed
+drawn_in_range output errors status (declines number printed) = printed_in_range output errors _ refused_status status (omega arith) printed
+drawn_in_range output errors status (fails untold) = untold_in_range output status untold
+
 record_in_range : (holds : Holds) (path : Option Text) (ends : serving.Ends) (errors : Stream) (status : ℕ) → IsRecordTold holds path ends errors status → status ≤ 4
 record_in_range holds None ends errors status told = status_in_range ends.unread (output_of ends) errors status told
 record_in_range holds (Some path) ends errors status (_, inl (unread, _, told)) = status_in_range unread (output_of ends) errors status told
@@ -349,6 +400,7 @@ pub run_in_range : (gives : Gives) (holds : Holds) (words : List Text) (ends : s
 run_in_range gives holds words ends errors _ (tells status came _) = course_in_range gives words (output_of ends) errors (Ends status) status came refl
 run_in_range gives holds words ends errors _ (serves _ _ served _ _ _ _) = serving_in_range served
 run_in_range gives holds words ends errors status (reads path _ _ told) = record_in_range holds path ends errors status told
+run_in_range gives holds words ends errors status (draws path _ _ told) = drawn_in_range (output_of ends) errors status told
 run_in_range gives holds words ends errors status (plants _ options end _ _ _ _ told _) = plant_in_range (output_of ends) errors options.batches end status told
 
 -- What a plant tells
@@ -378,6 +430,8 @@ told_plant gives holds words ends errors batches ticks ring _ asked (serves sour
     absurd (serves_no_plant source batches ticks ring (same_request words (serve source) (plant batches ticks ring) asked2 asked))
 told_plant gives holds words ends errors batches ticks ring _ asked (reads path _ asked2 _) is =
     absurd (plants_no_record batches ticks ring path (same_request words (plant batches ticks ring) (tell path) asked asked2))
+told_plant gives holds words ends errors batches ticks ring _ asked (draws path _ asked2 _) is =
+    absurd (plants_no_picture batches ticks ring path (same_request words (plant batches ticks ring) (picture path) asked asked2))
 told_plant gives holds words ends errors batches ticks ring status asked (plants set options end _ asked2 demo ran told _) is =
     let same = same_batches options.batches batches options.ticks ticks options.ring ring (same_request words _ (plant batches ticks ring) asked2 asked) in
     let (handled, came, appends) = complete_at (output_of ends) errors set options.batches end status ran told is in

@@ -5,7 +5,7 @@ use Rattle.std.specs.Process.{exit_status}
 use Rattle.std.specs.declared.process.ExitCode.{ExitCode}
 use Rattle.clap.specs.Walk.{Text}
 use Rattle.batch_verify.specs.ClearedSet.{ClearedSet}
-use Rattle.batch_words.specs.CommandLine.{Source, plant, serve, tell}
+use Rattle.batch_words.specs.CommandLine.{Source, picture, plant, serve, tell}
 use Rattle.batch_words.specs.declared.plant_options.PlantOptions.{PlantOptions}
 use Rattle.batch_commands.specs.Reading.{Gives}
 use Rattle.batch_commands.specs.Requests.{IsDemoSet, IsSetOf}
@@ -18,7 +18,7 @@ use Rattle.batch_serve.specs.declared.fault.SetFault.{SetFault}
 use Rattle.batch_serve.specs.declared.fault.SetFault.TheVariants.{Memory, Stopped}
 use Rattle.batch_plant.specs.declared.plant_fault.PlantFault.{PlantFault}
 use Rattle.batch_program.specs.PlantRuns.{HasRun, IsPlantTold, plant_text}
-use Rattle.batch_program.specs.RecordRuns.{Holds, IsRecordTold, output_of}
+use Rattle.batch_program.specs.RecordRuns.{Holds, IsRecordDrawn, IsRecordTold, output_of}
 use Rattle.batch_program.specs.declared.program.TheConstants.{MAX_READS}
 
 abbrev pub IsExitStatus : ExitCode → Type 0
@@ -55,6 +55,9 @@ pub data IsProgramRun (gives : Gives) (holds : Holds) (words : List Text) (ends 
   -- what the record that the words name tells is printed, or what the input tells
   reads : (path : Option Text) (status : ℕ)
       → AskFor words (tell path) → IsRecordTold holds path ends errors status → IsProgramRun gives holds words ends errors status
+  -- the record that the words name is drawn, or what the input tells
+  draws : (path : Option Text) (status : ℕ)
+      → AskFor words (picture path) → IsRecordDrawn (output_of ends) errors status → IsProgramRun gives holds words ends errors status
   -- the plant of the demo is run with the options that the words have, its end is told, and the input isn't read
   plants : (set : ClearedSet) (options : PlantOptions) (end : Result ℕ PlantFault) (status : ℕ)
       → AskFor words (plant options.batches options.ticks options.ring) → IsDemoSet set

@@ -35,6 +35,12 @@ pub data IsStatusTold (unread : Option (List ℕ)) (output errors : Stream) (sta
       → IsStatusTold unread output errors status
   stops : IsUntold output status → IsStatusTold unread output errors status
 
+-- what comes of drawing a record: some text is printed, or that a line is none of a record, or nothing
+pub data IsRecordDrawn (output errors : Stream) (status : ℕ) : Type 0 where
+  pictures : (text : List ℕ) → IsPrinted output errors text success_status status → IsRecordDrawn output errors status
+  declines : (number : ℕ) → IsPrinted output errors (no_record_text number) refused_status status → IsRecordDrawn output errors status
+  fails : IsUntold output status → IsRecordDrawn output errors status
+
 -- the writer's bytes among those of reader and writer
 abbrev pub output_of : serving.Ends → Stream
 output_of ends = record { before = ends.before; after = ends.after }

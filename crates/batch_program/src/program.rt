@@ -5,6 +5,7 @@ ghost use Rattle.batch_program.specs.Programs.{IsLeftTold, IsProgramRun, left_te
 use crate::noted::Noted;
 use crate::plant::report_of_plant;
 use crate::plant_runner::PlantRunner;
+use crate::record_drawing::draw_record_at;
 use crate::record_status::tell_record;
 use crate::records::Records;
 use crate::statuses::serving_status;
@@ -58,6 +59,7 @@ pub fn run_program<D: Documents + Records, P: PlantRunner, R: Read, W: Write, E:
             tell_served(alloc, quiet, served, reason, errors)
         }
         Course::Reads { path } => tell_record(alloc, path, documents, input, output, errors),
+        Course::Draws { path } => draw_record_at(alloc, path, documents, input, output, errors),
         Course::Plants { set, options } => {
             let end = plants.run_plant(alloc, set, options);
             report_of_plant(alloc, options.batches, &end, output, errors)

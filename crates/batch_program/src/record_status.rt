@@ -94,7 +94,7 @@ fn status_text<R: Read>(alloc: Global, reader: &mut R) -> Result<Vec<u8>, Status
 }
 
 /// Prints that the line with this number is none of a record, and gives the exit status.
-fn refuse_line<W: Write, E: Write>(alloc: Global, line: u64, output: &mut W, errors: &mut E) -> u8
+pub(crate) fn refuse_line<W: Write, E: Write>(alloc: Global, line: u64, output: &mut W, errors: &mut E) -> u8
     ensures { IsPrinted (record { before = W.contents output.old; after = W.contents output.new })
         (record { before = E.contents errors.old; after = E.contents errors.new }) (no_record_text line) refused_status result
         ⊎ (IsUnwritten (record { before = W.contents output.old; after = W.contents output.new }) × (result ≡ memory_status)) }
@@ -123,7 +123,7 @@ fn complain_unread<E: Write>(fault: StatusFault, reason: Option<io::Error>, erro
 }
 
 /// Tells why the record at the path can't be opened.
-fn complain_unopened<E: Write>(alloc: Global, path: &str, reason: io::Error, errors: &mut E) -> u8
+pub(crate) fn complain_unopened<E: Write>(alloc: Global, path: &str, reason: io::Error, errors: &mut E) -> u8
     ensures { (result ≡ fault_status) ⊎ (result ≡ memory_status) }
 {
     match shown(alloc, path) {

@@ -1,4 +1,4 @@
--- trusted: the command line: `check CELL RECIPE..`, `verify CELL CERT RECIPE..`, `show CELL RECIPE..`, `run CELL CERT RECIPE..`, `status RECORD`, `plant`, `explain CODE..`, and no words at all.
+-- trusted: the command line: `check CELL RECIPE..`, `verify CELL CERT RECIPE..`, `show CELL RECIPE..`, `run CELL CERT RECIPE..`, `status RECORD`, `draw RECORD`, `plant`, `explain CODE..`, and no words at all.
 use Rattle.std.specs.Prelude.{◌≡◌, ◌≢◌, ◌⊎◌, [], ℕ, Bool, List, Option, Some, None, map, option_map, codes, true, false, unwrap_or, string_bytes, if◌then◌else◌, ⊤}
 use Rattle.std.specs.Str.{bytes_eq}
 use Rattle.std.specs.Str.Parse.{digits_value, without_leading_plus}
@@ -12,7 +12,7 @@ use Rattle.clap.specs.declared.builder.value_parser.ValueParser.TheVariants.{Uns
 use Rattle.clap.specs.declared.error.kind.ErrorKind.{ErrorKind}
 use Rattle.clap.specs.declared.error.kind.ErrorKind.TheVariants.{DisplayHelp, DisplayVersion, OutOfMemory}
 use Rattle.batch_words.specs.declared.command.Subcommand.{Subcommand}
-use Rattle.batch_words.specs.declared.command.Subcommand.TheVariants.{Judge, Serve, Status, Plant, Explain}
+use Rattle.batch_words.specs.declared.command.Subcommand.TheVariants.{Judge, Serve, Status, Draw as DrawRecord, Plant, Explain}
 use Rattle.batch_words.specs.declared.command.Judgement as judgements
 use Rattle.batch_words.specs.declared.command.Judgement.TheVariants.{Check, Draw, Verify, Show}
 use Rattle.batch_words.specs.declared.command.Source as sources
@@ -66,6 +66,9 @@ show_app = with_rule (with_rule (with_rule (new_app (codes "show"))
 abbrev pub status_app : App
 status_app = with_rule (new_app (codes "status")) (optional_rule (codes "RECORD"))
 
+abbrev pub draw_app : App
+draw_app = with_rule (new_app (codes "draw")) (optional_rule (codes "RECORD"))
+
 abbrev pub plant_app : App
 plant_app = with_rule (with_rule (with_rule (new_app (codes "plant"))
     (number_rule (codes "batches") 1 100)) (number_rule (codes "ticks") 0 1000)) (number_rule (codes "ring") 1 64)
@@ -79,8 +82,8 @@ bare_app = on_top (λ s. record s { has_version = true; no_binary_name = true })
 -- the whole command line
 abbrev pub program_app : App
 program_app =
-    with_subcommand (with_subcommand (with_subcommand (with_subcommand (with_subcommand (with_subcommand (with_subcommand bare_app
-    check_app.top) (certified_app (codes "verify")).top) show_app.top) (certified_app (codes "run")).top) status_app.top) plant_app.top) explain_app.top
+    with_subcommand (with_subcommand (with_subcommand (with_subcommand (with_subcommand (with_subcommand (with_subcommand (with_subcommand bare_app
+    check_app.top) (certified_app (codes "verify")).top) show_app.top) (certified_app (codes "run")).top) status_app.top) draw_app.top) plant_app.top) explain_app.top
 
 -- the word that was given for an argument
 abbrev pub word_of : Text → List Row → Text
@@ -132,6 +135,8 @@ pub data Request : Type 0 where
   serve : Source → Request
   -- to tell what the record at this path says, or the one on standard input
   tell : (path : Option Text) → Request
+  -- to draw what the record at this path says, or the one on standard input
+  picture : (path : Option Text) → Request
   -- to run the demo's plant for so many batches, with phases of so many ticks and rings of so many places
   plant : (batches ticks ring : ℕ) → Request
   -- to say what the first code in these texts means, or where there are none what all codes mean
@@ -160,8 +165,9 @@ named_by name rows =
     if bytes_eq name (codes "explain") then explain (words_of (codes "CODE") rows)
     else (if bytes_eq name (codes "plant") then plant (batches_of rows) (ticks_of rows) (ring_of rows)
     else (if bytes_eq name (codes "status") then tell (first_of (codes "RECORD") rows)
+    else (if bytes_eq name (codes "draw") then picture (first_of (codes "RECORD") rows)
     else (if bytes_eq name (codes "check") then checked_by rows
-    else (if bytes_eq name (codes "show") then shown_by rows else certified_by name rows))))
+    else (if bytes_eq name (codes "show") then shown_by rows else certified_by name rows)))))
 
 -- what is asked for, whether or not a command was entered
 abbrev pub asked_by : Option (Text × List Row) → Request
@@ -187,6 +193,7 @@ abbrev pub request_of : Subcommand → Request
 request_of (Judge judgement) = judge (judgement_of judgement)
 request_of (Serve source) = serve (source_of source)
 request_of (Status path) = tell (option_map string_bytes path)
+request_of (DrawRecord path) = picture (option_map string_bytes path)
 request_of (Plant options) = plant options.batches options.ticks options.ring
 request_of (Explain texts) = explain (map string_bytes texts.items)
 

@@ -23,6 +23,8 @@ pub enum Subcommand {
     Serve(Source),
     /// To tell what a record says: the one at this path, or the one on standard input.
     Status { path: Option<String> },
+    /// To draw what a record says: the one at this path, or the one on standard input.
+    Draw { path: Option<String> },
     /// To run the demo's plant: its hub in the thread that calls, its console and its link to the units in threads of their own.
     Plant(PlantOptions),
     /// To say what the first code in these texts means, or where there are none what all codes mean.

@@ -3,7 +3,7 @@ ghost use Rattle.std.specs.Prelude.{◌≡◌, IfOk, IsOkAnd, codes, false};
 ghost use Rattle.clap.specs.Words.{app_of, rule_of};
 ghost use Rattle.clap.specs.Words.{AddsSubcommand};
 ghost use Rattle.clap.specs.declared.builder.command.Command.TheViews.{out-Command};
-ghost use Rattle.batch_words.specs.CommandLine.{bare_app, certified_app, check_app, explain_app, flag_rule, number_rule, optional_rule, plant_app, program_app, several_rule, show_app, status_app, word_rule};
+ghost use Rattle.batch_words.specs.CommandLine.{bare_app, certified_app, check_app, draw_app, explain_app, flag_rule, number_rule, optional_rule, plant_app, program_app, several_rule, show_app, status_app, word_rule};
 
 use clap::builder::ValueParser;
 use clap::{Arg, ArgAction, Command};
@@ -63,6 +63,11 @@ An example, of a server whose record is written to day.record:
   batchd status day.record
 ";
 
+const DRAW_HELP: &str = "\
+An example, of a server whose record is written to day.record:
+  batchd draw day.record > day.svg
+";
+
 const PLANT_HELP: &str = "\
 An example:
   batchd plant --batches 10 --ticks 20
@@ -84,7 +89,8 @@ pub(crate) fn program<'a>(alloc: Global) -> Result<Command<'a>, AllocError>
     let showing = with_command(verifying, show(alloc))?;
     let running = with_command(showing, run(alloc))?;
     let telling = with_command(running, status(alloc))?;
-    let planting = with_command(telling, plant(alloc))?;
+    let drawing = with_command(telling, draw(alloc))?;
+    let planting = with_command(drawing, plant(alloc))?;
     with_command(planting, explain(alloc))
 }
 
@@ -176,6 +182,19 @@ fn status<'a>(alloc: Global) -> Result<Command<'a>, AllocError>
     Command::new(alloc, "status")
         .about("Prints what a record tells: batches, who holds, who waits, and live phases")
         .after_help(STATUS_HELP)
+        .arg(optional(
+            alloc,
+            "RECORD",
+            "The record, which may still be written [default: standard input]",
+        ))
+}
+
+fn draw<'a>(alloc: Global) -> Result<Command<'a>, AllocError>
+    ensures { IfOk result (λ draw. (app_of draw ≡ draw_app) × ((out-Command draw).has_globals ≡ false)) }
+{
+    Command::new(alloc, "draw")
+        .about("Draws what a record tells, in SVG: who held what when, and who waited for it")
+        .after_help(DRAW_HELP)
         .arg(optional(
             alloc,
             "RECORD",

@@ -1,7 +1,7 @@
 use Rattle.std.proofs.Common.{map, refl, string_bytes}
 use Rattle.std.proofs.KnownBytes.{Keeps-refl}
 use Rattle.batch_words.specs.CommandLine.{judgement_of, source_of}
-use Rattle.batch_commands.specs.Running.{explains, halts, judges, plants, reads, serves}
+use Rattle.batch_commands.specs.Running.{draws, explains, halts, judges, plants, reads, serves}
 use Rattle.batch_commands.proofs.running.run_command.Goals as goal
 
 pub returns-in-Ok : goal.returns-in-Ok
@@ -25,6 +25,9 @@ returns-in-Serve g c =
 
 pub returns-in-Status : goal.returns-in-Status
 returns-in-Status g c = rw c.in-Status.is (reads c.in-Status.path refl (Keeps-refl _) (Keeps-refl _))
+
+pub returns-in-Draw : goal.returns-in-Draw
+returns-in-Draw g c = rw c.in-Draw.is (draws c.in-Draw.path refl (Keeps-refl _) (Keeps-refl _))
 
 pub returns-in-Ok-clear_demo : goal.returns-in-Ok-clear_demo
 returns-in-Ok-clear_demo g c =

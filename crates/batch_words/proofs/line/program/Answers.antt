@@ -1,6 +1,6 @@
 use Rattle.std.proofs.Common.{codes}
 use Rattle.std.proofs.lemmas.Result.{IfOk-weaker}
-use Rattle.batch_words.specs.CommandLine.{certified_app, check_app, explain_app, plant_app, show_app, status_app}
+use Rattle.batch_words.specs.CommandLine.{certified_app, check_app, draw_app, explain_app, plant_app, show_app, status_app}
 use Rattle.batch_words.proofs.Arguments.{with_command}
 use Rattle.batch_words.proofs.line.program.Goals as goal
 
@@ -19,8 +19,10 @@ returns c =
     c.in_ok-running.ensures c.run.ensures showing in
     let telling =
     with_command c.in_ok-running.running c.in_ok-telling.telling status_app c.status.result c.in_ok-telling.ensures c.status.ensures running in
+    let drawing =
+    with_command c.in_ok-telling.telling c.in_ok-drawing.drawing draw_app c.draw.result c.in_ok-drawing.ensures c.draw.ensures telling in
     let planting =
-    with_command c.in_ok-telling.telling c.in_ok-planting.planting plant_app c.plant.result c.in_ok-planting.ensures c.plant.ensures telling in
-    IfOk-weaker c.with_command-7.result _ _
+    with_command c.in_ok-drawing.drawing c.in_ok-planting.planting plant_app c.plant.result c.in_ok-planting.ensures c.plant.ensures drawing in
+    IfOk-weaker c.with_command-8.result _ _
     (λ program adds. with_command c.in_ok-planting.planting program explain_app c.explain.result adds c.explain.ensures planting)
-    c.with_command-7.ensures
+    c.with_command-8.ensures
