@@ -1,6 +1,7 @@
 -- trusted: the unit procedures that follow a node of an expanded tree: to them alone a step hands over units.
 use Rattle.std.specs.Prelude.{ℕ, zero, suc, ◌+◌, List, [], ◌∷◌, ◌++◌, Option, Some, None, option_map, find}
 use Rattle.batch_recipe.specs.Conditions.{Name, same_name}
+use Rattle.batch_recipe.specs.Levels.{Level, is_procedure, in_procedure, below}
 use Rattle.batch_recipe.specs.Tree.{Place, Tree, act, skip, seq, par, sel, loop, Task, runs, follows, Trees, no_trees, tree, Choices, otherwise, choice}
 
 -- a unit procedure of the tree: its name and its place
@@ -29,6 +30,11 @@ abbrev mutual
   firsts_of_each no_trees = []
   firsts_of_each (tree chart charts) = firsts chart ++ firsts_of_each charts
 
+-- the same of a chart at this level: labels of the procedure's chart alone stand for unit procedures
+abbrev pub enter : Level → Tree → List Follower
+enter in_procedure chart = firsts chart
+enter _ chart = []
+
 -- Up from a node
 
 abbrev pub branch : Trees → ℕ → Option Tree
@@ -54,37 +60,32 @@ child_of (sel choices) number = choice_at choices number
 child_of (loop turns until body) zero = Some body
 child_of (loop turns until body) (suc number) = None
 
--- what follows the child of a tree with this number, where `next` follows the tree, and `enter` gives what comes first in a branch:
--- after a branch of a `seq` the next branch is taken, and after the last one, a branch of a `sel` or the chart of an act the way
--- leads further up
-abbrev pub next_after : (Tree → List Follower) → List Follower → Tree → ℕ → List Follower
-next_after enter next (act step task) number = next
-next_after enter next skip number = []
-next_after enter next (seq charts) number = elim (branch charts (number + 1)) [ None ↦ next | Some chart ↦ enter chart ]
-next_after enter next (par charts) number = []
-next_after enter next (sel choices) number = next
-next_after enter next (loop turns until body) number = []
+-- the level of the children of a tree
+abbrev pub level_within : Level → Tree → Level
+level_within level (act step task) = below level
+level_within level _ = level
 
--- no unit procedure stands below a unit procedure
-abbrev pub enter_none : Tree → List Follower
-enter_none chart = []
-
--- labels of the procedure's chart alone stand for unit procedures
-abbrev pub enter_below : (Tree → List Follower) → Tree → Tree → List Follower
-enter_below enter (act step task) = enter_none
-enter_below enter _ = enter
+-- what follows the child of a tree with this number, where `next` follows the tree: after a branch of a `seq` the next branch is taken,
+-- and after the last one, a branch of a `sel` or the chart of an act the way leads further up
+abbrev pub next_after : Level → List Follower → Tree → ℕ → List Follower
+next_after level next (act step task) number = next
+next_after level next skip number = []
+next_after level next (seq charts) number = elim (branch charts (number + 1)) [ None ↦ next | Some chart ↦ enter level chart ]
+next_after level next (par charts) number = []
+next_after level next (sel choices) number = next
+next_after level next (loop turns until body) number = []
 
 -- what follows the node at a place below a tree
-abbrev pub following_below : (Tree → List Follower) → List Follower → Tree → Place → List Follower
-following_below enter next here [] = next
-following_below enter next here (number ∷ place) =
+abbrev pub following_below : Level → List Follower → Tree → Place → List Follower
+following_below level next here [] = next
+following_below level next here (number ∷ place) =
     elim (child_of here number)
-    [ None ↦ [] | Some below ↦ following_below (enter_below enter here) (next_after enter next here number) below place ]
+    [ None ↦ [] | Some part ↦ following_below (level_within level here) (next_after level next here number) part place ]
 
--- what follows the node at a place of a procedure's tree; nothing follows the procedure, nor its chart
+-- what follows the node at a place of a procedure's tree; nothing follows the procedure
 abbrev pub following : Tree → Place → List Follower
-following (act step (follows name chart)) (root ∷ zero ∷ place) = following_below firsts [] chart place
-following _ _ = []
+following procedure [] = []
+following procedure (root ∷ place) = following_below is_procedure [] procedure place
 
 -- where the unit procedure with this name stands that follows the node at a place: the first where several do
 abbrev pub follower : Tree → Place → Name → Option Place
