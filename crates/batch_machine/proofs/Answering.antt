@@ -1,5 +1,5 @@
 -- A plant that stands does so after each event.
-use Rattle.std.proofs.Common.{arith, ◌≡◌, refl, ℕ, List, [], ◌∷◌, Bool, true, false, Some, None}
+use Rattle.std.proofs.Common.{arith, ◌≡◌, refl, sym, subst, ℕ, List, [], ◌∷◌, Bool, true, false, Some, None}
 use Rattle.std.specs.Prelude.{Option, find, not, nat_eq}
 use Rattle.batch_matrix.specs.declared.state.State.{State}
 use Rattle.batch_matrix.specs.declared.state.State.TheVariants.{Idle}
@@ -9,62 +9,75 @@ use Rattle.batch_matrix.specs.declared.report.PhaseEnd.{PhaseEnd}
 use Rattle.batch_matrix.specs.Matrix.{same_state, accepts, target, after_report}
 use Rattle.batch_recipe.specs.Conditions.{Name, ValueList, same_name}
 use Rattle.batch_recipe.specs.Tree.{Place}
-use Rattle.batch_model.specs.Lists.{Has}
-use Rattle.batch_model.specs.Rest.{reach, withdrawn}
-use Rattle.batch_model.specs.Plant.{Formula, size_out_of_range, value_out_of_range, scaled, Recipe, Setup, Batch, Share, Plant, batch_at, in_batch, Master}
+use Rattle.batch_model.specs.Lists.{Has, Each}
+use Rattle.batch_model.specs.Rest.{Rest, Moment, withdrawn}
+use Rattle.batch_model.specs.Plant.{Formula, size_out_of_range, value_out_of_range, scaled, Recipe, Setup, InAdvance, Batch, Share, Plant, batch_at, in_batch, Master}
 use Rattle.batch_model.specs.Moves.{Move, next}
 use Rattle.batch_recipe.specs.Values.{with_values, with_outputs_zero, are_outputs, left_out}
 use Rattle.batch_model.specs.Events.{Event, create, order, remove, report, ordered, removed, reported, refused, unknown_recipe, bad_binding, binding, is_binding, bound_by, creating_for, roles_told, unknown_batch, command_not_accepted, no_live_phase, report_not_expected, bad_output, output_left_out, owed, accepting, full, not_idle, moves_pending, Answer, is_full, new_batch, with_batch, creating, reset, ends_asks, commanded, lines_under, ordering, without_batch, removing, LivePhase, live_phase, phase_after, batch_state_after, outputs_of, batch_reported, reporting, judged, react}
-use Rattle.batch_model.specs.Standing.{IsControl, IsStandingBatch, IsStanding}
+use Rattle.batch_model.specs.Standing.{IsAwaited, IsControl, HasPlacedTrees, IsStandingBatch, IsStanding}
 use Rattle.batch_model.proofs.Members.{Each-append, Each-filter, find-Has}
 use Rattle.batch_machine.proofs.Advancing.{reach-advanced, withdrawn-advanced}
 use Rattle.batch_machine.proofs.Standing.{reach-IsRestOf}
 use Rattle.batch_machine.proofs.Keeping.{withdrawn-IsRestOf, phase_after-remains}
 use Rattle.batch_machine.proofs.Batches.{Each-only, AreNumbered-only, AreNumbered-new, AreNumbered-filter}
 use Rattle.batch_machine.proofs.Moving.{in_act-stands}
+use Rattle.batch_machine.proofs.Leaving.{settled-none}
 
 -- One batch
 
+-- where nothing is held in advance, nothing of it is awaited
+none-awaited : (r : Rest) (xs : List InAdvance) → xs ≡ [] → Each (λ held. IsAwaited r held.place) xs
+none-awaited r xs e = subst (Each (λ held. IsAwaited r held.place)) (sym e) tt
+
 -- a batch of a recipe of which everything is reached anew
-anew-stands : (c : Setup) (b : Batch) (vs : ValueList) → IsControl c b.recipe → IsStandingBatch c (record b { values = vs; state = Idle; rest = reach vs b.recipe.procedure })
-anew-stands c b vs known =
-    record { known = known; stands = reach-IsRestOf vs b.recipe.procedure; advanced = reach-advanced vs b.recipe.procedure }
+anew-stands : (c : Setup) (number : ℕ) (recipe : Recipe) (size : ℕ) (values : ValueList) → IsControl c recipe → IsStandingBatch c (new_batch number recipe size values)
+anew-stands c number recipe size values known =
+    let mo : Moment = record { values = values; early = [] } in
+    record { known = known; stands = reach-IsRestOf mo recipe.procedure; advanced = reach-advanced mo recipe.procedure; awaited = tt; given_up = λ e. refl }
 
-in_state-stands : (c : Setup) (b : Batch) (x : State) (ends : Bool) → IsStandingBatch c b
+in_state-stands : (c : Setup) (b : Batch) (x : State) (ends : Bool) → IsStandingBatch c b → b.in_advance ≡ []
     → IsStandingBatch c (record b { state = x; rest = elim ends [ true ↦ withdrawn b.rest | false ↦ b.rest ] })
-in_state-stands c b x true k =
-    record { known = k.known; stands = withdrawn-IsRestOf b.recipe.procedure b.rest k.stands; advanced = withdrawn-advanced b.rest k.advanced }
-in_state-stands c b x false k = record { known = k.known; stands = k.stands; advanced = k.advanced }
+in_state-stands c b x true k none =
+    record {
+      known = k.known;
+      stands = withdrawn-IsRestOf b.recipe.procedure b.rest k.stands;
+      advanced = withdrawn-advanced b.rest k.advanced;
+      awaited = none-awaited (withdrawn b.rest) b.in_advance none;
+      given_up = λ e. none;
+    }
+in_state-stands c b x false k none = record { known = k.known; stands = k.stands; advanced = k.advanced; awaited = k.awaited; given_up = λ e. none }
 
-commanded-stands : (c : Setup) (command : Command) (b : Batch) → IsStandingBatch c b → IsStandingBatch c (commanded command b)
-commanded-stands c command b k = go (same_state (target command) Idle)
+commanded-stands : (c : Setup) (command : Command) (b : Batch) → IsStandingBatch c b → b.in_advance ≡ [] → IsStandingBatch c (commanded command b)
+commanded-stands c command b k none = go (same_state (target command) Idle)
   where
     go : (t : Bool) → IsStandingBatch c (elim t [ true ↦ reset b | false ↦ record b { state = target command; rest = elim (ends_asks command) [ true ↦ withdrawn b.rest | false ↦ b.rest ] } ])
-    go true = anew-stands c b (with_outputs_zero b.recipe.outputs b.values) k.known
-    go false = in_state-stands c b (target command) (ends_asks command) k
+    go true = anew-stands c b.number b.recipe b.size (with_outputs_zero b.recipe.outputs b.values) k.known
+    go false = in_state-stands c b (target command) (ends_asks command) k none
 
 commanded-number : (command : Command) (b : Batch) → (commanded command b).number ≡ b.number
 commanded-number command b = grind arith
 
-reported-stands : (c : Setup) (word : Report) (outputs : ValueList) (p : Place) (e : PhaseEnd) (b : Batch) → IsStandingBatch c b
+reported-stands : (c : Setup) (word : Report) (outputs : ValueList) (p : Place) (e : PhaseEnd) (b : Batch) → IsStandingBatch c b → b.in_advance ≡ []
     → IsStandingBatch c (batch_reported word outputs p e b)
-reported-stands c word outputs p e b k =
+reported-stands c word outputs p e b k none =
     in_act-stands c (record b { values = with_values outputs b.values; state = batch_state_after word b.state }) p (phase_after e)
-    (record { known = k.known; stands = k.stands; advanced = k.advanced })
+    (record { known = k.known; stands = k.stands; advanced = k.advanced; awaited = k.awaited; given_up = λ d. none })
     (λ a i at. phase_after-remains e a)
+    (λ held i. absurd (subst (λ xs. Has xs held) none i))
 
 -- The plant
 
-module _ (c : Setup) (s : Plant) (k : IsStanding c s) where
+module _ (c : Setup) (s : Plant) (k : IsStanding c s) (none : (b : Batch) → Has s.batches b → b.in_advance ≡ []) where
   -- the plant after the answer stands
   abbrev Stands : Answer → Type 0
   Stands a = IsStanding c a.1
 
-  in_batch-stands : (n : ℕ) (f : Batch → Batch) (line : Name → List Share) → ((b : Batch) → IsStandingBatch c b → IsStandingBatch c (f b))
+  in_batch-stands : (n : ℕ) (f : Batch → Batch) (line : Name → List Share) → ((b : Batch) → IsStandingBatch c b → b.in_advance ≡ [] → IsStandingBatch c (f b))
       → ((b : Batch) → (f b).number ≡ b.number) → IsStanding c (record (in_batch n f s) { line = line })
   in_batch-stands n f line keep same =
       record {
-        batches = Each-only (IsStandingBatch c) n f s.batches (λ b i e h. keep b h) k.batches;
+        batches = Each-only (IsStandingBatch c) n f s.batches (λ b i e h. keep b h (none b i)) k.batches;
         numbers = AreNumbered-only s.next_number n f s.batches same k.numbers;
       }
 
@@ -73,7 +86,7 @@ module _ (c : Setup) (s : Plant) (k : IsStanding c s) where
       record {
         batches =
             Each-append (IsStandingBatch c) s.batches (new_batch s.next_number r size vs ∷ []) k.batches
-            (record { known = known; stands = reach-IsRestOf vs r.procedure; advanced = reach-advanced vs r.procedure }, tt);
+            (anew-stands c s.next_number r size vs known, tt);
         numbers = AreNumbered-new s.next_number s.batches (new_batch s.next_number r size vs) refl k.numbers;
       }
 
@@ -169,9 +182,10 @@ module _ (c : Setup) (s : Plant) (k : IsStanding c s) where
       go None = k
       go (Some l) = reporting-stands unit name word (outputs_of word outputs) l
 
-  pub react-stands : (e : Event) → Stands (react c s e)
-  react-stands e = go (next c s)
-    where
-      go : (o : Option Move) → Stands (elim o [ Some m ↦ (refused moves_pending, s) | None ↦ judged c s e ])
-      go None = judged-stands e
-      go (Some m) = k
+-- a plant that stands does so after each event, which comes only where no move is possible
+pub react-stands : (c : Setup) → HasPlacedTrees c → (s : Plant) → IsStanding c s → (e : Event) → IsStanding c (react c s e).1
+react-stands c placed s k e = go (next c s) refl
+  where
+    go : (o : Option Move) → next c s ≡ o → (let answer : Answer = elim o [ Some m ↦ (refused moves_pending, s) | None ↦ judged c s e ] in IsStanding c answer.1)
+    go None h = judged-stands c s k (settled-none c placed s k h) e
+    go (Some m) h = k

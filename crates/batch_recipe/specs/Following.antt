@@ -1,5 +1,5 @@
 -- trusted: the unit procedures that follow a node of an expanded tree: to them alone a step hands over units.
-use Rattle.std.specs.Prelude.{ℕ, zero, suc, ◌+◌, List, [], ◌∷◌, ◌++◌, Option, Some, None, option_map, find}
+use Rattle.std.specs.Prelude.{ℕ, zero, suc, List, [], ◌∷◌, ◌++◌, Option, Some, None, option_map, find}
 use Rattle.batch_recipe.specs.Conditions.{Name, same_name}
 use Rattle.batch_recipe.specs.Levels.{Level, is_procedure, in_procedure, below}
 use Rattle.batch_recipe.specs.Tree.{Place, Tree, act, skip, seq, par, sel, loop, Task, runs, follows, Trees, no_trees, tree, Choices, otherwise, choice}
@@ -70,7 +70,7 @@ level_within level _ = level
 abbrev pub next_after : Level → List Follower → Tree → ℕ → List Follower
 next_after level next (act step task) number = next
 next_after level next skip number = []
-next_after level next (seq charts) number = elim (branch charts (number + 1)) [ None ↦ next | Some chart ↦ enter level chart ]
+next_after level next (seq charts) number = elim (branch charts (suc number)) [ None ↦ next | Some chart ↦ enter level chart ]
 next_after level next (par charts) number = []
 next_after level next (sel choices) number = next
 next_after level next (loop turns until body) number = []
