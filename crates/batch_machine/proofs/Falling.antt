@@ -66,7 +66,7 @@ in_act-falls : (b : Batch) (a : Rest) (m : Move) → (goes_on b.state ≡ false 
 in_act-falls b a m none rises h t =
     let f : Rest → Rest = act_after (moment_of b) m in
     let calm : goes_on b.state ≡ false → (moment_of (passing m b)).early ≡ [] =
-        λ e. ap (λ d. (moment_of d).early) (t.passes e) ∙ ap (map (λ held. held.place)) (none e) in
+    λ e. ap (λ d. (moment_of d).early) (t.passes e) ∙ ap (map (λ held. held.place)) (none e) in
     omega (
       arith,
       same-work m b (advance (moment_of (passing m b)) (changed_at (place_of_move m) f (passing m b).rest)),

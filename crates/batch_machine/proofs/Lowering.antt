@@ -190,8 +190,16 @@ module _ (b : Batch) where
       go (Some to) is (Some r) h =
           let n : pass b.number s.place to r ≡ m = cc in
           subst (IsMoveOf b (freeing s (suc k))) n
-          (record { number = refl; place = refl; changes = refl; lowers = lower; remains = released-remains (freeing s (suc k)); passes = λ d. absurd cc;
-              coming = (let found = reserved-follows b.recipe.procedure s k to is in (s, suc k, found.0, refl, found.1)); due_stays = λ g. freed-due s (suc k) k })
+          (record {
+            number = refl;
+            place = refl;
+            changes = refl;
+            lowers = lower;
+            remains = released-remains (freeing s (suc k));
+            passes = λ d. absurd cc;
+            coming = (let found = reserved-follows b.recipe.procedure s k to is in (s, suc k, found.0, refl, found.1));
+            due_stays = λ g. freed-due s (suc k) k;
+          })
 
   when-is : (t : Bool) (m n : Move) → when t m ≡ Some n → (t ≡ true) × (m ≡ n)
   when-is t m n e = grind arith

@@ -68,9 +68,9 @@ in_act-stands c b p f k keep keep_due =
       awaited =
           still-awaited (advance mo (changed_at p f b.rest)) b.in_advance
           (λ held i.
-              let at = Each-Has (λ held. IsAwaited b.rest held.place) b.in_advance held k.awaited i in
-              elim (advance-next mo is_procedure [] (changed_at p f b.rest) (at.0, held.place) (changed-due p f (at.0, held.place) is_procedure [] b.rest (keep_due held i at.0) at.1))
-              [ inl stands ↦ inl stands | inr due ↦ inr (at.0, due) ]);
+          let at = Each-Has (λ held. IsAwaited b.rest held.place) b.in_advance held k.awaited i in
+          elim (advance-next mo is_procedure [] (changed_at p f b.rest) (at.0, held.place) (changed-due p f (at.0, held.place) is_procedure [] b.rest (keep_due held i at.0) at.1))
+          [ inl stands ↦ inl stands | inr due ↦ inr (at.0, due) ]);
       given_up = λ e. ap (filter (λ held. not (is_reached (advance mo (changed_at p f b.rest)) held.place))) (k.given_up e);
     }
 
@@ -96,7 +96,7 @@ move-stands : (c : Setup) (b : Batch) (a : Rest) (m : Move) → IsPlaced (0 ∷ 
 move-stands c b a m placed rises k h t =
     let f : Rest → Rest = act_after (moment_of b) m in
     let this : (d : Rest) → Has (acts (passing m b).rest) d → place_of d ≡ place_of_move m → a ≡ d =
-        λ d i p. one_act (acts b.rest) a d rises h (subst (λ r. Has (acts r) d) (same-rest m b) i) (sym t.place ∙ sym p) in
+    λ d i p. one_act (acts b.rest) a d rises h (subst (λ r. Has (acts r) d) (same-rest m b) i) (sym t.place ∙ sym p) in
     in_act-stands c (passing m b) (place_of_move m) f (passing-stands c b a m placed k h t)
     (λ d i p. subst (λ z. RemainsAs z (f z)) (this d i p) t.remains)
     (λ held j name d i p. subst (λ z. DueStaysFor (name, held.place) z (f z)) (this d i p) (λ level next. t.due_stays (on held j) level next (name, held.place)))

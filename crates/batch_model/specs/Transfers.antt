@@ -43,8 +43,8 @@ passed_told number outs = fold (λ kept out. passed_by number out ++ kept_until 
 abbrev pub reserved_by : Tree → Step → List Kept
 reserved_by procedure step =
     filter_map (λ reserve.
-        option_and_then (λ place. option_map (λ need. record { place = place; unit = need.resource }) (slice_get step.needs reserve.need))
-        (reserved_place procedure step reserve.need))
+    option_and_then (λ place. option_map (λ need. record { place = place; unit = need.resource }) (slice_get step.needs reserve.need))
+    (reserved_place procedure step reserve.need))
     step.reserves
 
 -- the same of the step at a place
