@@ -1,5 +1,5 @@
 -- What is gathered over the acts of a rest stays the same when the rest advances.
-use Rattle.std.proofs.Common.{◌≡◌, refl, sym, ◌∙◌, ap, ℕ, zero, suc, pred, List, [], ◌∷◌, ◌++◌, Bool, true, false}
+use Rattle.std.proofs.Common.{arith, ◌≡◌, refl, sym, ◌∙◌, ap, ℕ, zero, suc, pred, List, [], ◌∷◌, ◌++◌, Bool, true, false}
 use Rattle.std.specs.Prelude.{flat_map}
 use Rattle.std.proofs.lemmas.Grind.{flat_map-append}
 use Rattle.std.proofs.lemmas.Bool.{and_parts}
@@ -7,6 +7,8 @@ use Rattle.batch_recipe.specs.Conditions.{holds}
 use Rattle.batch_recipe.specs.declared.condition.Cond.{Cond}
 use Rattle.batch_recipe.specs.Tree.{Step, Tree, act, skip, seq, par, sel, loop, Task, Trees, no_trees, tree, Choices, otherwise, choice}
 use Rattle.batch_model.specs.Rest.{Rest, Moment, held_early, ready, asking, open_act, live, freeing, in_seq, in_par, in_loop, done, Rests, no_rests, rest, is_done, all_done, joined, turning, reach, reach_first, reach_each, reach_chosen, turned, advance, advance_each, acts, acts_of_each}
+use Rattle.batch_model.specs.Lists.{Each}
+use Rattle.batch_model.specs.Standing.{IsUnbegun}
 use Rattle.batch_model.specs.Plant.{held_by, held_in, phase_states}
 
 pub no-acts_of_done : (r : Rest) → is_done r ≡ true → acts r ≡ []
@@ -155,3 +157,21 @@ phase_states-advance mo r =
     sym (phase_states-gathered (acts (advance mo r)))
     ∙ advance-gathered (λ a. phase_states (a ∷ [])) mo (λ s w. refl) (λ s q r. refl) r
     ∙ phase_states-gathered (acts r)
+
+-- Acts that have begun
+
+abbrev begun_marks : Rest → List Bool
+begun_marks (ready s w k) = []
+begun_marks _ = true ∷ []
+
+unmarked : (a : Rest) (ys : List Bool) → begun_marks a ++ ys ≡ [] → IsUnbegun a × (ys ≡ [])
+unmarked (ready s w k) ys e = (tt, e)
+unmarked a ys e = absurd (grind arith)
+
+all-unbegun : (xs : List Rest) → flat_map begun_marks xs ≡ [] → Each IsUnbegun xs
+all-unbegun [] e = tt
+all-unbegun (a ∷ xs) e = let first = unmarked a (flat_map begun_marks xs) e in (first.0, all-unbegun xs first.1)
+
+-- no act of a chart that has just been reached has begun
+pub reach-unbegun : (mo : Moment) (c : Tree) → Each IsUnbegun (acts (reach mo c))
+reach-unbegun mo c = all-unbegun (acts (reach mo c)) (reach-gathered begun_marks mo (λ s w. refl) (λ s q r. refl) c)

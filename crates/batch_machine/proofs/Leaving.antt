@@ -10,7 +10,7 @@ use Rattle.batch_model.specs.Rest.{Rest, ready, asking, open_act, live, freeing,
 use Rattle.batch_model.specs.Plant.{Setup, InAdvance, Batch, Plant, held_in}
 use Rattle.batch_model.specs.Moves.{Move, release, pass, end, is_stopping, is_stopped, is_quiet, is_empty, when, last_held, giving_back, reserved_place, handing_over, act_move, state_move, batch_moves, possible, next}
 use Rattle.batch_model.specs.Runs.{goes_on}
-use Rattle.batch_model.specs.Standing.{IsAwaited, HasPlacedTrees, IsStandingBatch, IsStanding}
+use Rattle.batch_model.specs.Standing.{is_resting, IsUnbegun, IsAwaited, HasPlacedTrees, IsStandingBatch, IsStanding}
 use Rattle.batch_recipe.specs.Levels.{is_procedure}
 use Rattle.batch_model.specs.Placed.{IsPlaced}
 use Rattle.batch_model.proofs.Members.{Has-left, Has-right, Each-Has}
@@ -106,6 +106,28 @@ holding-moves c s b held placed k i =
         freeing-moves c s b on t n l.some l.within
     has-move on (open_act t r) j h = open-moves c s b on t r h
     has-move on a j h = absurd (grind arith)
+
+-- an act among these has begun
+abbrev pub HasBegun : List Rest → Type 0
+HasBegun reached = (a : Rest) × Has reached a × (IsUnbegun a → ⊥)
+
+-- a batch with an act that has begun isn't idle, nor complete
+pub begun-busy : (c : Setup) (b : Batch) → IsStandingBatch c b → HasBegun (acts b.rest) → is_resting b.state ≡ false
+begun-busy c b k h = go (is_resting b.state) refl
+  where
+    go : (t : Bool) → is_resting b.state ≡ t → t ≡ false
+    go false e = refl
+    go true e = absurd (h.2 (Each-Has IsUnbegun (acts b.rest) h.0 (k.unbegun e) h.1))
+
+leaving-begun : (a : Rest) → IsLeaving a → IsUnbegun a → ⊥
+leaving-begun (ready s w n) h u = h
+leaving-begun a h u = u
+
+-- nor is one that holds something in advance
+pub holding-busy : (c : Setup) (b : Batch) (held : InAdvance) → IsStandingBatch c b → Has b.in_advance held → is_resting b.state ≡ false
+holding-busy c b held k i =
+    let found = leaving_in b.rest held.place k.advanced (Each-Has (λ h. IsAwaited b.rest h.place) b.in_advance held k.awaited i) in
+    begun-busy c b k (found.0, found.1, leaving-begun found.0 found.2)
 
 -- so in a plant without a next move nothing is held in advance
 pub settled-none : (c : Setup) → HasPlacedTrees c → (s : Plant) → IsStanding c s → next c s ≡ None → (b : Batch) → Has s.batches b → b.in_advance ≡ []

@@ -16,7 +16,7 @@ use Rattle.batch_model.specs.Events.{Event, create, report, Reply, refused, Refu
 use Rattle.batch_model.specs.Runs.{Out, reply, move, Reacts, Leads, goes_on, work_left, settling, run}
 use Rattle.batch_model.specs.Records.{holders_after, holders_told, waiters_after, waiters_told, active_after, active_told, state_after, state_told}
 use Rattle.batch_model.specs.Settled.{IsAdvanced}
-use Rattle.batch_model.specs.Standing.{IsRestOf, HasPlacedTrees, IsStanding}
+use Rattle.batch_model.specs.Standing.{is_resting, IsRestOf, HasPlacedTrees, IsStanding}
 use Rattle.batch_model.specs.Placed.{IsPlaced, Rises}
 use Rattle.batch_model.specs.declared.limits.TheConstants.{LAST_NUMBER}
 
@@ -117,12 +117,12 @@ WorkFalls =
 abbrev pub IsOnTheWay : Move → Type 0
 IsOnTheWay made = (3 ≤ kind_of made) × (kind_of made ≤ 4)
 
--- a batch that holds something in advance has such a move, and isn't on its way to Stopped or Aborted, nor there
+-- a batch that holds something in advance has such a move, and is neither on its way to Stopped or Aborted, nor there, nor idle or complete
 abbrev pub HeldInAdvanceGoesOn : Type 0
 HeldInAdvanceGoesOn =
     (setup : Setup) (plant : Plant) (batch : Batch) (held : InAdvance) → HasPlacedTrees setup → IsStanding setup plant
     → Has plant.batches batch → Has batch.in_advance held
-    → (goes_on batch.state ≡ true) × ((made : Move) × Has (possible setup plant) made × (batch_of made ≡ batch.number) × IsOnTheWay made)
+    → (goes_on batch.state ≡ true) × (is_resting batch.state ≡ false) × ((made : Move) × Has (possible setup plant) made × (batch_of made ≡ batch.number) × IsOnTheWay made)
 
 -- where no move is possible, nothing is held in advance
 abbrev pub SettledHoldsNothingInAdvance : Type 0

@@ -1,11 +1,14 @@
 -- surface: a plant in which each batch's rest is what can remain of its recipe: every act of it stands at its node of the expanded tree.
-use Rattle.std.specs.Prelude.{◌≡◌, ◌⊎◌, ℕ, ◌<◌, ◌≤◌, List, [], ◌∷◌, ◌++◌, length, true, false, ⊤}
+use Rattle.std.specs.Prelude.{◌≡◌, ◌⊎◌, ℕ, ◌<◌, ◌≤◌, List, [], ◌∷◌, ◌++◌, length, Bool, true, false, ◌||◌, ⊤}
+use Rattle.batch_matrix.specs.declared.state.State.{State}
+use Rattle.batch_matrix.specs.declared.state.State.TheVariants.{Idle, Complete}
+use Rattle.batch_matrix.specs.Matrix.{same_state}
 use Rattle.batch_recipe.specs.Following.{Follower, enter}
 use Rattle.batch_recipe.specs.Levels.{Level, is_procedure, below}
 use Rattle.batch_recipe.specs.Conditions.{Name}
 use Rattle.batch_recipe.specs.Tree.{Place, Task, runs, follows, Tree, act, seq, par, sel, loop, Trees, no_trees, tree, Choices, otherwise, choice}
 use Rattle.batch_model.specs.Lists.{Has, Each}
-use Rattle.batch_model.specs.Rest.{Rest, ready, asking, open_act, live, freeing, in_seq, in_par, in_loop, done, Rests, no_rests, rest}
+use Rattle.batch_model.specs.Rest.{Rest, ready, asking, open_act, live, freeing, in_seq, in_par, in_loop, done, Rests, no_rests, rest, acts}
 use Rattle.batch_model.specs.Plant.{Recipe, Master, Setup, Batch, Plant}
 use Rattle.batch_model.specs.Events.{is_binding, bound_by}
 use Rattle.batch_model.specs.Runs.{goes_on}
@@ -73,6 +76,15 @@ abbrev mutual
 abbrev pub IsAwaited : Rest → Place → Type 0
 IsAwaited remaining place = (name : Name) × Has (due is_procedure [] remaining) (name, place)
 
+-- Batches that aren't started, or are complete
+
+abbrev pub is_resting : State → Bool
+is_resting now = same_state now Idle || same_state now Complete
+
+abbrev pub IsUnbegun : Rest → Type 0
+IsUnbegun (ready step task granted) = ⊤
+IsUnbegun _ = ⊥
+
 -- the control recipe is made from the master recipe, for units that take its roles
 abbrev pub IsControlOf : Master → Recipe → Type 0
 IsControlOf master recipe =
@@ -87,13 +99,15 @@ abbrev pub HasPlacedTrees : Setup → Type 0
 HasPlacedTrees setup = (recipe : Recipe) → IsControl setup recipe → IsPlaced (0 ∷ []) recipe.procedure
 
 -- the batch makes a control recipe of the setup, its rest is what can remain of that, and nothing is left to be reached; what it holds
--- in advance is due, and a batch that is on its way to Stopped or Aborted, or there, holds nothing in advance
+-- in advance is due, and a batch that is on its way to Stopped or Aborted, or there, holds nothing in advance; no act of an idle or
+-- complete batch has begun
 pub record IsStandingBatch (setup : Setup) (batch : Batch) : Type 0 where
   pub known : IsControl setup batch.recipe
   pub stands : IsRestOf batch.recipe.procedure batch.rest
   pub advanced : IsAdvanced batch.rest
   pub awaited : Each (λ held. IsAwaited batch.rest held.place) batch.in_advance
   pub given_up : goes_on batch.state ≡ false → batch.in_advance ≡ []
+  pub unbegun : is_resting batch.state ≡ true → Each IsUnbegun (acts batch.rest)
 
 -- the numbers rise, and stay below the next one
 abbrev pub AreNumbered : ℕ → List Batch → Type 0
