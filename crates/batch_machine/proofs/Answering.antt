@@ -16,8 +16,8 @@ use Rattle.batch_model.specs.Rest.{Rest, ready, asking, open_act, live, freeing,
 use Rattle.batch_model.specs.Plant.{Formula, size_out_of_range, value_out_of_range, scaled, Recipe, Setup, InAdvance, Batch, Share, Plant, batch_at, in_batch, Master}
 use Rattle.batch_model.specs.Moves.{Move, next}
 use Rattle.batch_recipe.specs.Values.{with_values, with_outputs_zero, are_outputs, left_out}
-use Rattle.batch_model.specs.Events.{Event, create, order, remove, report, ordered, removed, reported, refused, unknown_recipe, bad_binding, binding, is_binding, bound_by, creating_for, roles_told, unknown_batch, command_not_accepted, no_live_phase, report_not_expected, bad_output, output_left_out, owed, accepting, full, not_idle, moves_pending, Answer, is_full, new_batch, with_batch, creating, reset, ends_asks, commanded, lines_under, ordering, without_batch, removing, LivePhase, live_in, live_phase, phase_after, batch_state_after, outputs_of, batch_reported, reporting, judged, react}
-use Rattle.batch_model.specs.Standing.{is_resting, IsUnbegun, IsAwaited, IsControl, HasPlacedTrees, IsStandingBatch, IsStanding}
+use Rattle.batch_model.specs.Events.{Event, create, order, remove, report, ordered, removed, refused, unknown_recipe, bad_binding, binding, is_binding, bound_by, creating_for, roles_told, unknown_batch, command_not_accepted, no_live_phase, report_not_expected, bad_output, owed, accepting, full, not_idle, moves_pending, Answer, is_full, new_batch, with_batch, creating, reset, ends_asks, commanded, lines_under, ordering, without_batch, removing, LivePhase, live_in, live_phase, phase_after, batch_state_after, outputs_of, batch_reported, reporting, judged, react}
+use Rattle.batch_model.specs.Standing.{is_resting, IsAwaited, IsControl, HasPlacedTrees, IsStandingBatch, IsStanding}
 use Rattle.batch_model.proofs.Members.{Each-append, Each-filter, find-Has}
 use Rattle.batch_machine.proofs.Advancing.{reach-advanced, withdrawn-advanced}
 use Rattle.batch_machine.proofs.Standing.{reach-IsRestOf}

@@ -4,7 +4,6 @@ use Rattle.std.specs.Prelude.{Option, ◌++◌, map, option_to_list, sum_by}
 use Rattle.std.specs.List.{filter_map}
 use Rattle.batch_model.specs.Lists.{Has}
 use Rattle.batch_recipe.specs.Tree.{Place, is_before}
-use Rattle.batch_matrix.specs.declared.state.State.{State}
 use Rattle.batch_model.specs.Rest.{Rest, acts, advance, changed_at, place_of}
 use Rattle.batch_model.specs.Plant.{Setup, Batch, Plant, moment_of, with_rest, in_act}
 use Rattle.batch_model.specs.Moves.{Move, batch_of, place_of_move, act_move, act_after, state_move, batch_moves, possible, passing, batch_after, after, next}

@@ -4,15 +4,15 @@ use Rattle.std.specs.Prelude.{Option, find, pred, option_map}
 use Rattle.std.proofs.lemmas.List.{append_assoc}
 use Rattle.batch_recipe.specs.Conditions.{Name, same_name, holds}
 use Rattle.batch_recipe.specs.declared.condition.Cond.{Cond}
-use Rattle.batch_recipe.specs.Following.{Follower, firsts, firsts_of_each, enter, branch, choice_at, following_below, following, follower}
+use Rattle.batch_recipe.specs.Following.{Follower, firsts, firsts_of_each, enter, branch, choice_at, following_below, follower}
 use Rattle.batch_recipe.specs.Levels.{Level, is_procedure, in_procedure, in_unit_procedure, in_operation, below}
 use Rattle.batch_recipe.specs.Nodes.{child}
 use Rattle.batch_recipe.specs.Tree.{Place, Step, Task, runs, follows, Tree, act, skip, seq, par, sel, loop, Trees, no_trees, tree, Choices, otherwise, choice}
 use Rattle.batch_model.specs.Lists.{Has}
-use Rattle.batch_model.specs.Placed.{IsPlaced, IsPlacedBelow, ArePlaced, IsChoicePlaced}
+use Rattle.batch_model.specs.Placed.{IsPlaced, ArePlaced, IsChoicePlaced}
 use Rattle.batch_model.specs.Rest.{same_place, Rest, ready, asking, open_act, live, freeing, in_seq, in_par, in_loop, done, Rests, no_rests, rest, is_done, all_done, joined, turning, Moment, reach, reach_first, reach_each, continued, turned, advance, advance_each, acts, acts_of_each, place_of, changed_at, changed_in_each}
 use Rattle.batch_model.specs.Settled.{IsAdvanced, AreAdvanced}
-use Rattle.batch_model.specs.Standing.{after_branch, due, due_in_each, IsAwaited, IsRestOf, IsRestBelow, IsBranch, AreBranches, IsChosen}
+use Rattle.batch_model.specs.Standing.{after_branch, due, due_in_each, IsAwaited, IsRestOf, IsBranch, AreBranches, IsChosen}
 use Rattle.batch_model.proofs.Members.{Has-left, Has-right, Has-split, find-Has}
 use Rattle.batch_machine.proofs.Changing.{to_same_place}
 use Rattle.batch_machine.proofs.Gathering.{no-acts_of_done, no-acts_of_all_done}

@@ -1,18 +1,17 @@
 -- A batch that holds something in advance has a move.
-use Rattle.std.proofs.Common.{◌≡◌, refl, sym, ◌∙◌, ap, subst, ℕ, zero, suc, ◌<◌, ◌≤◌, length, List, [], ◌∷◌, ◌++◌, Bool, true, false, Some, None, arith, inl, inr}
-use Rattle.std.specs.Prelude.{Option, flat_map, option_map, option_to_list, slice_get, pred, ◌&&◌, ◌||◌, not}
+use Rattle.std.proofs.Common.{◌≡◌, refl, sym, ◌∙◌, ap, subst, ℕ, zero, suc, ◌<◌, ◌≤◌, length, List, [], ◌∷◌, Bool, true, false, Some, None, arith, inl, inr}
+use Rattle.std.specs.Prelude.{Option, flat_map, option_map, option_to_list, pred, ◌&&◌, ◌||◌, not}
 use Rattle.std.specs.List.{filter_map, cons_option}
 use Rattle.std.proofs.lemmas.Option.{slice_get_cases}
 use Rattle.batch_recipe.specs.declared.need.Need.{Need}
 use Rattle.batch_recipe.specs.Tree.{Place, Step}
 use Rattle.batch_model.specs.Lists.{Has, Each}
-use Rattle.batch_model.specs.Rest.{Rest, ready, asking, open_act, live, freeing, in_seq, in_par, in_loop, done, acts, is_done}
+use Rattle.batch_model.specs.Rest.{Rest, ready, open_act, freeing, acts, is_done}
 use Rattle.batch_model.specs.Plant.{Setup, InAdvance, Batch, Plant, held_in}
-use Rattle.batch_model.specs.Moves.{Move, release, pass, end, is_stopping, is_stopped, is_quiet, is_empty, when, last_held, giving_back, reserved_place, handing_over, act_move, state_move, batch_moves, possible, next}
+use Rattle.batch_model.specs.Moves.{Move, release, pass, end, is_stopping, is_stopped, is_quiet, is_empty, when, last_held, giving_back, reserved_place, act_move, state_move, batch_moves, possible, next}
 use Rattle.batch_model.specs.Runs.{goes_on}
 use Rattle.batch_model.specs.Standing.{is_resting, IsUnbegun, IsAwaited, HasPlacedTrees, IsStandingBatch, IsStanding}
 use Rattle.batch_recipe.specs.Levels.{is_procedure}
-use Rattle.batch_model.specs.Placed.{IsPlaced}
 use Rattle.batch_model.proofs.Members.{Has-left, Has-right, Each-Has}
 use Rattle.batch_machine.specs.Laws.{IsOnTheWay}
 use Rattle.batch_machine.proofs.InAdvance.{IsLeaving, leaving_in, leaves}

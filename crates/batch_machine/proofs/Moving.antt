@@ -11,7 +11,7 @@ use Rattle.batch_recipe.specs.Tree.{Place}
 use Rattle.batch_model.specs.Lists.{Has, Each}
 use Rattle.batch_model.specs.Rest.{same_place, Rest, ready, Moment, acts, advance, changed_at, place_of}
 use Rattle.batch_model.specs.Plant.{Setup, InAdvance, Batch, Plant, moment_of, is_reached, in_act}
-use Rattle.batch_model.specs.Moves.{Move, pass, state, batch_of, place_of_move, act_after, act_move, is_running, is_stopping, is_quiet, entering, giving_back, passing, batch_moves, possible, batch_after, after}
+use Rattle.batch_model.specs.Moves.{Move, pass, batch_of, place_of_move, act_after, act_move, is_running, is_stopping, is_quiet, entering, giving_back, passing, batch_moves, possible, batch_after, after}
 use Rattle.batch_model.specs.Standing.{due, is_resting, IsUnbegun, IsAwaited, HasPlacedTrees, IsStandingBatch, IsStanding}
 use Rattle.batch_model.specs.Placed.{IsPlaced, Rises}
 use Rattle.batch_model.proofs.Members.{Each-Has, Has-flat_map}

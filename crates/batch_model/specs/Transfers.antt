@@ -1,5 +1,5 @@
 -- trusted: units that a record tells to be passed on or reserved, and when they stay with their batch.
-use Rattle.std.specs.Prelude.{◌≡◌, ℕ, List, [], ◌∷◌, ◌++◌, filter, fold, not, true, false, option_and_then, option_map, nat_eq, slice_get, Some, None, find}
+use Rattle.std.specs.Prelude.{ℕ, List, [], ◌∷◌, ◌++◌, filter, fold, not, true, false, option_and_then, option_map, nat_eq, slice_get, Some, None, find}
 use Rattle.std.specs.List.{filter_map}
 use Rattle.batch_matrix.specs.declared.command.Command.TheVariants.{Stop, Abort}
 use Rattle.batch_recipe.specs.Conditions.{Name}

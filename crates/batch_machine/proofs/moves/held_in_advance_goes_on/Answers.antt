@@ -1,4 +1,3 @@
-use Rattle.std.proofs.Common.{arith}
 use Rattle.batch_model.specs.Standing.{IsStandingBatch}
 use Rattle.batch_model.proofs.Members.{Each-Has}
 use Rattle.batch_machine.proofs.Falling.{batch_moves-number}
