@@ -21,7 +21,7 @@ module _ (bound : Binding) (acts : Acts) where
   node_is : (a b : Node) → Some a ≡ Some b → a ≡ b
   node_is a b e = cc
 
-  acts_at : (list : ActList) (xs : List Node) → AreActsAt bound acts list xs → (k : ℕ) (o : Option Act) (x : Node) → slice_get list k ≡ Some o → slice_get xs k ≡ Some x → IsActAt bound acts o x
+  pub acts_at : (list : ActList) (xs : List Node) → AreActsAt bound acts list xs → (k : ℕ) (o : Option Act) (x : Node) → slice_get list k ≡ Some o → slice_get xs k ≡ Some x → IsActAt bound acts o x
   acts_at [] xs h k o x is at = let bad : None ≡ Some o = is in cc
   acts_at (a ∷ list) [] h k o x is at = absurd h
   acts_at (a ∷ list) (y ∷ xs) h zero o x is at =
