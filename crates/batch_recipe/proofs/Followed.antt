@@ -1,20 +1,19 @@
 -- What the ways up from a node and down from it keep, whatever units take the roles.
-use Rattle.std.proofs.Common.{◌≡◌, ◌≢◌, ◌⊎◌, inl, inr, ℕ, zero, suc, ◌+◌, ◌<◌, ◌≤◌, List, [], ◌∷◌, length, Bool, true, false, Option, Some, None, get_or, slice_get, sym, ap, ◌∙◌, refl, subst, arith, IfSome, IsNone}
+use Rattle.std.proofs.Common.{◌≡◌, ◌≢◌, ◌⊎◌, inl, inr, ℕ, zero, suc, ◌+◌, ◌<◌, ◌≤◌, List, [], ◌∷◌, length, Bool, true, false, Option, Some, None, get_or, slice_get, sym, ap, ◌∙◌, refl, arith, IfSome, IsNone}
 use Rattle.std.specs.Prelude.{option_map, option_and_then}
 use Rattle.std.proofs.lemmas.Option.{slice_get_within, slice_get-get_or}
 use Rattle.batch_recipe.specs.ActsAtNodes.{procedure_acts}
 use Rattle.batch_recipe.specs.Conditions.{Name}
-use Rattle.batch_recipe.specs.Expanding.{Binding, unbound, reserves_from, unit_count, act_tree_with, named_tree_with}
-use Rattle.batch_recipe.specs.Following.{Follower, firsts, enter, following, follower}
-use Rattle.batch_recipe.specs.Followers.{level_at, is_in_chart_of_procedure, firsts_at, IsNext, named_among, IsFound, follower_of, IsFollowerAt}
-use Rattle.batch_recipe.specs.Levels.{Level}
+use Rattle.batch_recipe.specs.Expanding.{Binding, unbound, reserves_from, unit_count}
+use Rattle.batch_recipe.specs.Following.{Follower, firsts, following, follower}
+use Rattle.batch_recipe.specs.Followers.{level_at, is_in_chart_of_procedure, IsNext, named_among, IsFound, follower_of, IsFollowerAt}
 use Rattle.batch_recipe.specs.Links.{form_at}
-use Rattle.batch_recipe.specs.Nodes.{Node, reserves_of, node_count}
+use Rattle.batch_recipe.specs.Nodes.{Node, reserves_of}
 use Rattle.batch_recipe.specs.Outlines.{Form, an_act, a_skip, a_seq, a_par, a_sel, a_loop, form_of}
 use Rattle.batch_recipe.specs.Places.{IsNodeAt}
-use Rattle.batch_recipe.specs.Procedure.{sites, bound_nodes, bound_tree, procedure_nodes, tables_from}
+use Rattle.batch_recipe.specs.Procedure.{bound_nodes, bound_tree, procedure_nodes}
 use Rattle.batch_recipe.specs.Tree.{Place, Reserve, Tree, act, skip, seq, par, sel, loop}
-use Rattle.batch_recipe.specs.ActsAtNodes.{IsActAt, IsNoAct, IsNodeOf}
+use Rattle.batch_recipe.specs.ActsAtNodes.{IsNoAct, IsNodeOf}
 use Rattle.batch_recipe.specs.declared.act.Act.{Act}
 use Rattle.batch_recipe.specs.declared.acts.LabelTable.{LabelTable}
 use Rattle.batch_recipe.specs.declared.entry.Entry.{Entry}
@@ -22,7 +21,7 @@ use Rattle.batch_recipe.specs.declared.entry.Kind.{Kind}
 use Rattle.batch_recipe.specs.declared.entry.Kind.TheVariants as kind
 use Rattle.batch_recipe.specs.declared.recipe.Recipe.{Recipe}
 use Rattle.batch_recipe.proofs.Below.{some_count, ends_within}
-use Rattle.batch_recipe.proofs.Followers.{goes_up, ends_here, after_up, after_none, entered, not_entered, IsUnder, under, formed, ended, as_many, entry_of_node, placed, level_at_first, following_first, under_act, under_other, in_seq, act_of_node, IsLooking, looking, looking_first, looking_last, in_loop, seq_first, found_below, is_bare}
+use Rattle.batch_recipe.proofs.Followers.{goes_up, ends_here, after_up, after_none, entered, not_entered, under, formed, ended, as_many, level_at_first, following_first, under_act, under_other, in_seq, act_of_node, IsLooking, looking, looking_first, looking_last, in_loop, seq_first, found_below, is_bare}
 
 module _ (r : Recipe) where
   abbrev Entries : List Entry

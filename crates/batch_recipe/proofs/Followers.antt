@@ -1,29 +1,26 @@
 -- What follows a node, by number: up from the node, and down from what is next.
-use Rattle.std.proofs.Common.{◌≡◌, ◌≢◌, ◌⊎◌, inl, inr, ℕ, zero, suc, ◌+◌, ◌<◌, ◌≤◌, List, [], ◌∷◌, ◌++◌, length, Bool, true, false, Option, Some, None, get_or, slice_get, sym, ap, ap₂, ◌∙◌, refl, subst, arith, append-nil, length-append}
-use Rattle.std.specs.List.{find}
+use Rattle.std.proofs.Common.{◌≡◌, ◌≢◌, ◌⊎◌, inl, inr, ℕ, zero, suc, ◌+◌, ◌<◌, List, [], ◌∷◌, length, Bool, true, false, Option, Some, None, get_or, slice_get, sym, ap, ap₂, ◌∙◌, refl, subst, arith}
 use Rattle.std.specs.Option.{option_or}
 use Rattle.std.proofs.lemmas.List.Folds.{find-append}
 use Rattle.std.proofs.lemmas.Option.{slice_get_within, slice_get-get_or, slice_get_read}
 use Rattle.batch_recipe.specs.ActsAtNodes.{IsActAt, IsNoAct, IsNodeOf, procedure_acts}
-use Rattle.batch_recipe.specs.Children.{IsHere, AreHere, HasBelow}
+use Rattle.batch_recipe.specs.Children.{AreHere, HasBelow}
 use Rattle.batch_recipe.specs.Conditions.{Name, same_name}
-use Rattle.batch_recipe.specs.Expanding.{Binding, act_tree_with, named_tree_with}
-use Rattle.batch_recipe.specs.Following.{Follower, firsts, firsts_of_first, firsts_of_each, enter, branch, choice_at, child_of, level_within, next_after, following_below, following}
-use Rattle.batch_recipe.specs.Followers.{level_along, level_at, is_in_chart_of_procedure, firsts_at, IsNext, named_among, IsFound, is_chart_named}
+use Rattle.batch_recipe.specs.Expanding.{Binding}
+use Rattle.batch_recipe.specs.Following.{Follower, firsts, firsts_of_each, enter, branch, choice_at, child_of, level_within, next_after, following_below, following}
+use Rattle.batch_recipe.specs.Followers.{level_along, level_at, is_in_chart_of_procedure, named_among, IsFound, is_chart_named}
 use Rattle.batch_recipe.specs.Levels.{Level, is_procedure, in_procedure, in_unit_procedure, in_operation, below}
-use Rattle.batch_recipe.specs.Links.{form_at, IsBranch, IsChoice, IsOnlyChild, IsChildTree, IsEntryOf, IsFirst, Hangs}
+use Rattle.batch_recipe.specs.Links.{form_at, IsBranch, IsChoice, IsChildTree, IsEntryOf, IsFirst, Hangs}
 use Rattle.batch_recipe.specs.Nodes.{Node, node, nodes, nodes_of_each, child, node_count, count_of_each}
-use Rattle.batch_recipe.specs.Outlines.{Form, an_act, a_skip, a_seq, a_par, a_sel, a_loop, IsOutline, form_of, shape_of}
-use Rattle.batch_recipe.specs.Places.{IsNodeAt}
-use Rattle.batch_recipe.specs.Procedure.{sites, bound_nodes, bound_tree, tables_from}
-use Rattle.batch_recipe.specs.Tree.{Place, Tree, act, skip, seq, par, sel, loop, Task, runs, follows, Trees, no_trees, tree, Choices, otherwise, choice, is_before}
+use Rattle.batch_recipe.specs.Outlines.{Form, an_act, a_skip, a_seq, a_par, a_sel, a_loop, form_of, shape_of}
+use Rattle.batch_recipe.specs.Procedure.{bound_nodes, bound_tree}
+use Rattle.batch_recipe.specs.Tree.{Place, Tree, act, skip, seq, par, sel, loop, runs, follows, Trees, no_trees, tree, Choices, otherwise, choice, is_before}
 use Rattle.batch_recipe.specs.declared.act.Act.{Act}
 use Rattle.batch_recipe.specs.declared.act.Work.{Work}
 use Rattle.batch_recipe.specs.declared.act.Work.TheVariants.{Follows, Runs}
-use Rattle.batch_recipe.specs.declared.acts.Acts.{Acts}
 use Rattle.batch_recipe.specs.declared.entry.Entry.{Entry}
 use Rattle.batch_recipe.specs.declared.recipe.Recipe.{Recipe}
-use Rattle.batch_recipe.proofs.Below.{some_count, stands, has_below, ends_within}
+use Rattle.batch_recipe.proofs.Below.{some_count, stands, has_below}
 use Rattle.batch_recipe.proofs.Asking.{acts_at}
 use Rattle.batch_recipe.proofs.Climbing.{entry_in, outlines}
 use Rattle.batch_recipe.proofs.Linking.{AreFrom, as_many_entries, from_left, from_right, from_tail}

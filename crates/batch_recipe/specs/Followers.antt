@@ -9,7 +9,6 @@ use Rattle.batch_recipe.specs.Places.{IsNodeAt}
 use Rattle.batch_recipe.specs.Procedure.{bound_nodes, bound_tree}
 use Rattle.batch_recipe.specs.Tree.{Place, Reserve, Tree}
 use Rattle.batch_recipe.specs.declared.act.Act.{Act}
-use Rattle.batch_recipe.specs.declared.act.Work.{Work}
 use Rattle.batch_recipe.specs.declared.act.Work.TheVariants.{Follows, Runs}
 use Rattle.batch_recipe.specs.declared.acts.Acts.{Acts}
 

@@ -1,4 +1,4 @@
-use Rattle.std.proofs.Common.{◌≡◌, ◌<◌, ◌+◌, length, Some, None, slice_get, true, false, refl, sym, ap, ◌∙◌, arith}
+use Rattle.std.proofs.Common.{◌<◌, length, sym, ap, ◌∙◌, arith}
 use Rattle.batch_recipe.specs.Expanding.{unbound}
 use Rattle.batch_recipe.specs.Outlines.{a_par, form_of}
 use Rattle.batch_recipe.specs.Procedure.{procedure_nodes}

@@ -1,4 +1,4 @@
-use Rattle.std.proofs.Common.{◌≡◌, ◌≢◌, ℕ, Bool, true, false, nat_eq, Some, slice_get, sym, ap, ◌∙◌, arith}
+use Rattle.std.proofs.Common.{◌≡◌, ◌≢◌, ℕ, true, false, nat_eq, Some, slice_get, arith}
 use Rattle.batch_recipe.specs.Expanding.{unbound}
 use Rattle.batch_recipe.proofs.Followers.{as_many, read_at}
 use Rattle.batch_recipe.proofs.Followed.{IsLevel-next, IsLevel-act, IsLevel-top, parent_within, parent_earlier, act_form, other_form}
