@@ -2,10 +2,10 @@
 use Rattle.std.proofs.Common.{arith, ◌≡◌, ℕ, zero, suc, ◌+◌, ◌++◌, false, ◌&&◌, ◌||◌, List, [], ◌∷◌, Option, Some, None, slice_get, sym, ap, ap₂, ◌∙◌, refl, subst}
 use Rattle.batch_recipe.specs.Conditions.{Name, same_name}
 use Rattle.batch_recipe.specs.Diagram.{Diagram, label, skip, seq, par, sel, loop, Diagrams, none, more, Cases, otherwise, when, diagram_of}
-use Rattle.batch_recipe.specs.Expanding.{Binding, expanded, expanded_each, expanded_cases, task_of, act_named, act_tree_with, named_tree_with, unit_with, unit_below}
+use Rattle.batch_recipe.specs.Expanding.{Binding, Sites, expanded, expanded_each, expanded_cases, task_of, act_named, act_tree_with, named_tree_with, unit_with, unit_below}
 use Rattle.batch_recipe.specs.Needs.{resources_of}
 use Rattle.batch_recipe.specs.Nodes.{child}
-use Rattle.batch_recipe.specs.Procedure.{bound_tree, tables_from}
+use Rattle.batch_recipe.specs.Procedure.{bound_tree, sites, tables_from}
 use Rattle.batch_recipe.specs.Tree as tree
 use Rattle.batch_recipe.specs.Tree.{Place, Phase, Tree, Task, Trees, Choices}
 use Rattle.batch_recipe.specs.declared.act.Act.{Act}
@@ -204,6 +204,12 @@ alike_at _ _ h k x is = absurd h
 -- The trees of a recipe
 
 module _ (bound other : Binding) (acts : Acts) where
+  abbrev one : Sites
+  one = sites bound acts
+
+  abbrev two : Sites
+  two = sites other acts
+
   abbrev Labels : (Name → Place → Tree) → (Name → Place → Tree) → Type 0
   Labels f g = (name : Name) (p : Place) → AreAlike (f name p) (g name p)
 
@@ -230,22 +236,22 @@ module _ (bound other : Binding) (acts : Acts) where
     work_alike unit second name p (Runs phase values reports) = refl
 
   abbrev From : List (List Act) → Type 0
-  From tables = (unit second name : Name) (p : Place) → AreAlike (named_tree_with bound tables unit name p) (named_tree_with other tables second name p)
+  From tables = (unit second name : Name) (p : Place) → AreAlike (named_tree_with one tables unit name p) (named_tree_with two tables second name p)
 
   act_alike : (tables : List (List Act)) → From tables → (unit second : Name) (a : Act) (p : Place)
-      → AreAlike (act_tree_with bound (named_tree_with bound tables) unit a p) (act_tree_with other (named_tree_with other tables) second a p)
+      → AreAlike (act_tree_with one (named_tree_with one tables) unit a p) (act_tree_with two (named_tree_with two tables) second a p)
   act_alike tables labels unit second a p =
       let own = unit_below unit (unit_with bound a.unit) in
       let owned = unit_below second (unit_with other a.unit) in
-      work_alike (named_tree_with bound tables own) (named_tree_with other tables owned) (labels own owned) own owned a.name p a.work
+      work_alike (named_tree_with one tables own) (named_tree_with two tables owned) (labels own owned) own owned a.name p a.work
 
   from : (tables : List (List Act)) → From tables
   from [] = λ unit second name p. tt
   from (table ∷ tables) = λ unit second name p. found (from tables) (act_named table name) unit second p
     where
       found : From tables → (o : Option Act) (unit second : Name) (p : Place)
-          → AreAlike (elim o [ None ↦ tree.skip | Some a ↦ act_tree_with bound (named_tree_with bound tables) unit a p ])
-          (elim o [ None ↦ tree.skip | Some a ↦ act_tree_with other (named_tree_with other tables) second a p ])
+          → AreAlike (elim o [ None ↦ tree.skip | Some a ↦ act_tree_with one (named_tree_with one tables) unit a p ])
+          (elim o [ None ↦ tree.skip | Some a ↦ act_tree_with two (named_tree_with two tables) second a p ])
       found labels None unit second p = tt
       found labels (Some a) unit second p = act_alike tables labels unit second a p
 

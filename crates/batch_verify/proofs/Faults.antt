@@ -6,7 +6,7 @@ use Rattle.batch_recipe.specs.Expanding.{unbound}
 use Rattle.batch_recipe.specs.Links.{form_at}
 use Rattle.batch_recipe.specs.Nodes.{Node}
 use Rattle.batch_recipe.specs.Outlines.{act_of, form_of}
-use Rattle.batch_recipe.specs.Procedure.{bound_nodes, procedure_nodes}
+use Rattle.batch_recipe.specs.Procedure.{bound_nodes, procedure_nodes, sites}
 use Rattle.batch_recipe.specs.declared.act.Act.{Act}
 use Rattle.batch_recipe.specs.declared.entry.Entry.{Entry}
 use Rattle.batch_recipe.specs.declared.recipe.Recipe.{Recipe}
@@ -79,7 +79,7 @@ module _ (r : Recipe) where
       depth_under : depth_is next ≡ at.own.under.level
       depth_under = go (act_of r.acts e.kind) refl at.on.here
         where
-          go : (o : Option Act) → act_of r.acts e.kind ≡ o → IsHereOn unbound at.own at.x o → depth_is next ≡ at.own.under.level
+          go : (o : Option Act) → act_of r.acts e.kind ≡ o → IsHereOn (sites unbound r.acts) at.own at.x o → depth_is next ≡ at.own.under.level
           go None o_is here = ap depth_is (along o_is) ∙ (depth_at ∙ ap (λ (s : Spot). s.level) (sym here.1))
           go (Some a) o_is here = under (λ no. let bad : Some a ≡ None = sym o_is ∙ no in cc) ∙ (ap below depth_at ∙ sym here.under_level)
 

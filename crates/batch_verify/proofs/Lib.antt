@@ -26,6 +26,7 @@ pub mod Faults
 pub mod Paths
 pub mod Covering
 pub mod Least
+pub mod Reserving
 pub mod Served
 pub mod Tried
 pub mod Bound

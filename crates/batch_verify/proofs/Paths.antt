@@ -8,11 +8,11 @@ use Rattle.batch_cell.specs.LookUps.{units_of}
 use Rattle.batch_cell.specs.declared.cell.Cell as equipment
 use Rattle.batch_recipe.specs.ActsAtNodes.{IsNoAct}
 use Rattle.batch_recipe.specs.Conditions.{Name}
-use Rattle.batch_recipe.specs.Expanding.{Binding, act_tree_with, asked_by, unit_with}
+use Rattle.batch_recipe.specs.Expanding.{Binding, Sites, act_tree_with, needs_with, unit_with}
 use Rattle.batch_recipe.specs.Needs.{resources_of}
 use Rattle.batch_recipe.specs.Nodes.{Node, needs_of}
 use Rattle.batch_recipe.specs.Outlines.{act_of}
-use Rattle.batch_recipe.specs.Procedure.{bound_nodes, bound_tree}
+use Rattle.batch_recipe.specs.Procedure.{bound_nodes, bound_tree, sites}
 use Rattle.batch_recipe.specs.Tree.{Tree}
 use Rattle.batch_recipe.specs.declared.act.Act.{Act}
 use Rattle.batch_recipe.specs.declared.entry.Entry.{Entry}
@@ -36,6 +36,9 @@ use Rattle.batch_verify.proofs.Verdicts.{MeetBelow, all_meet, bare_breaks, bare_
 use Rattle.batch_verify.proofs.WayActs.{IsActOn, IsHereOn}
 
 module _ (c : equipment.Cell) (ranking : Option Ranking) (bound : Binding) (r : Recipe) where
+  abbrev on : Sites
+  on = sites bound r.acts
+
   abbrev pub IsNumber : Path → Type 0
   IsNumber p = ForSome p.unit (λ number. number < length (units_of c))
 
@@ -109,12 +112,12 @@ module _ (c : equipment.Cell) (ranking : Option Ranking) (bound : Binding) (r : 
       bare_looked None sound = ((λ recipes. bare_meets (setup_of c recipes) ranking at.x bare sound (path_is_rising ranking at.x.node.asked p.last path_kept.1)), path_kept)
       bare_looked (Some rule) broken = λ recipes. bare_breaks (setup_of c recipes) ranking at.x bare rule broken
 
-    module _ (a : Act) (here : IsActOn bound at.own at.x a) where
+    module _ (a : Act) (here : IsActOn on at.own at.x a) where
       abbrev tree : Tree
-      tree = act_tree_with bound here.acts at.own.here.unit a at.x.node.place
+      tree = act_tree_with on here.acts at.own.here.unit a at.x.node.place
 
       abbrev own_names : List Name
-      own_names = above.names ++ resources_of (asked_by (unit_with bound a.unit) a.needs.items)
+      own_names = above.names ++ resources_of (needs_with on a)
 
       names_go_on : at.x.node.asked ≡ own_names
       names_go_on = above.asks ∙ ap (λ t. above.names ++ resources_of (needs_of t)) here.here_is
@@ -129,7 +132,7 @@ module _ (c : equipment.Cell) (ranking : Option Ranking) (bound : Binding) (r : 
 
       abbrev Entered : Result Path Rule → Type 0
       Entered res = (recipes : List Recipe)
-          → IsEnteredAs c bound (setup_of c recipes) ranking at.own.here.level at.own.here.unit above.names a (part at.own.here.level at.x.node.place above.names tree) res
+          → IsEnteredAs c on (setup_of c recipes) ranking at.own.here.level at.own.here.unit above.names a (part at.own.here.level at.x.node.place above.names tree) res
 
       act_looked : (res : Result Path Rule) → Entered res → Looked res
       act_looked (Ok q) h = (
@@ -142,12 +145,12 @@ module _ (c : equipment.Cell) (ranking : Option Ranking) (bound : Binding) (r : 
       act_looked (Err rule) h = λ recipes. subst (λ (y : Part). Breaks (setup_of c recipes) ranking y rule) (sym part_is) (h recipes)
 
     module _ (res : Result Path Rule) (fault : Option Rule) (known : IsFaultOf at.x fault)
-        (entered : (a : Act) → act_of r.acts e.kind ≡ Some a → (level : Level) → IsEntered c bound ranking level p a res)
+        (entered : (a : Act) → act_of r.acts e.kind ≡ Some a → (level : Level) → IsEntered c on ranking level p a res)
         (kept_is : act_of r.acts e.kind ≡ None → res ≡ kept p fault) where
       pub looked : Looked res
       looked = go (act_of r.acts e.kind) refl at.on.here
         where
-          go : (o : Option Act) → act_of r.acts e.kind ≡ o → IsHereOn bound at.own at.x o → Looked res
+          go : (o : Option Act) → act_of r.acts e.kind ≡ o → IsHereOn on at.own at.x o → Looked res
           go None o_is here = subst Looked (sym (kept_is o_is)) (bare_looked here.0 here.1 fault known)
           go (Some a) o_is here =
               act_looked a here res

@@ -19,6 +19,7 @@ mod reading;
 mod recipes;
 mod refusal;
 mod rejected;
+mod reserved;
 mod rising;
 mod rule;
 mod running_nodes;

@@ -17,6 +17,8 @@ use Rattle.batch_verify.specs.Walking.{IsEntered}
 use Rattle.batch_verify.specs.declared.rule.Rule.{Rule}
 use Rattle.batch_verify.specs.declared.site.Path.{Path}
 use Rattle.batch_verify.proofs.Offers.{AreOffered-with}
+use Rattle.batch_recipe.specs.Procedure.{sites}
+use Rattle.batch_verify.proofs.Reserving.{reserves_named}
 use Rattle.batch_verify.proofs.Paths.{KeepsPaths-more, number_above, looked, fault_known, path_stops, paths_end}
 use Rattle.batch_verify.proofs.walk.broken_on.Goals as goal
 
@@ -42,6 +44,7 @@ look-requires c =
     let above = c.path_above-above.result in
     record {
       asks = c.requires.asks;
+      reserved = λ a act_is. reserves_named r.acts r.kinds r.own_reserves entry.kind a act_is;
       known = λ a unit act_is known_is.
           c.loop-entry.invariant.offered entry.kind a unit act_is
           (ap (λ units. offering_unit units entry.kind) (sym c.deref-in-loop-entry-2.ensures.value) ∙ (sym c.offering_unit-known.ensures ∙ known_is));
@@ -69,7 +72,7 @@ returns-in-Err c = λ recipes.
     let fault_is : slice_get c.args.faults.now n ≡ Some fault =
     ap (slice_get c.args.faults.now) node ∙ slice_get-get_or c.args.faults.now c.len-node.result None
     (omega (arith, node, c.loop-entry-test.true, ap length c.deref-entry-items.ensures.value, as_many r, c.requires.faults.as_many)) in
-    let entered = subst (λ (roles : List Role). (a : Act) → act_of r.acts entry.kind ≡ Some a → (level : Level) → IsEntered cell (numbered cell roles c.args.binding) ranking level above a (Err c.in-Err.rule))
+    let entered = subst (λ (roles : List Role). (a : Act) → act_of r.acts entry.kind ≡ Some a → (level : Level) → IsEntered cell (sites (numbered cell roles c.args.binding) r.acts) ranking level above a (Err c.in-Err.rule))
     c.deref.ensures.value c.in-Err.ensures.act in
     let some = (λ (q : Path) (q_is : slice_get paths entry.parent ≡ Some q). c.path_above-above.ensures.some q (ap (λ xs. slice_get xs entry.parent) c.deref-in-loop-entry.ensures.value ∙ q_is)) in
     let none = (λ (past : length paths ≤ entry.parent). c.path_above-above.ensures.none (omega (arith, past, ap length c.deref-in-loop-entry.ensures.value))) in
@@ -97,7 +100,7 @@ loop-entry-preserved c =
     let fault_is : slice_get c.args.faults.now n ≡ Some fault =
     ap (slice_get c.args.faults.now) node ∙ slice_get-get_or c.args.faults.now c.len-node.result None
     (omega (arith, node, c.loop-entry-test.true, ap length c.deref-entry-items.ensures.value, as_many r, c.requires.faults.as_many)) in
-    let entered = subst (λ (roles : List Role). (a : Act) → act_of r.acts entry.kind ≡ Some a → (level : Level) → IsEntered cell (numbered cell roles c.args.binding) ranking level above a (Ok c.in-Ok.path))
+    let entered = subst (λ (roles : List Role). (a : Act) → act_of r.acts entry.kind ≡ Some a → (level : Level) → IsEntered cell (sites (numbered cell roles c.args.binding) r.acts) ranking level above a (Ok c.in-Ok.path))
     c.deref.ensures.value c.in-Ok.ensures.act in
     let some = (λ (q : Path) (q_is : slice_get paths entry.parent ≡ Some q). c.path_above-above.ensures.some q (ap (λ xs. slice_get xs entry.parent) c.deref-in-loop-entry.ensures.value ∙ q_is)) in
     let none = (λ (past : length paths ≤ entry.parent). c.path_above-above.ensures.none (omega (arith, past, ap length c.deref-in-loop-entry.ensures.value))) in
