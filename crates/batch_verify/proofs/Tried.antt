@@ -9,6 +9,7 @@ use Rattle.std.proofs.lemmas.List.{length-append}
 use Rattle.std.proofs.lemmas.Option.{slice_get_within}
 use Rattle.batch_cell.specs.LookUps.{resources_of, units_of_class}
 use Rattle.batch_cell.specs.declared.cell.Cell as equipment
+use Rattle.batch_recipe.specs.ActsAtNodes.{procedure_acts}
 use Rattle.batch_recipe.specs.Conditions.{Name, same_name}
 use Rattle.batch_recipe.specs.Expanding.{Binding, act_named, unit_with}
 use Rattle.batch_recipe.specs.WellFormed.{is_among, are_distinct, are_roles, is_role_among}
@@ -20,7 +21,7 @@ use Rattle.batch_recipe.specs.declared.role.Role.{Role}
 use Rattle.batch_model.specs.Lists.{Each, Has}
 use Rattle.batch_model.specs.Plant.{Setup}
 use Rattle.batch_model.specs.Plant.{Role as ModelRole}
-use Rattle.batch_model.specs.Setups.{labels_of, master_of, name_role, role_of, setup_of}
+use Rattle.batch_model.specs.Setups.{labels_of, master_of, name_role, reserve_role, role_of, setup_of}
 use Rattle.batch_verify.specs.Bindings.{nobody, candidate_of, numbered, binding_count}
 use Rattle.batch_verify.specs.Refusals.{IsTried, IsTriedFor}
 use Rattle.batch_verify.proofs.Levels.{found_passes}
@@ -151,7 +152,7 @@ module _ (c : equipment.Cell) where
     roles = recipe.roles.items
 
     abbrev Named : Name → Type 0
-    Named name = IsTrue (name_role recipe.acts.unit_procedures.items (labels_of recipe.acts.procedure) name)
+    Named name = IsTrue ((master_of c recipe).names_role name)
 
     abbrev model_role : Role → ModelRole
     model_role role = record { name = role.name; candidates = units_of_class c role.class }
@@ -232,5 +233,7 @@ module _ (c : equipment.Cell) where
               let known = found_passes (λ x. same_name x.name name) (is_role_among (role_names roles)) recipe.acts.unit_procedures.items a found all in
               let among : is_among (role_names roles) role ≡ true =
               sym (ap (λ o. is_declared o) e) ∙ known in
-              let by = role-covered role (label_names (labels_of recipe.acts.procedure) name a role m found e) among in
+              let named = or_left (name_role recipe.acts.unit_procedures.items (labels_of recipe.acts.procedure) role)
+              (reserve_role recipe.acts.unit_procedures.items (procedure_acts recipe.acts) role) (label_names (labels_of recipe.acts.procedure) name a role m found e) in
+              let by = role-covered role named among in
               (by.0, by.1, ap Some by.2)
