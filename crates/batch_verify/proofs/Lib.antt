@@ -5,6 +5,7 @@ pub mod RankLemmas
 pub mod RecipeLemmas
 pub mod Clearing
 pub mod Finding
+pub mod Followers
 pub mod Ranks
 pub mod Phases
 pub mod NameSets

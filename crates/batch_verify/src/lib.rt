@@ -20,6 +20,7 @@ mod recipes;
 mod refusal;
 mod rejected;
 mod reserved;
+mod reserve_faults;
 mod rising;
 mod rule;
 mod running_nodes;
