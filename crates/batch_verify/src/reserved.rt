@@ -80,5 +80,8 @@ pub(crate) fn look_up_later(site: &Site, act: &Act, asks: Asks) -> (bool, bool)
     ensures units { result.1 ≡ list_all (is_within_capacity site.now.cell.now) (needs_after (sites_on site.now) act.now) }
 {
     let (are_resources, are_within) = look_up_each_reserved(site, &act.reserves);
-    (are_resources && asks.are_resources, are_within && asks.are_within_capacity)
+    (
+        are_resources && asks.are_resources,
+        are_within && asks.are_within_capacity,
+    )
 }

@@ -1,4 +1,4 @@
-use Rattle.std.proofs.Common.{◌≡◌, ◌&&◌, ◌∙◌, Bool, List, refl, ap, sym}
+use Rattle.std.proofs.Common.{◌≡◌, ◌&&◌, ◌∙◌, List, refl, ap}
 use Rattle.std.specs.List.{list_all}
 use Rattle.batch_recipe.specs.Conditions.{Name}
 use Rattle.batch_recipe.specs.Expanding.{unit_named}
@@ -15,7 +15,7 @@ returns-then-are_within-clause-resources c =
     let found = c.look_up_each_reserved-are_resources in
     let joined : c.if-are_resources.result ≡ (found.result.0 && c.args.asks.are_resources) =
     elim c.if-are_resources.branch [
-      then-are_resources w ↦ and_then found.result.0 c.args.asks.are_resources c.if-are_resources.result w.if-are_resources.true w.result-is
+      | then-are_resources w ↦ and_then found.result.0 c.args.asks.are_resources c.if-are_resources.result w.if-are_resources.true w.result-is
       | else-are_resources w ↦ and_else found.result.0 c.args.asks.are_resources c.if-are_resources.result w.if-are_resources.false (w.result-is ∙ w.if-are_resources.false)
     ] in
     later_is (is_of_resource cell) (unit_named s) c.args.act.now.reserves.items c.args.act.now.needs.items c.if-are_resources.result found.result.0 c.args.asks.are_resources joined
@@ -28,7 +28,7 @@ returns-else-are_within-clause-resources c =
     let found = c.look_up_each_reserved-are_resources in
     let joined : c.if-are_resources.result ≡ (found.result.0 && c.args.asks.are_resources) =
     elim c.if-are_resources.branch [
-      then-are_resources w ↦ and_then found.result.0 c.args.asks.are_resources c.if-are_resources.result w.if-are_resources.true w.result-is
+      | then-are_resources w ↦ and_then found.result.0 c.args.asks.are_resources c.if-are_resources.result w.if-are_resources.true w.result-is
       | else-are_resources w ↦ and_else found.result.0 c.args.asks.are_resources c.if-are_resources.result w.if-are_resources.false (w.result-is ∙ w.if-are_resources.false)
     ] in
     later_is (is_of_resource cell) (unit_named s) c.args.act.now.reserves.items c.args.act.now.needs.items c.if-are_resources.result found.result.0 c.args.asks.are_resources joined

@@ -1,4 +1,4 @@
-use Rattle.std.proofs.Common.{◌≡◌, ℕ, nat_le, Option, None, Some, ap, ◌∙◌, sym, position}
+use Rattle.std.proofs.Common.{ℕ, nat_le, Option, None, Some, ap, ◌∙◌, sym, position}
 use Rattle.std.specs.List.{slice_index_or}
 use Rattle.std.specs.Option.{is_some}
 use Rattle.batch_cell.specs.LookUps.{capacities_of, resources_of}
