@@ -200,40 +200,12 @@ module _ (c : equipment.Cell) where
                     ∙ ap (λ o. taken setup (elim o [ None ↦ slice_get (first ∷ more) 0 | Some unit ↦ Some unit ])) at.found),
               )
 
-      abbrev is_role : Option Name → Name → Bool
-      is_role own role = elim own [ None ↦ false | Some name ↦ same_name name role ]
-
-      abbrev role_in : Option UnitChoice → Option Name
-      role_in unit = elim unit [ None ↦ None | Some choice ↦ elim choice [ Unit unit ↦ None | by_role role ↦ Some role ] ]
-
-      abbrev role_by : Name → Option Name
-      role_by name = option_and_then role_of (act_named recipe.acts.unit_procedures.items name)
-
-      -- a label names the role of its unit procedure
-      label_names : (names : List Name) (name : Name) (a : Act) (role : Name) → Has names name → act_named recipe.acts.unit_procedures.items name ≡ Some a → a.unit ≡ Some (by_role role)
-          → name_role recipe.acts.unit_procedures.items names role ≡ true
-      label_names [] name a role m found takes = absurd m
-      label_names (first ∷ names) name a role (inl e) found takes = grind (arith, itself role, or_left)
-      label_names (first ∷ names) name a role (inr m) found takes =
-          or_right (is_role (role_by first) role) (name_role recipe.acts.unit_procedures.items names role) (label_names names name a role m found takes)
-
-      abbrev is_declared : Option UnitChoice → Bool
-      is_declared unit = elim unit [ None ↦ true | Some choice ↦ elim choice [ Unit unit ↦ true | by_role role ↦ is_among (role_names roles) role ] ]
-
-      -- the unit of a unit procedure that the tree names is its unit in a numbered binding
-      pub tried-covers : (name : Name) → Has (labels_of recipe.acts.procedure) name → (a : Act) → act_named recipe.acts.unit_procedures.items name ≡ Some a
-          → (k : ℕ) × (k < binding_count c roles) × (unit_with bound a.unit ≡ unit_with (numbered c roles k) a.unit)
-      tried-covers name m a found = go a.unit refl
-        where
-          go : (o : Option UnitChoice) → a.unit ≡ o → (k : ℕ) × (k < binding_count c roles) × (unit_with bound o ≡ unit_with (numbered c roles k) o)
-          go None e = (0, some-binding roles, refl)
-          go (Some (Unit unit)) e = (0, some-binding roles, refl)
-          go (Some (by_role role)) e =
-              let all = (and_parts (are_distinct (role_names roles)) (list_all (is_role_among (role_names roles)) recipe.acts.unit_procedures.items) own).1 in
-              let known = found_passes (λ x. same_name x.name name) (is_role_among (role_names roles)) recipe.acts.unit_procedures.items a found all in
-              let among : is_among (role_names roles) role ≡ true =
-              sym (ap (λ o. is_declared o) e) ∙ known in
-              let named = or_left (name_role recipe.acts.unit_procedures.items (labels_of recipe.acts.procedure) role)
-              (reserve_role recipe.acts.unit_procedures.items (procedure_acts recipe.acts) role) (label_names (labels_of recipe.acts.procedure) name a role m found e) in
-              let by = role-covered role named among in
-              (by.0, by.1, ap Some by.2)
+      -- who is tried for a role that the tree names, as it is declared
+      pub role-tried : (name : Name) → Named name → is_among (role_names roles) name ≡ true → (role : Role) × Has roles role × (role.name ≡ name) × IsTriedFor setup (units_of_class c role.class) (bound name)
+      role-tried name named among =
+          let f = found_role roles name among in (
+            f.role,
+            f.has,
+            f.named,
+            subst (λ n. IsTriedFor setup (units_of_class c f.role.class) (bound n)) f.named (tried_at roles f.role f.has tried (subst Named (sym f.named) named)),
+          )

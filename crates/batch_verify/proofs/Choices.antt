@@ -1,0 +1,324 @@
+-- What the nodes of a recipe ask for, and on which units they run, by how these are chosen: it is the same in all bindings.
+use Rattle.std.proofs.Common.{◌≡◌, ◌⊎◌, ℕ, zero, suc, ◌+◌, ◌<◌, ◌≤◌, true, List, [], ◌∷◌, ◌++◌, map, length, Option, Some, None, slice_get, get_or, refl, sym, ap, ap₂, ◌∙◌, subst, arith, inl, inr}
+use Rattle.std.specs.Prelude.{option_and_then}
+use Rattle.std.proofs.lemmas.Option.{slice_get-get_or, slice_get_within}
+use Rattle.batch_recipe.specs.ActsAtNodes.{procedure_acts}
+use Rattle.batch_recipe.specs.Conditions.{Name}
+use Rattle.batch_recipe.specs.Expanding.{Binding, unbound, act_named, asked_by, needs_with, unit_below, unit_chosen, unit_named, unit_with}
+use Rattle.batch_recipe.specs.Needs.{one_unit, resources_of}
+use Rattle.batch_recipe.specs.Nodes.{Node, needs_of}
+use Rattle.batch_recipe.specs.Outlines.{act_of}
+use Rattle.batch_recipe.specs.Procedure.{bound_nodes, sites}
+use Rattle.batch_recipe.specs.WellFormed.{is_among}
+use Rattle.batch_recipe.specs.declared.act.Act.{Act}
+use Rattle.batch_recipe.specs.declared.act.UnitChoice.{UnitChoice}
+use Rattle.batch_recipe.specs.declared.act.UnitChoice.TheVariants.{Unit, Role}
+use Rattle.batch_recipe.specs.declared.acts.Acts.{Acts}
+use Rattle.batch_recipe.specs.declared.entry.Entry.{Entry}
+use Rattle.batch_recipe.specs.declared.entry.Kind.TheVariants as kind
+use Rattle.batch_recipe.specs.declared.need.Need.{Need}
+use Rattle.batch_recipe.specs.declared.recipe.Recipe.{Recipe}
+use Rattle.batch_recipe.proofs.Climbing.{act_at}
+use Rattle.batch_model.specs.Lists.{Each, Has}
+use Rattle.batch_model.specs.Cleared.{Part}
+use Rattle.batch_model.specs.Setups.{labels_of, name_role, reserve_role}
+use Rattle.batch_model.proofs.Members.{Each-append}
+use Rattle.std.proofs.lemmas.Bool.{or_left, or_right}
+use Rattle.batch_verify.specs.Ways.{Way, bound_parts, bound_ways}
+use Rattle.batch_verify.proofs.Owners.{declared, declared_role, names_it, names_role, owner, reserves_role, table}
+use Rattle.batch_verify.proofs.Stands.{IsTop, IsBelow, Stands, node_of, stands}
+use Rattle.batch_verify.proofs.Verdicts.{bare_needs}
+use Rattle.batch_verify.proofs.WayActs.{IsHereOn}
+
+-- Needs
+
+-- a need, by how its resource is chosen
+pub record Ask : Type 0 where
+  pub choice : UnitChoice
+  pub units : ℕ
+
+abbrev pub asked : Binding → Ask → Need
+asked bound ask = record { resource = unit_chosen bound ask.choice; units = ask.units }
+
+abbrev pub names_by : Binding → List Ask → List Name
+names_by bound asks = map (λ ask. unit_chosen bound ask.choice) asks
+
+abbrev of_one : UnitChoice → Ask
+of_one choice = record { choice = choice; units = 1 }
+
+abbrev of_need : Need → Ask
+of_need need = record { choice = Unit need.resource; units = need.units }
+
+-- the unit of an act, as it is chosen; no unit is the empty name
+abbrev own_choice : Option UnitChoice → UnitChoice
+own_choice own = elim own [ None ↦ Unit [] | Some choice ↦ choice ]
+
+abbrev found_choice : Option Act → UnitChoice
+found_choice found = elim found [ None ↦ Unit [] | Some a ↦ own_choice a.unit ]
+
+-- that of the unit procedure with this name
+abbrev choice_named : Acts → Name → UnitChoice
+choice_named acts name = found_choice (act_named acts.unit_procedures.items name)
+
+abbrev own_asks : Option UnitChoice → List Ask
+own_asks None = []
+own_asks (Some choice) = of_one choice ∷ []
+
+abbrev later_asks : Acts → List Name → List Need → List Ask
+later_asks acts names needs = map (λ name. of_one (choice_named acts name)) names ++ map of_need needs
+
+-- all that an act asks for
+abbrev pub asks_in : Acts → Act → List Ask
+asks_in acts a = own_asks a.unit ++ later_asks acts a.reserves.items a.needs.items
+
+abbrev pub asks_at : Acts → Option Act → List Ask
+asks_at acts None = []
+asks_at acts (Some a) = asks_in acts a
+
+pub names_append : (bound : Binding) (xs ys : List Ask) → names_by bound (xs ++ ys) ≡ names_by bound xs ++ names_by bound ys
+names_append bound [] ys = refl
+names_append bound (x ∷ xs) ys = ap (λ names. unit_chosen bound x.choice ∷ names) (names_append bound xs ys)
+
+pub resources_are : (bound : Binding) (asks : List Ask) → resources_of (map (asked bound) asks) ≡ names_by bound asks
+resources_are bound [] = refl
+resources_are bound (x ∷ xs) = ap (λ names. unit_chosen bound x.choice ∷ names) (resources_are bound xs)
+
+module _ (bound : Binding) where
+  own_is : (own : Option UnitChoice) → elim (unit_with bound own) [ None ↦ [] | Some unit ↦ unit ] ≡ unit_chosen bound (own_choice own)
+  own_is None = refl
+  own_is (Some choice) = refl
+
+  found_is : (found : Option Act) → elim (option_and_then (λ (u : Act). unit_with bound u.unit) found) [ None ↦ [] | Some unit ↦ unit ] ≡ unit_chosen bound (found_choice found)
+  found_is None = refl
+  found_is (Some a) = own_is a.unit
+
+  needs_back : (needs : List Need) → needs ≡ map (asked bound) (map of_need needs)
+  needs_back [] = refl
+  needs_back (need ∷ needs) = ap (λ (ns : List Need). need ∷ ns) (needs_back needs)
+
+  module _ (acts : Acts) where
+    unit_is : (name : Name) → unit_named (sites bound acts) name ≡ unit_chosen bound (choice_named acts name)
+    unit_is name = found_is (act_named acts.unit_procedures.items name)
+
+    later_are : (names : List Name) (needs : List Need) → map one_unit (map (unit_named (sites bound acts)) names) ++ needs ≡ map (asked bound) (later_asks acts names needs)
+    later_are [] needs = needs_back needs
+    later_are (name ∷ names) needs = ap₂ (λ (unit : Name) (ns : List Need). one_unit unit ∷ ns) (unit_is name) (later_are names needs)
+
+    asked_are : (own : Option UnitChoice) (names : List Name) (needs : List Need)
+        → asked_by (unit_with bound own) (map (unit_named (sites bound acts)) names) needs ≡ map (asked bound) (own_asks own ++ later_asks acts names needs)
+    asked_are None names needs = later_are names needs
+    asked_are (Some choice) names needs = ap (λ (ns : List Need). one_unit (unit_chosen bound choice) ∷ ns) (later_are names needs)
+
+    -- what an act asks for in a binding
+    pub needs_are : (a : Act) → needs_with (sites bound acts) a ≡ map (asked bound) (asks_in acts a)
+    needs_are a = asked_are a.unit a.reserves.items a.needs.items
+
+  -- the unit below an act
+  pub below_is : (above : UnitChoice) (own : Option UnitChoice) → unit_below (unit_chosen bound above) (unit_with bound own) ≡ unit_chosen bound (elim own [ None ↦ above | Some choice ↦ choice ])
+  below_is above None = refl
+  below_is above (Some choice) = refl
+
+has_at : {X : Type 0} (xs : List X) (k : ℕ) (x : X) → slice_get xs k ≡ Some x → Has xs x
+has_at [] k x e = absurd cc
+has_at (y ∷ xs) zero x e = inl cc
+has_at (y ∷ xs) (suc k) x e = inr (has_at xs k x e)
+
+each_in : {X : Type 0} (P : X → Type 0) (xs : List X) → ((x : X) → Has xs x → P x) → Each P xs
+each_in P [] h = tt
+each_in P (x ∷ xs) h = (h x (inl refl), each_in P xs (λ y m. h y (inr m)))
+
+module _ (r : Recipe) where
+  -- a role that is chosen is declared, and the tree names it
+  abbrev pub IsNamed : UnitChoice → Type 0
+  IsNamed choice = (role : Name) → choice ≡ Role role → (names_it r role ≡ true) × (is_among (declared r) role ≡ true)
+
+  abbrev pub AreNamed : List Ask → Type 0
+  AreNamed asks = Each (λ ask. IsNamed ask.choice) asks
+
+  unit_named_by : (unit : Name) → IsNamed (Unit unit)
+  unit_named_by unit role e = absurd cc
+
+  module _ (a : Act) (stands_there : Has (procedure_acts r.acts) (Some a)) where
+    -- the act's own unit
+    own_named : (own : UnitChoice) → a.unit ≡ Some own → IsNamed own
+    own_named own is role e =
+        let by = owner r.acts r.kinds a own is stands_there in
+        let takes : a.unit ≡ Some (Role role) = is ∙ ap Some e in (
+          or_left (name_role (table r) (labels_of r.acts.procedure) role) (reserve_role (table r) (procedure_acts r.acts) role) (names_role (table r) (labels_of r.acts.procedure) by.0 a role by.1 by.2 takes),
+          declared_role r by.0 a role by.2 takes,
+        )
+
+    -- a unit that it reserves
+    reserved_named : (name : Name) → Has a.reserves.items name → IsNamed (choice_named r.acts name)
+    reserved_named name m = go (act_named (table r) name) refl
+      where
+        go : (found : Option Act) → act_named (table r) name ≡ found → IsNamed (found_choice found)
+        go None found_is role e = absurd cc
+        go (Some u) found_is = own u.unit refl
+          where
+            own : (o : Option UnitChoice) → u.unit ≡ o → IsNamed (own_choice o)
+            own None is role e = absurd cc
+            own (Some choice) is role e =
+                let takes : u.unit ≡ Some (Role role) = is ∙ ap Some e in (
+                  or_right (name_role (table r) (labels_of r.acts.procedure) role) (reserve_role (table r) (procedure_acts r.acts) role)
+                      (reserves_role (table r) (procedure_acts r.acts) a role stands_there (names_role (table r) a.reserves.items name u role m found_is takes)),
+                  declared_role r name u role found_is takes,
+                )
+
+    own_asks_named : (own : Option UnitChoice) → a.unit ≡ own → AreNamed (own_asks own)
+    own_asks_named None is = tt
+    own_asks_named (Some choice) is = (own_named choice is, tt)
+
+    reserved_asks_named : (names : List Name) → ((name : Name) → Has names name → IsNamed (choice_named r.acts name)) → AreNamed (map (λ name. of_one (choice_named r.acts name)) names)
+    reserved_asks_named [] h = tt
+    reserved_asks_named (name ∷ names) h = (h name (inl refl), reserved_asks_named names (λ other m. h other (inr m)))
+
+    need_asks_named : (needs : List Need) → AreNamed (map of_need needs)
+    need_asks_named [] = tt
+    need_asks_named (need ∷ needs) = (unit_named_by need.resource, need_asks_named needs)
+
+    pub asks_named : AreNamed (asks_in r.acts a)
+    asks_named =
+        Each-append (λ (ask : Ask). IsNamed ask.choice) (own_asks a.unit) (later_asks r.acts a.reserves.items a.needs.items) (own_asks_named a.unit refl)
+        (Each-append (λ (ask : Ask). IsNamed ask.choice) (map (λ name. of_one (choice_named r.acts name)) a.reserves.items) (map of_need a.needs.items)
+        (reserved_asks_named a.reserves.items reserved_named) (need_asks_named a.needs.items))
+
+    -- the unit below it
+    abbrev unit_after : UnitChoice → Option UnitChoice → UnitChoice
+    unit_after above own = elim own [ None ↦ above | Some choice ↦ choice ]
+
+    after_named : (above : UnitChoice) → IsNamed above → (own : Option UnitChoice) → a.unit ≡ own → IsNamed (unit_after above own)
+    after_named above h None is = h
+    after_named above h (Some choice) is = own_named choice is
+
+  -- the unit below a node
+  abbrev unit_at : UnitChoice → Option Act → UnitChoice
+  unit_at above None = above
+  unit_at above (Some a) = elim a.unit [ None ↦ above | Some choice ↦ choice ]
+
+  module _ (k : ℕ) (e : Entry) (is : slice_get r.outline.entries.items k ≡ Some e) where
+    abbrev here : Option Act
+    here = act_of r.acts e.kind
+
+    there : (a : Act) → here ≡ Some a → Has (procedure_acts r.acts) (Some a)
+    there a same = has_at (procedure_acts r.acts) k (Some a) (act_at r k e is ∙ ap Some same)
+
+    pub own_asks_are_named : AreNamed (asks_at r.acts here)
+    own_asks_are_named = go here refl
+      where
+        go : (o : Option Act) → here ≡ o → AreNamed (asks_at r.acts o)
+        go None same = tt
+        go (Some a) same = asks_named a (there a same)
+
+    unit_at_named : (above : UnitChoice) → IsNamed above → IsNamed (unit_at above here)
+    unit_at_named above h = go here refl
+      where
+        go : (o : Option Act) → here ≡ o → IsNamed (unit_at above o)
+        go None same = h
+        go (Some a) same = after_named a (there a same) above h a.unit refl
+
+    module _ (bound : Binding) where
+      abbrev at : Stands r bound k e
+      at = stands r bound k e is
+
+      -- what the node asks for in a binding
+      pub needs_here : needs_of at.x.node.here ≡ map (asked bound) (asks_at r.acts here)
+      needs_here = go here at.on.here
+        where
+          go : (o : Option Act) → IsHereOn (sites bound r.acts) at.own at.x o → needs_of at.x.node.here ≡ map (asked bound) (asks_at r.acts o)
+          go None h = bare_needs at.x.node.here h.0
+          go (Some a) h = ap needs_of h.here_is ∙ needs_are bound r.acts a
+
+      names_here : resources_of (needs_of at.x.node.here) ≡ names_by bound (asks_at r.acts here)
+      names_here = ap resources_of needs_here ∙ resources_are bound (asks_at r.acts here)
+
+      unit_under : (above : UnitChoice) → at.own.here.unit ≡ unit_chosen bound above → at.own.under.unit ≡ unit_chosen bound (unit_at above here)
+      unit_under above same = go here at.on.here
+        where
+          go : (o : Option Act) → IsHereOn (sites bound r.acts) at.own at.x o → at.own.under.unit ≡ unit_chosen bound (unit_at above o)
+          go None h = ap (λ v. v.unit) h.1 ∙ same
+          go (Some a) h = h.under_unit ∙ (ap (λ unit. unit_below unit (unit_with bound a.unit)) same ∙ below_is bound above a.unit)
+
+  -- the path to a node, and the unit below it
+  pub record HasChoices (k : ℕ) (e : Entry) (is : slice_get r.outline.entries.items k ≡ Some e) : Type 0 where
+    pub asks : List Ask
+    pub asks_are_named : AreNamed asks
+    pub path : (bound : Binding) → (stands r bound k e is).x.node.asked ≡ names_by bound asks
+    pub unit : UnitChoice
+    pub unit_is_named : IsNamed unit
+    pub under : (bound : Binding) → (stands r bound k e is).own.under.unit ≡ unit_chosen bound unit
+
+  abbrev no_entry : Entry
+  no_entry = record { kind = kind.Skip; end = 0; parent = 0; child = 0; needs = 0; detail = 0 }
+
+  module _ (k : ℕ) (e : Entry) (is : slice_get r.outline.entries.items k ≡ Some e) where
+    abbrev own_asked : List Ask
+    own_asked = asks_at r.acts (act_of r.acts e.kind)
+
+    at_top : k ≡ 0 → HasChoices k e is
+    at_top first = record {
+      asks = own_asked;
+      asks_are_named = own_asks_are_named k e is;
+      path = λ bound. path_at bound (stands r bound k e is).hangs;
+      unit = unit_at (Unit []) (act_of r.acts e.kind);
+      unit_is_named = unit_at_named k e is (Unit []) (unit_named_by []);
+      under = λ bound. unit_under k e is bound (Unit []) (stands_on bound (stands r bound k e is).hangs);
+    }
+      where
+        path_at : (bound : Binding) → IsTop k (stands r bound k e is).own (stands r bound k e is).x ⊎ IsBelow (bound_ways bound r.acts) (bound_nodes bound r.acts) k e (stands r bound k e is).own (stands r bound k e is).x
+            → (stands r bound k e is).x.node.asked ≡ names_by bound own_asked
+        path_at bound (inl t) = t.asks ∙ names_here k e is bound
+        path_at bound (inr b) = absurd (omega (arith, b.earlier, first))
+
+        stands_on : (bound : Binding) → IsTop k (stands r bound k e is).own (stands r bound k e is).x ⊎ IsBelow (bound_ways bound r.acts) (bound_nodes bound r.acts) k e (stands r bound k e is).own (stands r bound k e is).x
+            → (stands r bound k e is).own.here.unit ≡ []
+        stands_on bound (inl t) = ap (λ v. v.unit) t.stands
+        stands_on bound (inr b) = absurd (omega (arith, b.earlier, first))
+
+    module _ (f : Entry) (above_is : slice_get r.outline.entries.items e.parent ≡ Some f) (above : HasChoices e.parent f above_is) (earlier : e.parent < k) where
+      way_same : (v w : Way) → Some v ≡ Some w → v ≡ w
+      way_same v w same = cc
+
+      node_same : (one other : Node) → Some one ≡ Some other → one ≡ other
+      node_same one other same = cc
+
+      node_asked : (bound : Binding) → IsTop k (stands r bound k e is).own (stands r bound k e is).x ⊎ IsBelow (bound_ways bound r.acts) (bound_nodes bound r.acts) k e (stands r bound k e is).own (stands r bound k e is).x
+          → (stands r bound k e is).x.node.asked ≡ names_by bound (above.asks ++ own_asked)
+      node_asked bound (inl t) = absurd (omega (arith, t.number, earlier))
+      node_asked bound (inr b) =
+          let up = stands r bound e.parent f above_is in
+          let same : b.node ≡ up.x.node = node_same b.node up.x.node (sym b.node_is ∙ node_of r bound e.parent up.x up.x_is) in
+          b.asks ∙ (ap₂ (λ (xs ys : List Name). xs ++ ys) (ap (λ (n : Node). n.asked) same ∙ above.path bound) (names_here k e is bound) ∙ sym (names_append bound above.asks own_asked))
+
+      node_unit : (bound : Binding) → IsTop k (stands r bound k e is).own (stands r bound k e is).x ⊎ IsBelow (bound_ways bound r.acts) (bound_nodes bound r.acts) k e (stands r bound k e is).own (stands r bound k e is).x
+          → (stands r bound k e is).own.here.unit ≡ unit_chosen bound above.unit
+      node_unit bound (inl t) = absurd (omega (arith, t.number, earlier))
+      node_unit bound (inr b) =
+          let up = stands r bound e.parent f above_is in
+          let same : b.way ≡ up.own = way_same b.way up.own (sym b.way_is ∙ up.own_is) in
+          ap (λ v. v.unit) b.stands ∙ (ap (λ (w : Way). w.under.unit) same ∙ above.under bound)
+
+      below_it : HasChoices k e is
+      below_it = record {
+        asks = above.asks ++ own_asked;
+        asks_are_named = Each-append (λ (ask : Ask). IsNamed ask.choice) above.asks own_asked above.asks_are_named (own_asks_are_named k e is);
+        path = λ bound. node_asked bound (stands r bound k e is).hangs;
+        unit = unit_at above.unit (act_of r.acts e.kind);
+        unit_is_named = unit_at_named k e is above.unit above.unit_is_named;
+        under = λ bound. unit_under k e is bound above.unit (node_unit bound (stands r bound k e is).hangs);
+      }
+
+  choices_within : (n k : ℕ) → k < n → (e : Entry) (is : slice_get r.outline.entries.items k ≡ Some e) → HasChoices k e is
+  choices_within zero k lt e is = absurd (omega (arith, lt))
+  choices_within (suc n) k lt e is = go (stands r unbound k e is).hangs (choices_within n)
+    where
+      go : IsTop k (stands r unbound k e is).own (stands r unbound k e is).x ⊎ IsBelow (bound_ways unbound r.acts) (bound_nodes unbound r.acts) k e (stands r unbound k e is).own (stands r unbound k e is).x
+          → ((m : ℕ) → m < n → (f : Entry) (f_is : slice_get r.outline.entries.items m ≡ Some f) → HasChoices m f f_is) → HasChoices k e is
+      go (inl t) before = at_top k e is t.number
+      go (inr b) before =
+          let within = slice_get_within r.outline.entries.items k e is in
+          let f_is = slice_get-get_or r.outline.entries.items e.parent no_entry (omega (arith, b.earlier, within)) in
+          below_it k e is (get_or r.outline.entries.items e.parent no_entry) f_is (before e.parent (omega (arith, b.earlier, lt)) (get_or r.outline.entries.items e.parent no_entry) f_is) b.earlier
+
+  pub choices : (k : ℕ) (e : Entry) (is : slice_get r.outline.entries.items k ≡ Some e) → HasChoices k e is
+  choices k e is = choices_within (k + 1) k (omega arith) e is
