@@ -22,10 +22,10 @@ use Rattle.batch_recipe.proofs.Climbing.{act_at}
 use Rattle.batch_model.specs.Lists.{Each, Has}
 use Rattle.batch_model.specs.Cleared.{Part}
 use Rattle.batch_model.specs.Setups.{labels_of, name_role, reserve_role}
-use Rattle.batch_model.proofs.Members.{Each-append}
-use Rattle.std.proofs.lemmas.Bool.{or_left, or_right}
+use Rattle.batch_model.proofs.Members.{Each-append, Has-left, Has-right}
+use Rattle.std.proofs.lemmas.Bool.{or_cases, or_left, or_right}
 use Rattle.batch_verify.specs.Ways.{Way, bound_parts, bound_ways}
-use Rattle.batch_verify.proofs.Owners.{declared, declared_role, names_it, names_role, owner, reserves_role, table}
+use Rattle.batch_verify.proofs.Owners.{declared, declared_role, names_it, names_role, owned, owner, reserves_role, role_named, role_reserved, table}
 use Rattle.batch_verify.proofs.Stands.{IsTop, IsBelow, Stands, node_of, stands}
 use Rattle.batch_verify.proofs.Verdicts.{bare_needs}
 use Rattle.batch_verify.proofs.WayActs.{IsHereOn}
@@ -118,7 +118,7 @@ module _ (bound : Binding) where
   below_is above None = refl
   below_is above (Some choice) = refl
 
-has_at : {X : Type 0} (xs : List X) (k : ℕ) (x : X) → slice_get xs k ≡ Some x → Has xs x
+pub has_at : {X : Type 0} (xs : List X) (k : ℕ) (x : X) → slice_get xs k ≡ Some x → Has xs x
 has_at [] k x e = absurd cc
 has_at (y ∷ xs) zero x e = inl cc
 has_at (y ∷ xs) (suc k) x e = inr (has_at xs k x e)
@@ -190,6 +190,47 @@ module _ (r : Recipe) where
     after_named : (above : UnitChoice) → IsNamed above → (own : Option UnitChoice) → a.unit ≡ own → IsNamed (unit_after above own)
     after_named above h None is = h
     after_named above h (Some choice) is = own_named choice is
+
+  -- an act of the recipe asks for a unit that has the role
+  pub record AsksFor (role : Name) : Type 0 where
+    pub by : Act
+    pub stands_there : Has (procedure_acts r.acts) (Some by)
+    pub ask : Ask
+    pub asked_for : Has (asks_in r.acts by) ask
+    pub is : ask.choice ≡ Role role
+
+  has_mapped : {X Y : Type 0} (f : X → Y) (xs : List X) (x : X) → Has xs x → Has (map f xs) (f x)
+  has_mapped f [] x m = absurd m
+  has_mapped f (y ∷ xs) x (inl e) = inl (ap f e)
+  has_mapped f (y ∷ xs) x (inr m) = inr (has_mapped f xs x m)
+
+  pub asks_for : (role : Name) → names_it r role ≡ true → AsksFor role
+  asks_for role h = elim (or_cases (name_role (table r) (labels_of r.acts.procedure) role) (reserve_role (table r) (procedure_acts r.acts) role) h) [ inl k ↦ by_label k | inr k ↦ by_reserve k ]
+    where
+      by_label : name_role (table r) (labels_of r.acts.procedure) role ≡ true → AsksFor role
+      by_label k =
+          let f = role_named (table r) (labels_of r.acts.procedure) role k in
+          record {
+            by = f.own;
+            stands_there = owned r.acts r.kinds f.name f.own f.has f.found;
+            ask = of_one (Role role);
+            asked_for = subst (λ o. Has (own_asks o ++ later_asks r.acts f.own.reserves.items f.own.needs.items) (of_one (Role role))) (sym f.takes) (inl refl);
+            is = refl;
+          }
+
+      by_reserve : reserve_role (table r) (procedure_acts r.acts) role ≡ true → AsksFor role
+      by_reserve k =
+          let q = role_reserved (table r) (procedure_acts r.acts) role k in
+          let f = role_named (table r) q.by.reserves.items role q.names in
+          record {
+            by = q.by;
+            stands_there = q.has;
+            ask = of_one (choice_named r.acts f.name);
+            asked_for = Has-right (own_asks q.by.unit) (later_asks r.acts q.by.reserves.items q.by.needs.items) (of_one (choice_named r.acts f.name))
+                (Has-left (map (λ name. of_one (choice_named r.acts name)) q.by.reserves.items) (map of_need q.by.needs.items) (of_one (choice_named r.acts f.name))
+                (has_mapped (λ name. of_one (choice_named r.acts name)) q.by.reserves.items f.name f.has));
+            is = ap found_choice f.found ∙ ap own_choice f.takes;
+          }
 
   -- the unit below a node
   abbrev unit_at : UnitChoice → Option Act → UnitChoice

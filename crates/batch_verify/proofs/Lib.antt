@@ -15,7 +15,6 @@ pub mod Offers
 pub mod TreesApart
 pub mod Marking
 pub mod Entering
-pub mod Sizes
 pub mod Levels
 pub mod Verdicts
 pub mod Spots
@@ -25,6 +24,8 @@ pub mod Asking
 pub mod Stands
 pub mod Faults
 pub mod Paths
+pub mod Owners
+pub mod Choices
 pub mod Covering
 pub mod Least
 pub mod Reserving
@@ -32,6 +33,8 @@ pub mod Served
 pub mod Tried
 pub mod Bound
 pub mod Serving
+pub mod Extremes
+pub mod Trials
 pub mod Taking
 pub mod RunningAt
 pub mod RunningBranches

@@ -111,12 +111,12 @@ found_role (first ∷ roles) name h = go (same_name first.name name) refl (found
         let f = later (ap (λ b. b || is_among (role_names roles) name) (sym apart) ∙ h) in
         record { role = f.role; has = inr f.has; found = ap (λ b. cond b (Some first) (role_named roles name)) e ∙ f.found; named = f.named }
 
-has_name : (roles : List Role) (role : Role) (name : Name) → Has roles role → same_name name role.name ≡ true → is_among (role_names roles) name ≡ true
+pub has_name : (roles : List Role) (role : Role) (name : Name) → Has roles role → same_name name role.name ≡ true → is_among (role_names roles) name ≡ true
 has_name (first ∷ roles) role name (inl e) same = or_left (same_name name first.name) (is_among (role_names roles) name) (ap (λ (r : Role). same_name name r.name) e ∙ same)
 has_name (first ∷ roles) role name (inr m) same = or_right (same_name name first.name) (is_among (role_names roles) name) (has_name roles role name m same)
 has_name [] role name m same = absurd m
 
-own_role : (roles : List Role) → are_distinct (role_names roles) ≡ true → (role : Role) → Has roles role → role_named roles role.name ≡ Some role
+pub own_role : (roles : List Role) → are_distinct (role_names roles) ≡ true → (role : Role) → Has roles role → role_named roles role.name ≡ Some role
 own_role [] h role m = absurd m
 own_role (first ∷ roles) h role (inl e) = ap (λ b. cond b (Some first) (role_named roles role.name)) ((bytes_decides first.name role.name).1 (ap (λ (r : Role). r.name) e)) ∙ ap Some e
 own_role (first ∷ roles) h role (inr m) =
@@ -157,7 +157,7 @@ module _ (c : equipment.Cell) where
     abbrev model_role : Role → ModelRole
     model_role role = record { name = role.name; candidates = units_of_class c role.class }
 
-    differ : are_distinct (role_names roles) ≡ true
+    pub differ : are_distinct (role_names roles) ≡ true
     differ = (and_parts (are_distinct (role_names roles)) (list_all (is_role_among (role_names roles)) recipe.acts.unit_procedures.items) own).0
 
     pub numbered-tried : (number : ℕ) → IsTried setup (master_of c recipe) (numbered c roles number)

@@ -25,6 +25,7 @@ mod rising;
 mod rule;
 mod running_nodes;
 mod site;
+mod trial;
 mod walk;
 
 pub use bindings::{binding_count, unit_taking};

@@ -9,8 +9,8 @@ ghost use Rattle.batch_verify.specs.Walking.{bound_on, is_of_resource, is_within
 ghost use Rattle.batch_verify.specs.Asking.{asks_of};
 
 use crate::asks::Asks;
-use crate::bindings::unit_taking;
 use crate::site::Site;
+use crate::trial::unit_in;
 use batch_recipe::{Act, Acts, UnitChoice, act_named};
 use batch_text::Name;
 
@@ -35,7 +35,7 @@ fn resource_chosen(site: &Site, choice: &UnitChoice) -> Option<u16>
     match choice {
         UnitChoice::Unit(name) => site.cell.resource_of(name),
         UnitChoice::Role(role) => {
-            let name = unit_taking(site.cell, site.roles, site.binding, role)?;
+            let name = unit_in(site.cell, site.roles, site.trial, role)?;
             site.cell.resource_of(name)
         }
     }

@@ -21,7 +21,7 @@ pub returns-in-Some-clause-act : goal.returns-in-Some-clause-act
 returns-in-Some-clause-act c = λ a is level.
     let site = c.args.site.now in
     let same = some_is c.in-Some.act.now a (sym (ap option_copied c.in-Some.is) ∙ (c.act.ensures ∙ is)) in
-    subst (λ (x : Act). IsEntered site.cell.now (sites_on site) (ranks_on site) level c.args.path x c.enter.result) same (c.enter.ensures.rules level)
+    subst (λ (x : Act). IsEntered site.cell.now (sites_on site) (ranks_on site) c.args.fault level c.args.path x c.enter.result) same (c.enter.ensures.rules level)
 
 pub returns-in-Some-clause-offered : goal.returns-in-Some-clause-offered
 returns-in-Some-clause-offered c =
