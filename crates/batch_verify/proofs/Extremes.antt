@@ -12,10 +12,11 @@ use Rattle.batch_recipe.specs.declared.role.Role.{Role}
 use Rattle.batch_model.specs.Lists.{Each, Has}
 use Rattle.batch_model.specs.Cleared.{Ranking}
 use Rattle.batch_model.proofs.Members.{Each-append, Each-map}
-use Rattle.batch_verify.specs.Trials.{AreExtremes, IsExtremeOf, extremes_named, role_names}
+use Rattle.batch_verify.specs.Trials.{AreExtremes, IsExtreme, IsExtremeOf, IsWithUnit, extremes_named, role_names}
 use Rattle.batch_verify.specs.declared.trial.Extremes.{Extremes}
 use Rattle.batch_verify.proofs.Choices.{has_at}
-use Rattle.batch_verify.proofs.Tried.{has_name}
+use Rattle.batch_verify.proofs.NameLemmas.{among_at}
+use Rattle.batch_verify.proofs.Tried.{has_name, stands_at}
 
 -- What is found
 
@@ -126,3 +127,82 @@ module _ (c : equipment.Cell) (rank : Ranking) (roles : List Role) where
   all_extremes xs i h all role m =
       let at = index_of roles role m in
       h.known at.0 role (omega (arith, all, slice_get_within roles at.0 role at.1)) at.1
+
+-- The candidates of one role, one by one
+
+module _ (rank : Ranking) (candidates : List Name) where
+  -- so far: the extremes of the first candidates
+  pub record IsSoFar (e : Extremes) (n : ℕ) : Type 0 where
+    pub least : IsTrue (is_among candidates e.least.now)
+    pub greatest : IsTrue (is_among candidates e.greatest.now)
+    pub lowest : (k : ℕ) (unit : Name) → k < n → slice_get candidates k ≡ Some unit → rank e.least.now ≤ rank unit
+    pub highest : (k : ℕ) (unit : Name) → k < n → slice_get candidates k ≡ Some unit → rank unit ≤ rank e.greatest.now
+
+  unit_same : (one other : Name) → Some one ≡ Some other → one ≡ other
+  unit_same one other e = cc
+
+  stands : (k : ℕ) (unit : Name) → slice_get candidates k ≡ Some unit → (name : Name) → name ≡ unit → IsTrue (is_among candidates name)
+  stands k unit at name same = among_at candidates k unit name at ((bytes_decides name unit).1 same)
+
+  pub so_far_first : (first : Name) → slice_get candidates 0 ≡ Some first → (e : Extremes) → e.least.now ≡ first → e.greatest.now ≡ first → IsSoFar e 1
+  so_far_first first at e least greatest = record {
+    least = stands 0 first at e.least.now least;
+    greatest = stands 0 first at e.greatest.now greatest;
+    lowest = λ k unit lt unit_at. only k unit unit_at (omega (arith, lt)) (λ n. rank e.least.now ≤ rank n) (subst (λ (n : Name). rank n ≤ rank first) (sym least) (omega arith));
+    highest = λ k unit lt unit_at. only k unit unit_at (omega (arith, lt)) (λ n. rank n ≤ rank e.greatest.now) (subst (λ (n : Name). rank first ≤ rank n) (sym greatest) (omega arith));
+  }
+    where
+      only : (k : ℕ) (unit : Name) → slice_get candidates k ≡ Some unit → k ≡ 0 → (P : Name → Type 0) → P first → P unit
+      only k unit unit_at here P h = subst P (unit_same first unit (sym at ∙ (ap (slice_get candidates) (sym here) ∙ unit_at))) h
+
+  module _ (n : ℕ) (before : Extremes) (h : IsSoFar before n) where
+    pub so_far_past : slice_get candidates n ≡ None → IsSoFar before (n + 1)
+    so_far_past none = record {
+      least = h.least;
+      greatest = h.greatest;
+      lowest = λ k unit lt at. h.lowest k unit (within k unit lt at (cases_lt k n)) at;
+      highest = λ k unit lt at. h.highest k unit (within k unit lt at (cases_lt k n)) at;
+    }
+      where
+        within : (k : ℕ) (unit : Name) → k < n + 1 → slice_get candidates k ≡ Some unit → (k < n) ⊎ (n ≤ k) → k < n
+        within k unit lt at (inl less) = less
+        within k unit lt at (inr le) =
+            let here : k ≡ n = omega (arith, le, lt) in
+            let bad : None ≡ Some unit = sym none ∙ (ap (slice_get candidates) (sym here) ∙ at) in
+            absurd cc
+
+    pub so_far_next : (unit : Name) → slice_get candidates n ≡ Some unit → (after : Extremes) → IsWithUnit rank before unit after → IsSoFar after (n + 1)
+    so_far_next unit at after w = record {
+      least = least_in w.least;
+      greatest = greatest_in w.greatest;
+      lowest = λ k other lt other_at. lowest_in k other other_at (cases_lt k n) lt;
+      highest = λ k other lt other_at. highest_in k other other_at (cases_lt k n) lt;
+    }
+      where
+        least_in : (after.least.now ≡ unit) ⊎ (after.least.now ≡ before.least.now) → IsTrue (is_among candidates after.least.now)
+        least_in (inl new) = stands n unit at after.least.now new
+        least_in (inr old) = subst (λ name. IsTrue (is_among candidates name)) (sym old) h.least
+
+        greatest_in : (after.greatest.now ≡ unit) ⊎ (after.greatest.now ≡ before.greatest.now) → IsTrue (is_among candidates after.greatest.now)
+        greatest_in (inl new) = stands n unit at after.greatest.now new
+        greatest_in (inr old) = subst (λ name. IsTrue (is_among candidates name)) (sym old) h.greatest
+
+        lowest_in : (k : ℕ) (other : Name) → slice_get candidates k ≡ Some other → (k < n) ⊎ (n ≤ k) → k < n + 1 → rank after.least.now ≤ rank other
+        lowest_in k other other_at (inl less) lt = omega (arith, w.below.1, h.lowest k other less other_at)
+        lowest_in k other other_at (inr le) lt =
+            let here : k ≡ n = omega (arith, le, lt) in
+            subst (λ (name : Name). rank after.least.now ≤ rank name) (unit_same unit other (sym at ∙ (ap (slice_get candidates) (sym here) ∙ other_at))) w.below.0
+
+        highest_in : (k : ℕ) (other : Name) → slice_get candidates k ≡ Some other → (k < n) ⊎ (n ≤ k) → k < n + 1 → rank other ≤ rank after.greatest.now
+        highest_in k other other_at (inl less) lt = omega (arith, w.above.1, h.highest k other less other_at)
+        highest_in k other other_at (inr le) lt =
+            let here : k ≡ n = omega (arith, le, lt) in
+            subst (λ (name : Name). rank name ≤ rank after.greatest.now) (unit_same unit other (sym at ∙ (ap (slice_get candidates) (sym here) ∙ other_at))) w.above.0
+
+  pub so_far_all : (e : Extremes) (n : ℕ) → IsSoFar e n → length candidates ≤ n → IsExtreme rank candidates e
+  so_far_all e n h all = record {
+    least = h.least;
+    greatest = h.greatest;
+    lowest = λ unit among. let at = stands_at candidates unit among in h.lowest at.place unit (omega (arith, all, slice_get_within candidates at.place unit at.found)) at.found;
+    highest = λ unit among. let at = stands_at candidates unit among in h.highest at.place unit (omega (arith, all, slice_get_within candidates at.place unit at.found)) at.found;
+  }

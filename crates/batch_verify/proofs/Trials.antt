@@ -16,10 +16,10 @@ use Rattle.batch_model.specs.Cleared.{Ranking}
 use Rattle.batch_model.specs.Recipes.{recipe_of}
 use Rattle.batch_model.specs.Setups.{master_of, setup_of}
 use Rattle.batch_verify.specs.Bindings.{binding_count, nobody, numbered}
-use Rattle.batch_verify.specs.Covering.{AreEnough, IsHighest, IsLowest}
+use Rattle.batch_verify.specs.Covering.{AreBeside, AreEnough, IsHighest, IsLowest}
 use Rattle.batch_verify.specs.Charts.{AreFaults}
 use Rattle.batch_verify.specs.Comparing.{earlier_of}
-use Rattle.batch_verify.specs.Refusals.{IsTried, IsTriedFor, IsVerdict, IsVerdictOn}
+use Rattle.batch_verify.specs.Refusals.{rank_in, ranking_in, IsTried, IsTriedFor, IsVerdict, IsVerdictOn}
 use Rattle.batch_verify.specs.declared.rule.Broken.{Broken}
 use Rattle.batch_verify.specs.declared.rule.Rule.{Rule}
 use Rattle.batch_verify.specs.Trials.{AreExtremes, AreExtremesBy, IsExtremeOf, extremes_named, raised, raised_unit, roles_raised}
@@ -83,10 +83,10 @@ module _ (c : equipment.Cell) (recipes : List Recipe) (recipe : Recipe) where
         go rest (λ other m. h other (inr m)),
       )
 
-  pub tried_in_turn : (ranking : Option Ranking) (extremes : List Extremes) → AreExtremesBy c ranking roles extremes
-      → (k : ℕ) (role : Role) → slice_get (roles_raised ranking roles) k ≡ Some role → IsTried setup (master_of c recipe) (raised c role.name extremes)
+  pub tried_in_turn : (ranks : Option (List ℕ)) (extremes : List Extremes) → AreExtremesBy c (ranking_in c ranks) roles extremes
+      → (k : ℕ) (role : Role) → slice_get (roles_raised ranks roles) k ≡ Some role → IsTried setup (master_of c recipe) (raised c role.name extremes)
   tried_in_turn None extremes known k role at = absurd cc
-  tried_in_turn (Some rank) extremes known k role at = raised-tried rank extremes known role.name
+  tried_in_turn (Some ranks) extremes known k role at = raised-tried (rank_in c ranks) extremes known role.name
 
   -- the bindings by number that were looked at
   abbrev pub ByNumber : ℕ → Binding → Type 0
@@ -99,34 +99,38 @@ module _ (c : equipment.Cell) (recipes : List Recipe) (recipe : Recipe) where
   abbrev pub Both : List Role → List Extremes → ℕ → Binding → Type 0
   Both raise extremes n b = ByNumber (binding_count c roles) b ⊎ ByRole raise extremes n b
 
-  two_roles : (rank : Ranking) (rs : List Role) (high low : Role) → Has rs high → Has rs low → high.name ≢ low.name → roles_raised (Some rank) rs ≡ rs
-  two_roles rank [] high low m n apart = absurd m
-  two_roles rank (r ∷ []) high low (inl e) (inl f) apart = absurd (apart (ap (λ (q : Role). q.name) (sym e ∙ f)))
-  two_roles rank (r ∷ []) high low (inl e) (inr n) apart = absurd n
-  two_roles rank (r ∷ []) high low (inr m) n apart = absurd m
-  two_roles rank (r ∷ s ∷ rs) high low m n apart = refl
+  two_roles : (ranks : List ℕ) (rs : List Role) (high low : Role) → Has rs high → Has rs low → high.name ≢ low.name → roles_raised (Some ranks) rs ≡ rs
+  two_roles ranks [] high low m n apart = absurd m
+  two_roles ranks (r ∷ []) high low (inl e) (inl f) apart = absurd (apart (ap (λ (q : Role). q.name) (sym e ∙ f)))
+  two_roles ranks (r ∷ []) high low (inl e) (inr n) apart = absurd n
+  two_roles ranks (r ∷ []) high low (inr m) n apart = absurd m
+  two_roles ranks (r ∷ s ∷ rs) high low m n apart = refl
 
-  pub enough : (ranking : Option Ranking) (extremes : List Extremes) (n : ℕ) → AreExtremesBy c ranking roles extremes → length (roles_raised ranking roles) ≤ n
-      → AreEnough setup ranking c roles (Both (roles_raised ranking roles) extremes n)
-  enough ranking extremes n known all = record {
-    by_number = λ number lt. inl (number, lt, refl);
-    beside = λ rank ranked high low m l apart.
-        let own = subst (λ o. AreExtremesBy c o roles extremes) ranked known in
-        let at = index_of c rank roles roles high m in
-        let all_raised : roles_raised ranking roles ≡ roles = ap (λ o. roles_raised o roles) ranked ∙ two_roles rank roles high low m l apart in
-        let at_raised : slice_get (roles_raised ranking roles) at.0 ≡ Some high = ap (λ rs. slice_get rs at.0) all_raised ∙ at.1 in
-        let other : same_name low.name high.name ≡ false = false_from_ne_true (same_name low.name high.name) (λ same. apart (sym ((bytes_decides low.name high.name).0 same))) in
-        record {
-          bound = raised c high.name extremes;
-          looked = inr (at.0, omega (arith, all, slice_get_within (roles_raised ranking roles) at.0 high at_raised), high, at_raised, refl);
-          highest = highest_for setup rank high.name high.name ((bytes_decides high.name high.name).1 refl) (units_of_class c high.class) (extremes_named extremes high.name) (own high m);
-          lowest = lowest_for setup rank high.name low.name other (units_of_class c low.class) (extremes_named extremes low.name) (own low l);
-        };
-  }
+  pub enough : (ranks : Option (List ℕ)) (extremes : List Extremes) (n : ℕ) → AreExtremesBy c (ranking_in c ranks) roles extremes → length (roles_raised ranks roles) ≤ n
+      → AreEnough setup (ranking_in c ranks) c roles (Both (roles_raised ranks roles) extremes n)
+  enough None extremes n known all = record { by_number = λ number lt. inl (number, lt, refl); beside = λ rank ranked high low m l apart. absurd cc }
+  enough (Some ranks) extremes n known all = record { by_number = λ number lt. inl (number, lt, refl); beside = beside }
+    where
+      beside : (rank : Ranking) → ranking_in c (Some ranks) ≡ Some rank → (high low : Role) → Has roles high → Has roles low → high.name ≢ low.name
+          → AreBeside setup rank c (Both (roles_raised (Some ranks) roles) extremes n) high low
+      beside rank ranked high low m l apart =
+          let own = subst (λ o. AreExtremesBy c o roles extremes) ranked known in
+          let at = index_of c rank roles roles high m in
+          let at_raised : slice_get (roles_raised (Some ranks) roles) at.0 ≡ Some high = ap (λ rs. slice_get rs at.0) (two_roles ranks roles high low m l apart) ∙ at.1 in
+          let other : same_name low.name high.name ≡ false = false_from_ne_true (same_name low.name high.name) (λ same. apart (sym ((bytes_decides low.name high.name).0 same))) in
+          record {
+            bound = raised c high.name extremes;
+            looked = inr (at.0, omega (arith, all, slice_get_within (roles_raised (Some ranks) roles) at.0 high at_raised), high, at_raised, refl);
+            highest = highest_for setup rank high.name high.name ((bytes_decides high.name high.name).1 refl) (units_of_class c high.class) (extremes_named extremes high.name) (own high m);
+            lowest = lowest_for setup rank high.name low.name other (units_of_class c low.class) (extremes_named extremes low.name) (own low l);
+          }
 
   -- One binding more
 
-  module _ (own : are_roles recipe.roles.items recipe.acts ≡ true) (ranking : Option Ranking) where
+  module _ (own : are_roles recipe.roles.items recipe.acts ≡ true) (ranks : Option (List ℕ)) where
+    abbrev ranking : Option Ranking
+    ranking = ranking_in c ranks
+
     pub number_none : IsLeast setup ranking (master_of c recipe) (ByNumber 0) None
     number_none b l = absurd (omega (arith, l.1))
 
@@ -142,7 +146,7 @@ module _ (c : equipment.Cell) (recipes : List Recipe) (recipe : Recipe) where
 
     module _ (extremes : List Extremes) (known : AreExtremesBy c ranking roles extremes) where
       abbrev raise : List Role
-      raise = roles_raised ranking roles
+      raise = roles_raised ranks roles
 
       pub role_none : (found : Option Broken) → IsLeast setup ranking (master_of c recipe) (ByNumber (binding_count c roles)) found → IsLeast setup ranking (master_of c recipe) (Both raise extremes 0) found
       role_none found h = least_fewer setup ranking (master_of c recipe) (ByNumber (binding_count c roles)) (Both raise extremes 0) go found h
@@ -155,7 +159,7 @@ module _ (c : equipment.Cell) (recipes : List Recipe) (recipe : Recipe) where
           → IsVerdict setup ranking (recipe_of recipe (raised c role.name extremes)) verdict → IsLeast setup ranking (master_of c recipe) (Both raise extremes (n + 1)) (earlier_of found verdict)
       role_next n role at found verdict h v =
           least_fewer setup ranking (master_of c recipe) (WithOne setup ranking (master_of c recipe) (Both raise extremes n) (raised c role.name extremes)) (Both raise extremes (n + 1)) go (earlier_of found verdict)
-          (least_next setup ranking (master_of c recipe) (Both raise extremes n) (raised c role.name extremes) (tried_in_turn ranking extremes known n role at) found verdict h v)
+          (least_next setup ranking (master_of c recipe) (Both raise extremes n) (raised c role.name extremes) (tried_in_turn ranks extremes known n role at) found verdict h v)
         where
           role_same : (r s : Role) → Some r ≡ Some s → r ≡ s
           role_same r s e = cc
@@ -176,4 +180,4 @@ module _ (c : equipment.Cell) (recipes : List Recipe) (recipe : Recipe) where
       pub last_verdict : (faults : List (Option Rule)) → AreFaults recipe.acts faults → (n : ℕ) → length raise ≤ n → (found : Option Broken)
           → IsLeast setup ranking (master_of c recipe) (Both raise extremes n) found → IsVerdictOn setup ranking (master_of c recipe) found
       last_verdict faults broken n all found h =
-          least_verdict c recipes recipe own ranking (Both raise extremes n) (enough ranking extremes n known all) faults broken found h
+          least_verdict c recipes recipe own ranking (Both raise extremes n) (enough ranks extremes n known all) faults broken found h

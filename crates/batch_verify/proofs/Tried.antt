@@ -66,7 +66,7 @@ pub record StandsAt (names : List Name) (name : Name) : Type 0 where
   pub place : ℕ
   pub found : slice_get names place ≡ Some name
 
-stands_at : (names : List Name) (name : Name) → is_among names name ≡ true → StandsAt names name
+pub stands_at : (names : List Name) (name : Name) → is_among names name ≡ true → StandsAt names name
 stands_at [] name h = let bad : false ≡ true = h in absurd cc
 stands_at (first ∷ names) name h =
     elim (or_cases (same_name name first) (is_among names name) h) [

@@ -53,11 +53,11 @@ abbrev pub role_names : List Role → List Name
 role_names roles = map (λ role. role.name) roles
 
 -- the roles that are raised one after another, where there are ranks: two roles at least
-abbrev pub roles_raised : Option Ranking → List Role → List Role
+abbrev pub roles_raised : Option (List ℕ) → List Role → List Role
 roles_raised None roles = []
-roles_raised (Some rank) [] = []
-roles_raised (Some rank) (role ∷ []) = []
-roles_raised (Some rank) (role ∷ other ∷ more) = role ∷ other ∷ more
+roles_raised (Some ranks) [] = []
+roles_raised (Some ranks) (role ∷ []) = []
+roles_raised (Some ranks) (role ∷ other ∷ more) = role ∷ other ∷ more
 
 -- the extremes after one more candidate
 pub record IsWithUnit (rank : Ranking) (before : Extremes) (unit : Name) (after : Extremes) : Type 0 where

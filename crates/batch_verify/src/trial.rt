@@ -39,8 +39,8 @@ pub(crate) fn unit_in<'a>(
     role: &Name,
 ) -> Option<&'a Name>
     ensures { MatchOption result
-        (bound_by cell.now roles.now trial role.now ≡ nobody (resources_of cell.now))
-        (λ unit. unit.now ≡ bound_by cell.now roles.now trial role.now) }
+        (bound_by cell.now roles.now trial.entry role.now ≡ nobody (resources_of cell.now))
+        (λ unit. unit.now ≡ bound_by cell.now roles.now trial.entry role.now) }
 {
     match trial {
         Trial::Numbered(number) => unit_taking(cell, roles, number, role),
@@ -59,8 +59,8 @@ fn extremes_named<'a>(extremes: &'a [Extremes<'a>], name: &Name) -> Option<&'a E
 }
 
 /// The roles that are raised one after another. Without ranks there are none, nor where there is one role alone.
-pub(crate) fn roles_raised<'a>(ranks: Option<&[u32]>, cell: &Cell, roles: &'a [Role]) -> &'a [Role]
-    ensures { result.now ≡ roles_raised (ranking_in cell.now (option_copied ranks)) roles.now }
+pub(crate) fn roles_raised<'a>(ranks: Option<&[u32]>, roles: &'a [Role]) -> &'a [Role]
+    ensures { result.now ≡ roles_raised (option_copied ranks.entry) roles.now }
 {
     match (ranks, roles) {
         (Some(_), [_, _, ..]) => roles,
@@ -76,10 +76,10 @@ pub(crate) fn extremes_of<'a>(
     roles: &'a [Role],
 ) -> Result<Vec<Extremes<'a>>, AllocError>
     requires { IsTrue (are_distinct (role_names roles.now)) }
-    ensures { IfOk result (λ extremes. AreExtremesBy cell.now (ranking_in cell.now (option_copied ranks)) roles.now extremes.items) }
+    ensures { IfOk result (λ extremes. AreExtremesBy cell.now (ranking_in cell.now (option_copied ranks.entry)) roles.now extremes.items) }
 {
     match ranks {
-        None => Ok(vec![in alloc]?),
+        None => Ok(Vec::new(alloc)),
         Some(ranks) => ranked_extremes(alloc, cell, ranks, roles),
     }
 }
@@ -124,7 +124,7 @@ fn extremes_in<'a>(cell: &'a Cell, ranks: &[u32], role: &'a Role) -> Option<Extr
 
 /// The least and the greatest where this one is a candidate too.
 fn with_unit<'a>(cell: &Cell, ranks: &[u32], own: Extremes<'a>, unit: &'a Name) -> Extremes<'a>
-    ensures { IsWithUnit (rank_in cell.now ranks.now) own unit.now result }
+    ensures { IsWithUnit (rank_in cell.now ranks.now) own.entry unit.now result }
 {
     let rank = rank_of(cell, ranks, unit);
     Extremes {

@@ -16,4 +16,4 @@ abbrev pub invariant-loop-role : goal.invariant-loop-role
 invariant-loop-role l =
     (recipes : List document.Recipe)
     → IsLeast (setup_of l.cell recipes) (ranking_in l.cell (option_copied l.ranks)) (master_of l.cell l.recipe)
-    (Both l.cell recipes l.recipe (roles_raised (ranking_in l.cell (option_copied l.ranks)) l.recipe.roles.items) l.extremes.items l.role-index) l.found
+    (Both l.cell recipes l.recipe (roles_raised (option_copied l.ranks) l.recipe.roles.items) l.extremes.items l.role-index) l.found
