@@ -26,7 +26,7 @@ use Rattle.batch_recipe.specs.declared.role.Role.{Role}
 use Rattle.batch_recipe.proofs.Linking.{as_many_entries}
 use Rattle.batch_model.specs.Lists.{Each}
 use Rattle.batch_model.specs.Plant.{Setup}
-use Rattle.batch_model.specs.Cleared.{Ranking, Level, is_procedure, in_procedure, in_unit_procedure, in_operation, Part, BeginsWithUnit, HasUnit, IsApart, IsOffered, RiseStrictly, TurnsRun}
+use Rattle.batch_model.specs.Cleared.{Ranking, Level, is_procedure, in_procedure, in_unit_procedure, in_operation, Part, BeginsWithUnit, HasUnit, IsApart, IsOffered, ReservesFollow, RiseStrictly, TurnsRun}
 use Rattle.batch_model.specs.Setups.{master_of, setup_of}
 use Rattle.batch_model.proofs.Parts.{parts-nodes}
 use Rattle.batch_verify.specs.Bindings.{binding_count, numbered}
@@ -35,7 +35,8 @@ use Rattle.batch_verify.specs.Refusals.{IsTried, RisesBy}
 use Rattle.batch_verify.specs.Ways.{bound_parts}
 use Rattle.batch_verify.specs.declared.rule.Rule.{Rule}
 use Rattle.batch_verify.specs.declared.rule.Rule.TheVariants.{UnknownResource, ShareAboveCapacity, PhaseNotOffered, SamePhaseInParallel, LoopWithoutPhase, ReserveDoesNotFollow, RankNotRising}
-use Rattle.batch_verify.proofs.Alike.{AreAlike, IsLike, apart_as, part_alike, turns_as}
+use Rattle.batch_verify.proofs.Alike.{AreAlike, IsLike, apart_as, part_alike, tree_alike, turns_as}
+use Rattle.batch_verify.proofs.Alongside.{follow_alike}
 use Rattle.batch_verify.proofs.Choices.{Ask, AreNamed, HasChoices, IsNamed, asked, asks_at, choices, names_by, needs_here, own_asks_are_named}
 use Rattle.batch_verify.proofs.Spots.{outlines}
 use Rattle.batch_verify.proofs.Stands.{Stands, stands}
@@ -57,7 +58,7 @@ each_first P x xs h = h.0
 each_rest : {X : Type 0} (P : X → Type 0) (x : X) (xs : List X) → Each P (x ∷ xs) → Each P xs
 each_rest P x xs h = h.1
 
-abbrev pub no_entry : Entry
+abbrev no_entry : Entry
 no_entry = record { kind = kind.Skip; end = 0; parent = 0; child = 0; needs = 0; detail = 0 }
 
 -- The unit of a unit procedure
@@ -120,7 +121,7 @@ module _ (c : equipment.Cell) (recipes : List Recipe) (recipe : Recipe) (own : a
   covered (by_name unit) named = (0, some-binding c recipe.roles.items, refl)
   covered (by_role role) named = let both = named role refl in role-covered c recipes recipe own bound tried role both.0 both.1
 
-  pub first_looked : Looked (by_number 0)
+  first_looked : Looked (by_number 0)
   first_looked = enough.by_number 0 (some-binding c recipe.roles.items)
 
   -- what holds of all that is asked for in each of the bindings does so here
@@ -265,21 +266,26 @@ module _ (c : equipment.Cell) (recipes : List Recipe) (recipe : Recipe) (own : a
     every : (rule : Rule) → IsMetInEach setup ranking recipe Looked k rule → (b : Binding) → Looked b → Meets setup ranking (bound_tree b recipe.acts) rule (x b)
     every rule h b l = h b l (x b) (at b).x_is
 
-    -- each rule but that on what is reserved
-    met_asked : (rule : Rule) → rule ≢ ReserveDoesNotFollow → IsMetInEach setup ranking recipe Looked k rule → Meets setup ranking (bound_tree bound recipe.acts) rule (x bound)
-    met_asked UnknownResource other h = (
+    follow_covered : ((b : Binding) → Looked b → ReservesFollow (bound_tree b recipe.acts) (x b).node) → ReservesFollow (bound_tree bound recipe.acts) (x bound).node
+    follow_covered h =
+        let b = by_number 0 in
+        let same = like b bound in
+        follow_alike (bound_tree b recipe.acts) (bound_tree bound recipe.acts) (x b).node (x bound).node (tree_alike b bound recipe.acts) same.1 same.2 (h b first_looked)
+
+    met : (rule : Rule) → IsMetInEach setup ranking recipe Looked k rule → Meets setup ranking (bound_tree bound recipe.acts) rule (x bound)
+    met UnknownResource h = (
       needs_covered (λ need. IsTrue (is_among (resources_of c) need.resource)) (λ b l. (every UnknownResource h b l).0),
       unit_covered (units_of c) (λ b l. (every UnknownResource h b l).1),
     )
-    met_asked ShareAboveCapacity other h = needs_covered (λ need. need.units ≤ setup.capacity need.resource) (λ b l. every ShareAboveCapacity h b l)
-    met_asked PhaseNotOffered other h = offered_covered (λ b l. every PhaseNotOffered h b l)
-    met_asked SamePhaseInParallel other h = apart_covered (λ b l. every SamePhaseInParallel h b l)
-    met_asked LoopWithoutPhase other h = turns_covered (λ b l. every LoopWithoutPhase h b l)
-    met_asked ReserveDoesNotFollow other h = absurd (other refl)
-    met_asked RankNotRising other h = rise_covered (λ b l. every RankNotRising h b l)
+    met ShareAboveCapacity h = needs_covered (λ need. need.units ≤ setup.capacity need.resource) (λ b l. every ShareAboveCapacity h b l)
+    met PhaseNotOffered h = offered_covered (λ b l. every PhaseNotOffered h b l)
+    met SamePhaseInParallel h = apart_covered (λ b l. every SamePhaseInParallel h b l)
+    met LoopWithoutPhase h = turns_covered (λ b l. every LoopWithoutPhase h b l)
+    met ReserveDoesNotFollow h = follow_covered (λ b l. every ReserveDoesNotFollow h b l)
+    met RankNotRising h = rise_covered (λ b l. every RankNotRising h b l)
 
   -- a node that is one has an entry
-  pub entry_of : (node : ℕ) (one : Part) → slice_get (bound_parts_of recipe bound) node ≡ Some one → slice_get recipe.outline.entries.items node ≡ Some (get_or recipe.outline.entries.items node no_entry)
+  entry_of : (node : ℕ) (one : Part) → slice_get (bound_parts_of recipe bound) node ≡ Some one → slice_get recipe.outline.entries.items node ≡ Some (get_or recipe.outline.entries.items node no_entry)
   entry_of node one found =
       let parts = bound_parts bound recipe.acts in
       let nodes = ap length (parts-nodes is_procedure (0 ∷ []) [] (bound_tree bound recipe.acts)) in
@@ -287,25 +293,9 @@ module _ (c : equipment.Cell) (recipes : List Recipe) (recipe : Recipe) (own : a
       slice_get-get_or recipe.outline.entries.items node no_entry
       (omega (arith, within, as_many_entries recipe.acts recipe.outline.entries.items (outlines recipe bound) bound, nodes, length-map parts (λ (y : Part). y.node)))
 
-  pub suffices : (node : ℕ) (one : Part) → slice_get (bound_parts_of recipe bound) node ≡ Some one → (rule : Rule) → rule ≢ ReserveDoesNotFollow
+  pub suffices : (node : ℕ) (one : Part) → slice_get (bound_parts_of recipe bound) node ≡ Some one → (rule : Rule)
       → IsMetInEach setup ranking recipe Looked node rule → Meets setup ranking (bound_tree bound recipe.acts) rule one
-  suffices node one found rule other h =
+  suffices node one found rule h =
       let e = get_or recipe.outline.entries.items node no_entry in
       let is = entry_of node one found in
-      subst (λ (y : Part). Meets setup ranking (bound_tree bound recipe.acts) rule y) (part_same (x node e is bound) one (sym (at node e is bound).x_is ∙ found)) (met_asked node e is rule other h)
-
-  -- that on what is reserved is met alike in all bindings
-  abbrev pub FollowAlike : Type 0
-  FollowAlike =
-      (node : ℕ) → IsMetInEach setup ranking recipe Looked node ReserveDoesNotFollow → (one : Part) → slice_get (bound_parts_of recipe bound) node ≡ Some one
-      → Meets setup ranking (bound_tree bound recipe.acts) ReserveDoesNotFollow one
-
-  pub all_suffice : FollowAlike → (node : ℕ) (one : Part) → slice_get (bound_parts_of recipe bound) node ≡ Some one → (rule : Rule)
-      → IsMetInEach setup ranking recipe Looked node rule → Meets setup ranking (bound_tree bound recipe.acts) rule one
-  all_suffice alike node one found UnknownResource h = suffices node one found UnknownResource (λ e. absurd cc) h
-  all_suffice alike node one found ShareAboveCapacity h = suffices node one found ShareAboveCapacity (λ e. absurd cc) h
-  all_suffice alike node one found PhaseNotOffered h = suffices node one found PhaseNotOffered (λ e. absurd cc) h
-  all_suffice alike node one found SamePhaseInParallel h = suffices node one found SamePhaseInParallel (λ e. absurd cc) h
-  all_suffice alike node one found LoopWithoutPhase h = suffices node one found LoopWithoutPhase (λ e. absurd cc) h
-  all_suffice alike node one found ReserveDoesNotFollow h = alike node h one found
-  all_suffice alike node one found RankNotRising h = suffices node one found RankNotRising (λ e. absurd cc) h
+      subst (λ (y : Part). Meets setup ranking (bound_tree bound recipe.acts) rule y) (part_same (x node e is bound) one (sym (at node e is bound).x_is ∙ found)) (met node e is rule h)

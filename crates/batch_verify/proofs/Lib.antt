@@ -20,6 +20,7 @@ pub mod Verdicts
 pub mod Spots
 pub mod WayActs
 pub mod Alike
+pub mod Alongside
 pub mod Asking
 pub mod Stands
 pub mod Faults

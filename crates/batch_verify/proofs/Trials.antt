@@ -17,11 +17,9 @@ use Rattle.batch_model.specs.Recipes.{recipe_of}
 use Rattle.batch_model.specs.Setups.{master_of, setup_of}
 use Rattle.batch_verify.specs.Bindings.{binding_count, nobody, numbered}
 use Rattle.batch_verify.specs.Covering.{AreBeside, AreEnough, IsHighest, IsLowest}
-use Rattle.batch_verify.specs.Charts.{AreFaults}
 use Rattle.batch_verify.specs.Comparing.{earlier_of}
 use Rattle.batch_verify.specs.Refusals.{rank_in, ranking_in, IsTried, IsTriedFor, IsVerdict, IsVerdictOn}
 use Rattle.batch_verify.specs.declared.rule.Broken.{Broken}
-use Rattle.batch_verify.specs.declared.rule.Rule.{Rule}
 use Rattle.batch_verify.specs.Trials.{AreExtremes, AreExtremesBy, IsExtremeOf, extremes_named, raised, raised_unit, roles_raised}
 use Rattle.batch_verify.specs.declared.trial.Extremes.{Extremes}
 use Rattle.batch_verify.proofs.Bound.{least_verdict}
@@ -177,7 +175,6 @@ module _ (c : equipment.Cell) (recipes : List Recipe) (recipe : Recipe) where
           go b (inr l) = later b l.0 l.2 l.1 l.3 l.4 (cases_lt l.0 n)
 
       -- the least of all is the verdict on the recipe
-      pub last_verdict : (faults : List (Option Rule)) → AreFaults recipe.acts faults → (n : ℕ) → length raise ≤ n → (found : Option Broken)
+      pub last_verdict : (n : ℕ) → length raise ≤ n → (found : Option Broken)
           → IsLeast setup ranking (master_of c recipe) (Both raise extremes n) found → IsVerdictOn setup ranking (master_of c recipe) found
-      last_verdict faults broken n all found h =
-          least_verdict c recipes recipe own ranking (Both raise extremes n) (enough ranks extremes n known all) faults broken found h
+      last_verdict n all found h = least_verdict c recipes recipe own ranking (Both raise extremes n) (enough ranks extremes n known all) found h

@@ -58,11 +58,11 @@ abbrev pub IsMetInEach : Setup → Option Ranking → document.Recipe → (Bindi
 IsMetInEach setup ranking recipe Looked node rule =
     (bound : Binding) → Looked bound → (x : Part) → slice_get (bound_parts_of recipe bound) node ≡ Some x → Meets setup ranking (bound_tree bound recipe.acts) rule x
 
--- whatever units are tried for the roles, each node meets the rules on what it asks for and runs that it meets in bindings that are enough
+-- whatever units are tried for the roles, each node meets the rules that it meets in bindings that are enough
 abbrev pub NumberedBindingsSuffice : Type 0
 NumberedBindingsSuffice =
     (cell : equipment.Cell) (recipes : List document.Recipe) (recipe : document.Recipe) → are_kinds recipe.acts ≡ true → are_roles recipe.roles.items recipe.acts ≡ true
     → (ranking : Option Ranking) (looked : List Binding) → AreEnough (setup_of cell recipes) ranking cell recipe.roles.items (Has looked)
     → (bound : Binding) → IsTried (setup_of cell recipes) (master_of cell recipe) bound
     → (node : ℕ) (one : Part) → slice_get (bound_parts_of recipe bound) node ≡ Some one
-    → (rule : Rule) → rule ≢ ReserveDoesNotFollow → IsMetInEach (setup_of cell recipes) ranking recipe (Has looked) node rule → Meets (setup_of cell recipes) ranking (bound_tree bound recipe.acts) rule one
+    → (rule : Rule) → IsMetInEach (setup_of cell recipes) ranking recipe (Has looked) node rule → Meets (setup_of cell recipes) ranking (bound_tree bound recipe.acts) rule one
