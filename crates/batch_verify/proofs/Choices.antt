@@ -24,7 +24,7 @@ use Rattle.batch_model.specs.Cleared.{Part}
 use Rattle.batch_model.specs.Setups.{labels_of, name_role, reserve_role}
 use Rattle.batch_model.proofs.Members.{Each-append, Has-left, Has-right}
 use Rattle.std.proofs.lemmas.Bool.{or_cases, or_left, or_right}
-use Rattle.batch_verify.specs.Ways.{Way, bound_parts, bound_ways}
+use Rattle.batch_verify.specs.Ways.{Spot, Way, bound_parts, bound_ways}
 use Rattle.batch_verify.proofs.Owners.{declared, declared_role, names_it, names_role, owned, owner, reserves_role, role_named, role_reserved, table}
 use Rattle.batch_verify.proofs.Stands.{IsTop, IsBelow, Stands, node_of, stands}
 use Rattle.batch_verify.proofs.Verdicts.{bare_needs}
@@ -123,10 +123,6 @@ has_at [] k x e = absurd cc
 has_at (y ∷ xs) zero x e = inl cc
 has_at (y ∷ xs) (suc k) x e = inr (has_at xs k x e)
 
-each_in : {X : Type 0} (P : X → Type 0) (xs : List X) → ((x : X) → Has xs x → P x) → Each P xs
-each_in P [] h = tt
-each_in P (x ∷ xs) h = (h x (inl refl), each_in P xs (λ y m. h y (inr m)))
-
 module _ (r : Recipe) where
   -- a role that is chosen is declared, and the tree names it
   abbrev pub IsNamed : UnitChoice → Type 0
@@ -199,7 +195,7 @@ module _ (r : Recipe) where
     pub asked_for : Has (asks_in r.acts by) ask
     pub is : ask.choice ≡ Role role
 
-  has_mapped : {X Y : Type 0} (f : X → Y) (xs : List X) (x : X) → Has xs x → Has (map f xs) (f x)
+  pub has_mapped : {X Y : Type 0} (f : X → Y) (xs : List X) (x : X) → Has xs x → Has (map f xs) (f x)
   has_mapped f [] x m = absurd m
   has_mapped f (y ∷ xs) x (inl e) = inl (ap f e)
   has_mapped f (y ∷ xs) x (inr m) = inr (has_mapped f xs x m)
@@ -277,8 +273,8 @@ module _ (r : Recipe) where
       unit_under above same = go here at.on.here
         where
           go : (o : Option Act) → IsHereOn (sites bound r.acts) at.own at.x o → at.own.under.unit ≡ unit_chosen bound (unit_at above o)
-          go None h = ap (λ v. v.unit) h.1 ∙ same
-          go (Some a) h = h.under_unit ∙ (ap (λ unit. unit_below unit (unit_with bound a.unit)) same ∙ below_is bound above a.unit)
+          go None h = ap (λ (v : Spot). v.unit) h.1 ∙ same
+          go (Some a) h = h.under_unit ∙ (ap (λ (unit : Name). unit_below unit (unit_with bound a.unit)) same ∙ below_is bound above a.unit)
 
   -- the path to a node, and the unit below it
   pub record HasChoices (k : ℕ) (e : Entry) (is : slice_get r.outline.entries.items k ≡ Some e) : Type 0 where
@@ -313,7 +309,7 @@ module _ (r : Recipe) where
 
         stands_on : (bound : Binding) → IsTop k (stands r bound k e is).own (stands r bound k e is).x ⊎ IsBelow (bound_ways bound r.acts) (bound_nodes bound r.acts) k e (stands r bound k e is).own (stands r bound k e is).x
             → (stands r bound k e is).own.here.unit ≡ []
-        stands_on bound (inl t) = ap (λ v. v.unit) t.stands
+        stands_on bound (inl t) = ap (λ (v : Spot). v.unit) t.stands
         stands_on bound (inr b) = absurd (omega (arith, b.earlier, first))
 
     module _ (f : Entry) (above_is : slice_get r.outline.entries.items e.parent ≡ Some f) (above : HasChoices e.parent f above_is) (earlier : e.parent < k) where
@@ -337,7 +333,7 @@ module _ (r : Recipe) where
       node_unit bound (inr b) =
           let up = stands r bound e.parent f above_is in
           let same : b.way ≡ up.own = way_same b.way up.own (sym b.way_is ∙ up.own_is) in
-          ap (λ v. v.unit) b.stands ∙ (ap (λ (w : Way). w.under.unit) same ∙ above.under bound)
+          ap (λ (v : Spot). v.unit) b.stands ∙ (ap (λ (w : Way). w.under.unit) same ∙ above.under bound)
 
       below_it : HasChoices k e is
       below_it = record {

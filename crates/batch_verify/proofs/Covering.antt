@@ -129,7 +129,7 @@ module _ (c : equipment.Cell) (recipes : List Recipe) (recipe : Recipe) (own : a
   each_covered P [] named h = tt
   each_covered P (x ∷ xs) named h =
       let by = covered x.choice (each_first (λ (ask : Ask). IsNamed recipe ask.choice) x xs named) in (
-        subst (λ unit. P (record { resource = unit; units = x.units })) (sym by.2) (each_first P (asked (by_number by.0) x) (map (asked (by_number by.0)) xs) (h (by_number by.0) (enough.by_number by.0 by.1))),
+        subst (λ (unit : Name). P (record { resource = unit; units = x.units })) (sym by.2) (each_first P (asked (by_number by.0) x) (map (asked (by_number by.0)) xs) (h (by_number by.0) (enough.by_number by.0 by.1))),
         each_covered P xs (each_rest (λ (ask : Ask). IsNamed recipe ask.choice) x xs named) (λ b l. each_rest P (asked b x) (map (asked b) xs) (h b l)),
       )
 
@@ -137,7 +137,7 @@ module _ (c : equipment.Cell) (recipes : List Recipe) (recipe : Recipe) (own : a
   begins_covered units [] named h = h (by_number 0) first_looked
   begins_covered units (x ∷ xs) named h =
       let by = covered x.choice (each_first (λ (ask : Ask). IsNamed recipe ask.choice) x xs named) in
-      subst (λ unit. IsTrue (is_among units unit)) (sym by.2) (h (by_number by.0) (enough.by_number by.0 by.1))
+      subst (λ (unit : Name). IsTrue (is_among units unit)) (sym by.2) (h (by_number by.0) (enough.by_number by.0 by.1))
 
   -- Ranks: of two that follow one another the one is at its highest where the other is at its lowest
 
@@ -234,13 +234,13 @@ module _ (c : equipment.Cell) (recipes : List Recipe) (recipe : Recipe) (own : a
     offered_to b (Some a) h q =
         let unit = unit_below (at b).own.here.unit (unit_with b a.unit) in
         subst (IsOffered setup) (sym h.here_is)
-        (offers_to setup (step_of (sites b recipe.acts) a (x b).node.place) (h.acts unit) unit a.name (x b).node.place a.work (subst (λ u. OffersBy setup u a.work) h.under_unit q))
+        (offers_to setup (step_of (sites b recipe.acts) a (x b).node.place) (h.acts unit) unit a.name (x b).node.place a.work (subst (λ (u : Name). OffersBy setup u a.work) h.under_unit q))
 
     offered_from : (b : Binding) (o : Option Act) → IsHereOn (sites b recipe.acts) (at b).own (x b) o → IsOffered setup (x b).node.here → OffersAt setup o (at b).own.under.unit
     offered_from b None h q = tt
     offered_from b (Some a) h q =
         let unit = unit_below (at b).own.here.unit (unit_with b a.unit) in
-        subst (λ u. OffersBy setup u a.work) (sym h.under_unit)
+        subst (λ (u : Name). OffersBy setup u a.work) (sym h.under_unit)
         (offers_from setup (step_of (sites b recipe.acts) a (x b).node.place) (h.acts unit) unit a.name (x b).node.place a.work (subst (IsOffered setup) h.here_is q))
 
     offered_covered : ((b : Binding) → Looked b → IsOffered setup (x b).node.here) → IsOffered setup (x bound).node.here

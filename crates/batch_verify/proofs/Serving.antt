@@ -10,6 +10,7 @@ use Rattle.batch_recipe.specs.Procedure.{bound_nodes, bound_tree}
 use Rattle.batch_recipe.specs.Tree.{Tree}
 use Rattle.batch_recipe.specs.WellFormed.{is_among, are_roles}
 use Rattle.batch_recipe.specs.declared.act.Act.{Act}
+use Rattle.batch_recipe.specs.declared.act.UnitChoice.{UnitChoice}
 use Rattle.batch_recipe.specs.declared.acts.Acts.{Acts}
 use Rattle.batch_recipe.specs.declared.need.Need.{Need}
 use Rattle.batch_recipe.specs.declared.recipe.Recipe.{Recipe}
@@ -74,7 +75,7 @@ module _ (c : equipment.Cell) (recipes : List Recipe) (recipe : Recipe) (own : a
         let needs : needs_of n.0.here ≡ map (asked first) (asks_in recipe.acts q.by) = ap needs_of n.2.here_is ∙ needs_are first recipe.acts q.by in
         let known = subst (Each P) needs (Each-Has IsKnownAt (bound_nodes first recipe.acts) n.0 all_known n.1) in
         let own_need = Each-Has P (map (asked first) (asks_in recipe.acts q.by)) (asked first q.ask) known (has_mapped recipe (asked first) (asks_in recipe.acts q.by) q.ask q.asked_for) in
-        subst (λ choice. IsTrue (is_among (resources_of c) (unit_chosen first choice))) q.is own_need
+        subst (λ (choice : UnitChoice). IsTrue (is_among (resources_of c) (unit_chosen first choice))) q.is own_need
 
     pub has_candidates : HasCandidates (master_of c recipe)
     has_candidates = go (master_of c recipe).roles (numbered-tried c recipes recipe own 0)
