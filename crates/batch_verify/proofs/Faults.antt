@@ -11,6 +11,7 @@ use Rattle.batch_recipe.specs.Outlines.{act_of, form_of}
 use Rattle.batch_recipe.specs.Procedure.{bound_nodes, procedure_nodes, sites}
 use Rattle.batch_recipe.specs.Tree.{Tree}
 use Rattle.batch_recipe.specs.declared.act.Act.{Act}
+use Rattle.batch_recipe.specs.declared.acts.Acts.{Acts}
 use Rattle.batch_recipe.specs.declared.entry.Entry.{Entry}
 use Rattle.batch_recipe.specs.declared.recipe.Recipe.{Recipe}
 use Rattle.batch_recipe.proofs.Climbing.{as_many}
@@ -184,3 +185,13 @@ reserves_counted r bound k e is at at_is = ap (λ (x : Node). length (reserves_o
     go : (o : Option Act) → IsHereOn (sites bound r.acts) here.own here.x o → length (reserves_of here.x.node.here) ≡ reserve_count o
     go None h = bare_counted here.x.node.here h.0
     go (Some a) h = ap (λ (t : Tree). length (reserves_of t)) h.here_is ∙ from_counted (unit_count a.unit) a.reserves.items
+
+-- A rule on `par`s and loops goes before that on what is reserved.
+pub chart_kept : (acts : Acts) (node : ℕ) (x : Part) (rule : Rule) → IsChartFault x (Some rule) → IsChartFault x (of_chart (Some rule)) × ReservesAs acts node (Some rule)
+chart_kept acts node x rules.SamePhaseInParallel h = (h, λ bound at is. tt)
+chart_kept acts node x rules.LoopWithoutPhase h = (h, λ bound at is. tt)
+chart_kept acts node x rules.UnknownResource h = absurd h
+chart_kept acts node x rules.ShareAboveCapacity h = absurd h
+chart_kept acts node x rules.PhaseNotOffered h = absurd h
+chart_kept acts node x rules.ReserveDoesNotFollow h = absurd h
+chart_kept acts node x rules.RankNotRising h = absurd h

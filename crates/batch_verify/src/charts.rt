@@ -90,7 +90,7 @@ fn reserve_fault(recipe: &Recipe, entry: &Entry, node: u16, chart: Option<Rule>)
     ensures { (x : Part) → IsChartFault x chart → IsChartFault x (of_chart result) × ReservesAs recipe.now.acts node result }
 {
     match chart {
-        Some(_) => chart,
+        Some(rule) => Some(rule),
         None => {
             if reserves_follow(recipe, node, reserve_count(&recipe.acts, entry)) {
                 None
