@@ -10,6 +10,7 @@ use Rattle.batch_model.specs.Plant.{Setup, Recipe}
 use Rattle.batch_model.specs.Cleared.{Ranking, phases, phases_of_each}
 use Rattle.batch_laws.specs.Procedures.{ReservesUnits}
 use Rattle.batch_laws.specs.Ways.{RisesDown}
+use Rattle.batch_laws.proofs.Avoiding.{FollowersAreAvoided}
 use Rattle.batch_recipe.specs.declared.need.Need.{Need}
 use Rattle.batch_recipe.specs.Needs.{one_unit}
 use Rattle.batch_model.specs.Standing.{IsControl}
@@ -68,6 +69,7 @@ pub record IsClearedDown (d : Setup) (rank : Ranking) (r : Recipe) : Type 0 wher
   pub single : Each (λ x. d.capacity x.unit ≡ 1) (phases r.procedure)
   pub reserved : ReservesUnits r.procedure
   pub followed : FollowersBeginAlone d r.procedure
+  pub avoided : FollowersAreAvoided r.procedure
 
 pub record AreClearedDown (d : Setup) (rank : Ranking) : Type 0 where
   pub recipes : (r : Recipe) → IsControl d r → IsClearedDown d rank r

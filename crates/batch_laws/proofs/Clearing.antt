@@ -17,6 +17,7 @@ use Rattle.batch_model.proofs.Members.{Has-right, Has-split, Each-Has, Each-map,
 use Rattle.batch_model.proofs.Parts.{parts-nodes}
 use Rattle.batch_laws.specs.Procedures.{IsOfLevel, IsActOf, AreOfLevel, AreChoicesOf, HasLevels, IsProcedure}
 use Rattle.batch_laws.specs.Premises.{IsOfDocuments}
+use Rattle.batch_laws.proofs.Avoiding.{followers-avoided}
 use Rattle.batch_laws.proofs.ClearedDown.{RunsInUnits, RunsInUnitsBelow, RunInUnits, RunSideBySide, ChoicesRunInUnits, AreApart, IsOfferedPhase, BeginsAlone, FollowersBeginAlone, IsClearedDown, AreClearedDown}
 use Rattle.batch_laws.proofs.Members.{Each-left, Each-right, Each-image, map-Has}
 use Rattle.batch_laws.proofs.Tops.{Top, tops, tops_of_each, tops_of_choices, top-steps, follower-one}
@@ -394,6 +395,7 @@ module _ (setup : Setup) (rank : Ranking) where
           single = whole-one-user r.procedure h.levels c;
           reserved = h.reserved;
           followed = whole-alone r.procedure h.levels c;
+          avoided = followers-avoided r.procedure h.placed h.levels;
         }
 
 -- Pairs that bind every role serve, so the control recipe of a batch is cleared

@@ -140,10 +140,10 @@ order-own : (c : Command) (n : ℕ) (x was : State) → state_after n (Some was)
 order-own c n x was = tells-own n (Some x) (Some was)
 
 -- a batch that may be reset isn't under way, and has no facts
-reset-rests : (x : State) → accepts x Reset ≡ true → is_under_way x ≡ false
+pub reset-rests : (x : State) → accepts x Reset ≡ true → is_under_way x ≡ false
 reset-rests x e = grind arith
 
-reset-nothing : (x : State) (es : List Standing) → accepts x Reset ≡ true → IsFitting x es → es ≡ []
+pub reset-nothing : (x : State) (es : List Standing) → accepts x Reset ≡ true → IsFitting x es → es ≡ []
 reset-nothing x es e h = grind arith
 
 kept-holders : (n : ℕ) (q : Name) (es : List Standing) → holders_among q (map (entry n) (filter is_kept es)) ≡ holders_among q (map (entry n) es)

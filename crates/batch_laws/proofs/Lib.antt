@@ -10,6 +10,7 @@ pub mod Raising
 pub mod Due
 pub mod Reaching
 pub mod Steady
+pub mod Avoiding
 pub mod Entries
 pub mod Batches
 pub mod Alike

@@ -52,7 +52,7 @@ take-next k [] r e = absurd cc
 take-next zero (x ∷ xs) r e = (let q : x ≡ r = cc in ap (λ z. z ∷ []) q)
 take-next (suc k) (x ∷ xs) r e = ap (λ z. x ∷ z) (take-next k xs r e)
 
-take-whole : (k : ℕ) (xs : List Need) → slice_get xs k ≡ None → take k xs ≡ xs
+pub take-whole : (k : ℕ) (xs : List Need) → slice_get xs k ≡ None → take k xs ≡ xs
 take-whole zero (x ∷ xs) e = absurd cc
 take-whole (suc k) (x ∷ xs) e = ap (λ z. x ∷ z) (take-whole k xs e)
 take-whole k xs e = grind arith

@@ -501,7 +501,7 @@ old-more x xs a (inl m) = inl (m.0, inr m.1, m.2)
 old-more x xs a (inr m) = inr m
 
 -- acts of one rest or the other
-either-acts : (a : Rest) (P : Type 0) (t : Bool) (q r : Rest) → (Has (acts q) a → P) → (Has (acts r) a → P) → Has (acts (elim t [ true ↦ q | false ↦ r ])) a → P
+pub either-acts : (a : Rest) (P : Type 0) (t : Bool) (q r : Rest) → (Has (acts q) a → P) → (Has (acts r) a → P) → Has (acts (elim t [ true ↦ q | false ↦ r ])) a → P
 either-acts a P true q r f g i = f i
 either-acts a P false q r f g i = g i
 

@@ -35,19 +35,19 @@ use Rattle.batch_laws.proofs.Tops.{Top, tops, tops_of_each, tops_of_choices, top
 -- A step stands at its place
 
 -- the tree below this one at the step's place is the step's act
-record IsAtStep (c : Tree) (p : Place) (s : Step) : Type 0 where
-  below : Place
-  task : Task
-  place : s.place ≡ p ++ below
-  here : tree_below c below ≡ Some (act s task)
+pub record IsAtStep (c : Tree) (p : Place) (s : Step) : Type 0 where
+  pub below : Place
+  pub task : Task
+  pub place : s.place ≡ p ++ below
+  pub here : tree_below c below ≡ Some (act s task)
 
 -- the same below the children, of which `child_at` gives those from child i on
-record IsAtChild (child_at : ℕ → Option Tree) (p : Place) (i : ℕ) (s : Step) : Type 0 where
-  number : ℕ
-  below : Place
-  task : Task
-  place : s.place ≡ p ++ (i + number) ∷ below
-  here : elim (child_at number) [ None ↦ None | Some part ↦ tree_below part below ] ≡ Some (act s task)
+pub record IsAtChild (child_at : ℕ → Option Tree) (p : Place) (i : ℕ) (s : Step) : Type 0 where
+  pub number : ℕ
+  pub below : Place
+  pub task : Task
+  pub place : s.place ≡ p ++ (i + number) ∷ below
+  pub here : elim (child_at number) [ None ↦ None | Some part ↦ tree_below part below ] ≡ Some (act s task)
 
 first-at : (child_at : ℕ → Option Tree) (p : Place) (i : ℕ) (s : Step) (c : Tree) → child_at 0 ≡ Some c → IsAtStep c (child p i) s → IsAtChild child_at p i s
 first-at child_at p i s c is m = record {
@@ -68,7 +68,7 @@ later-at child_at p i s m = record {
 }
 
 mutual
-  step-at : (p : Place) (c : Tree) → IsPlaced p c → (s : Step) → Has (steps c) s → IsAtStep c p s
+  pub step-at : (p : Place) (c : Tree) → IsPlaced p c → (s : Step) → Has (steps c) s → IsAtStep c p s
   step-at p (act u w) pl s (inl e) = record {
     below = [];
     task = w;
@@ -93,13 +93,13 @@ mutual
       let m = step-at (child p 0) b pl s h in
       record { below = 0 ∷ m.below; task = m.task; place = m.place ∙ append_assoc p (0 ∷ []) m.below; here = m.here }
 
-  each-at : (p : Place) (i : ℕ) (cs : Trees) → ArePlaced p i cs → (s : Step) → Has (steps_of_each cs) s → IsAtChild (branch cs) p i s
+  pub each-at : (p : Place) (i : ℕ) (cs : Trees) → ArePlaced p i cs → (s : Step) → Has (steps_of_each cs) s → IsAtChild (branch cs) p i s
   each-at p i no_trees pl s h = absurd h
   each-at p i (tree c cs) pl s h =
       ⊎_elim (λ m. first-at (branch (tree c cs)) p i s c refl (step-at (child p i) c pl.0 s m)) (λ m. later-at (branch (tree c cs)) p i s (each-at p (i + 1) cs pl.1 s m))
       (Has-split (steps c) (steps_of_each cs) s h)
 
-  chosen-at : (p : Place) (i : ℕ) (ch : Choices) → IsChoicePlaced p i ch → (s : Step) → Has (steps_of_choices ch) s → IsAtChild (choice_at ch) p i s
+  pub chosen-at : (p : Place) (i : ℕ) (ch : Choices) → IsChoicePlaced p i ch → (s : Step) → Has (steps_of_choices ch) s → IsAtChild (choice_at ch) p i s
   chosen-at p i (otherwise c) pl s h = first-at (choice_at (otherwise c)) p i s c refl (step-at (child p i) c pl s h)
   chosen-at p i (choice q c ch) pl s h =
       ⊎_elim (λ m. first-at (choice_at (choice q c ch)) p i s c refl (step-at (child p i) c pl.0 s m))

@@ -44,13 +44,13 @@ mutual
   top-steps (sel cs) t h = top-steps_of_choices cs t h
   top-steps (loop n c b) t h = top-steps b t h
 
-  top-steps_of_each : (cs : Trees) (t : Top) → Has (tops_of_each cs) t → Has (steps_of_each cs) t.0
+  pub top-steps_of_each : (cs : Trees) (t : Top) → Has (tops_of_each cs) t → Has (steps_of_each cs) t.0
   top-steps_of_each no_trees t h = absurd h
   top-steps_of_each (tree c cs) t h =
       ⊎_elim (λ m. Has-left (steps c) (steps_of_each cs) t.0 (top-steps c t m)) (λ m. Has-right (steps c) (steps_of_each cs) t.0 (top-steps_of_each cs t m))
       (Has-split (tops c) (tops_of_each cs) t h)
 
-  top-steps_of_choices : (cs : Choices) (t : Top) → Has (tops_of_choices cs) t → Has (steps_of_choices cs) t.0
+  pub top-steps_of_choices : (cs : Choices) (t : Top) → Has (tops_of_choices cs) t → Has (steps_of_choices cs) t.0
   top-steps_of_choices (otherwise c) t h = top-steps c t h
   top-steps_of_choices (choice q c cs) t h =
       ⊎_elim (λ m. Has-left (steps c) (steps_of_choices cs) t.0 (top-steps c t m)) (λ m. Has-right (steps c) (steps_of_choices cs) t.0 (top-steps_of_choices cs t m))

@@ -82,7 +82,7 @@ level_alike l (loop k c t) (loop m d u) h = refl
 level_alike l _ _ h = absurd h
 
 module _ (l : Level) (next : List Follower) (n : ℕ) where
-  after_alike : (o q : Option Tree) → ChildAlike o q → elim o [ None ↦ next | Some t ↦ enter l t ] ≡ elim q [ None ↦ next | Some u ↦ enter l u ]
+  after_alike : (o q : Option Tree) → ChildAlike o q → ◌≡◌ {A = List Follower} (elim o [ None ↦ next | Some t ↦ enter l t ]) (elim q [ None ↦ next | Some u ↦ enter l u ])
   after_alike None None h = refl
   after_alike (Some t) (Some u) h = enter_alike l t u h
   after_alike _ _ h = absurd h
@@ -105,8 +105,9 @@ following_below_alike [] l next t u h = refl
 following_below_alike (n ∷ p) l next t u h = go (child_of t n) (child_of u n) (child_alike t u n h) (following_below_alike p)
   where
     go : (o q : Option Tree) → ChildAlike o q → AreFollowedAlike p
-        → elim o [ None ↦ [] | Some x ↦ following_below (level_within l t) (next_after l next t n) x p ]
-        ≡ elim q [ None ↦ [] | Some y ↦ following_below (level_within l u) (next_after l next u n) y p ]
+        → ◌≡◌ {A = List Follower}
+        (elim o [ None ↦ [] | Some x ↦ following_below (level_within l t) (next_after l next t n) x p ])
+        (elim q [ None ↦ [] | Some y ↦ following_below (level_within l u) (next_after l next u n) y p ])
     go None None k below = refl
     go (Some x) (Some y) k below =
         ap₂ (λ (m : Level) (fs : List Follower). following_below m fs x p) (level_alike l t u h) (next_alike l next n t u h)

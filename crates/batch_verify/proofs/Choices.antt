@@ -149,12 +149,13 @@ module _ (r : Recipe) where
     reserved_named name m = go (act_named (table r) name) refl
       where
         go : (found : Option Act) → act_named (table r) name ≡ found → IsNamed (found_choice found)
-        go None found_is role e = absurd cc
+        go None found_is = unit_named_by []
         go (Some u) found_is = own u.unit refl
           where
             own : (o : Option UnitChoice) → u.unit ≡ o → IsNamed (own_choice o)
-            own None is role e = absurd cc
-            own (Some choice) is role e =
+            own None is = unit_named_by []
+            own (Some choice) is =
+                λ role e.
                 let takes : u.unit ≡ Some (Role role) = is ∙ ap Some e in (
                   or_right (name_role (table r) (labels_of r.acts.procedure) role) (reserve_role (table r) (procedure_acts r.acts) role)
                       (reserves_role (table r) (procedure_acts r.acts) a role stands_there (names_role (table r) a.reserves.items name u role m found_is takes)),

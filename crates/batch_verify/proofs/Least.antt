@@ -89,6 +89,15 @@ module _ (setup : Setup) (ranking : Option Ranking) (procedure : Tree) where
   fails x ReserveDoesNotFollow b m = b.4 m
   fails x RankNotRising b m = b.1 m
 
+  last_rule : (rule : Rule) → rule_number rule ≤ 6
+  last_rule UnknownResource = omega arith
+  last_rule ShareAboveCapacity = omega arith
+  last_rule PhaseNotOffered = omega arith
+  last_rule SamePhaseInParallel = omega arith
+  last_rule LoopWithoutPhase = omega arith
+  last_rule ReserveDoesNotFollow = omega arith
+  last_rule RankNotRising = omega arith
+
   -- a node meets the rules before the first that it breaks
   met_before : (x : Part) (rule broken : Rule) → Breaks setup ranking procedure x broken → rule_number rule < rule_number broken → Meets setup ranking procedure rule x
   met_before x UnknownResource ShareAboveCapacity b lt = b.0
@@ -112,7 +121,7 @@ module _ (setup : Setup) (ranking : Option Ranking) (procedure : Tree) where
   met_before x SamePhaseInParallel RankNotRising b lt = b.0.apart
   met_before x LoopWithoutPhase RankNotRising b lt = b.0.turning
   met_before x ReserveDoesNotFollow RankNotRising b lt = b.0.follow
-  met_before x _ _ b lt = absurd (omega (arith, lt))
+  met_before x rule broken b lt = absurd (omega (arith, lt, last_rule broken))
 
   -- a node that breaks a rule doesn't meet the rules
   pub no_break : (x : Part) (rule : Rule) → Breaks setup ranking procedure x rule → MeetsRules setup ranking procedure x → ⊥
