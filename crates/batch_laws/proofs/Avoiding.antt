@@ -1,5 +1,5 @@
 -- No phase step of a tree stands at the place of one of its unit procedures.
-use Rattle.std.proofs.Common.{◌≡◌, refl, sym, ◌∙◌, ap, subst, ℕ, ◌+◌, arith, List, Some, inl, inr, ⊎_elim}
+use Rattle.std.proofs.Common.{◌≡◌, refl, sym, ◌∙◌, ap, subst, ℕ, ◌+◌, arith, List, [], ◌∷◌, Some, inl, inr, ⊎_elim}
 use Rattle.std.specs.Prelude.{⊤}
 use Rattle.batch_recipe.specs.Conditions.{Name}
 use Rattle.batch_recipe.specs.Following.{follower}
@@ -38,26 +38,26 @@ abbrev mutual
 
 mutual
   elsewhere : (q p : Place) (c : Tree) → IsPlaced p c → (IsAtOrAbove p q → ⊥) → Avoids q c
-  elsewhere q p (act s (runs y)) pl no = λ e. no (is_at p q (sym e ∙ pl.0))
-  elsewhere q p (act s (follows name c)) pl no = elsewhere q (child p 0) c pl.1 (λ h. no (under p 0 q (under_child p 0 q h)))
-  elsewhere q p skip pl no = tt
-  elsewhere q p (seq cs) pl no = elsewhere_each q p 0 cs pl (λ h. no (under p h.0 q h.2))
-  elsewhere q p (par cs) pl no = elsewhere_each q p 0 cs pl (λ h. no (under p h.0 q h.2))
-  elsewhere q p (sel ch) pl no = elsewhere_choices q p 0 ch pl (λ h. no (under p h.0 q h.2))
-  elsewhere q p (loop n c body) pl no = elsewhere q (child p 0) body pl (λ h. no (under p 0 q (under_child p 0 q h)))
+  elsewhere q p (act s (runs y)) pl not_so = λ e. not_so (is_at p q (sym e ∙ pl.0))
+  elsewhere q p (act s (follows name c)) pl not_so = elsewhere q (child p 0) c pl.1 (λ h. not_so (under p 0 q (under_child p 0 q h)))
+  elsewhere q p skip pl not_so = tt
+  elsewhere q p (seq cs) pl not_so = elsewhere_each q p 0 cs pl (λ h. not_so (under p h.0 q h.2))
+  elsewhere q p (par cs) pl not_so = elsewhere_each q p 0 cs pl (λ h. not_so (under p h.0 q h.2))
+  elsewhere q p (sel ch) pl not_so = elsewhere_choices q p 0 ch pl (λ h. not_so (under p h.0 q h.2))
+  elsewhere q p (loop n c body) pl not_so = elsewhere q (child p 0) body pl (λ h. not_so (under p 0 q (under_child p 0 q h)))
 
   elsewhere_each : (q p : Place) (i : ℕ) (cs : Trees) → ArePlaced p i cs → (IsUnderLater p i q → ⊥) → AvoidEach q cs
-  elsewhere_each q p i no_trees pl no = tt
-  elsewhere_each q p i (tree c cs) pl no = (
-    elsewhere q (child p i) c pl.0 (λ h. no (i, omega arith, under_child p i q h)),
-    elsewhere_each q p (i + 1) cs pl.1 (λ h. no (h.0, omega (arith, h.1), h.2)),
+  elsewhere_each q p i no_trees pl not_so = tt
+  elsewhere_each q p i (tree c cs) pl not_so = (
+    elsewhere q (child p i) c pl.0 (λ h. not_so (i, omega arith, under_child p i q h)),
+    elsewhere_each q p (i + 1) cs pl.1 (λ h. not_so (h.0, omega (arith, h.1), h.2)),
   )
 
   elsewhere_choices : (q p : Place) (i : ℕ) (ch : Choices) → IsChoicePlaced p i ch → (IsUnderLater p i q → ⊥) → AvoidChoices q ch
-  elsewhere_choices q p i (otherwise c) pl no = elsewhere q (child p i) c pl (λ h. no (i, omega arith, under_child p i q h))
-  elsewhere_choices q p i (choice b c ch) pl no = (
-    elsewhere q (child p i) c pl.0 (λ h. no (i, omega arith, under_child p i q h)),
-    elsewhere_choices q p (i + 1) ch pl.1 (λ h. no (h.0, omega (arith, h.1), h.2)),
+  elsewhere_choices q p i (otherwise c) pl not_so = elsewhere q (child p i) c pl (λ h. not_so (i, omega arith, under_child p i q h))
+  elsewhere_choices q p i (choice b c ch) pl not_so = (
+    elsewhere q (child p i) c pl.0 (λ h. not_so (i, omega arith, under_child p i q h)),
+    elsewhere_choices q p (i + 1) ch pl.1 (λ h. not_so (h.0, omega (arith, h.1), h.2)),
   )
 
 -- of a place below child i, where it is below a later child too
@@ -65,6 +65,10 @@ not_both : (p : Place) (i : ℕ) (q : Place) → IsUnderChild p i q → IsUnderL
 not_both p i q h k =
     let same : i ≡ k.0 = children_apart p i k.0 q q h k.2 (at_or_above q q refl) in
     omega (arith, same, k.1)
+
+-- a unit procedure of child i stands below it
+top-under : (p : Place) (i : ℕ) (c : Tree) → IsPlaced (child p i) c → (t : Top) → Has (tops c) t → IsUnderChild p i t.0.place
+top-under p i c pl t h = let m = step-at (child p i) c pl t.0 (top-steps c t h) in under_child p i t.0.place (m.below, sym m.place)
 
 mutual
   tops-avoid : (p : Place) (c : Tree) → IsPlaced p c → (t : Top) → Has (tops c) t → Avoids t.0.place c
@@ -78,9 +82,6 @@ mutual
   tops-avoid p (par cs) pl t h = tops-avoid_each p 0 cs pl t h
   tops-avoid p (sel ch) pl t h = tops-avoid_choices p 0 ch pl t h
   tops-avoid p (loop n c body) pl t h = tops-avoid (child p 0) body pl t h
-
-  top-under : (p : Place) (i : ℕ) (c : Tree) → IsPlaced (child p i) c → (t : Top) → Has (tops c) t → IsUnderChild p i t.0.place
-  top-under p i c pl t h = let m = step-at (child p i) c pl t.0 (top-steps c t h) in under_child p i t.0.place (m.below, sym m.place)
 
   tops-avoid_each : (p : Place) (i : ℕ) (cs : Trees) → ArePlaced p i cs → (t : Top) → Has (tops_of_each cs) t → AvoidEach t.0.place cs
   tops-avoid_each p i no_trees pl t h = absurd h

@@ -203,8 +203,8 @@ module _ (d : Setup) (rank : Ranking) (outs : List Out) (s : Plant) (sd : IsStan
     ordered-keeps Resume e = with-fresh Resume (commanded Resume) (λ n le. tt) (quiet-keeps Resume (λ n. tt) (λ f. let bad : true ≡ false = f in cc))
     ordered-keeps Hold e = with-fresh Hold (commanded Hold) (λ n le. tt) (quiet-keeps Hold (λ n. tt) (λ f. let bad : true ≡ false = f in cc))
     ordered-keeps Restart e = with-fresh Restart (commanded Restart) (λ n le. tt) (quiet-keeps Restart (λ n. tt) (λ f. let bad : true ≡ false = f in cc))
-    ordered-keeps Stop e = with-fresh Stop (commanded Stop) (λ n le. new-number n le) (ended-keeps Stop (commanded Stop) (λ w. refl) (λ w. refl) (λ n no. no) (λ n kept. refl))
-    ordered-keeps Abort e = with-fresh Abort (commanded Abort) (λ n le. new-number n le) (ended-keeps Abort (commanded Abort) (λ w. refl) (λ w. refl) (λ n no. no) (λ n kept. refl))
+    ordered-keeps Stop e = with-fresh Stop (commanded Stop) (λ n le. new-number n le) (ended-keeps Stop (commanded Stop) (λ w. refl) (λ w. refl) (λ n not_so. not_so) (λ n kept. refl))
+    ordered-keeps Abort e = with-fresh Abort (commanded Abort) (λ n le. new-number n le) (ended-keeps Abort (commanded Abort) (λ w. refl) (λ w. refl) (λ n not_so. not_so) (λ n kept. refl))
     ordered-keeps Reset e = with-fresh Reset (commanded Reset) (λ n le. tt) (reset-keeps e)
 
     ordering-keeps : (c : Command) → AnsweredBy outs (ordering s c b)

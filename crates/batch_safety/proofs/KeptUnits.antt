@@ -90,12 +90,12 @@ with-joins unit b r hs e = go (same_name unit r.resource) e
 
 without-stays : (unit : Name) (b : BatchAct) (r : Need) (hs : List Share) (a : BatchAct) → (same_name unit r.resource ≡ true → a ≡ b → ⊥) → Has (acts_in hs) a
     → Has (acts_in (without_share unit b r hs)) a
-without-stays unit b r hs a no h = go (same_name unit r.resource) refl
+without-stays unit b r hs a not_so h = go (same_name unit r.resource) refl
   where
     go : (t : Bool) → same_name unit r.resource ≡ t → Has (acts_in (elim t [ true ↦ without b hs | false ↦ hs ])) a
     go true e =
         let m = Has-map (λ (z : Share). z.act) hs a h in
-        subst (Has (acts_in (without b hs))) m.2 (map-Has (λ (z : Share). z.act) (without b hs) m.0 (without-Has b hs m.0 m.1 (λ q. no e (sym m.2 ∙ q))))
+        subst (Has (acts_in (without b hs))) m.2 (map-Has (λ (z : Share). z.act) (without b hs) m.0 (without-Has b hs m.0 m.1 (λ q. not_so e (sym m.2 ∙ q))))
     go false e = h
 
 -- the line takes units of the resource from the batch at the place
@@ -109,7 +109,7 @@ same_act n m p q e = (ap (λ z. z.0) (sym e), ap (λ z. z.1) (sym e))
 
 -- units are held on until a line takes them
 pub still-held : (outs : List Out) (o : Out) (unit : Name) (n : ℕ) (p : Place) → (Takes unit n p o → ⊥) → Holds outs unit n p → Holds (outs ++ o ∷ []) unit n p
-still-held outs o unit n p no h = subst (λ hs. Has (acts_in hs) (n, p)) (sym (holders_told-last outs o unit)) (go o no)
+still-held outs o unit n p not_so h = subst (λ hs. Has (acts_in hs) (n, p)) (sym (holders_told-last outs o unit)) (go o not_so)
   where
     go : (o : Out) → (Takes unit n p o → ⊥) → Has (acts_in (holders_after unit (holders_told outs unit) o)) (n, p)
     go (move (grant batch place need)) none = with-stays unit (batch, place) need (holders_told outs unit) (n, p) h

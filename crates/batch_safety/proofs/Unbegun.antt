@@ -128,9 +128,9 @@ module _ (q : Place) where
   -- What moves and reports make of an act
 
   freed-unbegun : (s : Step) (k : ℕ) → (s.place ≡ q → ⊥) → Unbegun (freed s k)
-  freed-unbegun s zero no a i at = absurd i
-  freed-unbegun s (suc k) no a (inl e) at = absurd (no (ap place_of e ∙ at))
-  freed-unbegun s (suc k) no a (inr i) at = absurd i
+  freed-unbegun s zero not_so a i at = absurd i
+  freed-unbegun s (suc k) not_so a (inl e) at = absurd (not_so (ap place_of e ∙ at))
+  freed-unbegun s (suc k) not_so a (inr i) at = absurd i
 
   sent-unbegun : (c : Command) (a : Rest) → Unbegun a → Unbegun (sent c a)
   sent-unbegun c (live s x t) h a (inl e) at = absurd (h (live s x t) (inl refl) (ap place_of e ∙ at))
@@ -210,18 +210,18 @@ module _ (q : Place) where
 
   -- an act at another place begins
   begun-unbegun : (m : Moment) (a : Rest) → (place_of a ≡ q → ⊥) → Unbegun a → Unbegun (begun m a)
-  begun-unbegun m (ready s (runs y) k) no h a (inl e) at = absurd (no (ap place_of e ∙ at))
-  begun-unbegun m (ready s (runs y) k) no h a (inr i) at = absurd i
-  begun-unbegun m (ready s (follows name c) k) no h a (inl e) at = absurd (no (ap place_of e ∙ at))
-  begun-unbegun m (ready s (follows name c) k) no h a (inr i) at = reach-enters m c a i
-  begun-unbegun m (asking s w k) no h a i at = h a i at
-  begun-unbegun m (open_act s r) no h a i at = h a i at
-  begun-unbegun m (live s x t) no h a i at = h a i at
-  begun-unbegun m (freeing s k) no h a i at = h a i at
-  begun-unbegun m (in_seq r cs) no h a i at = h a i at
-  begun-unbegun m (in_par rs) no h a i at = h a i at
-  begun-unbegun m (in_loop n d body r) no h a i at = h a i at
-  begun-unbegun m done no h a i at = h a i at
+  begun-unbegun m (ready s (runs y) k) not_so h a (inl e) at = absurd (not_so (ap place_of e ∙ at))
+  begun-unbegun m (ready s (runs y) k) not_so h a (inr i) at = absurd i
+  begun-unbegun m (ready s (follows name c) k) not_so h a (inl e) at = absurd (not_so (ap place_of e ∙ at))
+  begun-unbegun m (ready s (follows name c) k) not_so h a (inr i) at = reach-enters m c a i
+  begun-unbegun m (asking s w k) not_so h a i at = h a i at
+  begun-unbegun m (open_act s r) not_so h a i at = h a i at
+  begun-unbegun m (live s x t) not_so h a i at = h a i at
+  begun-unbegun m (freeing s k) not_so h a i at = h a i at
+  begun-unbegun m (in_seq r cs) not_so h a i at = h a i at
+  begun-unbegun m (in_par rs) not_so h a i at = h a i at
+  begun-unbegun m (in_loop n d body r) not_so h a i at = h a i at
+  begun-unbegun m done not_so h a i at = h a i at
 
   -- the move begins the act at the place
   abbrev pub Begins : Move → Type 0
@@ -230,12 +230,12 @@ module _ (q : Place) where
   Begins _ = ⊥
 
   pub act_after-unbegun : (m : Moment) (made : Move) → (Begins made → ⊥) → (a : Rest) → place_of a ≡ place_of_move made → Unbegun a → Unbegun (act_after m made a)
-  act_after-unbegun m (send number place phase command) no a at h = sent-unbegun command a h
-  act_after-unbegun m (state number becomes) no a at h = h
-  act_after-unbegun m (release number place need) no a at h = released-unbegun a h
-  act_after-unbegun m (pass number place to need) no a at h = released-unbegun a h
-  act_after-unbegun m (begin number place name) no a at h = begun-unbegun m a (λ e. no (sym at ∙ e)) h
-  act_after-unbegun m (start number place phase handed) no a at h = begun-unbegun m a (λ e. no (sym at ∙ e)) h
-  act_after-unbegun m (end number place) no a at h = ended-unbegun a h
-  act_after-unbegun m (ask number place need) no a at h = asked-unbegun a h
-  act_after-unbegun m (grant number place need) no a at h = granted-unbegun a h
+  act_after-unbegun m (send number place phase command) not_so a at h = sent-unbegun command a h
+  act_after-unbegun m (state number becomes) not_so a at h = h
+  act_after-unbegun m (release number place need) not_so a at h = released-unbegun a h
+  act_after-unbegun m (pass number place to need) not_so a at h = released-unbegun a h
+  act_after-unbegun m (begin number place name) not_so a at h = begun-unbegun m a (λ e. not_so (sym at ∙ e)) h
+  act_after-unbegun m (start number place phase handed) not_so a at h = begun-unbegun m a (λ e. not_so (sym at ∙ e)) h
+  act_after-unbegun m (end number place) not_so a at h = ended-unbegun a h
+  act_after-unbegun m (ask number place need) not_so a at h = asked-unbegun a h
+  act_after-unbegun m (grant number place need) not_so a at h = granted-unbegun a h

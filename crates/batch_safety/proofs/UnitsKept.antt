@@ -222,9 +222,9 @@ module _ (d : Setup) (rank : Ranking) (outs : List Out) (s : Plant) (sd : IsStan
     made = act_move-made b d s a m e
 
     unbegun-on : (p : Place) → (Begins p m → ⊥) → IsUnbegunAt p (acts b.rest) → IsUnbegunAt p (acts moved.rest)
-    unbegun-on p no h =
+    unbegun-on p not_so h =
         advance-unbegun p (moment_of (passing m b)) (changed_at (place_of_move m) (act_after (moment_of b) m) (passing m b).rest)
-        (changed-unbegun p (place_of_move m) (act_after (moment_of b) m) (act_after-unbegun p (moment_of b) m no) (passing m b).rest
+        (changed-unbegun p (place_of_move m) (act_after (moment_of b) m) (act_after-unbegun p (moment_of b) m not_so) (passing m b).rest
         (subst (λ r. IsUnbegunAt p (acts r)) (sym (same-rest m b)) h))
 
     -- Who gives up a unit
@@ -273,11 +273,11 @@ module _ (d : Setup) (rank : Ranking) (outs : List Out) (s : Plant) (sd : IsStan
     -- Units that are held in advance
 
     held-after : goes_on b.state ≡ true → (kept : Kept) → IsHeldFor outs b.number c b.rest kept → (Begins kept.place m → ⊥) → IsHeldFor so_far b.number c moved.rest kept
-    held-after on kept h no = record {
+    held-after on kept h not_so = record {
       held =
           still-held outs line kept.unit b.number kept.place
           (λ t. let g = gives kept.unit kept.place on t in h.unbegun (freeing g.step (suc g.last)) (freeing-stands g.step g.last g.is) g.place) h.held;
-      unbegun = unbegun-on kept.place no h.unbegun;
+      unbegun = unbegun-on kept.place not_so h.unbegun;
       avoided = h.avoided;
     }
 
@@ -303,7 +303,7 @@ module _ (d : Setup) (rank : Ranking) (outs : List Out) (s : Plant) (sd : IsStan
     by-step on kept h = ⊎_elim taken left (takes-or-not kept.unit b.number h.step.place m)
       where
         left : (Takes kept.unit b.number h.step.place line → ⊥) → IsStillKept so_far b.number c moved.rest kept
-        left no = inr (record {
+        left not_so = inr (record {
           step = h.step;
           number = h.number;
           need = h.need;
@@ -311,7 +311,7 @@ module _ (d : Setup) (rank : Ranking) (outs : List Out) (s : Plant) (sd : IsStan
           here = h.here;
           unit = h.unit;
           follows = h.follows;
-          held = still-held outs line kept.unit b.number h.step.place no h.held;
+          held = still-held outs line kept.unit b.number h.step.place not_so h.held;
         })
 
         taken : Takes kept.unit b.number h.step.place line → IsStillKept so_far b.number c moved.rest kept
@@ -368,12 +368,12 @@ module _ (d : Setup) (rank : Ranking) (outs : List Out) (s : Plant) (sd : IsStan
 
     -- a step that begins holds all its needs
     begins-held : (t : Step) (w : Task) (l : ℕ) → a ≡ ready t w l → slice_get t.needs l ≡ None → ((unit : Name) (p : Place) → Takes unit b.number p line → ⊥) → (r : Need) → Has t.needs r → Holds so_far r.resource b.number t.place
-    begins-held t w l is none no r h =
+    begins-held t w l is none not_so r h =
         let there : Has (acts b.rest) (ready t w l) = subst (Has (acts b.rest)) is j in
         let fr : Frame b.rest (ready t w l) = frame (0 ∷ []) c b.rest fine.cleared.placed here.stands (ready t w l) there in
         let held : Has (held_at t.place (take l t.needs)) (t.place, holding r)
         = subst (λ xs. Has (held_at t.place xs) (t.place, holding r)) (sym (take-whole l t.needs none)) (map-Has (λ z. let x : Standing = (t.place, holding z) in x) t.needs r h) in
-        still-held outs line r.resource b.number t.place (no r.resource t.place)
+        still-held outs line r.resource b.number t.place (not_so r.resource t.place)
         (told-held t.place r (subst (λ z. Has z (t.place, holding r)) (sym fr.2) (frame-middle fr.0 (held_at t.place (take l t.needs)) fr.1 (t.place, holding r) held)))
 
     -- Members of the lists
@@ -386,7 +386,7 @@ module _ (d : Setup) (rank : Ranking) (outs : List Out) (s : Plant) (sd : IsStan
         go false w = absurd (subst (λ xs. Has xs kept) (off w) h)
 
     not-begun : (kept : Kept) → Avoids kept.place c → (BeginsChart kept.place m → ⊥) → Begins kept.place m → ⊥
-    not-begun kept avoided no z = go m made no z
+    not-begun kept avoided not_so z = go m made not_so z
       where
         go : (made : Move) → IsMade b a made → (BeginsChart kept.place made → ⊥) → Begins kept.place made → ⊥
         go (begin batch place name) h none y = none y

@@ -41,3 +41,4 @@ pub mod RunningAt
 pub mod RunningBranches
 pub mod RunningCases
 pub mod RunningKinds
+pub mod Pairs

@@ -160,16 +160,22 @@ module _ (c : equipment.Cell) where
     pub differ : are_distinct (role_names roles) ≡ true
     differ = (and_parts (are_distinct (role_names roles)) (list_all (is_role_among (role_names roles)) recipe.acts.unit_procedures.items) own).0
 
-    pub numbered-tried : (number : ℕ) → IsTried setup (master_of c recipe) (numbered c roles number)
-    numbered-tried number = go roles (own_role roles differ)
+    -- of each role the candidate with a number of its own
+    pub taken-tried : (number_for : Name → ℕ) → IsTried setup (master_of c recipe) (λ name. numbered c roles (number_for name) name)
+    taken-tried number_for = go roles (own_role roles differ)
       where
         go : (rest : List Role) → ((role : Role) → Has rest role → role_named roles role.name ≡ Some role)
-            → Each (λ role. Named role.name → IsTriedFor setup role.candidates (numbered c roles number role.name)) (map model_role rest)
+            → Each (λ role. Named role.name → IsTriedFor setup role.candidates (numbered c roles (number_for role.name) role.name)) (map model_role rest)
         go [] h = tt
         go (role ∷ rest) h = (
-          (λ named. subst (λ found. IsTriedFor setup (units_of_class c role.class) (who found number)) (sym (h role (inl refl))) (numbered_for setup (units_of_class c role.class) number)),
+          (λ named.
+          subst (λ found. IsTriedFor setup (units_of_class c role.class) (who found (number_for role.name))) (sym (h role (inl refl)))
+          (numbered_for setup (units_of_class c role.class) (number_for role.name))),
           go rest (λ other m. h other (inr m)),
         )
+
+    pub numbered-tried : (number : ℕ) → IsTried setup (master_of c recipe) (numbered c roles number)
+    numbered-tried number = taken-tried (λ name. number)
 
     module _ (bound : Binding) (tried : IsTried setup (master_of c recipe) bound) where
       tried_at : (rest : List Role) (role : Role) → Has rest role → Each (λ role. Named role.name → IsTriedFor setup role.candidates (bound role.name)) (map model_role rest)

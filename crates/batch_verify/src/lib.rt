@@ -37,5 +37,6 @@ pub use reading::read_certificate;
 pub use recipes::is_recipe_set;
 pub use refusal::SetRefusal;
 pub use rejected::Rejected;
+pub use reserved::unit_reserved;
 pub use rule::{Broken, Rule};
 pub use walk::first_broken;
