@@ -10,7 +10,7 @@ use Rattle.batch_recipe.specs.declared.recipe.Recipe.{Recipe}
 use Rattle.batch_chart.specs.declared.running.Running.{Running}
 use Rattle.batch_chart.specs.declared.stage.Stage.{Stage}
 use Rattle.batch_recipe.specs.Conditions.{ValueList}
-use Rattle.batch_model.specs.Rest.{reach, withdrawn}
+use Rattle.batch_model.specs.Rest.{withdrawn}
 use Rattle.batch_chart.specs.Charts.{IsChartOf, IsRunning, IsRunningOf, remains}
 use Rattle.batch_chart.specs.Meaning.{meaning}
 use Rattle.batch_chart.specs.Starting.{HasStarted, AreStarted, HasWithdrawn, AreWithdrawn}
@@ -27,6 +27,7 @@ use Rattle.batch_chart.proofs.NodesStand.{node-stands}
 use Rattle.batch_chart.proofs.Shown.{noted}
 use Rattle.batch_chart.proofs.Stepping.{all-told}
 use Rattle.batch_chart.proofs.Standing.{stood, PhaseAt, phase_at, phase-at, ActAt, act_at, act-at, SkipAt, skip_at, skip-at, SeqAt, seq_at, seq-at, ParAt, par_at, par-at, SelAt, sel_at, sel-at, LoopAt, loop_at, loop-at}
+use Rattle.batch_chart.specs.ByValues.{reach_by}
 
 -- two trees at one node are alike in what a node shows
 record AreLike (c d : Tree) : Type 0 where
@@ -120,7 +121,7 @@ went-on chart old new ys is up t laid ran alive =
     (subst (λ z. AreNeat chart.outline.entries.items chart 0 (length chart.outline.entries.items) z new.signs) (sym is) (up.keeps (ran.neat chart.outline.entries.items chart laid)))
 
 pub started-runs : (chart : Recipe) (running : Running) (ys : List Stage) → running.stages.items ≡ ys → HasStarted (length chart.outline.entries.items) ys → AreStarted chart.outline.entries.items ys running.signs → (t : Tree) (vs : ValueList) → IsChartOf t chart
-    → IsRunningOf t running × (remains t running ≡ reach vs t)
+    → IsRunningOf t running × (remains t running ≡ reach_by vs t)
 started-runs chart running ys is started shown t vs laid =
     let h = started.means t vs laid.root laid.count in (
       runs-by chart running t laid (subst (IsAlive t) (sym is) h.0) shown.0 (subst (λ z. AreNeat chart.outline.entries.items chart 0 (length chart.outline.entries.items) z running.signs) (sym is) (shown.1 chart t laid)),

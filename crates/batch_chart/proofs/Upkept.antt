@@ -232,3 +232,6 @@ release-acts ns xs k n i f a =
     go κ (Freeing h) c = (c.0, refl)
     go κ Open c = (ap is_act_kind c, refl)
     go κ x c = absurd c
+
+pub pass-acts : (ns : List Entry) (xs : List Stage) (k n to i : ℕ) → n ≡ k → Allows ns xs (move.Pass k to i) → (n < length ns) × (is_act_kind (kind_at ns n) ≡ true) × (is_finished (stage_at xs n) ≡ false)
+pass-acts ns xs k n to i f a = (omega (arith, f, a.0), ap (λ z. is_act_kind (kind_at ns z)) f ∙ a.2, ap (λ z. is_finished (stage_at xs z)) f ∙ ap is_finished a.3)
