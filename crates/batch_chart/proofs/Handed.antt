@@ -55,6 +55,10 @@ module _ (doc : Recipe) (n : ℕ) where
       at-index (y ∷ l) zero x e = let q : Some y ≡ Some x = e in cc
       at-index (y ∷ l) (suc k) x e = at-index l k x e
 
+  pub as-counted : (bound : Binding) → n < node_count (bound_tree bound doc.acts) → n < length (procedure_nodes doc.acts)
+  as-counted bound lt =
+      omega (arith, lt, counted_nodes (0 ∷ []) [] (bound_tree unbound doc.acts), (is_chart doc bound).0.count, (is_chart doc unbound).0.count)
+
   -- none where no act is at the node
   no-reserves : (c : Tree) → IsNoAct c → (step_of c).reserves ≡ []
   no-reserves (act s w) h = absurd h
@@ -70,12 +74,8 @@ module _ (doc : Recipe) (n : ℕ) where
   pub passes-no_act : (i : ℕ) → (n < length (procedure_nodes doc.acts) → slice_get (procedure_acts doc.acts) n ≡ Some None) → PassesTo doc n i None
   passes-no_act i known bound lt =
       let t = bound_tree bound doc.acts in
-      let none = act_of_node doc bound n (node_at t n) None (here bound lt) (known (same-count bound lt)) in
+      let none = act_of_node doc bound n (node_at t n) None (here bound lt) (known (as-counted bound lt)) in
       sym (ap (λ xs. Placed t (step_at t n) (find (λ (x : Reserve). nat_eq x.need i) xs)) (no-reserves (node_at t n).here none))
-    where
-      same-count : (bound : Binding) → n < node_count (bound_tree bound doc.acts) → n < length (procedure_nodes doc.acts)
-      same-count bound lt =
-          omega (arith, lt, counted_nodes (0 ∷ []) [] (bound_tree unbound doc.acts), (is_chart doc bound).0.count, (is_chart doc unbound).0.count)
 
   module _ (a : Act) (known : slice_get (procedure_acts doc.acts) n ≡ Some (Some a)) where
     step-is : (bound : Binding) → n < node_count (bound_tree bound doc.acts)

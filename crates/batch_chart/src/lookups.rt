@@ -48,12 +48,16 @@ pub(crate) fn passes_to(recipe: &Recipe, node: u16, need: u16) -> Option<u16>
     ensures to { PassesTo recipe.now node need result }
     ensures within { IfSome result (λ to. to < length recipe.now.outline.entries.items) }
 {
-    let act = act_at(recipe, node)?;
-    let own = own_units(act);
-    if need < own {
-        return None;
+    match act_at(recipe, node) {
+        None => None,
+        Some(act) => {
+            let own = own_units(act);
+            if need < own {
+                return None;
+            }
+            follows(recipe, node, usize::from(need - own))
+        }
     }
-    follows(recipe, node, usize::from(need - own))
 }
 
 /// How many needs the act's own unit is.
