@@ -42,7 +42,7 @@ use Rattle.batch_chart.proofs.Upkept.{same-kept, come-kept}
 -- What acts become
 
 mutual
-  taken-none : (q : Place → Bool) → ((p : Place) → q p ≡ false) → (r : Rest) → taken_by q r ≡ r
+  pub taken-none : (q : Place → Bool) → ((p : Place) → q p ≡ false) → (r : Rest) → taken_by q r ≡ r
   taken-none q h (ready s w k) = chosen-false (q s.place) (ready s w (length (take 1 s.needs))) (ready s w k) (h s.place)
   taken-none q h (asking s w k) = refl
   taken-none q h (open_act s r) = ap (open_act s) (taken-none q h r)

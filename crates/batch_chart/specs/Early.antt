@@ -1,5 +1,5 @@
 -- surface: nodes that hold their units in advance, and acts that take these over once they are reached.
-use Rattle.std.specs.Prelude.{◌≡◌, ◌⊎◌, ◌<◌, ◌≤◌, ◌||◌, slice_set, ℕ, List, [], ◌∷◌, take, length, Bool, true, false, ◌&&◌, not, nat_lt}
+use Rattle.std.specs.Prelude.{◌≡◌, ◌⊎◌, ◌<◌, ◌≤◌, ◌||◌, slice_set, ℕ, List, [], ◌∷◌, take, length, Bool, true, false, ◌&&◌, not, nat_lt, ⊤}
 use Rattle.std.specs.List.{list_any}
 use Rattle.batch_recipe.specs.Tree.{Place, Tree}
 use Rattle.batch_recipe.specs.declared.entry.Entry.{Entry}
@@ -14,7 +14,11 @@ use Rattle.batch_chart.specs.Needs.{needs_of}
 use Rattle.batch_chart.specs.Noting.{HasCome}
 use Rattle.batch_chart.specs.Outlined.{kind_at}
 use Rattle.batch_chart.specs.NodesOf.{place_at}
-use Rattle.batch_chart.specs.Running.{IsLaid, IsAlive}
+use Rattle.batch_chart.specs.Running.{IsLaid, IsAlive, HasMade, HasReported}
+use Rattle.batch_chart.specs.declared.chart_move.Move.{Move}
+use Rattle.batch_chart.specs.declared.chart_move.Move.TheVariants as move
+use Rattle.batch_matrix.specs.declared.report.Report.{Report}
+use Rattle.batch_recipe.specs.Conditions.{ValueList}
 use Rattle.batch_chart.specs.Stages.{stage_at}
 use Rattle.batch_chart.specs.Upkeep.{IsKeptUp}
 use Rattle.batch_signs.specs.Signs.{shows, sign_at}
@@ -72,6 +76,32 @@ IsTakenAt ns n xs ys old new before after =
     ((j : ℕ) × (stage_at xs n ≡ Ready j) × HasCome ns n (Ready (first_held (needs_of (kind_at ns n)))) xs ys old new × (after ≡ slice_set before n 0))
     ⊎ ((is_ready (stage_at xs n) ≡ false) × (ys ≡ xs) × (new ≡ old) × (after ≡ before))
 
+-- what is held in advance after a move, whose pass is to be held
+abbrev pub held_after : List ℕ → Move → List ℕ
+held_after early (move.Pass k to i) = slice_set early to IS_EARLY
+held_after early _ = early
+
+-- so many nodes are enough for the move
+abbrev pub HasRoom : ℕ → Move → Type 0
+HasRoom n (move.Pass k to i) = to < n
+HasRoom n _ = ⊤
+
 -- all have
 abbrev pub IsTakenOver : List Entry → Recipe → List Stage → List Stage → List ℕ → List ℕ → List ℕ → List ℕ → Type 0
 IsTakenOver ns doc xs ys old new before after = IsTakenTo ns doc (length ns) xs ys old new before after
+
+-- a move has been made, and what is reached by it has taken over what was held for it
+pub record IsMovedOn (ns : List Entry) (doc : Recipe) (vs : ValueList) (m : Move) (xs ys : List Stage) (old new before after : List ℕ) : Type 0 where
+  pub mid : List Stage
+  pub signs : List ℕ
+  pub made : HasMade ns doc vs m xs mid
+  pub kept : IsKeptUp ns doc xs mid old signs
+  pub over : IsTakenOver ns doc mid ys signs new (held_after before m) after
+
+-- so has a report been taken
+pub record IsReportedOn (ns : List Entry) (doc : Recipe) (vs : ValueList) (k : ℕ) (word : Report) (xs ys : List Stage) (old new before after : List ℕ) : Type 0 where
+  pub mid : List Stage
+  pub signs : List ℕ
+  pub reported : HasReported ns doc vs k word xs mid
+  pub kept : IsKeptUp ns doc xs mid old signs
+  pub over : IsTakenOver ns doc mid ys signs new before after
