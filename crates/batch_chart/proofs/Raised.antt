@@ -76,14 +76,14 @@ mutual
   lifted-taken_each h q (rest r rs) = ap₂ rest (lifted-taken h q r) (lifted-taken_each h q rs)
 
 -- the place is one of those that hold in advance
-abbrev among : List InAdvance → Place → Bool
+abbrev pub among : List InAdvance → Place → Bool
 among xs = λ p. list_any (same_place p) (places xs)
 
 raised-taken : (xs : List InAdvance) (r : Rest) → raised xs r ≡ taken_by (among xs) r
 raised-taken [] r = sym (taken-none (among []) (λ p. refl) r)
 raised-taken (held ∷ xs) r = ap (lifted held.place) (raised-taken xs r) ∙ lifted-taken held.place (among xs) r
 
-raised-none : (xs : List InAdvance) (r : Rest) → ((held : InAdvance) → Has xs held → Nowhere held.place (acts r)) → raised xs r ≡ r
+pub raised-none : (xs : List InAdvance) (r : Rest) → ((held : InAdvance) → Has xs held → Nowhere held.place (acts r)) → raised xs r ≡ r
 raised-none [] r n = refl
 raised-none (held ∷ xs) r n =
     ap (lifted held.place) (raised-none xs r (λ other i. n other (inr i))) ∙ lifted-none held.place r (n held (inl refl))
@@ -120,7 +120,7 @@ IsActMove _ = ⊤
 abbrev pub AreWaiting : List InAdvance → Rest → Type 0
 AreWaiting xs r = (held : InAdvance) → Has xs held → is_reached r held.place ≡ false
 
-waiting-nowhere : (xs : List InAdvance) (r : Rest) → AreWaiting xs r → (held : InAdvance) → Has xs held → Nowhere held.place (acts r)
+pub waiting-nowhere : (xs : List InAdvance) (r : Rest) → AreWaiting xs r → (held : InAdvance) → Has xs held → Nowhere held.place (acts r)
 waiting-nowhere xs r w held i = not_reached held.place r (w held i)
 
 -- the batch after a move of an act, by what remained if it held nothing in advance
@@ -187,7 +187,7 @@ left-among f (held ∷ xs) p = go (f held.place) refl (same_place p held.place) 
     go false e false g below =
         ap (λ t. t || among (filter (λ held. not (f held.place)) xs) p) g ∙ below ∙ ap (λ t. (t || among xs p) && not (f p)) (sym g)
 
-filter-all : {X : Type 0} (f : X → Bool) (xs : List X) → ((x : X) → Has xs x → f x ≡ true) → filter f xs ≡ xs
+pub filter-all : {X : Type 0} (f : X → Bool) (xs : List X) → ((x : X) → Has xs x → f x ≡ true) → filter f xs ≡ xs
 filter-all f [] h = refl
 filter-all f (x ∷ xs) h = go (f x) (h x (inl refl)) (filter-all f xs (λ y i. h y (inr i)))
   where
@@ -232,7 +232,7 @@ not-true false e = refl
 
 module _ (ns : List Entry) (doc : Recipe) (t : Tree) (laid : IsLaid ns doc t) where
   -- a place is that of one node
-  number-one : (j k : ℕ) → j < length ns → k < length ns → place_at t j ≡ place_at t k → j ≡ k
+  pub number-one : (j k : ℕ) → j < length ns → k < length ns → place_at t j ≡ place_at t k → j ≡ k
   number-one j k l m e = elim (eqb_tells j k) [
     | inl q ↦ q.1
     | inr q ↦ elim (cases_lt j k) [
