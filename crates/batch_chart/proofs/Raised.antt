@@ -1,5 +1,5 @@
 -- What remains of a batch's recipe after a move, where it holds something in advance.
-use Rattle.std.proofs.Common.{◌≡◌, ◌≢◌, ◌⊎◌, inl, inr, ◌<◌, ◌≤◌, ℕ, zero, suc, ◌+◌, List, [], ◌∷◌, length, take, map, filter, cond, Bool, true, false, ◌&&◌, ◌||◌, Some, None, nat_lt, arith, refl, sym, ◌∙◌, subst, ap, ap₂}
+use Rattle.std.proofs.Common.{◌≡◌, ◌≢◌, ◌⊎◌, inl, inr, ◌<◌, ◌≤◌, ℕ, zero, suc, ◌+◌, List, [], ◌∷◌, length, take, map, filter, cond, Bool, true, false, ◌&&◌, ◌||◌, Some, None, nat_eq, arith, refl, sym, ◌∙◌, subst, ap, ap₂}
 use Rattle.std.specs.Prelude.{not}
 use Rattle.std.specs.List.{list_any}
 use Rattle.std.proofs.lemmas.Bool.{cases_lt}
@@ -19,12 +19,13 @@ use Rattle.batch_machine.proofs.Changing.{to_same_place, same_test}
 use Rattle.batch_laws.proofs.Entries.{Has-filter}
 use Rattle.batch_laws.proofs.Raising.{at_moment, Nowhere, lifted, lifted_each, lifted-none, raised, places, IsSteady, IsTidy, IsFresh, moved-raised, reached-raised, reached-at, not_reached, fresh-where-none}
 use Rattle.batch_laws.proofs.Steady.{stays-steady, stays-tidy, sent-stays, released-stays, ended-stays, asked-stays, granted-stays, begun-steady, begun-tidy}
-use Rattle.batch_chart.specs.Early.{is_early, is_ready, taken_by, taken_by_each, is_of, IsTakenOver}
+use Rattle.batch_chart.specs.Early.{is_early, is_ready, in_advance, taken_by, taken_by_each, is_of, IsTakenBy}
+use Rattle.batch_chart.specs.declared.passed.Passed.{Passed}
 use Rattle.batch_chart.specs.Meaning.{meaning, meaning_below, act_as}
-use Rattle.batch_chart.specs.NodesOf.{node_at, place_at}
+use Rattle.batch_chart.specs.NodesOf.{need_at, node_at, place_at}
 use Rattle.batch_chart.specs.Running.{IsLaid, IsAlive, rest_after}
 use Rattle.batch_chart.specs.Stages.{stage_at, is_finished}
-use Rattle.batch_chart.specs.declared.sign.TheConstants.{IS_ACT, IS_EARLY}
+use Rattle.batch_chart.specs.declared.sign.TheConstants.{IS_ACT}
 use Rattle.batch_chart.specs.declared.stage.Stage.{Stage}
 use Rattle.batch_chart.specs.declared.stage.Stage.TheVariants as stage
 use Rattle.batch_chart.specs.Neat.{AreNeat, IsNeat, step_shows}
@@ -37,7 +38,7 @@ use Rattle.batch_chart.proofs.ActsOf.{stands-at, numbers-rise}
 use Rattle.batch_chart.proofs.Joining.{known}
 use Rattle.batch_chart.proofs.Named.{entry-or-not}
 use Rattle.batch_chart.proofs.NodesStand.{node-stands}
-use Rattle.batch_chart.proofs.Numbering.{same-itself, before-differ}
+use Rattle.batch_chart.proofs.Numbering.{same-itself, not-same, before-differ}
 use Rattle.batch_chart.proofs.Sought.{ready-shows}
 use Rattle.batch_chart.proofs.Stepping.{number-at-place, act-here}
 use Rattle.batch_chart.proofs.Taking.{taken-none, taken-alike, ready-act_at}
@@ -168,25 +169,6 @@ among-has (held ∷ xs) p e = go (same_place p held.place) refl e (among-has xs 
     go true f g later = (held, inl refl, sym (to_same_place p held.place f))
     go false f g later = let m = later g in (m.0, inr m.1, m.2)
 
--- those of which a test of places leaves no more
-left-among : (f : Place → Bool) (xs : List InAdvance) (p : Place) → among (filter (λ held. not (f held.place)) xs) p ≡ (among xs p && not (f p))
-left-among f [] p = refl
-left-among f (held ∷ xs) p = go (f held.place) refl (same_place p held.place) refl (left-among f xs p)
-  where
-    dropped : (u v : Bool) → v ≡ true → (u && not v) ≡ ((true || u) && not v)
-    dropped u v e = grind arith
-
-    go : (v : Bool) → f held.place ≡ v → (t : Bool) → same_place p held.place ≡ t → among (filter (λ held. not (f held.place)) xs) p ≡ (among xs p && not (f p))
-        → among (cond (not v) (held ∷ filter (λ held. not (f held.place)) xs) (filter (λ held. not (f held.place)) xs)) p ≡ ((same_place p held.place || among xs p) && not (f p))
-    go true e true g below =
-        below ∙ dropped (among xs p) (f p) (ap f (to_same_place p held.place g) ∙ e) ∙ ap (λ t. (t || among xs p) && not (f p)) (sym g)
-    go true e false g below = below ∙ ap (λ t. (t || among xs p) && not (f p)) (sym g)
-    go false e true g below =
-        ap (λ t. t || among (filter (λ held. not (f held.place)) xs) p) g
-        ∙ sym (ap₂ (λ t v. (t || among xs p) && not v) g (ap f (to_same_place p held.place g) ∙ e))
-    go false e false g below =
-        ap (λ t. t || among (filter (λ held. not (f held.place)) xs) p) g ∙ below ∙ ap (λ t. (t || among xs p) && not (f p)) (sym g)
-
 pub filter-all : {X : Type 0} (f : X → Bool) (xs : List X) → ((x : X) → Has xs x → f x ≡ true) → filter f xs ≡ xs
 filter-all f [] h = refl
 filter-all f (x ∷ xs) h = go (f x) (h x (inl refl)) (filter-all f xs (λ y i. h y (inr i)))
@@ -222,10 +204,6 @@ same-when true y f g = sym (f refl)
 same-when false true f g = g refl
 same-when false false f g = refl
 
-and-not : (b x y : Bool) → (b ≡ true → x ≡ y) → (b && not x) ≡ (b && not y)
-and-not true x y f = ap not (f refl)
-and-not false x y f = refl
-
 not-true : (b : Bool) → not b ≡ true → b ≡ false
 not-true true e = absurd (cc)
 not-true false e = refl
@@ -241,7 +219,7 @@ module _ (ns : List Entry) (doc : Recipe) (t : Tree) (laid : IsLaid ns doc t) wh
     ]
   ]
 
-  module _ (ys zs : List Stage) (alive : IsAlive t ys) (old new : List ℕ) (noted : AreNoted t ys old) (neat : AreNeat ns doc 0 (length ns) ys old) (before after : List ℕ) (over : IsTakenOver ns doc ys zs old new before after) where
+  module _ (ys zs : List Stage) (alive : IsAlive t ys) (old new : List ℕ) (noted : AreNoted t ys old) (neat : AreNeat ns doc 0 (length ns) ys old) (early : ℕ → Bool) (over : IsTakenBy ns doc early ys zs old new) where
     abbrev now : Rest
     now = meaning t 0 ys
 
@@ -276,18 +254,18 @@ module _ (ns : List Entry) (doc : Recipe) (t : Tree) (laid : IsLaid ns doc t) wh
             any-has (λ x. same_place (place_of x) (place_at t k)) (acts now) a g.among
             (same_test (place_of a) (place_at t k) (ap place_of (g.is ∙ ap (act_as g.step g.task (meaning_below g.task (k + 1) ys)) form.1) ∙ sym g.place))
 
-    module _ (xs : List InAdvance) (was : Rest) (told : (k : ℕ) → k < node_count t → among xs (place_at t k) ≡ is_early before k) (waiting : AreWaiting xs was)
+    module _ (xs : List InAdvance) (was : Rest) (told : (k : ℕ) → k < node_count t → among xs (place_at t k) ≡ early k) (waiting : AreWaiting xs was)
         (fresh : (a : Rest) → Has (acts now) a → Nowhere (place_of a) (acts was) → IsFresh a) where
       -- the nodes whose acts take their units over are those that hold them in advance
-      taken-is : (k : ℕ) → k < length ns → is_ready (stage_at ys k) ≡ true → is_of t over.taken (place_at t k) ≡ is_early before k
-      taken-is k lt e = go (is_early before k) refl
+      taken-is : (k : ℕ) → k < length ns → is_ready (stage_at ys k) ≡ true → is_of t over.taken (place_at t k) ≡ early k
+      taken-is k lt e = go (early k) refl
         where
-          other : is_early before k ≡ false → (j : ℕ) → Has over.taken j → (b : Bool) → same_place (place_at t k) (place_at t j) ≡ b → b ≡ false
+          other : early k ≡ false → (j : ℕ) → Has over.taken j → (b : Bool) → same_place (place_at t k) (place_at t j) ≡ b → b ≡ false
           other n j i true f =
               let were = over.were j i in
               let small : j < length ns = ready-within j were.1 in
               let same : k ≡ j = number-one k j lt small (to_same_place (place_at t k) (place_at t j) f) in
-              absurd (let d : ◌≡◌ {A = Bool} true false = sym were.0 ∙ ap (is_early before) (sym same) ∙ n in cc)
+              absurd (let d : ◌≡◌ {A = Bool} true false = sym were.0 ∙ ap early (sym same) ∙ n in cc)
             where
               ready-within : (j : ℕ) → is_ready (stage_at ys j) ≡ true → j < length ns
               ready-within j r = elim (cases_lt j (length ys)) [
@@ -296,8 +274,8 @@ module _ (ns : List Entry) (doc : Recipe) (t : Tree) (laid : IsLaid ns doc t) wh
               ]
           other n j i false f = refl
 
-          go : (b : Bool) → is_early before k ≡ b → is_of t over.taken (place_at t k) ≡ is_early before k
-          go true n = any-has (λ j. same_place (place_at t k) (place_at t j)) over.taken k (over.all k lt n e) (same-itself (place_at t k)) ∙ sym n
+          go : (b : Bool) → early k ≡ b → is_of t over.taken (place_at t k) ≡ early k
+          go true n = any-has (λ j. same_place (place_at t k) (place_at t j)) over.taken k (over.all k n e) (same-itself (place_at t k)) ∙ sym n
           go false n = any-none (λ j. same_place (place_at t k) (place_at t j)) over.taken (λ j i. other n j i (same_place (place_at t k) (place_at t j)) refl) ∙ sym n
 
       agrees : (s : Step) (w : Task) (j : ℕ) → Has (acts now) (ready s w j) → is_of t over.taken s.place ≡ among xs s.place
@@ -311,8 +289,8 @@ module _ (ns : List Entry) (doc : Recipe) (t : Tree) (laid : IsLaid ns doc t) wh
       now-raised = (over.means t laid alive).1 ∙ taken-alike (is_of t over.taken) (among xs) now agrees ∙ sym (raised-taken xs now)
 
       -- what held its unit in advance and is reached is ready
-      same-ready : (k : ℕ) → k < node_count t → is_early before k ≡ true → is_reached now (place_at t k) ≡ is_ready (stage_at ys k)
-      same-ready k lt early = same-when (is_reached now (place_at t k)) (is_ready (stage_at ys k)) here (ready-reached k inside)
+      same-ready : (k : ℕ) → k < node_count t → early k ≡ true → is_reached now (place_at t k) ≡ is_ready (stage_at ys k)
+      same-ready k lt holds = same-when (is_reached now (place_at t k)) (is_ready (stage_at ys k)) here (ready-reached k inside)
         where
           inside : k < length ns
           inside = omega (arith, lt, laid.count)
@@ -320,7 +298,7 @@ module _ (ns : List Entry) (doc : Recipe) (t : Tree) (laid : IsLaid ns doc t) wh
           here : is_reached now (place_at t k) ≡ true → is_ready (stage_at ys k) ≡ true
           here e =
               let m = reached-at (place_at t k) now e in
-              let held = among-has xs (place_at t k) (told k lt ∙ early) in
+              let held = among-has xs (place_at t k) (told k lt ∙ holds) in
               let none = subst (λ p. Nowhere p (acts was)) (held.2 ∙ sym m.2) (waiting-nowhere xs was waiting held.0 held.1) in
               let f = fresh m.0 m.1 none in
               staged k m.0 f.0 f.1 0 inside m.1 m.2 f.2
@@ -328,16 +306,42 @@ module _ (ns : List Entry) (doc : Recipe) (t : Tree) (laid : IsLaid ns doc t) wh
       abbrev still : List InAdvance
       still = filter (λ held. not (is_reached (raised xs now) held.place)) xs
 
-      pub now-early : (k : ℕ) → k < node_count t → among still (place_at t k) ≡ is_early after k
-      now-early k lt =
-          left-among (is_reached (raised xs now)) xs (place_at t k)
-          ∙ ap (λ b. among xs (place_at t k) && not b) (reached-raised xs now (place_at t k))
-          ∙ ap (λ b. b && not (is_reached now (place_at t k))) (told k lt)
-          ∙ and-not (is_early before k) (is_reached now (place_at t k)) (is_ready (stage_at ys k)) (same-ready k lt)
-          ∙ sym (over.left k ∙ ap (λ b. is_early before k && not (b && is_ready (stage_at ys k))) below)
-        where
-          below : nat_lt k (length ns) ≡ true
-          below = let l : k < length ns = omega (arith, lt, laid.count) in grind (arith, nat_tests)
-
       pub now-waiting : AreWaiting still (raised xs now)
       now-waiting held i = not-true (is_reached (raised xs now) held.place) (Has-filter (λ h. not (is_reached (raised xs now) h.place)) xs held i).1
+
+      -- what is reached is no longer held in advance
+      pub still-early : (k : ℕ) → k < node_count t → early k ≡ true → not (is_reached (raised xs now) (place_at t k)) ≡ not (is_ready (stage_at zs k))
+      still-early k lt e = ap not (reached-raised xs now (place_at t k) ∙ same-ready k lt e ∙ sym (over.ready k))
+
+-- Lists of what is held in advance
+
+filter-map : {X Y : Type 0} (f : Y → Bool) (g : X → Y) (xs : List X) → filter f (map g xs) ≡ map g (filter (λ x. f (g x)) xs)
+filter-map f g [] = refl
+filter-map {X = X} {Y = Y} f g (x ∷ xs) = go (f (g x)) (filter-map f g xs)
+  where
+    go : (t : Bool) → filter f (map g xs) ≡ map g (filter (λ x. f (g x)) xs) → cond t (g x ∷ filter f (map g xs)) (filter f (map g xs)) ≡ map g (cond t (x ∷ filter (λ x. f (g x)) xs) (filter (λ x. f (g x)) xs))
+    go true e = ap (λ ys. g x ∷ ys) e
+    go false e = e
+
+filter-alike : {X : Type 0} (f g : X → Bool) (xs : List X) → ((x : X) → Has xs x → f x ≡ g x) → filter f xs ≡ filter g xs
+filter-alike f g [] h = refl
+filter-alike {X = X} f g (x ∷ xs) h = ap (λ t. cond t (x ∷ filter f xs) (filter f xs)) (h x (inl refl)) ∙ ap (λ ys. cond (g x) (x ∷ ys) ys) (filter-alike f g xs (λ y i. h y (inr i)))
+
+module _ (ns : List Entry) (doc : Recipe) (t : Tree) (laid : IsLaid ns doc t) where
+  same-number : (k j : ℕ) → k < length ns → j < length ns → same_place (place_at t k) (place_at t j) ≡ nat_eq j k
+  same-number k j l m = elim (eqb_tells j k) [
+    | inl q ↦ ap (λ z. same_place (place_at t k) (place_at t z)) q.1 ∙ same-itself (place_at t k) ∙ sym q.0
+    | inr q ↦ not-same (place_at t k) (place_at t j) (λ e. q.1 (sym (number-one ns doc t laid k j l m e))) ∙ sym q.0
+  ]
+
+  -- which places hold in advance, by their nodes
+  pub early-told : (held : List Passed) → ((p : Passed) → Has held p → p.to < length ns) → (k : ℕ) → k < node_count t → among (in_advance t held) (place_at t k) ≡ is_early held k
+  early-told [] within k lt = refl
+  early-told (p ∷ held) within k lt =
+      ap₂ (λ a b. a || b) (same-number k p.to (omega (arith, lt, laid.count)) (within p (inl refl))) (early-told held (λ q i. within q (inr i)) k lt)
+
+  pub still-held : (held : List Passed) (rest : Rest) (zs : List Stage) → ((p : Passed) → Has held p → not (is_reached rest (place_at t p.to)) ≡ not (is_ready (stage_at zs p.to)))
+      → filter (λ x. not (is_reached rest x.place)) (in_advance t held) ≡ in_advance t (filter (λ p. not (is_ready (stage_at zs p.to))) held)
+  still-held held rest zs h =
+      filter-map (λ (x : InAdvance). not (is_reached rest x.place)) (λ (p : Passed). record { place = place_at t p.to; unit = need_at t p.node p.need }) held
+      ∙ ap (in_advance t) (filter-alike (λ p. not (is_reached rest (place_at t p.to))) (λ p. not (is_ready (stage_at zs p.to))) held h)

@@ -8,21 +8,10 @@ use Rattle.batch_recipe.specs.Tree.{Step, Phase, Trees, Choices, Tree, runs, fol
 use Rattle.batch_recipe.specs.declared.entry.Entry.{Entry}
 use Rattle.batch_recipe.specs.declared.recipe.Recipe.{Recipe}
 use Rattle.batch_chart.specs.declared.running.Running.{Running}
-use Rattle.batch_chart.specs.declared.chart_move.Move.{Move}
-use Rattle.batch_chart.specs.declared.chart_move.Move.TheVariants as move
 use Rattle.batch_chart.specs.declared.stage.Stage.{Stage}
 use Rattle.batch_recipe.specs.Conditions.{ValueList}
-use Rattle.batch_model.specs.Rest.{Rest, withdrawn}
-use Rattle.batch_model.specs.Plant.{InAdvance}
-use Rattle.std.proofs.Common.{[], replicate}
-use Rattle.std.proofs.lemmas.List.{length-replicate}
-use Rattle.batch_signs.specs.Signs.{shows}
-use Rattle.batch_signs.proofs.Wanting.{nothing-shown}
-use Rattle.batch_chart.specs.Early.{is_early}
-use Rattle.batch_chart.specs.declared.sign.TheConstants.{IS_EARLY}
-use Rattle.batch_chart.proofs.Started.{no-signs}
-use Rattle.batch_chart.proofs.Places.{withdrawn-reached}
-use Rattle.batch_chart.specs.Charts.{CanMake, IsChartOf, IsRunning, IsRunningOf, RunsAs, remains}
+use Rattle.batch_model.specs.Rest.{withdrawn}
+use Rattle.batch_chart.specs.Charts.{IsChartOf, IsRunning, IsRunningOf, remains}
 use Rattle.batch_chart.specs.Meaning.{meaning}
 use Rattle.batch_chart.specs.Starting.{HasStarted, AreStarted, HasWithdrawn, AreWithdrawn}
 use Rattle.batch_chart.proofs.Withdrawn.{withdrawn-neat}
@@ -115,60 +104,40 @@ runs-in-order chart running h =
       count = count;
     }
 
--- there is room for each node
-pub early-fits : (chart : Recipe) (running : Running) → IsRunning chart running → length running.early ≡ length chart.outline.entries.items
-early-fits chart running h = h.2.early ∙ sym h.1.count
-
-pub pass-within : (chart : Recipe) (running : Running) (m : Move) → CanMake chart running m → (i j to : ℕ) → m ≡ move.Pass i to j → to < length chart.outline.entries.items
-pass-within chart running m can i j to e = (subst (λ z. CanMake chart running z) e can).1
-
 -- it runs, where its stages live and its signs go by them
-pub runs-by : (chart : Recipe) (running : Running) (t : Tree) → IsChartOf t chart → IsAlive t running.stages.items → length running.signs ≡ length chart.outline.entries.items → length running.early ≡ length chart.outline.entries.items
+pub runs-by : (chart : Recipe) (running : Running) (t : Tree) → IsChartOf t chart → IsAlive t running.stages.items → length running.signs ≡ length chart.outline.entries.items
     → AreNeat chart.outline.entries.items chart 0 (length chart.outline.entries.items) running.stages.items running.signs → IsRunningOf t running
-runs-by chart running t laid alive count early neat = record {
+runs-by chart running t laid alive count neat = record {
   alive = alive;
   count = count ∙ laid.count;
-  early = early ∙ laid.count;
   neat = λ ms es other. neat-anywhere t chart.outline.entries.items ms chart es laid other running.stages.items running.signs neat;
 }
 
 -- a call has changed the stages, and the signs with them
-pub went-on : (chart : Recipe) (old new : Running) (ys : List Stage) → new.stages.items ≡ ys → IsKeptUp chart.outline.entries.items chart old.stages.items ys old.signs new.signs → (t : Tree) → IsChartOf t chart → IsRunningOf t old → IsAlive t ys → new.early ≡ old.early
+pub went-on : (chart : Recipe) (old new : Running) (ys : List Stage) → new.stages.items ≡ ys → IsKeptUp chart.outline.entries.items chart old.stages.items ys old.signs new.signs → (t : Tree) → IsChartOf t chart → IsRunningOf t old → IsAlive t ys
     → IsRunningOf t new
-went-on chart old new ys is up t laid ran alive same =
-    runs-by chart new t laid (subst (IsAlive t) (sym is) alive) (up.count ∙ ran.count ∙ sym laid.count) (ap length same ∙ ran.early ∙ sym laid.count)
+went-on chart old new ys is up t laid ran alive =
+    runs-by chart new t laid (subst (IsAlive t) (sym is) alive) (up.count ∙ ran.count ∙ sym laid.count)
     (subst (λ z. AreNeat chart.outline.entries.items chart 0 (length chart.outline.entries.items) z new.signs) (sym is) (up.keeps (ran.neat chart.outline.entries.items chart laid)))
 
 pub started-runs : (chart : Recipe) (running : Running) (ys : List Stage) → running.stages.items ≡ ys → HasStarted (length chart.outline.entries.items) ys → AreStarted chart.outline.entries.items ys running.signs → (t : Tree) (vs : ValueList) → IsChartOf t chart
-    → running.early ≡ replicate (length chart.outline.entries.items) 0 → IsRunningOf t running × (remains t running ≡ reach_by vs t) × RunsAs t running (reach_by vs t) []
-started-runs chart running ys is started shown t vs laid none =
+    → IsRunningOf t running × (remains t running ≡ reach_by vs t)
+started-runs chart running ys is started shown t vs laid =
     let h = started.means t vs laid.root laid.count in (
-      runs-by chart running t laid (subst (IsAlive t) (sym is) h.0) shown.0 (ap length none ∙ length-replicate {A = ℕ} (length chart.outline.entries.items) 0) (subst (λ z. AreNeat chart.outline.entries.items chart 0 (length chart.outline.entries.items) z running.signs) (sym is) (shown.1 chart t laid)),
+      runs-by chart running t laid (subst (IsAlive t) (sym is) h.0) shown.0 (subst (λ z. AreNeat chart.outline.entries.items chart 0 (length chart.outline.entries.items) z running.signs) (sym is) (shown.1 chart t laid)),
       ap (meaning t 0) is ∙ h.1,
-      record {
-        rest = sym (ap (meaning t 0) is ∙ h.1);
-        early = λ k lt. sym (ap (λ l. is_early l k) none ∙ ap (shows IS_EARLY) (no-signs (length chart.outline.entries.items) k) ∙ nothing-shown IS_EARLY);
-        waiting = λ x i. absurd i;
-      },
     )
 
-pub stopped-runs : (old new : Running) (ys : List Stage) → new.stages.items ≡ ys → HasWithdrawn old.stages.items ys → AreWithdrawn old.stages.items ys old.signs new.signs → (t : Tree) → new.early ≡ old.early → IsRunningOf t old
-    → IsRunningOf t new × (remains t new ≡ withdrawn (remains t old)) × ((r : Rest) (held : List InAdvance) → RunsAs t old r held → RunsAs t new (withdrawn r) held)
-stopped-runs old new ys is stopped shown t same ran =
+pub stopped-runs : (old new : Running) (ys : List Stage) → new.stages.items ≡ ys → HasWithdrawn old.stages.items ys → AreWithdrawn old.stages.items ys old.signs new.signs → (t : Tree) → IsRunningOf t old → IsRunningOf t new × (remains t new ≡ withdrawn (remains t old))
+stopped-runs old new ys is stopped shown t ran =
     let h = stopped.means t ran.alive in (
       record {
         alive = subst (IsAlive t) (sym is) h.0;
         count = shown.0 ∙ ran.count;
-        early = ap length same ∙ ran.early;
         neat = λ ns doc laid.
             subst (λ z. AreNeat ns doc 0 (length ns) z new.signs) (sym is) (withdrawn-neat ns doc old.stages.items ys old.signs new.signs shown.1 shown.2 0 (length ns) (ran.neat ns doc laid));
       },
       ap (meaning t 0) is ∙ h.1,
-      λ r held runs. record {
-        rest = ap withdrawn runs.rest ∙ sym (ap (meaning t 0) is ∙ h.1);
-        early = λ k lt. runs.early k lt ∙ ap (λ l. is_early l k) (sym same);
-        waiting = λ x i. withdrawn-reached r x.place ∙ runs.waiting x i;
-      },
     )
 
 pub some-map : {X : Type 0} (P Q : X → Type 0) → ((x : X) → P x → Q x) → (o : Option X) → IfSome o P → IfSome o Q

@@ -1,10 +1,7 @@
 -- Ready acts take over what is held for them in advance.
-use Rattle.std.proofs.Common.{◌≡◌, ◌≢◌, ◌⊎◌, inl, inr, ◌<◌, ◌≤◌, ℕ, zero, suc, ◌+◌, List, [], ◌∷◌, length, take, Bool, true, false, ◌&&◌, ◌||◌, Some, None, nat_lt, arith, refl, sym, ◌∙◌, subst, ap, ap₂}
-use Rattle.std.specs.Prelude.{not, slice_set}
-use Rattle.std.specs.Int.Bits.{bit_and}
-use Rattle.std.proofs.lemmas.Bool.{cases_lt}
+use Rattle.std.proofs.Common.{◌≡◌, ◌≢◌, ◌⊎◌, inl, inr, ◌<◌, ◌≤◌, ℕ, zero, suc, ◌+◌, List, [], ◌∷◌, length, take, Bool, true, false, ◌&&◌, ◌||◌, Some, None, nat_eq, nat_lt, arith, refl, sym, ◌∙◌, subst, ap, ap₂}
 use Rattle.std.proofs.lemmas.Bool.Decides.{eqb_tells, nat_tests}
-use Rattle.std.proofs.lemmas.List.{length-set, get_or-set_same, get_or-set_other}
+use Rattle.std.specs.Prelude.{slice_set}
 use Rattle.batch_recipe.specs.Nodes.{node_count}
 use Rattle.batch_recipe.specs.Tree.{Place, Step, Task, runs, follows, Tree, act, skip, seq, par, sel, loop}
 use Rattle.batch_recipe.specs.declared.entry.Entry.{Entry}
@@ -15,10 +12,10 @@ use Rattle.batch_model.proofs.Members.{Has-left, Has-right}
 use Rattle.batch_machine.proofs.Changing.{to_same_place}
 use Rattle.batch_machine.proofs.Keeping.{RemainsAs}
 use Rattle.batch_chart.specs.declared.node.Kind.{Kind}
-use Rattle.batch_chart.specs.declared.sign.TheConstants.{IS_EARLY}
 use Rattle.batch_chart.specs.declared.stage.Stage.{Stage}
 use Rattle.batch_chart.specs.declared.stage.Stage.TheVariants.{Ready}
-use Rattle.batch_chart.specs.Early.{is_early, is_ready, taking, taken_by, taken_by_each, is_of, first_held, IsTakenTo, IsTakenAt, IsTakenOver}
+use Rattle.batch_chart.specs.Early.{is_early, is_ready, taking, taken_by, taken_by_each, is_of, to_at, first_held, IsTakenTo, IsTakenAt, IsTakenBy}
+use Rattle.batch_chart.specs.declared.passed.Passed.{Passed}
 use Rattle.batch_chart.specs.Meaning.{meaning, meaning_below, meaning_each, act_as, loop_as, branch, chosen}
 use Rattle.batch_chart.specs.Needs.{needs_of}
 use Rattle.batch_chart.specs.NodesOf.{node_at, place_at}
@@ -28,14 +25,11 @@ use Rattle.batch_chart.specs.Running.{IsLaid, IsAlive, IsChangedOnly, SomeLives}
 use Rattle.batch_chart.specs.Stages.{stage_at, is_finished, is_begun, turns_of}
 use Rattle.batch_chart.specs.Told.{TellsWhetherOver, AreTold}
 use Rattle.batch_chart.specs.Upkeep.{IsKeptUp}
-use Rattle.batch_signs.specs.Signs.{IsNextShown, NoneShows, shows, sign_at}
 use Rattle.batch_chart.proofs.Agreeing.{stage-set_same, stage-set_other}
 use Rattle.batch_chart.proofs.Choosing.{chosen-false}
 use Rattle.batch_chart.proofs.Joining.{known}
 use Rattle.batch_chart.proofs.Moved.{calm-ready}
 use Rattle.batch_chart.proofs.NodesStand.{node-stands}
-use Rattle.batch_chart.proofs.Picking.{shown-not, shown-so}
-use Rattle.batch_signs.proofs.Wanting.{nothing-shown}
 use Rattle.batch_chart.proofs.Stepping.{Fits, fits-count, IsGood, set-step, set-calm, set-told, stepped, calmed, number-at-place, all-told}
 use Rattle.batch_chart.proofs.Upkept.{same-kept, come-kept}
 
@@ -181,215 +175,142 @@ taking-next ns doc xs k h m lt acting was e =
 
 -- Node by node
 
-is-shown : (m s : ℕ) → (bit_and s m ≡ 0 → ⊥) → shows m s ≡ true
-is-shown m s f = go (shows m s) refl
-  where
-    go : (t : Bool) → shows m s ≡ t → shows m s ≡ true
-    go true e = e
-    go false e = absurd (f (shown-so m s e))
-
-not-below : (k n : ℕ) → n ≤ k → nat_lt k n ≡ false
-not-below k n le = grind (arith, nat_tests)
-
-is-below : (k n : ℕ) → k < n → nat_lt k n ≡ true
-is-below k n lt = grind (arith, nat_tests)
-
-left-later : (b r t : Bool) → t ≡ false → (b && not (t && r)) ≡ b
-left-later b r t e = grind arith
-
-left-other : (b r t : Bool) → r ≡ false → (b && not (t && r)) ≡ b
-left-other b r t e = grind arith
-
-left-taken : (b r t : Bool) → r ≡ true → t ≡ true → (b && not (t && r)) ≡ false
-left-taken b r t e f = grind arith
-
-beside : (k n : ℕ) → k ≢ n → (k < n) ⊎ (n + 1 ≤ k)
-beside k n ne = elim (cases_lt k n) [ inl lt ↦ inl lt | inr le ↦ inr (omega (arith, ne)) ]
-
-module _ (ns : List Entry) (doc : Recipe) (xs : List Stage) (old before : List ℕ) where
-  abbrev To : ℕ → List Stage → List ℕ → List ℕ → Type 0
-  To end ys new after = IsTakenTo ns doc end xs ys old new before after
-
-  pub taken-first : To 0 xs old before
+module _ (ns : List Entry) (doc : Recipe) (held : List Passed) (xs : List Stage) (old : List ℕ) where
+  pub taken-first : IsTakenTo ns doc held 0 xs xs old old
   taken-first = record {
     taken = [];
     means = λ t laid alive. (alive, sym (taken-none (is_of t []) (λ p. refl) (meaning t 0 xs)));
     kept = same-kept ns doc xs old;
     were = λ k h. absurd h;
-    all = λ k lt e f. absurd (omega arith);
-    left = λ k. sym (left-later (is_early before k) (is_ready (stage_at xs k)) (nat_lt k 0) (not-below k 0 (omega arith)));
-    within = omega arith;
-    later = λ k le. refl;
-    count = refl;
+    all = λ j lt e. absurd (omega arith);
+    ready = λ k. refl;
   }
 
-  module _ (from n : ℕ) (ys : List Stage) (new after : List ℕ) (h : To from ys new after) (order : from ≤ n) (none : NoneShows after IS_EARLY from n) where
-    -- what is held in advance from there on is as before
-    as-before : (k : ℕ) → from ≤ k → is_early after k ≡ is_early before k
-    as-before k le = h.left k ∙ left-later (is_early before k) (is_ready (stage_at xs k)) (nat_lt k from) (not-below k from le)
+  module _ (i : ℕ) (ys : List Stage) (new : List ℕ) (h : IsTakenTo ns doc held i xs ys old new) where
+    weaker : (k : ℕ) → (j : ℕ) × (j < i) × (to_at held j ≡ k) → (j : ℕ) × (j < i + 1) × (to_at held j ≡ k)
+    weaker k m = (m.0, omega (arith, m.1), m.2)
 
-    between : (k : ℕ) → from ≤ k → k < n → is_early before k ≡ false
-    between k le lt = sym (as-before k le) ∙ shown-not IS_EARLY (sign_at after k) (none k le lt)
-
-    -- the others are left as they are
-    left-beside : (last : ℕ) → n ≤ last → (k : ℕ) → (k < n) ⊎ (last ≤ k) → is_early after k ≡ (is_early before k && not (nat_lt k last && is_ready (stage_at xs k)))
-    left-beside last above k (inl lt) = elim (cases_lt k from) [
-      | inl l ↦ h.left k ∙ ap (λ t. is_early before k && not (t && is_ready (stage_at xs k))) (is-below k from l ∙ sym (is-below k last (omega (arith, lt, above))))
-      | inr le ↦ as-before k le ∙ between k le lt ∙ sym (ap (λ b. b && not (nat_lt k last && is_ready (stage_at xs k))) (between k le lt))
-    ]
-    left-beside last above k (inr le) =
-        as-before k (omega (arith, le, above, order)) ∙ sym (left-later (is_early before k) (is_ready (stage_at xs k)) (nat_lt k last) (not-below k last le))
-
-    all-beside : (ks : List ℕ) → ((k : ℕ) → Has h.taken k → Has ks k) → (k : ℕ) → k < n → is_early before k ≡ true → is_ready (stage_at xs k) ≡ true → Has ks k
-    all-beside ks more k lt e f = elim (cases_lt k from) [
-      | inl l ↦ more k (h.all k l e f)
-      | inr le ↦ absurd (let q : ◌≡◌ {A = Bool} true false = sym e ∙ between k le lt in cc)
-    ]
-
-    pub taken-all : length ns ≤ n → To (length ns) ys new after
-    taken-all past = record {
+    -- nothing ready is at the node
+    taken-not : is_ready (stage_at ys (to_at held i)) ≡ false → IsTakenTo ns doc held (i + 1) xs ys old new
+    taken-not idle = record {
       taken = h.taken;
       means = h.means;
       kept = h.kept;
-      were = h.were;
-      all = λ k lt e f. all-beside h.taken (λ j i. i) k (omega (arith, lt, past)) e f;
-      left = λ k. left-all k;
-      within = omega arith;
-      later = λ k le. h.later k (omega (arith, le, h.within));
-      count = h.count;
+      were = λ k q. (let w = h.were k q in (weaker k w.0, w.1));
+      all = λ j lt e. elim (eqb_tells j i) [
+        | inl q ↦ absurd (let d : ◌≡◌ {A = Bool} true false = sym e ∙ ap (λ z. is_ready (stage_at xs (to_at held z))) q.1 ∙ sym (h.ready (to_at held i)) ∙ idle in cc)
+        | inr q ↦ h.all j (omega (arith, lt, q.1)) e
+      ];
+      ready = h.ready;
     }
-      where
-        left-all : (k : ℕ) → is_early after k ≡ (is_early before k && not (nat_lt k (length ns) && is_ready (stage_at xs k)))
-        left-all k = elim (cases_lt k n) [
-          | inl lt ↦ elim (cases_lt k (length ns)) [
-            | inl l ↦ left-inner k lt l
-            | inr le ↦ as-before k (omega (arith, le, h.within)) ∙ sym (left-later (is_early before k) (is_ready (stage_at xs k)) (nat_lt k (length ns)) (not-below k (length ns) le))
-          ]
-          | inr le ↦ as-before k (omega (arith, le, order)) ∙ sym (left-later (is_early before k) (is_ready (stage_at xs k)) (nat_lt k (length ns)) (not-below k (length ns) (omega (arith, le, past))))
-        ]
-          where
-            left-inner : (k : ℕ) → k < n → k < length ns → is_early after k ≡ (is_early before k && not (nat_lt k (length ns) && is_ready (stage_at xs k)))
-            left-inner k lt l = elim (cases_lt k from) [
-              | inl less ↦ h.left k ∙ ap (λ t. is_early before k && not (t && is_ready (stage_at xs k))) (is-below k from less ∙ sym (is-below k (length ns) l))
-              | inr le ↦ as-before k le ∙ between k le lt ∙ sym (ap (λ b. b && not (nat_lt k (length ns) && is_ready (stage_at xs k))) (between k le lt))
-            ]
 
-    module _ (inside : n < length ns) where
-      -- nothing ready is at the node
-      pub taken-not : is_ready (stage_at ys n) ≡ false → To (n + 1) ys new after
-      taken-not idle = record {
-        taken = h.taken;
-        means = h.means;
-        kept = h.kept;
-        were = h.were;
-        all = λ k lt e f. elim (eqb_tells k n) [
-          | inl q ↦ absurd (let d : ◌≡◌ {A = Bool} true false = sym f ∙ ap (λ z. is_ready (stage_at xs z)) q.1 ∙ was in cc)
-          | inr q ↦ all-beside h.taken (λ j i. i) k (omega (arith, lt, q.1)) e f
+    -- the act there takes its unit over
+    module _ (j m : ℕ) (zs : List Stage) (signs : List ℕ) (was : stage_at ys (to_at held i) ≡ Ready j) (inside : to_at held i < length ns) (first : m ≡ first_held (needs_of (kind_at ns (to_at held i))))
+        (come : HasCome ns (to_at held i) (Ready m) ys zs new signs) (lives : SomeLives ns doc xs) (count : length old ≡ length ns) where
+      ys-alive : IsAlive lives.0 ys
+      ys-alive = (h.means lives.0 lives.1 lives.2).0
+
+      fits : length ys ≡ length ns
+      fits = ys-alive.fits ∙ sym lives.1.count
+
+      acting : is_act_kind (kind_at ns (to_at held i)) ≡ true
+      acting = ready-act_at ns doc ys (to_at held i) j was lives.0 lives.1 ys-alive inside
+
+      ready_before : is_ready (stage_at xs (to_at held i)) ≡ true
+      ready_before = sym (h.ready (to_at held i)) ∙ ap is_ready was
+
+      one-ready : (t : Tree) → IsLaid ns doc t → (a : Rest) → Has (acts (meaning t 0 ys)) a → place_of a ≡ place_at t (to_at held i) → IsReadyAct a
+      one-ready t laid a l e =
+          let g = known ns doc ys t laid (to_at held i, a) (number-at-place ns doc t laid ys (to_at held i) a inside l e) in
+          (g.step, g.task, j, g.is ∙ ap (act_as g.step g.task (meaning_below g.task (to_at held i + 1) ys)) was)
+
+      now-taken : (t : Tree) → IsLaid ns doc t → IsAlive t xs → IsAlive t zs × (meaning t 0 zs ≡ taken_by (is_of t (to_at held i ∷ h.taken)) (meaning t 0 xs))
+      now-taken t laid alive =
+          let a = h.means t laid alive in
+          let c = (taking-next ns doc ys (to_at held i) j m inside acting was first).means t laid a.0 in (
+            subst (IsAlive t) (sym come.stages) c.0,
+            ap (meaning t 0) come.stages ∙ c.1 ∙ ap (changed_at (place_at t (to_at held i)) taking) a.1
+            ∙ changed-taken (place_at t (to_at held i)) (is_of t h.taken) (meaning t 0 xs) (λ b l e. one-ready t laid b (subst (λ r. Has (acts r) b) (sym a.1) l) e),
+          )
+
+      now-kept : IsKeptUp ns doc xs zs old signs
+      now-kept =
+          let k = come-kept ns doc ys zs new signs (lives.0, lives.1, ys-alive) (h.kept.count ∙ count) (to_at held i) (Ready j) (Ready m) inside acting tt tt was come in
+          record { count = k.count ∙ h.kept.count; keeps = λ z. k.keeps (h.kept.keeps z) }
+
+      now-ready : (k : ℕ) → is_ready (stage_at zs k) ≡ is_ready (stage_at xs k)
+      now-ready k = elim (eqb_tells k (to_at held i)) [
+        | inl q ↦
+            subst (λ z. is_ready (stage_at zs z) ≡ is_ready (stage_at xs z)) (sym q.1)
+            (ap is_ready (ap (λ l. stage_at l (to_at held i)) come.stages ∙ stage-set_same ys (to_at held i) (Ready m) (omega (arith, inside, fits))) ∙ sym ready_before)
+        | inr q ↦ ap is_ready (ap (λ l. stage_at l k) come.stages ∙ stage-set_other ys (to_at held i) k (Ready m) q.1) ∙ h.ready k
+      ]
+
+      taken-one : IsTakenTo ns doc held (i + 1) xs zs old signs
+      taken-one = record {
+        taken = to_at held i ∷ h.taken;
+        means = now-taken;
+        kept = now-kept;
+        were = λ k q. elim q [
+          | inl e ↦ ((i, omega arith, e), ap (λ z. is_ready (stage_at xs z)) (sym e) ∙ ready_before)
+          | inr l ↦ (weaker k (h.were k l).0, (h.were k l).1)
         ];
-        left = λ k. elim (eqb_tells k n) [
-          | inl q ↦
-              subst (λ z. is_early after z ≡ (is_early before z && not (nat_lt z (n + 1) && is_ready (stage_at xs z)))) (sym q.1)
-              (as-before n order ∙ sym (left-other (is_early before n) (is_ready (stage_at xs n)) (nat_lt n (n + 1)) was))
-          | inr q ↦ left-beside (n + 1) (omega arith) k (beside k n q.1)
+        all = λ l lt e. elim (eqb_tells l i) [
+          | inl q ↦ inl (ap (to_at held) (sym q.1))
+          | inr q ↦ inr (h.all l (omega (arith, lt, q.1)) e)
         ];
-        within = omega arith;
-        later = λ k le. h.later k (omega (arith, le, order));
-        count = h.count;
+        ready = now-ready;
       }
-        where
-          was : is_ready (stage_at xs n) ≡ false
-          was = ap is_ready (sym (h.later n order)) ∙ idle
 
-      -- the act there takes its unit over
-      module _ (j m : ℕ) (zs : List Stage) (signs later : List ℕ) (shown : bit_and (sign_at after n) IS_EARLY ≡ 0 → ⊥) (was : stage_at ys n ≡ Ready j) (held : m ≡ first_held (needs_of (kind_at ns n)))
-          (come : HasCome ns n (Ready m) ys zs new signs) (is : later ≡ slice_set after n 0) (lives : SomeLives ns doc xs) (count : length old ≡ length ns) (all_early : length after ≡ length ns) where
-        acting : is_act_kind (kind_at ns n) ≡ true
-        acting = ready-act_at ns doc ys n j was lives.0 lives.1 (h.means lives.0 lives.1 lives.2).0 inside
+    pub taken-next : (zs : List Stage) (signs : List ℕ) → IsTakenAt ns (to_at held i) ys zs new signs → to_at held i < length ns → SomeLives ns doc xs → length old ≡ length ns → IsTakenTo ns doc held (i + 1) xs zs old signs
+    taken-next zs signs at inside lives count = go at
+      where
+        go : IsTakenAt ns (to_at held i) ys zs new signs → IsTakenTo ns doc held (i + 1) xs zs old signs
+        go (inl a) = taken-one a.0 (first_held (needs_of (kind_at ns (to_at held i)))) zs signs a.1 inside refl a.2 lives count
+        go (inr a) = subst (λ z. IsTakenTo ns doc held (i + 1) xs z old signs) (sym a.1) (subst (λ z. IsTakenTo ns doc held (i + 1) xs ys old z) (sym a.2) (taken-not a.0))
 
-        ready_before : is_ready (stage_at xs n) ≡ true
-        ready_before = ap is_ready (sym (h.later n order) ∙ was)
+    pub as-many-stages : SomeLives ns doc xs → length ys ≡ length ns
+    as-many-stages lives = (h.means lives.0 lives.1 lives.2).0.fits ∙ sym lives.1.count
 
-        early_before : is_early before n ≡ true
-        early_before = sym (as-before n order) ∙ is-shown IS_EARLY (sign_at after n) shown
+-- those that hold in advance, by their numbers
 
-        one-ready : (t : Tree) → IsLaid ns doc t → (a : Rest) → Has (acts (meaning t 0 ys)) a → place_of a ≡ place_at t n → IsReadyAct a
-        one-ready t laid a i e =
-            let g = known ns doc ys t laid (n, a) (number-at-place ns doc t laid ys n a inside i e) in
-            (g.step, g.task, j, g.is ∙ ap (act_as g.step g.task (meaning_below g.task (n + 1) ys)) was)
+early-at : (held : List Passed) (k : ℕ) → is_early held k ≡ true → (j : ℕ) × (j < length held) × (to_at held j ≡ k)
+early-at [] k e = absurd (cc)
+early-at (p ∷ held) k e = elim (eqb_tells p.to k) [
+  | inl q ↦ (0, omega arith, q.1)
+  | inr q ↦ (let m = early-at held k (ap (λ b. b || is_early held k) (sym q.0) ∙ e) in (suc m.0, omega (arith, m.1), m.2))
+]
 
-        now-taken : (t : Tree) → IsLaid ns doc t → IsAlive t xs → IsAlive t zs × (meaning t 0 zs ≡ taken_by (is_of t (n ∷ h.taken)) (meaning t 0 xs))
-        now-taken t laid alive =
-            let a = h.means t laid alive in
-            let c = (taking-next ns doc ys n j m inside acting was held).means t laid a.0 in (
-              subst (IsAlive t) (sym come.stages) c.0,
-              ap (meaning t 0) come.stages ∙ c.1 ∙ ap (changed_at (place_at t n) taking) a.1
-              ∙ changed-taken (place_at t n) (is_of t h.taken) (meaning t 0 xs) (λ b i e. one-ready t laid b (subst (λ r. Has (acts r) b) (sym a.1) i) e),
-            )
+at-early : (held : List Passed) (k j : ℕ) → j < length held → to_at held j ≡ k → is_early held k ≡ true
+at-early [] k j lt e = absurd (omega arith)
+at-early (p ∷ held) k zero lt e = elim (eqb_tells p.to k) [
+  | inl q ↦ ap (λ b. b || is_early held k) q.0
+  | inr q ↦ absurd (q.1 e)
+]
+at-early (p ∷ held) k (suc j) lt e = later (nat_eq p.to k) (is_early held k) (at-early held k j (omega arith) e)
+  where
+    later : (t u : Bool) → u ≡ true → (t || u) ≡ true
+    later true u e = refl
+    later false u e = e
 
-        now-kept : IsKeptUp ns doc xs zs old signs
-        now-kept =
-            let k = come-kept ns doc ys zs new signs (lives.0, lives.1, (h.means lives.0 lives.1 lives.2).0) (h.kept.count ∙ count) n (Ready j) (Ready m) inside acting tt tt was come in
-            record { count = k.count ∙ h.kept.count; keeps = λ z. k.keeps (h.kept.keeps z) }
-
-        sign-other : (k : ℕ) → k ≢ n → is_early later k ≡ is_early after k
-        sign-other k ne = ap (shows IS_EARLY) (ap (λ l. sign_at l k) is ∙ get_or-set_other after n k 0 0 ne)
-
-        sign-own : is_early later n ≡ false
-        sign-own = ap (shows IS_EARLY) (ap (λ l. sign_at l n) is ∙ get_or-set_same after n 0 0 (omega (arith, inside, all_early))) ∙ nothing-shown IS_EARLY
-
-        pub taken-one : To (n + 1) zs signs later
-        taken-one = record {
-          taken = n ∷ h.taken;
-          means = now-taken;
-          kept = now-kept;
-          were = λ k i. elim i [
-            | inl e ↦ subst (λ z. (is_early before z ≡ true) × (is_ready (stage_at xs z) ≡ true)) e (early_before, ready_before)
-            | inr i ↦ h.were k i
-          ];
-          all = λ k lt e f. elim (eqb_tells k n) [
-            | inl q ↦ inl (sym q.1)
-            | inr q ↦ all-beside (n ∷ h.taken) (λ l i. inr i) k (omega (arith, lt, q.1)) e f
-          ];
-          left = λ k. elim (eqb_tells k n) [
-            | inl q ↦
-                subst (λ z. is_early later z ≡ (is_early before z && not (nat_lt z (n + 1) && is_ready (stage_at xs z)))) (sym q.1)
-                (sign-own ∙ sym (left-taken (is_early before n) (is_ready (stage_at xs n)) (nat_lt n (n + 1)) ready_before (is-below n (n + 1) (omega arith))))
-            | inr q ↦ sign-other k q.1 ∙ left-beside (n + 1) (omega arith) k (beside k n q.1)
-          ];
-          within = omega arith;
-          later = λ k le. ap (λ l. stage_at l k) come.stages ∙ stage-set_other ys n k (Ready m) (omega (arith, le)) ∙ h.later k (omega (arith, le, order));
-          count = ap length is ∙ length-set after n 0 ∙ h.count;
-        }
+pub taken-end : (ns : List Entry) (doc : Recipe) (held : List Passed) (xs ys : List Stage) (old new : List ℕ) (end : ℕ) → end ≡ length held → IsTakenTo ns doc held end xs ys old new → IsTakenBy ns doc (is_early held) xs ys old new
+taken-end ns doc held xs ys old new end last h = record {
+  taken = h.taken;
+  means = h.means;
+  kept = h.kept;
+  were = λ k q. (let w = h.were k q in (at-early held k w.0.0 (let l = w.0.1 in omega (arith, l, last)) w.0.2, w.1));
+  all = λ k e f. (let m = early-at held k e in subst (Has h.taken) m.2 (h.all m.0 (let l = m.1 in omega (arith, l, last)) (ap (λ z. is_ready (stage_at xs z)) m.2 ∙ f)));
+  ready = h.ready;
+}
 
 not-ready : (x : Stage) → ((h : ℕ) → x ≡ Ready h → ⊥) → is_ready x ≡ false
 not-ready (Ready h) f = absurd (f h refl)
 not-ready x f = refl
 
-module _ (ns : List Entry) (n : ℕ) (xs : List Stage) (old before : List ℕ) where
+module _ (ns : List Entry) (n : ℕ) (xs : List Stage) (old : List ℕ) where
   -- what is ready comes to hold its first need
-  pub taken-at : (j m : ℕ) (ys : List Stage) (new after : List ℕ) → stage_at xs n ≡ Ready j → m ≡ first_held (needs_of (kind_at ns n)) → HasCome ns n (Ready m) xs ys old new → after ≡ slice_set before n 0 → IsTakenAt ns n xs ys old new before after
-  taken-at j m ys new after was e come is = inl (j, was, subst (λ z. HasCome ns n (Ready z) xs ys old new) e come, is)
+  pub taken-at : (j m : ℕ) (ys : List Stage) (new : List ℕ) → stage_at xs n ≡ Ready j → m ≡ first_held (needs_of (kind_at ns n)) → HasCome ns n (Ready m) xs ys old new → IsTakenAt ns n xs ys old new
+  taken-at j m ys new was e come = inl (j, was, subst (λ z. HasCome ns n (Ready z) xs ys old new) e come)
 
-  pub idle-at : ((h : ℕ) → stage_at xs n ≡ Ready h → ⊥) → IsTakenAt ns n xs xs old old before before
-  idle-at f = inr (not-ready (stage_at xs n) f, refl, refl, refl)
-
-module _ (ns : List Entry) (doc : Recipe) (xs : List Stage) (old before : List ℕ) (from : ℕ) (ys : List Stage) (new after : List ℕ) (h : IsTakenTo ns doc from xs ys old new before after) (all : length after ≡ length ns) where
-  pub taken-more : (n : ℕ) (zs : List Stage) (signs later : List ℕ) → IsNextShown after IS_EARLY from (Some n) → IsTakenAt ns n ys zs new signs after later → SomeLives ns doc xs → length old ≡ length ns → IsTakenTo ns doc (n + 1) xs zs old signs before later
-  taken-more n zs signs later shown at lives count = go at
-    where
-      inside : n < length ns
-      inside = let lt = shown.1 in omega (arith, lt, all)
-
-      go : IsTakenAt ns n ys zs new signs after later → IsTakenTo ns doc (n + 1) xs zs old signs before later
-      go (inl a) =
-          taken-one ns doc xs old before from n ys new after h shown.0 shown.3 inside a.0 (first_held (needs_of (kind_at ns n))) zs signs later shown.2 a.1 refl a.2 a.3 lives count all
-      go (inr a) =
-          subst (λ z. IsTakenTo ns doc (n + 1) xs z old signs before later) (sym a.1)
-          (subst (λ z. IsTakenTo ns doc (n + 1) xs ys old z before later) (sym a.2)
-          (subst (λ z. IsTakenTo ns doc (n + 1) xs ys old new before z) (sym a.3) (taken-not ns doc xs old before from n ys new after h shown.0 shown.3 inside a.0)))
-
-  pub taken-end : IsNextShown after IS_EARLY from None → IsTakenOver ns doc xs ys old new before after
-  taken-end none = taken-all ns doc xs old before from (length after) ys new after h (let le = h.within in omega (arith, le, all)) none (omega (arith, all))
-
-  pub as-many-stages : SomeLives ns doc xs → length ys ≡ length ns
-  as-many-stages lives = (h.means lives.0 lives.1 lives.2).0.fits ∙ sym lives.1.count
+  pub idle-at : ((h : ℕ) → stage_at xs n ≡ Ready h → ⊥) → IsTakenAt ns n xs xs old old
+  idle-at f = inr (not-ready (stage_at xs n) f, refl, refl)

@@ -1,31 +1,39 @@
 -- surface: nodes that hold their units in advance, and acts that take these over once they are reached.
-use Rattle.std.specs.Prelude.{◌≡◌, ◌⊎◌, ◌<◌, ◌≤◌, ◌||◌, slice_set, ℕ, List, [], ◌∷◌, take, length, Bool, true, false, ◌&&◌, not, nat_lt, ⊤}
+use Rattle.std.specs.Prelude.{◌≡◌, ◌⊎◌, ◌<◌, ℕ, List, take, map, length, Bool, true, false, nat_eq, nat_lt, slice_index_or}
 use Rattle.std.specs.List.{list_any}
 use Rattle.batch_recipe.specs.Tree.{Place, Tree}
 use Rattle.batch_recipe.specs.declared.entry.Entry.{Entry}
 use Rattle.batch_recipe.specs.declared.recipe.Recipe.{Recipe}
 use Rattle.batch_model.specs.Lists.{Has}
+use Rattle.batch_model.specs.Plant.{InAdvance}
 use Rattle.batch_model.specs.Rest.{same_place, Rest, ready, asking, open_act, live, freeing, in_seq, in_par, in_loop, done, Rests, no_rests, rest}
-use Rattle.batch_chart.specs.declared.sign.TheConstants.{IS_EARLY}
+use Rattle.batch_chart.specs.declared.passed.Passed.{Passed}
 use Rattle.batch_chart.specs.declared.stage.Stage.{Stage}
 use Rattle.batch_chart.specs.declared.stage.Stage.TheVariants.{Ready}
 use Rattle.batch_chart.specs.Meaning.{meaning}
 use Rattle.batch_chart.specs.Needs.{needs_of}
 use Rattle.batch_chart.specs.Noting.{HasCome}
 use Rattle.batch_chart.specs.Outlined.{kind_at}
-use Rattle.batch_chart.specs.NodesOf.{place_at}
-use Rattle.batch_chart.specs.Running.{IsLaid, IsAlive, HasMade, HasReported}
-use Rattle.batch_chart.specs.declared.chart_move.Move.{Move}
-use Rattle.batch_chart.specs.declared.chart_move.Move.TheVariants as move
-use Rattle.batch_matrix.specs.declared.report.Report.{Report}
-use Rattle.batch_recipe.specs.Conditions.{ValueList}
+use Rattle.batch_chart.specs.NodesOf.{need_at, place_at}
+use Rattle.batch_chart.specs.Running.{IsLaid, IsAlive}
 use Rattle.batch_chart.specs.Stages.{stage_at}
 use Rattle.batch_chart.specs.Upkeep.{IsKeptUp}
-use Rattle.batch_signs.specs.Signs.{shows, sign_at}
 
 -- node k holds its unit in advance
-abbrev pub is_early : List ℕ → ℕ → Bool
-is_early early k = shows IS_EARLY (sign_at early k)
+abbrev pub is_early : List Passed → ℕ → Bool
+is_early held k = list_any (λ p. nat_eq p.to k) held
+
+-- what is held in advance of a tree
+abbrev pub in_advance : Tree → List Passed → List InAdvance
+in_advance t held = map (λ p. record { place = place_at t p.to; unit = need_at t p.node p.need }) held
+
+-- number j of those that hold in advance
+abbrev pub to_at : List Passed → ℕ → ℕ
+to_at held j = (slice_index_or held j (record { to = 0; node = 0; need = 0 })).to
+
+-- each is a node
+abbrev pub AreNodes : List Entry → List Passed → Type 0
+AreNodes ns held = (j : ℕ) → j < length held → to_at held j < length ns
 
 abbrev pub is_ready : Stage → Bool
 is_ready (Ready held) = true
@@ -58,50 +66,26 @@ abbrev mutual
 abbrev pub is_of : Tree → List ℕ → Place → Bool
 is_of t ks = λ p. list_any (λ k. same_place p (place_at t k)) ks
 
--- the ready acts at nodes before the end that hold their units in advance have taken them over
-pub record IsTakenTo (ns : List Entry) (doc : Recipe) (end : ℕ) (xs ys : List Stage) (old new before after : List ℕ) : Type 0 where
+-- the act at node n holds its first need, if it was ready
+abbrev pub IsTakenAt : List Entry → ℕ → List Stage → List Stage → List ℕ → List ℕ → Type 0
+IsTakenAt ns n xs ys old new =
+    ((j : ℕ) × (stage_at xs n ≡ Ready j) × HasCome ns n (Ready (first_held (needs_of (kind_at ns n)))) xs ys old new)
+    ⊎ ((is_ready (stage_at xs n) ≡ false) × (ys ≡ xs) × (new ≡ old))
+
+-- so do those of the first so many that hold in advance
+pub record IsTakenTo (ns : List Entry) (doc : Recipe) (held : List Passed) (end : ℕ) (xs ys : List Stage) (old new : List ℕ) : Type 0 where
   pub taken : List ℕ
   pub means : (t : Tree) → IsLaid ns doc t → IsAlive t xs → IsAlive t ys × (meaning t 0 ys ≡ taken_by (is_of t taken) (meaning t 0 xs))
   pub kept : IsKeptUp ns doc xs ys old new
-  pub were : (k : ℕ) → Has taken k → (is_early before k ≡ true) × (is_ready (stage_at xs k) ≡ true)
-  pub all : (k : ℕ) → k < end → is_early before k ≡ true → is_ready (stage_at xs k) ≡ true → Has taken k
-  pub left : (k : ℕ) → is_early after k ≡ (is_early before k && not (nat_lt k end && is_ready (stage_at xs k)))
-  pub within : end ≤ length ns
-  pub later : (k : ℕ) → end ≤ k → stage_at ys k ≡ stage_at xs k
-  pub count : length after ≡ length before
+  pub were : (k : ℕ) → Has taken k → ((j : ℕ) × (j < end) × (to_at held j ≡ k)) × (is_ready (stage_at xs k) ≡ true)
+  pub all : (j : ℕ) → j < end → is_ready (stage_at xs (to_at held j)) ≡ true → Has taken (to_at held j)
+  pub ready : (k : ℕ) → is_ready (stage_at ys k) ≡ is_ready (stage_at xs k)
 
--- so has the one at node n, where there is one
-abbrev pub IsTakenAt : List Entry → ℕ → List Stage → List Stage → List ℕ → List ℕ → List ℕ → List ℕ → Type 0
-IsTakenAt ns n xs ys old new before after =
-    ((j : ℕ) × (stage_at xs n ≡ Ready j) × HasCome ns n (Ready (first_held (needs_of (kind_at ns n)))) xs ys old new × (after ≡ slice_set before n 0))
-    ⊎ ((is_ready (stage_at xs n) ≡ false) × (ys ≡ xs) × (new ≡ old) × (after ≡ before))
-
--- what is held in advance after a move, whose pass is to be held
-abbrev pub held_after : List ℕ → Move → List ℕ
-held_after early (move.Pass k to i) = slice_set early to IS_EARLY
-held_after early _ = early
-
--- so many nodes are enough for the move
-abbrev pub HasRoom : ℕ → Move → Type 0
-HasRoom n (move.Pass k to i) = to < n
-HasRoom n _ = ⊤
-
--- all have
-abbrev pub IsTakenOver : List Entry → Recipe → List Stage → List Stage → List ℕ → List ℕ → List ℕ → List ℕ → Type 0
-IsTakenOver ns doc xs ys old new before after = IsTakenTo ns doc (length ns) xs ys old new before after
-
--- a move has been made, and what is reached by it has taken over what was held for it
-pub record IsMovedOn (ns : List Entry) (doc : Recipe) (vs : ValueList) (m : Move) (xs ys : List Stage) (old new before after : List ℕ) : Type 0 where
-  pub mid : List Stage
-  pub signs : List ℕ
-  pub made : HasMade ns doc vs m xs mid
-  pub kept : IsKeptUp ns doc xs mid old signs
-  pub over : IsTakenOver ns doc mid ys signs new (held_after before m) after
-
--- so has a report been taken
-pub record IsReportedOn (ns : List Entry) (doc : Recipe) (vs : ValueList) (k : ℕ) (word : Report) (xs ys : List Stage) (old new before after : List ℕ) : Type 0 where
-  pub mid : List Stage
-  pub signs : List ℕ
-  pub reported : HasReported ns doc vs k word xs mid
-  pub kept : IsKeptUp ns doc xs mid old signs
-  pub over : IsTakenOver ns doc mid ys signs new before after
+-- all that hold in advance do, where these are the nodes that pass the test
+pub record IsTakenBy (ns : List Entry) (doc : Recipe) (early : ℕ → Bool) (xs ys : List Stage) (old new : List ℕ) : Type 0 where
+  pub taken : List ℕ
+  pub means : (t : Tree) → IsLaid ns doc t → IsAlive t xs → IsAlive t ys × (meaning t 0 ys ≡ taken_by (is_of t taken) (meaning t 0 xs))
+  pub kept : IsKeptUp ns doc xs ys old new
+  pub were : (k : ℕ) → Has taken k → (early k ≡ true) × (is_ready (stage_at xs k) ≡ true)
+  pub all : (k : ℕ) → early k ≡ true → is_ready (stage_at xs k) ≡ true → Has taken k
+  pub ready : (k : ℕ) → is_ready (stage_at ys k) ≡ is_ready (stage_at xs k)

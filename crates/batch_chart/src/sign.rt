@@ -24,9 +24,6 @@ pub const HOLDS: u32 = 32;
 
 pub const IS_ACT: u32 = 64;
 
-/// A unit procedure holds its unit in advance, though it isn't reached. It stands among signs of its own.
-pub const IS_EARLY: u32 = 1;
-
 // A live phase is in this state.
 const IDLE: u32 = 128;
 

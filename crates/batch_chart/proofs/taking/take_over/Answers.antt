@@ -1,23 +1,20 @@
-use Rattle.std.proofs.Common.{◌∙◌, arith, sym}
-use Rattle.batch_chart.proofs.Taking.{taken-first, taken-more, taken-end, as-many-stages}
+use Rattle.std.proofs.Common.{◌∙◌, arith}
+use Rattle.batch_chart.proofs.Taking.{taken-first, taken-next, taken-end, as-many-stages}
 use Rattle.batch_chart.proofs.taking.take_over.Goals as goal
 
-pub loop-n-init : goal.loop-n-init
-loop-n-init c = record { taken = taken-first _ _ _ _ _; count = c.requires.early }
+pub loop-j-init : goal.loop-j-init
+loop-j-init c = taken-first _ _ _ _ _
 
 pub take_at-requires : goal.take_at-requires
 take_at-requires c = record {
-  node = omega (arith, c.in-Some.ensures.1, c.loop-n.invariant.count);
-  fits = as-many-stages _ _ _ _ _ _ _ _ _ c.loop-n.invariant.taken c.loop-n.invariant.count c.requires.order.lives;
-  signs = c.loop-n.invariant.taken.kept.count ∙ c.requires.order.count;
-  early = c.loop-n.invariant.count;
+  node = let lt = c.requires.nodes c.loop-j.j (omega arith) in omega (arith, lt, c.from.ensures);
+  fits = as-many-stages _ _ _ _ _ _ _ _ c.loop-j.invariant c.requires.order.lives;
+  signs = c.loop-j.invariant.kept.count ∙ c.requires.order.count;
 }
 
-pub loop-n-preserved : goal.loop-n-preserved
-loop-n-preserved c = record {
-  taken = taken-more _ _ _ _ _ _ _ _ _ c.loop-n.invariant.taken c.loop-n.invariant.count _ _ _ _ c.in-Some.ensures c.take_at.ensures.taken c.requires.order.lives c.requires.order.count;
-  count = c.take_at.ensures.count ∙ c.loop-n.invariant.count;
-}
+pub loop-j-preserved : goal.loop-j-preserved
+loop-j-preserved c =
+    taken-next _ _ _ _ _ _ _ _ c.loop-j.invariant _ _ (rw c.from.ensures at c.take_at.ensures) (c.requires.nodes c.loop-j.j (omega arith)) c.requires.order.lives c.requires.order.count
 
 pub returns : goal.returns
-returns c = taken-end _ _ _ _ _ _ _ _ _ c.loop-n.invariant.taken c.loop-n.invariant.count c.in_default.ensures
+returns c = taken-end _ _ _ _ _ _ _ c.loop-j.j (omega arith) c.loop-j.invariant

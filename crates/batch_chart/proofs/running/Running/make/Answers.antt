@@ -1,17 +1,15 @@
-use Rattle.std.proofs.Common.{◌∙◌, ap, sym}
+use Rattle.std.proofs.Common.{◌∙◌, ap}
 use Rattle.std.proofs.lemmas.List.{with_items_is}
-use Rattle.batch_chart.proofs.Runs.{runs-in-order, early-fits, pass-within}
-use Rattle.batch_chart.proofs.RunsOn.{moved-running, moved-runs}
+use Rattle.batch_chart.specs.Meaning.{meaning}
+use Rattle.batch_chart.proofs.Runs.{runs-in-order, went-on}
 use Rattle.batch_chart.proofs.running.Running.make.Goals as goal
 
-pub move_on-requires : goal.move_on-requires
-move_on-requires c =
-    rw (c.deref.ensures.value, c.deref_mut.ensures.value)
-    (record { order = runs-in-order c.args.chart.now c.args.self.now c.requires.running; allowed = c.requires.possible; early = early-fits c.args.chart.now c.args.self.now c.requires.running })
+pub make_move-requires : goal.make_move-requires
+make_move-requires c = rw (c.deref.ensures.value, c.deref_mut.ensures.value) (record { order = runs-in-order c.args.chart.now c.args.self.now c.requires.running; allowed = c.requires.possible })
 
 pub returns : goal.returns
 returns c = λ t laid old.
-    (let h = rw (c.deref.ensures.value, c.deref_mut.ensures.value) at c.move_on.ensures in
-    let is = with_items_is c.args.self.now.stages c.move_on.new.stages (c.move_on.auto.stages ∙ c.deref_mut.ensures.len) in
-    let small = pass-within c.args.chart.now c.args.self.now c.args.wanted c.requires.possible in
-    (moved-running c.args.chart.now t laid c.args.self.now _ _ is c.args.values.now c.args.wanted h small old, moved-runs c.args.chart.now t laid c.args.self.now _ _ is c.args.values.now c.args.wanted h small old))
+    (let h = (rw (c.deref.ensures.value, c.deref_mut.ensures.value) at c.make_move.ensures.made).means t laid old.alive in
+    let up = rw (c.deref.ensures.value, c.deref_mut.ensures.value) at c.make_move.ensures.kept in
+    let is = with_items_is c.args.self.now.stages c.make_move.new.stages (c.make_move.auto.stages ∙ c.deref_mut.ensures.len) in
+    (went-on c.args.chart.now c.args.self.now _ _ is up t laid old h.0, λ b e v. ap (meaning t 0) is ∙ h.1 b e v))
