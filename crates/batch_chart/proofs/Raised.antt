@@ -1,6 +1,6 @@
 -- What remains of a batch's recipe after a move, where it holds something in advance.
 use Rattle.std.proofs.Common.{◌≡◌, ◌≢◌, ◌⊎◌, inl, inr, ◌<◌, ◌≤◌, ℕ, zero, suc, ◌+◌, List, [], ◌∷◌, length, take, map, filter, cond, Bool, true, false, ◌&&◌, ◌||◌, Some, None, nat_eq, arith, refl, sym, ◌∙◌, subst, ap, ap₂}
-use Rattle.std.specs.Prelude.{not}
+use Rattle.std.specs.Prelude.{not, ⊤}
 use Rattle.std.specs.List.{list_any}
 use Rattle.std.proofs.lemmas.Bool.{cases_lt}
 use Rattle.std.proofs.lemmas.Bool.Decides.{eqb_tells, nat_tests}
