@@ -148,7 +148,7 @@ after-raised (machine.grant n p need) b is w =
 
 -- Lists of places
 
-any-has : {X : Type 0} (f : X → Bool) (xs : List X) (x : X) → Has xs x → f x ≡ true → list_any f xs ≡ true
+pub any-has : {X : Type 0} (f : X → Bool) (xs : List X) (x : X) → Has xs x → f x ≡ true → list_any f xs ≡ true
 any-has f (y ∷ xs) x (inl q) e = ap (λ b. b || list_any f xs) (ap f q ∙ e)
 any-has f (y ∷ xs) x (inr i) e = either (f y) (list_any f xs) (any-has f xs x i e)
   where

@@ -1,7 +1,8 @@
 -- Ready acts take over what is held for them in advance.
 use Rattle.std.proofs.Common.{◌≡◌, ◌≢◌, ◌⊎◌, inl, inr, ◌<◌, ◌≤◌, ℕ, zero, suc, ◌+◌, List, [], ◌∷◌, length, take, Bool, true, false, ◌&&◌, ◌||◌, Some, None, nat_eq, nat_lt, arith, refl, sym, ◌∙◌, subst, ap, ap₂}
 use Rattle.std.proofs.lemmas.Bool.Decides.{eqb_tells, nat_tests}
-use Rattle.std.specs.Prelude.{slice_set}
+use Rattle.std.specs.Prelude.{slice_set, slice_index_or}
+use Rattle.std.proofs.Math.Dec.{eqb}
 use Rattle.batch_recipe.specs.Nodes.{node_count}
 use Rattle.batch_recipe.specs.Tree.{Place, Step, Task, runs, follows, Tree, act, skip, seq, par, sel, loop}
 use Rattle.batch_recipe.specs.declared.entry.Entry.{Entry}
@@ -281,7 +282,7 @@ early-at (p ∷ held) k e = elim (eqb_tells p.to k) [
   | inr q ↦ (let m = early-at held k (ap (λ b. b || is_early held k) (sym q.0) ∙ e) in (suc m.0, omega (arith, m.1), m.2))
 ]
 
-at-early : (held : List Passed) (k j : ℕ) → j < length held → to_at held j ≡ k → is_early held k ≡ true
+pub at-early : (held : List Passed) (k j : ℕ) → j < length held → to_at held j ≡ k → is_early held k ≡ true
 at-early [] k j lt e = absurd (omega arith)
 at-early (p ∷ held) k zero lt e = elim (eqb_tells p.to k) [
   | inl q ↦ ap (λ b. b || is_early held k) q.0
@@ -292,6 +293,29 @@ at-early (p ∷ held) k (suc j) lt e = later (nat_eq p.to k) (is_early held k) (
     later : (t u : Bool) → u ≡ true → (t || u) ≡ true
     later true u e = refl
     later false u e = e
+
+pub early-none : (held : List Passed) (k : ℕ) → ((j : ℕ) → j < length held → nat_eq (to_at held j) k ≡ false) → is_early held k ≡ false
+early-none [] k h = refl
+early-none (p ∷ held) k h = ap₂ (λ a b. a || b) (h 0 (omega arith)) (early-none held k (λ j lt. h (suc j) (omega arith)))
+
+pub none-more : (held : List Passed) (k j : ℕ) → ((i : ℕ) → i < j → nat_eq (to_at held i) k ≡ false) → to_at held j ≢ k → (i : ℕ) → i < j + 1 → nat_eq (to_at held i) k ≡ false
+none-more held k j h ne i lt = elim (eqb_tells i j) [
+  | inl q ↦ ap (λ z. nat_eq (to_at held z) k) q.1 ∙ other (eqb_tells (to_at held j) k)
+  | inr q ↦ h i (omega (arith, lt, q.1))
+]
+  where
+    other : ((eqb (to_at held j) k ≡ true) × (to_at held j ≡ k)) ⊎ ((eqb (to_at held j) k ≡ false) × (to_at held j ≢ k)) → nat_eq (to_at held j) k ≡ false
+    other (inl q) = absurd (ne q.1)
+    other (inr q) = q.0
+
+-- an entry that is read, whatever is read past the end
+pub read-at : (held : List Passed) (j : ℕ) (p : Passed) → j < length held → p ≡ slice_index_or held j p → to_at held j ≡ p.to
+read-at held j p lt e = ap (λ (q : Passed). q.to) (alike held j lt ∙ sym e)
+  where
+    alike : (held : List Passed) (j : ℕ) → j < length held → slice_index_or held j (record { to = 0; node = 0; need = 0 }) ≡ slice_index_or held j p
+    alike [] j lt = absurd (omega arith)
+    alike (x ∷ held) zero lt = refl
+    alike (x ∷ held) (suc j) lt = alike held j (omega arith)
 
 pub taken-end : (ns : List Entry) (doc : Recipe) (held : List Passed) (xs ys : List Stage) (old new : List ℕ) (end : ℕ) → end ≡ length held → IsTakenTo ns doc held end xs ys old new → IsTakenBy ns doc (is_early held) xs ys old new
 taken-end ns doc held xs ys old new end last h = record {

@@ -1,6 +1,8 @@
 -- surface: nodes that hold their units in advance, and acts that take these over once they are reached.
-use Rattle.std.specs.Prelude.{◌≡◌, ◌⊎◌, ◌<◌, ℕ, List, take, map, length, Bool, true, false, nat_eq, nat_lt, slice_index_or}
-use Rattle.std.specs.List.{list_any}
+use Rattle.std.specs.Prelude.{◌≡◌, ◌⊎◌, ◌<◌, ℕ, ◌≤◌, List, ◌∷◌, take, map, filter, length, Bool, true, false, not, nat_eq, nat_lt, slice_index_or, ⊤}
+use Rattle.std.specs.List.{list_any, IsDistinct}
+use Rattle.batch_matrix.specs.declared.report.Report.{Report}
+use Rattle.batch_recipe.specs.Conditions.{ValueList}
 use Rattle.batch_recipe.specs.Tree.{Place, Tree}
 use Rattle.batch_recipe.specs.declared.entry.Entry.{Entry}
 use Rattle.batch_recipe.specs.declared.recipe.Recipe.{Recipe}
@@ -15,7 +17,9 @@ use Rattle.batch_chart.specs.Needs.{needs_of}
 use Rattle.batch_chart.specs.Noting.{HasCome}
 use Rattle.batch_chart.specs.Outlined.{kind_at}
 use Rattle.batch_chart.specs.NodesOf.{need_at, place_at}
-use Rattle.batch_chart.specs.Running.{IsLaid, IsAlive}
+use Rattle.batch_chart.specs.Running.{IsLaid, IsAlive, HasMade, HasReported}
+use Rattle.batch_chart.specs.declared.chart_move.Move.{Move}
+use Rattle.batch_chart.specs.declared.chart_move.Move.TheVariants as move
 use Rattle.batch_chart.specs.Stages.{stage_at}
 use Rattle.batch_chart.specs.Upkeep.{IsKeptUp}
 
@@ -89,3 +93,39 @@ pub record IsTakenBy (ns : List Entry) (doc : Recipe) (early : ℕ → Bool) (xs
   pub were : (k : ℕ) → Has taken k → (early k ≡ true) × (is_ready (stage_at xs k) ≡ true)
   pub all : (k : ℕ) → early k ≡ true → is_ready (stage_at xs k) ≡ true → Has taken k
   pub ready : (k : ℕ) → is_ready (stage_at ys k) ≡ is_ready (stage_at xs k)
+
+-- what is held in advance after a move: a pass is held by a node that held nothing
+abbrev pub held_after : List Passed → Move → List Passed
+held_after held (move.Pass k to i) = elim (is_early held to) [ true ↦ held | false ↦ record { to = to; node = k; need = i } ∷ held ]
+held_after held _ = held
+
+-- what is left where the acts at these stages have been reached
+abbrev pub still_held : List Stage → List Passed → List Passed
+still_held xs held = filter (λ p. not (is_ready (stage_at xs p.to))) held
+
+-- of so many nodes, each once, and there is room for all
+pub record AreHeld (count : ℕ) (held : List Passed) (room : ℕ) : Type 0 where
+  pub within : (p : Passed) → Has held p → p.to < count
+  pub apart : IsDistinct nat_eq (map (λ (p : Passed). p.to) held)
+  pub enough : count ≤ room
+
+-- what the move passes on goes to one of so many nodes
+abbrev pub PassesWithin : ℕ → Move → Type 0
+PassesWithin count (move.Pass k to i) = to < count
+PassesWithin count _ = ⊤
+
+-- a move has been made, and what is reached by it has taken over what is held for it
+pub record IsMovedOn (ns : List Entry) (doc : Recipe) (vs : ValueList) (m : Move) (held : List Passed) (xs ys : List Stage) (old new : List ℕ) : Type 0 where
+  pub mid : List Stage
+  pub signs : List ℕ
+  pub made : HasMade ns doc vs m xs mid
+  pub kept : IsKeptUp ns doc xs mid old signs
+  pub over : IsTakenBy ns doc (is_early held) mid ys signs new
+
+-- so has a report been taken
+pub record IsReportedOn (ns : List Entry) (doc : Recipe) (vs : ValueList) (k : ℕ) (word : Report) (held : List Passed) (xs ys : List Stage) (old new : List ℕ) : Type 0 where
+  pub mid : List Stage
+  pub signs : List ℕ
+  pub reported : HasReported ns doc vs k word xs mid
+  pub kept : IsKeptUp ns doc xs mid old signs
+  pub over : IsTakenBy ns doc (is_early held) mid ys signs new
