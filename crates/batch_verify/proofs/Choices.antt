@@ -367,16 +367,14 @@ module _ (r : Recipe) where
   -- the asks of the path to a node are few, where those above it are
   few-here : ReservesNothing → (k : ℕ) (e : Entry) (is : slice_get r.outline.entries.items k ≡ Some e) (above : List Ask) → FewRoles (stands r unbound k e is).own.here.level above
       → FewRoles (stands r unbound k e is).own.under.level (above ++ asks_at r.acts (act_of r.acts e.kind))
-  few-here nothing k e is above h = go (act_of r.acts e.kind) refl at.on.here
+  few-here nothing k e is above h = go (act_of r.acts e.kind) refl (stands r unbound k e is).on.here
     where
-      abbrev at : Stands r unbound k e
-      at = stands r unbound k e is
-
-      go : (o : Option Act) → act_of r.acts e.kind ≡ o → IsHereOn (sites unbound r.acts) at.own at.x o → FewRoles at.own.under.level (above ++ asks_at r.acts o)
-      go None same w = subst (λ (l : Level). FewRoles l (above ++ [])) (ap (λ (v : Spot). v.level) (sym w.1)) (subst (FewRoles at.own.here.level) (sym (append-nil above)) h)
+      go : (o : Option Act) → act_of r.acts e.kind ≡ o → IsHereOn (sites unbound r.acts) (stands r unbound k e is).own (stands r unbound k e is).x o
+          → FewRoles (stands r unbound k e is).own.under.level (above ++ asks_at r.acts o)
+      go None same w = subst (λ (l : Level). FewRoles l (above ++ [])) (ap (λ (v : Spot). v.level) (sym w.1)) (subst (FewRoles (stands r unbound k e is).own.here.level) (sym (append-nil above)) h)
       go (Some a) same w =
           subst (λ (l : Level). FewRoles l (above ++ asks_in r.acts a)) (sym w.under_level)
-          (act-few r.acts at.own.here.level above a w.kind (nothing e.kind a same) h)
+          (act-few r.acts (stands r unbound k e is).own.here.level above a w.kind (nothing e.kind a same) h)
 
   -- the path to a node, and the unit below it
   pub record HasChoices (k : ℕ) (e : Entry) (is : slice_get r.outline.entries.items k ≡ Some e) : Type 0 where
