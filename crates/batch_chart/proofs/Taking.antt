@@ -231,7 +231,7 @@ module _ (ns : List Entry) (doc : Recipe) (held : List Passed) (xs : List Stage)
           let c = (taking-next ns doc ys (to_at held i) j m inside acting was first).means t laid a.0 in (
             subst (IsAlive t) (sym come.stages) c.0,
             ap (meaning t 0) come.stages ∙ c.1 ∙ ap (changed_at (place_at t (to_at held i)) taking) a.1
-            ∙ changed-taken (place_at t (to_at held i)) (is_of t h.taken) (meaning t 0 xs) (λ b l e. one-ready t laid b (subst (λ r. Has (acts r) b) (sym a.1) l) e),
+                ∙ changed-taken (place_at t (to_at held i)) (is_of t h.taken) (meaning t 0 xs) (λ b l e. one-ready t laid b (subst (λ r. Has (acts r) b) (sym a.1) l) e),
           )
 
       now-kept : IsKeptUp ns doc xs zs old signs

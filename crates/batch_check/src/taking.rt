@@ -24,13 +24,7 @@ pub(crate) fn number_for(taking: Taking<'_>, role: &Name) -> u16
 {
     match taking {
         Taking::Alike(number) => number,
-        Taking::Apart(own_role, own, other) => {
-            if *role == *own_role {
-                own
-            } else {
-                other
-            }
-        }
+        Taking::Apart(own_role, own, other) => { if *role == *own_role { own } else { other } }
     }
 }
 

@@ -453,9 +453,11 @@ module _ (d : Setup) (rank : Ranking) (outs : List Out) (s : Plant) (sd : IsStan
         ⊎_elim (λ z. let y = reserved-new kept z in (y.0, inr y.1))
         (λ z.
         let y = kept-members b.number (reserved_told b.number c outs) m kept moves.number z in
-        let on = is-on (reserved_told b.number c outs) kept (λ w. (q.over w).1) y.0 in
-        (on, ⊎_elim (λ was. inl (held-after on kept was (not-begun kept was.avoided y.1))) (by-step on kept)
-        (Each-Has (IsStillKept outs b.number c b.rest) (reserved_told b.number c outs) kept q.reserved y.0)))
+        let on = is-on (reserved_told b.number c outs) kept (λ w. (q.over w).1) y.0 in (
+          on,
+          ⊎_elim (λ was. inl (held-after on kept was (not-begun kept was.avoided y.1))) (by-step on kept)
+              (Each-Has (IsStillKept outs b.number c b.rest) (reserved_told b.number c outs) kept q.reserved y.0),
+        ))
         (Has-split (reserved_from b.number c line) (kept_until b.number (reserved_told b.number c outs) line) kept (subst (λ xs. Has xs kept) (reserved_told-last b.number c outs line) h))
 
     off-none : goes_on b.state ≡ false → goes_on b.state ≡ true → ⊥

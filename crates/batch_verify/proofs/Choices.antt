@@ -1,6 +1,6 @@
 -- What the nodes of a recipe ask for, and on which units they run, by how these are chosen: it is the same in all bindings.
-use Rattle.std.proofs.Common.{◌≡◌, ◌≢◌, ◌⊎◌, ℕ, zero, suc, ◌+◌, ◌<◌, ◌≤◌, true, false, not, List, [], ◌∷◌, ◌++◌, map, length, Option, Some, None, slice_get, get_or, refl, sym, ap, ap₂, ◌∙◌, subst, arith, inl, inr}
-use Rattle.std.specs.Prelude.{option_and_then}
+use Rattle.std.proofs.Common.{◌≡◌, ◌≢◌, ◌⊎◌, ℕ, zero, suc, ◌+◌, ◌<◌, true, false, not, List, [], ◌∷◌, ◌++◌, map, Option, Some, None, slice_get, get_or, refl, sym, ap, ap₂, ◌∙◌, subst, arith, inl, inr}
+use Rattle.std.specs.Prelude.{⊤, option_and_then}
 use Rattle.std.proofs.lemmas.List.{append-nil}
 use Rattle.std.proofs.lemmas.Option.{slice_get-get_or, slice_get_within}
 use Rattle.batch_recipe.specs.ActsAtNodes.{procedure_acts}
@@ -22,12 +22,12 @@ use Rattle.batch_recipe.specs.declared.need.Need.{Need}
 use Rattle.batch_recipe.specs.declared.recipe.Recipe.{Recipe}
 use Rattle.batch_recipe.proofs.Climbing.{act_at}
 use Rattle.batch_model.specs.Lists.{Each, Has}
-use Rattle.batch_model.specs.Cleared.{Part, Level, is_procedure, in_procedure, in_unit_procedure, in_operation, below}
+use Rattle.batch_model.specs.Cleared.{Level, is_procedure, in_procedure, in_unit_procedure, in_operation, below}
 use Rattle.batch_model.specs.Setups.{labels_of, name_role, reserve_role}
 use Rattle.batch_model.proofs.Members.{Each-append, Each-map, Has-left, Has-right}
 use Rattle.std.proofs.lemmas.Bool.{and_parts, not-true, or_cases, or_left, or_right}
 use Rattle.batch_verify.specs.Walking.{is_of_level}
-use Rattle.batch_verify.specs.Ways.{Spot, Way, bound_parts, bound_ways}
+use Rattle.batch_verify.specs.Ways.{Spot, Way, bound_ways}
 use Rattle.batch_verify.proofs.Owners.{declared, declared_role, names_it, names_role, owned, owner, reserves_role, role_named, role_reserved, table}
 use Rattle.batch_verify.proofs.Stands.{IsTop, IsBelow, Stands, node_of, stands}
 use Rattle.batch_verify.proofs.Verdicts.{bare_needs}
@@ -130,7 +130,7 @@ has_at (y ∷ xs) (suc k) x e = inr (has_at xs k x e)
 
 -- no role is asked for
 abbrev pub IsUnit : UnitChoice → Type 0
-IsUnit (Unit unit) = Unit {0}
+IsUnit (Unit unit) = ⊤
 IsUnit (Role role) = ⊥
 
 abbrev pub NoRoles : List Ask → Type 0
@@ -138,7 +138,7 @@ NoRoles asks = Each (λ ask. IsUnit ask.choice) asks
 
 -- or this one alone
 abbrev pub IsUnitOr : Name → UnitChoice → Type 0
-IsUnitOr role (Unit unit) = Unit {0}
+IsUnitOr role (Unit unit) = ⊤
 IsUnitOr role (Role own) = own ≡ role
 
 abbrev pub OneRole : List Ask → Type 0

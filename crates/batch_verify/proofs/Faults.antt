@@ -17,7 +17,7 @@ use Rattle.batch_recipe.specs.declared.recipe.Recipe.{Recipe}
 use Rattle.batch_recipe.proofs.Climbing.{as_many}
 use Rattle.batch_recipe.proofs.Slices.{slice_get-left, slice_get-right}
 use Rattle.batch_model.specs.Cleared.{Level, Part, below, IsApart}
-use Rattle.batch_verify.specs.Charts.{depth_is, of_chart, reserve_count, AreFaults, IsChartFault, IsReserveFault, ReservesAs}
+use Rattle.batch_verify.specs.Charts.{depth_is, of_chart, reserve_count, AreFaults, IsChartFault, ReservesAs}
 use Rattle.batch_verify.specs.Ways.{Spot, Way, bound_parts, bound_ways}
 use Rattle.batch_verify.specs.declared.depth.Depth.{Depth}
 use Rattle.batch_verify.specs.declared.depth.Depth.TheVariants.{Procedure}
@@ -153,8 +153,7 @@ module _ (r : Recipe) where
     each = λ bound k x fault x_is f_is.
         let to = part_alike bound unbound r.acts k x x_is in
         let from = part_alike unbound bound r.acts k to.0 to.1 in
-        let same = part_is from.0 x (sym from.1 ∙ x_is) in
-        (
+        let same = part_is from.0 x (sym from.1 ∙ x_is) in (
           fault_as x to.0 to.2 (subst (λ (y : Part). IsLike to.0 y) same from.2) (of_chart fault) (h.each k to.0 fault to.1 f_is),
           h.reserve k fault f_is bound x.node (node_of r bound k x x_is),
         );

@@ -8,7 +8,7 @@ use Rattle.batch_recipe.specs.ActsAtNodes.{ActList, acts_along, acts_along_each,
 use Rattle.batch_recipe.specs.Conditions.{Name, same_name}
 use Rattle.batch_recipe.specs.Diagram.{Diagram, label, skip, seq, par, sel, loop, Diagrams, none, more, Cases, otherwise, when, diagram_of}
 use Rattle.batch_recipe.specs.Expanding.{act_named}
-use Rattle.batch_recipe.specs.WellFormed.{are_distinct, are_kinds, are_roles, has_chart, has_unit, is_among, is_role_among}
+use Rattle.batch_recipe.specs.WellFormed.{are_distinct, are_kinds, has_chart, has_unit, is_among, is_role_among}
 use Rattle.batch_recipe.specs.declared.act.Act.{Act}
 use Rattle.batch_recipe.specs.declared.act.UnitChoice.{UnitChoice}
 use Rattle.batch_recipe.specs.declared.act.UnitChoice.TheVariants.{Unit, Role}

@@ -1,13 +1,12 @@
 -- Whatever is asked for at two places of a path is so in one of the bindings that are looked at.
-use Rattle.std.proofs.Common.{◌≡◌, ◌≢◌, ◌⊎◌, ℕ, ◌<◌, Bool, true, false, IsTrue, List, [], ◌∷◌, map, length, Option, Some, None, slice_get, get_or, option_map, refl, sym, ap, ap₂, ◌∙◌, subst, arith, inl, inr, ⊎_elim}
+use Rattle.std.proofs.Common.{◌≡◌, ◌⊎◌, ℕ, ◌<◌, Bool, true, false, List, [], ◌∷◌, length, Option, Some, None, slice_get, get_or, option_map, refl, sym, ap, ap₂, ◌∙◌, subst, arith, inl, inr, ⊎_elim}
 use Rattle.std.specs.Cmp.Lexicographic.{bytes_decides}
-use Rattle.std.proofs.lemmas.List.{length-map}
 use Rattle.std.proofs.lemmas.Option.{slice_get-get_or, slice_get-map, slice_get_within}
 use Rattle.batch_cell.specs.declared.cell.Cell as equipment
 use Rattle.batch_recipe.specs.Conditions.{Name, same_name}
 use Rattle.batch_recipe.specs.Expanding.{Binding, unbound, unit_chosen}
 use Rattle.batch_recipe.specs.Nodes.{Node}
-use Rattle.batch_recipe.specs.Procedure.{bound_nodes, bound_tree}
+use Rattle.batch_recipe.specs.Procedure.{bound_nodes}
 use Rattle.batch_recipe.specs.WellFormed.{are_roles, is_among}
 use Rattle.batch_recipe.specs.declared.act.UnitChoice.{UnitChoice}
 use Rattle.batch_recipe.specs.declared.act.UnitChoice.TheVariants.{Unit as by_name, Role as by_role}
@@ -17,12 +16,11 @@ use Rattle.batch_recipe.specs.declared.recipe.Recipe.{Recipe}
 use Rattle.batch_recipe.specs.declared.role.Role.{Role}
 use Rattle.batch_recipe.proofs.Linking.{as_many_entries}
 use Rattle.batch_model.specs.Lists.{Each, Has}
-use Rattle.batch_model.specs.Cleared.{Level, is_procedure, in_procedure, in_unit_procedure, in_operation, Part}
+use Rattle.batch_model.specs.Cleared.{Level, is_procedure, in_procedure, in_unit_procedure, in_operation}
 use Rattle.batch_model.specs.Setups.{master_of, setup_of}
 use Rattle.batch_model.proofs.Members.{Each-Has}
-use Rattle.batch_verify.specs.Bindings.{binding_count, nobody, numbered, taking}
+use Rattle.batch_verify.specs.Bindings.{binding_count, numbered}
 use Rattle.batch_verify.specs.Refusals.{IsTried}
-use Rattle.batch_verify.specs.Ways.{bound_parts}
 use Rattle.batch_verify.proofs.Choices.{has_at, Ask, AreNamed, FewRoles, HasChoices, IsNamed, IsUnit, IsUnitOr, NoRoles, OneRole, ReservesNothing, choices, names_by}
 use Rattle.batch_verify.proofs.Owners.{declared, names_it}
 use Rattle.batch_verify.proofs.Spots.{outlines}
@@ -141,8 +139,7 @@ module _ (c : equipment.Cell) (recipes : List Recipe) (recipe : Recipe) (own : a
             let role = role-tried c recipes recipe own bound tried one n.0 n.1 in
             let b : Binding = apart c roles role.0.name by.0 also.0 in
             let own_is : same_name one role.0.name ≡ true = (bytes_decides one role.0.name).1 (sym role.2) in
-            let other_is : same_name other role.0.name ≡ false = subst (λ (name : Name). same_name other name ≡ false) (sym role.2) e in
-            (
+            let other_is : same_name other role.0.name ≡ false = subst (λ (name : Name). same_name other name ≡ false) (sym role.2) e in (
               b,
               two role.0 role.1 by.0 also.0 by.1 also.1,
               by.2 ∙ sym (apart-own role.0.name one by.0 also.0 own_is),

@@ -8,7 +8,7 @@ use Rattle.batch_cell.specs.LookUps.{units_of}
 use Rattle.batch_cell.specs.declared.cell.Cell as equipment
 use Rattle.batch_recipe.specs.ActsAtNodes.{IsNoAct}
 use Rattle.batch_recipe.specs.Conditions.{Name}
-use Rattle.batch_recipe.specs.Expanding.{Binding, Sites, act_tree_with, needs_with, unit_with}
+use Rattle.batch_recipe.specs.Expanding.{Binding, Sites, act_tree_with, needs_with}
 use Rattle.batch_recipe.specs.Needs.{resources_of}
 use Rattle.batch_recipe.specs.Nodes.{Node, needs_of}
 use Rattle.batch_recipe.specs.Outlines.{act_of}

@@ -4,8 +4,8 @@ use Rattle.std.specs.List.{list_all}
 use Rattle.std.proofs.lemmas.Bool.{and_parts}
 use Rattle.std.proofs.lemmas.Bool.Decides.{nat_tests}
 use Rattle.std.specs.Prelude.{MatchResult}
-use Rattle.batch_recipe.specs.Conditions.{Name, same_name}
-use Rattle.batch_recipe.specs.Expanding.{Sites, asked_by, needs_with, unit_named, unit_with}
+use Rattle.batch_recipe.specs.Conditions.{Name}
+use Rattle.batch_recipe.specs.Expanding.{Sites, asked_by, needs_with, unit_with}
 use Rattle.batch_recipe.specs.Needs.{one_unit, resources_of}
 use Rattle.batch_recipe.specs.Expanding.{act_named}
 use Rattle.batch_recipe.specs.Outlines.{act_of}

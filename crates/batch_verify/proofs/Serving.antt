@@ -1,5 +1,5 @@
 -- A recipe that breaks no rule in any tried binding has candidates, and is cleared.
-use Rattle.std.proofs.Common.{◌≡◌, ℕ, true, false, IsTrue, List, [], ◌∷◌, map, Option, Some, None, sym, ap, ◌∙◌, subst, inl, inr, refl}
+use Rattle.std.proofs.Common.{◌≡◌, true, false, IsTrue, List, [], ◌∷◌, map, Option, Some, None, sym, ap, ◌∙◌, subst, inl, inr, refl}
 use Rattle.batch_cell.specs.LookUps.{resources_of}
 use Rattle.batch_cell.specs.declared.cell.Cell as equipment
 use Rattle.batch_recipe.specs.ActsAtNodes.{ActList, AreActsAt, IsActAt, IsNodeOf, procedure_acts}
@@ -17,7 +17,7 @@ use Rattle.batch_recipe.specs.declared.recipe.Recipe.{Recipe}
 use Rattle.batch_recipe.proofs.NodeActs.{procedure_acts_are}
 use Rattle.batch_model.specs.Lists.{Each, Has}
 use Rattle.batch_model.specs.Plant.{Role as ModelRole, Setup}
-use Rattle.batch_model.specs.Cleared.{Ranking, Part, is_procedure, HasCandidates, IsClear, IsClearedControl, IsClearedRecipe, NeedsResources, ReservesFollow, procedure_parts}
+use Rattle.batch_model.specs.Cleared.{Ranking, Part, is_procedure, HasCandidates, IsClear, IsClearedControl, IsClearedRecipe, NeedsResources, ReservesFollow}
 use Rattle.batch_model.specs.Recipes.{recipe_of}
 use Rattle.batch_model.specs.Setups.{master_of, setup_of}
 use Rattle.batch_model.proofs.Members.{Each-Has, Each-map}
@@ -26,7 +26,7 @@ use Rattle.batch_verify.specs.Bindings.{nobody, numbered}
 use Rattle.batch_verify.specs.Refusals.{MeetsRules, IsTriedFor, IsVerdictOn}
 use Rattle.batch_verify.specs.Ways.{bound_parts}
 use Rattle.batch_verify.specs.declared.rule.Rule.TheVariants.{UnknownResource}
-use Rattle.batch_verify.proofs.Choices.{Ask, asked, asks_for, asks_in, has_mapped, needs_are}
+use Rattle.batch_verify.proofs.Choices.{asked, asks_for, asks_in, has_mapped, needs_are}
 use Rattle.batch_verify.proofs.Least.{meets_each}
 use Rattle.batch_verify.proofs.Owners.{names_it}
 use Rattle.batch_verify.proofs.Served.{served_is_tried}

@@ -1,7 +1,6 @@
 -- The bindings by number are tried, and show each unit that is tried for a role.
 use Rattle.std.proofs.Common.{◌≡◌, ℕ, suc, ◌<◌, ◌≤◌, max, Bool, true, false, not, cond, ◌||◌, IsTrue, List, [], ◌∷◌, ◌++◌, length, map, slice_get, Option, Some, None, refl, sym, ap, ◌∙◌, subst, arith, inl, inr}
 use Rattle.std.specs.List.{find, list_all}
-use Rattle.std.specs.Prelude.{option_and_then}
 use Rattle.std.specs.Cmp.Lexicographic.{bytes_decides}
 use Rattle.std.proofs.Math.Nat.{le-max_left, le-max_right}
 use Rattle.std.proofs.lemmas.Bool.{false_from_ne_true, or_from, or_cases, or_left, or_right, and_parts, not-true}
@@ -9,22 +8,17 @@ use Rattle.std.proofs.lemmas.List.{length-append}
 use Rattle.std.proofs.lemmas.Option.{slice_get_within}
 use Rattle.batch_cell.specs.LookUps.{resources_of, units_of_class}
 use Rattle.batch_cell.specs.declared.cell.Cell as equipment
-use Rattle.batch_recipe.specs.ActsAtNodes.{procedure_acts}
 use Rattle.batch_recipe.specs.Conditions.{Name, same_name}
-use Rattle.batch_recipe.specs.Expanding.{Binding, act_named, unit_with}
+use Rattle.batch_recipe.specs.Expanding.{Binding}
 use Rattle.batch_recipe.specs.WellFormed.{is_among, are_distinct, are_roles, is_role_among}
-use Rattle.batch_recipe.specs.declared.act.Act.{Act}
-use Rattle.batch_recipe.specs.declared.act.UnitChoice.{UnitChoice}
-use Rattle.batch_recipe.specs.declared.act.UnitChoice.TheVariants.{Unit, Role as by_role}
 use Rattle.batch_recipe.specs.declared.recipe.Recipe as document
 use Rattle.batch_recipe.specs.declared.role.Role.{Role}
 use Rattle.batch_model.specs.Lists.{Each, Has}
 use Rattle.batch_model.specs.Plant.{Setup}
 use Rattle.batch_model.specs.Plant.{Role as ModelRole}
-use Rattle.batch_model.specs.Setups.{labels_of, master_of, name_role, reserve_role, role_of, setup_of}
+use Rattle.batch_model.specs.Setups.{master_of, setup_of}
 use Rattle.batch_verify.specs.Bindings.{nobody, candidate_of, numbered, binding_count}
 use Rattle.batch_verify.specs.Refusals.{IsTried, IsTriedFor}
-use Rattle.batch_verify.proofs.Levels.{found_passes}
 use Rattle.batch_verify.proofs.NameLemmas.{among_at, same_name_sym}
 
 -- Nobody
@@ -169,8 +163,8 @@ module _ (c : equipment.Cell) where
         go [] h = tt
         go (role ∷ rest) h = (
           (λ named.
-          subst (λ found. IsTriedFor setup (units_of_class c role.class) (who found (number_for role.name))) (sym (h role (inl refl)))
-          (numbered_for setup (units_of_class c role.class) (number_for role.name))),
+              subst (λ found. IsTriedFor setup (units_of_class c role.class) (who found (number_for role.name))) (sym (h role (inl refl)))
+              (numbered_for setup (units_of_class c role.class) (number_for role.name))),
           go rest (λ other m. h other (inr m)),
         )
 

@@ -46,7 +46,11 @@ pub(crate) fn unit_in<'a>(
         Trial::Numbered(number) => unit_taking(cell, roles, number, role),
         Trial::Raised(raised, extremes) => {
             let own = extremes_named(extremes, role)?;
-            if *role == *raised { Some(own.greatest) } else { Some(own.least) }
+            if *role == *raised {
+                Some(own.greatest)
+            } else {
+                Some(own.least)
+            }
         }
     }
 }
@@ -129,7 +133,15 @@ fn with_unit<'a>(cell: &Cell, ranks: &[u32], own: Extremes<'a>, unit: &'a Name) 
     let rank = rank_of(cell, ranks, unit);
     Extremes {
         role: own.role,
-        least: if rank < rank_of(cell, ranks, own.least) { unit } else { own.least },
-        greatest: if rank_of(cell, ranks, own.greatest) < rank { unit } else { own.greatest },
+        least: if rank < rank_of(cell, ranks, own.least) {
+            unit
+        } else {
+            own.least
+        },
+        greatest: if rank_of(cell, ranks, own.greatest) < rank {
+            unit
+        } else {
+            own.greatest
+        },
     }
 }

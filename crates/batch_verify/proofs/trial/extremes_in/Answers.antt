@@ -1,4 +1,4 @@
-use Rattle.std.proofs.Common.{◌≡◌, ℕ, List, [], ◌∷◌, None, Some, refl, sym, ap, ◌∙◌, subst, slice_get, option_copied, arith}
+use Rattle.std.proofs.Common.{◌≡◌, List, [], ◌∷◌, None, refl, sym, ap, ◌∙◌, subst, slice_get, option_copied, arith}
 use Rattle.batch_cell.specs.LookUps.{units_of_class}
 use Rattle.batch_recipe.specs.Conditions.{Name}
 use Rattle.batch_model.specs.Cleared.{Ranking}

@@ -1,4 +1,4 @@
-use Rattle.std.proofs.Common.{◌≡◌, ◌≤◌}
+use Rattle.std.proofs.Common.{◌≡◌}
 use Rattle.batch_cell.specs.LookUps.{units_of_class}
 use Rattle.batch_verify.specs.Refusals.{rank_in}
 use Rattle.batch_verify.proofs.Extremes.{IsSoFar}

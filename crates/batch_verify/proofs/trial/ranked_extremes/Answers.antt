@@ -1,10 +1,10 @@
-use Rattle.std.proofs.Common.{◌≡◌, ℕ, ◌+◌, List, length, None, Some, refl, sym, ap, ◌∙◌, subst, slice_get, arith}
+use Rattle.std.proofs.Common.{◌≡◌, length, Some, refl, subst, slice_get, arith}
 use Rattle.std.proofs.lemmas.Option.{slice_get_read}
 use Rattle.batch_cell.specs.LookUps.{units_of_class}
 use Rattle.batch_model.specs.Cleared.{Ranking}
 use Rattle.batch_verify.specs.Refusals.{rank_in}
 use Rattle.batch_verify.specs.Trials.{IsExtremeOf}
-use Rattle.batch_verify.proofs.Extremes.{KeepsExtremes, KeepsExtremes-more, KeepsExtremes-skip, all_extremes}
+use Rattle.batch_verify.proofs.Extremes.{KeepsExtremes-more, KeepsExtremes-skip, all_extremes}
 use Rattle.batch_verify.proofs.trial.ranked_extremes.Goals as goal
 use Rattle.batch_verify.proofs.trial.ranked_extremes.Goals.{in-Some+in_ok-push, in_default}
 
