@@ -40,12 +40,12 @@ empty-list (x ∷ xs) e = absurd (grind arith)
 
 none-any : (table : List Act) (a : Act) → list_any reserves table ≡ false → Has table a → reserves a ≡ false
 none-any [] a e h = absurd h
-none-any (x ∷ table) a e h = go (reserves x) refl e h
+none-any (x ∷ table) a e h = go (reserves x) refl e h (λ f k. none-any table a f k)
   where
-    go : (t : Bool) → reserves x ≡ t → (t || list_any reserves table) ≡ false → (x ≡ a) ⊎ Has table a → reserves a ≡ false
-    go true q f k = let bad : true ≡ false = f in absurd cc
-    go false q f (inl same) = subst (λ (z : Act). reserves z ≡ false) same q
-    go false q f (inr k) = none-any table a f k
+    go : (t : Bool) → reserves x ≡ t → (t || list_any reserves table) ≡ false → (x ≡ a) ⊎ Has table a → (list_any reserves table ≡ false → Has table a → reserves a ≡ false) → reserves a ≡ false
+    go true q f k more = let bad : true ≡ false = f in absurd cc
+    go false q f (inl same) more = subst (λ (z : Act). reserves z ≡ false) same q
+    go false q f (inr k) more = more f k
 
 four : (p q r s : Bool) → (p || q || r || s) ≡ false → (p ≡ false) × (q ≡ false) × (r ≡ false) × (s ≡ false)
 four p q r s e = grind arith

@@ -1,8 +1,8 @@
 -- The numbers of resources, and what acts ask for by them.
-use Rattle.std.proofs.Common.{◌≡◌, ℕ, ◌+◌, ◌<◌, List, [], ◌∷◌, ◌++◌, append_assoc, map, length, get_or, slice_get, Vec, Option, Some, None, option_map, refl, sym, ap, ◌∙◌}
+use Rattle.std.proofs.Common.{◌≡◌, ℕ, ◌+◌, ◌<◌, ◌≤◌, List, [], ◌∷◌, ◌++◌, append_assoc, map, length, get_or, slice_get, Vec, Option, Some, None, option_map, refl, sym, ap, ◌∙◌, arith}
 use Rattle.std.specs.Global.{Global}
-use Rattle.std.proofs.lemmas.List.{map-append}
-use Rattle.std.proofs.lemmas.Option.{slice_get-get_or, slice_get-map}
+use Rattle.std.proofs.lemmas.List.{length-map, map-append}
+use Rattle.std.proofs.lemmas.Option.{slice_get-get_or, slice_get-map, slice_get_within}
 use Rattle.std.proofs.lemmas.List.Quantifiers.{position-Some}
 use Rattle.std.proofs.lemmas.Slice.Eq.{bytes_eq-Decides}
 use Rattle.batch_cell.specs.LookUps.{resources_of as cell_resources}
@@ -82,3 +82,17 @@ needs_at_number site level number table own are is =
         let e : Some (needs_of site a) ≡ Some own.items = mapped in
         let same : needs_of site a ≡ own.items = cc in
         sym same ∙ ap (λ o. numbers_of_resources site.cell.now (resources_of (asked_at (sites_on site) o))) (sym found)
+
+-- past the last act of the table there is none
+pub no_needs_at_number : (site : Site) (level : LabelTable) (number : ℕ) (table : List (Vec (Option ℕ) Global))
+    → needs_in_table table ≡ map (needs_of site) (table_at site.recipe.now.acts level) → length table ≤ number → [] ≡ needs_at site (kind.Act level number)
+no_needs_at_number site level number table are past = go (slice_get (table_at site.recipe.now.acts level) number) refl
+  where
+    as_many : length table ≡ length (table_at site.recipe.now.acts level)
+    as_many = sym (length-map table (λ needs. needs.items)) ∙ (ap length are ∙ length-map (table_at site.recipe.now.acts level) (needs_of site))
+
+    go : (o : Option Act) → slice_get (table_at site.recipe.now.acts level) number ≡ o → [] ≡ needs_at site (kind.Act level number)
+    go None found = ap (λ o. numbers_of_resources site.cell.now (resources_of (asked_at (sites_on site) o))) (sym found)
+    go (Some a) found =
+        let within : number < length (table_at site.recipe.now.acts level) = slice_get_within (table_at site.recipe.now.acts level) number a found in
+        absurd (omega (arith, within, past, as_many))
