@@ -1,5 +1,5 @@
 -- Units that are told to be kept are so along a whole record.
-use Rattle.std.proofs.Common.{arith, ◌≡◌, refl, sym, ◌∙◌, ap, subst, subst₂, ℕ, List, [], ◌∷◌, ◌++◌, append-nil, append_assoc, ⊎_elim}
+use Rattle.std.proofs.Common.{arith, refl, sym, subst, subst₂, List, [], ◌∷◌, ◌++◌, append-nil, append_assoc, ⊎_elim}
 use Rattle.batch_recipe.specs.Tree.{Place}
 use Rattle.batch_model.specs.Cleared.{Ranking}
 use Rattle.batch_model.specs.Events.{Event}

@@ -1,5 +1,5 @@
 -- What is told of units that are passed on or reserved is so after every reply.
-use Rattle.std.proofs.Common.{arith, ◌≡◌, ⊎_elim, refl, sym, ◌∙◌, ap, ap₂, subst, subst₂, ℕ, suc, ◌≤◌, List, [], ◌∷◌, ◌++◌, Bool, true, false, ◌&&◌, not, nat_eq, map, find, Option, Some, None, inl, inr, bytes_eq}
+use Rattle.std.proofs.Common.{arith, ◌≡◌, ⊎_elim, refl, sym, ◌∙◌, ap, ap₂, subst, subst₂, ℕ, ◌≤◌, List, [], ◌∷◌, ◌++◌, Bool, true, false, not, nat_eq, map, find, Option, Some, None, inl, inr, bytes_eq}
 use Rattle.batch_matrix.specs.declared.command.Command.{Command}
 use Rattle.batch_matrix.specs.declared.command.Command.TheVariants.{Start, Pause, Resume, Hold, Restart, Stop, Abort, Reset}
 use Rattle.batch_matrix.specs.declared.report.PhaseEnd.{PhaseEnd}
@@ -16,7 +16,7 @@ use Rattle.batch_model.specs.Events.{Event, create, order, remove, report, Refus
 use Rattle.batch_model.specs.Lists.{Has, Each}
 use Rattle.batch_model.specs.Moves.{Move, next}
 use Rattle.batch_model.specs.Plant.{Formula, size_out_of_range, value_out_of_range, scaled, Recipe, Master, Setup, Batch, Share, Plant, batch_at, moment_of, in_batch}
-use Rattle.batch_model.specs.Rest.{Rest, acts, changed_at}
+use Rattle.batch_model.specs.Rest.{Rest, changed_at}
 use Rattle.batch_model.specs.Records.{holders_told}
 use Rattle.batch_model.specs.Runs.{Out, reply, Reacts, goes_on}
 use Rattle.batch_model.specs.Standing.{IsStanding}
@@ -30,7 +30,7 @@ use Rattle.batch_laws.proofs.Invariant.{IsKept, standing-of, numbers-of}
 use Rattle.batch_laws.proofs.Members.{Has-map}
 use Rattle.batch_laws.proofs.Passing.{early-none}
 use Rattle.batch_safety.proofs.KeptUnits.{IsOfOther, Holds, passed_told-last, reserved_told-last, passed_told-others, reserved_told-others}
-use Rattle.batch_safety.proofs.Unbegun.{IsUnbegunAt, advance-unbegun, changed-unbegun, phase_after-unbegun}
+use Rattle.batch_safety.proofs.Unbegun.{advance-unbegun, changed-unbegun, phase_after-unbegun}
 use Rattle.batch_safety.proofs.UnitsKept.{IsHeldFor, IsHeldByStep, IsStillKept, KeepsAs, KeepsIn, KeepsAll, keeps-on, other-keeps, still-fresh}
 
 -- where nothing is told, nothing is to be kept

@@ -1,23 +1,21 @@
 -- What one more line makes of the units that are told to be kept, and of those that are told to be held.
-use Rattle.std.proofs.Common.{◌≡◌, ◌⊎◌, refl, sym, ◌∙◌, ap, subst, ℕ, List, [], ◌∷◌, ◌++◌, Bool, true, false, not, nat_eq, map, inl, inr}
+use Rattle.std.proofs.Common.{◌≡◌, refl, sym, ◌∙◌, ap, subst, ℕ, List, [], ◌∷◌, ◌++◌, Bool, true, false, nat_eq, inl}
 use Rattle.std.proofs.lemmas.List.Sums.{fold-append}
 use Rattle.std.specs.Prelude.{⊤}
-use Rattle.batch_matrix.specs.declared.command.Command.{Command}
 use Rattle.batch_matrix.specs.declared.command.Command.TheVariants.{Stop, Abort}
-use Rattle.batch_matrix.specs.declared.state.State.{State}
 use Rattle.batch_recipe.specs.Conditions.{Name, same_name}
 use Rattle.batch_recipe.specs.declared.need.Need.{Need}
 use Rattle.batch_recipe.specs.Tree.{Place, Tree}
-use Rattle.batch_model.specs.Events.{Reply, ordered}
+use Rattle.batch_model.specs.Events.{ordered}
 use Rattle.batch_model.specs.Lists.{Has}
-use Rattle.batch_model.specs.Moves.{Move, release, pass, begin, start, grant, batch_of}
-use Rattle.batch_model.specs.Plant.{BatchAct, Share, acts_in, is_same_act, without, with_share, without_share}
+use Rattle.batch_model.specs.Moves.{release, pass, begin, start, grant, batch_of}
+use Rattle.batch_model.specs.Plant.{BatchAct, Share, acts_in, without, with_share, without_share}
 use Rattle.batch_model.specs.Records.{holders_after, holders_told}
 use Rattle.batch_model.specs.Runs.{Out, reply, move}
 use Rattle.batch_model.specs.Transfers.{Kept, without_begun, kept_until, passed_by, passed_told, reserved_from, reserved_told}
 use Rattle.batch_model.proofs.Members.{Has-left, Has-right}
 use Rattle.batch_machine.proofs.Telling.{holders_told-last}
-use Rattle.batch_laws.proofs.Entries.{nat_differs, without-Has, name_self}
+use Rattle.batch_laws.proofs.Entries.{nat_differs, without-Has}
 use Rattle.batch_laws.proofs.Members.{Has-map, map-Has}
 
 -- Lines

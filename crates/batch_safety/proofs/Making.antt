@@ -1,12 +1,12 @@
 -- Which act makes a move that begins a step, and which gives up a unit as long as its batch goes on.
-use Rattle.std.proofs.Common.{arith, ◌≡◌, refl, sym, ◌∙◌, ap, subst, ℕ, zero, suc, pred, List, length, Bool, true, false, Option, Some, None, slice_get}
+use Rattle.std.proofs.Common.{arith, ◌≡◌, refl, sym, ◌∙◌, ap, subst, ℕ, zero, suc, length, Bool, true, false, Option, Some, None, slice_get}
 use Rattle.std.specs.Prelude.{⊤, ◌&&◌, ◌||◌, not}
 use Rattle.batch_matrix.specs.declared.command.Command.{Command}
 use Rattle.batch_matrix.specs.declared.state.State.{State}
 use Rattle.batch_matrix.specs.Matrix.{accepts}
 use Rattle.batch_recipe.specs.declared.need.Need.{Need}
 use Rattle.batch_recipe.specs.Tree.{Place, Step, Task, Tree, runs, follows}
-use Rattle.batch_model.specs.Moves.{Move, send, release, pass, begin, start, end, ask, grant, is_running, is_stopping, is_stopped, is_quiet, is_empty, is_served, passed_on, handed_values, beginning, entering, last_held, giving_back, reserved_place, handing_over, when, act_move}
+use Rattle.batch_model.specs.Moves.{Move, send, release, pass, begin, start, end, ask, grant, is_running, is_stopping, is_stopped, is_quiet, is_empty, is_served, passed_on, handed_values, beginning, entering, giving_back, reserved_place, handing_over, when, act_move}
 use Rattle.batch_model.specs.Plant.{Setup, Batch, Plant, held_in}
 use Rattle.batch_model.specs.Rest.{Rest, ready, asking, open_act, live, freeing, is_done}
 use Rattle.batch_model.specs.Runs.{goes_on}

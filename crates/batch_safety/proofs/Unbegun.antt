@@ -1,5 +1,5 @@
 -- Of the act at a place: as long as it isn't begun, it stays so.
-use Rattle.std.proofs.Common.{◌≡◌, refl, sym, ◌∙◌, ap, subst, ℕ, zero, suc, pred, List, [], length, Bool, true, false, inl, inr, ⊎_elim}
+use Rattle.std.proofs.Common.{◌≡◌, refl, sym, ◌∙◌, ap, subst, ℕ, zero, suc, pred, List, length, Bool, true, false, inl, inr, ⊎_elim}
 use Rattle.std.specs.Prelude.{⊤}
 use Rattle.batch_matrix.specs.declared.command.Command.{Command}
 use Rattle.batch_matrix.specs.declared.report.PhaseEnd.{PhaseEnd}

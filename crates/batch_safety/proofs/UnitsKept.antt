@@ -1,26 +1,24 @@
 -- What is told of units that are passed on or reserved is so, after every line.
 use Rattle.std.proofs.Common.{arith, ◌≡◌, ◌⊎◌, ⊎_elim, refl, sym, ◌∙◌, ap, subst, ℕ, zero, suc, ◌<◌, ◌≤◌, List, [], ◌∷◌, ◌++◌, Bool, true, false, not, nat_eq, map, take, find, Option, Some, None, slice_get, inl, inr, bytes_eq}
-use Rattle.std.specs.Prelude.{⊤, option_and_then, option_map}
-use Rattle.std.specs.List.{filter_map}
+use Rattle.std.specs.Prelude.{option_and_then, option_map}
 use Rattle.std.proofs.lemmas.Bool.{cases_lt}
 use Rattle.std.proofs.lemmas.Slice.Eq.{bytes_eq-Decides}
 use Rattle.batch_matrix.specs.declared.state.State.{State}
 use Rattle.batch_recipe.specs.Conditions.{Name, same_name}
 use Rattle.batch_recipe.specs.declared.need.Need.{Need}
-use Rattle.batch_recipe.specs.Following.{follower}
 use Rattle.batch_recipe.specs.Needs.{resources_of}
-use Rattle.batch_recipe.specs.Tree.{Place, Reserve, Step, Phase, Task, Tree, runs, follows}
+use Rattle.batch_recipe.specs.Tree.{Place, Reserve, Step, Task, Tree, runs, follows}
 use Rattle.batch_model.specs.ActStates.{steps}
 use Rattle.batch_model.specs.Cleared.{Ranking}
 use Rattle.batch_model.specs.Lists.{Has, Each}
-use Rattle.batch_model.specs.Moves.{Move, state, release, pass, begin, start, place_of_move, batch_of, is_running, reserved_place, passing, act_after, act_move, state_move, batch_moves, batch_after, next, after}
+use Rattle.batch_model.specs.Moves.{Move, state, release, pass, begin, start, place_of_move, batch_of, reserved_place, passing, act_after, act_move, batch_moves, batch_after, next, after}
 use Rattle.batch_model.specs.Plant.{Setup, Batch, Share, Plant, moment_of, in_act}
-use Rattle.batch_model.specs.Rest.{Rest, ready, freeing, same_place, acts, place_of, changed_at}
+use Rattle.batch_model.specs.Rest.{Rest, ready, freeing, same_place, acts, changed_at}
 use Rattle.batch_model.specs.Records.{holders_told}
 use Rattle.batch_model.specs.Runs.{Out, move, goes_on}
 use Rattle.batch_model.specs.Standing.{IsStandingBatch, IsStanding}
 use Rattle.batch_model.specs.Transfers.{Kept, without_begun, kept_until, passed_by, passed_told, reserved_by, reserved_at, reserved_from, reserved_told}
-use Rattle.batch_model.proofs.Members.{Has-split, Has-filter_map, find-Has, Each-Has, Each-map}
+use Rattle.batch_model.proofs.Members.{Has-split, Has-filter_map, Each-Has, Each-map}
 use Rattle.batch_machine.proofs.Calming.{IsStateMove, state_move-is}
 use Rattle.batch_machine.proofs.Changing.{to_same_place}
 use Rattle.batch_machine.proofs.Falling.{Has-batch_moves, batch_moves-number, next-possible, same-rest, same-state}
