@@ -1,5 +1,5 @@
 -- What holds of each two needs of a path in the bindings by which edges are collected holds in every binding that is tried.
-use Rattle.std.proofs.Common.{arith, ◌≡◌, ◌⊎◌, ℕ, zero, suc, ◌<◌, Bool, true, false, ◌||◌, IsTrue, ltb, List, [], ◌∷◌, length, Option, Some, None, option_map, slice_get, refl, sym, ap, ◌∙◌, subst, inl, inr, ⊎_elim}
+use Rattle.std.proofs.Common.{arith, ◌≡◌, ◌⊎◌, ℕ, zero, suc, Bool, true, false, ◌||◌, ltb, List, [], ◌∷◌, length, Option, Some, None, option_map, slice_get, refl, sym, ap, ◌∙◌, subst, inl, inr, ⊎_elim}
 use Rattle.std.specs.List.{list_any}
 use Rattle.std.proofs.lemmas.Option.{slice_get-map}
 use Rattle.batch_cell.specs.declared.cell.Cell as equipment

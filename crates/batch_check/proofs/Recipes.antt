@@ -1,7 +1,6 @@
 -- The edges of recipes, one recipe after another.
-use Rattle.std.proofs.Common.{◌≡◌, ℕ, ◌+◌, ◌<◌, ◌≤◌, ◌⊎◌, inl, inr, refl, ⊎_elim, List, [], ◌∷◌, ◌++◌, get_or, take, length, slice_get, IsTrue, Option, Some, None, option_map, All, sym, ap, ◌∙◌, subst, arith}
+use Rattle.std.proofs.Common.{◌≡◌, ℕ, ◌+◌, ◌<◌, ◌≤◌, ◌⊎◌, inl, inr, refl, ⊎_elim, List, [], ◌∷◌, ◌++◌, get_or, take, length, slice_get, IsTrue, Option, Some, None, option_map, All, sym, ap, ◌∙◌, subst}
 use Rattle.std.specs.List.{Contains}
-use Rattle.std.proofs.lemmas.Bool.{cases_lt}
 use Rattle.std.proofs.lemmas.List.{take_all, take_more}
 use Rattle.std.proofs.lemmas.List.Elements.{All-weaker, All-contains, Contains-get_or}
 use Rattle.std.proofs.lemmas.Option.{slice_get_within, slice_get-get_or, slice_get-map}
@@ -18,9 +17,9 @@ use Rattle.batch_check.specs.declared.edge_set.EdgeSet.{EdgeSet}
 use Rattle.batch_verify.proofs.Tried.{taken-tried}
 use Rattle.batch_check.specs.Takings.{IsShownBy, bound_by, number_for}
 use Rattle.batch_check.specs.declared.taking.Taking.{Taking}
-use Rattle.batch_check.specs.Edges.{OfNodes, Stands, Covers, CoversRecipes, Follows, AreEdgesOf, has_pair, number_of_resource, numbers_of_resources}
+use Rattle.batch_check.specs.Edges.{OfNodes, Stands, Covers, CoversRecipes, AreEdgesOf, has_pair, number_of_resource, numbers_of_resources}
 use Rattle.batch_check.specs.LeastRanking.{HasEndsBelow}
-use Rattle.batch_check.specs.Pairs.{ArePaired, Keeps}
+use Rattle.batch_check.specs.Pairs.{Keeps}
 use Rattle.batch_check.specs.Joining.{Grows, HasTaken}
 use Rattle.batch_check.specs.Collecting.{AreAdded, HasAllPairs, IsCollected, IsAdded, PairsAll, PairsRecipe}
 use Rattle.batch_check.proofs.Asking.{Follows-keeps}

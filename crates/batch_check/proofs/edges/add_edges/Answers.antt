@@ -1,4 +1,4 @@
-use Rattle.std.proofs.Common.{◌≡◌, ◌≤◌, length, ap, sym, subst, arith}
+use Rattle.std.proofs.Common.{sym, subst}
 use Rattle.batch_check.specs.Collecting.{kept_at_top}
 use Rattle.batch_check.specs.Takings.{IsShownBy}
 use Rattle.batch_check.proofs.Recipes.{KeepsBindings-first, KeepsBindings-more, added_all}
