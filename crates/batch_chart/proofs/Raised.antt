@@ -41,7 +41,7 @@ use Rattle.batch_chart.proofs.NodesStand.{node-stands}
 use Rattle.batch_chart.proofs.Numbering.{same-itself, not-same, before-differ}
 use Rattle.batch_chart.proofs.Sought.{ready-shows}
 use Rattle.batch_chart.proofs.Stepping.{number-at-place, act-here}
-use Rattle.batch_chart.proofs.Taking.{taken-none, taken-alike, ready-act_at}
+use Rattle.batch_chart.proofs.TakenOver.{taken-none, taken-alike, ready-act_at}
 
 -- Acts that are raised are taken over
 

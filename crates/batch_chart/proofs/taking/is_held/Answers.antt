@@ -1,7 +1,7 @@
 use Rattle.std.proofs.Common.{◌<◌, length, arith, inl, inr, sym, ◌∙◌, ap, nat_eq}
 use Rattle.std.proofs.lemmas.Bool.Decides.{eqb_tells}
 use Rattle.batch_chart.specs.Early.{to_at}
-use Rattle.batch_chart.proofs.Taking.{at-early, early-none, none-more, read-at}
+use Rattle.batch_chart.proofs.TakenOver.{at-early, early-none, none-more, read-at}
 use Rattle.batch_chart.proofs.taking.is_held.Goals as goal
 
 pub loop-j-init : goal.loop-j-init

@@ -1,6 +1,6 @@
 use Rattle.std.proofs.Common.{◌<◌, ◌∙◌, length, arith, subst, sym}
 use Rattle.batch_chart.specs.Early.{IsTakenAt, to_at}
-use Rattle.batch_chart.proofs.Taking.{taken-first, taken-next, taken-end, as-many-stages, read-at}
+use Rattle.batch_chart.proofs.TakenOver.{taken-first, taken-next, taken-end, as-many-stages, read-at}
 use Rattle.batch_chart.proofs.taking.take_over.Goals as goal
 
 pub loop-j-init : goal.loop-j-init
