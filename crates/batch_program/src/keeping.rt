@@ -1,5 +1,5 @@
 //! Serving over a journal.
-ghost use Rattle.std.specs.Prelude.{◌≡◌, ◌⊎◌, [], IsOk};
+ghost use Rattle.std.specs.Prelude.{◌≡◌, ◌⊎◌, [], IsOk, ⊤};
 ghost use Rattle.std.specs.Io.KnownBytes.{Keeps};
 ghost use Rattle.batch_engine.specs.View.{setup, plant_of};
 ghost use Rattle.batch_wire.specs.Written.{Writes};
@@ -60,8 +60,9 @@ pub fn keep_journal<J: Journals, R: Read, W: Write, E: Write>(
 {
     match journals.open_journal(path) {
         Ok(disk) => {
-            let (status, _, output) = serve_file::<J, R, W, E, Brand>(
-                alloc, digested, quiet, path, journals, disk, input, output, errors,
+            let clock = journals.clock();
+            let (status, _, output) = serve_opened(
+                alloc, digested, quiet, path, clock, disk, input, output, errors,
             );
             (status, output)
         }
@@ -70,30 +71,64 @@ pub fn keep_journal<J: Journals, R: Read, W: Write, E: Write>(
 }
 
 /// The same over the file that was opened, which is given back.
-fn serve_file<J: Journals, R: Read, W: Write, E: Write, C: Run>(
+fn serve_opened<D: Disk, K: Clock + Drop, R: Read, W: Write, E: Write>(
     alloc: Global,
     digested: Digested,
     quiet: bool,
     path: &str,
-    journals: &J,
-    mut disk: J::File,
+    clock: K,
+    disk: D,
+    input: &mut Noted<R>,
+    output: Noted<W>,
+    errors: &mut E,
+) -> (u8, D, Noted<W>)
+    requires fresh { D.is_disk disk → (D.durable disk ≡ D.seen disk) × (D.given disk ≡ []) }
+    ensures { IsOverFile (record {
+          File = D;
+          opens = λ _ _. ⊤;
+          is_disk = D.is_disk;
+          durable = D.durable;
+          seen = D.seen;
+          given = D.given;
+          moment = D.moment;
+          left_since = D.left_since;
+        }) digested.set digested.documents.text path.now disk result.1
+        (record {
+          unread = R.remaining input.old.stream;
+          left = R.remaining input.new.stream;
+          before = W.contents output.stream;
+          after = W.contents result.2.stream;
+        }) result.0 }
+{
+    serve_file::<D, K, R, W, E, Brand>(
+        alloc, digested, quiet, path, clock, disk, input, output, errors,
+    )
+}
+
+fn serve_file<D: Disk, K: Clock + Drop, R: Read, W: Write, E: Write, C: Run>(
+    alloc: Global,
+    digested: Digested,
+    quiet: bool,
+    path: &str,
+    clock: K,
+    mut disk: D,
     input: &mut Noted<R>,
     mut output: Noted<W>,
     errors: &mut E,
-) -> (u8, J::File, Noted<W>)
-    requires fresh { J.File.is_disk disk → (J.File.durable disk ≡ J.File.seen disk) × (J.File.given disk ≡ []) }
-    requires base { C.base ≡ text_of (recovered digested.documents.text (J.File.seen disk)) }
-    requires since { C.since ≡ J.File.moment disk }
+) -> (u8, D, Noted<W>)
+    requires fresh { D.is_disk disk → (D.durable disk ≡ D.seen disk) × (D.given disk ≡ []) }
+    requires base { C.base ≡ text_of (recovered digested.documents.text (D.seen disk)) }
+    requires since { C.since ≡ D.moment disk }
     requires input { C.input ≡ cleaned (R.remaining input.old.stream) }
     ensures { IsOverFile (record {
-          File = J.File;
-          opens = J.opens journals.now;
-          is_disk = J.File.is_disk;
-          durable = J.File.durable;
-          seen = J.File.seen;
-          given = J.File.given;
-          moment = J.File.moment;
-          left_since = J.File.left_since;
+          File = D;
+          opens = λ _ _. ⊤;
+          is_disk = D.is_disk;
+          durable = D.durable;
+          seen = D.seen;
+          given = D.given;
+          moment = D.moment;
+          left_since = D.left_since;
         }) digested.set digested.documents.text path.now disk result.1
         (record {
           unread = R.remaining input.old.stream;
@@ -113,11 +148,11 @@ fn serve_file<J: Journals, R: Read, W: Write, E: Write, C: Run>(
             } = started;
             let journal = Journal {
                 disk,
-                clock: journals.clock(),
+                clock,
                 sum,
                 documents: digested.documents.text(),
             };
-            serve_behind::<J::File, J::Time, R, W, E, Brand>(
+            serve_behind::<D, K, R, W, E, Brand>(
                 alloc,
                 &mut engine,
                 &block,

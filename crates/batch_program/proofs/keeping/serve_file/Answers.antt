@@ -15,7 +15,7 @@ serve_behind-requires-clause-whole g c = λ d. none_whole _ (c.start.ensures.giv
 
 pub serve_behind-requires-clause-recalled : goal.serve_behind-requires-clause-recalled
 serve_behind-requires-clause-recalled g c = λ d.
-    moments_as (sym c.text.ensures.digits) refl refl (begun_before g.J.File.Disk.moment g.J.File.Disk.left_since _ _ _ _ _ _ _ (c.start.ensures.any_moment d) c.requires.since c.requires.base (c.requires.fresh (c.start.ensures.stays d)).1)
+    moments_as (sym c.text.ensures.digits) refl refl (begun_before g.D.Disk.moment g.D.Disk.left_since _ _ _ _ _ _ _ (c.start.ensures.any_moment d) c.requires.since c.requires.base (c.requires.fresh (c.start.ensures.stays d)).1)
 
 pub serve_behind-requires-clause-accounted : goal.serve_behind-requires-clause-accounted
 serve_behind-requires-clause-accounted g c = λ d. none_accounted _ _ _ c.requires.input (c.start.ensures.given d ∙ (c.requires.fresh (c.start.ensures.stays d)).1)
@@ -23,7 +23,7 @@ serve_behind-requires-clause-accounted g c = λ d. none_accounted _ _ _ c.requir
 pub returns-in-Err : goal.returns-in-Err
 returns-in-Err g c =
     record {
-      any_moment = λ d. begun_before g.J.File.Disk.moment g.J.File.Disk.left_since _ _ _ _ _ _ _ (c.start.ensures.any_moment d) refl refl (c.requires.fresh (c.start.ensures.stays d)).1;
+      any_moment = λ d. begun_before g.D.Disk.moment g.D.Disk.left_since _ _ _ _ _ _ _ (c.start.ensures.any_moment d) refl refl (c.requires.fresh (c.start.ensures.stays d)).1;
       told = told_refused _ _ _ _ _ _ _ _ c.in-Err.fault (λ refusal is d. start_refused _ _ c.start.result c.in-Err.fault refusal c.in-Err.is is (c.start.ensures.refused d))
           c.refuse_start-status.ensures;
     }

@@ -6,5 +6,5 @@ ghosts-serve_behind g a = record {
   base = g.C.Run.base;
   since = g.C.Run.since;
   input = g.C.Run.input;
-  was = g.J.File.Disk.is_disk a.journal.disk;
+  was = g.D.Disk.is_disk a.journal.disk;
 }
