@@ -21,8 +21,8 @@ mod roles;
 mod sentence;
 mod sets;
 mod showing;
-mod warnings;
 mod sources;
+mod warnings;
 mod ways;
 
 pub use certificates::certificate_sentence;
@@ -31,5 +31,5 @@ pub use names::act_name;
 pub use sentence::Sentence;
 pub use sets::{fault_sentence, refusal_sentence};
 pub use showing::shown;
-pub use warnings::{recipe_warning, unit_warning};
 pub use sources::Source;
+pub use warnings::{recipe_warning, unit_warning};

@@ -12,5 +12,5 @@ returns c =
     let each = flat_map (λ (need : Need). spaced (need_text need)) c.args.needs.now in
     on_ok_weaker c.put_each_need.result
     (λ told. told ∙ ap (λ text. text ++ each) c.in_ok-push_str.ensures.bytes ∙ append_assoc old (codes " needs") each
-        ∙ ap (λ text. old ++ text) (sym (needs_written (codes "needs") c.args.needs.now c.is_empty.result c.if-is_empty.false c.is_empty.ensures)))
+    ∙ ap (λ text. old ++ text) (sym (needs_written (codes "needs") c.args.needs.now c.is_empty.result c.if-is_empty.false c.is_empty.ensures)))
     c.put_each_need.ensures

@@ -80,8 +80,8 @@ put_choices-returns t c =
     let placed : c.deref-2.result.now ≡ p ++ (codes "." ++ decimal i) = c.deref-2.ensures ∙ c.in_ok-place-2.ensures ∙ ap (λ k. p ++ (codes "." ++ decimal k)) count in
     on_ok_weaker c.put_chart-2.result
     (λ told. told ∙ ap (λ place. before ++ along named (record { place = place; held = h; branch = codes " else" }) (diagram_of c.args.last.now)) placed
-        ∙ cases_last named p h c.args.choices.now c.args.last.now i before _ c.loop-child-test.false c.loop-child.invariant
-        ∙ ap (λ text. text ++ all) c.in_ok-put_line.ensures ∙ append_assoc old top all)
+    ∙ cases_last named p h c.args.choices.now c.args.last.now i before _ c.loop-child-test.false c.loop-child.invariant
+    ∙ ap (λ text. text ++ all) c.in_ok-put_line.ensures ∙ append_assoc old top all)
     c.put_chart-2.ensures
 
 pub put_loop-returns : goal.put_loop-returns
@@ -97,5 +97,5 @@ put_loop-returns t c =
     let placed : c.deref-2.result.now ≡ p ++ (codes "." ++ decimal 0) = c.deref-2.ensures ∙ c.in_ok-place.ensures in
     on_ok_weaker c.put_chart.result
     (λ told. told ∙ ap (λ place. string_bytes c.put_line.new.text ++ along named (record { place = place; held = h; branch = [] }) d) placed
-        ∙ ap (λ text. text ++ rest) (c.in_ok-put_line.ensures ∙ ap (λ turns. old ++ line (seat_of c.args.seat) (codes "loop") turns) timed) ∙ append_assoc old top rest)
+    ∙ ap (λ text. text ++ rest) (c.in_ok-put_line.ensures ∙ ap (λ turns. old ++ line (seat_of c.args.seat) (codes "loop") turns) timed) ∙ append_assoc old top rest)
     c.put_chart.ensures
