@@ -124,16 +124,18 @@ pub done_keeping : (gives : Gives) (request : Request) (quiet : Bool) (output er
     → IsKeeping gives request digested journal output errors × (hushed ≡ quiet)
 done_keeping gives request quiet output errors digested hushed journal _ (keeps cell certificate recipes other own asked is_set kept silent) is =
     let same : own ≡ digested = cc in
-    let named : other ≡ journal = cc in
-    (record {
-      cell = cell;
-      certificate = certificate;
-      recipes = recipes;
-      asked = subst (λ (path : String Global). request ≡ keep (string_bytes path) cell certificate recipes) named asked;
-      is_set = subst (λ (d : Digested). AreDigested gives cell certificate recipes d.set d.documents.text) same is_set;
-      unwritten = kept;
-      silent = silent;
-    }, cc)
+    let named : other ≡ journal = cc in (
+      record {
+        cell = cell;
+        certificate = certificate;
+        recipes = recipes;
+        asked = subst (λ (path : String Global). request ≡ keep (string_bytes path) cell certificate recipes) named asked;
+        is_set = subst (λ (d : Digested). AreDigested gives cell certificate recipes d.set d.documents.text) same is_set;
+        unwritten = kept;
+        silent = silent;
+      },
+      cc,
+    )
 done_keeping gives request quiet output errors digested hushed journal _ (serves _ _ _ _ _ _) is = absurd cc
 done_keeping gives request quiet output errors digested hushed journal _ (judges _ _ _ _ _ _ _) is = absurd cc
 done_keeping gives request quiet output errors digested hushed journal _ (explains _ _ _ _) is = absurd cc

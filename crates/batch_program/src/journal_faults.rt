@@ -49,7 +49,9 @@ pub(crate) fn refuse_start<W: Write, E: Write>(
     ensures { IsStartTold path.now fault (record { before = W.contents output.old; after = W.contents output.new }) result }
 {
     match fault {
-        StartFault::Recovery(RecoveryFault::Disk(fault)) => complain_disk(alloc, path, fault, errors),
+        StartFault::Recovery(RecoveryFault::Disk(fault)) => complain_disk(
+            alloc, path, fault, errors,
+        ),
         StartFault::Recovery(refusal) => refuse(alloc, quiet, path, refusal, output, errors),
         StartFault::Memory
         | StartFault::Block(BlockFault::Memory)

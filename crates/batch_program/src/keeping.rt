@@ -42,15 +42,15 @@ pub fn keep_journal<J: Journals, R: Read, W: Write, E: Write>(
     errors: &mut E,
 ) -> (u8, Noted<W>)
     ensures { IsJournalRun (record {
-          File = J.File;
-          opens = J.opens journals.now;
-          is_disk = J.File.is_disk;
-          durable = J.File.durable;
-          seen = J.File.seen;
-          given = J.File.given;
-          moment = J.File.moment;
-          left_since = J.File.left_since;
-        }) digested.set digested.documents.text path.now
+      File = J.File;
+      opens = J.opens journals.now;
+      is_disk = J.File.is_disk;
+      durable = J.File.durable;
+      seen = J.File.seen;
+      given = J.File.given;
+      moment = J.File.moment;
+      left_since = J.File.left_since;
+    }) digested.set digested.documents.text path.now
         (record {
           unread = R.remaining input.old.stream;
           left = R.remaining input.new.stream;
@@ -84,15 +84,15 @@ fn serve_opened<D: Disk, K: Clock + Drop, R: Read, W: Write, E: Write>(
 ) -> (u8, D, Noted<W>)
     requires fresh { D.is_disk disk → (D.durable disk ≡ D.seen disk) × (D.given disk ≡ []) }
     ensures { IsOverFile (record {
-          File = D;
-          opens = λ _ _. ⊤;
-          is_disk = D.is_disk;
-          durable = D.durable;
-          seen = D.seen;
-          given = D.given;
-          moment = D.moment;
-          left_since = D.left_since;
-        }) digested.set digested.documents.text path.now disk result.1
+      File = D;
+      opens = λ _ _. ⊤;
+      is_disk = D.is_disk;
+      durable = D.durable;
+      seen = D.seen;
+      given = D.given;
+      moment = D.moment;
+      left_since = D.left_since;
+    }) digested.set digested.documents.text path.now disk result.1
         (record {
           unread = R.remaining input.old.stream;
           left = R.remaining input.new.stream;
@@ -121,15 +121,15 @@ fn serve_file<D: Disk, K: Clock + Drop, R: Read, W: Write, E: Write, C: Run>(
     requires since { C.since ≡ D.moment disk }
     requires input { C.input ≡ cleaned (R.remaining input.old.stream) }
     ensures { IsOverFile (record {
-          File = D;
-          opens = λ _ _. ⊤;
-          is_disk = D.is_disk;
-          durable = D.durable;
-          seen = D.seen;
-          given = D.given;
-          moment = D.moment;
-          left_since = D.left_since;
-        }) digested.set digested.documents.text path.now disk result.1
+      File = D;
+      opens = λ _ _. ⊤;
+      is_disk = D.is_disk;
+      durable = D.durable;
+      seen = D.seen;
+      given = D.given;
+      moment = D.moment;
+      left_since = D.left_since;
+    }) digested.set digested.documents.text path.now disk result.1
         (record {
           unread = R.remaining input.old.stream;
           left = R.remaining input.new.stream;
@@ -200,8 +200,9 @@ fn serve_behind<D: Disk, K: Clock + Drop, R: Read, W: Write, E: Write, C: Run>(
         return (status, journal.disk, output);
     }
     let reader = CleanReader::new(&mut *input);
-    let (served, disk, output) =
-        serve_started::<CleanReader<&mut Noted<R>>, D, K, Noted<W>, C>(alloc, engine, reader, journal, output, MAX_READS);
+    let (served, disk, output) = serve_started::<CleanReader<&mut Noted<R>>, D, K, Noted<W>, C>(
+        alloc, engine, reader, journal, output, MAX_READS,
+    );
     let status = tell_end(
         alloc,
         quiet,

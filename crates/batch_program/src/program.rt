@@ -35,13 +35,7 @@ struct Stop {
 /// Verdicts, help, the record, what one tells, what is found of one and the lines of a plant go to the output, and all else, in a free text, to the errors. Refused
 /// events are part of the record and don't change the status. Where the input ends while batches are neither complete, stopped
 /// nor aborted, one line on the errors says how many, unless quiet is asked for; where none is, nothing is written there.
-pub fn run_program<
-    D: Documents + Records + Journals,
-    P: PlantRunner,
-    R: Read,
-    W: Write,
-    E: Write,
->(
+pub fn run_program<D: Documents + Records + Journals, P: PlantRunner, R: Read, W: Write, E: Write>(
     alloc: Global,
     words: &[String],
     documents: &D,

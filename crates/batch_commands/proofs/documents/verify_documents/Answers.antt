@@ -42,5 +42,5 @@ returns-clause-verdict g c =
     let warned = rw c.deref.ensures.value at c.warn.ensures in (
       c.in_ok-from_str.ensures.ok,
       verified gives warns c.args.cell.now c.args.certificate.now paths set.cell set.certificate.ranks.items set.recipes.items cleared.field-0
-      cleared.ensures.set.0 cleared.ensures.set.1 c.in_ok-set.ensures.read cleared.ensures.cleared warned,
+          cleared.ensures.set.0 cleared.ensures.set.1 c.in_ok-set.ensures.read cleared.ensures.cleared warned,
     )

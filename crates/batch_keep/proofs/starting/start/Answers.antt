@@ -7,8 +7,7 @@ use Rattle.batch_keep.proofs.starting.start.Goals as goal
 pub returns-clause-block : goal.returns-clause-block
 returns-clause-block g c =
     let recovery = c.in_ok-recovered in
-    let engine = c.in-Ok.ensures in
-    (
+    let engine = c.in-Ok.ensures in (
       recovered c.args.documents.text recovery.recovered.text.items,
       block_as _ _ _ _ _ _ _ _ _ _ engine.cleared engine.opening c.text-digits.ensures.digits c.deref.ensures.value c.in_ok-block.ensures.block,
       λ d. same_lines _ _ recovery.recovered.text.items (g.D.Disk.seen c.args.disk.now) c.text-digits.ensures.digits (recovery.ensures.lines d),
@@ -16,8 +15,7 @@ returns-clause-block g c =
 
 pub returns-clause-at_rest : goal.returns-clause-at_rest
 returns-clause-at_rest g c = λ d.
-    let recovery = c.in_ok-recovered in
-    (
+    let recovery = c.in_ok-recovered in (
       recovery.recovered.text.items,
       rw c.text-digits.ensures.digits at (recovery.ensures.at_rest d),
       same_lines _ _ recovery.recovered.text.items (g.D.Disk.seen c.args.disk.now) c.text-digits.ensures.digits (recovery.ensures.lines d),
