@@ -1,32 +1,33 @@
 -- What a run tells of the documents.
-use Rattle.std.proofs.Common.{◌≡◌, ◌⊎◌, ℕ, Bool, List, inl, inr, refl, sym, subst, ◌∙◌}
+use Rattle.std.proofs.Common.{arith, ◌≡◌, ◌⊎◌, ◌≤◌, ℕ, Bool, true, false, List, inl, inr, refl, sym, subst, ◌∙◌}
 use Rattle.std.specs.Io.KnownBytes.{Appends}
 use Rattle.clap.specs.Kinds.{IsAmong}
 use Rattle.clap.specs.Walk.{Text}
 use Rattle.clap.specs.declared.error.kind.ErrorKind.{ErrorKind}
-use Rattle.clap.specs.Words.{fault_of}
-use Rattle.batch_words.specs.CommandLine.{Request, Source, demo, keep, program_app, serve}
+use Rattle.batch_words.specs.CommandLine.{Request, Source, demo, faults_of, keep, plant, serve}
 use Rattle.batch_verify.specs.ClearedSet.{ClearedSet}
-use Rattle.batch_commands.specs.Judging.{status_of}
+use Rattle.batch_commands.specs.Judging.{is_for_memory, status_of}
 use Rattle.batch_commands.specs.Reading.{Gives}
 use Rattle.batch_commands.specs.Requests.{Halts, HaltsDemo, IsDemoSet, IsSetOf}
-use Rattle.batch_commands.specs.Running.{AskFor, IsAnnounced, IsDone, IsExplained, IsPrinted, IsRun, IsUnwritten, Stream, ask_quiet, memory_status, success_status, commands, serves, reads, audits, plants, halts, judges, explains, helps, misuses, starves, keeps}
+use Rattle.batch_commands.specs.Running.{AskFor, IsAnnounced, IsDone, IsExplained, IsPrinted, IsRun, IsUnwritten, Stream, ask_quiet, memory_status, success_status, commands, status_of_every, serves, reads, audits, plants, halts, judges, explains, helps, misuses, starves, keeps, writes, remarks, draws}
 use Rattle.batch_commands.specs.Saying.{IsWarned}
 use Rattle.batch_commands.specs.Statuses.{AreCodesTold, IsSuccess, NoCommandServes, ServesClearedSets, SuccessIsTold}
 use Rattle.batch_commands.proofs.Warned.{verdict_more, warned_kept}
 use Rattle.batch_commands.specs.declared.course.Course.{Course}
 use Rattle.batch_commands.specs.declared.course.Course.TheVariants.{Ends, Serves, Keeps}
-use Rattle.std.specs.Prelude.{String, string_bytes}
+use Rattle.std.specs.Prelude.{String, if◌then◌else◌, string_bytes}
+use Rattle.std.specs.List.{list_any}
 use Rattle.std.specs.Global.{Global}
 use Rattle.batch_commands.specs.Digested.{AreDigested}
 use Rattle.batch_commands.specs.declared.digested.Digested.{Digested}
+use Rattle.batch_commands.specs.declared.refusal.DocumentRefusal.{DocumentRefusal}
 use Rattle.batch_commands.specs.declared.refusal.Halt.{Halt}
 use Rattle.batch_commands.specs.declared.refusal.Halt.TheVariants as halt
 use Rattle.batch_commands.specs.declared.refusal.RefusalKind.{RefusalKind}
 use Rattle.batch_commands.specs.declared.refusal.RefusalKind.TheVariants.{Fault, OutOfMemory}
 
 -- words that ask for something have no fault
-no_fault : (words : List Text) (request : Request) (kind : ErrorKind) → AskFor words request → IsAmong kind (fault_of program_app words) → ⊥
+no_fault : (words : List Text) (request : Request) (kind : ErrorKind) → AskFor words request → IsAmong kind (faults_of words) → ⊥
 no_fault words request kind asked among = rw asked.0 at among
 
 -- words ask for one thing
@@ -44,9 +45,26 @@ kind_fails : (kind : RefusalKind) → status_of kind ≡ 0 → ⊥
 kind_fails Fault is = cc
 kind_fails OutOfMemory is = cc
 
+either_fails : (wanting : Bool) → (if wanting then memory_status else status_of Fault) ≡ 0 → ⊥
+either_fails true is = cc
+either_fails false is = cc
+
+every_fails : (refusals : List DocumentRefusal) → status_of_every refusals ≡ 0 → ⊥
+every_fails refusals is = either_fails (list_any (λ r. is_for_memory r.kind) refusals) is
+
+either_in_range : (wanting : Bool) → (if wanting then memory_status else status_of Fault) ≤ 4
+either_in_range true = omega arith
+either_in_range false = omega arith
+
+pub every_in_range : (refusals : List DocumentRefusal) → status_of_every refusals ≤ 4
+every_in_range refusals = either_in_range (list_any (λ r. is_for_memory r.kind) refusals)
+
 no_success : (quiet : Bool) (output errors : Stream) (h : Halt) (status : ℕ) → IsAnnounced quiet output errors h status → status ≡ 0 → ⊥
 no_success quiet output errors (halt.Refused refusal) status (inl (_, _, same)) is = kind_fails refusal.kind (sym same ∙ is)
 no_success quiet output errors (halt.Refused refusal) status (inr fault) is = cc
+no_success quiet output errors (halt.Every refusals) status (inl (_, _, same)) is = every_fails refusals.items (sym same ∙ is)
+no_success quiet output errors (halt.Every refusals) status (inr (inl fault)) is = cc
+no_success quiet output errors (halt.Every refusals) status (inr (inr (_, memory))) is = cc
 no_success quiet output errors (halt.Unread message) status (_, fault) is = cc
 no_success quiet output errors halt.Memory status (_, fault) is = cc
 
@@ -72,7 +90,10 @@ done_success gives request quiet output errors _ (halts h status warned _ told) 
     absurd (no_success quiet output (record { before = warned; after = errors.after }) h status told cc)
 done_success gives request quiet output errors _ (serves _ _ _ _ _ _) is = absurd cc
 done_success gives request quiet output errors _ (keeps _ _ _ _ _ _ _ _ _) is = absurd cc
+done_success gives request quiet output errors _ (writes _ _ _ _ _ _) is = absurd cc
+done_success gives request quiet output errors _ (remarks _ _ _ _ _ _ _) is = absurd cc
 done_success gives request quiet output errors _ (reads _ _ _ _) is = absurd cc
+done_success gives request quiet output errors _ (draws _ _ _ _) is = absurd cc
 done_success gives request quiet output errors _ (audits _ _ _ _ _ _) is = absurd cc
 done_success gives request quiet output errors _ (plants _ _ _ _ _ _) is = absurd cc
 
@@ -102,10 +123,13 @@ done_serving gives request quiet output errors set hushed _ (serves source set2 
     let same : set2 ≡ set = cc in
     (record { source = source; asked = asked; is_set = rw (← same) served; unwritten = kept; silent = silent }, cc)
 done_serving gives request quiet output errors set hushed _ (judges _ _ _ _ _ _ _) is = absurd cc
+done_serving gives request quiet output errors set hushed _ (writes _ _ _ _ _ _) is = absurd cc
 done_serving gives request quiet output errors set hushed _ (explains _ _ _ _) is = absurd cc
 done_serving gives request quiet output errors set hushed _ (halts _ _ _ _ _) is = absurd cc
 done_serving gives request quiet output errors set hushed _ (keeps _ _ _ _ _ _ _ _ _) is = absurd cc
+done_serving gives request quiet output errors set hushed _ (remarks _ _ _ _ _ _ _) is = absurd cc
 done_serving gives request quiet output errors set hushed _ (reads _ _ _ _) is = absurd cc
+done_serving gives request quiet output errors set hushed _ (draws _ _ _ _) is = absurd cc
 done_serving gives request quiet output errors set hushed _ (audits _ _ _ _ _ _) is = absurd cc
 done_serving gives request quiet output errors set hushed _ (plants _ _ _ _ _ _) is = absurd cc
 
@@ -137,12 +161,33 @@ done_keeping gives request quiet output errors digested hushed journal _ (keeps 
       cc,
     )
 done_keeping gives request quiet output errors digested hushed journal _ (serves _ _ _ _ _ _) is = absurd cc
+done_keeping gives request quiet output errors digested hushed journal _ (remarks _ _ _ _ _ _ _) is = absurd cc
 done_keeping gives request quiet output errors digested hushed journal _ (judges _ _ _ _ _ _ _) is = absurd cc
 done_keeping gives request quiet output errors digested hushed journal _ (explains _ _ _ _) is = absurd cc
 done_keeping gives request quiet output errors digested hushed journal _ (halts _ _ _ _ _) is = absurd cc
 done_keeping gives request quiet output errors digested hushed journal _ (reads _ _ _ _) is = absurd cc
+done_keeping gives request quiet output errors digested hushed journal _ (draws _ _ _ _) is = absurd cc
 done_keeping gives request quiet output errors digested hushed journal _ (audits _ _ _ _ _ _) is = absurd cc
 done_keeping gives request quiet output errors digested hushed journal _ (plants _ _ _ _ _ _) is = absurd cc
+done_keeping gives request quiet output errors digested hushed journal _ (writes _ _ _ _ _ _) is = absurd cc
+
+-- what comes of the demo's plant is the same whatever documents say
+pub plant_done : (these those : Gives) (batches ticks ring : ℕ) (request : Request) (quiet : Bool) (output errors : Stream) (course : Course)
+    → request ≡ plant batches ticks ring → IsDone these request quiet output errors course → IsDone those request quiet output errors course
+plant_done these those batches ticks ring request quiet output errors _ is (plants set options asked is_set kept silent) = plants set options asked is_set kept silent
+plant_done these those batches ticks ring request quiet output errors _ is (halts h status warned halted told) =
+    let These : Request → Type 0 = λ r. Halts these (IsWarned quiet errors.before warned) r h in
+    let Those : Request → Type 0 = λ r. Halts those (IsWarned quiet errors.before warned) r h in
+    halts h status warned (subst Those (sym is) (subst These is halted)) told
+plant_done these those batches ticks ring request quiet output errors _ is (serves _ _ asked _ _ _) = absurd cc
+plant_done these those batches ticks ring request quiet output errors _ is (remarks _ _ _ asked _ _ _) = absurd cc
+plant_done these those batches ticks ring request quiet output errors _ is (keeps _ _ _ _ _ asked _ _ _) = absurd cc
+plant_done these those batches ticks ring request quiet output errors _ is (reads _ asked _ _) = absurd cc
+plant_done these those batches ticks ring request quiet output errors _ is (draws _ asked _ _) = absurd cc
+plant_done these those batches ticks ring request quiet output errors _ is (audits _ _ asked _ _ _) = absurd cc
+plant_done these those batches ticks ring request quiet output errors _ is (writes _ _ _ asked _ _) = absurd cc
+plant_done these those batches ticks ring request quiet output errors _ is (judges _ _ _ _ asked _ _) = absurd cc
+plant_done these those batches ticks ring request quiet output errors _ is (explains _ _ asked _) = absurd cc
 
 served_set : (gives : Gives) (words : List Text) (output errors : Stream) (request : Request) (set : ClearedSet) (quiet : Bool) (course : Course)
     → AskFor words request → IsRun gives words output errors course → course ≡ Serves set quiet
@@ -166,9 +211,12 @@ demo_done gives request quiet output errors _ demo_asked (serves source set aske
 demo_done gives request quiet output errors _ demo_asked (halts h status warned halted _) =
     inr (inl (h, (subst (λ r. Halts gives (IsWarned quiet errors.before warned) r h) demo_asked halted).0))
 demo_done gives request quiet output errors _ demo_asked (judges _ _ _ _ asked _ _) = absurd cc
+demo_done gives request quiet output errors _ demo_asked (writes _ _ _ asked _ _) = absurd cc
 demo_done gives request quiet output errors _ demo_asked (explains _ _ asked _) = absurd cc
 demo_done gives request quiet output errors _ demo_asked (keeps _ _ _ _ _ asked _ _ _) = absurd cc
+demo_done gives request quiet output errors _ demo_asked (remarks _ _ _ asked _ _ _) = absurd cc
 demo_done gives request quiet output errors _ demo_asked (reads _ asked _ _) = absurd cc
+demo_done gives request quiet output errors _ demo_asked (draws _ asked _ _) = absurd cc
 demo_done gives request quiet output errors _ demo_asked (audits _ _ asked _ _ _) = absurd cc
 demo_done gives request quiet output errors _ demo_asked (plants _ _ asked _ _ _) = absurd cc
 

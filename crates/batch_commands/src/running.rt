@@ -1,23 +1,27 @@
 //! Running the program's commands.
 ghost use Rattle.std.specs.Prelude.{◌≡◌, IfErr, IfOk, OnOk, map, string_bytes};
-ghost use Rattle.batch_words.specs.CommandLine.{judgement_of, request_of, source_of};
+ghost use Rattle.batch_words.specs.CommandLine.{audit, judgement_of, keep, plant, remark, request_of, serve, source_of};
 ghost use Rattle.std.specs.Io.KnownBytes.{Appends};
-ghost use Rattle.batch_commands.specs.Requests.{HaltsDemo, HaltsJudgement, HaltsSource, IsDemoSet, IsSetOf, IsVerdict};
-ghost use Rattle.batch_commands.specs.Running.{IsAnnounced, IsDone, IsExplained, IsPrinted, IsRefused, IsRun, fault_status};
+ghost use Rattle.batch_commands.specs.Requests.{HaltsDemo, HaltsJudgement, HaltsSource, IsDemoSet, IsSetOf, IsVerdict, demo_gives};
+ghost use Rattle.std.specs.List.{flat_map, list_any};
+ghost use Rattle.batch_commands.specs.Judging.{is_for_memory};
+ghost use Rattle.batch_commands.specs.Running.{AreRefused, IsAnnounced, IsDone, IsExplained, IsPrinted, IsRefused, IsRun, fault_status, status_of_every};
 ghost use Rattle.batch_commands.specs.Saying.{IsWarned};
 
 use crate::course::Course;
 use crate::demo::{CELL_PATH, CERTIFICATE_PATH, Demo, RECIPE_PATH};
 use crate::digested::clear_digested;
-use crate::documents::{
-    Documents, check_documents, clear_documents, draw_documents, show_documents, verify_documents,
-};
+use crate::documents::{Documents, clear_documents, show_documents, verify_documents};
+use crate::every::{check_asked, draw_asked};
 use crate::refusal::{DocumentRefusal, Halt};
-use crate::saying::say;
+use crate::saying::{say, say_every};
 use batch_explain::explain;
 use batch_verify::Cleared;
-use batch_words::{CommandFault, CommandWords, Judgement, Source, Subcommand, parse};
-use std::alloc::Global;
+use batch_words::{
+    AuditWords, CommandFault, CommandWords, Comments, Judgement, PlantOptions, Source, Subcommand,
+    parse,
+};
+use std::alloc::{AllocError, Global};
 use std::fmt::Display;
 use std::io;
 use std::io::Write;
@@ -25,6 +29,9 @@ use thiserror::Error;
 
 /// The exit status where what was asked for is printed.
 pub const SUCCESS: u8 = 0;
+
+/// The exit status where something is refused.
+const REFUSED: u8 = 1;
 
 /// The exit status where the words are no command.
 pub const USAGE: u8 = 2;
@@ -47,8 +54,8 @@ const UNKNOWN_CODE: &str =
 #[error("the output can't be written: {0}")]
 struct FailedWrite(io::Error);
 
-/// Does what the words ask for: judges documents and tells the verdict, clears the set that is to be served or over which a record is
-/// to be audited, or names the record that is to be read.
+/// Does what the words ask for: judges documents and tells the verdict, or hands on the text that a file is to hold, clears the
+/// set that is to be served or over which a record is to be audited, or names the record that is to be read.
 ///
 /// Verdicts, explanations and help go to the output, and all else to the errors: what a refusal means, in one line, unless the
 /// words ask for quiet, and what failed, in a free text. Where that can't be written the exit status is the same. Without words
@@ -89,33 +96,144 @@ fn run_command<D: Documents, O: Write, E: Write>(
             Ok(text) => Course::Ends(print(output, errors, &text, SUCCESS)),
             Err(halt) => Course::Ends(announce(alloc, quiet, &halt, output, errors)),
         },
-        Subcommand::Serve(source) => match clear_source(alloc, documents, &source) {
-            Ok(set) => Course::Serves { set, quiet },
-            Err(halt) => Course::Ends(announce(alloc, quiet, &halt, output, errors)),
-        },
+        Subcommand::Write { path, judgement } => {
+            match judge(alloc, documents, &judgement, quiet, errors) {
+                Ok(text) => Course::Writes { path, text },
+                Err(halt) => Course::Ends(announce(alloc, quiet, &halt, output, errors)),
+            }
+        }
+        Subcommand::Serve(source) => serve(alloc, quiet, &source, documents, output, errors),
+        Subcommand::Remark { source, comments } => {
+            remark(alloc, quiet, &source, comments, documents, output, errors)
+        }
         Subcommand::Keep {
             journal,
             cell,
             certificate,
             recipes,
-        } => match clear_digested(alloc, documents, &cell, &certificate, &recipes) {
-            Ok(digested) => Course::Keeps {
-                digested,
-                quiet,
-                path: journal,
-            },
-            Err(halt) => Course::Ends(announce(alloc, quiet, &halt, output, errors)),
-        },
+        } => keep(
+            alloc,
+            quiet,
+            journal,
+            &cell,
+            &certificate,
+            &recipes,
+            documents,
+            output,
+            errors,
+        ),
         Subcommand::Status { path } => Course::Reads { path },
-        Subcommand::Audit(audit) => match clear_source(alloc, documents, &audit.source) {
-            Ok(set) => Course::Audits { set, audit },
-            Err(halt) => Course::Ends(announce(alloc, quiet, &halt, output, errors)),
-        },
-        Subcommand::Plant(options) => match clear_demo(alloc) {
-            Ok(set) => Course::Plants { set, options },
-            Err(halt) => Course::Ends(announce(alloc, quiet, &halt, output, errors)),
-        },
+        Subcommand::Picture { path } => Course::Draws { path },
+        Subcommand::Audit(words) => audit(alloc, quiet, words, documents, output, errors),
+        Subcommand::Plant(options) => plant(alloc, quiet, options, output, errors),
         Subcommand::Explain { texts } => { Course::Ends(tell_codes(alloc, &texts, output, errors)) }
+    }
+}
+
+/// Has the set of a source served.
+fn serve<D: Documents, O: Write, E: Write>(
+    alloc: Global,
+    quiet: bool,
+    source: &Source,
+    documents: &D,
+    output: &mut O,
+    errors: &mut E,
+) -> Course
+    ensures { IsDone (D.gives documents.now) (serve (source_of source.now)) quiet
+        (record { before = O.contents output.old; after = O.contents output.new })
+        (record { before = E.contents errors.old; after = E.contents errors.new }) result }
+{
+    match clear_source(alloc, documents, source) {
+        Ok(set) => Course::Serves { set, quiet },
+        Err(halt) => Course::Ends(announce(alloc, quiet, &halt, output, errors)),
+    }
+}
+
+/// Has a record audited over the set of the documents that the words name.
+fn audit<D: Documents, O: Write, E: Write>(
+    alloc: Global,
+    quiet: bool,
+    words: AuditWords,
+    documents: &D,
+    output: &mut O,
+    errors: &mut E,
+) -> Course
+    ensures { IsDone (D.gives documents.now) (audit words.beginning (string_bytes words.path) (source_of words.source)) quiet
+        (record { before = O.contents output.old; after = O.contents output.new })
+        (record { before = E.contents errors.old; after = E.contents errors.new }) result }
+{
+    match clear_source(alloc, documents, &words.source) {
+        Ok(set) => Course::Audits { set, audit: words },
+        Err(halt) => Course::Ends(announce(alloc, quiet, &halt, output, errors)),
+    }
+}
+
+/// Has the demo's plant run.
+fn plant<O: Write, E: Write>(
+    alloc: Global,
+    quiet: bool,
+    options: PlantOptions,
+    output: &mut O,
+    errors: &mut E,
+) -> Course
+    // Of the demo's documents alone it speaks, and so whatever others say.
+    ensures { IsDone demo_gives (plant options.batches options.ticks options.ring) quiet
+        (record { before = O.contents output.old; after = O.contents output.new })
+        (record { before = E.contents errors.old; after = E.contents errors.new }) result }
+{
+    match clear_demo(alloc) {
+        Ok(set) => Course::Plants { set, options },
+        Err(halt) => Course::Ends(announce(alloc, quiet, &halt, output, errors)),
+    }
+}
+
+/// Has the set of a source served with comments in the record.
+fn remark<D: Documents, O: Write, E: Write>(
+    alloc: Global,
+    quiet: bool,
+    source: &Source,
+    comments: Comments,
+    documents: &D,
+    output: &mut O,
+    errors: &mut E,
+) -> Course
+    ensures { IsDone (D.gives documents.now) (remark (source_of source.now) comments.echo comments.times) quiet
+        (record { before = O.contents output.old; after = O.contents output.new })
+        (record { before = E.contents errors.old; after = E.contents errors.new }) result }
+{
+    match clear_source(alloc, documents, source) {
+        Ok(set) => Course::Remarks {
+            set,
+            quiet,
+            comments,
+        },
+        Err(halt) => Course::Ends(announce(alloc, quiet, &halt, output, errors)),
+    }
+}
+
+/// Has the set of documents served with a journal in the file at the path.
+fn keep<D: Documents, O: Write, E: Write>(
+    alloc: Global,
+    quiet: bool,
+    path: String,
+    cell: &str,
+    certificate: &str,
+    recipes: &[String],
+    documents: &D,
+    output: &mut O,
+    errors: &mut E,
+) -> Course
+    ensures { IsDone (D.gives documents.now) (keep (string_bytes path) cell.now certificate.now (map string_bytes recipes.now)) quiet
+        (record { before = O.contents output.old; after = O.contents output.new })
+        (record { before = E.contents errors.old; after = E.contents errors.new }) result }
+{
+    match clear_digested(alloc, documents, cell, certificate, recipes) {
+        Ok(digested) => Course::Keeps {
+            digested,
+            quiet,
+            path,
+        },
+        Err(halt) => Course::Ends(announce(alloc, quiet, &halt, output, errors)),
     }
 }
 
@@ -133,11 +251,11 @@ fn judge<D: Documents, E: Write>(
         (judgement_of judgement.now)) }
 {
     match judgement {
-        Judgement::Check { cell, recipes } => {
-            check_documents(alloc, documents, cell, recipes, quiet, errors)
+        Judgement::Check { all, cell, recipes } => {
+            check_asked(alloc, documents, *all, cell, recipes, quiet, errors)
         }
-        Judgement::Draw { cell, recipes } => {
-            draw_documents(alloc, documents, cell, recipes, quiet, errors)
+        Judgement::Draw { all, cell, recipes } => {
+            draw_asked(alloc, documents, *all, cell, recipes, quiet, errors)
         }
         Judgement::Verify {
             cell,
@@ -189,6 +307,7 @@ fn announce<O: Write, E: Write>(
 {
     match halt {
         Halt::Refused(refusal) => refuse(alloc, quiet, refusal, output, errors),
+        Halt::Every(refusals) => refuse_every(alloc, quiet, refusals, output, errors),
         Halt::Unread(text) => complain(errors, text.as_str(), FILE_FAULT),
         Halt::Memory => complain(errors, OUT_OF_MEMORY, NO_MEMORY),
     }
@@ -212,6 +331,58 @@ fn refuse<O: Write, E: Write>(
         }
         Err(error) => unwritten(errors, error),
     }
+}
+
+/// Prints the refusals, says what they mean, and gives their exit status, or that of a write that fails, or of want of memory.
+fn refuse_every<O: Write, E: Write>(
+    alloc: Global,
+    quiet: bool,
+    refusals: &[DocumentRefusal],
+    output: &mut O,
+    errors: &mut E,
+) -> u8
+    ensures { AreRefused quiet (record { before = O.contents output.old; after = O.contents output.new })
+        (record { before = E.contents errors.old; after = E.contents errors.new }) refusals.now result }
+{
+    let Ok(text) = refusals_text(alloc, refusals) else {
+        return complain(errors, OUT_OF_MEMORY, NO_MEMORY);
+    };
+    match write_out(output, text.as_bytes()) {
+        Ok(()) => {
+            say_every(alloc, quiet, refusals, errors);
+            status_of_every(refusals)
+        }
+        Err(error) => unwritten(errors, error),
+    }
+}
+
+/// The lines of the refusals.
+fn refusals_text(alloc: Global, refusals: &[DocumentRefusal]) -> Result<String, AllocError>
+    ensures { IfOk result (λ text. string_bytes text ≡ flat_map (λ r. string_bytes r.text) refusals.now) }
+{
+    let mut text = String::new(alloc);
+    for refusal in refusals {
+        text.push_str(&refusal.text)?;
+    }
+    Ok(text)
+}
+
+/// The exit status of the refusals.
+fn status_of_every(refusals: &[DocumentRefusal]) -> u8
+    ensures { result ≡ status_of_every refusals.now }
+{
+    if is_one_for_memory(refusals) {
+        NO_MEMORY
+    } else {
+        REFUSED
+    }
+}
+
+/// Whether one of the refusals is for want of memory.
+fn is_one_for_memory(refusals: &[DocumentRefusal]) -> bool
+    ensures { result ≡ list_any (λ r. is_for_memory r.kind) refusals.now }
+{
+    refusals.iter().any(|refusal| refusal.kind.is_for_memory())
 }
 
 /// Prints what the first code in the texts means, or without texts what all codes mean.

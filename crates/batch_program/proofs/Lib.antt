@@ -1,5 +1,8 @@
+pub mod Kept
 pub mod Served
+pub mod RemarkedServed
 pub mod Plants
 pub mod RecordsAudited
 pub mod RecordsTold
 pub mod KeptRuns
+mod RecordsDrawn

@@ -10,14 +10,14 @@ use Rattle.batch_engine.specs.View.{setup}
 use Rattle.batch_wire.specs.Transcript.{lines_of, whole_lines}
 use Rattle.batch_wire.specs.Written.{AppendsBeginning}
 use Rattle.batch_serve.specs.Safe.{BeginsSafely, WritesSafely, WritesWholeSafely}
-use Rattle.batch_words.specs.CommandLine.{Request, Source, audit, plant, serve, source_of, tell, keep}
+use Rattle.batch_words.specs.CommandLine.{Request, Source, audit, plant, serve, source_of, tell, keep, Judgement, write, remark, picture}
 use Rattle.batch_words.specs.declared.command.AuditWords.{AuditWords}
 use Rattle.batch_words.specs.declared.plant_options.PlantOptions.{PlantOptions}
 use Rattle.batch_commands.specs.Reading.{Gives}
 use Rattle.batch_commands.specs.Requests.{IsDemoSet, IsSetOf}
 use Rattle.batch_commands.specs.Running.{AskFor, IsAnnounced, IsDone, IsExplained, IsPrinted, IsRun, IsUnwritten, Stream, ask_quiet, fault_status, success_status, usage_status, memory_status}
 use Rattle.batch_commands.specs.Statuses.{IsSuccess}
-use Rattle.batch_commands.proofs.Successes.{done_keeping, done_serving, same_request, success_is_told}
+use Rattle.batch_commands.proofs.Successes.{done_keeping, done_serving, every_in_range, same_request, success_is_told}
 use Rattle.batch_commands.specs.Judging.{status_of}
 use Rattle.batch_commands.specs.Running as running
 use Rattle.batch_commands.specs.declared.course.Course.{Course}
@@ -33,7 +33,7 @@ use Rattle.batch_serve.specs.declared.fault.ServeFault.TheVariants.{Read, Write,
 use Rattle.batch_serve.specs.declared.fault.SetFault.{SetFault}
 use Rattle.batch_serve.specs.declared.fault.SetFault.TheVariants.{Memory, Stopped}
 use Rattle.batch_program.specs.declared.program.TheConstants.{MAX_READS}
-use Rattle.batch_program.specs.Programs.{IsLeftTold, IsProgramRun, PlantsAreComplete, ServingIsSafe, tells, serves, reads, audits, plants, status_of_serving, keeps}
+use Rattle.batch_program.specs.Programs.{IsLeftTold, IsProgramRun, PlantsAreComplete, ServingIsSafe, tells, serves, reads, audits, plants, status_of_serving, keeps, writes, remarks, draws}
 use Rattle.batch_plant.specs.declared.plant_fault.PlantFault.{PlantFault}
 use Rattle.batch_plant.specs.declared.plant_fault.PlantFault.TheVariants as plant_fault
 use Rattle.batch_audit.specs.declared.finding.Finding.{Finding}
@@ -45,7 +45,11 @@ use Rattle.batch_program.specs.JournalRuns as journal
 use Rattle.batch_commands.specs.Digested.{AreDigested}
 use Rattle.batch_commands.specs.declared.digested.Digested.{Digested}
 use Rattle.batch_journal.specs.declared.recovery.RecoveryFault.{RecoveryFault}
+use Rattle.batch_program.specs.FileWriting.{IsWritten}
 use Rattle.batch_program.specs.PlantRuns.{HasRun, IsPlantTold, plant_text, refused_status}
+use Rattle.batch_program.specs.DrawingRuns as drawing
+use Rattle.batch_program.specs.DrawingRuns.{IsDrawn, IsRecordDrawn}
+use Rattle.batch_timeline.specs.Pictures.{picture_text}
 use Rattle.batch_program.specs.RecordRuns.{Holds, IsRecordTold, IsStatusTold, IsUntold, prints, refuses, stops, no_record_text, output_of}
 
 -- Streams
@@ -62,7 +66,7 @@ kept_then_begun : (before mid after : Option (List ℕ)) (text : List ℕ) → K
 kept_then_begun before mid after text kept begun =
     record { written = begun.written; rest = begun.rest; splits = begun.splits; appends = kept_then_appended before mid after begun.written kept begun.appends }
 
-kept_then_kept : (before mid after : Option (List ℕ)) → Keeps before mid → Keeps mid after → Keeps before after
+pub kept_then_kept : (before mid after : Option (List ℕ)) → Keeps before mid → Keeps mid after → Keeps before after
 kept_then_kept None mid after kept more = tt
 kept_then_kept (Some xs) None after kept more = absurd kept
 kept_then_kept (Some xs) (Some ys) None kept more = absurd more
@@ -156,8 +160,11 @@ done_to_plant gives request quiet output errors _ set options (running.plants ot
     (subst (λ (o : PlantOptions). request ≡ plant o.batches o.ticks o.ring) chosen asked, subst IsDemoSet same cleared, kept, silent)
 done_to_plant gives request quiet output errors _ set options (running.serves _ _ _ _ _ _) is = absurd cc
 done_to_plant gives request quiet output errors _ set options (running.keeps _ _ _ _ _ _ _ _ _) is = absurd cc
+done_to_plant gives request quiet output errors _ set options (running.remarks _ _ _ _ _ _ _) is = absurd cc
 done_to_plant gives request quiet output errors _ set options (running.reads _ _ _ _) is = absurd cc
+done_to_plant gives request quiet output errors _ set options (running.draws _ _ _ _) is = absurd cc
 done_to_plant gives request quiet output errors _ set options (running.audits _ _ _ _ _ _) is = absurd cc
+done_to_plant gives request quiet output errors _ set options (running.writes _ _ _ _ _ _) is = absurd cc
 done_to_plant gives request quiet output errors _ set options (running.halts _ _ _ _ _) is = absurd cc
 done_to_plant gives request quiet output errors _ set options (running.judges _ _ _ _ _ _ _) is = absurd cc
 done_to_plant gives request quiet output errors _ set options (running.explains _ _ _ _) is = absurd cc
@@ -207,11 +214,14 @@ done_to_read gives request quiet output errors _ path (running.reads other asked
     (subst (λ (p : Option (String Global)). request ≡ tell (option_map string_bytes p)) same asked, kept, silent)
 done_to_read gives request quiet output errors _ path (running.serves _ _ _ _ _ _) is = absurd cc
 done_to_read gives request quiet output errors _ path (running.keeps _ _ _ _ _ _ _ _ _) is = absurd cc
+done_to_read gives request quiet output errors _ path (running.remarks _ _ _ _ _ _ _) is = absurd cc
 done_to_read gives request quiet output errors _ path (running.plants _ _ _ _ _ _) is = absurd cc
 done_to_read gives request quiet output errors _ path (running.audits _ _ _ _ _ _) is = absurd cc
+done_to_read gives request quiet output errors _ path (running.writes _ _ _ _ _ _) is = absurd cc
 done_to_read gives request quiet output errors _ path (running.halts _ _ _ _ _) is = absurd cc
 done_to_read gives request quiet output errors _ path (running.judges _ _ _ _ _ _ _) is = absurd cc
 done_to_read gives request quiet output errors _ path (running.explains _ _ _ _) is = absurd cc
+done_to_read gives request quiet output errors _ path (running.draws _ _ _ _) is = absurd cc
 
 -- the record that is to be read is the one that the words name, and nothing was written
 pub record_to_read : (gives : Gives) (words : List Text) (output errors : Stream) (course : Course) (path : Option (String Global))
@@ -246,6 +256,58 @@ record_kept holds (Some path) unread left before mid after quiet still loud stat
 record_kept holds (Some path) unread left before mid after quiet still loud status kept silent (same, inr (untouched, is)) =
     (same, inr (kept_then_kept before mid after kept untouched, is))
 
+-- Pictures of records
+
+done_to_draw : (gives : Gives) (request : Request) (quiet : Bool) (output errors : Stream) (course : Course) (path : Option (String Global))
+    → IsDone gives request quiet output errors course → course ≡ course_of.Draws path
+    → (request ≡ picture (option_map string_bytes path)) × IsUnwritten output × IsUnwritten errors
+done_to_draw gives request quiet output errors _ path (running.draws other asked kept silent) is =
+    let same : other ≡ path = cc in
+    (subst (λ (p : Option (String Global)). request ≡ picture (option_map string_bytes p)) same asked, kept, silent)
+done_to_draw gives request quiet output errors _ path (running.serves _ _ _ _ _ _) is = absurd cc
+done_to_draw gives request quiet output errors _ path (running.keeps _ _ _ _ _ _ _ _ _) is = absurd cc
+done_to_draw gives request quiet output errors _ path (running.remarks _ _ _ _ _ _ _) is = absurd cc
+done_to_draw gives request quiet output errors _ path (running.reads _ _ _ _) is = absurd cc
+done_to_draw gives request quiet output errors _ path (running.plants _ _ _ _ _ _) is = absurd cc
+done_to_draw gives request quiet output errors _ path (running.audits _ _ _ _ _ _) is = absurd cc
+done_to_draw gives request quiet output errors _ path (running.halts _ _ _ _ _) is = absurd cc
+done_to_draw gives request quiet output errors _ path (running.judges _ _ _ _ _ _ _) is = absurd cc
+done_to_draw gives request quiet output errors _ path (running.explains _ _ _ _) is = absurd cc
+done_to_draw gives request quiet output errors _ path (running.writes _ _ _ _ _ _) is = absurd cc
+
+-- the record that is to be drawn is the one that the words name, and nothing was written
+pub record_to_draw : (gives : Gives) (words : List Text) (output errors : Stream) (course : Course) (path : Option (String Global))
+    → IsRun gives words output errors course → course ≡ course_of.Draws path
+    → AskFor words (picture (option_map string_bytes path)) × IsUnwritten output × IsUnwritten errors
+record_to_draw gives words output errors _ path (running.commands request course asked came) is =
+    let (named, kept, silent) = done_to_draw gives request (ask_quiet words) output errors course path came is in
+    (rw (← named) asked, kept, silent)
+record_to_draw gives words output errors _ path (running.helps _ _ _ _) is = absurd cc
+record_to_draw gives words output errors _ path (running.misuses _ _) is = absurd cc
+record_to_draw gives words output errors _ path (running.starves _) is = absurd cc
+
+picture_kept : (unread before mid after quiet still loud : Option (List ℕ)) (status : ℕ) → Keeps before mid → Keeps quiet still
+    → IsDrawn unread (record { before = mid; after = after }) (record { before = still; after = loud }) status
+    → IsDrawn unread (record { before = before; after = after }) (record { before = quiet; after = loud }) status
+picture_kept unread before mid after quiet still loud status kept silent (drawing.pictures own told printed) =
+    drawing.pictures own told (printed_kept before mid after quiet still loud (picture_text own) success_status status kept silent printed)
+picture_kept unread before mid after quiet still loud status kept silent (drawing.declines number refused printed) =
+    drawing.declines number refused (printed_kept before mid after quiet still loud (no_record_text number) refused_status status kept silent printed)
+picture_kept unread before mid after quiet still loud status kept silent (drawing.fails (untouched, is)) =
+    drawing.fails (kept_then_kept before mid after kept untouched, is)
+
+-- drawing a record, after the streams were left as they were
+pub drawn_kept : (holds : Holds) (path : Option Text) (unread left before mid after quiet still loud : Option (List ℕ)) (status : ℕ)
+    → Keeps before mid → Keeps quiet still
+    → IsRecordDrawn holds path (record { unread = unread; left = left; before = mid; after = after }) (record { before = still; after = loud }) status
+    → IsRecordDrawn holds path (record { unread = unread; left = left; before = before; after = after }) (record { before = quiet; after = loud }) status
+drawn_kept holds None unread left before mid after quiet still loud status kept silent told =
+    picture_kept unread before mid after quiet still loud status kept silent told
+drawn_kept holds (Some path) unread left before mid after quiet still loud status kept silent (same, inl (given, held, told)) =
+    (same, inl (given, held, picture_kept given before mid after quiet still loud status kept silent told))
+drawn_kept holds (Some path) unread left before mid after quiet still loud status kept silent (same, inr (untouched, is)) =
+    (same, inr (kept_then_kept before mid after kept untouched, is))
+
 -- Audits
 
 -- what is to be audited is the record that the words name, over the set of the documents that they name, and nothing was written
@@ -264,11 +326,14 @@ done_to_audit gives words request quiet output errors _ set own asked (running.a
     (record { asked = subst (AskFor words) is_asked asked; is_set = subst (IsSetOf gives (source_of other.source)) same is_set; unwritten = kept; silent = silent })
 done_to_audit gives words request quiet output errors _ set own asked (running.serves _ _ _ _ _ _) is = absurd cc
 done_to_audit gives words request quiet output errors _ set own asked (running.keeps _ _ _ _ _ _ _ _ _) is = absurd cc
+done_to_audit gives words request quiet output errors _ set own asked (running.remarks _ _ _ _ _ _ _) is = absurd cc
 done_to_audit gives words request quiet output errors _ set own asked (running.reads _ _ _ _) is = absurd cc
+done_to_audit gives words request quiet output errors _ set own asked (running.draws _ _ _ _) is = absurd cc
 done_to_audit gives words request quiet output errors _ set own asked (running.plants _ _ _ _ _ _) is = absurd cc
 done_to_audit gives words request quiet output errors _ set own asked (running.halts _ _ _ _ _) is = absurd cc
 done_to_audit gives words request quiet output errors _ set own asked (running.judges _ _ _ _ _ _ _) is = absurd cc
 done_to_audit gives words request quiet output errors _ set own asked (running.explains _ _ _ _) is = absurd cc
+done_to_audit gives words request quiet output errors _ set own asked (running.writes _ _ _ _ _ _) is = absurd cc
 
 pub set_to_audit : (gives : Gives) (words : List Text) (output errors : Stream) (course : Course) (set : ClearedSet) (own : AuditWords)
     → IsRun gives words output errors course → course ≡ course_of.Audits set own → IsToAudit gives words output errors set own
@@ -348,7 +413,7 @@ journal_kept files set digits path unread left before mid after status kept (inr
 
 -- Exit statuses
 
-ran_to_the_end : (set : ClearedSet) (served : Result ℕ SetFault) (ends : serving.Ends) (quiet : Bool) (errors : Stream) → Serves set MAX_READS served ends
+pub ran_to_the_end : (set : ClearedSet) (served : Result ℕ SetFault) (ends : serving.Ends) (quiet : Bool) (errors : Stream) → Serves set MAX_READS served ends
     → IfOk served (IsLeftTold quiet errors) → status_of_serving served ≡ 0 → (left : ℕ) × AnswersAll set left ends × IsLeftTold quiet errors left
 ran_to_the_end set (Ok left) ends quiet errors all told is = (left, all, told)
 ran_to_the_end set (Err Memory) ends quiet errors all told is = absurd cc
@@ -366,6 +431,12 @@ same_source a b is = cc
 serves_no_record : (source : Source) (path : Option Text) → serve source ≡ tell path → ⊥
 serves_no_record source path is = cc
 
+pub serves_no_file : (source : Source) (path : Text) (judgement : Judgement) → serve source ≡ write path judgement → ⊥
+serves_no_file source path judgement is = cc
+
+pub plants_no_file : (batches ticks ring : ℕ) (path : Text) (judgement : Judgement) → plant batches ticks ring ≡ write path judgement → ⊥
+plants_no_file batches ticks ring path judgement is = cc
+
 plants_no_record : (batches ticks ring : ℕ) (path : Option Text) → plant batches ticks ring ≡ tell path → ⊥
 plants_no_record batches ticks ring path is = cc
 
@@ -374,6 +445,18 @@ serves_no_audit source other beginning path is = cc
 
 pub plants_no_audit : (batches ticks ring : ℕ) (source : Source) (beginning : Bool) (path : Text) → plant batches ticks ring ≡ audit beginning path source → ⊥
 plants_no_audit batches ticks ring source beginning path is = cc
+
+serves_no_comments : (source other : Source) (echo times : Bool) → serve source ≡ remark other echo times → ⊥
+serves_no_comments source other echo times is = cc
+
+plants_no_comments : (batches ticks ring : ℕ) (source : Source) (echo times : Bool) → plant batches ticks ring ≡ remark source echo times → ⊥
+plants_no_comments batches ticks ring source echo times is = cc
+
+serves_no_picture : (source : Source) (path : Option Text) → serve source ≡ picture path → ⊥
+serves_no_picture source path is = cc
+
+plants_no_picture : (batches ticks ring : ℕ) (path : Option Text) → plant batches ticks ring ≡ picture path → ⊥
+plants_no_picture batches ticks ring path is = cc
 
 serves_no_plant : (source : Source) (batches ticks ring : ℕ) → serve source ≡ plant batches ticks ring → ⊥
 serves_no_plant source batches ticks ring is = cc
@@ -393,14 +476,20 @@ safe_at : (gives : Gives) (holds : Holds) (files : JournalFiles) (words : List T
     → (set : ClearedSet) × (left : ℕ) × IsSetOf gives source set × AnswersAll set left ends × IsLeftTold (ask_quiet words) errors left
 safe_at gives holds files words ends errors source _ asked (tells status came _) is =
     absurd (told_at_once gives words (output_of ends) errors (serve source) status asked came is)
+safe_at gives holds files words ends errors source _ asked (writes path judgement _ _ _ asked2 _ _ _ _) is =
+    absurd (serves_no_file source path judgement (same_request words (serve source) (write path judgement) asked asked2))
 safe_at gives holds files words ends errors source _ asked (serves other set served asked2 is_set all told) is =
     let same = same_source other source (same_request words (serve other) (serve source) asked2 asked) in
     let (left, answers, says) = ran_to_the_end set served ends (ask_quiet words) errors all told is in
     (set, left, subst (λ s. IsSetOf gives s set) same is_set, answers, says)
 safe_at gives holds files words ends errors source _ asked (keeps path cell certificate recipes _ _ _ asked2 _ _) is =
     absurd (serves_no_journal source path cell certificate recipes (same_request words (serve source) (keep path cell certificate recipes) asked asked2))
+safe_at gives holds files words ends errors source _ asked (remarks other echo times _ _ asked2 _ _ _) is =
+    absurd (serves_no_comments source other echo times (same_request words (serve source) (remark other echo times) asked asked2))
 safe_at gives holds files words ends errors source _ asked (reads path _ asked2 _) is =
     absurd (serves_no_record source path (same_request words (serve source) (tell path) asked asked2))
+safe_at gives holds files words ends errors source _ asked (draws path _ asked2 _) is =
+    absurd (serves_no_picture source path (same_request words (serve source) (picture path) asked asked2))
 safe_at gives holds files words ends errors source _ asked (audits beginning path other _ _ asked2 _ _) is =
     absurd (serves_no_audit source other beginning path (same_request words (serve source) (audit beginning path other) asked asked2))
 safe_at gives holds files words ends errors source _ asked (plants _ options _ _ asked2 _ _ _ _) is =
@@ -420,6 +509,9 @@ printed_in_range output errors text wanted status within (inr fault) = rw fault 
 announced_in_range : (quiet : Bool) (output errors : Stream) (h : Halt) (status : ℕ) → IsAnnounced quiet output errors h status → status ≤ 4
 announced_in_range quiet output errors (halt.Refused refusal) status (inl (_, _, same)) = rw same (kind_in_range refusal.kind)
 announced_in_range quiet output errors (halt.Refused refusal) status (inr fault) = rw fault (omega arith)
+announced_in_range quiet output errors (halt.Every refusals) status (inl (_, _, same)) = rw same (every_in_range refusals.items)
+announced_in_range quiet output errors (halt.Every refusals) status (inr (inl fault)) = rw fault (omega arith)
+announced_in_range quiet output errors (halt.Every refusals) status (inr (inr (_, memory))) = rw memory (omega arith)
 announced_in_range quiet output errors (halt.Unread message) status (_, fault) = rw fault (omega arith)
 announced_in_range quiet output errors halt.Memory status (_, fault) = rw fault (omega arith)
 
@@ -432,9 +524,12 @@ done_in_range : (gives : Gives) (request : Request) (quiet : Bool) (output error
     → IsDone gives request quiet output errors course → course ≡ Ends status → status ≤ 4
 done_in_range gives request quiet output errors _ status (running.serves _ _ _ _ _ _) is = absurd cc
 done_in_range gives request quiet output errors _ status (running.keeps _ _ _ _ _ _ _ _ _) is = absurd cc
+done_in_range gives request quiet output errors _ status (running.remarks _ _ _ _ _ _ _) is = absurd cc
 done_in_range gives request quiet output errors _ status (running.reads _ _ _ _) is = absurd cc
+done_in_range gives request quiet output errors _ status (running.draws _ _ _ _) is = absurd cc
 done_in_range gives request quiet output errors _ status (running.audits _ _ _ _ _ _) is = absurd cc
 done_in_range gives request quiet output errors _ status (running.plants _ _ _ _ _ _) is = absurd cc
+done_in_range gives request quiet output errors _ status (running.writes _ _ _ _ _ _) is = absurd cc
 done_in_range gives request quiet output errors _ status (running.halts h told warned _ at) is =
     let same : told ≡ status = cc in
     rw (← same) (announced_in_range quiet output (record { before = warned; after = errors.after }) h told at)
@@ -494,6 +589,16 @@ audit_in_range holds set beginning path ends errors status (auditing.finds given
     printed_in_range (output_of ends) errors _ (finding_status beginning finding) status (finding_in_range beginning finding) printed
 audit_in_range holds set beginning path ends errors status (auditing.stops untold) = untold_in_range (output_of ends) status untold
 
+picture_in_range : (unread : Option (List ℕ)) (output errors : Stream) (status : ℕ) → IsDrawn unread output errors status → status ≤ 4
+picture_in_range unread output errors status (drawing.pictures own _ printed) = printed_in_range output errors (picture_text own) success_status status (omega arith) printed
+picture_in_range unread output errors status (drawing.declines number _ printed) = printed_in_range output errors _ refused_status status (omega arith) printed
+picture_in_range unread output errors status (drawing.fails untold) = untold_in_range output status untold
+
+drawn_in_range : (holds : Holds) (path : Option Text) (ends : serving.Ends) (errors : Stream) (status : ℕ) → IsRecordDrawn holds path ends errors status → status ≤ 4
+drawn_in_range holds None ends errors status told = picture_in_range ends.unread (output_of ends) errors status told
+drawn_in_range holds (Some path) ends errors status (_, inl (unread, _, told)) = picture_in_range unread (output_of ends) errors status told
+drawn_in_range holds (Some path) ends errors status (_, inr untold) = untold_in_range (output_of ends) status untold
+
 refusal_in_range : (path : List ℕ) (fault : RecoveryFault) (output : Stream) (status : ℕ) → IsJournalRefused path fault output status → status ≤ 4
 refusal_in_range path fault output status (inl (_, refused)) = rw refused (omega arith)
 refusal_in_range path fault output status (inr (inl fails)) = rw fails (omega arith)
@@ -515,12 +620,21 @@ kept_in_range : (files : JournalFiles) (set : ClearedSet) (digits path : List �
 kept_in_range files set digits path ends status (inl (start, end, _, _, over)) = journal_in_range files.disks set digits path start end ends status over.told
 kept_in_range files set digits path ends status (inr untold) = untold_in_range (output_of ends) status untold
 
+written_in_range : (holds : Holds) (path text : List ℕ) (errors : Stream) (status : ℕ) → IsWritten holds path text errors status → status ≤ 4
+written_in_range holds path text errors status (inl (_, _, success)) = rw success (omega arith)
+written_in_range holds path text errors status (inr (inl fault)) = rw fault (omega arith)
+written_in_range holds path text errors status (inr (inr memory)) = rw memory (omega arith)
+
 pub run_in_range : (gives : Gives) (holds : Holds) (files : JournalFiles) (words : List Text) (ends : serving.Ends) (errors : Stream) (status : ℕ)
     → IsProgramRun gives holds files words ends errors status → status ≤ 4
 run_in_range gives holds files words ends errors _ (tells status came _) = course_in_range gives words (output_of ends) errors (Ends status) status came refl
+run_in_range gives holds files words ends errors status (writes path _ text warned _ _ _ written _ _) =
+    written_in_range holds path text (record { before = warned; after = errors.after }) status written
 run_in_range gives holds files words ends errors _ (serves _ _ served _ _ _ _) = serving_in_range served
+run_in_range gives holds files words ends errors _ (remarks _ _ _ _ served _ _ _ _) = serving_in_range served
 run_in_range gives holds files words ends errors status (keeps path _ _ _ set digits _ _ _ ran) = kept_in_range files set digits path ends status ran
 run_in_range gives holds files words ends errors status (reads path _ _ told) = record_in_range holds path ends errors status told
+run_in_range gives holds files words ends errors status (draws path _ _ told) = drawn_in_range holds path ends errors status told
 run_in_range gives holds files words ends errors status (audits beginning path _ set _ _ _ told) = audit_in_range holds set beginning path ends errors status told
 run_in_range gives holds files words ends errors status (plants _ options end _ _ _ _ told _) = plant_in_range (output_of ends) errors options.batches end status told
 
@@ -547,12 +661,18 @@ told_plant : (gives : Gives) (holds : Holds) (files : JournalFiles) (words : Lis
     → (set : ClearedSet) × (handled : ℕ) × IsDemoSet set × HasRun set batches handled × Appends ends.before ends.after (plant_text batches handled)
 told_plant gives holds files words ends errors batches ticks ring _ asked (tells status came _) is =
     absurd (told_at_once gives words (output_of ends) errors (plant batches ticks ring) status asked came is)
+told_plant gives holds files words ends errors batches ticks ring _ asked (writes path judgement _ _ _ asked2 _ _ _ _) is =
+    absurd (plants_no_file batches ticks ring path judgement (same_request words (plant batches ticks ring) (write path judgement) asked asked2))
 told_plant gives holds files words ends errors batches ticks ring _ asked (serves source _ _ asked2 _ _ _) is =
     absurd (serves_no_plant source batches ticks ring (same_request words (serve source) (plant batches ticks ring) asked2 asked))
 told_plant gives holds files words ends errors batches ticks ring _ asked (keeps path cell certificate recipes _ _ _ asked2 _ _) is =
     absurd (plants_no_journal batches ticks ring path cell certificate recipes (same_request words (plant batches ticks ring) (keep path cell certificate recipes) asked asked2))
+told_plant gives holds files words ends errors batches ticks ring _ asked (remarks source echo times _ _ asked2 _ _ _) is =
+    absurd (plants_no_comments batches ticks ring source echo times (same_request words (plant batches ticks ring) (remark source echo times) asked asked2))
 told_plant gives holds files words ends errors batches ticks ring _ asked (reads path _ asked2 _) is =
     absurd (plants_no_record batches ticks ring path (same_request words (plant batches ticks ring) (tell path) asked asked2))
+told_plant gives holds files words ends errors batches ticks ring _ asked (draws path _ asked2 _) is =
+    absurd (plants_no_picture batches ticks ring path (same_request words (plant batches ticks ring) (picture path) asked asked2))
 told_plant gives holds files words ends errors batches ticks ring _ asked (audits beginning path source _ _ asked2 _ _) is =
     absurd (plants_no_audit batches ticks ring source beginning path (same_request words (plant batches ticks ring) (audit beginning path source) asked asked2))
 told_plant gives holds files words ends errors batches ticks ring status asked (plants set options end _ asked2 demo ran told _) is =

@@ -1,6 +1,8 @@
 pub mod AuditRuns
+pub mod DrawingRuns
 pub mod JournalRuns
 pub mod Keeping
+pub mod FileWriting
 pub mod PlantRuns
 pub mod PlantWork
 pub mod Programs

@@ -1,6 +1,7 @@
 //! The program: what its words ask for, over files and streams. `main` of the program and of every stored run calls it.
 #![tactic(auto)]
 
+mod file_writing;
 mod journal_faults;
 mod journals;
 mod keeping;
@@ -13,15 +14,20 @@ mod plant_runner;
 mod process;
 mod program;
 mod record_audit;
+mod record_drawing;
 mod record_status;
 mod records;
 mod statuses;
 mod steady_units;
 mod threads;
 
+pub use file_writing::write_file;
 pub use journals::Journals;
 pub use keeping::keep_journal;
-pub use laws::{audits_are_true, plants_are_complete, serving_is_safe};
+pub use laws::{
+    audits_are_true, certificates_are_kept, plants_are_complete, remarked_serving_is_safe,
+    serving_is_safe,
+};
 pub use limits::{read_limit_is_fixed, turn_limit_is_fixed};
 pub use noted::Noted;
 pub use plant::report_of_plant;
@@ -29,6 +35,7 @@ pub use plant_runner::PlantRunner;
 pub use process::{run_on_files, run_process};
 pub use program::{MAX_READS, run_program};
 pub use record_audit::audit_record;
+pub use record_drawing::{draw_record_at, draw_record_of};
 pub use record_status::{tell_record, tell_status};
 pub use records::Records;
 pub use statuses::serving_status;

@@ -1,18 +1,22 @@
 //! The program over any documents and streams.
 ghost use Rattle.std.specs.Prelude.{◌≡◌, IfOk, map, string_bytes};
-ghost use Rattle.batch_program.specs.Programs.{IsLeftTold, IsProgramRun, left_text, status_of_serving};
+ghost use Rattle.batch_program.specs.Programs.{IsLeftTold, IsProgramRun, IsServed, IsServedRemarked, left_text, status_of_serving};
 
+use crate::file_writing::write_file;
 use crate::journals::Journals;
 use crate::keeping::keep_journal;
 use crate::noted::Noted;
 use crate::plant::report_of_plant;
 use crate::plant_runner::PlantRunner;
 use crate::record_audit::audit_record;
+use crate::record_drawing::draw_record_at;
 use crate::record_status::tell_record;
 use crate::records::Records;
 use crate::statuses::serving_status;
 use batch_commands::{Course, Documents, complain, run_words, tell};
-use batch_serve::{ServeFault, SetFault, serve_set};
+use batch_serve::{NoRemarks, Remarking, ServeFault, SetFault, serve_remarked, serve_set};
+use batch_verify::Cleared;
+use batch_words::Comments;
 use std::alloc::{AllocError, Global};
 use std::io;
 use std::io::{Read, Write};
@@ -29,12 +33,15 @@ struct Stop {
     reason: io::Error,
 }
 
-/// Does what the words ask for, and gives the exit status: judges documents, serves event lines from the input over the set
-/// that they name, with a journal or without one, tells what a record says or whether it is that of the lines that were sent, or has the demo's plant run.
+/// Does what the words ask for, and gives the exit status: judges documents, and prints the verdict or writes it into a file, serves
+/// event lines from the input over the set that they name, with a journal or without one, tells or draws what a record says, tells
+/// whether it is that of the lines that were sent, or has the demo's plant run.
 ///
-/// Verdicts, help, the record, what one tells, what is found of one and the lines of a plant go to the output, and all else, in a free text, to the errors. Refused
+/// Verdicts, help, the record, what one tells, the picture of one, what is found of one and the lines of a plant go to the output, and all else, in a free text, to the errors. Refused
 /// events are part of the record and don't change the status. Where the input ends while batches are neither complete, stopped
 /// nor aborted, one line on the errors says how many, unless quiet is asked for; where none is, nothing is written there.
+///
+/// The time that stands in comments of the record, where they are asked for, is that of the journals' clock. The output is given back.
 pub fn run_program<D: Documents + Records + Journals, P: PlantRunner, R: Read, W: Write, E: Write>(
     alloc: Global,
     words: &[String],
@@ -68,11 +75,17 @@ pub fn run_program<D: Documents + Records + Journals, P: PlantRunner, R: Read, W
 {
     match run_words(alloc, words, documents, &mut output, errors) {
         Course::Ends(status) => (status, output),
-        Course::Serves { set, quiet } => {
-            let served = serve_set(alloc, set, input, &mut output, MAX_READS);
-            let reason = reason_of(served, input, &output);
-            (tell_served(alloc, quiet, served, reason, errors), output)
+        Course::Writes { path, text } => {
+            (write_file(alloc, &path, &text, documents, errors), output)
         }
+        Course::Serves { set, quiet } => serve_plainly(alloc, set, quiet, input, output, errors),
+        Course::Remarks {
+            set,
+            quiet,
+            comments,
+        } => serve_with_comments(
+            alloc, set, quiet, comments, documents, input, output, errors,
+        ),
         Course::Keeps {
             digested,
             quiet,
@@ -82,6 +95,10 @@ pub fn run_program<D: Documents + Records + Journals, P: PlantRunner, R: Read, W
         ),
         Course::Reads { path } => {
             let status = tell_record(alloc, path, documents, input, &mut output, errors);
+            (status, output)
+        }
+        Course::Draws { path } => {
+            let status = draw_record_at(alloc, path, documents, input, &mut output, errors);
             (status, output)
         }
         Course::Audits { set, audit } => {
@@ -94,6 +111,55 @@ pub fn run_program<D: Documents + Records + Journals, P: PlantRunner, R: Read, W
             (status, output)
         }
     }
+}
+
+/// Serves event lines over the set, and gives the exit status.
+fn serve_plainly<R: Read, W: Write, E: Write>(
+    alloc: Global,
+    set: Cleared,
+    quiet: bool,
+    input: &mut Noted<R>,
+    mut output: Noted<W>,
+    errors: &mut E,
+) -> (u8, Noted<W>)
+    ensures { IsServed quiet set
+        (record {
+          unread = R.remaining input.old.stream;
+          left = R.remaining input.new.stream;
+          before = W.contents output.stream;
+          after = W.contents result.1.stream;
+        })
+        (record { before = E.contents errors.old; after = E.contents errors.new }) result.0 }
+{
+    let served = serve_set(alloc, set, input, &mut output, &mut NoRemarks, MAX_READS);
+    let reason = reason_of(served, input, &output);
+    (tell_served(alloc, quiet, served, reason, errors), output)
+}
+
+/// The same with comments in the record, in which the time of the journals' clock stands.
+fn serve_with_comments<J: Journals, R: Read, W: Write, E: Write>(
+    alloc: Global,
+    set: Cleared,
+    quiet: bool,
+    comments: Comments,
+    journals: &J,
+    input: &mut Noted<R>,
+    output: Noted<W>,
+    errors: &mut E,
+) -> (u8, Noted<W>)
+    ensures { IsServedRemarked quiet set
+        (record {
+          unread = R.remaining input.old.stream;
+          left = R.remaining input.new.stream;
+          before = W.contents output.stream;
+          after = W.contents result.1.stream;
+        })
+        (record { before = E.contents errors.old; after = E.contents errors.new }) result.0 }
+{
+    let remarking = Remarking::new(journals.clock(), comments.echo, comments.times);
+    let (served, output) = serve_remarked(alloc, set, input, output, remarking, MAX_READS);
+    let reason = reason_of(served, input, &output);
+    (tell_served(alloc, quiet, served, reason, errors), output)
 }
 
 /// The reason that the stream gave which stopped serving. A writer that takes nothing gives none.

@@ -28,7 +28,7 @@ struct FailedRead {
     reason: io::Error,
 }
 
-/// Why the record at this path can't be opened.
+/// Why the file at this path can't be opened or written.
 #[derive(Debug, Error, Drop)]
 #[error("{path}: {reason}")]
 struct FailedOpen {
@@ -94,7 +94,12 @@ fn status_text<R: Read>(alloc: Global, reader: &mut R) -> Result<Vec<u8>, Status
 }
 
 /// Prints that the line with this number is none of a record, and gives the exit status.
-fn refuse_line<W: Write, E: Write>(alloc: Global, line: u64, output: &mut W, errors: &mut E) -> u8
+pub(crate) fn refuse_line<W: Write, E: Write>(
+    alloc: Global,
+    line: u64,
+    output: &mut W,
+    errors: &mut E,
+) -> u8
     ensures { IsPrinted (record { before = W.contents output.old; after = W.contents output.new })
         (record { before = E.contents errors.old; after = E.contents errors.new }) (no_record_text line) refused_status result
         ⊎ (IsUnwritten (record { before = W.contents output.old; after = W.contents output.new }) × (result ≡ memory_status)) }
@@ -122,7 +127,7 @@ fn complain_unread<E: Write>(fault: StatusFault, reason: Option<io::Error>, erro
     }
 }
 
-/// Tells why the record at the path can't be opened.
+/// Tells why the file at the path can't be opened or written.
 pub(crate) fn complain_unopened<E: Write>(
     alloc: Global,
     path: &str,

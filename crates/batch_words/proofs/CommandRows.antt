@@ -3,9 +3,9 @@ use Rattle.std.proofs.Common.{◌≡◌, ℕ, Bool, true, false, List, [], ◌�
 use Rattle.clap.specs.Faults.{fault_of}
 use Rattle.clap.specs.Simple.{subcommand_of}
 use Rattle.clap.specs.Walk.{Text, Row, first_of}
-use Rattle.clap.specs.declared.error.kind.ErrorKind.TheVariants.{DisplayHelp, DisplayVersion, InvalidSubcommand, MissingRequiredArgument, UnknownArgument, ValueValidation}
+use Rattle.clap.specs.declared.error.kind.ErrorKind.TheVariants.{ArgumentConflict, DisplayHelp, DisplayVersion, InvalidSubcommand, MissingRequiredArgument, UnknownArgument, ValueValidation}
 use Rattle.clap.proofs.OnLiterals.{clap_on_literals}
-use Rattle.batch_words.specs.CommandLine.{batches_of, is_given, program_app, ring_of, ticks_of, word_of, words_of}
+use Rattle.batch_words.specs.CommandLine.{batches_of, faults_of, is_given, program_app, ring_of, ticks_of, word_of, words_of}
 
 abbrev check_line : List Text
 check_line = codes "check" ∷ codes "c" ∷ codes "r" ∷ codes "s" ∷ []
@@ -77,6 +77,46 @@ verify_has_no_journal : fault_of program_app (codes "verify" ∷ codes "--journa
 unfolding clap_on_literals
 verify_has_no_journal = refl
 
+-- comments in the record
+
+abbrev echo_line : List Text
+echo_line = codes "run" ∷ codes "--echo" ∷ codes "c" ∷ codes "k" ∷ codes "r" ∷ []
+
+-- which comments are asked for by the command that was entered, and its recipes
+abbrev entered_comments : Option (Text × List Row) → Option (Text × Bool × Bool × List Text)
+entered_comments = option_map (λ p. (p.0, is_given (codes "echo") p.1, is_given (codes "times") p.1, words_of (codes "RECIPE") p.1))
+
+echo_is_given : entered_comments (subcommand_of program_app echo_line) ≡ Some (codes "run", true, false, codes "r" ∷ [])
+unfolding clap_on_literals
+echo_is_given = refl
+
+echo_is_taken : fault_of program_app echo_line ≡ []
+unfolding clap_on_literals
+echo_is_taken = refl
+
+times_is_given : entered_comments (subcommand_of program_app (codes "run" ∷ codes "c" ∷ codes "--times" ∷ codes "k" ∷ [])) ≡ Some (codes "run", false, true, [])
+unfolding clap_on_literals
+times_is_given = refl
+
+no_comments_are_given : entered_comments (subcommand_of program_app run_line) ≡ Some (codes "run", false, false, codes "r" ∷ [])
+unfolding clap_on_literals
+no_comments_are_given = refl
+
+verify_has_no_comments : fault_of program_app (codes "verify" ∷ codes "--echo" ∷ codes "c" ∷ codes "k" ∷ []) ≡ UnknownArgument ∷ []
+unfolding clap_on_literals
+verify_has_no_comments = refl
+
+abbrev clash_line : List Text
+clash_line = codes "run" ∷ codes "--journal" ∷ codes "j" ∷ codes "--echo" ∷ codes "c" ∷ codes "k" ∷ []
+
+journal_clashes_with_echo : faults_of clash_line ≡ ArgumentConflict ∷ []
+unfolding clap_on_literals
+journal_clashes_with_echo = refl
+
+journal_alone_is_taken : faults_of journal_line ≡ []
+unfolding clap_on_literals
+journal_alone_is_taken = refl
+
 serve_is_unknown : fault_of program_app (codes "serve" ∷ []) ≡ UnknownArgument ∷ InvalidSubcommand ∷ []
 unfolding clap_on_literals
 serve_is_unknown = refl
@@ -111,6 +151,29 @@ flag_is_given = refl
 flag_is_taken : fault_of program_app quiet_line ≡ []
 unfolding clap_on_literals
 flag_is_taken = refl
+
+abbrev all_is_given : Option (Text × List Row) → Option Bool
+all_is_given = option_map (λ p. is_given (codes "all") p.1)
+
+all_is_read : all_is_given (subcommand_of program_app (codes "check" ∷ codes "c" ∷ codes "--all" ∷ [])) ≡ Some true
+unfolding clap_on_literals
+all_is_read = refl
+
+all_is_left_out : all_is_given (subcommand_of program_app check_line) ≡ Some false
+unfolding clap_on_literals
+all_is_left_out = refl
+
+-- the file that is to be written, beside the cell
+abbrev entered_file : Option (Text × List Row) → Option (Option Text × Text)
+entered_file = option_map (λ p. (first_of (codes "write") p.1, word_of (codes "CELL") p.1))
+
+file_is_read : entered_file (subcommand_of program_app (codes "check" ∷ codes "--write" ∷ codes "f" ∷ codes "c" ∷ [])) ≡ Some (Some (codes "f"), codes "c")
+unfolding clap_on_literals
+file_is_read = refl
+
+no_file_is_read : entered_file (subcommand_of program_app check_line) ≡ Some (None, codes "c")
+unfolding clap_on_literals
+no_file_is_read = refl
 
 abbrev explain_line : List Text
 explain_line = codes "explain" ∷ codes "refused" ∷ codes "E3" ∷ codes "running" ∷ []
@@ -156,6 +219,14 @@ no_path_is_read = refl
 no_path_is_taken : fault_of program_app (codes "status" ∷ []) ≡ []
 unfolding clap_on_literals
 no_path_is_taken = refl
+
+picture_path_is_read : entered_path (subcommand_of program_app (codes "draw" ∷ codes "r" ∷ [])) ≡ Some (codes "draw", Some (codes "r"))
+unfolding clap_on_literals
+picture_path_is_read = refl
+
+no_picture_path_is_read : entered_path (subcommand_of program_app (codes "draw" ∷ [])) ≡ Some (codes "draw", None)
+unfolding clap_on_literals
+no_picture_path_is_read = refl
 
 -- an audit
 

@@ -1,18 +1,19 @@
--- trusted: the command line: `check CELL RECIPE..`, `verify CELL CERT RECIPE..`, `show CELL RECIPE..`, `run [--journal FILE] CELL CERT RECIPE..`, `status RECORD`, `audit RECORD CELL CERT RECIPE..`, `plant`, `explain CODE..`, and no words at all.
-use Rattle.std.specs.Prelude.{◌≡◌, ◌≢◌, ◌⊎◌, [], ℕ, Bool, List, Option, Some, None, map, option_map, codes, true, false, unwrap_or, string_bytes, if◌then◌else◌, ⊤}
+-- trusted: the command line: `check [--all] [--write FILE] CELL RECIPE..`, `verify CELL CERT RECIPE..`, `show CELL RECIPE..`, `run [--journal FILE] [--echo] [--times] CELL CERT RECIPE..`, `status RECORD`, `draw RECORD`, `audit RECORD CELL CERT RECIPE..`, `plant`, `explain CODE..`, and no words at all.
+use Rattle.std.specs.Prelude.{◌≡◌, ◌≢◌, ◌⊎◌, [], ◌∷◌, ℕ, Bool, List, Option, Some, None, map, option_map, codes, true, false, ◌&&◌, ◌||◌, is_some, unwrap_or, string_bytes, if◌then◌else◌, ⊤}
 use Rattle.std.specs.Str.{bytes_eq}
 use Rattle.std.specs.Str.Parse.{digits_value, without_leading_plus}
 use Rattle.clap.specs.Lexer.{usize_max}
-use Rattle.clap.specs.Kinds.{Kinds, IsAmong}
+use Rattle.clap.specs.Faults.{fault_of}
+use Rattle.clap.specs.Kinds.{Kinds, IsAmong, or_else}
 use Rattle.clap.specs.ValueTests.{is_unsigned_in}
 use Rattle.clap.specs.Walk.{Row, Rule, Text, first_of, all_of}
-use Rattle.clap.specs.Simple.{App, new_app, new_rule, on_top, with_rule, with_subcommand}
+use Rattle.clap.specs.Simple.{App, new_app, new_rule, on_top, subcommand_of, with_rule, with_subcommand}
 use Rattle.clap.specs.declared.builder.action.ArgAction.TheVariants.{Set, Append, SetTrue}
 use Rattle.clap.specs.declared.builder.value_parser.ValueParser.TheVariants.{Unsigned}
 use Rattle.clap.specs.declared.error.kind.ErrorKind.{ErrorKind}
-use Rattle.clap.specs.declared.error.kind.ErrorKind.TheVariants.{DisplayHelp, DisplayVersion, OutOfMemory}
+use Rattle.clap.specs.declared.error.kind.ErrorKind.TheVariants.{ArgumentConflict, DisplayHelp, DisplayVersion, OutOfMemory}
 use Rattle.batch_words.specs.declared.command.Subcommand.{Subcommand}
-use Rattle.batch_words.specs.declared.command.Subcommand.TheVariants.{Judge, Serve, Status, Audit, Plant, Explain, Keep}
+use Rattle.batch_words.specs.declared.command.Subcommand.TheVariants.{Judge, Serve, Status, Audit, Plant, Explain, Keep, Write, Remark, Picture}
 use Rattle.batch_words.specs.declared.command.Judgement as judgements
 use Rattle.batch_words.specs.declared.command.Judgement.TheVariants.{Check, Draw, Verify, Show}
 use Rattle.batch_words.specs.declared.command.Source as sources
@@ -50,15 +51,16 @@ number_rule name least most = record (new_rule name) {
   parser = Some (Unsigned least most);
 }
 
--- an option that takes a path, as `--journal FILE`
+-- an option that takes a path, as `--write FILE`
 abbrev pub path_rule : Text → Rule
 path_rule name = record (new_rule name) { long = Some name; value_names = 1; action = Some Set }
 
 abbrev pub check_app : App
-check_app = with_rule (with_rule (with_rule (with_rule (new_app (codes "check"))
-    (word_rule (codes "CELL"))) (several_rule (codes "RECIPE"))) (flag_rule (codes "dot"))) (flag_rule (codes "quiet"))
+check_app = with_rule (with_rule (with_rule (with_rule (with_rule (with_rule (new_app (codes "check"))
+    (word_rule (codes "CELL"))) (several_rule (codes "RECIPE"))) (flag_rule (codes "dot"))) (path_rule (codes "write"))) (flag_rule (codes "all")))
+    (flag_rule (codes "quiet"))
 
--- `verify`, and `run` without its option, by the name
+-- `verify`, and `run` without its options, by the name
 abbrev pub certified_app : Text → App
 certified_app name = with_rule (with_rule (with_rule (with_rule (new_app name)
     (word_rule (codes "CELL"))) (word_rule (codes "CERT"))) (several_rule (codes "RECIPE"))) (flag_rule (codes "quiet"))
@@ -68,10 +70,13 @@ show_app = with_rule (with_rule (with_rule (new_app (codes "show"))
     (word_rule (codes "CELL"))) (several_rule (codes "RECIPE"))) (flag_rule (codes "quiet"))
 
 abbrev pub run_app : App
-run_app = with_rule (certified_app (codes "run")) (path_rule (codes "journal"))
+run_app = with_rule (with_rule (with_rule (certified_app (codes "run")) (path_rule (codes "journal"))) (flag_rule (codes "echo"))) (flag_rule (codes "times"))
 
 abbrev pub status_app : App
 status_app = with_rule (new_app (codes "status")) (optional_rule (codes "RECORD"))
+
+abbrev pub draw_app : App
+draw_app = with_rule (new_app (codes "draw")) (optional_rule (codes "RECORD"))
 
 abbrev pub audit_app : App
 audit_app = with_rule (with_rule (with_rule (with_rule (with_rule (with_rule (new_app (codes "audit"))
@@ -91,8 +96,8 @@ bare_app = on_top (λ s. record s { has_version = true; no_binary_name = true })
 -- the whole command line
 abbrev pub program_app : App
 program_app =
-    with_subcommand (with_subcommand (with_subcommand (with_subcommand (with_subcommand (with_subcommand (with_subcommand (with_subcommand bare_app
-    check_app.top) (certified_app (codes "verify")).top) show_app.top) run_app.top) status_app.top) audit_app.top) plant_app.top)
+    with_subcommand (with_subcommand (with_subcommand (with_subcommand (with_subcommand (with_subcommand (with_subcommand (with_subcommand (with_subcommand bare_app
+    check_app.top) (certified_app (codes "verify")).top) show_app.top) run_app.top) status_app.top) draw_app.top) audit_app.top) plant_app.top)
     explain_app.top
 
 -- the word that was given for an argument
@@ -128,9 +133,10 @@ HasOptionsOf rows options = (options.batches ≡ batches_of rows) × (options.ti
 
 -- documents that are to be judged, by their paths
 pub data Judgement : Type 0 where
-  check : (cell : Text) (recipes : List Text) → Judgement
+  -- everything that is refused is to be told, or the first refusal alone
+  check : (all : Bool) (cell : Text) (recipes : List Text) → Judgement
   -- to draw what they ask for
-  draw : (cell : Text) (recipes : List Text) → Judgement
+  draw : (all : Bool) (cell : Text) (recipes : List Text) → Judgement
   verify : (cell certificate : Text) (recipes : List Text) → Judgement
   -- to show their nodes
   show : (cell : Text) (recipes : List Text) → Judgement
@@ -142,11 +148,17 @@ pub data Source : Type 0 where
 
 pub data Request : Type 0 where
   judge : Judgement → Request
+  -- to write into the file at this path what is printed of documents that are accepted
+  write : (path : Text) → Judgement → Request
   serve : Source → Request
+  -- to serve it with comments in the record: the lines, or times, or both
+  remark : (source : Source) (echo times : Bool) → Request
   -- to serve that of the documents at these paths, with a journal in the file at the first one
   keep : (journal cell certificate : Text) (recipes : List Text) → Request
   -- to tell what the record at this path says, or the one on standard input
   tell : (path : Option Text) → Request
+  -- to draw what it says
+  picture : (path : Option Text) → Request
   -- to compare the record at this path with what event lines come to over a set; a record that only begins it may be accepted
   audit : (beginning : Bool) (path : Text) (source : Source) → Request
   -- to run the demo's plant for so many batches, with phases of so many ticks and rings of so many places
@@ -154,19 +166,35 @@ pub data Request : Type 0 where
   -- to say what the first code in these texts means, or where there are none what all codes mean
   explain : (texts : List Text) → Request
 
+-- which judgement the words behind `check` ask for
+abbrev pub judged_by : List Row → Judgement
+judged_by rows =
+    if is_given (codes "dot") rows then draw (is_given (codes "all") rows) (word_of (codes "CELL") rows) (words_of (codes "RECIPE") rows)
+    else check (is_given (codes "all") rows) (word_of (codes "CELL") rows) (words_of (codes "RECIPE") rows)
+
+-- it is printed, or written into the file that they name
+abbrev pub written_by : Option Text → Judgement → Request
+written_by None judgement = judge judgement
+written_by (Some path) judgement = write path judgement
+
 -- what the words behind `check` ask for
 abbrev pub checked_by : List Row → Request
-checked_by rows =
-    if is_given (codes "dot") rows then judge (draw (word_of (codes "CELL") rows) (words_of (codes "RECIPE") rows))
-    else judge (check (word_of (codes "CELL") rows) (words_of (codes "RECIPE") rows))
+checked_by rows = written_by (first_of (codes "write") rows) (judged_by rows)
 
 -- what the words behind `show` ask for
 abbrev pub shown_by : List Row → Request
 shown_by rows = judge (show (word_of (codes "CELL") rows) (words_of (codes "RECIPE") rows))
 
+-- with comments in the record where a flag asks for some
+abbrev pub serve_by : Source → List Row → Request
+serve_by source rows =
+    if is_given (codes "echo") rows || is_given (codes "times") rows
+    then remark source (is_given (codes "echo") rows) (is_given (codes "times") rows)
+    else serve source
+
 -- with a journal where one is named
 abbrev pub run_by : Option Text → List Row → Request
-run_by None rows = serve (documents (word_of (codes "CELL") rows) (word_of (codes "CERT") rows) (words_of (codes "RECIPE") rows))
+run_by None rows = serve_by (documents (word_of (codes "CELL") rows) (word_of (codes "CERT") rows) (words_of (codes "RECIPE") rows)) rows
 run_by (Some journal) rows = keep journal (word_of (codes "CELL") rows) (word_of (codes "CERT") rows) (words_of (codes "RECIPE") rows)
 
 -- what the words behind `verify` or `run` ask for
@@ -188,9 +216,10 @@ named_by name rows =
     if bytes_eq name (codes "explain") then explain (words_of (codes "CODE") rows)
     else (if bytes_eq name (codes "plant") then plant (batches_of rows) (ticks_of rows) (ring_of rows)
     else (if bytes_eq name (codes "status") then tell (first_of (codes "RECORD") rows)
+    else (if bytes_eq name (codes "draw") then picture (first_of (codes "RECORD") rows)
     else (if bytes_eq name (codes "audit") then audited_by rows
     else (if bytes_eq name (codes "check") then checked_by rows
-    else (if bytes_eq name (codes "show") then shown_by rows else certified_by name rows)))))
+    else (if bytes_eq name (codes "show") then shown_by rows else certified_by name rows))))))
 
 -- what is asked for, whether or not a command was entered
 abbrev pub asked_by : Option (Text × List Row) → Request
@@ -203,8 +232,8 @@ asks_quiet None = false
 asks_quiet (Some entered) = is_given (codes "quiet") entered.1
 
 abbrev pub judgement_of : judgements.Judgement → Judgement
-judgement_of (Check cell recipes) = check (string_bytes cell) (map string_bytes recipes.items)
-judgement_of (Draw cell recipes) = draw (string_bytes cell) (map string_bytes recipes.items)
+judgement_of (Check all cell recipes) = check all (string_bytes cell) (map string_bytes recipes.items)
+judgement_of (Draw all cell recipes) = draw all (string_bytes cell) (map string_bytes recipes.items)
 judgement_of (Verify cell certificate recipes) = verify (string_bytes cell) (string_bytes certificate) (map string_bytes recipes.items)
 judgement_of (Show cell recipes) = show (string_bytes cell) (map string_bytes recipes.items)
 
@@ -214,9 +243,12 @@ source_of (Documents cell certificate recipes) = documents (string_bytes cell) (
 
 abbrev pub request_of : Subcommand → Request
 request_of (Judge judgement) = judge (judgement_of judgement)
+request_of (Write path judgement) = write (string_bytes path) (judgement_of judgement)
 request_of (Serve source) = serve (source_of source)
+request_of (Remark source comments) = remark (source_of source) comments.echo comments.times
 request_of (Keep journal cell certificate recipes) = keep (string_bytes journal) (string_bytes cell) (string_bytes certificate) (map string_bytes recipes.items)
 request_of (Status path) = tell (option_map string_bytes path)
+request_of (Picture path) = picture (option_map string_bytes path)
 request_of (Audit words) = audit words.beginning (string_bytes words.path) (source_of words.source)
 request_of (Plant options) = plant options.batches options.ticks options.ring
 request_of (Explain texts) = explain (map string_bytes texts.items)
@@ -224,6 +256,22 @@ request_of (Explain texts) = explain (map string_bytes texts.items)
 -- what is read of the words is what they ask for
 abbrev pub AreWordsOf : Option (Text × List Row) → CommandWords → Type 0
 AreWordsOf entered words = (request_of words.command ≡ asked_by entered) × (words.quiet ≡ asks_quiet entered)
+
+-- a journal and comments are asked for
+abbrev pub rows_clash : List Row → Bool
+rows_clash rows = is_some (first_of (codes "journal") rows) && (is_given (codes "echo") rows || is_given (codes "times") rows)
+
+abbrev pub clashes : Option (Text × List Row) → Bool
+clashes None = false
+clashes (Some entered) = rows_clash entered.1
+
+-- no comments are written beside a journal
+abbrev pub clash_kinds : Bool → Kinds
+clash_kinds clash = if clash then ArgumentConflict ∷ [] else []
+
+-- the kinds of faults that the words may have: those that clap finds, and where it finds none, that of what doesn't go together
+abbrev pub faults_of : List Text → Kinds
+faults_of words = or_else (fault_of program_app words) (clash_kinds (clashes (subcommand_of program_app words)))
 
 -- what the user asks to be shown: help, or the version
 abbrev pub IsShown : ErrorKind → Type 0

@@ -2,6 +2,7 @@
 ghost use Rattle.std.specs.Prelude.{◌≡◌};
 ghost use Rattle.batch_words.specs.declared.command.CommandFault.TheVariants.{Memory};
 
+use crate::comments::Comments;
 use crate::plant_options::PlantOptions;
 use std::alloc::{AllocError, AllocFailed};
 use thiserror::Error;
@@ -19,8 +20,18 @@ pub struct CommandWords {
 pub enum Subcommand {
     /// To judge documents.
     Judge(Judgement),
+    /// To write into the file at this path what is printed of a judgement that accepts.
+    Write {
+        path: String,
+        judgement: Judgement,
+    },
     /// To serve event lines from standard input over a set.
     Serve(Source),
+    /// To serve them with comments in the record.
+    Remark {
+        source: Source,
+        comments: Comments,
+    },
     /// To serve them over the set of the documents at these paths, with a journal of them in the file at the first one.
     Keep {
         journal: String,
@@ -30,6 +41,10 @@ pub enum Subcommand {
     },
     /// To tell what a record says: the one at this path, or the one on standard input.
     Status {
+        path: Option<String>,
+    },
+    /// To draw what a record says: the one at this path, or the one on standard input.
+    Picture {
         path: Option<String>,
     },
     /// To compare a record with what event lines from standard input come to over a set.
@@ -56,13 +71,15 @@ pub struct AuditWords {
 /// A judgement of documents, with their paths.
 #[derive(Debug, Drop)]
 pub enum Judgement {
-    /// To find a certificate for the recipes.
+    /// To find a certificate for the recipes. Everything that is refused is to be told, or the first refusal alone.
     Check {
+        all: bool,
         cell: String,
         recipes: Vec<String>,
     },
     /// To draw what the recipes ask for after what.
     Draw {
+        all: bool,
         cell: String,
         recipes: Vec<String>,
     },

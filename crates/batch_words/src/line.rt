@@ -3,7 +3,7 @@ ghost use Rattle.std.specs.Prelude.{◌≡◌, IfOk, IsOkAnd, codes, false};
 ghost use Rattle.clap.specs.Words.{app_of, rule_of};
 ghost use Rattle.clap.specs.Words.{AddsSubcommand};
 ghost use Rattle.clap.specs.declared.builder.command.Command.TheViews.{out-Command};
-ghost use Rattle.batch_words.specs.CommandLine.{audit_app, bare_app, certified_app, check_app, explain_app, flag_rule, number_rule, optional_rule, plant_app, program_app, several_rule, status_app, word_rule, show_app, path_rule, run_app};
+ghost use Rattle.batch_words.specs.CommandLine.{audit_app, bare_app, certified_app, check_app, draw_app, explain_app, flag_rule, number_rule, optional_rule, plant_app, program_app, several_rule, status_app, word_rule, show_app, path_rule, run_app};
 
 use clap::builder::ValueParser;
 use clap::{Arg, ArgAction, Command};
@@ -37,6 +37,8 @@ Exit status:
 const CHECK_HELP: &str = "\
 An example, in examples/paint_plant:
   batchd check cell.toml primer.toml rinse-mended.toml > certificate.new
+  batchd check --write certificate.new cell.toml primer.toml rinse-mended.toml
+  batchd check --all cell.toml *.toml
   batchd check --dot cell.toml topcoat.toml rinse.toml | dot -Tsvg > circle.svg
 ";
 
@@ -59,11 +61,19 @@ An example, in examples/paint_plant; type the lines below it:
 
 The same with a journal, from which the next start brings the plant back:
   batchd run --journal day.journal cell.toml certificate.txt primer.toml rinse-mended.toml
+
+The same with each line and its time as comments in the record:
+  batchd run --echo --times cell.toml certificate.txt primer.toml rinse-mended.toml
 ";
 
 const STATUS_HELP: &str = "\
 An example, of a server whose record is written to day.record:
   batchd status day.record
+";
+
+const DRAW_HELP: &str = "\
+An example, of a server whose record is written to day.record:
+  batchd draw day.record > day.svg
 ";
 
 const AUDIT_HELP: &str = "\
@@ -93,7 +103,8 @@ pub(crate) fn program<'a>(alloc: Global) -> Result<Command<'a>, AllocError>
     let showing = with_command(verifying, show(alloc))?;
     let running = with_command(showing, run(alloc))?;
     let telling = with_command(running, status(alloc))?;
-    let auditing = with_command(telling, audit(alloc))?;
+    let drawing = with_command(telling, draw(alloc))?;
+    let auditing = with_command(drawing, audit(alloc))?;
     let planting = with_command(auditing, plant(alloc))?;
     with_command(planting, explain(alloc))
 }
@@ -133,6 +144,16 @@ fn check<'a>(alloc: Global) -> Result<Command<'a>, AllocError>
             "dot",
             "Draws what is asked for after what, for Graphviz, a circle in red",
         ))?
+        .arg(path(
+            alloc,
+            "write",
+            "Writes the certificate into this file in place of printing it; where there is none, the file stays as it was",
+        ))?
+        .arg(flag(
+            alloc,
+            "all",
+            "Tells every document that is refused, or else every recipe that breaks a rule, and not the first alone",
+        ))?
         .arg(quiet(alloc))
 }
 
@@ -159,11 +180,22 @@ fn run<'a>(alloc: Global) -> Result<Command<'a>, AllocError>
 {
     let about =
         "Serves event lines from standard input over the recipes that the certificate clears";
-    certified(alloc, "run", about, RUN_HELP)?.arg(path(
-        alloc,
-        "journal",
-        "Writes each event line to this file before it is answered, and begins where the file ends",
-    ))
+    certified(alloc, "run", about, RUN_HELP)?
+        .arg(path(
+            alloc,
+            "journal",
+            "Writes each event line to this file before it is answered, and begins where the file ends; not with --echo or --times",
+        ))?
+        .arg(flag(
+            alloc,
+            "echo",
+            "Writes each line as a comment, `# > LINE`, before its answer",
+        ))?
+        .arg(flag(
+            alloc,
+            "times",
+            "Writes `# at MILLISECONDS` before the answers to what one read brought",
+        ))
 }
 
 /// A command over a cell, a certificate and recipes.
@@ -190,6 +222,21 @@ fn status<'a>(alloc: Global) -> Result<Command<'a>, AllocError>
     Command::new(alloc, "status")
         .about("Prints what a record tells: batches, who holds, who waits, and live phases")
         .after_help(STATUS_HELP)
+        .arg(optional(
+            alloc,
+            "RECORD",
+            "The record, which may still be written [default: standard input]",
+        ))
+}
+
+fn draw<'a>(alloc: Global) -> Result<Command<'a>, AllocError>
+    ensures { IfOk result (λ draw. (app_of draw ≡ draw_app) × ((out-Command draw).has_globals ≡ false)) }
+{
+    Command::new(alloc, "draw")
+        .about(
+            "Draws what a record tells, as SVG: who held which resource when, and who waited for it",
+        )
+        .after_help(DRAW_HELP)
         .arg(optional(
             alloc,
             "RECORD",

@@ -1,26 +1,36 @@
 use Rattle.std.proofs.Common.{map, option_map, string_bytes}
 use Rattle.std.proofs.KnownBytes.{Keeps-refl}
 use Rattle.batch_words.specs.CommandLine.{source_of}
-use Rattle.batch_program.specs.Programs.{tells, serves, keeps, reads, audits, plants}
+use Rattle.batch_program.specs.Programs.{tells, serves, keeps, reads, audits, plants, writes, remarks, draws}
 use Rattle.batch_program.specs.declared.program.TheConstants.{MAX_READS}
+use Rattle.batch_program.proofs.Kept.{file_to_write}
 use Rattle.batch_program.proofs.Plants.{has_run}
-use Rattle.batch_program.proofs.Served.{audit_kept, left_kept, plant_to_run, record_kept, record_to_read, served_kept, set_to_audit, set_to_serve, told_kept, journal_kept, set_to_keep}
+use Rattle.batch_program.proofs.RemarkedServed.{remarked_kept, set_to_remark}
+use Rattle.batch_program.proofs.Served.{audit_kept, drawn_kept, left_kept, plant_to_run, record_kept, record_to_draw, record_to_read, served_kept, set_to_audit, set_to_serve, told_kept, journal_kept, set_to_keep}
 use Rattle.batch_program.proofs.program.run_program.Goals as goal
 
 pub returns-in-Ends : goal.returns-in-Ends
 returns-in-Ends g c = tells c.in-Ends.status c.in-Ends.ensures (Keeps-refl _)
 
+pub returns-in-Writes : goal.returns-in-Writes
+returns-in-Writes g c =
+    let path = c.in-Writes.path in
+    let text = c.in-Writes.text in
+    let (judgement, asked, told, kept) =
+    file_to_write (g.D.Documents.gives c.args.documents.now) (map string_bytes c.args.words.now) _ _ _ path text c.run_words.ensures c.in-Writes.is in
+    writes (string_bytes path) judgement (string_bytes text) _ c.write_file.result asked told
+    (rw (c.deref.ensures, c.deref-in-Writes.ensures) at c.write_file.ensures) kept (Keeps-refl _)
+
 pub returns-in-Serves : goal.returns-in-Serves
 returns-in-Serves g c =
     let set = c.in-Serves.set in
     let quiet = c.in-Serves.quiet in
-    let served = c.serve_set-served in
     let words = map string_bytes c.args.words.now in
+    let (served, all, left, status) = c.serve_plainly.ensures in
     let is = set_to_serve (g.D.Documents.gives c.args.documents.now) words _ _ _ set quiet c.run_words.ensures c.in-Serves.is in
-    let told = left_kept quiet _ _ _ served.result is.silent c.tell_served.ensures.told in
-    rw c.tell_served.ensures.status
-    (serves is.source set served.result is.asked is.is_set (served_kept set MAX_READS served.result _ _ _ _ _ is.unwritten served.ensures)
-    (rw is.hushed at told))
+    let told = left_kept quiet _ _ _ served is.silent left in
+    rw status
+    (serves is.source set served is.asked is.is_set (served_kept set MAX_READS served _ _ _ _ _ is.unwritten all) (rw is.hushed at told))
 
 pub returns-in-Keeps : goal.returns-in-Keeps
 returns-in-Keeps g c =
@@ -30,12 +40,30 @@ returns-in-Keeps g c =
     keeps (string_bytes c.in-Keeps.path) is.cell is.certificate is.recipes digested.set digested.documents.text c.keep_journal.result.0 is.asked is.is_set
     (journal_kept (record { disks = _; opens = g.D.Journals.opens c.args.documents.now }) digested.set digested.documents.text (string_bytes c.in-Keeps.path) _ _ _ _ _ _ is.unwritten (rw c.deref.ensures at c.keep_journal.ensures))
 
+pub returns-in-Remarks : goal.returns-in-Remarks
+returns-in-Remarks g c =
+    let course = c.in-Remarks in
+    let words = map string_bytes c.args.words.now in
+    let (served, all, left, status) = c.serve_with_comments.ensures in
+    let (request, asked, is, hushed) = set_to_remark (g.D.Documents.gives c.args.documents.now) words _ _ _ course.set course.quiet course.comments c.run_words.ensures course.is in
+    let told = left_kept course.quiet _ _ _ served is.silent left in
+    rw status
+    (remarks is.source course.comments.echo course.comments.times course.set served (rw (← is.asked) asked) is.is_set
+    (remarked_kept course.set MAX_READS served _ _ _ _ _ is.unwritten all) (rw hushed at told))
+
 pub returns-in-Reads : goal.returns-in-Reads
 returns-in-Reads g c =
     let path = c.in-Reads.path in
     let (asked, kept, silent) = record_to_read (g.D.Documents.gives c.args.documents.now) (map string_bytes c.args.words.now) _ _ _ path c.run_words.ensures c.in-Reads.is in
     reads (option_map string_bytes path) c.tell_record-status.result asked
     (record_kept (g.D.Records.holds c.args.documents.now) (option_map string_bytes path) _ _ _ _ _ _ _ _ _ kept silent c.tell_record-status.ensures)
+
+pub returns-in-Draws : goal.returns-in-Draws
+returns-in-Draws g c =
+    let path = c.in-Draws.path in
+    let (asked, kept, silent) = record_to_draw (g.D.Documents.gives c.args.documents.now) (map string_bytes c.args.words.now) _ _ _ path c.run_words.ensures c.in-Draws.is in
+    draws (option_map string_bytes path) c.draw_record_at-status.result asked
+    (drawn_kept (g.D.Records.holds c.args.documents.now) (option_map string_bytes path) _ _ _ _ _ _ _ _ _ kept silent c.draw_record_at-status.ensures)
 
 pub returns-in-Audits : goal.returns-in-Audits
 returns-in-Audits g c =
