@@ -7,7 +7,8 @@ _batchd() {
     fi
     case ${COMP_WORDS[1]} in
         check) options="--dot --quiet --help" ;;
-        verify | run) options="--quiet --help" ;;
+        verify) options="--quiet --help" ;;
+        run) options="--echo --times --quiet --help" ;;
         plant) options="--batches --ticks --ring --help" ;;
         help) options="check verify run status plant explain" ;;
         explain) options="--help $("${COMP_WORDS[0]}" explain 2>/dev/null | cut -d : -f 1)" ;;

@@ -10,7 +10,7 @@ use Rattle.batch_verify.specs.ClearedSet.{ClearedSet}
 use Rattle.batch_commands.specs.Judging.{status_of}
 use Rattle.batch_commands.specs.Reading.{Gives}
 use Rattle.batch_commands.specs.Requests.{Halts, HaltsDemo, IsDemoSet, IsSetOf}
-use Rattle.batch_commands.specs.Running.{AskFor, IsAnnounced, IsDone, IsExplained, IsPrinted, IsRun, IsUnwritten, Stream, ask_quiet, memory_status, success_status, commands, serves, reads, plants, halts, judges, explains, helps, misuses, starves}
+use Rattle.batch_commands.specs.Running.{AskFor, IsAnnounced, IsDone, IsExplained, IsPrinted, IsRun, IsUnwritten, Stream, ask_quiet, memory_status, success_status, commands, serves, remarks, reads, plants, halts, judges, explains, helps, misuses, starves}
 use Rattle.batch_commands.specs.Statuses.{AreCodesTold, IsSuccess, NoCommandServes, ServesClearedSets, SuccessIsTold}
 use Rattle.batch_commands.specs.declared.course.Course.{Course}
 use Rattle.batch_commands.specs.declared.course.Course.TheVariants.{Ends, Serves}
@@ -58,6 +58,7 @@ done_success gives request quiet output errors _ (explains texts status asked to
     rw asked (explained_success texts output errors status told cc)
 done_success gives request quiet output errors _ (halts h status _ told) is = absurd (no_success quiet output errors h status told cc)
 done_success gives request quiet output errors _ (serves _ _ _ _ _ _) is = absurd cc
+done_success gives request quiet output errors _ (remarks _ _ _ _ _ _ _) is = absurd cc
 done_success gives request quiet output errors _ (reads _ _ _ _) is = absurd cc
 done_success gives request quiet output errors _ (plants _ _ _ _ _ _) is = absurd cc
 
@@ -89,6 +90,7 @@ done_serving gives request quiet output errors set hushed _ (serves source set2 
 done_serving gives request quiet output errors set hushed _ (judges _ _ _ _ _ _) is = absurd cc
 done_serving gives request quiet output errors set hushed _ (explains _ _ _ _) is = absurd cc
 done_serving gives request quiet output errors set hushed _ (halts _ _ _ _) is = absurd cc
+done_serving gives request quiet output errors set hushed _ (remarks _ _ _ _ _ _ _) is = absurd cc
 done_serving gives request quiet output errors set hushed _ (reads _ _ _ _) is = absurd cc
 done_serving gives request quiet output errors set hushed _ (plants _ _ _ _ _ _) is = absurd cc
 
@@ -114,6 +116,7 @@ demo_done gives request quiet output errors _ demo_asked (serves source set aske
 demo_done gives request quiet output errors _ demo_asked (halts h status halted _) = inr (inl (h, subst (λ r. Halts gives r h) demo_asked halted))
 demo_done gives request quiet output errors _ demo_asked (judges _ _ _ asked _ _) = absurd cc
 demo_done gives request quiet output errors _ demo_asked (explains _ _ asked _) = absurd cc
+demo_done gives request quiet output errors _ demo_asked (remarks _ _ _ asked _ _ _) = absurd cc
 demo_done gives request quiet output errors _ demo_asked (reads _ asked _ _) = absurd cc
 demo_done gives request quiet output errors _ demo_asked (plants _ _ asked _ _ _) = absurd cc
 

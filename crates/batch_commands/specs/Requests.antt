@@ -1,7 +1,7 @@
 -- trusted: what comes of a request: what is printed, the set that is to be served, or why there is none.
 use Rattle.std.specs.Prelude.{◌≡◌, List, ℕ, [], ◌∷◌}
 use Rattle.batch_verify.specs.ClearedSet.{ClearedSet}
-use Rattle.batch_words.specs.CommandLine.{Judgement, check, draw, verify, Source, demo, documents, Request, judge, serve, tell, plant, explain}
+use Rattle.batch_words.specs.CommandLine.{Judgement, check, draw, verify, Source, demo, documents, Request, judge, serve, remark, tell, plant, explain}
 use Rattle.batch_commands.specs.DemoDocuments.{demo_text}
 use Rattle.batch_commands.specs.Halting.{HaltsCheck, HaltsClearing, HaltsDrawing}
 use Rattle.batch_commands.specs.Reading.{AreCleared, ChecksDocuments, DrawsDocuments, Gives, VerifiesDocuments}
@@ -45,6 +45,7 @@ HaltsSource gives (documents cell certificate recipes) h = HaltsClearing gives c
 abbrev pub Halts : Gives → Request → Halt → Type 0
 Halts gives (judge judgement) h = HaltsJudgement gives judgement h
 Halts gives (serve source) h = HaltsSource gives source h
+Halts gives (remark source echo times) h = HaltsSource gives source h
 Halts gives (tell path) h = ⊥
 Halts gives (plant batches ticks ring) h = HaltsDemo h
 Halts gives (explain texts) h = ⊥

@@ -7,15 +7,16 @@ use Rattle.clap.specs.Walk.{Text}
 use Rattle.clap.specs.Words.{fault_of, subcommand_of}
 use Rattle.clap.specs.declared.error.kind.ErrorKind.{ErrorKind}
 use Rattle.batch_explain.specs.Explaining.{HaveNoCode, Tells}
-use Rattle.batch_words.specs.CommandLine.{IsShown, Judgement, Request, Source, asked_by, asks_quiet, explain, judge, plant, program_app, serve, tell}
+use Rattle.batch_words.specs.CommandLine.{IsShown, Judgement, Request, Source, asked_by, asks_quiet, explain, judge, plant, program_app, remark, serve, tell}
 use Rattle.batch_commands.specs.Judging.{status_of}
 use Rattle.batch_commands.specs.Reading.{Gives}
 use Rattle.batch_commands.specs.Requests.{Halts, IsDemoSet, IsSetOf, IsVerdict}
 use Rattle.batch_commands.specs.Saying.{IsSaid}
 use Rattle.batch_verify.specs.ClearedSet.{ClearedSet}
+use Rattle.batch_words.specs.declared.comments.Comments.{Comments}
 use Rattle.batch_words.specs.declared.plant_options.PlantOptions.{PlantOptions}
 use Rattle.batch_commands.specs.declared.course.Course.{Course}
-use Rattle.batch_commands.specs.declared.course.Course.TheVariants.{Ends, Serves, Reads, Plants}
+use Rattle.batch_commands.specs.declared.course.Course.TheVariants.{Ends, Serves, Remarks, Reads, Plants}
 use Rattle.batch_commands.specs.declared.refusal.Halt.{Halt}
 use Rattle.batch_commands.specs.declared.refusal.Halt.TheVariants as halt
 use Rattle.batch_commands.specs.declared.refusal.DocumentRefusal.{DocumentRefusal}
@@ -104,6 +105,9 @@ pub data IsDone (gives : Gives) (request : Request) (quiet : Bool) (output error
   serves : (source : Source) (set : ClearedSet)
       → request ≡ serve source → IsSetOf gives source set → IsUnwritten output → IsUnwritten errors
       → IsDone gives request quiet output errors (Serves set quiet)
+  remarks : (source : Source) (set : ClearedSet) (comments : Comments)
+      → request ≡ remark source comments.echo comments.times → IsSetOf gives source set → IsUnwritten output → IsUnwritten errors
+      → IsDone gives request quiet output errors (Remarks set quiet comments)
   reads : (path : Option (String Global))
       → request ≡ tell (option_map string_bytes path) → IsUnwritten output → IsUnwritten errors
       → IsDone gives request quiet output errors (Reads path)

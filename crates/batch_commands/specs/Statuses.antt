@@ -3,7 +3,7 @@ use Rattle.std.specs.Prelude.{◌≡◌, ◌⊎◌, ℕ, Bool, List}
 use Rattle.std.specs.Io.KnownBytes.{Appends}
 use Rattle.clap.specs.Walk.{Text}
 use Rattle.batch_verify.specs.ClearedSet.{ClearedSet}
-use Rattle.batch_words.specs.CommandLine.{Request, Source, demo, explain, judge, plant, serve, tell}
+use Rattle.batch_words.specs.CommandLine.{Request, Source, demo, explain, judge, plant, remark, serve, tell}
 use Rattle.batch_commands.specs.Reading.{Gives}
 use Rattle.batch_commands.specs.Requests.{HaltsDemo, IsDemoSet, IsSetOf, IsVerdict}
 use Rattle.batch_commands.specs.Running.{AskFor, IsRun, Stream, ask_quiet, memory_status}
@@ -21,6 +21,7 @@ AreCodesTold texts output = (text : List ℕ) × Tells texts text × Appends out
 abbrev pub IsSuccess : Gives → Request → Stream → Type 0
 IsSuccess gives (judge judgement) output = (text : List ℕ) × Appends output.before output.after text × IsVerdict gives judgement text
 IsSuccess gives (serve source) output = ⊥
+IsSuccess gives (remark source echo times) output = ⊥
 IsSuccess gives (tell path) output = ⊥
 IsSuccess gives (plant batches ticks ring) output = ⊥
 IsSuccess gives (explain texts) output = AreCodesTold texts output

@@ -1,6 +1,6 @@
 //! What the words of the program come to.
 use batch_verify::Cleared;
-use batch_words::PlantOptions;
+use batch_words::{Comments, PlantOptions};
 
 /// What the words of the program come to.
 #[derive(Drop)]
@@ -8,9 +8,23 @@ pub enum Course {
     /// All is said, and the program ends with this exit status.
     Ends(u8),
     /// The program is to serve event lines over this set, and to say nothing beside the record where quiet is asked for.
-    Serves { set: Cleared, quiet: bool },
+    Serves {
+        set: Cleared,
+        quiet: bool,
+    },
+    /// The same with comments in the record.
+    Remarks {
+        set: Cleared,
+        quiet: bool,
+        comments: Comments,
+    },
     /// The program is to tell what a record says: the one at this path, or the one on its input.
-    Reads { path: Option<String> },
+    Reads {
+        path: Option<String>,
+    },
     /// The program is to run the plant of this set, which is that of the demo.
-    Plants { set: Cleared, options: PlantOptions },
+    Plants {
+        set: Cleared,
+        options: PlantOptions,
+    },
 }

@@ -1,3 +1,4 @@
 pub mod Served
+pub mod RemarkedServed
 pub mod Plants
 pub mod RecordsTold

@@ -10,7 +10,7 @@ use Rattle.batch_engine.specs.View.{setup}
 use Rattle.batch_wire.specs.Transcript.{lines_of, whole_lines}
 use Rattle.batch_wire.specs.Written.{AppendsBeginning}
 use Rattle.batch_serve.specs.Safe.{BeginsSafely, WritesSafely, WritesWholeSafely}
-use Rattle.batch_words.specs.CommandLine.{Request, Source, plant, serve, tell}
+use Rattle.batch_words.specs.CommandLine.{Request, Source, plant, remark, serve, tell}
 use Rattle.batch_words.specs.declared.plant_options.PlantOptions.{PlantOptions}
 use Rattle.batch_commands.specs.Reading.{Gives}
 use Rattle.batch_commands.specs.Requests.{IsDemoSet, IsSetOf}
@@ -32,7 +32,7 @@ use Rattle.batch_serve.specs.declared.fault.ServeFault.TheVariants.{Read, Write,
 use Rattle.batch_serve.specs.declared.fault.SetFault.{SetFault}
 use Rattle.batch_serve.specs.declared.fault.SetFault.TheVariants.{Memory, Stopped}
 use Rattle.batch_program.specs.declared.program.TheConstants.{MAX_READS}
-use Rattle.batch_program.specs.Programs.{IsLeftTold, IsProgramRun, PlantsAreComplete, ServingIsSafe, tells, serves, reads, plants, status_of_serving}
+use Rattle.batch_program.specs.Programs.{IsLeftTold, IsProgramRun, PlantsAreComplete, ServingIsSafe, tells, serves, remarks, reads, plants, status_of_serving}
 use Rattle.batch_plant.specs.declared.plant_fault.PlantFault.{PlantFault}
 use Rattle.batch_plant.specs.declared.plant_fault.PlantFault.TheVariants as plant_fault
 use Rattle.batch_program.specs.PlantRuns.{HasRun, IsPlantTold, plant_text, refused_status}
@@ -52,7 +52,7 @@ kept_then_begun : (before mid after : Option (List ℕ)) (text : List ℕ) → K
 kept_then_begun before mid after text kept begun =
     record { written = begun.written; rest = begun.rest; splits = begun.splits; appends = kept_then_appended before mid after begun.written kept begun.appends }
 
-kept_then_kept : (before mid after : Option (List ℕ)) → Keeps before mid → Keeps mid after → Keeps before after
+pub kept_then_kept : (before mid after : Option (List ℕ)) → Keeps before mid → Keeps mid after → Keeps before after
 kept_then_kept None mid after kept more = tt
 kept_then_kept (Some xs) None after kept more = absurd kept
 kept_then_kept (Some xs) (Some ys) None kept more = absurd more
@@ -145,6 +145,7 @@ done_to_plant gives request quiet output errors _ set options (running.plants ot
     let chosen : own ≡ options = cc in
     (subst (λ (o : PlantOptions). request ≡ plant o.batches o.ticks o.ring) chosen asked, subst IsDemoSet same cleared, kept, silent)
 done_to_plant gives request quiet output errors _ set options (running.serves _ _ _ _ _ _) is = absurd cc
+done_to_plant gives request quiet output errors _ set options (running.remarks _ _ _ _ _ _ _) is = absurd cc
 done_to_plant gives request quiet output errors _ set options (running.reads _ _ _ _) is = absurd cc
 done_to_plant gives request quiet output errors _ set options (running.halts _ _ _ _) is = absurd cc
 done_to_plant gives request quiet output errors _ set options (running.judges _ _ _ _ _ _) is = absurd cc
@@ -194,6 +195,7 @@ done_to_read gives request quiet output errors _ path (running.reads other asked
     let same : other ≡ path = cc in
     (subst (λ (p : Option (String Global)). request ≡ tell (option_map string_bytes p)) same asked, kept, silent)
 done_to_read gives request quiet output errors _ path (running.serves _ _ _ _ _ _) is = absurd cc
+done_to_read gives request quiet output errors _ path (running.remarks _ _ _ _ _ _ _) is = absurd cc
 done_to_read gives request quiet output errors _ path (running.plants _ _ _ _ _ _) is = absurd cc
 done_to_read gives request quiet output errors _ path (running.halts _ _ _ _) is = absurd cc
 done_to_read gives request quiet output errors _ path (running.judges _ _ _ _ _ _) is = absurd cc
@@ -234,14 +236,14 @@ record_kept holds (Some path) unread left before mid after quiet still loud stat
 
 -- Exit statuses
 
-ran_to_the_end : (set : ClearedSet) (served : Result ℕ SetFault) (ends : serving.Ends) (quiet : Bool) (errors : Stream) → Serves set MAX_READS served ends
+pub ran_to_the_end : (set : ClearedSet) (served : Result ℕ SetFault) (ends : serving.Ends) (quiet : Bool) (errors : Stream) → Serves set MAX_READS served ends
     → IfOk served (IsLeftTold quiet errors) → status_of_serving served ≡ 0 → (left : ℕ) × AnswersAll set left ends × IsLeftTold quiet errors left
 ran_to_the_end set (Ok left) ends quiet errors all told is = (left, all, told)
 ran_to_the_end set (Err Memory) ends quiet errors all told is = absurd cc
 ran_to_the_end set (Err (Stopped fault)) ends quiet errors all told is = absurd cc
 
 -- a run that ends with status 0 before it has served was no run to serve, and none of a plant
-told_at_once : (gives : Gives) (words : List Text) (output errors : Stream) (request : Request) (status : ℕ)
+pub told_at_once : (gives : Gives) (words : List Text) (output errors : Stream) (request : Request) (status : ℕ)
     → AskFor words request → IsRun gives words output errors (Ends status) → status ≡ 0 → IsSuccess gives request output
 told_at_once gives words output errors request status asked came is =
     success_is_told gives words output errors request asked (subst (λ k. IsRun gives words output errors (Ends k)) is came)
@@ -255,6 +257,12 @@ serves_no_record source path is = cc
 plants_no_record : (batches ticks ring : ℕ) (path : Option Text) → plant batches ticks ring ≡ tell path → ⊥
 plants_no_record batches ticks ring path is = cc
 
+serves_no_comments : (source other : Source) (echo times : Bool) → serve source ≡ remark other echo times → ⊥
+serves_no_comments source other echo times is = cc
+
+plants_no_comments : (batches ticks ring : ℕ) (source : Source) (echo times : Bool) → plant batches ticks ring ≡ remark source echo times → ⊥
+plants_no_comments batches ticks ring source echo times is = cc
+
 serves_no_plant : (source : Source) (batches ticks ring : ℕ) → serve source ≡ plant batches ticks ring → ⊥
 serves_no_plant source batches ticks ring is = cc
 
@@ -267,6 +275,8 @@ safe_at gives holds words ends errors source _ asked (serves other set served as
     let same = same_source other source (same_request words (serve other) (serve source) asked2 asked) in
     let (left, answers, says) = ran_to_the_end set served ends (ask_quiet words) errors all told is in
     (set, left, subst (λ s. IsSetOf gives s set) same is_set, answers, says)
+safe_at gives holds words ends errors source _ asked (remarks other echo times _ _ asked2 _ _ _) is =
+    absurd (serves_no_comments source other echo times (same_request words (serve source) (remark other echo times) asked asked2))
 safe_at gives holds words ends errors source _ asked (reads path _ asked2 _) is =
     absurd (serves_no_record source path (same_request words (serve source) (tell path) asked asked2))
 safe_at gives holds words ends errors source _ asked (plants _ options _ _ asked2 _ _ _ _) is =
@@ -297,6 +307,7 @@ explained_in_range texts output errors status (inr (_, inr memory)) = rw memory 
 done_in_range : (gives : Gives) (request : Request) (quiet : Bool) (output errors : Stream) (course : Course) (status : ℕ)
     → IsDone gives request quiet output errors course → course ≡ Ends status → status ≤ 4
 done_in_range gives request quiet output errors _ status (running.serves _ _ _ _ _ _) is = absurd cc
+done_in_range gives request quiet output errors _ status (running.remarks _ _ _ _ _ _ _) is = absurd cc
 done_in_range gives request quiet output errors _ status (running.reads _ _ _ _) is = absurd cc
 done_in_range gives request quiet output errors _ status (running.plants _ _ _ _ _ _) is = absurd cc
 done_in_range gives request quiet output errors _ status (running.halts h told _ at) is =
@@ -348,6 +359,7 @@ pub run_in_range : (gives : Gives) (holds : Holds) (words : List Text) (ends : s
     → IsProgramRun gives holds words ends errors status → status ≤ 4
 run_in_range gives holds words ends errors _ (tells status came _) = course_in_range gives words (output_of ends) errors (Ends status) status came refl
 run_in_range gives holds words ends errors _ (serves _ _ served _ _ _ _) = serving_in_range served
+run_in_range gives holds words ends errors _ (remarks _ _ _ _ served _ _ _ _) = serving_in_range served
 run_in_range gives holds words ends errors status (reads path _ _ told) = record_in_range holds path ends errors status told
 run_in_range gives holds words ends errors status (plants _ options end _ _ _ _ told _) = plant_in_range (output_of ends) errors options.batches end status told
 
@@ -376,6 +388,8 @@ told_plant gives holds words ends errors batches ticks ring _ asked (tells statu
     absurd (told_at_once gives words (output_of ends) errors (plant batches ticks ring) status asked came is)
 told_plant gives holds words ends errors batches ticks ring _ asked (serves source _ _ asked2 _ _ _) is =
     absurd (serves_no_plant source batches ticks ring (same_request words (serve source) (plant batches ticks ring) asked2 asked))
+told_plant gives holds words ends errors batches ticks ring _ asked (remarks source echo times _ _ asked2 _ _ _) is =
+    absurd (plants_no_comments batches ticks ring source echo times (same_request words (plant batches ticks ring) (remark source echo times) asked asked2))
 told_plant gives holds words ends errors batches ticks ring _ asked (reads path _ asked2 _) is =
     absurd (plants_no_record batches ticks ring path (same_request words (plant batches ticks ring) (tell path) asked asked2))
 told_plant gives holds words ends errors batches ticks ring status asked (plants set options end _ asked2 demo ran told _) is =

@@ -5,13 +5,15 @@ use Rattle.std.specs.Process.{exit_status}
 use Rattle.std.specs.declared.process.ExitCode.{ExitCode}
 use Rattle.clap.specs.Walk.{Text}
 use Rattle.batch_verify.specs.ClearedSet.{ClearedSet}
-use Rattle.batch_words.specs.CommandLine.{Source, plant, serve, tell}
+use Rattle.batch_words.specs.CommandLine.{Source, plant, remark, serve, tell}
 use Rattle.batch_words.specs.declared.plant_options.PlantOptions.{PlantOptions}
 use Rattle.batch_commands.specs.Reading.{Gives}
 use Rattle.batch_commands.specs.Requests.{IsDemoSet, IsSetOf}
 use Rattle.batch_commands.specs.Running.{AskFor, IsRun, IsUnwritten, Stream, ask_quiet, fault_status, memory_status}
 use Rattle.batch_commands.specs.Saying.{WritesFront}
 use Rattle.batch_commands.specs.declared.course.Course.TheVariants.{Ends}
+use Rattle.batch_serve.specs.Comments.{IsRemarked}
+use Rattle.batch_serve.specs.RemarkedSet.{ServesRemarked}
 use Rattle.batch_serve.specs.Serves as serving
 use Rattle.batch_serve.specs.Serves.{AnswersAll, Serves}
 use Rattle.batch_serve.specs.declared.fault.SetFault.{SetFault}
@@ -52,6 +54,10 @@ pub data IsProgramRun (gives : Gives) (holds : Holds) (words : List Text) (ends 
   serves : (source : Source) (set : ClearedSet) (served : Result ℕ SetFault)
       → AskFor words (serve source) → IsSetOf gives source set → Serves set MAX_READS served ends
       → IfOk served (IsLeftTold (ask_quiet words) errors) → IsProgramRun gives holds words ends errors (status_of_serving served)
+  -- the same with comments in the record
+  remarks : (source : Source) (echo times : Bool) (set : ClearedSet) (served : Result ℕ SetFault)
+      → AskFor words (remark source echo times) → IsSetOf gives source set → ServesRemarked set MAX_READS served ends
+      → IfOk served (IsLeftTold (ask_quiet words) errors) → IsProgramRun gives holds words ends errors (status_of_serving served)
   -- what the record that the words name tells is printed, or what the input tells
   reads : (path : Option Text) (status : ℕ)
       → AskFor words (tell path) → IsRecordTold holds path ends errors status → IsProgramRun gives holds words ends errors status
@@ -71,6 +77,14 @@ ServingIsSafe gives holds =
     (words : List Text) (ends : serving.Ends) (errors : Stream) (source : Source)
     → AskFor words (serve source) → IsProgramRun gives holds words ends errors 0
     → (set : ClearedSet) × (left : ℕ) × IsSetOf gives source set × AnswersAll set left ends × IsLeftTold (ask_quiet words) errors left
+
+-- the same of a run with comments in the record, of what it wrote without its comments
+abbrev pub RemarkedServingIsSafe : Gives → Holds → Type 0
+RemarkedServingIsSafe gives holds =
+    (words : List Text) (ends : serving.Ends) (errors : Stream) (source : Source) (echo times : Bool)
+    → AskFor words (remark source echo times) → IsProgramRun gives holds words ends errors 0
+    → (set : ClearedSet) × (left : ℕ) × (plain : Option (List ℕ)) × IsSetOf gives source set × IsRemarked ends.before ends.after plain
+    × AnswersAll set left (record ends { after = plain }) × IsLeftTold (ask_quiet words) errors left
 
 -- a run of `plant` that ends with status 0 has written its three lines, and a record over the demo's set, of so many events as the
 -- third line says, leads to where the batches that were asked for are complete

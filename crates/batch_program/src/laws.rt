@@ -1,5 +1,5 @@
 //! Laws over runs of the program.
-ghost use Rattle.batch_program.specs.Programs.{PlantsAreComplete, ServingIsSafe};
+ghost use Rattle.batch_program.specs.Programs.{PlantsAreComplete, RemarkedServingIsSafe, ServingIsSafe};
 
 use crate::records::Records;
 use batch_commands::Documents;
@@ -8,6 +8,13 @@ use batch_commands::Documents;
 /// of the input were answered, and what was written is the text of a safe record.
 pub fn serving_is_safe<D: Documents + Records>(documents: &D)
     ensures { ServingIsSafe (D.gives documents.now) (D.holds documents.now) }
+{
+    let _documents = documents;
+}
+
+/// The same of a run with comments in the record: what was written is the text of a safe record, but for its comments.
+pub fn remarked_serving_is_safe<D: Documents + Records>(documents: &D)
+    ensures { RemarkedServingIsSafe (D.gives documents.now) (D.holds documents.now) }
 {
     let _documents = documents;
 }

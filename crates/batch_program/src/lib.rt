@@ -15,7 +15,7 @@ mod statuses;
 mod steady_units;
 mod threads;
 
-pub use laws::{plants_are_complete, serving_is_safe};
+pub use laws::{plants_are_complete, remarked_serving_is_safe, serving_is_safe};
 pub use limits::{read_limit_is_fixed, turn_limit_is_fixed};
 pub use noted::Noted;
 pub use plant::report_of_plant;

@@ -9,10 +9,11 @@ use crate::record_status::tell_record;
 use crate::records::Records;
 use crate::statuses::serving_status;
 use batch_commands::{Course, Documents, complain, run_words, tell};
-use batch_serve::{ServeFault, SetFault, serve_set};
+use batch_serve::{NoRemarks, Remarking, ServeFault, SetFault, serve_remarked, serve_set};
 use std::alloc::{AllocError, Global};
 use std::io;
 use std::io::{Read, Write};
+use std::time::Clock;
 use thiserror::Error;
 
 /// How often standard input or a record may be read, interrupted calls among them. No clause counts them; tests do, with other limits.
@@ -32,35 +33,59 @@ struct Stop {
 /// Verdicts, help, the record, what one tells and the lines of a plant go to the output, and all else, in a free text, to the errors. Refused
 /// events are part of the record and don't change the status. Where the input ends while batches are neither complete, stopped
 /// nor aborted, one line on the errors says how many, unless quiet is asked for; where none is, nothing is written there.
-pub fn run_program<D: Documents + Records, P: PlantRunner, R: Read, W: Write, E: Write>(
+///
+/// The clock's time stands in comments of the record, where they are asked for. The output is given back.
+pub fn run_program<
+    D: Documents + Records,
+    P: PlantRunner,
+    K: Clock + Drop,
+    R: Read,
+    W: Write,
+    E: Write,
+>(
     alloc: Global,
     words: &[String],
     documents: &D,
     plants: &P,
+    clock: K,
     input: &mut Noted<R>,
-    output: &mut Noted<W>,
+    mut output: Noted<W>,
     errors: &mut E,
-) -> u8
+) -> (u8, Noted<W>)
     ensures { IsProgramRun (D.gives documents.now) (D.holds documents.now) (map string_bytes words.now)
         (record {
           unread = R.remaining input.old.stream;
           left = R.remaining input.new.stream;
-          before = W.contents output.old.stream;
-          after = W.contents output.new.stream;
+          before = W.contents output.stream;
+          after = W.contents result.1.stream;
         })
-        (record { before = E.contents errors.old; after = E.contents errors.new }) result }
+        (record { before = E.contents errors.old; after = E.contents errors.new }) result.0 }
 {
-    match run_words(alloc, words, documents, output, errors) {
-        Course::Ends(status) => status,
+    match run_words(alloc, words, documents, &mut output, errors) {
+        Course::Ends(status) => (status, output),
         Course::Serves { set, quiet } => {
-            let served = serve_set(alloc, set, input, output, MAX_READS);
-            let reason = reason_of(served, input, output);
-            tell_served(alloc, quiet, served, reason, errors)
+            let served = serve_set(alloc, set, input, &mut output, &mut NoRemarks, MAX_READS);
+            let reason = reason_of(served, input, &output);
+            (tell_served(alloc, quiet, served, reason, errors), output)
         }
-        Course::Reads { path } => tell_record(alloc, path, documents, input, output, errors),
+        Course::Remarks {
+            set,
+            quiet,
+            comments,
+        } => {
+            let remarking = Remarking::new(clock, comments.echo, comments.times);
+            let (served, output) = serve_remarked(alloc, set, input, output, remarking, MAX_READS);
+            let reason = reason_of(served, input, &output);
+            (tell_served(alloc, quiet, served, reason, errors), output)
+        }
+        Course::Reads { path } => {
+            let status = tell_record(alloc, path, documents, input, &mut output, errors);
+            (status, output)
+        }
         Course::Plants { set, options } => {
             let end = plants.run_plant(alloc, set, options);
-            report_of_plant(alloc, options.batches, &end, output, errors)
+            let status = report_of_plant(alloc, options.batches, &end, &mut output, errors);
+            (status, output)
         }
     }
 }

@@ -1,5 +1,5 @@
--- trusted: the command line: `check CELL RECIPE..`, `verify CELL CERT RECIPE..`, `run CELL CERT RECIPE..`, `status RECORD`, `plant`, `explain CODE..`, and no words at all.
-use Rattle.std.specs.Prelude.{◌≡◌, ◌≢◌, ◌⊎◌, [], ℕ, Bool, List, Option, Some, None, map, option_map, codes, true, false, unwrap_or, string_bytes, if◌then◌else◌, ⊤}
+-- trusted: the command line: `check CELL RECIPE..`, `verify CELL CERT RECIPE..`, `run [--echo] [--times] CELL CERT RECIPE..`, `status RECORD`, `plant`, `explain CODE..`, and no words at all.
+use Rattle.std.specs.Prelude.{◌≡◌, ◌≢◌, ◌⊎◌, [], ℕ, Bool, List, Option, Some, None, map, option_map, codes, true, false, ◌||◌, unwrap_or, string_bytes, if◌then◌else◌, ⊤}
 use Rattle.std.specs.Str.{bytes_eq}
 use Rattle.std.specs.Str.Parse.{digits_value, without_leading_plus}
 use Rattle.clap.specs.Lexer.{usize_max}
@@ -12,7 +12,7 @@ use Rattle.clap.specs.declared.builder.value_parser.ValueParser.TheVariants.{Uns
 use Rattle.clap.specs.declared.error.kind.ErrorKind.{ErrorKind}
 use Rattle.clap.specs.declared.error.kind.ErrorKind.TheVariants.{DisplayHelp, DisplayVersion, OutOfMemory}
 use Rattle.batch_words.specs.declared.command.Subcommand.{Subcommand}
-use Rattle.batch_words.specs.declared.command.Subcommand.TheVariants.{Judge, Serve, Status, Plant, Explain}
+use Rattle.batch_words.specs.declared.command.Subcommand.TheVariants.{Judge, Serve, Remark, Status, Plant, Explain}
 use Rattle.batch_words.specs.declared.command.Judgement as judgements
 use Rattle.batch_words.specs.declared.command.Judgement.TheVariants.{Check, Draw, Verify}
 use Rattle.batch_words.specs.declared.command.Source as sources
@@ -54,10 +54,13 @@ abbrev pub check_app : App
 check_app = with_rule (with_rule (with_rule (with_rule (new_app (codes "check"))
     (word_rule (codes "CELL"))) (several_rule (codes "RECIPE"))) (flag_rule (codes "dot"))) (flag_rule (codes "quiet"))
 
--- `verify` and `run`, by the name
+-- `verify`, and `run` without its options, by the name
 abbrev pub certified_app : Text → App
 certified_app name = with_rule (with_rule (with_rule (with_rule (new_app name)
     (word_rule (codes "CELL"))) (word_rule (codes "CERT"))) (several_rule (codes "RECIPE"))) (flag_rule (codes "quiet"))
+
+abbrev pub run_app : App
+run_app = with_rule (with_rule (certified_app (codes "run")) (flag_rule (codes "echo"))) (flag_rule (codes "times"))
 
 abbrev pub status_app : App
 status_app = with_rule (new_app (codes "status")) (optional_rule (codes "RECORD"))
@@ -76,7 +79,7 @@ bare_app = on_top (λ s. record s { has_version = true; no_binary_name = true })
 abbrev pub program_app : App
 program_app =
     with_subcommand (with_subcommand (with_subcommand (with_subcommand (with_subcommand (with_subcommand bare_app
-    check_app.top) (certified_app (codes "verify")).top) (certified_app (codes "run")).top) status_app.top) plant_app.top) explain_app.top
+    check_app.top) (certified_app (codes "verify")).top) run_app.top) status_app.top) plant_app.top) explain_app.top
 
 -- the word that was given for an argument
 abbrev pub word_of : Text → List Row → Text
@@ -124,6 +127,8 @@ pub data Source : Type 0 where
 pub data Request : Type 0 where
   judge : Judgement → Request
   serve : Source → Request
+  -- to serve it with comments in the record: the lines, or times, or both
+  remark : (source : Source) (echo times : Bool) → Request
   -- to tell what the record at this path says, or the one on standard input
   tell : (path : Option Text) → Request
   -- to run the demo's plant for so many batches, with phases of so many ticks and rings of so many places
@@ -137,12 +142,19 @@ checked_by rows =
     if is_given (codes "dot") rows then judge (draw (word_of (codes "CELL") rows) (words_of (codes "RECIPE") rows))
     else judge (check (word_of (codes "CELL") rows) (words_of (codes "RECIPE") rows))
 
+-- with comments in the record where a flag asks for some
+abbrev pub run_by : Source → List Row → Request
+run_by source rows =
+    if is_given (codes "echo") rows || is_given (codes "times") rows
+    then remark source (is_given (codes "echo") rows) (is_given (codes "times") rows)
+    else serve source
+
 -- what the words behind `verify` or `run` ask for
 abbrev pub certified_by : Text → List Row → Request
 certified_by name rows =
     if bytes_eq name (codes "verify")
     then judge (verify (word_of (codes "CELL") rows) (word_of (codes "CERT") rows) (words_of (codes "RECIPE") rows))
-    else serve (documents (word_of (codes "CELL") rows) (word_of (codes "CERT") rows) (words_of (codes "RECIPE") rows))
+    else run_by (documents (word_of (codes "CELL") rows) (word_of (codes "CERT") rows) (words_of (codes "RECIPE") rows)) rows
 
 -- what is asked for by the word that was entered and the words behind it; `program_app` enters no other word, and at `help` clap answers
 abbrev pub named_by : Text → List Row → Request
@@ -174,6 +186,7 @@ source_of (Documents cell certificate recipes) = documents (string_bytes cell) (
 abbrev pub request_of : Subcommand → Request
 request_of (Judge judgement) = judge (judgement_of judgement)
 request_of (Serve source) = serve (source_of source)
+request_of (Remark source comments) = remark (source_of source) comments.echo comments.times
 request_of (Status path) = tell (option_map string_bytes path)
 request_of (Plant options) = plant options.batches options.ticks options.ring
 request_of (Explain texts) = explain (map string_bytes texts.items)

@@ -2,6 +2,7 @@
 ghost use Rattle.std.specs.Prelude.{◌≡◌};
 ghost use Rattle.batch_words.specs.declared.command.CommandFault.TheVariants.{Memory};
 
+use crate::comments::Comments;
 use crate::plant_options::PlantOptions;
 use std::alloc::{AllocError, AllocFailed};
 use thiserror::Error;
@@ -21,6 +22,8 @@ pub enum Subcommand {
     Judge(Judgement),
     /// To serve event lines from standard input over a set.
     Serve(Source),
+    /// To serve them with comments in the record.
+    Remark { source: Source, comments: Comments },
     /// To tell what a record says: the one at this path, or the one on standard input.
     Status { path: Option<String> },
     /// To run the demo's plant: its hub in the thread that calls, its console and its link to the units in threads of their own.

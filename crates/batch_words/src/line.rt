@@ -3,7 +3,7 @@ ghost use Rattle.std.specs.Prelude.{◌≡◌, IfOk, IsOkAnd, codes, false};
 ghost use Rattle.clap.specs.Words.{app_of, rule_of};
 ghost use Rattle.clap.specs.Words.{AddsSubcommand};
 ghost use Rattle.clap.specs.declared.builder.command.Command.TheViews.{out-Command};
-ghost use Rattle.batch_words.specs.CommandLine.{bare_app, certified_app, check_app, explain_app, flag_rule, number_rule, optional_rule, plant_app, program_app, several_rule, status_app, word_rule};
+ghost use Rattle.batch_words.specs.CommandLine.{bare_app, certified_app, check_app, explain_app, flag_rule, number_rule, optional_rule, plant_app, program_app, run_app, several_rule, status_app, word_rule};
 
 use clap::builder::ValueParser;
 use clap::{Arg, ArgAction, Command};
@@ -51,6 +51,9 @@ An example, in examples/paint_plant; type the lines below it:
   create PRIMER 1000
   start 1
   report MIXER1 CHARGE done
+
+The same with each line and its time as comments in the record:
+  batchd run --echo --times cell.toml certificate.txt primer.toml rinse-mended.toml
 ";
 
 const STATUS_HELP: &str = "\
@@ -128,11 +131,21 @@ fn verify<'a>(alloc: Global) -> Result<Command<'a>, AllocError>
 }
 
 fn run<'a>(alloc: Global) -> Result<Command<'a>, AllocError>
-    ensures { IfOk result (λ run. (app_of run ≡ certified_app (codes "run")) × ((out-Command run).has_globals ≡ false)) }
+    ensures { IfOk result (λ run. (app_of run ≡ run_app) × ((out-Command run).has_globals ≡ false)) }
 {
     let about =
         "Serves event lines from standard input over the recipes that the certificate clears";
-    certified(alloc, "run", about, RUN_HELP)
+    certified(alloc, "run", about, RUN_HELP)?
+        .arg(flag(
+            alloc,
+            "echo",
+            "Writes each line as a comment, `# > LINE`, before its answer",
+        ))?
+        .arg(flag(
+            alloc,
+            "times",
+            "Writes `# at MILLISECONDS` before the answers to what one read brought",
+        ))
 }
 
 /// A command over a cell, a certificate and recipes.

@@ -2,9 +2,10 @@
 ghost use Rattle.std.specs.Prelude.{◌≡◌, ◌≤◌, ◌⊎◌, IfOk, IfErr, MatchOption, Some, map, option_map, string_bytes, codes, []};
 ghost use Rattle.std.specs.Str.Parse.{digits_value, without_leading_plus};
 ghost use Rattle.clap.specs.Words.{FailsBy, IsUnsignedIn, fault_of, first_of, found_of, kind_of, rows_of, subcommand_of, subcommand_rows_of};
-ghost use Rattle.batch_words.specs.CommandLine.{AreWordsOf, HasOptionsOf, IsFaultOf, IsFaultOfKind, certified_by, checked_by, is_given, named_by, number_given, program_app, request_of, word_of, words_of};
+ghost use Rattle.batch_words.specs.CommandLine.{AreWordsOf, HasOptionsOf, IsFaultOf, IsFaultOfKind, certified_by, checked_by, is_given, named_by, number_given, program_app, request_of, run_by, source_of, word_of, words_of};
 
 use crate::command::{CommandFault, CommandWords, Judgement, Source, Subcommand};
+use crate::comments::Comments;
 use crate::line::program;
 use crate::plant_options::PlantOptions;
 use clap::error::ErrorKind;
@@ -92,19 +93,34 @@ fn certified_command(
     let cell = word(alloc, words, "CELL")?;
     let certificate = word(alloc, words, "CERT")?;
     let recipes = several(alloc, words, "RECIPE")?;
-    Ok(if name == "verify" {
-        Subcommand::Judge(Judgement::Verify {
+    if name == "verify" {
+        return Ok(Subcommand::Judge(Judgement::Verify {
             cell,
             certificate,
             recipes,
-        })
+        }));
+    }
+    let source = Source::Documents {
+        cell,
+        certificate,
+        recipes,
+    };
+    Ok(run_command(words, source))
+}
+
+/// `run`, with comments in the record or without them.
+fn run_command(words: &ArgMatches<'_>, source: Source) -> Subcommand
+    ensures { request_of result ≡ run_by (source_of source) (rows_of (found_of words.now)) }
+{
+    let comments = Comments {
+        echo: flag(words, "echo"),
+        times: flag(words, "times"),
+    };
+    if comments.echo || comments.times {
+        Subcommand::Remark { source, comments }
     } else {
-        Subcommand::Serve(Source::Documents {
-            cell,
-            certificate,
-            recipes,
-        })
-    })
+        Subcommand::Serve(source)
+    }
 }
 
 fn plant_options(words: &ArgMatches<'_>) -> PlantOptions

@@ -1,7 +1,7 @@
 use Rattle.std.proofs.Common.{map, refl, string_bytes}
 use Rattle.std.proofs.KnownBytes.{Keeps-refl}
 use Rattle.batch_words.specs.CommandLine.{judgement_of, source_of}
-use Rattle.batch_commands.specs.Running.{explains, halts, judges, plants, reads, serves}
+use Rattle.batch_commands.specs.Running.{explains, halts, judges, plants, reads, remarks, serves}
 use Rattle.batch_commands.proofs.running.run_command.Goals as goal
 
 pub returns-in-Ok : goal.returns-in-Ok
@@ -22,6 +22,17 @@ pub returns-in-Serve : goal.returns-in-Serve
 returns-in-Serve g c =
     rw c.in-Serve.is
     (halts c.in-Err-clear_source.halt _ (rw c.in-Serve.source-is at c.in-Err-clear_source.ensures.halted) c.announce-in-Err-clear_source.ensures)
+
+pub returns-in-Ok-clear_source-2 : goal.returns-in-Ok-clear_source-2
+returns-in-Ok-clear_source-2 g c =
+    rw c.in-Remark.is
+    (remarks (source_of c.in-Remark.source) c.in-Ok-clear_source-2.set c.in-Remark.comments refl (rw c.in-Remark.source-is at c.in-Ok-clear_source-2.ensures.set)
+    (Keeps-refl _) (Keeps-refl _))
+
+pub returns-in-Remark : goal.returns-in-Remark
+returns-in-Remark g c =
+    rw c.in-Remark.is
+    (halts c.in-Err-clear_source-2.halt _ (rw c.in-Remark.source-is at c.in-Err-clear_source-2.ensures.halted) c.announce-in-Err-clear_source-2.ensures)
 
 pub returns-in-Status : goal.returns-in-Status
 returns-in-Status g c = rw c.in-Status.is (reads c.in-Status.path refl (Keeps-refl _) (Keeps-refl _))

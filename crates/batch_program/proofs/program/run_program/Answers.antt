@@ -1,8 +1,9 @@
 use Rattle.std.proofs.Common.{map, option_map, string_bytes}
 use Rattle.std.proofs.KnownBytes.{Keeps-refl}
-use Rattle.batch_program.specs.Programs.{tells, serves, reads, plants}
+use Rattle.batch_program.specs.Programs.{tells, serves, remarks, reads, plants}
 use Rattle.batch_program.specs.declared.program.TheConstants.{MAX_READS}
 use Rattle.batch_program.proofs.Plants.{has_run}
+use Rattle.batch_program.proofs.RemarkedServed.{remarked_kept, set_to_remark}
 use Rattle.batch_program.proofs.Served.{left_kept, plant_to_run, record_kept, record_to_read, served_kept, set_to_serve, told_kept}
 use Rattle.batch_program.proofs.program.run_program.Goals as goal
 
@@ -21,12 +22,23 @@ returns-in-Serves g c =
     (serves is.source set served.result is.asked is.is_set (served_kept set MAX_READS served.result _ _ _ _ _ is.unwritten served.ensures)
     (rw is.hushed at told))
 
+pub returns-in-Remarks : goal.returns-in-Remarks
+returns-in-Remarks g c =
+    let course = c.in-Remarks in
+    let served = c.serve_remarked-served in
+    let (request, asked, is, hushed) = set_to_remark (g.D.Documents.gives c.args.documents.now) (map string_bytes c.args.words.now) _ _ _ course.set course.quiet course.comments c.run_words.ensures course.is in
+    let told = left_kept course.quiet _ _ _ served.result.0 is.silent c.tell_served-in-Remarks.ensures.told in
+    rw c.tell_served-in-Remarks.ensures.status
+    (remarks is.source course.comments.echo course.comments.times course.set served.result.0 (rw (← is.asked) asked) is.is_set
+    (remarked_kept course.set MAX_READS served.result.0 _ _ _ _ _ is.unwritten served.ensures)
+    (rw hushed at told))
+
 pub returns-in-Reads : goal.returns-in-Reads
 returns-in-Reads g c =
     let path = c.in-Reads.path in
     let (asked, kept, silent) = record_to_read (g.D.Documents.gives c.args.documents.now) (map string_bytes c.args.words.now) _ _ _ path c.run_words.ensures c.in-Reads.is in
-    reads (option_map string_bytes path) c.tell_record.result asked
-    (record_kept (g.D.Records.holds c.args.documents.now) (option_map string_bytes path) _ _ _ _ _ _ _ _ _ kept silent c.tell_record.ensures)
+    reads (option_map string_bytes path) c.tell_record-status.result asked
+    (record_kept (g.D.Records.holds c.args.documents.now) (option_map string_bytes path) _ _ _ _ _ _ _ _ _ kept silent c.tell_record-status.ensures)
 
 pub returns-in-Plants : goal.returns-in-Plants
 returns-in-Plants g c =
@@ -35,5 +47,5 @@ returns-in-Plants g c =
     let (asked, cleared, kept, silent) =
     plant_to_run (g.D.Documents.gives c.args.documents.now) (map string_bytes c.args.words.now) _ _ _ course.set course.options
     c.run_words.ensures course.is in
-    plants course.set course.options end.result c.report_of_plant.result asked cleared (has_run course.set course.options end.result end.ensures)
-    (told_kept _ _ _ _ _ _ course.options.batches end.result _ kept silent c.report_of_plant.ensures) (Keeps-refl _)
+    plants course.set course.options end.result c.report_of_plant-status.result asked cleared (has_run course.set course.options end.result end.ensures)
+    (told_kept _ _ _ _ _ _ course.options.batches end.result _ kept silent c.report_of_plant-status.ensures) (Keeps-refl _)

@@ -1,6 +1,6 @@
 use Rattle.std.proofs.Common.{codes}
 use Rattle.std.proofs.lemmas.Result.{IfOk-weaker}
-use Rattle.batch_words.specs.CommandLine.{certified_app, check_app, explain_app, plant_app, status_app}
+use Rattle.batch_words.specs.CommandLine.{certified_app, check_app, explain_app, plant_app, run_app, status_app}
 use Rattle.batch_words.proofs.Arguments.{with_command}
 use Rattle.batch_words.proofs.line.program.Goals as goal
 
@@ -13,7 +13,7 @@ returns c =
     with_command c.in_ok-checking.checking c.in_ok-verifying.verifying (certified_app (codes "verify")) c.verify.result
     c.in_ok-verifying.ensures c.verify.ensures checking in
     let running =
-    with_command c.in_ok-verifying.verifying c.in_ok-running.running (certified_app (codes "run")) c.run.result
+    with_command c.in_ok-verifying.verifying c.in_ok-running.running run_app c.run.result
     c.in_ok-running.ensures c.run.ensures verifying in
     let telling =
     with_command c.in_ok-running.running c.in_ok-telling.telling status_app c.status.result c.in_ok-telling.ensures c.status.ensures running in
