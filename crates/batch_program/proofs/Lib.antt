@@ -1,4 +1,5 @@
 pub mod Served
+pub mod RemarkedServed
 pub mod Plants
 pub mod RecordsAudited
 pub mod RecordsTold

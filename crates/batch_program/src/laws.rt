@@ -1,5 +1,5 @@
 //! Laws over runs of the program.
-ghost use Rattle.batch_program.specs.Programs.{AuditsAreTrue, PlantsAreComplete, ServingIsSafe};
+ghost use Rattle.batch_program.specs.Programs.{AuditsAreTrue, PlantsAreComplete, RemarkedServingIsSafe, ServingIsSafe};
 
 use crate::journals::Journals;
 use crate::records::Records;
@@ -27,6 +27,23 @@ pub fn serving_is_safe<D: Documents + Records + Journals>(documents: &D)
 /// begins it where that is accepted, over the set of the documents, cleared by their certificate.
 pub fn audits_are_true<D: Documents + Records + Journals>(documents: &D)
     ensures { AuditsAreTrue (D.gives documents.now) (D.holds documents.now)
+        (record {
+          File = D.File;
+          opens = D.opens documents.now;
+          is_disk = D.File.is_disk;
+          durable = D.File.durable;
+          seen = D.File.seen;
+          given = D.File.given;
+          moment = D.File.moment;
+          left_since = D.File.left_since;
+        }) }
+{
+    let _documents = documents;
+}
+
+/// The same of a run with comments in the record: what was written is the text of a safe record, but for its comments.
+pub fn remarked_serving_is_safe<D: Documents + Records + Journals>(documents: &D)
+    ensures { RemarkedServingIsSafe (D.gives documents.now) (D.holds documents.now)
         (record {
           File = D.File;
           opens = D.opens documents.now;
