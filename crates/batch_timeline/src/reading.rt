@@ -1,11 +1,16 @@
 //! Reading a record, line by line.
+ghost use Rattle.std.specs.Prelude.{◌≡◌, ℕ, IfErr, IfOk, MatchOption};
+ghost use Rattle.batch_status.specs.Reading.{HasNoFeed, IsRefusedAt};
+ghost use Rattle.batch_timeline.specs.Recorded.{IsRecord};
+ghost use Rattle.batch_timeline.specs.Taking.{EndsLine, TakesLine, TakesLines};
+ghost use Rattle.batch_timeline.specs.declared.reading.RecordFault.TheVariants as faults;
 use crate::drawing::draw;
 use crate::picture::Picture;
 use crate::remark::{Remark, read_remark};
 use crate::timeline::Timeline;
 use batch_record::{NoRecordLine, read_record_line};
 use memchr::memchr;
-use std::alloc::{AllocError, AllocFailed, Global};
+use std::alloc::{AllocError, Global};
 use thiserror::Error;
 
 /// Why a record wasn't drawn.
@@ -20,6 +25,8 @@ pub enum RecordFault {
 }
 
 impl From<AllocError> for RecordFault {
+    ghost from_gives = { λ _ fault. fault ≡ faults.Memory };
+
     fn from(_error: AllocError) -> RecordFault {
         RecordFault::Memory
     }
@@ -30,7 +37,10 @@ impl From<AllocError> for RecordFault {
 /// `# at MILLISECONDS`, and where it has none the number of the line.
 ///
 /// A last line without its line feed is left out. What a recovery block lists stands from its end on, and nothing else does.
-pub fn draw_record(alloc: Global, record: &[u8]) -> Result<Picture, RecordFault> {
+pub fn draw_record(alloc: Global, record: &[u8]) -> Result<Picture, RecordFault>
+    ensures drawn { IfOk result (λ _. IsRecord record.now) }
+    ensures refused { IfErr result (λ fault. (number : ℕ) → fault ≡ faults.NoRecord number → IsRefusedAt record.now number) }
+{
     let mut timeline = Timeline::new(alloc, first_time(record));
     take_lines(alloc, &mut timeline, record)?;
     Ok(draw(alloc, &timeline)?)
@@ -49,7 +59,9 @@ fn first_time(record: &[u8]) -> Option<u64> {
 }
 
 /// Takes each line that is whole.
-fn take_lines(alloc: Global, timeline: &mut Timeline, record: &[u8]) -> Result<(), RecordFault> {
+fn take_lines(alloc: Global, timeline: &mut Timeline, record: &[u8]) -> Result<(), RecordFault>
+    ensures { TakesLines record.now result }
+{
     let mut rest = record;
     let mut number: u64 = 0;
     while let Some(at) = line_feed(rest) {
@@ -67,7 +79,9 @@ fn take_line(
     timeline: &mut Timeline,
     line: &[u8],
     number: u64,
-) -> Result<(), RecordFault> {
+) -> Result<(), RecordFault>
+    ensures { TakesLine line.now number result }
+{
     match read_record_line(line) {
         Ok(Some(told)) => Ok(timeline.tell(alloc, told)?),
         Ok(None) => match read_remark(line) {
@@ -79,6 +93,8 @@ fn take_line(
 }
 
 /// Where the first line feed stands.
-fn line_feed(bytes: &[u8]) -> Option<usize> {
+fn line_feed(bytes: &[u8]) -> Option<usize>
+    ensures { MatchOption result (HasNoFeed bytes.now) (λ at. EndsLine at bytes.now) }
+{
     memchr(b'\n', bytes)
 }
