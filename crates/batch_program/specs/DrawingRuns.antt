@@ -8,13 +8,13 @@ use Rattle.batch_program.specs.RecordRuns.{Holds, IsUntold, no_record_text, outp
 use Rattle.batch_serve.specs.Serves as serving
 use Rattle.batch_status.specs.Reading.{IsRefusedAt}
 use Rattle.batch_timeline.specs.Pictures.{picture_text}
-use Rattle.batch_timeline.specs.Recorded.{IsPictureOf}
+use Rattle.batch_timeline.specs.Recorded.{IsRecord}
 use Rattle.batch_timeline.specs.declared.picture.Picture.{Picture}
 
--- what comes of what a reader gives: the text of its picture is printed, or which line is the first that is none of a record; a record
+-- what comes of what a reader gives: where it is a record the text of a picture is printed, and else which line is the first that is none of a record; a record
 -- that can't be opened or read, and want of memory leave the output as it was, and are told on the errors in a free text
 pub data IsDrawn (unread : Option (List ℕ)) (output errors : Stream) (status : ℕ) : Type 0 where
-  pictures : (picture : Picture) → IfSome unread (λ input. IsPictureOf input picture)
+  pictures : (picture : Picture) → IfSome unread IsRecord
       → IsPrinted output errors (picture_text picture) success_status status → IsDrawn unread output errors status
   declines : (number : ℕ) → IfSome unread (λ input. IsRefusedAt input number)
       → IsPrinted output errors (no_record_text number) refused_status status → IsDrawn unread output errors status

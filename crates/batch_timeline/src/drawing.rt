@@ -20,9 +20,12 @@ const LEGEND_BASE: u64 = 36;
 /// Below the last row, and behind the axis.
 const FOOT: u64 = 48;
 const MARGIN: u64 = 40;
-/// How wide a letter of a name and a digit in a bar are, at most.
+/// From the left edge to what the axis counts, and from a name to where the axis begins.
+const BESIDE: u64 = 8;
+/// How wide a letter of a name and a digit in a bar are, at most, and for how many letters there is always room.
 const LETTER: u64 = 9;
 const DIGIT: u64 = 8;
+const LEAST_LETTERS: u64 = 6;
 
 const LEGEND: &str =
     "A bar: a batch, with its number, holds the resource. Hatched: it waits for it.";
@@ -56,7 +59,7 @@ struct Sheet {
 /// The picture of what the record tells: units first, each with its lanes.
 pub fn draw(alloc: Global, timeline: &Timeline) -> Result<Picture, AllocError> {
     let axis = Axis::of(timeline);
-    let layout = layout(alloc, timeline, axis)?;
+    let layout = laid_out(alloc, timeline, axis)?;
     let left = left_of(&timeline.resources);
     let (tops, end) = row_tops(alloc, timeline, &layout.rows)?;
     let sheet = Sheet { axis, left, end };
@@ -76,7 +79,7 @@ pub fn draw(alloc: Global, timeline: &Timeline) -> Result<Picture, AllocError> {
     })
 }
 
-fn layout(alloc: Global, timeline: &Timeline, axis: Axis) -> Result<Layout, AllocError> {
+fn laid_out(alloc: Global, timeline: &Timeline, axis: Axis) -> Result<Layout, AllocError> {
     let mut rows = Vec::new(alloc);
     for _ in &timeline.resources {
         rows.push(Lanes {
@@ -120,7 +123,7 @@ fn spot_of(
 
 /// Behind the longest name.
 fn left_of(resources: &[Resource]) -> u64 {
-    let mut longest: u64 = 4;
+    let mut longest: u64 = LEAST_LETTERS;
     for resource in resources {
         longest = longest.max(resource.name.text().len() as u64);
     }
@@ -167,9 +170,8 @@ fn put_axis(alloc: Global, shapes: &mut Vec<Shape>, sheet: Sheet) -> Result<(), 
         put_grid(shapes, left, TOP, left, sheet.end)?;
         put_label(shapes, left, base, Anchor::Middle, text)?;
     }
-    let beside = sheet.left.saturating_sub(GAP);
     let unit = String::from_str(alloc, sheet.axis.unit())?;
-    put_label(shapes, beside, base, Anchor::End, unit)?;
+    put_label(shapes, BESIDE, base, Anchor::Start, unit)?;
     let below = sheet.end.saturating_add(LEGEND_BASE);
     let legend = String::from_str(alloc, LEGEND)?;
     put_label(shapes, sheet.left, below, Anchor::Start, legend)
@@ -183,7 +185,7 @@ fn put_names(
     resources: &[Resource],
     tops: &[u64],
 ) -> Result<(), AllocError> {
-    let beside = sheet.left.saturating_sub(GAP);
+    let beside = sheet.left.saturating_sub(BESIDE);
     let right = sheet.left.saturating_add(LENGTH);
     for (resource, top) in resources.iter().zip(tops.iter()) {
         let line = top.saturating_sub(GAP / 2);
