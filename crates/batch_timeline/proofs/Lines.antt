@@ -105,7 +105,6 @@ all-taken text rest number h none = record {
 
 -- What a line brings
 
-
 pub passed-on : (line : List ℕ) → is_passed_over line ≡ true → (stage : Stage) → (next : Stage) × (stage_after stage line ≡ Some next)
 passed-on line is stage = (marked stage (mark_of line), rw is refl)
 

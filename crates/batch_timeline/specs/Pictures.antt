@@ -35,7 +35,7 @@ colour_text 2 = codes "#ffd166"
 colour_text 3 = codes "#b7e4c7"
 colour_text 4 = codes "#f4a6a6"
 colour_text 5 = codes "#cdb4db"
-colour_text 6 = codes "#f9c784"
+colour_text 6 = codes "#e9a06a"
 colour_text _ = codes "#c8c8c8"
 
 -- a bar of a batch, white stripes over it where the batch waits

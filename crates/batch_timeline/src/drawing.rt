@@ -12,19 +12,25 @@ use std::alloc::{AllocError, Global};
 const TOP: u64 = 10;
 /// From one lane to the next, and from one row to the next besides.
 const LANE: u64 = 20;
+
 const GAP: u64 = 8;
 /// From a row's top to the line that its text stands on, and from the last row's end to that of the axis and that of the legend.
 const BASE: u64 = 13;
+
 const AXIS_BASE: u64 = 14;
+
 const LEGEND_BASE: u64 = 36;
 /// Below the last row, and behind the axis.
 const FOOT: u64 = 48;
+
 const MARGIN: u64 = 40;
 /// From the left edge to what the axis counts, and from a name to where the axis begins.
 const BESIDE: u64 = 8;
 /// How wide a letter of a name and a digit in a bar are, at most, and for how many letters there is always room.
 const LETTER: u64 = 9;
+
 const DIGIT: u64 = 8;
+
 const LEAST_LETTERS: u64 = 6;
 
 const LEGEND: &str =
@@ -239,7 +245,13 @@ fn put_number(
         return Ok(());
     }
     let middle = left.saturating_add(width / 2);
-    put_label(shapes, middle, top.saturating_add(BASE), Anchor::Middle, text)
+    put_label(
+        shapes,
+        middle,
+        top.saturating_add(BASE),
+        Anchor::Middle,
+        text,
+    )
 }
 
 fn put_grid(

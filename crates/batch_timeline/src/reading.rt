@@ -4,6 +4,7 @@ ghost use Rattle.batch_status.specs.Reading.{HasNoFeed, IsRefusedAt};
 ghost use Rattle.batch_timeline.specs.Recorded.{IsRecord};
 ghost use Rattle.batch_timeline.specs.Taking.{EndsLine, TakesLine, TakesLines};
 ghost use Rattle.batch_timeline.specs.declared.reading.RecordFault.TheVariants as faults;
+
 use crate::drawing::draw;
 use crate::picture::Picture;
 use crate::remark::{Remark, read_remark};

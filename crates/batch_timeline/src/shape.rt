@@ -123,7 +123,7 @@ fn colour(hue: u64) -> &'static str
         3 => "#b7e4c7",
         4 => "#f4a6a6",
         5 => "#cdb4db",
-        6 => "#f9c784",
+        6 => "#e9a06a",
         _ => "#c8c8c8",
     }
 }

@@ -221,7 +221,9 @@ fn draw<'a>(alloc: Global) -> Result<Command<'a>, AllocError>
     ensures { IfOk result (λ draw. (app_of draw ≡ draw_app) × ((out-Command draw).has_globals ≡ false)) }
 {
     Command::new(alloc, "draw")
-        .about("Draws what a record tells, as SVG: who held which resource when, and who waited for it")
+        .about(
+            "Draws what a record tells, as SVG: who held which resource when, and who waited for it",
+        )
         .after_help(DRAW_HELP)
         .arg(optional(
             alloc,
