@@ -1,3 +1,4 @@
+pub mod Kept
 pub mod Served
 pub mod Plants
 pub mod RecordsAudited

@@ -1,6 +1,7 @@
 pub mod AuditRuns
 pub mod JournalRuns
 pub mod Keeping
+pub mod FileWriting
 pub mod PlantRuns
 pub mod PlantWork
 pub mod Programs

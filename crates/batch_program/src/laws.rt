@@ -1,5 +1,5 @@
 //! Laws over runs of the program.
-ghost use Rattle.batch_program.specs.Programs.{AuditsAreTrue, PlantsAreComplete, ServingIsSafe};
+ghost use Rattle.batch_program.specs.Programs.{AuditsAreTrue, CertificatesAreKept, PlantsAreComplete, ServingIsSafe};
 
 use crate::journals::Journals;
 use crate::records::Records;
@@ -37,6 +37,14 @@ pub fn audits_are_true<D: Documents + Records + Journals>(documents: &D)
           moment = D.File.moment;
           left_since = D.File.left_since;
         }) }
+{
+    let _documents = documents;
+}
+
+/// What the exit status 0 of a run of `check --write` tells: the file holds the text of a verdict that accepts the documents, where
+/// it is known what it holds, and nothing was written to standard output.
+pub fn certificates_are_kept<D: Documents + Records>(documents: &D)
+    ensures { CertificatesAreKept (D.gives documents.now) (D.holds documents.now) }
 {
     let _documents = documents;
 }

@@ -19,6 +19,8 @@ pub struct CommandWords {
 pub enum Subcommand {
     /// To judge documents.
     Judge(Judgement),
+    /// To write into the file at this path what is printed of a judgement that accepts.
+    Write { path: String, judgement: Judgement },
     /// To serve event lines from standard input over a set.
     Serve(Source),
     /// To serve them over the set of the documents at these paths, with a journal of them in the file at the first one.
