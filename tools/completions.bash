@@ -9,7 +9,7 @@ _batchd() {
         check) options="--dot --write --quiet --help" ;;
         verify | show) options="--quiet --help" ;;
         audit) options="--beginning --quiet --help" ;;
-        run) options="--journal --quiet --help" ;;
+        run) options="--journal --echo --times --quiet --help" ;;
         plant) options="--batches --ticks --ring --help" ;;
         help) options="check verify show run status audit plant explain" ;;
         explain) options="--help $("${COMP_WORDS[0]}" explain 2>/dev/null | cut -d : -f 1)" ;;

@@ -5,7 +5,7 @@ ghost use Rattle.batch_audit.specs.Audits.{Finds};
 
 use crate::comparing::compare;
 use crate::finding::{AuditFault, Finding};
-use batch_serve::{serve_set, shows_want};
+use batch_serve::{NoRemarks, serve_set, shows_want};
 use batch_verify::Cleared;
 use std::alloc::Global;
 use std::io::Read;
@@ -22,7 +22,7 @@ pub fn audit<R: Read>(
     ensures { IfOk result (λ finding. IfSome (R.remaining sent.old) (λ input. Finds cleared (lines_of input) text.now finding)) }
 {
     let mut due = Vec::new(alloc);
-    serve_set(alloc, cleared, sent, &mut due, max_reads)?;
+    serve_set(alloc, cleared, sent, &mut due, &mut NoRemarks, max_reads)?;
     if shows_want(&due) {
         return Err(AuditFault::Memory);
     }

@@ -4,13 +4,12 @@ use Rattle.std.specs.Io.KnownBytes.{Appends}
 use Rattle.clap.specs.Kinds.{IsAmong}
 use Rattle.clap.specs.Walk.{Text}
 use Rattle.clap.specs.declared.error.kind.ErrorKind.{ErrorKind}
-use Rattle.clap.specs.Words.{fault_of}
-use Rattle.batch_words.specs.CommandLine.{Request, Source, demo, keep, program_app, serve}
+use Rattle.batch_words.specs.CommandLine.{Request, Source, demo, faults_of, keep, serve}
 use Rattle.batch_verify.specs.ClearedSet.{ClearedSet}
 use Rattle.batch_commands.specs.Judging.{status_of}
 use Rattle.batch_commands.specs.Reading.{Gives}
 use Rattle.batch_commands.specs.Requests.{Halts, HaltsDemo, IsDemoSet, IsSetOf}
-use Rattle.batch_commands.specs.Running.{AskFor, IsAnnounced, IsDone, IsExplained, IsPrinted, IsRun, IsUnwritten, Stream, ask_quiet, memory_status, success_status, commands, serves, reads, audits, plants, halts, judges, explains, helps, misuses, starves, keeps, writes}
+use Rattle.batch_commands.specs.Running.{AskFor, IsAnnounced, IsDone, IsExplained, IsPrinted, IsRun, IsUnwritten, Stream, ask_quiet, memory_status, success_status, commands, serves, reads, audits, plants, halts, judges, explains, helps, misuses, starves, keeps, writes, remarks}
 use Rattle.batch_commands.specs.Saying.{IsWarned}
 use Rattle.batch_commands.specs.Statuses.{AreCodesTold, IsSuccess, NoCommandServes, ServesClearedSets, SuccessIsTold}
 use Rattle.batch_commands.proofs.Warned.{verdict_more, warned_kept}
@@ -26,7 +25,7 @@ use Rattle.batch_commands.specs.declared.refusal.RefusalKind.{RefusalKind}
 use Rattle.batch_commands.specs.declared.refusal.RefusalKind.TheVariants.{Fault, OutOfMemory}
 
 -- words that ask for something have no fault
-no_fault : (words : List Text) (request : Request) (kind : ErrorKind) → AskFor words request → IsAmong kind (fault_of program_app words) → ⊥
+no_fault : (words : List Text) (request : Request) (kind : ErrorKind) → AskFor words request → IsAmong kind (faults_of words) → ⊥
 no_fault words request kind asked among = rw asked.0 at among
 
 -- words ask for one thing
@@ -73,6 +72,7 @@ done_success gives request quiet output errors _ (halts h status warned _ told) 
 done_success gives request quiet output errors _ (serves _ _ _ _ _ _) is = absurd cc
 done_success gives request quiet output errors _ (keeps _ _ _ _ _ _ _ _ _) is = absurd cc
 done_success gives request quiet output errors _ (writes _ _ _ _ _ _) is = absurd cc
+done_success gives request quiet output errors _ (remarks _ _ _ _ _ _ _) is = absurd cc
 done_success gives request quiet output errors _ (reads _ _ _ _) is = absurd cc
 done_success gives request quiet output errors _ (audits _ _ _ _ _ _) is = absurd cc
 done_success gives request quiet output errors _ (plants _ _ _ _ _ _) is = absurd cc
@@ -107,6 +107,7 @@ done_serving gives request quiet output errors set hushed _ (writes _ _ _ _ _ _)
 done_serving gives request quiet output errors set hushed _ (explains _ _ _ _) is = absurd cc
 done_serving gives request quiet output errors set hushed _ (halts _ _ _ _ _) is = absurd cc
 done_serving gives request quiet output errors set hushed _ (keeps _ _ _ _ _ _ _ _ _) is = absurd cc
+done_serving gives request quiet output errors set hushed _ (remarks _ _ _ _ _ _ _) is = absurd cc
 done_serving gives request quiet output errors set hushed _ (reads _ _ _ _) is = absurd cc
 done_serving gives request quiet output errors set hushed _ (audits _ _ _ _ _ _) is = absurd cc
 done_serving gives request quiet output errors set hushed _ (plants _ _ _ _ _ _) is = absurd cc
@@ -139,12 +140,14 @@ done_keeping gives request quiet output errors digested hushed journal _ (keeps 
       cc,
     )
 done_keeping gives request quiet output errors digested hushed journal _ (serves _ _ _ _ _ _) is = absurd cc
+done_keeping gives request quiet output errors digested hushed journal _ (remarks _ _ _ _ _ _ _) is = absurd cc
 done_keeping gives request quiet output errors digested hushed journal _ (judges _ _ _ _ _ _ _) is = absurd cc
 done_keeping gives request quiet output errors digested hushed journal _ (explains _ _ _ _) is = absurd cc
 done_keeping gives request quiet output errors digested hushed journal _ (halts _ _ _ _ _) is = absurd cc
 done_keeping gives request quiet output errors digested hushed journal _ (reads _ _ _ _) is = absurd cc
 done_keeping gives request quiet output errors digested hushed journal _ (audits _ _ _ _ _ _) is = absurd cc
 done_keeping gives request quiet output errors digested hushed journal _ (plants _ _ _ _ _ _) is = absurd cc
+done_keeping gives request quiet output errors digested hushed journal _ (writes _ _ _ _ _ _) is = absurd cc
 
 served_set : (gives : Gives) (words : List Text) (output errors : Stream) (request : Request) (set : ClearedSet) (quiet : Bool) (course : Course)
     → AskFor words request → IsRun gives words output errors course → course ≡ Serves set quiet
@@ -171,6 +174,7 @@ demo_done gives request quiet output errors _ demo_asked (judges _ _ _ _ asked _
 demo_done gives request quiet output errors _ demo_asked (writes _ _ _ asked _ _) = absurd cc
 demo_done gives request quiet output errors _ demo_asked (explains _ _ asked _) = absurd cc
 demo_done gives request quiet output errors _ demo_asked (keeps _ _ _ _ _ asked _ _ _) = absurd cc
+demo_done gives request quiet output errors _ demo_asked (remarks _ _ _ asked _ _ _) = absurd cc
 demo_done gives request quiet output errors _ demo_asked (reads _ asked _ _) = absurd cc
 demo_done gives request quiet output errors _ demo_asked (audits _ _ asked _ _ _) = absurd cc
 demo_done gives request quiet output errors _ demo_asked (plants _ _ asked _ _ _) = absurd cc

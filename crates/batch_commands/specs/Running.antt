@@ -4,10 +4,10 @@ use Rattle.std.specs.Global.{Global}
 use Rattle.std.specs.Io.KnownBytes.{Appends, Keeps}
 use Rattle.clap.specs.Kinds.{IsAmong}
 use Rattle.clap.specs.Walk.{Text}
-use Rattle.clap.specs.Words.{fault_of, subcommand_of}
+use Rattle.clap.specs.Words.{subcommand_of}
 use Rattle.clap.specs.declared.error.kind.ErrorKind.{ErrorKind}
 use Rattle.batch_explain.specs.Explaining.{HaveNoCode, Tells}
-use Rattle.batch_words.specs.CommandLine.{IsShown, Judgement, Request, Source, asked_by, asks_quiet, audit, explain, judge, plant, program_app, serve, source_of, tell, keep, write}
+use Rattle.batch_words.specs.CommandLine.{IsShown, Judgement, Request, Source, asked_by, asks_quiet, audit, explain, judge, plant, program_app, serve, source_of, tell, keep, write, faults_of, remark}
 use Rattle.batch_commands.specs.Digested.{AreDigested}
 use Rattle.batch_commands.specs.Judging.{status_of}
 use Rattle.batch_commands.specs.Reading.{Gives}
@@ -15,9 +15,10 @@ use Rattle.batch_commands.specs.Requests.{Halts, IsDemoSet, IsSetOf, IsVerdict}
 use Rattle.batch_commands.specs.Saying.{IsSaid, IsWarned}
 use Rattle.batch_verify.specs.ClearedSet.{ClearedSet}
 use Rattle.batch_words.specs.declared.command.AuditWords.{AuditWords}
+use Rattle.batch_words.specs.declared.comments.Comments.{Comments}
 use Rattle.batch_words.specs.declared.plant_options.PlantOptions.{PlantOptions}
 use Rattle.batch_commands.specs.declared.course.Course.{Course}
-use Rattle.batch_commands.specs.declared.course.Course.TheVariants.{Ends, Serves, Reads, Audits, Plants, Writes}
+use Rattle.batch_commands.specs.declared.course.Course.TheVariants.{Ends, Serves, Reads, Audits, Plants, Writes, Remarks}
 use Rattle.batch_commands.specs.declared.course.Course.TheVariants as courses
 use Rattle.batch_commands.specs.declared.digested.Digested.{Digested}
 use Rattle.batch_commands.specs.declared.refusal.Halt.{Halt}
@@ -70,7 +71,7 @@ IsRefused quiet output errors refusal status =
 
 -- the words ask for this, and have no fault
 abbrev pub AskFor : List Text → Request → Type 0
-AskFor words request = (fault_of program_app words ≡ []) × (request ≡ asked_by (subcommand_of program_app words))
+AskFor words request = (faults_of words ≡ []) × (request ≡ asked_by (subcommand_of program_app words))
 
 -- they ask that nothing be said in words of a refusal
 abbrev pub ask_quiet : List Text → Bool
@@ -78,11 +79,11 @@ ask_quiet words = asks_quiet (subcommand_of program_app words)
 
 -- help or the version is asked for
 abbrev pub AskToShow : List Text → Type 0
-AskToShow words = (kind : ErrorKind) × IsAmong kind (fault_of program_app words) × IsShown kind
+AskToShow words = (kind : ErrorKind) × IsAmong kind (faults_of words) × IsShown kind
 
 -- there is another fault in the words
 abbrev pub AreMisused : List Text → Type 0
-AreMisused words = (kind : ErrorKind) × IsAmong kind (fault_of program_app words) × ¬ (IsShown kind)
+AreMisused words = (kind : ErrorKind) × IsAmong kind (faults_of words) × ¬ (IsShown kind)
 
 -- a refusal is printed; a file that can't be read and want of memory leave the output as it was, and are told on the errors in
 -- a free text
@@ -113,6 +114,10 @@ pub data IsDone (gives : Gives) (request : Request) (quiet : Bool) (output error
   serves : (source : Source) (set : ClearedSet)
       → request ≡ serve source → IsSetOf gives source set → IsUnwritten output → IsUnwritten errors
       → IsDone gives request quiet output errors (Serves set quiet)
+  -- with comments in the record
+  remarks : (source : Source) (set : ClearedSet) (comments : Comments)
+      → request ≡ remark source comments.echo comments.times → IsSetOf gives source set → IsUnwritten output → IsUnwritten errors
+      → IsDone gives request quiet output errors (Remarks set quiet comments)
   -- with a journal at this path, which names the set by the digits of its documents
   keeps : (cell certificate : Text) (recipes : List Text) (journal : String Global) (digested : Digested)
       → request ≡ keep (string_bytes journal) cell certificate recipes → AreDigested gives cell certificate recipes digested.set digested.documents.text

@@ -1,7 +1,7 @@
 //! What the words of the program come to.
 use crate::digested::Digested;
 use batch_verify::Cleared;
-use batch_words::{AuditWords, PlantOptions};
+use batch_words::{AuditWords, Comments, PlantOptions};
 
 /// What the words of the program come to.
 #[derive(Drop)]
@@ -14,6 +14,12 @@ pub enum Course {
     Serves {
         set: Cleared,
         quiet: bool,
+    },
+    /// The same with comments in the record.
+    Remarks {
+        set: Cleared,
+        quiet: bool,
+        comments: Comments,
     },
     /// The same over a set whose documents have these digits, with a journal in the file at this path.
     Keeps {

@@ -99,6 +99,14 @@ fn run_command<D: Documents, O: Write, E: Write>(
             Ok(set) => Course::Serves { set, quiet },
             Err(halt) => Course::Ends(announce(alloc, quiet, &halt, output, errors)),
         },
+        Subcommand::Remark { source, comments } => match clear_source(alloc, documents, &source) {
+            Ok(set) => Course::Remarks {
+                set,
+                quiet,
+                comments,
+            },
+            Err(halt) => Course::Ends(announce(alloc, quiet, &halt, output, errors)),
+        },
         Subcommand::Keep {
             journal,
             cell,

@@ -7,7 +7,7 @@ ghost use Rattle.batch_wire.specs.WrittenTranscript.{WritesTranscript};
 
 use batch_engine::Engine;
 use batch_journal::recovered_are_lines;
-use batch_serve::{ServeFault, serve};
+use batch_serve::{NoRemarks, ServeFault, serve};
 use std::alloc::Global;
 use std::io::Write;
 
@@ -29,5 +29,5 @@ pub fn replay<W: Write>(
     ensures served { OnOk result (WritesTranscript (setup engine.old.cleared) (plant_of engine.old) (recovered documents.now text.now) (plant_of engine.new) (W.contents writer.old) (W.contents writer.new)) }
 {
     recovered_are_lines();
-    serve(alloc, engine, &mut text, writer, u64::MAX)
+    serve(alloc, engine, &mut text, writer, &mut NoRemarks, u64::MAX)
 }

@@ -10,7 +10,7 @@ ghost use Rattle.batch_keep.specs.Told.{IsAtRest, IsTold, IsToldAgain, TellsLine
 
 use batch_engine::Engine;
 use batch_journal::{Disk, JournalReader, Memory, Run, Sum, lines_begin, recovered_are_lines};
-use batch_serve::{ServeFault, serve, want_is_not_told};
+use batch_serve::{NoRemarks, ServeFault, serve, want_is_not_told};
 use std::alloc::Global;
 use std::io::{Read, Write};
 use std::marker::Brand;
@@ -107,6 +107,13 @@ pub(crate) fn serve_at<R: Read + Drop, D: Disk, K: Clock + Drop, W: Write, C: Ru
         journal.clock,
         journal.sum,
     );
-    let result = serve(alloc, engine, &mut reader, writer, max_reads);
+    let result = serve(
+        alloc,
+        engine,
+        &mut reader,
+        writer,
+        &mut NoRemarks,
+        max_reads,
+    );
     (result, reader.into_disk())
 }

@@ -4,7 +4,7 @@ use Rattle.std.specs.Prelude.{String, string_bytes}
 use Rattle.std.specs.Global.{Global}
 use Rattle.std.specs.Io.KnownBytes.{Keeps}
 use Rattle.clap.specs.Walk.{Text}
-use Rattle.batch_words.specs.CommandLine.{Judgement, Request, plant, serve, tell, write}
+use Rattle.batch_words.specs.CommandLine.{Judgement, Request, Source, audit, keep, plant, remark, serve, tell, write}
 use Rattle.batch_commands.specs.Reading.{Gives}
 use Rattle.batch_commands.specs.Requests.{IsVerdict}
 use Rattle.batch_commands.specs.Running.{AskFor, IsDone, IsRun, IsUnwritten, Stream, ask_quiet}
@@ -15,7 +15,8 @@ use Rattle.batch_commands.specs.declared.course.Course.TheVariants as course_of
 use Rattle.batch_commands.proofs.Successes.{same_request}
 use Rattle.batch_commands.proofs.Warned.{verdict_more, warned_kept}
 use Rattle.batch_serve.specs.Serves as serving
-use Rattle.batch_program.specs.Programs.{CertificatesAreKept, IsProgramRun, tells, writes, serves, reads, plants}
+use Rattle.batch_program.specs.Programs.{CertificatesAreKept, IsProgramRun, tells, writes, serves, remarks, keeps, reads, audits, plants}
+use Rattle.batch_program.specs.JournalRuns.{DiskKind}
 use Rattle.batch_program.specs.RecordRuns.{Holds, output_of}
 use Rattle.batch_program.proofs.Served.{plants_no_file, serves_no_file, told_at_once}
 
@@ -37,6 +38,9 @@ done_to_write gives request quiet output errors _ path text (running.plants _ _ 
 done_to_write gives request quiet output errors _ path text (running.halts _ _ _ _ _) is = absurd cc
 done_to_write gives request quiet output errors _ path text (running.judges _ _ _ _ _ _ _) is = absurd cc
 done_to_write gives request quiet output errors _ path text (running.explains _ _ _ _) is = absurd cc
+done_to_write gives request quiet output errors _ path text (running.keeps _ _ _ _ _ _ _ _ _) is = absurd cc
+done_to_write gives request quiet output errors _ path text (running.remarks _ _ _ _ _ _ _) is = absurd cc
+done_to_write gives request quiet output errors _ path text (running.audits _ _ _ _ _ _) is = absurd cc
 
 -- the text that is to be written is that of a verdict that accepts, and nothing was written but warnings
 pub file_to_write : (gives : Gives) (words : List Text) (output errors : Stream) (course : Course) (path text : String Global)
@@ -59,13 +63,22 @@ same_judgement a b c d is = cc
 reads_no_file : (record_path : Option Text) (path : Text) (judgement : Judgement) → tell record_path ≡ write path judgement → ⊥
 reads_no_file record_path path judgement is = cc
 
-kept_at : (gives : Gives) (holds : Holds) (words : List Text) (ends : serving.Ends) (errors : Stream) (path : Text) (judgement : Judgement) (status : ℕ)
-    → AskFor words (write path judgement) → IsProgramRun gives holds words ends errors status → status ≡ 0
+no_comments : (source : Source) (echo times : Bool) (path : Text) (judgement : Judgement) → remark source echo times ≡ write path judgement → ⊥
+no_comments source echo times path judgement is = cc
+
+no_journal : (journal cell certificate : Text) (recipes : List Text) (path : Text) (judgement : Judgement) → keep journal cell certificate recipes ≡ write path judgement → ⊥
+no_journal journal cell certificate recipes path judgement is = cc
+
+no_audit : (source : Source) (beginning : Bool) (record_path path : Text) (judgement : Judgement) → audit beginning record_path source ≡ write path judgement → ⊥
+no_audit source beginning record_path path judgement is = cc
+
+kept_at : (gives : Gives) (holds : Holds) (disks : DiskKind) (words : List Text) (ends : serving.Ends) (errors : Stream) (path : Text) (judgement : Judgement) (status : ℕ)
+    → AskFor words (write path judgement) → IsProgramRun gives holds disks words ends errors status → status ≡ 0
     → (text : List ℕ) × IsVerdict gives (IsWarned (ask_quiet words) errors.before errors.after) judgement text × holds path (Some text)
     × IsUnwritten (output_of ends)
-kept_at gives holds words ends errors path judgement _ asked (tells status came _) is =
+kept_at gives holds disks words ends errors path judgement _ asked (tells status came _) is =
     absurd (told_at_once gives words (output_of ends) errors (write path judgement) status asked came is)
-kept_at gives holds words ends errors path judgement status asked (writes own other text warned _ asked2 told (inl (kept, silent, _)) unwritten _) is =
+kept_at gives holds disks words ends errors path judgement status asked (writes own other text warned _ asked2 told (inl (kept, silent, _)) unwritten _) is =
     let same = same_request words (write own other) (write path judgement) asked2 asked in
     let quiet = ask_quiet words in
     let more = verdict_more gives (IsWarned quiet errors.before warned) (IsWarned quiet errors.before errors.after) other text
@@ -75,15 +88,21 @@ kept_at gives holds words ends errors path judgement status asked (writes own ot
       subst (λ p. holds p (Some text)) (same_path own path other judgement same) kept,
       unwritten,
     )
-kept_at gives holds words ends errors path judgement status asked (writes _ _ _ _ _ _ _ (inr (inl fault)) _ _) is = absurd cc
-kept_at gives holds words ends errors path judgement status asked (writes _ _ _ _ _ _ _ (inr (inr memory)) _ _) is = absurd cc
-kept_at gives holds words ends errors path judgement _ asked (serves source _ _ asked2 _ _ _) is =
+kept_at gives holds disks words ends errors path judgement status asked (writes _ _ _ _ _ _ _ (inr (inl fault)) _ _) is = absurd cc
+kept_at gives holds disks words ends errors path judgement status asked (writes _ _ _ _ _ _ _ (inr (inr memory)) _ _) is = absurd cc
+kept_at gives holds disks words ends errors path judgement _ asked (serves source _ _ asked2 _ _ _) is =
     absurd (serves_no_file source path judgement (same_request words (serve source) (write path judgement) asked2 asked))
-kept_at gives holds words ends errors path judgement _ asked (reads record_path _ asked2 _) is =
+kept_at gives holds disks words ends errors path judgement _ asked (remarks source echo times _ _ asked2 _ _ _) is =
+    absurd (no_comments source echo times path judgement (same_request words (remark source echo times) (write path judgement) asked2 asked))
+kept_at gives holds disks words ends errors path judgement _ asked (keeps journal cell certificate recipes _ _ _ asked2 _ _) is =
+    absurd (no_journal journal cell certificate recipes path judgement (same_request words (keep journal cell certificate recipes) (write path judgement) asked2 asked))
+kept_at gives holds disks words ends errors path judgement _ asked (audits beginning record_path source _ _ asked2 _ _) is =
+    absurd (no_audit source beginning record_path path judgement (same_request words (audit beginning record_path source) (write path judgement) asked2 asked))
+kept_at gives holds disks words ends errors path judgement _ asked (reads record_path _ asked2 _) is =
     absurd (reads_no_file record_path path judgement (same_request words (tell record_path) (write path judgement) asked2 asked))
-kept_at gives holds words ends errors path judgement _ asked (plants _ options _ _ asked2 _ _ _ _) is =
+kept_at gives holds disks words ends errors path judgement _ asked (plants _ options _ _ asked2 _ _ _ _) is =
     absurd (plants_no_file options.batches options.ticks options.ring path judgement (same_request words _ (write path judgement) asked2 asked))
 
-pub certificates_are_kept : (gives : Gives) (holds : Holds) → CertificatesAreKept gives holds
-certificates_are_kept gives holds words ends errors path judgement asked came =
-    kept_at gives holds words ends errors path judgement 0 asked came refl
+pub certificates_are_kept : (gives : Gives) (holds : Holds) (disks : DiskKind) → CertificatesAreKept gives holds disks
+certificates_are_kept gives holds disks words ends errors path judgement asked came =
+    kept_at gives holds disks words ends errors path judgement 0 asked came refl

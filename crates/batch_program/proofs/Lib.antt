@@ -1,5 +1,6 @@
 pub mod Kept
 pub mod Served
+pub mod RemarkedServed
 pub mod Plants
 pub mod RecordsAudited
 pub mod RecordsTold

@@ -10,7 +10,7 @@ use Rattle.batch_engine.specs.View.{setup}
 use Rattle.batch_wire.specs.Transcript.{lines_of, whole_lines}
 use Rattle.batch_wire.specs.Written.{AppendsBeginning}
 use Rattle.batch_serve.specs.Safe.{BeginsSafely, WritesSafely, WritesWholeSafely}
-use Rattle.batch_words.specs.CommandLine.{Request, Source, audit, plant, serve, source_of, tell, keep, Judgement, write}
+use Rattle.batch_words.specs.CommandLine.{Request, Source, audit, plant, serve, source_of, tell, keep, Judgement, write, remark}
 use Rattle.batch_words.specs.declared.command.AuditWords.{AuditWords}
 use Rattle.batch_words.specs.declared.plant_options.PlantOptions.{PlantOptions}
 use Rattle.batch_commands.specs.Reading.{Gives}
@@ -33,7 +33,7 @@ use Rattle.batch_serve.specs.declared.fault.ServeFault.TheVariants.{Read, Write,
 use Rattle.batch_serve.specs.declared.fault.SetFault.{SetFault}
 use Rattle.batch_serve.specs.declared.fault.SetFault.TheVariants.{Memory, Stopped}
 use Rattle.batch_program.specs.declared.program.TheConstants.{MAX_READS}
-use Rattle.batch_program.specs.Programs.{IsLeftTold, IsProgramRun, PlantsAreComplete, ServingIsSafe, tells, serves, reads, audits, plants, status_of_serving, keeps, writes}
+use Rattle.batch_program.specs.Programs.{IsLeftTold, IsProgramRun, PlantsAreComplete, ServingIsSafe, tells, serves, reads, audits, plants, status_of_serving, keeps, writes, remarks}
 use Rattle.batch_plant.specs.declared.plant_fault.PlantFault.{PlantFault}
 use Rattle.batch_plant.specs.declared.plant_fault.PlantFault.TheVariants as plant_fault
 use Rattle.batch_audit.specs.declared.finding.Finding.{Finding}
@@ -63,7 +63,7 @@ kept_then_begun : (before mid after : Option (List ℕ)) (text : List ℕ) → K
 kept_then_begun before mid after text kept begun =
     record { written = begun.written; rest = begun.rest; splits = begun.splits; appends = kept_then_appended before mid after begun.written kept begun.appends }
 
-kept_then_kept : (before mid after : Option (List ℕ)) → Keeps before mid → Keeps mid after → Keeps before after
+pub kept_then_kept : (before mid after : Option (List ℕ)) → Keeps before mid → Keeps mid after → Keeps before after
 kept_then_kept None mid after kept more = tt
 kept_then_kept (Some xs) None after kept more = absurd kept
 kept_then_kept (Some xs) (Some ys) None kept more = absurd more
@@ -157,6 +157,7 @@ done_to_plant gives request quiet output errors _ set options (running.plants ot
     (subst (λ (o : PlantOptions). request ≡ plant o.batches o.ticks o.ring) chosen asked, subst IsDemoSet same cleared, kept, silent)
 done_to_plant gives request quiet output errors _ set options (running.serves _ _ _ _ _ _) is = absurd cc
 done_to_plant gives request quiet output errors _ set options (running.keeps _ _ _ _ _ _ _ _ _) is = absurd cc
+done_to_plant gives request quiet output errors _ set options (running.remarks _ _ _ _ _ _ _) is = absurd cc
 done_to_plant gives request quiet output errors _ set options (running.reads _ _ _ _) is = absurd cc
 done_to_plant gives request quiet output errors _ set options (running.audits _ _ _ _ _ _) is = absurd cc
 done_to_plant gives request quiet output errors _ set options (running.writes _ _ _ _ _ _) is = absurd cc
@@ -209,6 +210,7 @@ done_to_read gives request quiet output errors _ path (running.reads other asked
     (subst (λ (p : Option (String Global)). request ≡ tell (option_map string_bytes p)) same asked, kept, silent)
 done_to_read gives request quiet output errors _ path (running.serves _ _ _ _ _ _) is = absurd cc
 done_to_read gives request quiet output errors _ path (running.keeps _ _ _ _ _ _ _ _ _) is = absurd cc
+done_to_read gives request quiet output errors _ path (running.remarks _ _ _ _ _ _ _) is = absurd cc
 done_to_read gives request quiet output errors _ path (running.plants _ _ _ _ _ _) is = absurd cc
 done_to_read gives request quiet output errors _ path (running.audits _ _ _ _ _ _) is = absurd cc
 done_to_read gives request quiet output errors _ path (running.writes _ _ _ _ _ _) is = absurd cc
@@ -267,11 +269,13 @@ done_to_audit gives words request quiet output errors _ set own asked (running.a
     (record { asked = subst (AskFor words) is_asked asked; is_set = subst (IsSetOf gives (source_of other.source)) same is_set; unwritten = kept; silent = silent })
 done_to_audit gives words request quiet output errors _ set own asked (running.serves _ _ _ _ _ _) is = absurd cc
 done_to_audit gives words request quiet output errors _ set own asked (running.keeps _ _ _ _ _ _ _ _ _) is = absurd cc
+done_to_audit gives words request quiet output errors _ set own asked (running.remarks _ _ _ _ _ _ _) is = absurd cc
 done_to_audit gives words request quiet output errors _ set own asked (running.reads _ _ _ _) is = absurd cc
 done_to_audit gives words request quiet output errors _ set own asked (running.plants _ _ _ _ _ _) is = absurd cc
 done_to_audit gives words request quiet output errors _ set own asked (running.halts _ _ _ _ _) is = absurd cc
 done_to_audit gives words request quiet output errors _ set own asked (running.judges _ _ _ _ _ _ _) is = absurd cc
 done_to_audit gives words request quiet output errors _ set own asked (running.explains _ _ _ _) is = absurd cc
+done_to_audit gives words request quiet output errors _ set own asked (running.writes _ _ _ _ _ _) is = absurd cc
 
 pub set_to_audit : (gives : Gives) (words : List Text) (output errors : Stream) (course : Course) (set : ClearedSet) (own : AuditWords)
     → IsRun gives words output errors course → course ≡ course_of.Audits set own → IsToAudit gives words output errors set own
@@ -351,7 +355,7 @@ journal_kept disks set digits path unread left before mid after status kept (inr
 
 -- Exit statuses
 
-ran_to_the_end : (set : ClearedSet) (served : Result ℕ SetFault) (ends : serving.Ends) (quiet : Bool) (errors : Stream) → Serves set MAX_READS served ends
+pub ran_to_the_end : (set : ClearedSet) (served : Result ℕ SetFault) (ends : serving.Ends) (quiet : Bool) (errors : Stream) → Serves set MAX_READS served ends
     → IfOk served (IsLeftTold quiet errors) → status_of_serving served ≡ 0 → (left : ℕ) × AnswersAll set left ends × IsLeftTold quiet errors left
 ran_to_the_end set (Ok left) ends quiet errors all told is = (left, all, told)
 ran_to_the_end set (Err Memory) ends quiet errors all told is = absurd cc
@@ -384,6 +388,12 @@ serves_no_audit source other beginning path is = cc
 pub plants_no_audit : (batches ticks ring : ℕ) (source : Source) (beginning : Bool) (path : Text) → plant batches ticks ring ≡ audit beginning path source → ⊥
 plants_no_audit batches ticks ring source beginning path is = cc
 
+serves_no_comments : (source other : Source) (echo times : Bool) → serve source ≡ remark other echo times → ⊥
+serves_no_comments source other echo times is = cc
+
+plants_no_comments : (batches ticks ring : ℕ) (source : Source) (echo times : Bool) → plant batches ticks ring ≡ remark source echo times → ⊥
+plants_no_comments batches ticks ring source echo times is = cc
+
 serves_no_plant : (source : Source) (batches ticks ring : ℕ) → serve source ≡ plant batches ticks ring → ⊥
 serves_no_plant source batches ticks ring is = cc
 
@@ -410,6 +420,8 @@ safe_at gives holds disks words ends errors source _ asked (serves other set ser
     (set, left, subst (λ s. IsSetOf gives s set) same is_set, answers, says)
 safe_at gives holds disks words ends errors source _ asked (keeps path cell certificate recipes _ _ _ asked2 _ _) is =
     absurd (serves_no_journal source path cell certificate recipes (same_request words (serve source) (keep path cell certificate recipes) asked asked2))
+safe_at gives holds disks words ends errors source _ asked (remarks other echo times _ _ asked2 _ _ _) is =
+    absurd (serves_no_comments source other echo times (same_request words (serve source) (remark other echo times) asked asked2))
 safe_at gives holds disks words ends errors source _ asked (reads path _ asked2 _) is =
     absurd (serves_no_record source path (same_request words (serve source) (tell path) asked asked2))
 safe_at gives holds disks words ends errors source _ asked (audits beginning path other _ _ asked2 _ _) is =
@@ -443,6 +455,7 @@ done_in_range : (gives : Gives) (request : Request) (quiet : Bool) (output error
     → IsDone gives request quiet output errors course → course ≡ Ends status → status ≤ 4
 done_in_range gives request quiet output errors _ status (running.serves _ _ _ _ _ _) is = absurd cc
 done_in_range gives request quiet output errors _ status (running.keeps _ _ _ _ _ _ _ _ _) is = absurd cc
+done_in_range gives request quiet output errors _ status (running.remarks _ _ _ _ _ _ _) is = absurd cc
 done_in_range gives request quiet output errors _ status (running.reads _ _ _ _) is = absurd cc
 done_in_range gives request quiet output errors _ status (running.audits _ _ _ _ _ _) is = absurd cc
 done_in_range gives request quiet output errors _ status (running.plants _ _ _ _ _ _) is = absurd cc
@@ -538,6 +551,7 @@ run_in_range gives holds disks words ends errors _ (tells status came _) = cours
 run_in_range gives holds disks words ends errors status (writes path _ text warned _ _ _ written _ _) =
     written_in_range holds path text (record { before = warned; after = errors.after }) status written
 run_in_range gives holds disks words ends errors _ (serves _ _ served _ _ _ _) = serving_in_range served
+run_in_range gives holds disks words ends errors _ (remarks _ _ _ _ served _ _ _ _) = serving_in_range served
 run_in_range gives holds disks words ends errors status (keeps path _ _ _ set digits _ _ _ ran) = kept_in_range disks set digits path ends status ran
 run_in_range gives holds disks words ends errors status (reads path _ _ told) = record_in_range holds path ends errors status told
 run_in_range gives holds disks words ends errors status (audits beginning path _ set _ _ _ told) = audit_in_range holds set beginning path ends errors status told
@@ -572,6 +586,8 @@ told_plant gives holds disks words ends errors batches ticks ring _ asked (serve
     absurd (serves_no_plant source batches ticks ring (same_request words (serve source) (plant batches ticks ring) asked2 asked))
 told_plant gives holds disks words ends errors batches ticks ring _ asked (keeps path cell certificate recipes _ _ _ asked2 _ _) is =
     absurd (plants_no_journal batches ticks ring path cell certificate recipes (same_request words (plant batches ticks ring) (keep path cell certificate recipes) asked asked2))
+told_plant gives holds disks words ends errors batches ticks ring _ asked (remarks source echo times _ _ asked2 _ _ _) is =
+    absurd (plants_no_comments batches ticks ring source echo times (same_request words (plant batches ticks ring) (remark source echo times) asked asked2))
 told_plant gives holds disks words ends errors batches ticks ring _ asked (reads path _ asked2 _) is =
     absurd (plants_no_record batches ticks ring path (same_request words (plant batches ticks ring) (tell path) asked asked2))
 told_plant gives holds disks words ends errors batches ticks ring _ asked (audits beginning path source _ _ asked2 _ _) is =

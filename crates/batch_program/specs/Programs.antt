@@ -6,7 +6,7 @@ use Rattle.std.specs.declared.process.ExitCode.{ExitCode}
 use Rattle.clap.specs.Walk.{Text}
 use Rattle.batch_verify.specs.ClearedSet.{ClearedSet}
 use Rattle.batch_wire.specs.Transcript.{lines_of}
-use Rattle.batch_words.specs.CommandLine.{Source, audit, keep, plant, serve, tell, Judgement, write}
+use Rattle.batch_words.specs.CommandLine.{Source, audit, keep, plant, serve, tell, Judgement, write, remark}
 use Rattle.batch_words.specs.declared.plant_options.PlantOptions.{PlantOptions}
 use Rattle.batch_commands.specs.Digested.{AreDigested}
 use Rattle.batch_commands.specs.Reading.{Gives}
@@ -15,6 +15,8 @@ use Rattle.batch_commands.specs.Running.{AskFor, IsRun, IsUnwritten, Stream, ask
 use Rattle.batch_commands.specs.Saying.{WritesFront, IsWarned}
 use Rattle.batch_commands.specs.VerdictTexts.{accepted_text}
 use Rattle.batch_commands.specs.declared.course.Course.TheVariants.{Ends}
+use Rattle.batch_serve.specs.Comments.{IsRemarked}
+use Rattle.batch_serve.specs.RemarkedSet.{ServesRemarked}
 use Rattle.batch_serve.specs.Serves as serving
 use Rattle.batch_serve.specs.Serves.{AnswersAll, Serves}
 use Rattle.batch_serve.specs.declared.fault.SetFault.{SetFault}
@@ -64,6 +66,10 @@ pub data IsProgramRun (gives : Gives) (holds : Holds) (disks : DiskKind) (words 
   serves : (source : Source) (set : ClearedSet) (served : Result ℕ SetFault)
       → AskFor words (serve source) → IsSetOf gives source set → Serves set MAX_READS served ends
       → IfOk served (IsLeftTold (ask_quiet words) errors) → IsProgramRun gives holds disks words ends errors (status_of_serving served)
+  -- the same with comments in the record
+  remarks : (source : Source) (echo times : Bool) (set : ClearedSet) (served : Result ℕ SetFault)
+      → AskFor words (remark source echo times) → IsSetOf gives source set → ServesRemarked set MAX_READS served ends
+      → IfOk served (IsLeftTold (ask_quiet words) errors) → IsProgramRun gives holds disks words ends errors (status_of_serving served)
   -- it is served over the journal that they name
   keeps : (journal cell certificate : Text) (recipes : List Text) (set : ClearedSet) (digits : List ℕ) (status : ℕ)
       → AskFor words (keep journal cell certificate recipes) → AreDigested gives cell certificate recipes set digits
@@ -101,12 +107,20 @@ AuditsAreTrue gives holds disks =
     → (set : ClearedSet) × (given : Option (List ℕ)) × IsSetOf gives source set × holds path given × Appends ends.before ends.after accepted_text
     × IfSome given (λ text. IfSome ends.unread (λ input. IsAccepted set beginning (lines_of input) text))
 
+-- the same of a run with comments in the record, of what it wrote without its comments
+abbrev pub RemarkedServingIsSafe : Gives → Holds → DiskKind → Type 0
+RemarkedServingIsSafe gives holds disks =
+    (words : List Text) (ends : serving.Ends) (errors : Stream) (source : Source) (echo times : Bool)
+    → AskFor words (remark source echo times) → IsProgramRun gives holds disks words ends errors 0
+    → (set : ClearedSet) × (left : ℕ) × (plain : Option (List ℕ)) × IsSetOf gives source set × IsRemarked ends.before ends.after plain
+    × AnswersAll set left (record ends { after = plain }) × IsLeftTold (ask_quiet words) errors left
+
 -- a run of `check --write` that ends with status 0 has put into its file, and nowhere else, the text of a verdict that accepts its
 -- documents: the certificate with the least ranks, or the drawing; on the errors it has written its warnings alone
-abbrev pub CertificatesAreKept : Gives → Holds → Type 0
-CertificatesAreKept gives holds =
+abbrev pub CertificatesAreKept : Gives → Holds → DiskKind → Type 0
+CertificatesAreKept gives holds disks =
     (words : List Text) (ends : serving.Ends) (errors : Stream) (path : Text) (judgement : Judgement)
-    → AskFor words (write path judgement) → IsProgramRun gives holds words ends errors 0
+    → AskFor words (write path judgement) → IsProgramRun gives holds disks words ends errors 0
     → (text : List ℕ) × IsVerdict gives (IsWarned (ask_quiet words) errors.before errors.after) judgement text × holds path (Some text)
     × IsUnwritten (output_of ends)
 

@@ -23,7 +23,10 @@ mod threads;
 pub use file_writing::write_file;
 pub use journals::Journals;
 pub use keeping::keep_journal;
-pub use laws::{audits_are_true, certificates_are_kept, plants_are_complete, serving_is_safe};
+pub use laws::{
+    audits_are_true, certificates_are_kept, plants_are_complete, remarked_serving_is_safe,
+    serving_is_safe,
+};
 pub use limits::{read_limit_is_fixed, turn_limit_is_fixed};
 pub use noted::Noted;
 pub use plant::report_of_plant;

@@ -13,7 +13,7 @@ use crate::record_status::tell_record;
 use crate::records::Records;
 use crate::statuses::serving_status;
 use batch_commands::{Course, Documents, complain, run_words, tell};
-use batch_serve::{ServeFault, SetFault, serve_set};
+use batch_serve::{NoRemarks, Remarking, ServeFault, SetFault, serve_remarked, serve_set};
 use std::alloc::{AllocError, Global};
 use std::io;
 use std::io::{Read, Write};
@@ -37,6 +37,8 @@ struct Stop {
 /// Verdicts, help, the record, what one tells, what is found of one and the lines of a plant go to the output, and all else, in a free text, to the errors. Refused
 /// events are part of the record and don't change the status. Where the input ends while batches are neither complete, stopped
 /// nor aborted, one line on the errors says how many, unless quiet is asked for; where none is, nothing is written there.
+///
+/// The time that stands in comments of the record, where they are asked for, is that of the journals' clock. The output is given back.
 pub fn run_program<D: Documents + Records + Journals, P: PlantRunner, R: Read, W: Write, E: Write>(
     alloc: Global,
     words: &[String],
@@ -72,7 +74,17 @@ pub fn run_program<D: Documents + Records + Journals, P: PlantRunner, R: Read, W
             (write_file(alloc, &path, &text, documents, errors), output)
         }
         Course::Serves { set, quiet } => {
-            let served = serve_set(alloc, set, input, &mut output, MAX_READS);
+            let served = serve_set(alloc, set, input, &mut output, &mut NoRemarks, MAX_READS);
+            let reason = reason_of(served, input, &output);
+            (tell_served(alloc, quiet, served, reason, errors), output)
+        }
+        Course::Remarks {
+            set,
+            quiet,
+            comments,
+        } => {
+            let remarking = Remarking::new(documents.clock(), comments.echo, comments.times);
+            let (served, output) = serve_remarked(alloc, set, input, output, remarking, MAX_READS);
             let reason = reason_of(served, input, &output);
             (tell_served(alloc, quiet, served, reason, errors), output)
         }

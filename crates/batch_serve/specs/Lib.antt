@@ -4,10 +4,14 @@ pub mod Settled
 pub mod Safe
 pub mod Cut
 pub mod Serves
+pub mod Comments
+pub mod Remarking
+pub mod RemarkedSet
 pub mod RowsOfUnfinished
 pub mod Replays
 pub mod CleanLines
 pub mod Held
 pub mod Holding
 pub mod RowsOfHeld
+pub mod RowsOfComments
 pub mod RowsOfCleanLines

@@ -165,7 +165,7 @@ fn are_spaces(text: &[u8]) -> bool
 }
 
 /// The line without a carriage return at its end.
-fn without_return(line: &[u8]) -> &[u8]
+pub(crate) fn without_return(line: &[u8]) -> &[u8]
     ensures { result.now ≡ strip_carriage_return line.now }
 {
     match line {

@@ -2,6 +2,7 @@
 ghost use Rattle.batch_serve.specs.CleanLines.{CleanLinesAgree, CleanLinesServeAlike};
 ghost use Rattle.batch_serve.specs.Replays.{NoWantIsWell, ServingAgrees, ToldIsRecovered, TranscriptsAreWhole, WantIsNotTold};
 ghost use Rattle.batch_serve.specs.RowsOfCleanLines.{CleanLineRows};
+ghost use Rattle.batch_serve.specs.RowsOfComments.{CommentRows};
 ghost use Rattle.batch_serve.specs.RowsOfHeld.{HeldRows};
 ghost use Rattle.batch_serve.specs.RowsOfUnfinished.{UnfinishedRows};
 ghost use Rattle.batch_serve.specs.Safe.{TranscriptsAreSafe, TranscriptsLeaveNobodyInVain};
@@ -74,6 +75,11 @@ pub fn want_is_not_told()
 /// What a transcript tells is whole lines.
 pub fn transcripts_are_whole()
     ensures { TranscriptsAreWhole }
+{}
+
+/// What is left of a text without its comments, and which comments are written.
+pub fn comment_rows()
+    ensures { CommentRows }
 {}
 
 /// What is held back of a text.

@@ -8,6 +8,10 @@ mod held;
 mod laws;
 mod limits;
 mod line_buffer;
+mod remarked;
+mod remarked_set;
+mod remarking;
+mod remarks;
 mod serving;
 mod set;
 
@@ -15,10 +19,14 @@ pub use clean_lines::CleanReader;
 pub use fault::{ServeFault, SetFault};
 pub use held::{Held, Start, shows_want};
 pub use laws::{
-    clean_line_rows, clean_lines_agree, clean_lines_serve_alike, held_rows, no_want_is_well,
-    serving_agrees, told_is_recovered, transcripts_are_safe, transcripts_are_whole,
-    transcripts_leave_nobody_in_vain, transcripts_settle, unfinished_rows, want_is_not_told,
+    clean_line_rows, clean_lines_agree, clean_lines_serve_alike, comment_rows, held_rows,
+    no_want_is_well, serving_agrees, told_is_recovered, transcripts_are_safe,
+    transcripts_are_whole, transcripts_leave_nobody_in_vain, transcripts_settle, unfinished_rows,
+    want_is_not_told,
 };
 pub use limits::piece_limit_is_fixed;
+pub use remarked_set::serve_remarked;
+pub use remarking::Remarking;
+pub use remarks::{NoRemarks, Remarks};
 pub use serving::serve;
 pub use set::serve_set;

@@ -17,6 +17,7 @@ use crate::answering::answer_line;
 use crate::fault::ServeFault;
 use crate::laws::transcripts_are_safe;
 use crate::line_buffer::LineBuffer;
+use crate::remarks::Remarks;
 use batch_engine::Engine;
 use batch_wire::{KnownPlaces, WriteFault};
 use memchr::memchr;
@@ -28,16 +29,17 @@ const PIECE_LEN: usize = 65_536;
 
 /// Answers the lines that the reader gives, until its bytes end.
 ///
-/// Each line is read and given to the machine, the reply is written, and then each move. What is
+/// Each line is read and given to the machine, what is remarked on it is written, the reply, and then each move. What is
 /// written is handed on whenever the reader is about to be asked for more. A call of the reader that
 /// is interrupted is made again, and counts among `max_reads`. Memory is asked for events alone. After
 /// a read fault, and after `max_reads` calls of the reader, the whole lines read are answered; after a
 /// write fault the machine may be ahead of what is written.
-pub fn serve<R: Read, W: Write>(
+pub fn serve<R: Read, W: Write, M: Remarks<W>>(
     alloc: Global,
     engine: &mut Engine,
     reader: &mut R,
     writer: &mut W,
+    remarks: &mut M,
     max_reads: u64,
 ) -> Result<(), ServeFault>
     ensures cleared { engine.new.cleared ≡ engine.old.cleared }
@@ -64,7 +66,7 @@ pub fn serve<R: Read, W: Write>(
     let mut interrupted = false;
     for _ in 0..max_reads {
         match reader.read(&mut piece) {
-            Ok(0) => return Ok(finish(alloc, engine, &line, &mut places, writer)?),
+            Ok(0) => return Ok(finish(alloc, engine, &line, &mut places, writer, remarks)?),
             Ok(count) => feed(
                 alloc,
                 engine,
@@ -72,6 +74,7 @@ pub fn serve<R: Read, W: Write>(
                 &piece[..count],
                 &mut places,
                 writer,
+                remarks,
             )?,
             Err(error) if error.kind() == ErrorKind::Interrupted => interrupted = true,
             Err(_) => return Err(ServeFault::Read),
@@ -85,13 +88,14 @@ pub fn serve<R: Read, W: Write>(
 }
 
 /// Takes the next bytes, answers each line that is whole now, and hands on what is written.
-fn feed<W: Write>(
+fn feed<W: Write, M: Remarks<W>>(
     alloc: Global,
     engine: &mut Engine,
     line: &mut LineBuffer,
     piece: &[u8],
     places: &mut KnownPlaces,
     writer: &mut W,
+    remarks: &mut M,
 ) -> Result<(), WriteFault>
     requires { AreKnown engine.old.cleared places.old }
     ensures known { AreKnown engine.new.cleared places.new }
@@ -99,9 +103,10 @@ fn feed<W: Write>(
     ensures feeds { Feeds (setup engine.old.cleared) (record { plant = plant_of engine.old; line = line.old; written = W.contents writer.old })
         piece.now result (record { plant = plant_of engine.new; line = line.new; written = W.contents writer.new }) }
 {
+    remarks.read_begins();
     let mut rest = piece;
     while let Some(at) = line_feed(rest) {
-        answer_ended(alloc, engine, line, &rest[..at], places, writer)?;
+        answer_ended(alloc, engine, line, &rest[..at], places, writer, remarks)?;
         rest = &rest[at + 1..];
     }
     line.extend(rest);
@@ -109,13 +114,14 @@ fn feed<W: Write>(
 }
 
 /// Answers the line that ends with these bytes, and begins the next one.
-fn answer_ended<W: Write>(
+fn answer_ended<W: Write, M: Remarks<W>>(
     alloc: Global,
     engine: &mut Engine,
     line: &mut LineBuffer,
     end: &[u8],
     places: &mut KnownPlaces,
     writer: &mut W,
+    remarks: &mut M,
 ) -> Result<(), WriteFault>
     requires { AreKnown engine.old.cleared places.old }
     ensures known { AreKnown engine.new.cleared places.new }
@@ -126,10 +132,10 @@ fn answer_ended<W: Write>(
 {
     if line.as_slice().is_empty() {
         // Most lines stand in one piece, and are read where they stand.
-        return answer_line(alloc, engine, end, places, writer);
+        return answer_line(alloc, engine, end, places, writer, remarks);
     }
     line.extend(end);
-    answer_line(alloc, engine, line.as_slice(), places, writer)?;
+    answer_line(alloc, engine, line.as_slice(), places, writer, remarks)?;
     line.clear();
     Ok(())
 }
@@ -142,19 +148,21 @@ pub(crate) fn line_feed(bytes: &[u8]) -> Option<usize>
 }
 
 /// Answers the last line, which no line feed ends.
-fn finish<W: Write>(
+fn finish<W: Write, M: Remarks<W>>(
     alloc: Global,
     engine: &mut Engine,
     line: &LineBuffer,
     places: &mut KnownPlaces,
     writer: &mut W,
+    remarks: &mut M,
 ) -> Result<(), WriteFault>
     requires { AreKnown engine.old.cleared places.old }
     ensures cleared { engine.new.cleared ≡ engine.old.cleared }
     ensures finishes { Finishes (setup engine.old.cleared) (record { plant = plant_of engine.old; line = line.now; written = W.contents writer.old })
         result (plant_of engine.new) (W.contents writer.new) }
 {
-    answer_line(alloc, engine, line.as_slice(), places, writer)?;
+    remarks.read_begins();
+    answer_line(alloc, engine, line.as_slice(), places, writer, remarks)?;
     flush(writer)
 }
 

@@ -2,6 +2,7 @@
 ghost use Rattle.batch_serve.specs.Serves.{Serves};
 
 use crate::fault::SetFault;
+use crate::remarks::Remarks;
 use crate::serving::serve;
 use batch_engine::Engine;
 use batch_verify::Cleared;
@@ -13,11 +14,12 @@ use std::io::{Read, Write};
 /// It asks the reader at most `max_reads` times, interrupted calls among them, which no clause says: the calls of a reader aren't
 /// counted. What is written to the writer is handed on whenever the reader is about to be asked for more. Memory is taken for the engine and for events; where an event finds
 /// none, its line is refused and serving goes on. Gives how many batches are neither complete, stopped nor aborted then.
-pub fn serve_set<R: Read, W: Write>(
+pub fn serve_set<R: Read, W: Write, M: Remarks<W>>(
     alloc: Global,
     cleared: Cleared,
     reader: &mut R,
     writer: &mut W,
+    remarks: &mut M,
     max_reads: u64,
 ) -> Result<usize, SetFault>
     ensures { Serves cleared max_reads result (record {
@@ -30,7 +32,7 @@ pub fn serve_set<R: Read, W: Write>(
     let Ok(mut engine) = Engine::new(alloc, cleared) else {
         return Err(SetFault::Memory);
     };
-    match serve(alloc, &mut engine, reader, writer, max_reads) {
+    match serve(alloc, &mut engine, reader, writer, remarks, max_reads) {
         Ok(()) => Ok(engine.unfinished()),
         Err(fault) => Err(SetFault::Stopped(fault)),
     }

@@ -77,6 +77,35 @@ verify_has_no_journal : fault_of program_app (codes "verify" ∷ codes "--journa
 unfolding clap_on_literals
 verify_has_no_journal = refl
 
+-- comments in the record
+
+abbrev echo_line : List Text
+echo_line = codes "run" ∷ codes "--echo" ∷ codes "c" ∷ codes "k" ∷ codes "r" ∷ []
+
+-- which comments are asked for by the command that was entered, and its recipes
+abbrev entered_comments : Option (Text × List Row) → Option (Text × Bool × Bool × List Text)
+entered_comments = option_map (λ p. (p.0, is_given (codes "echo") p.1, is_given (codes "times") p.1, words_of (codes "RECIPE") p.1))
+
+echo_is_given : entered_comments (subcommand_of program_app echo_line) ≡ Some (codes "run", true, false, codes "r" ∷ [])
+unfolding clap_on_literals
+echo_is_given = refl
+
+echo_is_taken : fault_of program_app echo_line ≡ []
+unfolding clap_on_literals
+echo_is_taken = refl
+
+times_is_given : entered_comments (subcommand_of program_app (codes "run" ∷ codes "c" ∷ codes "--times" ∷ codes "k" ∷ [])) ≡ Some (codes "run", false, true, [])
+unfolding clap_on_literals
+times_is_given = refl
+
+no_comments_are_given : entered_comments (subcommand_of program_app run_line) ≡ Some (codes "run", false, false, codes "r" ∷ [])
+unfolding clap_on_literals
+no_comments_are_given = refl
+
+verify_has_no_comments : fault_of program_app (codes "verify" ∷ codes "--echo" ∷ codes "c" ∷ codes "k" ∷ []) ≡ UnknownArgument ∷ []
+unfolding clap_on_literals
+verify_has_no_comments = refl
+
 serve_is_unknown : fault_of program_app (codes "serve" ∷ []) ≡ UnknownArgument ∷ InvalidSubcommand ∷ []
 unfolding clap_on_literals
 serve_is_unknown = refl

@@ -2,6 +2,7 @@
 ghost use Rattle.std.specs.Prelude.{◌≡◌};
 ghost use Rattle.batch_words.specs.declared.command.CommandFault.TheVariants.{Memory};
 
+use crate::comments::Comments;
 use crate::plant_options::PlantOptions;
 use std::alloc::{AllocError, AllocFailed};
 use thiserror::Error;
@@ -23,6 +24,11 @@ pub enum Subcommand {
     Write { path: String, judgement: Judgement },
     /// To serve event lines from standard input over a set.
     Serve(Source),
+    /// To serve them with comments in the record.
+    Remark {
+        source: Source,
+        comments: Comments,
+    },
     /// To serve them over the set of the documents at these paths, with a journal of them in the file at the first one.
     Keep {
         journal: String,

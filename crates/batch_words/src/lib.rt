@@ -2,11 +2,13 @@
 #![tactic(auto)]
 
 mod command;
+mod comments;
 mod line;
 mod plant_options;
 mod words;
 
 pub use command::{AuditWords, CommandFault, CommandWords, Judgement, Source, Subcommand};
+pub use comments::Comments;
 pub use line::VERSION;
 pub use plant_options::PlantOptions;
 pub use words::parse;

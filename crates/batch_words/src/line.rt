@@ -60,6 +60,9 @@ An example, in examples/paint_plant; type the lines below it:
 
 The same with a journal, from which the next start brings the plant back:
   batchd run --journal day.journal cell.toml certificate.txt primer.toml rinse-mended.toml
+
+The same with each line and its time as comments in the record:
+  batchd run --echo --times cell.toml certificate.txt primer.toml rinse-mended.toml
 ";
 
 const STATUS_HELP: &str = "\
@@ -165,11 +168,22 @@ fn run<'a>(alloc: Global) -> Result<Command<'a>, AllocError>
 {
     let about =
         "Serves event lines from standard input over the recipes that the certificate clears";
-    certified(alloc, "run", about, RUN_HELP)?.arg(path(
-        alloc,
-        "journal",
-        "Writes each event line to this file before it is answered, and begins where the file ends",
-    ))
+    certified(alloc, "run", about, RUN_HELP)?
+        .arg(path(
+            alloc,
+            "journal",
+            "Writes each event line to this file before it is answered, and begins where the file ends; not with --echo or --times",
+        ))?
+        .arg(flag(
+            alloc,
+            "echo",
+            "Writes each line as a comment, `# > LINE`, before its answer",
+        ))?
+        .arg(flag(
+            alloc,
+            "times",
+            "Writes `# at MILLISECONDS` before the answers to what one read brought",
+        ))
 }
 
 /// A command over a cell, a certificate and recipes.

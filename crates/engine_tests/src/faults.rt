@@ -5,7 +5,7 @@ use crate::records::engine_of;
 use crate::serving::{INPUT, MANY_READS, RECORD, answered, assert_outcome, run, run_into};
 use batch_engine::Engine;
 use batch_serve::{
-    ServeFault, SetFault, serve, transcripts_are_safe, transcripts_leave_nobody_in_vain,
+    NoRemarks, ServeFault, SetFault, serve, transcripts_are_safe, transcripts_leave_nobody_in_vain,
     transcripts_settle,
 };
 use std::alloc::Global;
@@ -130,7 +130,14 @@ fn is_settled_after(
     record: &mut Vec<u8>,
 ) -> Result<bool, Fail> {
     let mut input = input;
-    serve(alloc, engine, &mut input, record, MANY_READS)?;
+    serve(
+        alloc,
+        engine,
+        &mut input,
+        record,
+        &mut NoRemarks,
+        MANY_READS,
+    )?;
     Ok(engine.settled())
 }
 

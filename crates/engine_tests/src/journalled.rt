@@ -3,7 +3,7 @@ use crate::documents::{A, CELL1};
 use crate::records::engine_of;
 use crate::serving::{INPUT, MANY_READS, RECORD};
 use batch_engine::Engine;
-use batch_serve::{CleanReader, Held, Start, serve};
+use batch_serve::{CleanReader, Held, NoRemarks, Start, serve};
 use std::alloc::Global;
 use std::io::{ErrorKind, Read, Write};
 use std::process::Abort;
@@ -89,7 +89,14 @@ fn answers_held_back(rt: HostRuntime) -> Result<(), Fail> {
 fn record_of(alloc: Global, engine: &mut Engine) -> Result<Vec<u8>, Fail> {
     let mut held: Held<Vec<u8>, Empty> = Held::new(alloc, Vec::new(alloc));
     let mut input = CleanReader::new(INPUT);
-    let _served = serve(alloc, engine, &mut input, &mut held, MANY_READS);
+    let _served = serve(
+        alloc,
+        engine,
+        &mut input,
+        &mut held,
+        &mut NoRemarks,
+        MANY_READS,
+    );
     let (told, record) = held.finish();
     told?;
     Ok(record)

@@ -26,6 +26,8 @@ mod record_lines;
 #[cfg(test)]
 mod records;
 #[cfg(test)]
+mod remarked;
+#[cfg(test)]
 mod reports;
 #[cfg(test)]
 mod script;

@@ -4,7 +4,7 @@ use batch_check::check;
 use batch_engine::{Engine, Event, Out};
 use batch_reader::{read_cell, read_recipe};
 use batch_recipe::Recipe;
-use batch_serve::serve;
+use batch_serve::{NoRemarks, serve};
 use batch_verify::{Cleared, verify};
 use batch_wire::{read_event, write_out};
 use std::alloc::Global;
@@ -86,7 +86,14 @@ fn text_of(record: Vec<u8>) -> Result<String, Fail> {
 pub(crate) fn record(alloc: Global, engine: &mut Engine, line: &str) -> Result<String, Fail> {
     let mut record = Vec::new(alloc);
     let mut bytes = line.as_bytes();
-    serve(alloc, engine, &mut bytes, &mut record, MAX_READS)?;
+    serve(
+        alloc,
+        engine,
+        &mut bytes,
+        &mut record,
+        &mut NoRemarks,
+        MAX_READS,
+    )?;
     text_of(record)
 }
 

@@ -2,7 +2,7 @@
 use crate::documents::{A, CELL1};
 use crate::ends::{Failure, Narrow, OneByOne};
 use crate::records::cleared_of;
-use batch_serve::{SetFault, serve_set};
+use batch_serve::{NoRemarks, SetFault, serve_set};
 use std::alloc::Global;
 use std::io::Read;
 use std::process::Abort;
@@ -85,7 +85,14 @@ pub(crate) fn run<R: Read + Drop>(
     let cleared = cleared_of(alloc, CELL1, &[A])?;
     let mut reader = reader;
     let mut record = Vec::new(alloc);
-    let ending = serve_set(alloc, cleared, &mut reader, &mut record, max_reads);
+    let ending = serve_set(
+        alloc,
+        cleared,
+        &mut reader,
+        &mut record,
+        &mut NoRemarks,
+        max_reads,
+    );
     Ok(Outcome { ending, record })
 }
 
@@ -94,7 +101,14 @@ pub(crate) fn run_into(alloc: Global, fails_at: usize, failure: Failure) -> Resu
     let cleared = cleared_of(alloc, CELL1, &[A])?;
     let mut reader = OneByOne::of(INPUT);
     let mut writer = Narrow::failing(alloc, fails_at, failure);
-    let ending = serve_set(alloc, cleared, &mut reader, &mut writer, MANY_READS);
+    let ending = serve_set(
+        alloc,
+        cleared,
+        &mut reader,
+        &mut writer,
+        &mut NoRemarks,
+        MANY_READS,
+    );
     Ok(Outcome {
         ending,
         record: writer.taken,

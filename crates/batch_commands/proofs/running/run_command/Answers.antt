@@ -1,7 +1,7 @@
 use Rattle.std.proofs.Common.{map, refl, string_bytes}
 use Rattle.std.proofs.KnownBytes.{Keeps-refl}
 use Rattle.batch_words.specs.CommandLine.{judgement_of, source_of}
-use Rattle.batch_commands.specs.Running.{audits, explains, halts, judges, plants, reads, serves, keeps, writes}
+use Rattle.batch_commands.specs.Running.{audits, explains, halts, judges, plants, reads, serves, keeps, writes, remarks}
 use Rattle.batch_commands.proofs.Warned.{silent}
 use Rattle.batch_commands.proofs.running.run_command.Goals as goal
 
@@ -51,19 +51,31 @@ returns-in-Keep g c =
     (rw (c.deref-in-Keep.ensures, c.deref-in-Keep-2.ensures, c.deref-in-Keep-3.ensures.value, c.in-Keep.cell-is, c.in-Keep.certificate-is, c.in-Keep.recipes-is) at c.in-Err-clear_digested.ensures.halted, silent _ _)
     c.announce-in-Err-clear_digested.ensures)
 
+pub returns-in-Ok-clear_source-2 : goal.returns-in-Ok-clear_source-2
+returns-in-Ok-clear_source-2 g c =
+    rw c.in-Remark.is
+    (remarks (source_of c.in-Remark.source) c.in-Ok-clear_source-2.set c.in-Remark.comments refl (rw c.in-Remark.source-is at c.in-Ok-clear_source-2.ensures.set)
+    (Keeps-refl _) (Keeps-refl _))
+
+pub returns-in-Remark : goal.returns-in-Remark
+returns-in-Remark g c =
+    rw c.in-Remark.is
+    (halts c.in-Err-clear_source-2.halt _ _ (rw c.in-Remark.source-is at c.in-Err-clear_source-2.ensures.halted, silent _ _)
+    c.announce-in-Err-clear_source-2.ensures)
+
 pub returns-in-Status : goal.returns-in-Status
 returns-in-Status g c = rw c.in-Status.is (reads c.in-Status.path refl (Keeps-refl _) (Keeps-refl _))
 
-pub returns-in-Ok-clear_source-2 : goal.returns-in-Ok-clear_source-2
-returns-in-Ok-clear_source-2 g c =
+pub returns-in-Ok-clear_source-3 : goal.returns-in-Ok-clear_source-3
+returns-in-Ok-clear_source-3 g c =
     rw c.in-Audit.is
-    (audits c.in-Audit.audit c.in-Ok-clear_source-2.set refl (rw c.in-Audit.audit-is at c.in-Ok-clear_source-2.ensures.set) (Keeps-refl _) (Keeps-refl _))
+    (audits c.in-Audit.audit c.in-Ok-clear_source-3.set refl (rw c.in-Audit.audit-is at c.in-Ok-clear_source-3.ensures.set) (Keeps-refl _) (Keeps-refl _))
 
 pub returns-in-Audit : goal.returns-in-Audit
 returns-in-Audit g c =
     rw c.in-Audit.is
-    (halts c.in-Err-clear_source-2.halt _ _ (rw c.in-Audit.audit-is at c.in-Err-clear_source-2.ensures.halted, silent _ _)
-    c.announce-in-Err-clear_source-2.ensures)
+    (halts c.in-Err-clear_source-3.halt _ _ (rw c.in-Audit.audit-is at c.in-Err-clear_source-3.ensures.halted, silent _ _)
+    c.announce-in-Err-clear_source-3.ensures)
 
 pub returns-in-Ok-clear_demo : goal.returns-in-Ok-clear_demo
 returns-in-Ok-clear_demo g c =

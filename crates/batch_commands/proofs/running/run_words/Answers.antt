@@ -1,7 +1,6 @@
 use Rattle.std.proofs.Common.{subst, map, string_bytes}
 use Rattle.std.proofs.KnownBytes.{Keeps-refl}
-use Rattle.batch_words.specs.CommandLine.{IsFaultOf, program_app}
-use Rattle.clap.specs.Words.{fault_of}
+use Rattle.batch_words.specs.CommandLine.{IsFaultOf, faults_of}
 use Rattle.batch_commands.specs.Running.{commands, helps, misuses, starves}
 use Rattle.batch_words.specs.declared.command.CommandFault.{CommandFault}
 use Rattle.batch_commands.proofs.running.run_words.Goals as goal
@@ -12,12 +11,12 @@ returns-in-Ok g c =
 
 pub returns-in-Err-Help : goal.returns-in-Err-Help
 returns-in-Err-Help g c =
-    let Faulty : CommandFault → Type 0 = IsFaultOf (fault_of program_app (map string_bytes c.args.words.now)) in
+    let Faulty : CommandFault → Type 0 = IsFaultOf (faults_of (map string_bytes c.args.words.now)) in
     helps _ _ (subst Faulty c.in-Err-Help.field-0-is c.in-Err-Help.ensures.fault) c.print.ensures
 
 pub returns-in-Err-Usage : goal.returns-in-Err-Usage
 returns-in-Err-Usage g c =
-    let Faulty : CommandFault → Type 0 = IsFaultOf (fault_of program_app (map string_bytes c.args.words.now)) in
+    let Faulty : CommandFault → Type 0 = IsFaultOf (faults_of (map string_bytes c.args.words.now)) in
     rw c.complain.ensures (misuses (subst Faulty c.in-Err-Usage.field-0-is c.in-Err-Usage.ensures.fault) (Keeps-refl _))
 
 pub returns-in-Err-Memory : goal.returns-in-Err-Memory

@@ -1,10 +1,11 @@
 use Rattle.std.proofs.Common.{map, option_map, string_bytes}
 use Rattle.std.proofs.KnownBytes.{Keeps-refl}
 use Rattle.batch_words.specs.CommandLine.{source_of}
-use Rattle.batch_program.specs.Programs.{tells, serves, keeps, reads, audits, plants, writes}
+use Rattle.batch_program.specs.Programs.{tells, serves, keeps, reads, audits, plants, writes, remarks}
 use Rattle.batch_program.specs.declared.program.TheConstants.{MAX_READS}
 use Rattle.batch_program.proofs.Kept.{file_to_write}
 use Rattle.batch_program.proofs.Plants.{has_run}
+use Rattle.batch_program.proofs.RemarkedServed.{remarked_kept, set_to_remark}
 use Rattle.batch_program.proofs.Served.{audit_kept, left_kept, plant_to_run, record_kept, record_to_read, served_kept, set_to_audit, set_to_serve, told_kept, journal_kept, set_to_keep}
 use Rattle.batch_program.proofs.program.run_program.Goals as goal
 
@@ -39,6 +40,17 @@ returns-in-Keeps g c =
     c.run_words.ensures c.in-Keeps.is in
     keeps (string_bytes c.in-Keeps.path) is.cell is.certificate is.recipes digested.set digested.documents.text c.keep_journal.result.0 is.asked is.is_set
     (journal_kept _ digested.set digested.documents.text (string_bytes c.in-Keeps.path) _ _ _ _ _ _ is.unwritten (rw c.deref.ensures at c.keep_journal.ensures))
+
+pub returns-in-Remarks : goal.returns-in-Remarks
+returns-in-Remarks g c =
+    let course = c.in-Remarks in
+    let served = c.serve_remarked-served in
+    let (request, asked, is, hushed) = set_to_remark (g.D.Documents.gives c.args.documents.now) (map string_bytes c.args.words.now) _ _ _ course.set course.quiet course.comments c.run_words.ensures course.is in
+    let told = left_kept course.quiet _ _ _ served.result.0 is.silent c.tell_served-in-Remarks.ensures.told in
+    rw c.tell_served-in-Remarks.ensures.status
+    (remarks is.source course.comments.echo course.comments.times course.set served.result.0 (rw (← is.asked) asked) is.is_set
+    (remarked_kept course.set MAX_READS served.result.0 _ _ _ _ _ is.unwritten served.ensures)
+    (rw hushed at told))
 
 pub returns-in-Reads : goal.returns-in-Reads
 returns-in-Reads g c =

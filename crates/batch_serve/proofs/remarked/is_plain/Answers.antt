@@ -1,0 +1,5 @@
+use Rattle.batch_serve.proofs.CommentLemmas.{plain_all}
+use Rattle.batch_serve.proofs.remarked.is_plain.Goals as goal
+
+pub returns-in-None : goal.returns-in-None
+returns-in-None c = λ _. plain_all c.args.bytes.now c.in-None.ensures

@@ -1,0 +1,170 @@
+//! A writer of a record with comments.
+ghost use Rattle.std.specs.Prelude.{◌≡◌, ◌≢◌, true, false, OnOk, IsTrue};
+ghost use Rattle.std.specs.List.{list_all};
+ghost use Rattle.std.specs.Io.KnownBytes.{Appends, Keeps};
+ghost use Rattle.batch_serve.specs.Comments.{IsRemarked, next_spot, spot_behind};
+ghost use Rattle.batch_serve.specs.Remarking.{IsPart, is_plain, StandsAt, uncommented};
+
+use crate::held::Start;
+use batch_wire::{WriteFault, write_all};
+use memchr::memchr;
+use std::io;
+use std::io::{ErrorKind, Write};
+use std::marker::PhantomData;
+
+/// Where a text stands.
+#[derive(Clone, Copy, Debug, PartialEq, Eq)]
+pub enum Spot {
+    /// At the start of a line.
+    Start,
+    /// In the midst of a line.
+    Line,
+    /// In a comment.
+    Comment,
+}
+
+/// Writes a record, in which comments stand between lines. A contract sees it as a writer of the record without its comments.
+///
+/// What is written as the record has no `#`; else the write fails.
+#[derive(Drop)]
+pub(crate) struct Remarked<W: Write, C: Start> {
+    inner: W,
+    spot: Spot,
+    // a part of a comment failed
+    is_cut: bool,
+    of: PhantomData<C>,
+    ghost stands: { StandsAt C.contents (W.contents inner) spot is_cut },
+}
+
+impl<W: Write, C: Start> Remarked<W, C> {
+    /// Over a writer.
+    pub(crate) fn new(inner: W) -> Remarked<W, C>
+        requires { C.contents ≡ W.contents inner }
+        ensures { uncommented C.contents (W.contents result.inner) ≡ W.contents inner }
+    {
+        Remarked {
+            inner,
+            spot: Spot::Start,
+            is_cut: false,
+            of: PhantomData,
+        }
+    }
+
+    /// The writer.
+    pub(crate) fn into_inner(self) -> W
+        ensures { IsRemarked C.contents (W.contents result) (uncommented C.contents (W.contents self.inner)) }
+    {
+        self.inner
+    }
+
+    /// Writes a part of a comment, which begins at the one spot and ends at the other. It fails where the text doesn't stand there.
+    pub(crate) fn write_part(&mut self, from: Spot, part: &[u8], to: Spot) -> Result<(), WriteFault>
+        requires { IsPart from part.now to }
+        ensures kept { Keeps (uncommented C.contents (W.contents self.old.inner)) (uncommented C.contents (W.contents self.new.inner)) }
+        ensures written { OnOk result (Appends (W.contents self.old.inner) (W.contents self.new.inner) part.now) }
+    {
+        if is_ready(self.spot, self.is_cut, from) {
+            match write_all(&mut self.inner, part) {
+                Ok(()) => {
+                    self.spot = to;
+                    Ok(())
+                }
+                Err(fault) => {
+                    self.is_cut = true;
+                    Err(fault)
+                }
+            }
+        } else {
+            Err(WriteFault)
+        }
+    }
+}
+
+impl<W: Write, C: Start> Write for Remarked<W, C> {
+    ghost contents = { λ w. uncommented C.contents (W.contents w.inner) };
+
+    fn write(&mut self, bytes: &[u8]) -> io::Result<usize> {
+        if takes(self.spot, self.is_cut, bytes) {
+            let count = self.inner.write(bytes)?;
+            self.spot = spot_behind(self.spot, &bytes[..count]);
+            Ok(count)
+        } else {
+            Err(io::Error::from(ErrorKind::InvalidInput))
+        }
+    }
+
+    fn flush(&mut self) -> io::Result<()> {
+        self.inner.flush()
+    }
+}
+
+/// Whether a text that stands here, and of which no part of a comment is missing, stands where a part begins.
+fn is_ready(spot: Spot, is_cut: bool, from: Spot) -> bool
+    ensures { IsTrue result → (is_cut ≡ false) × (spot ≡ from) }
+{
+    !is_cut && is_at(spot, from)
+}
+
+fn is_at(spot: Spot, from: Spot) -> bool
+    ensures { IsTrue result → spot ≡ from }
+{
+    match (spot, from) {
+        (Spot::Start, Spot::Start) => true,
+        (Spot::Line, Spot::Line) => true,
+        (Spot::Comment, Spot::Comment) => true,
+        _ => false,
+    }
+}
+
+/// Whether the bytes may go on a record that stands here.
+fn takes(spot: Spot, is_cut: bool, bytes: &[u8]) -> bool
+    ensures { IsTrue result → (is_cut ≡ false) × (spot ≢ Spot.Comment) × (list_all is_plain bytes.now ≡ true) }
+{
+    !is_cut && is_outside(spot) && is_plain(bytes)
+}
+
+fn is_outside(spot: Spot) -> bool
+    ensures { IsTrue result → spot ≢ Spot.Comment }
+{
+    match spot {
+        Spot::Comment => false,
+        Spot::Start => true,
+        Spot::Line => true,
+    }
+}
+
+/// Whether none of the bytes is a `#`, so that they begin no comment wherever they stand.
+fn is_plain(bytes: &[u8]) -> bool
+    ensures { IsTrue result → list_all is_plain bytes.now ≡ true }
+{
+    match memchr(b'#', bytes) {
+        Some(_) => false,
+        None => true,
+    }
+}
+
+/// Where a text stands behind these bytes.
+#[tactic(auto, using(crate::proofs::CommentLemmas::spot_on))]
+fn spot_behind(spot: Spot, bytes: &[u8]) -> Spot
+    ensures { result ≡ spot_behind spot bytes.now }
+{
+    let mut at = spot;
+    for byte in bytes {
+        at = next_spot(at, *byte);
+    }
+    at
+}
+
+fn next_spot(spot: Spot, byte: u8) -> Spot
+    ensures { result ≡ next_spot spot byte }
+{
+    match spot {
+        Spot::Start if byte == b'\n' => Spot::Start,
+        Spot::Start if byte == b'#' => Spot::Comment,
+        Spot::Start => Spot::Line,
+        Spot::Line if byte == b'\n' => Spot::Start,
+        Spot::Line => Spot::Line,
+        Spot::Comment if byte == b'\n' => Spot::Start,
+        Spot::Comment => Spot::Comment,
+    }
+}

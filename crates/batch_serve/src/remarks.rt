@@ -1,0 +1,34 @@
+//! Who remarks on the lines that are served.
+ghost use Rattle.std.specs.Prelude.{◌≡◌, Ok, None};
+ghost use Rattle.std.specs.Io.KnownBytes.{Keeps};
+ghost use Rattle.batch_wire.specs.EventLine.{event_of_line};
+
+use batch_wire::WriteFault;
+use std::io::Write;
+
+/// Remarks on the lines that are served, in comments of the record that goes to a writer.
+///
+/// To the contracts of serving no remark is part of what the writer holds.
+pub trait Remarks<W: Write> {
+    /// A read of the input brought bytes, or its end.
+    fn read_begins(&mut self);
+
+    /// The line is about to be answered; it gives something. Of a line that is too long only so much may be known as shows that.
+    ///
+    /// The error comes where the writer failed, or took nothing.
+    fn answer_begins(&mut self, line: &[u8], writer: &mut W) -> Result<(), WriteFault>
+        requires { event_of_line line.now ≡ Ok None → ⊥ }
+        ensures { Keeps (W.contents writer.old) (W.contents writer.new) };
+}
+
+/// Remarks nothing.
+#[derive(Drop)]
+pub struct NoRemarks;
+
+impl<W: Write> Remarks<W> for NoRemarks {
+    fn read_begins(&mut self) {}
+
+    fn answer_begins(&mut self, _line: &[u8], _writer: &mut W) -> Result<(), WriteFault> {
+        Ok(())
+    }
+}
