@@ -9,7 +9,10 @@ pub enum Course {
     /// All is said, and the program ends with this exit status.
     Ends(u8),
     /// The program is to write this text into the file at the path, in place of the output.
-    Writes { path: String, text: String },
+    Writes {
+        path: String,
+        text: String,
+    },
     /// The program is to serve event lines over this set, and to say nothing beside the record where quiet is asked for.
     Serves {
         set: Cleared,
@@ -29,6 +32,10 @@ pub enum Course {
     },
     /// The program is to tell what a record says: the one at this path, or the one on its input.
     Reads {
+        path: Option<String>,
+    },
+    /// The program is to draw what a record says: the one at this path, or the one on its input.
+    Draws {
         path: Option<String>,
     },
     /// The program is to compare the record that the words name with what event lines come to over this set.

@@ -21,7 +21,10 @@ pub enum Subcommand {
     /// To judge documents.
     Judge(Judgement),
     /// To write into the file at this path what is printed of a judgement that accepts.
-    Write { path: String, judgement: Judgement },
+    Write {
+        path: String,
+        judgement: Judgement,
+    },
     /// To serve event lines from standard input over a set.
     Serve(Source),
     /// To serve them with comments in the record.
@@ -38,6 +41,10 @@ pub enum Subcommand {
     },
     /// To tell what a record says: the one at this path, or the one on standard input.
     Status {
+        path: Option<String>,
+    },
+    /// To draw what a record says: the one at this path, or the one on standard input.
+    Picture {
         path: Option<String>,
     },
     /// To compare a record with what event lines from standard input come to over a set.
