@@ -35,9 +35,10 @@ pub(crate) fn say_every<E: Write>(
 )
     ensures { AreSaid quiet refusals.now (E.contents errors.old) (E.contents errors.new) }
 {
-    if !quiet {
-        write_lines(alloc, refusals, errors);
+    if quiet {
+        return;
     }
+    write_lines(alloc, refusals, errors);
 }
 
 fn write_lines<E: Write>(alloc: Global, refusals: &[DocumentRefusal], errors: &mut E)
