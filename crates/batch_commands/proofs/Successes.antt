@@ -9,7 +9,7 @@ use Rattle.batch_verify.specs.ClearedSet.{ClearedSet}
 use Rattle.batch_commands.specs.Judging.{status_of}
 use Rattle.batch_commands.specs.Reading.{Gives}
 use Rattle.batch_commands.specs.Requests.{Halts, HaltsDemo, IsDemoSet, IsSetOf}
-use Rattle.batch_commands.specs.Running.{AskFor, IsAnnounced, IsDone, IsExplained, IsPrinted, IsRun, IsUnwritten, Stream, ask_quiet, memory_status, success_status, commands, serves, remarks, reads, audits, plants, halts, judges, explains, helps, misuses, starves, keeps}
+use Rattle.batch_commands.specs.Running.{AskFor, IsAnnounced, IsDone, IsExplained, IsPrinted, IsRun, IsUnwritten, Stream, ask_quiet, memory_status, success_status, commands, serves, remarks, reads, draws, audits, plants, halts, judges, explains, helps, misuses, starves, keeps}
 use Rattle.batch_commands.specs.Saying.{IsWarned}
 use Rattle.batch_commands.specs.Statuses.{AreCodesTold, IsSuccess, NoCommandServes, ServesClearedSets, SuccessIsTold}
 use Rattle.batch_commands.proofs.Warned.{verdict_more, warned_kept}
@@ -73,6 +73,7 @@ done_success gives request quiet output errors _ (serves _ _ _ _ _ _) is = absur
 done_success gives request quiet output errors _ (keeps _ _ _ _ _ _ _ _ _) is = absurd cc
 done_success gives request quiet output errors _ (remarks _ _ _ _ _ _ _) is = absurd cc
 done_success gives request quiet output errors _ (reads _ _ _ _) is = absurd cc
+done_success gives request quiet output errors _ (draws _ _ _ _) is = absurd cc
 done_success gives request quiet output errors _ (audits _ _ _ _ _ _) is = absurd cc
 done_success gives request quiet output errors _ (plants _ _ _ _ _ _) is = absurd cc
 
@@ -107,6 +108,7 @@ done_serving gives request quiet output errors set hushed _ (halts _ _ _ _ _) is
 done_serving gives request quiet output errors set hushed _ (keeps _ _ _ _ _ _ _ _ _) is = absurd cc
 done_serving gives request quiet output errors set hushed _ (remarks _ _ _ _ _ _ _) is = absurd cc
 done_serving gives request quiet output errors set hushed _ (reads _ _ _ _) is = absurd cc
+done_serving gives request quiet output errors set hushed _ (draws _ _ _ _) is = absurd cc
 done_serving gives request quiet output errors set hushed _ (audits _ _ _ _ _ _) is = absurd cc
 done_serving gives request quiet output errors set hushed _ (plants _ _ _ _ _ _) is = absurd cc
 
@@ -143,6 +145,7 @@ done_keeping gives request quiet output errors digested hushed journal _ (judges
 done_keeping gives request quiet output errors digested hushed journal _ (explains _ _ _ _) is = absurd cc
 done_keeping gives request quiet output errors digested hushed journal _ (halts _ _ _ _ _) is = absurd cc
 done_keeping gives request quiet output errors digested hushed journal _ (reads _ _ _ _) is = absurd cc
+done_keeping gives request quiet output errors digested hushed journal _ (draws _ _ _ _) is = absurd cc
 done_keeping gives request quiet output errors digested hushed journal _ (audits _ _ _ _ _ _) is = absurd cc
 done_keeping gives request quiet output errors digested hushed journal _ (plants _ _ _ _ _ _) is = absurd cc
 
@@ -172,6 +175,7 @@ demo_done gives request quiet output errors _ demo_asked (explains _ _ asked _) 
 demo_done gives request quiet output errors _ demo_asked (keeps _ _ _ _ _ asked _ _ _) = absurd cc
 demo_done gives request quiet output errors _ demo_asked (remarks _ _ _ asked _ _ _) = absurd cc
 demo_done gives request quiet output errors _ demo_asked (reads _ asked _ _) = absurd cc
+demo_done gives request quiet output errors _ demo_asked (draws _ asked _ _) = absurd cc
 demo_done gives request quiet output errors _ demo_asked (audits _ _ asked _ _ _) = absurd cc
 demo_done gives request quiet output errors _ demo_asked (plants _ _ asked _ _ _) = absurd cc
 

@@ -1,7 +1,7 @@
 -- trusted: what comes of a request: what is printed, the set that is to be served, or why there is none.
 use Rattle.std.specs.Prelude.{◌≡◌, List, ℕ, [], ◌∷◌}
 use Rattle.batch_verify.specs.ClearedSet.{ClearedSet}
-use Rattle.batch_words.specs.CommandLine.{Judgement, check, draw, verify, Source, demo, documents, Request, judge, serve, remark, tell, audit, plant, explain, show, keep}
+use Rattle.batch_words.specs.CommandLine.{Judgement, check, draw, verify, Source, demo, documents, Request, judge, serve, remark, tell, picture, audit, plant, explain, show, keep}
 use Rattle.batch_commands.specs.DemoDocuments.{demo_text}
 use Rattle.batch_commands.specs.Halting.{HaltsCheck, HaltsClearing, HaltsDrawing, HaltsVerifying, HaltsAtDocuments}
 use Rattle.batch_commands.specs.Reading.{AreCleared, ChecksDocuments, DrawsDocuments, Gives, VerifiesDocuments, Warns, ShowsDocuments}
@@ -52,5 +52,6 @@ Halts gives warns (serve source) h = HaltsSource gives source h × warns []
 Halts gives warns (remark source echo times) h = HaltsSource gives source h × warns []
 Halts gives warns (audit beginning path source) h = HaltsSource gives source h × warns []
 Halts gives warns (tell path) h = ⊥
+Halts gives warns (picture path) h = ⊥
 Halts gives warns (plant batches ticks ring) h = HaltsDemo h × warns []
 Halts gives warns (explain texts) h = ⊥

@@ -7,7 +7,7 @@ use Rattle.clap.specs.Walk.{Text}
 use Rattle.clap.specs.Words.{subcommand_of}
 use Rattle.clap.specs.declared.error.kind.ErrorKind.{ErrorKind}
 use Rattle.batch_explain.specs.Explaining.{HaveNoCode, Tells}
-use Rattle.batch_words.specs.CommandLine.{IsShown, Judgement, Request, Source, asked_by, asks_quiet, audit, explain, faults_of, judge, plant, program_app, remark, serve, source_of, tell, keep}
+use Rattle.batch_words.specs.CommandLine.{IsShown, Judgement, Request, Source, asked_by, asks_quiet, audit, explain, faults_of, judge, picture, plant, program_app, remark, serve, source_of, tell, keep}
 use Rattle.batch_commands.specs.Digested.{AreDigested}
 use Rattle.batch_commands.specs.Judging.{status_of}
 use Rattle.batch_commands.specs.Reading.{Gives}
@@ -18,7 +18,7 @@ use Rattle.batch_words.specs.declared.command.AuditWords.{AuditWords}
 use Rattle.batch_words.specs.declared.comments.Comments.{Comments}
 use Rattle.batch_words.specs.declared.plant_options.PlantOptions.{PlantOptions}
 use Rattle.batch_commands.specs.declared.course.Course.{Course}
-use Rattle.batch_commands.specs.declared.course.Course.TheVariants.{Ends, Serves, Remarks, Reads, Audits, Plants}
+use Rattle.batch_commands.specs.declared.course.Course.TheVariants.{Ends, Serves, Remarks, Reads, Draws, Audits, Plants}
 use Rattle.batch_commands.specs.declared.course.Course.TheVariants as courses
 use Rattle.batch_commands.specs.declared.digested.Digested.{Digested}
 use Rattle.batch_commands.specs.declared.refusal.Halt.{Halt}
@@ -101,7 +101,7 @@ IsExplained texts output errors status =
 -- Runs
 
 -- what comes of a request: the exit status, or the set that the program is to serve, quietly or not, with a journal or without one, or whose plant it is to run, or
--- the record that it is to read, or to audit over a set
+-- the record that it is to read, to draw, or to audit over a set
 pub data IsDone (gives : Gives) (request : Request) (quiet : Bool) (output errors : Stream) : Course → Type 0 where
   -- what the errors hold once it is warned is what they hold before the verdict is printed
   judges : (judgement : Judgement) (text : List ℕ) (status : ℕ) (warned : Option (List ℕ))
@@ -122,6 +122,9 @@ pub data IsDone (gives : Gives) (request : Request) (quiet : Bool) (output error
   reads : (path : Option (String Global))
       → request ≡ tell (option_map string_bytes path) → IsUnwritten output → IsUnwritten errors
       → IsDone gives request quiet output errors (Reads path)
+  draws : (path : Option (String Global))
+      → request ≡ picture (option_map string_bytes path) → IsUnwritten output → IsUnwritten errors
+      → IsDone gives request quiet output errors (Draws path)
   audits : (asked : AuditWords) (set : ClearedSet)
       → request ≡ audit asked.beginning (string_bytes asked.path) (source_of asked.source) → IsSetOf gives (source_of asked.source) set
       → IsUnwritten output → IsUnwritten errors → IsDone gives request quiet output errors (Audits set asked)

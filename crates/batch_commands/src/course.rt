@@ -29,6 +29,10 @@ pub enum Course {
     Reads {
         path: Option<String>,
     },
+    /// The program is to draw what a record says: the one at this path, or the one on its input.
+    Draws {
+        path: Option<String>,
+    },
     /// The program is to compare the record that the words name with what event lines come to over this set.
     Audits {
         set: Cleared,

@@ -115,6 +115,7 @@ fn run_command<D: Documents, O: Write, E: Write>(
             Err(halt) => Course::Ends(announce(alloc, quiet, &halt, output, errors)),
         },
         Subcommand::Status { path } => Course::Reads { path },
+        Subcommand::Picture { path } => Course::Draws { path },
         Subcommand::Audit(audit) => match clear_source(alloc, documents, &audit.source) {
             Ok(set) => Course::Audits { set, audit },
             Err(halt) => Course::Ends(announce(alloc, quiet, &halt, output, errors)),

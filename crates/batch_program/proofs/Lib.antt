@@ -4,3 +4,4 @@ pub mod Plants
 pub mod RecordsAudited
 pub mod RecordsTold
 pub mod KeptRuns
+mod RecordsDrawn

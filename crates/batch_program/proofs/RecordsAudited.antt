@@ -5,7 +5,7 @@ use Rattle.std.specs.Io.KnownBytes.{Appends}
 use Rattle.clap.specs.Walk.{Text}
 use Rattle.batch_verify.specs.ClearedSet.{ClearedSet}
 use Rattle.batch_wire.specs.Transcript.{lines_of}
-use Rattle.batch_words.specs.CommandLine.{Source, audit, keep, remark, serve, tell}
+use Rattle.batch_words.specs.CommandLine.{Source, audit, keep, picture, remark, serve, tell}
 use Rattle.batch_audit.specs.Audits as findings
 use Rattle.batch_audit.specs.Audits.{Finds, told_text}
 use Rattle.batch_audit.specs.declared.finding.Finding.{Finding}
@@ -18,7 +18,7 @@ use Rattle.batch_commands.proofs.Successes.{same_request}
 use Rattle.batch_serve.specs.Serves as serving
 use Rattle.batch_program.specs.AuditRuns.{IsAccepted, IsAuditTold, finding_status, finding_text, finds, stops}
 use Rattle.batch_program.specs.JournalRuns.{DiskKind}
-use Rattle.batch_program.specs.Programs.{AuditsAreTrue, IsProgramRun, tells, serves, keeps, remarks, reads, audits, plants}
+use Rattle.batch_program.specs.Programs.{AuditsAreTrue, IsProgramRun, tells, serves, keeps, remarks, reads, draws, audits, plants}
 use Rattle.batch_program.specs.RecordRuns.{Holds, IsUntold, output_of}
 use Rattle.batch_program.specs.Telling.{IsFindingTold}
 use Rattle.batch_program.proofs.Served.{audits_no_journal, plants_no_audit, serves_no_audit, told_at_once}
@@ -118,6 +118,9 @@ audits_no_comments source other beginning echo times path is = cc
 audits_no_record : (source : Source) (beginning : Bool) (path : Text) (other : Option Text) → audit beginning path source ≡ tell other → ⊥
 audits_no_record source beginning path other is = cc
 
+audits_no_picture : (source : Source) (beginning : Bool) (path : Text) (other : Option Text) → audit beginning path source ≡ picture other → ⊥
+audits_no_picture source beginning path other is = cc
+
 true_at : (gives : Gives) (holds : Holds) (disks : DiskKind) (words : List Text) (ends : serving.Ends) (errors : Stream) (beginning : Bool) (path : Text) (source : Source) (status : ℕ)
     → AskFor words (audit beginning path source) → IsProgramRun gives holds disks words ends errors status → status ≡ 0
     → (set : ClearedSet) × IsSetOf gives source set × IsFound holds set beginning path ends
@@ -131,6 +134,8 @@ true_at gives holds disks words ends errors beginning path source _ asked (remar
     absurd (audits_no_comments source other beginning echo times path (same_request words (audit beginning path source) (remark other echo times) asked asked2))
 true_at gives holds disks words ends errors beginning path source _ asked (reads other _ asked2 _) is =
     absurd (audits_no_record source beginning path other (same_request words (audit beginning path source) (tell other) asked asked2))
+true_at gives holds disks words ends errors beginning path source _ asked (draws other _ asked2 _) is =
+    absurd (audits_no_picture source beginning path other (same_request words (audit beginning path source) (picture other) asked asked2))
 true_at gives holds disks words ends errors beginning path source _ asked (plants _ options _ _ asked2 _ _ _ _) is =
     absurd (plants_no_audit options.batches options.ticks options.ring source beginning path (same_request words _ (audit beginning path source) asked2 asked))
 true_at gives holds disks words ends errors beginning path source _ asked (audits wide other from set status asked2 is_set told) is =

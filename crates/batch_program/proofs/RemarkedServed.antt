@@ -3,7 +3,7 @@ use Rattle.std.proofs.Common.{◌≡◌, ℕ, Bool, List, Option, Some, None, Re
 use Rattle.std.specs.Io.KnownBytes.{Keeps}
 use Rattle.clap.specs.Walk.{Text}
 use Rattle.batch_verify.specs.ClearedSet.{ClearedSet}
-use Rattle.batch_words.specs.CommandLine.{Request, Source, audit, keep, plant, remark, serve, tell}
+use Rattle.batch_words.specs.CommandLine.{Request, Source, audit, keep, picture, plant, remark, serve, tell}
 use Rattle.batch_words.specs.declared.comments.Comments.{Comments}
 use Rattle.batch_commands.specs.Reading.{Gives}
 use Rattle.batch_commands.specs.Requests.{IsSetOf}
@@ -17,7 +17,7 @@ use Rattle.batch_serve.specs.RemarkedSet.{ServesRemarked}
 use Rattle.batch_serve.specs.Serves as serving
 use Rattle.batch_serve.specs.Serves.{AnswersAll}
 use Rattle.batch_serve.specs.declared.fault.SetFault.{SetFault}
-use Rattle.batch_program.specs.Programs.{IsLeftTold, IsProgramRun, RemarkedServingIsSafe, tells, serves, keeps, remarks, reads, audits, plants}
+use Rattle.batch_program.specs.Programs.{IsLeftTold, IsProgramRun, RemarkedServingIsSafe, tells, serves, keeps, remarks, reads, draws, audits, plants}
 use Rattle.batch_program.specs.JournalRuns.{DiskKind}
 use Rattle.batch_program.specs.RecordRuns.{Holds, output_of}
 use Rattle.batch_program.proofs.Served.{ran_to_the_end, served_kept, told_at_once}
@@ -67,6 +67,7 @@ done_remarking gives request quiet output errors set hushed comments _ (running.
 done_remarking gives request quiet output errors set hushed comments _ (running.halts _ _ _ _ _) is = absurd cc
 done_remarking gives request quiet output errors set hushed comments _ (running.keeps _ _ _ _ _ _ _ _ _) is = absurd cc
 done_remarking gives request quiet output errors set hushed comments _ (running.reads _ _ _ _) is = absurd cc
+done_remarking gives request quiet output errors set hushed comments _ (running.draws _ _ _ _) is = absurd cc
 done_remarking gives request quiet output errors set hushed comments _ (running.audits _ _ _ _ _ _) is = absurd cc
 done_remarking gives request quiet output errors set hushed comments _ (running.plants _ _ _ _ _ _) is = absurd cc
 
@@ -94,6 +95,9 @@ no_audit source other echo times beginning path is = cc
 no_record : (source : Source) (echo times : Bool) (path : Option Text) → tell path ≡ remark source echo times → ⊥
 no_record source echo times path is = cc
 
+no_picture : (source : Source) (echo times : Bool) (path : Option Text) → picture path ≡ remark source echo times → ⊥
+no_picture source echo times path is = cc
+
 no_plant : (source : Source) (echo times : Bool) (batches ticks ring : ℕ) → plant batches ticks ring ≡ remark source echo times → ⊥
 no_plant source echo times batches ticks ring is = cc
 
@@ -118,6 +122,8 @@ safe_at gives holds disks words ends errors source echo times _ asked (audits be
     absurd (no_audit source other echo times beginning path (same_request words (audit beginning path other) (remark source echo times) asked2 asked))
 safe_at gives holds disks words ends errors source echo times _ asked (reads path _ asked2 _) is =
     absurd (no_record source echo times path (same_request words (tell path) (remark source echo times) asked2 asked))
+safe_at gives holds disks words ends errors source echo times _ asked (draws path _ asked2 _) is =
+    absurd (no_picture source echo times path (same_request words (picture path) (remark source echo times) asked2 asked))
 safe_at gives holds disks words ends errors source echo times _ asked (plants _ options _ _ asked2 _ _ _ _) is =
     absurd (no_plant source echo times options.batches options.ticks options.ring (same_request words _ (remark source echo times) asked2 asked))
 

@@ -10,7 +10,7 @@ use Rattle.batch_engine.specs.View.{setup}
 use Rattle.batch_wire.specs.Transcript.{lines_of, whole_lines}
 use Rattle.batch_wire.specs.Written.{AppendsBeginning}
 use Rattle.batch_serve.specs.Safe.{BeginsSafely, WritesSafely, WritesWholeSafely}
-use Rattle.batch_words.specs.CommandLine.{Request, Source, audit, keep, plant, remark, serve, source_of, tell}
+use Rattle.batch_words.specs.CommandLine.{Request, Source, audit, keep, picture, plant, remark, serve, source_of, tell}
 use Rattle.batch_words.specs.declared.command.AuditWords.{AuditWords}
 use Rattle.batch_words.specs.declared.plant_options.PlantOptions.{PlantOptions}
 use Rattle.batch_commands.specs.Reading.{Gives}
@@ -33,7 +33,7 @@ use Rattle.batch_serve.specs.declared.fault.ServeFault.TheVariants.{Read, Write,
 use Rattle.batch_serve.specs.declared.fault.SetFault.{SetFault}
 use Rattle.batch_serve.specs.declared.fault.SetFault.TheVariants.{Memory, Stopped}
 use Rattle.batch_program.specs.declared.program.TheConstants.{MAX_READS}
-use Rattle.batch_program.specs.Programs.{IsLeftTold, IsProgramRun, PlantsAreComplete, ServingIsSafe, tells, serves, remarks, reads, audits, plants, status_of_serving, keeps}
+use Rattle.batch_program.specs.Programs.{IsLeftTold, IsProgramRun, PlantsAreComplete, ServingIsSafe, tells, serves, remarks, reads, draws, audits, plants, status_of_serving, keeps}
 use Rattle.batch_plant.specs.declared.plant_fault.PlantFault.{PlantFault}
 use Rattle.batch_plant.specs.declared.plant_fault.PlantFault.TheVariants as plant_fault
 use Rattle.batch_audit.specs.declared.finding.Finding.{Finding}
@@ -46,6 +46,9 @@ use Rattle.batch_commands.specs.Digested.{AreDigested}
 use Rattle.batch_commands.specs.declared.digested.Digested.{Digested}
 use Rattle.batch_journal.specs.declared.recovery.RecoveryFault.{RecoveryFault}
 use Rattle.batch_program.specs.PlantRuns.{HasRun, IsPlantTold, plant_text, refused_status}
+use Rattle.batch_program.specs.DrawingRuns as drawing
+use Rattle.batch_program.specs.DrawingRuns.{IsDrawn, IsRecordDrawn}
+use Rattle.batch_timeline.specs.Pictures.{picture_text}
 use Rattle.batch_program.specs.RecordRuns.{Holds, IsRecordTold, IsStatusTold, IsUntold, prints, refuses, stops, no_record_text, output_of}
 
 -- Streams
@@ -158,6 +161,7 @@ done_to_plant gives request quiet output errors _ set options (running.serves _ 
 done_to_plant gives request quiet output errors _ set options (running.keeps _ _ _ _ _ _ _ _ _) is = absurd cc
 done_to_plant gives request quiet output errors _ set options (running.remarks _ _ _ _ _ _ _) is = absurd cc
 done_to_plant gives request quiet output errors _ set options (running.reads _ _ _ _) is = absurd cc
+done_to_plant gives request quiet output errors _ set options (running.draws _ _ _ _) is = absurd cc
 done_to_plant gives request quiet output errors _ set options (running.audits _ _ _ _ _ _) is = absurd cc
 done_to_plant gives request quiet output errors _ set options (running.halts _ _ _ _ _) is = absurd cc
 done_to_plant gives request quiet output errors _ set options (running.judges _ _ _ _ _ _ _) is = absurd cc
@@ -248,6 +252,57 @@ record_kept holds (Some path) unread left before mid after quiet still loud stat
 record_kept holds (Some path) unread left before mid after quiet still loud status kept silent (same, inr (untouched, is)) =
     (same, inr (kept_then_kept before mid after kept untouched, is))
 
+-- Pictures of records
+
+done_to_draw : (gives : Gives) (request : Request) (quiet : Bool) (output errors : Stream) (course : Course) (path : Option (String Global))
+    → IsDone gives request quiet output errors course → course ≡ course_of.Draws path
+    → (request ≡ picture (option_map string_bytes path)) × IsUnwritten output × IsUnwritten errors
+done_to_draw gives request quiet output errors _ path (running.draws other asked kept silent) is =
+    let same : other ≡ path = cc in
+    (subst (λ (p : Option (String Global)). request ≡ picture (option_map string_bytes p)) same asked, kept, silent)
+done_to_draw gives request quiet output errors _ path (running.serves _ _ _ _ _ _) is = absurd cc
+done_to_draw gives request quiet output errors _ path (running.keeps _ _ _ _ _ _ _ _ _) is = absurd cc
+done_to_draw gives request quiet output errors _ path (running.remarks _ _ _ _ _ _ _) is = absurd cc
+done_to_draw gives request quiet output errors _ path (running.reads _ _ _ _) is = absurd cc
+done_to_draw gives request quiet output errors _ path (running.plants _ _ _ _ _ _) is = absurd cc
+done_to_draw gives request quiet output errors _ path (running.audits _ _ _ _ _ _) is = absurd cc
+done_to_draw gives request quiet output errors _ path (running.halts _ _ _ _ _) is = absurd cc
+done_to_draw gives request quiet output errors _ path (running.judges _ _ _ _ _ _ _) is = absurd cc
+done_to_draw gives request quiet output errors _ path (running.explains _ _ _ _) is = absurd cc
+
+-- the record that is to be drawn is the one that the words name, and nothing was written
+pub record_to_draw : (gives : Gives) (words : List Text) (output errors : Stream) (course : Course) (path : Option (String Global))
+    → IsRun gives words output errors course → course ≡ course_of.Draws path
+    → AskFor words (picture (option_map string_bytes path)) × IsUnwritten output × IsUnwritten errors
+record_to_draw gives words output errors _ path (running.commands request course asked came) is =
+    let (named, kept, silent) = done_to_draw gives request (ask_quiet words) output errors course path came is in
+    (rw (← named) asked, kept, silent)
+record_to_draw gives words output errors _ path (running.helps _ _ _ _) is = absurd cc
+record_to_draw gives words output errors _ path (running.misuses _ _) is = absurd cc
+record_to_draw gives words output errors _ path (running.starves _) is = absurd cc
+
+picture_kept : (unread before mid after quiet still loud : Option (List ℕ)) (status : ℕ) → Keeps before mid → Keeps quiet still
+    → IsDrawn unread (record { before = mid; after = after }) (record { before = still; after = loud }) status
+    → IsDrawn unread (record { before = before; after = after }) (record { before = quiet; after = loud }) status
+picture_kept unread before mid after quiet still loud status kept silent (drawing.pictures own told printed) =
+    drawing.pictures own told (printed_kept before mid after quiet still loud (picture_text own) success_status status kept silent printed)
+picture_kept unread before mid after quiet still loud status kept silent (drawing.declines number refused printed) =
+    drawing.declines number refused (printed_kept before mid after quiet still loud (no_record_text number) refused_status status kept silent printed)
+picture_kept unread before mid after quiet still loud status kept silent (drawing.fails (untouched, is)) =
+    drawing.fails (kept_then_kept before mid after kept untouched, is)
+
+-- drawing a record, after the streams were left as they were
+pub drawn_kept : (holds : Holds) (path : Option Text) (unread left before mid after quiet still loud : Option (List ℕ)) (status : ℕ)
+    → Keeps before mid → Keeps quiet still
+    → IsRecordDrawn holds path (record { unread = unread; left = left; before = mid; after = after }) (record { before = still; after = loud }) status
+    → IsRecordDrawn holds path (record { unread = unread; left = left; before = before; after = after }) (record { before = quiet; after = loud }) status
+drawn_kept holds None unread left before mid after quiet still loud status kept silent told =
+    picture_kept unread before mid after quiet still loud status kept silent told
+drawn_kept holds (Some path) unread left before mid after quiet still loud status kept silent (same, inl (given, held, told)) =
+    (same, inl (given, held, picture_kept given before mid after quiet still loud status kept silent told))
+drawn_kept holds (Some path) unread left before mid after quiet still loud status kept silent (same, inr (untouched, is)) =
+    (same, inr (kept_then_kept before mid after kept untouched, is))
+
 -- Audits
 
 -- what is to be audited is the record that the words name, over the set of the documents that they name, and nothing was written
@@ -268,6 +323,7 @@ done_to_audit gives words request quiet output errors _ set own asked (running.s
 done_to_audit gives words request quiet output errors _ set own asked (running.keeps _ _ _ _ _ _ _ _ _) is = absurd cc
 done_to_audit gives words request quiet output errors _ set own asked (running.remarks _ _ _ _ _ _ _) is = absurd cc
 done_to_audit gives words request quiet output errors _ set own asked (running.reads _ _ _ _) is = absurd cc
+done_to_audit gives words request quiet output errors _ set own asked (running.draws _ _ _ _) is = absurd cc
 done_to_audit gives words request quiet output errors _ set own asked (running.plants _ _ _ _ _ _) is = absurd cc
 done_to_audit gives words request quiet output errors _ set own asked (running.halts _ _ _ _ _) is = absurd cc
 done_to_audit gives words request quiet output errors _ set own asked (running.judges _ _ _ _ _ _ _) is = absurd cc
@@ -384,6 +440,12 @@ serves_no_comments source other echo times is = cc
 plants_no_comments : (batches ticks ring : ℕ) (source : Source) (echo times : Bool) → plant batches ticks ring ≡ remark source echo times → ⊥
 plants_no_comments batches ticks ring source echo times is = cc
 
+serves_no_picture : (source : Source) (path : Option Text) → serve source ≡ picture path → ⊥
+serves_no_picture source path is = cc
+
+plants_no_picture : (batches ticks ring : ℕ) (path : Option Text) → plant batches ticks ring ≡ picture path → ⊥
+plants_no_picture batches ticks ring path is = cc
+
 serves_no_plant : (source : Source) (batches ticks ring : ℕ) → serve source ≡ plant batches ticks ring → ⊥
 serves_no_plant source batches ticks ring is = cc
 
@@ -412,6 +474,8 @@ safe_at gives holds disks words ends errors source _ asked (remarks other echo t
     absurd (serves_no_comments source other echo times (same_request words (serve source) (remark other echo times) asked asked2))
 safe_at gives holds disks words ends errors source _ asked (reads path _ asked2 _) is =
     absurd (serves_no_record source path (same_request words (serve source) (tell path) asked asked2))
+safe_at gives holds disks words ends errors source _ asked (draws path _ asked2 _) is =
+    absurd (serves_no_picture source path (same_request words (serve source) (picture path) asked asked2))
 safe_at gives holds disks words ends errors source _ asked (audits beginning path other _ _ asked2 _ _) is =
     absurd (serves_no_audit source other beginning path (same_request words (serve source) (audit beginning path other) asked asked2))
 safe_at gives holds disks words ends errors source _ asked (plants _ options _ _ asked2 _ _ _ _) is =
@@ -445,6 +509,7 @@ done_in_range gives request quiet output errors _ status (running.serves _ _ _ _
 done_in_range gives request quiet output errors _ status (running.keeps _ _ _ _ _ _ _ _ _) is = absurd cc
 done_in_range gives request quiet output errors _ status (running.remarks _ _ _ _ _ _ _) is = absurd cc
 done_in_range gives request quiet output errors _ status (running.reads _ _ _ _) is = absurd cc
+done_in_range gives request quiet output errors _ status (running.draws _ _ _ _) is = absurd cc
 done_in_range gives request quiet output errors _ status (running.audits _ _ _ _ _ _) is = absurd cc
 done_in_range gives request quiet output errors _ status (running.plants _ _ _ _ _ _) is = absurd cc
 done_in_range gives request quiet output errors _ status (running.halts h told warned _ at) is =
@@ -506,6 +571,16 @@ audit_in_range holds set beginning path ends errors status (auditing.finds given
     printed_in_range (output_of ends) errors _ (finding_status beginning finding) status (finding_in_range beginning finding) printed
 audit_in_range holds set beginning path ends errors status (auditing.stops untold) = untold_in_range (output_of ends) status untold
 
+picture_in_range : (unread : Option (List ℕ)) (output errors : Stream) (status : ℕ) → IsDrawn unread output errors status → status ≤ 4
+picture_in_range unread output errors status (drawing.pictures own _ printed) = printed_in_range output errors (picture_text own) success_status status (omega arith) printed
+picture_in_range unread output errors status (drawing.declines number _ printed) = printed_in_range output errors _ refused_status status (omega arith) printed
+picture_in_range unread output errors status (drawing.fails untold) = untold_in_range output status untold
+
+drawn_in_range : (holds : Holds) (path : Option Text) (ends : serving.Ends) (errors : Stream) (status : ℕ) → IsRecordDrawn holds path ends errors status → status ≤ 4
+drawn_in_range holds None ends errors status told = picture_in_range ends.unread (output_of ends) errors status told
+drawn_in_range holds (Some path) ends errors status (_, inl (unread, _, told)) = picture_in_range unread (output_of ends) errors status told
+drawn_in_range holds (Some path) ends errors status (_, inr untold) = untold_in_range (output_of ends) status untold
+
 refusal_in_range : (path : List ℕ) (fault : RecoveryFault) (output : Stream) (status : ℕ) → IsJournalRefused path fault output status → status ≤ 4
 refusal_in_range path fault output status (inl (_, refused)) = rw refused (omega arith)
 refusal_in_range path fault output status (inr (inl fails)) = rw fails (omega arith)
@@ -534,6 +609,7 @@ run_in_range gives holds disks words ends errors _ (serves _ _ served _ _ _ _) =
 run_in_range gives holds disks words ends errors _ (remarks _ _ _ _ served _ _ _ _) = serving_in_range served
 run_in_range gives holds disks words ends errors status (keeps path _ _ _ set digits _ _ _ ran) = kept_in_range disks set digits path ends status ran
 run_in_range gives holds disks words ends errors status (reads path _ _ told) = record_in_range holds path ends errors status told
+run_in_range gives holds disks words ends errors status (draws path _ _ told) = drawn_in_range holds path ends errors status told
 run_in_range gives holds disks words ends errors status (audits beginning path _ set _ _ _ told) = audit_in_range holds set beginning path ends errors status told
 run_in_range gives holds disks words ends errors status (plants _ options end _ _ _ _ told _) = plant_in_range (output_of ends) errors options.batches end status told
 
@@ -568,6 +644,8 @@ told_plant gives holds disks words ends errors batches ticks ring _ asked (remar
     absurd (plants_no_comments batches ticks ring source echo times (same_request words (plant batches ticks ring) (remark source echo times) asked asked2))
 told_plant gives holds disks words ends errors batches ticks ring _ asked (reads path _ asked2 _) is =
     absurd (plants_no_record batches ticks ring path (same_request words (plant batches ticks ring) (tell path) asked asked2))
+told_plant gives holds disks words ends errors batches ticks ring _ asked (draws path _ asked2 _) is =
+    absurd (plants_no_picture batches ticks ring path (same_request words (plant batches ticks ring) (picture path) asked asked2))
 told_plant gives holds disks words ends errors batches ticks ring _ asked (audits beginning path source _ _ asked2 _ _) is =
     absurd (plants_no_audit batches ticks ring source beginning path (same_request words (plant batches ticks ring) (audit beginning path source) asked asked2))
 told_plant gives holds disks words ends errors batches ticks ring status asked (plants set options end _ asked2 demo ran told _) is =

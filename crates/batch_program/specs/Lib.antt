@@ -1,4 +1,5 @@
 pub mod AuditRuns
+pub mod DrawingRuns
 pub mod JournalRuns
 pub mod Keeping
 pub mod PlantRuns

@@ -6,7 +6,7 @@ use Rattle.std.specs.declared.process.ExitCode.{ExitCode}
 use Rattle.clap.specs.Walk.{Text}
 use Rattle.batch_verify.specs.ClearedSet.{ClearedSet}
 use Rattle.batch_wire.specs.Transcript.{lines_of}
-use Rattle.batch_words.specs.CommandLine.{Source, audit, keep, plant, remark, serve, tell}
+use Rattle.batch_words.specs.CommandLine.{Source, audit, keep, picture, plant, remark, serve, tell}
 use Rattle.batch_words.specs.declared.plant_options.PlantOptions.{PlantOptions}
 use Rattle.batch_commands.specs.Digested.{AreDigested}
 use Rattle.batch_commands.specs.Reading.{Gives}
@@ -23,6 +23,7 @@ use Rattle.batch_serve.specs.declared.fault.SetFault.{SetFault}
 use Rattle.batch_serve.specs.declared.fault.SetFault.TheVariants.{Memory, Stopped}
 use Rattle.batch_plant.specs.declared.plant_fault.PlantFault.{PlantFault}
 use Rattle.batch_program.specs.AuditRuns.{IsAccepted, IsAuditTold}
+use Rattle.batch_program.specs.DrawingRuns.{IsRecordDrawn}
 use Rattle.batch_program.specs.JournalRuns.{DiskKind, IsJournalRun}
 use Rattle.batch_program.specs.PlantRuns.{HasRun, IsPlantTold, plant_text}
 use Rattle.batch_program.specs.RecordRuns.{Holds, IsRecordTold, output_of}
@@ -70,6 +71,9 @@ pub data IsProgramRun (gives : Gives) (holds : Holds) (disks : DiskKind) (words 
   -- what the record that the words name tells is printed, or what the input tells
   reads : (path : Option Text) (status : ℕ)
       → AskFor words (tell path) → IsRecordTold holds path ends errors status → IsProgramRun gives holds disks words ends errors status
+  -- the picture of the record that the words name is printed, or that of the input
+  draws : (path : Option Text) (status : ℕ)
+      → AskFor words (picture path) → IsRecordDrawn holds path ends errors status → IsProgramRun gives holds disks words ends errors status
   -- what is found of the record that the words name, against the lines of the input over the set that they name, is printed
   audits : (beginning : Bool) (path : Text) (source : Source) (set : ClearedSet) (status : ℕ)
       → AskFor words (audit beginning path source) → IsSetOf gives source set → IsAuditTold holds set beginning path ends errors status

@@ -8,6 +8,7 @@ use crate::noted::Noted;
 use crate::plant::report_of_plant;
 use crate::plant_runner::PlantRunner;
 use crate::record_audit::audit_record;
+use crate::record_drawing::draw_record_at;
 use crate::record_status::tell_record;
 use crate::records::Records;
 use crate::statuses::serving_status;
@@ -30,9 +31,9 @@ struct Stop {
 }
 
 /// Does what the words ask for, and gives the exit status: judges documents, serves event lines from the input over the set
-/// that they name, with a journal or without one, tells what a record says or whether it is that of the lines that were sent, or has the demo's plant run.
+/// that they name, with a journal or without one, tells or draws what a record says, tells whether it is that of the lines that were sent, or has the demo's plant run.
 ///
-/// Verdicts, help, the record, what one tells, what is found of one and the lines of a plant go to the output, and all else, in a free text, to the errors. Refused
+/// Verdicts, help, the record, what one tells, the picture of one, what is found of one and the lines of a plant go to the output, and all else, in a free text, to the errors. Refused
 /// events are part of the record and don't change the status. Where the input ends while batches are neither complete, stopped
 /// nor aborted, one line on the errors says how many, unless quiet is asked for; where none is, nothing is written there.
 ///
@@ -92,6 +93,10 @@ pub fn run_program<D: Documents + Records + Journals, P: PlantRunner, R: Read, W
         ),
         Course::Reads { path } => {
             let status = tell_record(alloc, path, documents, input, &mut output, errors);
+            (status, output)
+        }
+        Course::Draws { path } => {
+            let status = draw_record_at(alloc, path, documents, input, &mut output, errors);
             (status, output)
         }
         Course::Audits { set, audit } => {

@@ -94,7 +94,12 @@ fn status_text<R: Read>(alloc: Global, reader: &mut R) -> Result<Vec<u8>, Status
 }
 
 /// Prints that the line with this number is none of a record, and gives the exit status.
-fn refuse_line<W: Write, E: Write>(alloc: Global, line: u64, output: &mut W, errors: &mut E) -> u8
+pub(crate) fn refuse_line<W: Write, E: Write>(
+    alloc: Global,
+    line: u64,
+    output: &mut W,
+    errors: &mut E,
+) -> u8
     ensures { IsPrinted (record { before = W.contents output.old; after = W.contents output.new })
         (record { before = E.contents errors.old; after = E.contents errors.new }) (no_record_text line) refused_status result
         ⊎ (IsUnwritten (record { before = W.contents output.old; after = W.contents output.new }) × (result ≡ memory_status)) }

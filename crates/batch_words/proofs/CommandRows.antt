@@ -197,6 +197,14 @@ no_path_is_taken : fault_of program_app (codes "status" ∷ []) ≡ []
 unfolding clap_on_literals
 no_path_is_taken = refl
 
+picture_path_is_read : entered_path (subcommand_of program_app (codes "draw" ∷ codes "r" ∷ [])) ≡ Some (codes "draw", Some (codes "r"))
+unfolding clap_on_literals
+picture_path_is_read = refl
+
+no_picture_path_is_read : entered_path (subcommand_of program_app (codes "draw" ∷ [])) ≡ Some (codes "draw", None)
+unfolding clap_on_literals
+no_picture_path_is_read = refl
+
 -- an audit
 
 abbrev audit_line : List Text

@@ -1,4 +1,4 @@
--- trusted: the command line: `check CELL RECIPE..`, `verify CELL CERT RECIPE..`, `show CELL RECIPE..`, `run [--journal FILE] [--echo] [--times] CELL CERT RECIPE..`, `status RECORD`, `audit RECORD CELL CERT RECIPE..`, `plant`, `explain CODE..`, and no words at all.
+-- trusted: the command line: `check CELL RECIPE..`, `verify CELL CERT RECIPE..`, `show CELL RECIPE..`, `run [--journal FILE] [--echo] [--times] CELL CERT RECIPE..`, `status RECORD`, `draw RECORD`, `audit RECORD CELL CERT RECIPE..`, `plant`, `explain CODE..`, and no words at all.
 use Rattle.std.specs.Prelude.{◌≡◌, ◌≢◌, ◌⊎◌, [], ◌∷◌, ℕ, Bool, List, Option, Some, None, map, option_map, codes, true, false, ◌&&◌, ◌||◌, is_some, unwrap_or, string_bytes, if◌then◌else◌, ⊤}
 use Rattle.std.specs.Str.{bytes_eq}
 use Rattle.std.specs.Str.Parse.{digits_value, without_leading_plus}
@@ -13,7 +13,7 @@ use Rattle.clap.specs.declared.builder.value_parser.ValueParser.TheVariants.{Uns
 use Rattle.clap.specs.declared.error.kind.ErrorKind.{ErrorKind}
 use Rattle.clap.specs.declared.error.kind.ErrorKind.TheVariants.{ArgumentConflict, DisplayHelp, DisplayVersion, OutOfMemory}
 use Rattle.batch_words.specs.declared.command.Subcommand.{Subcommand}
-use Rattle.batch_words.specs.declared.command.Subcommand.TheVariants.{Judge, Serve, Remark, Status, Audit, Plant, Explain, Keep}
+use Rattle.batch_words.specs.declared.command.Subcommand.TheVariants.{Judge, Serve, Remark, Status, Picture, Audit, Plant, Explain, Keep}
 use Rattle.batch_words.specs.declared.command.Judgement as judgements
 use Rattle.batch_words.specs.declared.command.Judgement.TheVariants.{Check, Draw, Verify, Show}
 use Rattle.batch_words.specs.declared.command.Source as sources
@@ -74,6 +74,9 @@ run_app = with_rule (with_rule (with_rule (certified_app (codes "run")) (path_ru
 abbrev pub status_app : App
 status_app = with_rule (new_app (codes "status")) (optional_rule (codes "RECORD"))
 
+abbrev pub draw_app : App
+draw_app = with_rule (new_app (codes "draw")) (optional_rule (codes "RECORD"))
+
 abbrev pub audit_app : App
 audit_app = with_rule (with_rule (with_rule (with_rule (with_rule (with_rule (new_app (codes "audit"))
     (word_rule (codes "RECORD"))) (word_rule (codes "CELL"))) (word_rule (codes "CERT"))) (several_rule (codes "RECIPE")))
@@ -92,8 +95,8 @@ bare_app = on_top (λ s. record s { has_version = true; no_binary_name = true })
 -- the whole command line
 abbrev pub program_app : App
 program_app =
-    with_subcommand (with_subcommand (with_subcommand (with_subcommand (with_subcommand (with_subcommand (with_subcommand (with_subcommand bare_app
-    check_app.top) (certified_app (codes "verify")).top) show_app.top) run_app.top) status_app.top) audit_app.top) plant_app.top)
+    with_subcommand (with_subcommand (with_subcommand (with_subcommand (with_subcommand (with_subcommand (with_subcommand (with_subcommand (with_subcommand bare_app
+    check_app.top) (certified_app (codes "verify")).top) show_app.top) run_app.top) status_app.top) draw_app.top) audit_app.top) plant_app.top)
     explain_app.top
 
 -- the word that was given for an argument
@@ -150,6 +153,8 @@ pub data Request : Type 0 where
   keep : (journal cell certificate : Text) (recipes : List Text) → Request
   -- to tell what the record at this path says, or the one on standard input
   tell : (path : Option Text) → Request
+  -- to draw what it says
+  picture : (path : Option Text) → Request
   -- to compare the record at this path with what event lines come to over a set; a record that only begins it may be accepted
   audit : (beginning : Bool) (path : Text) (source : Source) → Request
   -- to run the demo's plant for so many batches, with phases of so many ticks and rings of so many places
@@ -198,9 +203,10 @@ named_by name rows =
     if bytes_eq name (codes "explain") then explain (words_of (codes "CODE") rows)
     else (if bytes_eq name (codes "plant") then plant (batches_of rows) (ticks_of rows) (ring_of rows)
     else (if bytes_eq name (codes "status") then tell (first_of (codes "RECORD") rows)
+    else (if bytes_eq name (codes "draw") then picture (first_of (codes "RECORD") rows)
     else (if bytes_eq name (codes "audit") then audited_by rows
     else (if bytes_eq name (codes "check") then checked_by rows
-    else (if bytes_eq name (codes "show") then shown_by rows else certified_by name rows)))))
+    else (if bytes_eq name (codes "show") then shown_by rows else certified_by name rows))))))
 
 -- what is asked for, whether or not a command was entered
 abbrev pub asked_by : Option (Text × List Row) → Request
@@ -228,6 +234,7 @@ request_of (Serve source) = serve (source_of source)
 request_of (Remark source comments) = remark (source_of source) comments.echo comments.times
 request_of (Keep journal cell certificate recipes) = keep (string_bytes journal) (string_bytes cell) (string_bytes certificate) (map string_bytes recipes.items)
 request_of (Status path) = tell (option_map string_bytes path)
+request_of (Picture path) = picture (option_map string_bytes path)
 request_of (Audit words) = audit words.beginning (string_bytes words.path) (source_of words.source)
 request_of (Plant options) = plant options.batches options.ticks options.ring
 request_of (Explain texts) = explain (map string_bytes texts.items)

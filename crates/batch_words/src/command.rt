@@ -38,6 +38,10 @@ pub enum Subcommand {
     Status {
         path: Option<String>,
     },
+    /// To draw what a record says: the one at this path, or the one on standard input.
+    Picture {
+        path: Option<String>,
+    },
     /// To compare a record with what event lines from standard input come to over a set.
     Audit(AuditWords),
     /// To run the demo's plant: its hub in the thread that calls, its console and its link to the units in threads of their own.

@@ -3,7 +3,7 @@ ghost use Rattle.std.specs.Prelude.{◌≡◌, IfOk, IsOkAnd, codes, false};
 ghost use Rattle.clap.specs.Words.{app_of, rule_of};
 ghost use Rattle.clap.specs.Words.{AddsSubcommand};
 ghost use Rattle.clap.specs.declared.builder.command.Command.TheViews.{out-Command};
-ghost use Rattle.batch_words.specs.CommandLine.{audit_app, bare_app, certified_app, check_app, explain_app, flag_rule, number_rule, optional_rule, plant_app, program_app, several_rule, status_app, word_rule, show_app, path_rule, run_app};
+ghost use Rattle.batch_words.specs.CommandLine.{audit_app, bare_app, certified_app, check_app, draw_app, explain_app, flag_rule, number_rule, optional_rule, plant_app, program_app, several_rule, status_app, word_rule, show_app, path_rule, run_app};
 
 use clap::builder::ValueParser;
 use clap::{Arg, ArgAction, Command};
@@ -69,6 +69,11 @@ An example, of a server whose record is written to day.record:
   batchd status day.record
 ";
 
+const DRAW_HELP: &str = "\
+An example, of a server whose record is written to day.record:
+  batchd draw day.record > day.svg
+";
+
 const AUDIT_HELP: &str = "\
 An example, of a server whose input was kept in day.lines, and its record in day.record:
   batchd audit day.record cell.toml certificate.txt primer.toml < day.lines
@@ -96,7 +101,8 @@ pub(crate) fn program<'a>(alloc: Global) -> Result<Command<'a>, AllocError>
     let showing = with_command(verifying, show(alloc))?;
     let running = with_command(showing, run(alloc))?;
     let telling = with_command(running, status(alloc))?;
-    let auditing = with_command(telling, audit(alloc))?;
+    let drawing = with_command(telling, draw(alloc))?;
+    let auditing = with_command(drawing, audit(alloc))?;
     let planting = with_command(auditing, plant(alloc))?;
     with_command(planting, explain(alloc))
 }
@@ -204,6 +210,21 @@ fn status<'a>(alloc: Global) -> Result<Command<'a>, AllocError>
     Command::new(alloc, "status")
         .about("Prints what a record tells: batches, who holds, who waits, and live phases")
         .after_help(STATUS_HELP)
+        .arg(optional(
+            alloc,
+            "RECORD",
+            "The record, which may still be written [default: standard input]",
+        ))
+}
+
+fn draw<'a>(alloc: Global) -> Result<Command<'a>, AllocError>
+    ensures { IfOk result (λ draw. (app_of draw ≡ draw_app) × ((out-Command draw).has_globals ≡ false)) }
+{
+    Command::new(alloc, "draw")
+        .about(
+            "Draws what a record tells, as SVG: who held which resource when, and who waited for it",
+        )
+        .after_help(DRAW_HELP)
         .arg(optional(
             alloc,
             "RECORD",

@@ -100,6 +100,10 @@ fn command_of(alloc: Global, name: &str, words: &ArgMatches<'_>) -> Result<Subco
         let path = optional(alloc, words, "RECORD")?;
         return Ok(Subcommand::Status { path });
     }
+    if name == "draw" {
+        let path = optional(alloc, words, "RECORD")?;
+        return Ok(Subcommand::Picture { path });
+    }
     if name == "audit" {
         return audit_command(alloc, words);
     }

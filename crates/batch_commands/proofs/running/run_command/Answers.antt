@@ -1,7 +1,7 @@
 use Rattle.std.proofs.Common.{map, refl, string_bytes}
 use Rattle.std.proofs.KnownBytes.{Keeps-refl}
 use Rattle.batch_words.specs.CommandLine.{judgement_of, source_of}
-use Rattle.batch_commands.specs.Running.{audits, explains, halts, judges, plants, reads, remarks, serves, keeps}
+use Rattle.batch_commands.specs.Running.{audits, draws, explains, halts, judges, plants, reads, remarks, serves, keeps}
 use Rattle.batch_commands.proofs.Warned.{silent}
 use Rattle.batch_commands.proofs.running.run_command.Goals as goal
 
@@ -54,6 +54,9 @@ returns-in-Remark g c =
 
 pub returns-in-Status : goal.returns-in-Status
 returns-in-Status g c = rw c.in-Status.is (reads c.in-Status.path refl (Keeps-refl _) (Keeps-refl _))
+
+pub returns-in-Picture : goal.returns-in-Picture
+returns-in-Picture g c = rw c.in-Picture.is (draws c.in-Picture.path refl (Keeps-refl _) (Keeps-refl _))
 
 pub returns-in-Ok-clear_source-3 : goal.returns-in-Ok-clear_source-3
 returns-in-Ok-clear_source-3 g c =

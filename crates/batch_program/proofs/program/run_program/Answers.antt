@@ -1,11 +1,11 @@
 use Rattle.std.proofs.Common.{map, option_map, string_bytes}
 use Rattle.std.proofs.KnownBytes.{Keeps-refl}
 use Rattle.batch_words.specs.CommandLine.{source_of}
-use Rattle.batch_program.specs.Programs.{tells, serves, keeps, remarks, reads, audits, plants}
+use Rattle.batch_program.specs.Programs.{tells, serves, keeps, remarks, reads, draws, audits, plants}
 use Rattle.batch_program.specs.declared.program.TheConstants.{MAX_READS}
 use Rattle.batch_program.proofs.Plants.{has_run}
 use Rattle.batch_program.proofs.RemarkedServed.{remarked_kept, set_to_remark}
-use Rattle.batch_program.proofs.Served.{audit_kept, left_kept, plant_to_run, record_kept, record_to_read, served_kept, set_to_audit, set_to_serve, told_kept, journal_kept, set_to_keep}
+use Rattle.batch_program.proofs.Served.{audit_kept, drawn_kept, left_kept, plant_to_run, record_kept, record_to_draw, record_to_read, served_kept, set_to_audit, set_to_serve, told_kept, journal_kept, set_to_keep}
 use Rattle.batch_program.proofs.program.run_program.Goals as goal
 
 pub returns-in-Ends : goal.returns-in-Ends
@@ -48,6 +48,13 @@ returns-in-Reads g c =
     let (asked, kept, silent) = record_to_read (g.D.Documents.gives c.args.documents.now) (map string_bytes c.args.words.now) _ _ _ path c.run_words.ensures c.in-Reads.is in
     reads (option_map string_bytes path) c.tell_record-status.result asked
     (record_kept (g.D.Records.holds c.args.documents.now) (option_map string_bytes path) _ _ _ _ _ _ _ _ _ kept silent c.tell_record-status.ensures)
+
+pub returns-in-Draws : goal.returns-in-Draws
+returns-in-Draws g c =
+    let path = c.in-Draws.path in
+    let (asked, kept, silent) = record_to_draw (g.D.Documents.gives c.args.documents.now) (map string_bytes c.args.words.now) _ _ _ path c.run_words.ensures c.in-Draws.is in
+    draws (option_map string_bytes path) c.draw_record_at-status.result asked
+    (drawn_kept (g.D.Records.holds c.args.documents.now) (option_map string_bytes path) _ _ _ _ _ _ _ _ _ kept silent c.draw_record_at-status.ensures)
 
 pub returns-in-Audits : goal.returns-in-Audits
 returns-in-Audits g c =

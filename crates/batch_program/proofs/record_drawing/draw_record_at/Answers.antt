@@ -1,0 +1,9 @@
+use Rattle.std.proofs.Common.{inl, inr}
+use Rattle.std.proofs.KnownBytes.{Keeps-refl}
+use Rattle.batch_program.proofs.record_drawing.draw_record_at.Goals as goal
+
+pub returns-in-Ok : goal.returns-in-Ok
+returns-in-Ok g c = rw c.in-Some.is (Keeps-refl _, inl (_, rw c.deref.ensures at c.in-Ok.ensures, c.draw_record_of-in-Ok.ensures))
+
+pub returns-in-None : goal.returns-in-None
+returns-in-None g c = rw c.in-None.is c.draw_record_of.ensures

@@ -1,0 +1,5 @@
+use Rattle.std.proofs.Common.{length}
+use Rattle.batch_timeline.proofs.reading.first_time.Given as goal
+
+abbrev pub decreases-loop-at : goal.decreases-loop-at
+decreases-loop-at l = length l.rest

@@ -1,0 +1,30 @@
+//! Lanes of a row, so that no bar covers another.
+use std::alloc::AllocError;
+
+/// How far the lanes of a row are taken, from its top to its bottom, in points.
+#[derive(Drop)]
+pub struct Lanes {
+    pub ends: Vec<u64>,
+}
+
+impl Lanes {
+    /// The number of the first lane in which there is room from the one point on, which is taken to the other. Where there is none, a
+    /// lane is added.
+    pub fn take(&mut self, from: u64, to: u64) -> Result<usize, AllocError> {
+        match self.first_free(from) {
+            Some(number) => {
+                self.ends[number] = to;
+                Ok(number)
+            }
+            None => {
+                let number = self.ends.len();
+                self.ends.push(to)?;
+                Ok(number)
+            }
+        }
+    }
+
+    fn first_free(&self, from: u64) -> Option<usize> {
+        self.ends.iter().position(|end| *end <= from)
+    }
+}

@@ -1,0 +1,101 @@
+//! Reading a record, line by line.
+ghost use Rattle.std.specs.Prelude.{◌≡◌, ℕ, IfErr, IfOk, MatchOption};
+ghost use Rattle.batch_status.specs.Reading.{HasNoFeed, IsRefusedAt};
+ghost use Rattle.batch_timeline.specs.Recorded.{IsRecord};
+ghost use Rattle.batch_timeline.specs.Taking.{EndsLine, TakesLine, TakesLines};
+ghost use Rattle.batch_timeline.specs.declared.reading.RecordFault.TheVariants as faults;
+
+use crate::drawing::draw;
+use crate::picture::Picture;
+use crate::remark::{Remark, read_remark};
+use crate::timeline::Timeline;
+use batch_record::{NoRecordLine, read_record_line};
+use memchr::memchr;
+use std::alloc::{AllocError, Global};
+use thiserror::Error;
+
+/// Why a record wasn't drawn.
+#[derive(Clone, Copy, Debug, PartialEq, Eq, Error)]
+pub enum RecordFault {
+    /// The line with this number, counted from 1, is no line of a record.
+    #[error("line {0} is no line of a record")]
+    NoRecord(u64),
+    /// Memory was refused.
+    #[error("out of memory")]
+    Memory,
+}
+
+impl From<AllocError> for RecordFault {
+    ghost from_gives = { λ _ fault. fault ≡ faults.Memory };
+
+    fn from(_error: AllocError) -> RecordFault {
+        RecordFault::Memory
+    }
+}
+
+/// The picture of a record: a row for each resource that it names, units first, and in it a bar for each time that a batch held it,
+/// with the batch's number; a hatched bar for each time that one waited for it. The axis is the clock of the record's comments
+/// `# at MILLISECONDS`, and where it has none the number of the line.
+///
+/// A last line without its line feed is left out. What a recovery block lists stands from its end on, and nothing else does.
+pub fn draw_record(alloc: Global, record: &[u8]) -> Result<Picture, RecordFault>
+    ensures drawn { IfOk result (λ _. IsRecord record.now) }
+    ensures refused { IfErr result (λ fault. (number : ℕ) → fault ≡ faults.NoRecord number → IsRefusedAt record.now number) }
+{
+    let mut timeline = Timeline::new(alloc, first_time(record));
+    take_lines(alloc, &mut timeline, record)?;
+    Ok(draw(alloc, &timeline)?)
+}
+
+/// The first time that a comment tells.
+fn first_time(record: &[u8]) -> Option<u64> {
+    let mut rest = record;
+    while let Some(at) = line_feed(rest) {
+        if let Some(Remark::At(time)) = read_remark(&rest[..at]) {
+            return Some(time);
+        }
+        rest = &rest[at + 1..];
+    }
+    None
+}
+
+/// Takes each line that is whole.
+fn take_lines(alloc: Global, timeline: &mut Timeline, record: &[u8]) -> Result<(), RecordFault>
+    ensures { TakesLines record.now result }
+{
+    let mut rest = record;
+    let mut number: u64 = 0;
+    while let Some(at) = line_feed(rest) {
+        number = number.saturating_add(1);
+        timeline.pass(number);
+        take_line(alloc, timeline, &rest[..at], number)?;
+        rest = &rest[at + 1..];
+    }
+    timeline.pass(number.saturating_add(1));
+    Ok(())
+}
+
+fn take_line(
+    alloc: Global,
+    timeline: &mut Timeline,
+    line: &[u8],
+    number: u64,
+) -> Result<(), RecordFault>
+    ensures { TakesLine line.now number result }
+{
+    match read_record_line(line) {
+        Ok(Some(told)) => Ok(timeline.tell(alloc, told)?),
+        Ok(None) => match read_remark(line) {
+            Some(remark) => Ok(timeline.note(alloc, remark)?),
+            None => Ok(()),
+        },
+        Err(NoRecordLine) => Err(RecordFault::NoRecord(number)),
+    }
+}
+
+/// Where the first line feed stands.
+fn line_feed(bytes: &[u8]) -> Option<usize>
+    ensures { MatchOption result (HasNoFeed bytes.now) (λ at. EndsLine at bytes.now) }
+{
+    memchr(b'\n', bytes)
+}

@@ -1,0 +1,149 @@
+//! What stands in a picture.
+ghost use Rattle.std.specs.Prelude.{◌≡◌, Some};
+ghost use Rattle.batch_timeline.specs.Pictures.{anchor_word, block_text, colour_text, grid_text, label_text, shape_text};
+
+use batch_text::Name;
+use std::fmt;
+
+/// A thin line between two points.
+#[derive(Clone, Copy, Debug)]
+pub struct Grid {
+    pub left: u64,
+    pub top: u64,
+    pub right: u64,
+    pub bottom: u64,
+}
+
+impl fmt::Display for Grid {
+    ghost output = { λ grid. Some (grid_text grid) };
+
+    fn fmt<W: fmt::Write>(&self, f: &mut fmt::Formatter<W>) -> fmt::Result {
+        let Grid {
+            left,
+            top,
+            right,
+            bottom,
+        } = *self;
+        write!(
+            f,
+            "<path d=\"M{left} {top}L{right} {bottom}\" stroke=\"#dddddd\"/>\n"
+        )
+    }
+}
+
+/// Which end of a text stands at its place.
+#[derive(Clone, Copy, Debug, PartialEq, Eq)]
+pub enum Anchor {
+    Start,
+    Middle,
+    End,
+}
+
+impl fmt::Display for Anchor {
+    ghost output = { λ anchor. Some (anchor_word anchor) };
+
+    fn fmt<W: fmt::Write>(&self, f: &mut fmt::Formatter<W>) -> fmt::Result {
+        f.write_str(match self {
+            Anchor::Start => "start",
+            Anchor::Middle => "middle",
+            Anchor::End => "end",
+        })
+    }
+}
+
+/// A text on a line that ends at its place, stands around it, or begins there.
+#[derive(Debug, Drop)]
+pub struct Label {
+    pub left: u64,
+    pub base: u64,
+    pub anchor: Anchor,
+    pub text: String,
+}
+
+impl fmt::Display for Label {
+    ghost output = { λ label. Some (label_text label) };
+
+    fn fmt<W: fmt::Write>(&self, f: &mut fmt::Formatter<W>) -> fmt::Result {
+        let (left, base, anchor) = (self.left, self.base, self.anchor);
+        let text = &self.text;
+        write!(
+            f,
+            "<text x=\"{left}\" y=\"{base}\" text-anchor=\"{anchor}\">{text}</text>\n"
+        )
+    }
+}
+
+/// A bar of a batch, with what it says where a pointer rests on it.
+#[derive(Debug, Drop)]
+pub struct Block {
+    pub left: u64,
+    pub top: u64,
+    pub width: u64,
+    pub batch: u64,
+    /// The batch waits, and the bar is hatched.
+    pub waits: bool,
+    pub resource: Name,
+    pub units: u32,
+    /// The place of the act.
+    pub place: String,
+}
+
+impl fmt::Display for Block {
+    ghost output = { λ block. Some (block_text block) };
+
+    fn fmt<W: fmt::Write>(&self, f: &mut fmt::Formatter<W>) -> fmt::Result {
+        let (left, top, width, batch) = (self.left, self.top, self.width, self.batch);
+        let (resource, units, place) = (&self.resource, self.units, &self.place);
+        let does = if self.waits { "waits for" } else { "holds" };
+        let hatching = if self.waits { "url(#waits)" } else { "none" };
+        let colour = colour(batch % 8);
+        write!(
+            f,
+            "<g><title>{batch} {does} {units} of {resource} at {place}</title>"
+        )?;
+        write!(
+            f,
+            "<rect x=\"{left}\" y=\"{top}\" width=\"{width}\" height=\"17\" fill=\"{colour}\"/>"
+        )?;
+        write!(
+            f,
+            "<rect x=\"{left}\" y=\"{top}\" width=\"{width}\" height=\"17\" fill=\"{hatching}\" stroke=\"#555555\"/></g>\n"
+        )
+    }
+}
+
+/// The colour of a batch, by what is left of its number.
+fn colour(hue: u64) -> &'static str
+    ensures { result.now ≡ colour_text hue }
+{
+    match hue {
+        0 => "#d9d9a0",
+        1 => "#8ecae6",
+        2 => "#ffd166",
+        3 => "#b7e4c7",
+        4 => "#f4a6a6",
+        5 => "#cdb4db",
+        6 => "#e9a06a",
+        _ => "#c8c8c8",
+    }
+}
+
+/// What stands in a picture.
+#[derive(Debug, Drop)]
+pub enum Shape {
+    Grid(Grid),
+    Label(Label),
+    Block(Block),
+}
+
+impl fmt::Display for Shape {
+    ghost output = { λ shape. Some (shape_text shape) };
+
+    fn fmt<W: fmt::Write>(&self, f: &mut fmt::Formatter<W>) -> fmt::Result {
+        match self {
+            Shape::Grid(grid) => write!(f, "{grid}"),
+            Shape::Label(label) => write!(f, "{label}"),
+            Shape::Block(block) => write!(f, "{block}"),
+        }
+    }
+}

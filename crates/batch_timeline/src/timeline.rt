@@ -1,0 +1,173 @@
+//! What stood when.
+use crate::bars::{Bars, Ending, Share};
+use crate::remark::Remark;
+use batch_matrix::Command;
+use batch_record::{Claim, Told, Words};
+use batch_text::Name;
+use std::alloc::{AllocError, Global};
+
+/// A resource that the record names.
+#[derive(Drop)]
+pub struct Resource {
+    pub name: Name,
+    pub is_unit: bool,
+}
+
+/// What a record tells so far.
+#[derive(Drop)]
+pub struct Timeline {
+    /// In the order in which they are named.
+    pub resources: Vec<Resource>,
+    pub bars: Bars,
+    /// What a recovery block lists that hasn't ended.
+    block: Option<Vec<Share>>,
+    /// Time is told by the record's comments, and not by the numbers of its lines.
+    pub has_clock: bool,
+    pub first: u64,
+    pub now: u64,
+}
+
+impl Timeline {
+    /// Before the first line, at the first time that the record tells, or where it tells none at line 1.
+    pub fn new(alloc: Global, first: Option<u64>) -> Timeline {
+        let time = first.unwrap_or(1);
+        Timeline {
+            resources: Vec::new(alloc),
+            bars: Bars::new(alloc),
+            block: None,
+            has_clock: first.is_some(),
+            first: time,
+            now: time,
+        }
+    }
+
+    /// The line with this number comes.
+    pub fn pass(&mut self, number: u64) {
+        if !self.has_clock {
+            self.now = number;
+        }
+    }
+
+    /// What a comment says. A clock that goes back is passed over.
+    pub fn note(&mut self, alloc: Global, remark: Remark<'_>) -> Result<(), AllocError> {
+        match remark {
+            Remark::At(time) => {
+                self.now = self.now.max(time);
+                Ok(())
+            }
+            Remark::Recovered => {
+                self.block = Some(Vec::new(alloc));
+                Ok(())
+            }
+            Remark::End => self.end_block(alloc),
+            Remark::Holds(claim) => self.list(alloc, claim, false),
+            Remark::Waits(claim) => self.list(alloc, claim, true),
+            Remark::Runs(unit) => self.note_unit(alloc, unit),
+        }
+    }
+
+    /// What a line tells.
+    pub fn tell(&mut self, alloc: Global, told: Told<'_>) -> Result<(), AllocError> {
+        self.block = None;
+        match told {
+            Told::Asked(claim) => self.begin(alloc, claim, true),
+            Told::Granted(claim) => {
+                self.end(alloc, claim, true)?;
+                self.begin(alloc, claim, false)
+            }
+            Told::Released(claim) => self.end(alloc, claim, false),
+            Told::Ordered { command, batch, .. } => self.order(alloc, command, batch),
+            Told::Reported(reported) => self.note_unit(alloc, reported.unit),
+            Told::Sent(sent) => self.note_unit(alloc, sent.step.unit),
+            Told::Started(started) => self.note_unit(alloc, started.step.unit),
+            Told::Created(created) => self.note_roles(alloc, created.roles),
+            _ => Ok(()),
+        }
+    }
+
+    /// A batch that is stopped or aborted waits for nothing more.
+    fn order(&mut self, alloc: Global, command: Command, batch: u64) -> Result<(), AllocError> {
+        if matches!(command, Command::Stop | Command::Abort) {
+            self.bars.end(alloc, Ending::AsksOf(batch), self.now)
+        } else {
+            Ok(())
+        }
+    }
+
+    fn begin(&mut self, alloc: Global, claim: Claim<'_>, waits: bool) -> Result<(), AllocError> {
+        let share = self.share_of(alloc, claim, waits)?;
+        self.bars.begin(share, self.now)
+    }
+
+    fn end(&mut self, alloc: Global, claim: Claim<'_>, waits: bool) -> Result<(), AllocError> {
+        let share = self.share_of(alloc, claim, waits)?;
+        self.bars.end(alloc, Ending::Share(&share), self.now)
+    }
+
+    /// A share that a block lists.
+    fn list(&mut self, alloc: Global, claim: Claim<'_>, waits: bool) -> Result<(), AllocError> {
+        let share = self.share_of(alloc, claim, waits)?;
+        if let Some(listed) = &mut self.block {
+            listed.push(share)?;
+        }
+        Ok(())
+    }
+
+    fn end_block(&mut self, alloc: Global) -> Result<(), AllocError> {
+        match self.block.take() {
+            Some(listed) => self.bars.replace(alloc, listed, self.now),
+            None => Ok(()),
+        }
+    }
+
+    fn share_of(
+        &mut self,
+        alloc: Global,
+        claim: Claim<'_>,
+        waits: bool,
+    ) -> Result<Share, AllocError> {
+        let resource = self.number_of(alloc, claim.resource)?;
+        Share::of(alloc, resource, claim, waits)
+    }
+
+    /// The units that take the roles of a batch, of which each is a name, `=` and the unit's name.
+    fn note_roles(&mut self, alloc: Global, roles: Words<'_>) -> Result<(), AllocError> {
+        for role in roles {
+            if let Some(at) = role.iter().position(|byte| *byte == b'=') {
+                self.note_unit(alloc, &role[at + 1..])?;
+            }
+        }
+        Ok(())
+    }
+
+    fn note_unit(&mut self, alloc: Global, name: &[u8]) -> Result<(), AllocError> {
+        let number = self.number_of(alloc, name)?;
+        if let Some(resource) = self.resources.get_mut(number) {
+            resource.is_unit = true;
+        }
+        Ok(())
+    }
+
+    /// The number of the resource with this name, which is named from now on.
+    fn number_of(&mut self, alloc: Global, name: &[u8]) -> Result<usize, AllocError> {
+        for (number, resource) in self.resources.iter().enumerate() {
+            if resource.name.text().as_bytes() == name {
+                return Ok(number);
+            }
+        }
+        let number = self.resources.len();
+        self.resources.push(Resource {
+            name: name_of(alloc, name)?,
+            is_unit: false,
+        })?;
+        Ok(number)
+    }
+}
+
+/// The name, of which it is known that it is one, so that only memory can be refused.
+fn name_of(alloc: Global, name: &[u8]) -> Result<Name, AllocError> {
+    match Name::read(alloc, name) {
+        Ok(name) => Ok(name),
+        Err(_) => Err(AllocError),
+    }
+}
