@@ -6,7 +6,7 @@ _batchd() {
         return
     fi
     case ${COMP_WORDS[1]} in
-        check) options="--dot --quiet --help" ;;
+        check) options="--dot --write --quiet --help" ;;
         verify | show) options="--quiet --help" ;;
         audit) options="--beginning --quiet --help" ;;
         run) options="--journal --echo --times --quiet --help" ;;
@@ -15,7 +15,10 @@ _batchd() {
         explain) options="--help $("${COMP_WORDS[0]}" explain 2>/dev/null | cut -d : -f 1)" ;;
         *) options="--help" ;;
     esac
-    case $before in --batches | --ticks | --ring) return ;; esac
+    case $before in
+        --batches | --ticks | --ring) return ;;
+        --write) mapfile -t COMPREPLY < <(compgen -f -- "$word"); return ;;
+    esac
     if [[ $word == -* || ${COMP_WORDS[1]} =~ ^(plant|explain|help)$ ]]; then
         mapfile -t COMPREPLY < <(compgen -W "$options" -- "$word")
     elif [[ ${COMP_WORDS[1]} =~ ^(status|draw|audit)$ ]] || [ "$before" = --journal ]; then

@@ -9,7 +9,7 @@ use Rattle.batch_verify.specs.ClearedSet.{ClearedSet}
 use Rattle.batch_commands.specs.Judging.{status_of}
 use Rattle.batch_commands.specs.Reading.{Gives}
 use Rattle.batch_commands.specs.Requests.{Halts, HaltsDemo, IsDemoSet, IsSetOf}
-use Rattle.batch_commands.specs.Running.{AskFor, IsAnnounced, IsDone, IsExplained, IsPrinted, IsRun, IsUnwritten, Stream, ask_quiet, memory_status, success_status, commands, serves, remarks, reads, draws, audits, plants, halts, judges, explains, helps, misuses, starves, keeps}
+use Rattle.batch_commands.specs.Running.{AskFor, IsAnnounced, IsDone, IsExplained, IsPrinted, IsRun, IsUnwritten, Stream, ask_quiet, memory_status, success_status, commands, serves, reads, audits, plants, halts, judges, explains, helps, misuses, starves, keeps, writes, remarks, draws}
 use Rattle.batch_commands.specs.Saying.{IsWarned}
 use Rattle.batch_commands.specs.Statuses.{AreCodesTold, IsSuccess, NoCommandServes, ServesClearedSets, SuccessIsTold}
 use Rattle.batch_commands.proofs.Warned.{verdict_more, warned_kept}
@@ -71,6 +71,7 @@ done_success gives request quiet output errors _ (halts h status warned _ told) 
     absurd (no_success quiet output (record { before = warned; after = errors.after }) h status told cc)
 done_success gives request quiet output errors _ (serves _ _ _ _ _ _) is = absurd cc
 done_success gives request quiet output errors _ (keeps _ _ _ _ _ _ _ _ _) is = absurd cc
+done_success gives request quiet output errors _ (writes _ _ _ _ _ _) is = absurd cc
 done_success gives request quiet output errors _ (remarks _ _ _ _ _ _ _) is = absurd cc
 done_success gives request quiet output errors _ (reads _ _ _ _) is = absurd cc
 done_success gives request quiet output errors _ (draws _ _ _ _) is = absurd cc
@@ -103,6 +104,7 @@ done_serving gives request quiet output errors set hushed _ (serves source set2 
     let same : set2 ≡ set = cc in
     (record { source = source; asked = asked; is_set = rw (← same) served; unwritten = kept; silent = silent }, cc)
 done_serving gives request quiet output errors set hushed _ (judges _ _ _ _ _ _ _) is = absurd cc
+done_serving gives request quiet output errors set hushed _ (writes _ _ _ _ _ _) is = absurd cc
 done_serving gives request quiet output errors set hushed _ (explains _ _ _ _) is = absurd cc
 done_serving gives request quiet output errors set hushed _ (halts _ _ _ _ _) is = absurd cc
 done_serving gives request quiet output errors set hushed _ (keeps _ _ _ _ _ _ _ _ _) is = absurd cc
@@ -148,6 +150,7 @@ done_keeping gives request quiet output errors digested hushed journal _ (reads 
 done_keeping gives request quiet output errors digested hushed journal _ (draws _ _ _ _) is = absurd cc
 done_keeping gives request quiet output errors digested hushed journal _ (audits _ _ _ _ _ _) is = absurd cc
 done_keeping gives request quiet output errors digested hushed journal _ (plants _ _ _ _ _ _) is = absurd cc
+done_keeping gives request quiet output errors digested hushed journal _ (writes _ _ _ _ _ _) is = absurd cc
 
 served_set : (gives : Gives) (words : List Text) (output errors : Stream) (request : Request) (set : ClearedSet) (quiet : Bool) (course : Course)
     → AskFor words request → IsRun gives words output errors course → course ≡ Serves set quiet
@@ -171,6 +174,7 @@ demo_done gives request quiet output errors _ demo_asked (serves source set aske
 demo_done gives request quiet output errors _ demo_asked (halts h status warned halted _) =
     inr (inl (h, (subst (λ r. Halts gives (IsWarned quiet errors.before warned) r h) demo_asked halted).0))
 demo_done gives request quiet output errors _ demo_asked (judges _ _ _ _ asked _ _) = absurd cc
+demo_done gives request quiet output errors _ demo_asked (writes _ _ _ asked _ _) = absurd cc
 demo_done gives request quiet output errors _ demo_asked (explains _ _ asked _) = absurd cc
 demo_done gives request quiet output errors _ demo_asked (keeps _ _ _ _ _ asked _ _ _) = absurd cc
 demo_done gives request quiet output errors _ demo_asked (remarks _ _ _ asked _ _ _) = absurd cc

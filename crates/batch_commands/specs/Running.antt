@@ -7,7 +7,7 @@ use Rattle.clap.specs.Walk.{Text}
 use Rattle.clap.specs.Words.{subcommand_of}
 use Rattle.clap.specs.declared.error.kind.ErrorKind.{ErrorKind}
 use Rattle.batch_explain.specs.Explaining.{HaveNoCode, Tells}
-use Rattle.batch_words.specs.CommandLine.{IsShown, Judgement, Request, Source, asked_by, asks_quiet, audit, explain, faults_of, judge, picture, plant, program_app, remark, serve, source_of, tell, keep}
+use Rattle.batch_words.specs.CommandLine.{IsShown, Judgement, Request, Source, asked_by, asks_quiet, audit, explain, judge, plant, program_app, serve, source_of, tell, keep, write, faults_of, remark, picture}
 use Rattle.batch_commands.specs.Digested.{AreDigested}
 use Rattle.batch_commands.specs.Judging.{status_of}
 use Rattle.batch_commands.specs.Reading.{Gives}
@@ -18,7 +18,7 @@ use Rattle.batch_words.specs.declared.command.AuditWords.{AuditWords}
 use Rattle.batch_words.specs.declared.comments.Comments.{Comments}
 use Rattle.batch_words.specs.declared.plant_options.PlantOptions.{PlantOptions}
 use Rattle.batch_commands.specs.declared.course.Course.{Course}
-use Rattle.batch_commands.specs.declared.course.Course.TheVariants.{Ends, Serves, Remarks, Reads, Draws, Audits, Plants}
+use Rattle.batch_commands.specs.declared.course.Course.TheVariants.{Ends, Serves, Reads, Audits, Plants, Writes, Remarks, Draws}
 use Rattle.batch_commands.specs.declared.course.Course.TheVariants as courses
 use Rattle.batch_commands.specs.declared.digested.Digested.{Digested}
 use Rattle.batch_commands.specs.declared.refusal.Halt.{Halt}
@@ -100,14 +100,17 @@ IsExplained texts output errors status =
 
 -- Runs
 
--- what comes of a request: the exit status, or the set that the program is to serve, quietly or not, with a journal or without one, or whose plant it is to run, or
--- the record that it is to read, to draw, or to audit over a set
+-- what comes of a request: the exit status, or the text that a file is to hold, or the set that the program is to serve, quietly or
+-- not, with a journal or without one, or whose plant it is to run, or the record that it is to read, to draw, or to audit over a set
 pub data IsDone (gives : Gives) (request : Request) (quiet : Bool) (output errors : Stream) : Course → Type 0 where
   -- what the errors hold once it is warned is what they hold before the verdict is printed
   judges : (judgement : Judgement) (text : List ℕ) (status : ℕ) (warned : Option (List ℕ))
       → request ≡ judge judgement → IsVerdict gives (IsWarned quiet errors.before warned) judgement text
       → IsPrinted output (record { before = warned; after = errors.after }) text success_status status
       → IsDone gives request quiet output errors (Ends status)
+  writes : (judgement : Judgement) (path text : String Global)
+      → request ≡ write (string_bytes path) judgement → IsVerdict gives (IsWarned quiet errors.before errors.after) judgement (string_bytes text)
+      → IsUnwritten output → IsDone gives request quiet output errors (Writes path text)
   serves : (source : Source) (set : ClearedSet)
       → request ≡ serve source → IsSetOf gives source set → IsUnwritten output → IsUnwritten errors
       → IsDone gives request quiet output errors (Serves set quiet)

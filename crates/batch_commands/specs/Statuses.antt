@@ -3,7 +3,7 @@ use Rattle.std.specs.Prelude.{◌≡◌, ◌⊎◌, ℕ, Bool, List}
 use Rattle.std.specs.Io.KnownBytes.{Appends}
 use Rattle.clap.specs.Walk.{Text}
 use Rattle.batch_verify.specs.ClearedSet.{ClearedSet}
-use Rattle.batch_words.specs.CommandLine.{Request, Source, audit, demo, explain, judge, picture, plant, remark, serve, tell, keep}
+use Rattle.batch_words.specs.CommandLine.{Request, Source, audit, demo, explain, judge, plant, serve, tell, keep, write, remark, picture}
 use Rattle.batch_commands.specs.Reading.{Gives}
 use Rattle.batch_commands.specs.Requests.{HaltsDemo, IsDemoSet, IsSetOf, IsVerdict}
 use Rattle.batch_commands.specs.Running.{AskFor, IsRun, Stream, ask_quiet, memory_status}
@@ -19,12 +19,13 @@ AreCodesTold texts output = (text : List ℕ) × Tells texts text × Appends out
 
 -- `check` wrote the certificate with the least ranks, or the drawing of recipes that can be cleared; `show` wrote the recipes' nodes; `verify` wrote that it accepts
 -- the set of the documents, which their certificate clears; on the errors both wrote their warnings alone. Nothing else ends so
--- before it has served
+-- before it has served or written a file
 abbrev pub IsSuccess : Gives → Bool → Request → Stream → Stream → Type 0
 IsSuccess gives quiet (judge judgement) output errors =
     (text : List ℕ) × Appends output.before output.after text × IsVerdict gives (IsWarned quiet errors.before errors.after) judgement text
 IsSuccess gives quiet (keep journal cell certificate recipes) output errors = ⊥
 IsSuccess gives quiet (audit beginning path source) output errors = ⊥
+IsSuccess gives quiet (write path judgement) output errors = ⊥
 IsSuccess gives quiet (serve source) output errors = ⊥
 IsSuccess gives quiet (remark source echo times) output errors = ⊥
 IsSuccess gives quiet (tell path) output errors = ⊥

@@ -8,6 +8,11 @@ use batch_words::{AuditWords, Comments, PlantOptions};
 pub enum Course {
     /// All is said, and the program ends with this exit status.
     Ends(u8),
+    /// The program is to write this text into the file at the path, in place of the output.
+    Writes {
+        path: String,
+        text: String,
+    },
     /// The program is to serve event lines over this set, and to say nothing beside the record where quiet is asked for.
     Serves {
         set: Cleared,

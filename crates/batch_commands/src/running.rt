@@ -47,8 +47,8 @@ const UNKNOWN_CODE: &str =
 #[error("the output can't be written: {0}")]
 struct FailedWrite(io::Error);
 
-/// Does what the words ask for: judges documents and tells the verdict, clears the set that is to be served or over which a record is
-/// to be audited, or names the record that is to be read.
+/// Does what the words ask for: judges documents and tells the verdict, or hands on the text that a file is to hold, clears the
+/// set that is to be served or over which a record is to be audited, or names the record that is to be read.
 ///
 /// Verdicts, explanations and help go to the output, and all else to the errors: what a refusal means, in one line, unless the
 /// words ask for quiet, and what failed, in a free text. Where that can't be written the exit status is the same. Without words
@@ -89,6 +89,12 @@ fn run_command<D: Documents, O: Write, E: Write>(
             Ok(text) => Course::Ends(print(output, errors, &text, SUCCESS)),
             Err(halt) => Course::Ends(announce(alloc, quiet, &halt, output, errors)),
         },
+        Subcommand::Write { path, judgement } => {
+            match judge(alloc, documents, &judgement, quiet, errors) {
+                Ok(text) => Course::Writes { path, text },
+                Err(halt) => Course::Ends(announce(alloc, quiet, &halt, output, errors)),
+            }
+        }
         Subcommand::Serve(source) => match clear_source(alloc, documents, &source) {
             Ok(set) => Course::Serves { set, quiet },
             Err(halt) => Course::Ends(announce(alloc, quiet, &halt, output, errors)),

@@ -1,3 +1,4 @@
+pub mod Kept
 pub mod Served
 pub mod RemarkedServed
 pub mod Plants

@@ -5,7 +5,7 @@ use Rattle.std.specs.Io.KnownBytes.{Appends}
 use Rattle.clap.specs.Walk.{Text}
 use Rattle.batch_verify.specs.ClearedSet.{ClearedSet}
 use Rattle.batch_wire.specs.Transcript.{lines_of}
-use Rattle.batch_words.specs.CommandLine.{Source, audit, keep, picture, remark, serve, tell}
+use Rattle.batch_words.specs.CommandLine.{Judgement, Source, audit, keep, remark, serve, tell, write, picture}
 use Rattle.batch_audit.specs.Audits as findings
 use Rattle.batch_audit.specs.Audits.{Finds, told_text}
 use Rattle.batch_audit.specs.declared.finding.Finding.{Finding}
@@ -18,7 +18,7 @@ use Rattle.batch_commands.proofs.Successes.{same_request}
 use Rattle.batch_serve.specs.Serves as serving
 use Rattle.batch_program.specs.AuditRuns.{IsAccepted, IsAuditTold, finding_status, finding_text, finds, stops}
 use Rattle.batch_program.specs.JournalRuns.{DiskKind}
-use Rattle.batch_program.specs.Programs.{AuditsAreTrue, IsProgramRun, tells, serves, keeps, remarks, reads, draws, audits, plants}
+use Rattle.batch_program.specs.Programs.{AuditsAreTrue, IsProgramRun, tells, writes, serves, keeps, remarks, reads, audits, plants, draws}
 use Rattle.batch_program.specs.RecordRuns.{Holds, IsUntold, output_of}
 use Rattle.batch_program.specs.Telling.{IsFindingTold}
 use Rattle.batch_program.proofs.Served.{audits_no_journal, plants_no_audit, serves_no_audit, told_at_once}
@@ -115,6 +115,9 @@ same_documents a b one other x y is = cc
 audits_no_comments : (source other : Source) (beginning echo times : Bool) (path : Text) → audit beginning path source ≡ remark other echo times → ⊥
 audits_no_comments source other beginning echo times path is = cc
 
+audits_no_file : (source : Source) (beginning : Bool) (path other : Text) (judgement : Judgement) → audit beginning path source ≡ write other judgement → ⊥
+audits_no_file source beginning path other judgement is = cc
+
 audits_no_record : (source : Source) (beginning : Bool) (path : Text) (other : Option Text) → audit beginning path source ≡ tell other → ⊥
 audits_no_record source beginning path other is = cc
 
@@ -126,6 +129,8 @@ true_at : (gives : Gives) (holds : Holds) (disks : DiskKind) (words : List Text)
     → (set : ClearedSet) × IsSetOf gives source set × IsFound holds set beginning path ends
 true_at gives holds disks words ends errors beginning path source _ asked (tells status came _) is =
     absurd (told_at_once gives words (output_of ends) errors (audit beginning path source) status asked came is)
+true_at gives holds disks words ends errors beginning path source _ asked (writes other judgement _ _ _ asked2 _ _ _ _) is =
+    absurd (audits_no_file source beginning path other judgement (same_request words (audit beginning path source) (write other judgement) asked asked2))
 true_at gives holds disks words ends errors beginning path source _ asked (serves other _ _ asked2 _ _ _) is =
     absurd (serves_no_audit other source beginning path (same_request words (serve other) (audit beginning path source) asked2 asked))
 true_at gives holds disks words ends errors beginning path source _ asked (keeps other cell certificate recipes _ _ _ asked2 _ _) is =

@@ -3,7 +3,7 @@ use Rattle.std.proofs.Common.{◌≡◌, ℕ, Bool, List, Option, Some, None, Re
 use Rattle.std.specs.Io.KnownBytes.{Keeps}
 use Rattle.clap.specs.Walk.{Text}
 use Rattle.batch_verify.specs.ClearedSet.{ClearedSet}
-use Rattle.batch_words.specs.CommandLine.{Request, Source, audit, keep, picture, plant, remark, serve, tell}
+use Rattle.batch_words.specs.CommandLine.{Judgement, Request, Source, audit, keep, plant, remark, serve, tell, write, picture}
 use Rattle.batch_words.specs.declared.comments.Comments.{Comments}
 use Rattle.batch_commands.specs.Reading.{Gives}
 use Rattle.batch_commands.specs.Requests.{IsSetOf}
@@ -17,7 +17,7 @@ use Rattle.batch_serve.specs.RemarkedSet.{ServesRemarked}
 use Rattle.batch_serve.specs.Serves as serving
 use Rattle.batch_serve.specs.Serves.{AnswersAll}
 use Rattle.batch_serve.specs.declared.fault.SetFault.{SetFault}
-use Rattle.batch_program.specs.Programs.{IsLeftTold, IsProgramRun, RemarkedServingIsSafe, tells, serves, keeps, remarks, reads, draws, audits, plants}
+use Rattle.batch_program.specs.Programs.{IsLeftTold, IsProgramRun, RemarkedServingIsSafe, tells, writes, serves, keeps, remarks, reads, audits, plants, draws}
 use Rattle.batch_program.specs.JournalRuns.{DiskKind}
 use Rattle.batch_program.specs.RecordRuns.{Holds, output_of}
 use Rattle.batch_program.proofs.Served.{ran_to_the_end, served_kept, told_at_once}
@@ -70,6 +70,7 @@ done_remarking gives request quiet output errors set hushed comments _ (running.
 done_remarking gives request quiet output errors set hushed comments _ (running.draws _ _ _ _) is = absurd cc
 done_remarking gives request quiet output errors set hushed comments _ (running.audits _ _ _ _ _ _) is = absurd cc
 done_remarking gives request quiet output errors set hushed comments _ (running.plants _ _ _ _ _ _) is = absurd cc
+done_remarking gives request quiet output errors set hushed comments _ (running.writes _ _ _ _ _ _) is = absurd cc
 
 pub set_to_remark : (gives : Gives) (words : List Text) (output errors : Stream) (course : Course) (set : ClearedSet) (quiet : Bool) (comments : Comments)
     → IsRun gives words output errors course → course ≡ course_of.Remarks set quiet comments
@@ -92,6 +93,9 @@ no_journal source echo times path cell certificate recipes is = cc
 no_audit : (source other : Source) (echo times beginning : Bool) (path : Text) → audit beginning path other ≡ remark source echo times → ⊥
 no_audit source other echo times beginning path is = cc
 
+no_file : (source : Source) (echo times : Bool) (path : Text) (judgement : Judgement) → write path judgement ≡ remark source echo times → ⊥
+no_file source echo times path judgement is = cc
+
 no_record : (source : Source) (echo times : Bool) (path : Option Text) → tell path ≡ remark source echo times → ⊥
 no_record source echo times path is = cc
 
@@ -110,6 +114,8 @@ safe_at : (gives : Gives) (holds : Holds) (disks : DiskKind) (words : List Text)
     × AnswersAll set left (record ends { after = plain }) × IsLeftTold (ask_quiet words) errors left
 safe_at gives holds disks words ends errors source echo times _ asked (tells status came _) is =
     absurd (told_at_once gives words (output_of ends) errors (remark source echo times) status asked came is)
+safe_at gives holds disks words ends errors source echo times _ asked (writes path judgement _ _ _ asked2 _ _ _ _) is =
+    absurd (no_file source echo times path judgement (same_request words (write path judgement) (remark source echo times) asked2 asked))
 safe_at gives holds disks words ends errors source echo times _ asked (serves other _ _ asked2 _ _ _) is =
     absurd (no_serving source other echo times (same_request words (serve other) (remark source echo times) asked2 asked))
 safe_at gives holds disks words ends errors source echo times _ asked (remarks other e t set served asked2 is_set all told) is =

@@ -10,7 +10,7 @@ use Rattle.batch_engine.specs.View.{setup}
 use Rattle.batch_wire.specs.Transcript.{lines_of, whole_lines}
 use Rattle.batch_wire.specs.Written.{AppendsBeginning}
 use Rattle.batch_serve.specs.Safe.{BeginsSafely, WritesSafely, WritesWholeSafely}
-use Rattle.batch_words.specs.CommandLine.{Request, Source, audit, keep, picture, plant, remark, serve, source_of, tell}
+use Rattle.batch_words.specs.CommandLine.{Request, Source, audit, plant, serve, source_of, tell, keep, Judgement, write, remark, picture}
 use Rattle.batch_words.specs.declared.command.AuditWords.{AuditWords}
 use Rattle.batch_words.specs.declared.plant_options.PlantOptions.{PlantOptions}
 use Rattle.batch_commands.specs.Reading.{Gives}
@@ -33,7 +33,7 @@ use Rattle.batch_serve.specs.declared.fault.ServeFault.TheVariants.{Read, Write,
 use Rattle.batch_serve.specs.declared.fault.SetFault.{SetFault}
 use Rattle.batch_serve.specs.declared.fault.SetFault.TheVariants.{Memory, Stopped}
 use Rattle.batch_program.specs.declared.program.TheConstants.{MAX_READS}
-use Rattle.batch_program.specs.Programs.{IsLeftTold, IsProgramRun, PlantsAreComplete, ServingIsSafe, tells, serves, remarks, reads, draws, audits, plants, status_of_serving, keeps}
+use Rattle.batch_program.specs.Programs.{IsLeftTold, IsProgramRun, PlantsAreComplete, ServingIsSafe, tells, serves, reads, audits, plants, status_of_serving, keeps, writes, remarks, draws}
 use Rattle.batch_plant.specs.declared.plant_fault.PlantFault.{PlantFault}
 use Rattle.batch_plant.specs.declared.plant_fault.PlantFault.TheVariants as plant_fault
 use Rattle.batch_audit.specs.declared.finding.Finding.{Finding}
@@ -45,6 +45,7 @@ use Rattle.batch_program.specs.JournalRuns as journal
 use Rattle.batch_commands.specs.Digested.{AreDigested}
 use Rattle.batch_commands.specs.declared.digested.Digested.{Digested}
 use Rattle.batch_journal.specs.declared.recovery.RecoveryFault.{RecoveryFault}
+use Rattle.batch_program.specs.FileWriting.{IsWritten}
 use Rattle.batch_program.specs.PlantRuns.{HasRun, IsPlantTold, plant_text, refused_status}
 use Rattle.batch_program.specs.DrawingRuns as drawing
 use Rattle.batch_program.specs.DrawingRuns.{IsDrawn, IsRecordDrawn}
@@ -163,6 +164,7 @@ done_to_plant gives request quiet output errors _ set options (running.remarks _
 done_to_plant gives request quiet output errors _ set options (running.reads _ _ _ _) is = absurd cc
 done_to_plant gives request quiet output errors _ set options (running.draws _ _ _ _) is = absurd cc
 done_to_plant gives request quiet output errors _ set options (running.audits _ _ _ _ _ _) is = absurd cc
+done_to_plant gives request quiet output errors _ set options (running.writes _ _ _ _ _ _) is = absurd cc
 done_to_plant gives request quiet output errors _ set options (running.halts _ _ _ _ _) is = absurd cc
 done_to_plant gives request quiet output errors _ set options (running.judges _ _ _ _ _ _ _) is = absurd cc
 done_to_plant gives request quiet output errors _ set options (running.explains _ _ _ _) is = absurd cc
@@ -215,9 +217,11 @@ done_to_read gives request quiet output errors _ path (running.keeps _ _ _ _ _ _
 done_to_read gives request quiet output errors _ path (running.remarks _ _ _ _ _ _ _) is = absurd cc
 done_to_read gives request quiet output errors _ path (running.plants _ _ _ _ _ _) is = absurd cc
 done_to_read gives request quiet output errors _ path (running.audits _ _ _ _ _ _) is = absurd cc
+done_to_read gives request quiet output errors _ path (running.writes _ _ _ _ _ _) is = absurd cc
 done_to_read gives request quiet output errors _ path (running.halts _ _ _ _ _) is = absurd cc
 done_to_read gives request quiet output errors _ path (running.judges _ _ _ _ _ _ _) is = absurd cc
 done_to_read gives request quiet output errors _ path (running.explains _ _ _ _) is = absurd cc
+done_to_read gives request quiet output errors _ path (running.draws _ _ _ _) is = absurd cc
 
 -- the record that is to be read is the one that the words name, and nothing was written
 pub record_to_read : (gives : Gives) (words : List Text) (output errors : Stream) (course : Course) (path : Option (String Global))
@@ -269,6 +273,7 @@ done_to_draw gives request quiet output errors _ path (running.audits _ _ _ _ _ 
 done_to_draw gives request quiet output errors _ path (running.halts _ _ _ _ _) is = absurd cc
 done_to_draw gives request quiet output errors _ path (running.judges _ _ _ _ _ _ _) is = absurd cc
 done_to_draw gives request quiet output errors _ path (running.explains _ _ _ _) is = absurd cc
+done_to_draw gives request quiet output errors _ path (running.writes _ _ _ _ _ _) is = absurd cc
 
 -- the record that is to be drawn is the one that the words name, and nothing was written
 pub record_to_draw : (gives : Gives) (words : List Text) (output errors : Stream) (course : Course) (path : Option (String Global))
@@ -328,6 +333,7 @@ done_to_audit gives words request quiet output errors _ set own asked (running.p
 done_to_audit gives words request quiet output errors _ set own asked (running.halts _ _ _ _ _) is = absurd cc
 done_to_audit gives words request quiet output errors _ set own asked (running.judges _ _ _ _ _ _ _) is = absurd cc
 done_to_audit gives words request quiet output errors _ set own asked (running.explains _ _ _ _) is = absurd cc
+done_to_audit gives words request quiet output errors _ set own asked (running.writes _ _ _ _ _ _) is = absurd cc
 
 pub set_to_audit : (gives : Gives) (words : List Text) (output errors : Stream) (course : Course) (set : ClearedSet) (own : AuditWords)
     → IsRun gives words output errors course → course ≡ course_of.Audits set own → IsToAudit gives words output errors set own
@@ -425,6 +431,12 @@ same_source a b is = cc
 serves_no_record : (source : Source) (path : Option Text) → serve source ≡ tell path → ⊥
 serves_no_record source path is = cc
 
+pub serves_no_file : (source : Source) (path : Text) (judgement : Judgement) → serve source ≡ write path judgement → ⊥
+serves_no_file source path judgement is = cc
+
+pub plants_no_file : (batches ticks ring : ℕ) (path : Text) (judgement : Judgement) → plant batches ticks ring ≡ write path judgement → ⊥
+plants_no_file batches ticks ring path judgement is = cc
+
 plants_no_record : (batches ticks ring : ℕ) (path : Option Text) → plant batches ticks ring ≡ tell path → ⊥
 plants_no_record batches ticks ring path is = cc
 
@@ -464,6 +476,8 @@ safe_at : (gives : Gives) (holds : Holds) (disks : DiskKind) (words : List Text)
     → (set : ClearedSet) × (left : ℕ) × IsSetOf gives source set × AnswersAll set left ends × IsLeftTold (ask_quiet words) errors left
 safe_at gives holds disks words ends errors source _ asked (tells status came _) is =
     absurd (told_at_once gives words (output_of ends) errors (serve source) status asked came is)
+safe_at gives holds disks words ends errors source _ asked (writes path judgement _ _ _ asked2 _ _ _ _) is =
+    absurd (serves_no_file source path judgement (same_request words (serve source) (write path judgement) asked asked2))
 safe_at gives holds disks words ends errors source _ asked (serves other set served asked2 is_set all told) is =
     let same = same_source other source (same_request words (serve other) (serve source) asked2 asked) in
     let (left, answers, says) = ran_to_the_end set served ends (ask_quiet words) errors all told is in
@@ -512,6 +526,7 @@ done_in_range gives request quiet output errors _ status (running.reads _ _ _ _)
 done_in_range gives request quiet output errors _ status (running.draws _ _ _ _) is = absurd cc
 done_in_range gives request quiet output errors _ status (running.audits _ _ _ _ _ _) is = absurd cc
 done_in_range gives request quiet output errors _ status (running.plants _ _ _ _ _ _) is = absurd cc
+done_in_range gives request quiet output errors _ status (running.writes _ _ _ _ _ _) is = absurd cc
 done_in_range gives request quiet output errors _ status (running.halts h told warned _ at) is =
     let same : told ≡ status = cc in
     rw (← same) (announced_in_range quiet output (record { before = warned; after = errors.after }) h told at)
@@ -602,9 +617,16 @@ kept_in_range : (disks : DiskKind) (set : ClearedSet) (digits path : List ℕ) (
 kept_in_range disks set digits path ends status (inl (start, end, _, _, over)) = journal_in_range disks set digits path start end ends status over.told
 kept_in_range disks set digits path ends status (inr untold) = untold_in_range (output_of ends) status untold
 
+written_in_range : (holds : Holds) (path text : List ℕ) (errors : Stream) (status : ℕ) → IsWritten holds path text errors status → status ≤ 4
+written_in_range holds path text errors status (inl (_, _, success)) = rw success (omega arith)
+written_in_range holds path text errors status (inr (inl fault)) = rw fault (omega arith)
+written_in_range holds path text errors status (inr (inr memory)) = rw memory (omega arith)
+
 pub run_in_range : (gives : Gives) (holds : Holds) (disks : DiskKind) (words : List Text) (ends : serving.Ends) (errors : Stream) (status : ℕ)
     → IsProgramRun gives holds disks words ends errors status → status ≤ 4
 run_in_range gives holds disks words ends errors _ (tells status came _) = course_in_range gives words (output_of ends) errors (Ends status) status came refl
+run_in_range gives holds disks words ends errors status (writes path _ text warned _ _ _ written _ _) =
+    written_in_range holds path text (record { before = warned; after = errors.after }) status written
 run_in_range gives holds disks words ends errors _ (serves _ _ served _ _ _ _) = serving_in_range served
 run_in_range gives holds disks words ends errors _ (remarks _ _ _ _ served _ _ _ _) = serving_in_range served
 run_in_range gives holds disks words ends errors status (keeps path _ _ _ set digits _ _ _ ran) = kept_in_range disks set digits path ends status ran
@@ -636,6 +658,8 @@ told_plant : (gives : Gives) (holds : Holds) (disks : DiskKind) (words : List Te
     → (set : ClearedSet) × (handled : ℕ) × IsDemoSet set × HasRun set batches handled × Appends ends.before ends.after (plant_text batches handled)
 told_plant gives holds disks words ends errors batches ticks ring _ asked (tells status came _) is =
     absurd (told_at_once gives words (output_of ends) errors (plant batches ticks ring) status asked came is)
+told_plant gives holds disks words ends errors batches ticks ring _ asked (writes path judgement _ _ _ asked2 _ _ _ _) is =
+    absurd (plants_no_file batches ticks ring path judgement (same_request words (plant batches ticks ring) (write path judgement) asked asked2))
 told_plant gives holds disks words ends errors batches ticks ring _ asked (serves source _ _ asked2 _ _ _) is =
     absurd (serves_no_plant source batches ticks ring (same_request words (serve source) (plant batches ticks ring) asked2 asked))
 told_plant gives holds disks words ends errors batches ticks ring _ asked (keeps path cell certificate recipes _ _ _ asked2 _ _) is =

@@ -2,6 +2,7 @@ pub mod AuditRuns
 pub mod DrawingRuns
 pub mod JournalRuns
 pub mod Keeping
+pub mod FileWriting
 pub mod PlantRuns
 pub mod PlantWork
 pub mod Programs

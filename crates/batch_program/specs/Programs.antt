@@ -1,18 +1,18 @@
 -- trusted: what comes of the program's words, input and documents.
-use Rattle.std.specs.Prelude.{◌≤◌, ◌++◌, ℕ, zero, suc, Bool, true, false, IfOk, IfSome, List, Option, Result, Ok, Err, codes, decimal, if◌then◌else◌, nat_eq}
+use Rattle.std.specs.Prelude.{◌≤◌, ◌++◌, ℕ, zero, suc, Bool, true, false, IfOk, IfSome, List, Option, Result, Ok, Err, codes, decimal, if◌then◌else◌, nat_eq, Some}
 use Rattle.std.specs.Io.KnownBytes.{Appends, Keeps}
 use Rattle.std.specs.Process.{exit_status}
 use Rattle.std.specs.declared.process.ExitCode.{ExitCode}
 use Rattle.clap.specs.Walk.{Text}
 use Rattle.batch_verify.specs.ClearedSet.{ClearedSet}
 use Rattle.batch_wire.specs.Transcript.{lines_of}
-use Rattle.batch_words.specs.CommandLine.{Source, audit, keep, picture, plant, remark, serve, tell}
+use Rattle.batch_words.specs.CommandLine.{Source, audit, keep, plant, serve, tell, Judgement, write, remark, picture}
 use Rattle.batch_words.specs.declared.plant_options.PlantOptions.{PlantOptions}
 use Rattle.batch_commands.specs.Digested.{AreDigested}
 use Rattle.batch_commands.specs.Reading.{Gives}
-use Rattle.batch_commands.specs.Requests.{IsDemoSet, IsSetOf}
+use Rattle.batch_commands.specs.Requests.{IsDemoSet, IsSetOf, IsVerdict}
 use Rattle.batch_commands.specs.Running.{AskFor, IsRun, IsUnwritten, Stream, ask_quiet, fault_status, memory_status}
-use Rattle.batch_commands.specs.Saying.{WritesFront}
+use Rattle.batch_commands.specs.Saying.{WritesFront, IsWarned}
 use Rattle.batch_commands.specs.VerdictTexts.{accepted_text}
 use Rattle.batch_commands.specs.declared.course.Course.TheVariants.{Ends}
 use Rattle.batch_serve.specs.Comments.{IsRemarked}
@@ -25,6 +25,7 @@ use Rattle.batch_plant.specs.declared.plant_fault.PlantFault.{PlantFault}
 use Rattle.batch_program.specs.AuditRuns.{IsAccepted, IsAuditTold}
 use Rattle.batch_program.specs.DrawingRuns.{IsRecordDrawn}
 use Rattle.batch_program.specs.JournalRuns.{DiskKind, IsJournalRun}
+use Rattle.batch_program.specs.FileWriting.{IsWritten}
 use Rattle.batch_program.specs.PlantRuns.{HasRun, IsPlantTold, plant_text}
 use Rattle.batch_program.specs.RecordRuns.{Holds, IsRecordTold, output_of}
 use Rattle.batch_program.specs.declared.program.TheConstants.{MAX_READS}
@@ -56,6 +57,12 @@ pub data IsProgramRun (gives : Gives) (holds : Holds) (disks : DiskKind) (words 
   -- a verdict, help or a fault is told, and the input isn't read
   tells : (status : ℕ) → IsRun gives words (output_of ends) errors (Ends status) → Keeps ends.unread ends.left
       → IsProgramRun gives holds disks words ends errors status
+  -- the documents are accepted, it is warned of them, the text that says so is written into the file that the words name, and
+  -- neither is the input read nor the output written
+  writes : (path : Text) (judgement : Judgement) (text : List ℕ) (warned : Option (List ℕ)) (status : ℕ)
+      → AskFor words (write path judgement) → IsVerdict gives (IsWarned (ask_quiet words) errors.before warned) judgement text
+      → IsWritten holds path text (record { before = warned; after = errors.after }) status
+      → IsUnwritten (output_of ends) → Keeps ends.unread ends.left → IsProgramRun gives holds disks words ends errors status
   -- the set that the words name is served, by the engine that is made from it
   serves : (source : Source) (set : ClearedSet) (served : Result ℕ SetFault)
       → AskFor words (serve source) → IsSetOf gives source set → Serves set MAX_READS served ends
@@ -111,6 +118,15 @@ RemarkedServingIsSafe gives holds disks =
     → AskFor words (remark source echo times) → IsProgramRun gives holds disks words ends errors 0
     → (set : ClearedSet) × (left : ℕ) × (plain : Option (List ℕ)) × IsSetOf gives source set × IsRemarked ends.before ends.after plain
     × AnswersAll set left (record ends { after = plain }) × IsLeftTold (ask_quiet words) errors left
+
+-- a run of `check --write` that ends with status 0 has put into its file, and nowhere else, the text of a verdict that accepts its
+-- documents: the certificate with the least ranks, or the drawing; on the errors it has written its warnings alone
+abbrev pub CertificatesAreKept : Gives → Holds → DiskKind → Type 0
+CertificatesAreKept gives holds disks =
+    (words : List Text) (ends : serving.Ends) (errors : Stream) (path : Text) (judgement : Judgement)
+    → AskFor words (write path judgement) → IsProgramRun gives holds disks words ends errors 0
+    → (text : List ℕ) × IsVerdict gives (IsWarned (ask_quiet words) errors.before errors.after) judgement text × holds path (Some text)
+    × IsUnwritten (output_of ends)
 
 -- a run of `plant` that ends with status 0 has written its three lines, and a record over the demo's set, of so many events as the
 -- third line says, leads to where the batches that were asked for are complete

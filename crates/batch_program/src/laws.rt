@@ -1,5 +1,5 @@
 //! Laws over runs of the program.
-ghost use Rattle.batch_program.specs.Programs.{AuditsAreTrue, PlantsAreComplete, RemarkedServingIsSafe, ServingIsSafe};
+ghost use Rattle.batch_program.specs.Programs.{AuditsAreTrue, CertificatesAreKept, PlantsAreComplete, ServingIsSafe, RemarkedServingIsSafe};
 
 use crate::journals::Journals;
 use crate::records::Records;
@@ -44,6 +44,24 @@ pub fn audits_are_true<D: Documents + Records + Journals>(documents: &D)
 /// The same of a run with comments in the record: what was written is the text of a safe record, but for its comments.
 pub fn remarked_serving_is_safe<D: Documents + Records + Journals>(documents: &D)
     ensures { RemarkedServingIsSafe (D.gives documents.now) (D.holds documents.now)
+        (record {
+          File = D.File;
+          opens = D.opens documents.now;
+          is_disk = D.File.is_disk;
+          durable = D.File.durable;
+          seen = D.File.seen;
+          given = D.File.given;
+          moment = D.File.moment;
+          left_since = D.File.left_since;
+        }) }
+{
+    let _documents = documents;
+}
+
+/// What the exit status 0 of a run of `check --write` tells: the file holds the text of a verdict that accepts the documents, where
+/// it is known what it holds, and nothing was written to standard output.
+pub fn certificates_are_kept<D: Documents + Records + Journals>(documents: &D)
+    ensures { CertificatesAreKept (D.gives documents.now) (D.holds documents.now)
         (record {
           File = D.File;
           opens = D.opens documents.now;

@@ -1,6 +1,7 @@
 //! The program: what its words ask for, over files and streams. `main` of the program and of every stored run calls it.
 #![tactic(auto)]
 
+mod file_writing;
 mod journal_faults;
 mod journals;
 mod keeping;
@@ -20,9 +21,13 @@ mod statuses;
 mod steady_units;
 mod threads;
 
+pub use file_writing::write_file;
 pub use journals::Journals;
 pub use keeping::keep_journal;
-pub use laws::{audits_are_true, plants_are_complete, remarked_serving_is_safe, serving_is_safe};
+pub use laws::{
+    audits_are_true, certificates_are_kept, plants_are_complete, remarked_serving_is_safe,
+    serving_is_safe,
+};
 pub use limits::{read_limit_is_fixed, turn_limit_is_fixed};
 pub use noted::Noted;
 pub use plant::report_of_plant;

@@ -2,6 +2,7 @@
 ghost use Rattle.std.specs.Prelude.{◌≡◌, IfOk, map, string_bytes};
 ghost use Rattle.batch_program.specs.Programs.{IsLeftTold, IsProgramRun, left_text, status_of_serving};
 
+use crate::file_writing::write_file;
 use crate::journals::Journals;
 use crate::keeping::keep_journal;
 use crate::noted::Noted;
@@ -30,8 +31,9 @@ struct Stop {
     reason: io::Error,
 }
 
-/// Does what the words ask for, and gives the exit status: judges documents, serves event lines from the input over the set
-/// that they name, with a journal or without one, tells or draws what a record says, tells whether it is that of the lines that were sent, or has the demo's plant run.
+/// Does what the words ask for, and gives the exit status: judges documents, and prints the verdict or writes it into a file, serves
+/// event lines from the input over the set that they name, with a journal or without one, tells or draws what a record says, tells
+/// whether it is that of the lines that were sent, or has the demo's plant run.
 ///
 /// Verdicts, help, the record, what one tells, the picture of one, what is found of one and the lines of a plant go to the output, and all else, in a free text, to the errors. Refused
 /// events are part of the record and don't change the status. Where the input ends while batches are neither complete, stopped
@@ -69,6 +71,9 @@ pub fn run_program<D: Documents + Records + Journals, P: PlantRunner, R: Read, W
 {
     match run_words(alloc, words, documents, &mut output, errors) {
         Course::Ends(status) => (status, output),
+        Course::Writes { path, text } => {
+            (write_file(alloc, &path, &text, documents, errors), output)
+        }
         Course::Serves { set, quiet } => {
             let served = serve_set(alloc, set, input, &mut output, &mut NoRemarks, MAX_READS);
             let reason = reason_of(served, input, &output);

@@ -129,8 +129,13 @@ fn finding_status(beginning: bool, finding: Finding) -> u8
     }
 }
 
-/// Tells why the record at the path can't be opened or read, and gives the exit status.
-fn complain_unread<E: Write>(alloc: Global, path: &str, reason: io::Error, errors: &mut E) -> u8
+/// Tells why the file at the path can't be opened, read or written, and gives the exit status.
+pub(crate) fn complain_unread<E: Write>(
+    alloc: Global,
+    path: &str,
+    reason: io::Error,
+    errors: &mut E,
+) -> u8
     ensures { (result ≡ fault_status) ⊎ (result ≡ memory_status) }
 {
     if reason.kind() == ErrorKind::OutOfMemory {

@@ -28,7 +28,7 @@ struct FailedRead {
     reason: io::Error,
 }
 
-/// Why the record at this path can't be opened.
+/// Why the file at this path can't be opened or written.
 #[derive(Debug, Error, Drop)]
 #[error("{path}: {reason}")]
 struct FailedOpen {
@@ -127,7 +127,7 @@ fn complain_unread<E: Write>(fault: StatusFault, reason: Option<io::Error>, erro
     }
 }
 
-/// Tells why the record at the path can't be opened.
+/// Tells why the file at the path can't be opened or written.
 pub(crate) fn complain_unopened<E: Write>(
     alloc: Global,
     path: &str,

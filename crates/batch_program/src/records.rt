@@ -1,21 +1,27 @@
-//! Where records are opened.
-ghost use Rattle.std.specs.Prelude.{ℕ, List, Option, IfOk, ⊤};
+//! Where records are opened, and certificates written.
+ghost use Rattle.std.specs.Prelude.{ℕ, List, Option, Some, IfOk, OnOk, ⊤};
 
 use batch_commands::FilesOf;
-use std::io::Read;
+use std::alloc::Global;
+use std::fs::OpenFile;
+use std::io::{Read, Write};
 use std::rt::Files;
 use std::{fs, io};
 
-/// Where records are opened.
+/// Where records are opened, and certificates written.
 pub trait Records {
     type Record: Read + Drop;
 
-    // What a record that is opened at a path has to be read, where that is known.
+    // What the file at a path has to be read, where that is known.
     ghost holds: { Self → List ℕ → Option (List ℕ) → Type 0 };
 
     /// Opens the record at the path for reading.
     fn open(&self, path: &str) -> io::Result<Self::Record>
         ensures { IfOk result (λ opened. holds self.now path.now (Self.Record.remaining opened)) };
+
+    /// Puts a file with these bytes in the place of the one at the path, which stays as it was where that fails.
+    fn replace(&self, alloc: Global, path: &str, bytes: &[u8]) -> io::Result<()>
+        ensures { OnOk result (holds self.now path.now (Some bytes.now)) };
 }
 
 /// The files that the runtime opens. No contract says what they hold.
@@ -27,4 +33,22 @@ impl<R: Files> Records for FilesOf<'_, R> {
     fn open(&self, path: &str) -> io::Result<R::File> {
         fs::open(self.0, path)
     }
+
+    /// The bytes are written to `PATH.new`, which takes the path's name once they are synced.
+    fn replace(&self, alloc: Global, path: &str, bytes: &[u8]) -> io::Result<()> {
+        let draft = format!(in alloc; "{path}.new")?;
+        let replaced = replace_by(self.0, draft.as_str(), path, bytes);
+        if replaced.is_err() {
+            let _ = fs::remove_file(self.0, draft.as_str());
+        }
+        replaced
+    }
+}
+
+fn replace_by<R: Files>(rt: &R, draft: &str, path: &str, bytes: &[u8]) -> io::Result<()> {
+    let mut file = fs::create(rt, draft)?;
+    file.write_all(bytes)?;
+    file.flush()?;
+    file.sync_all()?;
+    fs::rename(rt, draft, path)
 }

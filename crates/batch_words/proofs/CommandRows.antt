@@ -152,6 +152,18 @@ flag_is_taken : fault_of program_app quiet_line ≡ []
 unfolding clap_on_literals
 flag_is_taken = refl
 
+-- the file that is to be written, beside the cell
+abbrev entered_file : Option (Text × List Row) → Option (Option Text × Text)
+entered_file = option_map (λ p. (first_of (codes "write") p.1, word_of (codes "CELL") p.1))
+
+file_is_read : entered_file (subcommand_of program_app (codes "check" ∷ codes "--write" ∷ codes "f" ∷ codes "c" ∷ [])) ≡ Some (Some (codes "f"), codes "c")
+unfolding clap_on_literals
+file_is_read = refl
+
+no_file_is_read : entered_file (subcommand_of program_app check_line) ≡ Some (None, codes "c")
+unfolding clap_on_literals
+no_file_is_read = refl
+
 abbrev explain_line : List Text
 explain_line = codes "explain" ∷ codes "refused" ∷ codes "E3" ∷ codes "running" ∷ []
 

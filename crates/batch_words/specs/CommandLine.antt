@@ -1,4 +1,4 @@
--- trusted: the command line: `check CELL RECIPE..`, `verify CELL CERT RECIPE..`, `show CELL RECIPE..`, `run [--journal FILE] [--echo] [--times] CELL CERT RECIPE..`, `status RECORD`, `draw RECORD`, `audit RECORD CELL CERT RECIPE..`, `plant`, `explain CODE..`, and no words at all.
+-- trusted: the command line: `check [--write FILE] CELL RECIPE..`, `verify CELL CERT RECIPE..`, `show CELL RECIPE..`, `run [--journal FILE] [--echo] [--times] CELL CERT RECIPE..`, `status RECORD`, `draw RECORD`, `audit RECORD CELL CERT RECIPE..`, `plant`, `explain CODE..`, and no words at all.
 use Rattle.std.specs.Prelude.{◌≡◌, ◌≢◌, ◌⊎◌, [], ◌∷◌, ℕ, Bool, List, Option, Some, None, map, option_map, codes, true, false, ◌&&◌, ◌||◌, is_some, unwrap_or, string_bytes, if◌then◌else◌, ⊤}
 use Rattle.std.specs.Str.{bytes_eq}
 use Rattle.std.specs.Str.Parse.{digits_value, without_leading_plus}
@@ -13,7 +13,7 @@ use Rattle.clap.specs.declared.builder.value_parser.ValueParser.TheVariants.{Uns
 use Rattle.clap.specs.declared.error.kind.ErrorKind.{ErrorKind}
 use Rattle.clap.specs.declared.error.kind.ErrorKind.TheVariants.{ArgumentConflict, DisplayHelp, DisplayVersion, OutOfMemory}
 use Rattle.batch_words.specs.declared.command.Subcommand.{Subcommand}
-use Rattle.batch_words.specs.declared.command.Subcommand.TheVariants.{Judge, Serve, Remark, Status, Picture, Audit, Plant, Explain, Keep}
+use Rattle.batch_words.specs.declared.command.Subcommand.TheVariants.{Judge, Serve, Status, Audit, Plant, Explain, Keep, Write, Remark, Picture}
 use Rattle.batch_words.specs.declared.command.Judgement as judgements
 use Rattle.batch_words.specs.declared.command.Judgement.TheVariants.{Check, Draw, Verify, Show}
 use Rattle.batch_words.specs.declared.command.Source as sources
@@ -51,13 +51,13 @@ number_rule name least most = record (new_rule name) {
   parser = Some (Unsigned least most);
 }
 
--- an option that takes a path, as `--journal FILE`
+-- an option that takes a path, as `--write FILE`
 abbrev pub path_rule : Text → Rule
 path_rule name = record (new_rule name) { long = Some name; value_names = 1; action = Some Set }
 
 abbrev pub check_app : App
-check_app = with_rule (with_rule (with_rule (with_rule (new_app (codes "check"))
-    (word_rule (codes "CELL"))) (several_rule (codes "RECIPE"))) (flag_rule (codes "dot"))) (flag_rule (codes "quiet"))
+check_app = with_rule (with_rule (with_rule (with_rule (with_rule (new_app (codes "check"))
+    (word_rule (codes "CELL"))) (several_rule (codes "RECIPE"))) (flag_rule (codes "dot"))) (path_rule (codes "write"))) (flag_rule (codes "quiet"))
 
 -- `verify`, and `run` without its options, by the name
 abbrev pub certified_app : Text → App
@@ -146,6 +146,8 @@ pub data Source : Type 0 where
 
 pub data Request : Type 0 where
   judge : Judgement → Request
+  -- to write into the file at this path what is printed of documents that are accepted
+  write : (path : Text) → Judgement → Request
   serve : Source → Request
   -- to serve it with comments in the record: the lines, or times, or both
   remark : (source : Source) (echo times : Bool) → Request
@@ -162,11 +164,20 @@ pub data Request : Type 0 where
   -- to say what the first code in these texts means, or where there are none what all codes mean
   explain : (texts : List Text) → Request
 
+-- which judgement the words behind `check` ask for
+abbrev pub judged_by : List Row → Judgement
+judged_by rows =
+    if is_given (codes "dot") rows then draw (word_of (codes "CELL") rows) (words_of (codes "RECIPE") rows)
+    else check (word_of (codes "CELL") rows) (words_of (codes "RECIPE") rows)
+
+-- it is printed, or written into the file that they name
+abbrev pub written_by : Option Text → Judgement → Request
+written_by None judgement = judge judgement
+written_by (Some path) judgement = write path judgement
+
 -- what the words behind `check` ask for
 abbrev pub checked_by : List Row → Request
-checked_by rows =
-    if is_given (codes "dot") rows then judge (draw (word_of (codes "CELL") rows) (words_of (codes "RECIPE") rows))
-    else judge (check (word_of (codes "CELL") rows) (words_of (codes "RECIPE") rows))
+checked_by rows = written_by (first_of (codes "write") rows) (judged_by rows)
 
 -- what the words behind `show` ask for
 abbrev pub shown_by : List Row → Request
@@ -230,6 +241,7 @@ source_of (Documents cell certificate recipes) = documents (string_bytes cell) (
 
 abbrev pub request_of : Subcommand → Request
 request_of (Judge judgement) = judge (judgement_of judgement)
+request_of (Write path judgement) = write (string_bytes path) (judgement_of judgement)
 request_of (Serve source) = serve (source_of source)
 request_of (Remark source comments) = remark (source_of source) comments.echo comments.times
 request_of (Keep journal cell certificate recipes) = keep (string_bytes journal) (string_bytes cell) (string_bytes certificate) (map string_bytes recipes.items)

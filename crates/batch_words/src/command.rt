@@ -20,6 +20,11 @@ pub struct CommandWords {
 pub enum Subcommand {
     /// To judge documents.
     Judge(Judgement),
+    /// To write into the file at this path what is printed of a judgement that accepts.
+    Write {
+        path: String,
+        judgement: Judgement,
+    },
     /// To serve event lines from standard input over a set.
     Serve(Source),
     /// To serve them with comments in the record.

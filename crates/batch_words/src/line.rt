@@ -37,6 +37,7 @@ Exit status:
 const CHECK_HELP: &str = "\
 An example, in examples/paint_plant:
   batchd check cell.toml primer.toml rinse-mended.toml > certificate.new
+  batchd check --write certificate.new cell.toml primer.toml rinse-mended.toml
   batchd check --dot cell.toml topcoat.toml rinse.toml | dot -Tsvg > circle.svg
 ";
 
@@ -141,6 +142,11 @@ fn check<'a>(alloc: Global) -> Result<Command<'a>, AllocError>
             alloc,
             "dot",
             "Draws what is asked for after what, for Graphviz, a circle in red",
+        ))?
+        .arg(path(
+            alloc,
+            "write",
+            "Writes the certificate into this file in place of printing it; where there is none, the file stays as it was",
         ))?
         .arg(quiet(alloc))
 }

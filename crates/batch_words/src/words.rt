@@ -2,7 +2,7 @@
 ghost use Rattle.std.specs.Prelude.{◌≡◌, ◌≤◌, ◌⊎◌, IfOk, IfErr, MatchOption, Some, false, is_some, map, option_map, string_bytes, codes, []};
 ghost use Rattle.std.specs.Str.Parse.{digits_value, without_leading_plus};
 ghost use Rattle.clap.specs.Words.{FailsBy, IsUnsignedIn, fault_of, first_of, found_of, kind_of, rows_of, subcommand_of, subcommand_rows_of};
-ghost use Rattle.batch_words.specs.CommandLine.{AreWordsOf, HasOptionsOf, IsFaultOf, IsFaultOfKind, audited_by, certified_by, checked_by, clash_kinds, clashes, faults_of, is_given, named_by, number_given, program_app, request_of, rows_clash, run_by, serve_by, source_of, word_of, words_of, shown_by};
+ghost use Rattle.batch_words.specs.CommandLine.{AreWordsOf, HasOptionsOf, IsFaultOf, IsFaultOfKind, audited_by, certified_by, checked_by, is_given, named_by, number_given, program_app, request_of, word_of, words_of, shown_by, judged_by, judgement_of, clash_kinds, clashes, faults_of, rows_clash, run_by, serve_by, source_of};
 
 use crate::command::{AuditWords, CommandFault, CommandWords, Judgement, Source, Subcommand};
 use crate::comments::Comments;
@@ -131,17 +131,28 @@ fn audit_command(alloc: Global, words: &ArgMatches<'_>) -> Result<Subcommand, Al
     }))
 }
 
-/// `check`, with a drawing or without one.
+/// `check`, which prints, or writes a file.
 fn check_command(alloc: Global, words: &ArgMatches<'_>) -> Result<Subcommand, AllocError>
     ensures { IfOk result (λ command. request_of command ≡ checked_by (rows_of (found_of words.now))) }
 {
+    let judgement = check_judgement(alloc, words)?;
+    match optional(alloc, words, "write")? {
+        Some(path) => Ok(Subcommand::Write { path, judgement }),
+        None => Ok(Subcommand::Judge(judgement)),
+    }
+}
+
+/// `check`, with a drawing or without one.
+fn check_judgement(alloc: Global, words: &ArgMatches<'_>) -> Result<Judgement, AllocError>
+    ensures { IfOk result (λ judgement. judgement_of judgement ≡ judged_by (rows_of (found_of words.now))) }
+{
     let cell = word(alloc, words, "CELL")?;
     let recipes = several(alloc, words, "RECIPE")?;
-    Ok(Subcommand::Judge(if flag(words, "dot") {
+    Ok(if flag(words, "dot") {
         Judgement::Draw { cell, recipes }
     } else {
         Judgement::Check { cell, recipes }
-    }))
+    })
 }
 
 fn show_command(alloc: Global, words: &ArgMatches<'_>) -> Result<Subcommand, AllocError>

@@ -1,7 +1,7 @@
 use Rattle.std.proofs.Common.{map, refl, string_bytes}
 use Rattle.std.proofs.KnownBytes.{Keeps-refl}
 use Rattle.batch_words.specs.CommandLine.{judgement_of, source_of}
-use Rattle.batch_commands.specs.Running.{audits, draws, explains, halts, judges, plants, reads, remarks, serves, keeps}
+use Rattle.batch_commands.specs.Running.{audits, explains, halts, judges, plants, reads, serves, keeps, writes, remarks, draws}
 use Rattle.batch_commands.proofs.Warned.{silent}
 use Rattle.batch_commands.proofs.running.run_command.Goals as goal
 
@@ -12,6 +12,17 @@ returns-in-Ok g c =
 
 pub returns-in-Judge : goal.returns-in-Judge
 returns-in-Judge g c = rw c.in-Judge.is (halts c.in-Err.halt _ _ (rw c.in-Judge.judgement-is at c.in-Err.ensures.halted) c.announce.ensures)
+
+pub returns-in-Ok-judge : goal.returns-in-Ok-judge
+returns-in-Ok-judge g c =
+    rw c.in-Write.is
+    (writes (judgement_of c.in-Write.judgement) c.in-Write.path c.in-Ok-judge.text refl
+    (rw c.in-Write.judgement-is at c.in-Ok-judge.ensures.verdict) (Keeps-refl _))
+
+pub returns-in-Write : goal.returns-in-Write
+returns-in-Write g c =
+    rw c.in-Write.is
+    (halts c.in-Err-judge.halt _ _ (rw c.in-Write.judgement-is at c.in-Err-judge.ensures.halted) c.announce-in-Err-judge.ensures)
 
 pub returns-in-Ok-clear_source : goal.returns-in-Ok-clear_source
 returns-in-Ok-clear_source g c =

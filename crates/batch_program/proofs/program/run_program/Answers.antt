@@ -1,8 +1,9 @@
 use Rattle.std.proofs.Common.{map, option_map, string_bytes}
 use Rattle.std.proofs.KnownBytes.{Keeps-refl}
 use Rattle.batch_words.specs.CommandLine.{source_of}
-use Rattle.batch_program.specs.Programs.{tells, serves, keeps, remarks, reads, draws, audits, plants}
+use Rattle.batch_program.specs.Programs.{tells, serves, keeps, reads, audits, plants, writes, remarks, draws}
 use Rattle.batch_program.specs.declared.program.TheConstants.{MAX_READS}
+use Rattle.batch_program.proofs.Kept.{file_to_write}
 use Rattle.batch_program.proofs.Plants.{has_run}
 use Rattle.batch_program.proofs.RemarkedServed.{remarked_kept, set_to_remark}
 use Rattle.batch_program.proofs.Served.{audit_kept, drawn_kept, left_kept, plant_to_run, record_kept, record_to_draw, record_to_read, served_kept, set_to_audit, set_to_serve, told_kept, journal_kept, set_to_keep}
@@ -10,6 +11,15 @@ use Rattle.batch_program.proofs.program.run_program.Goals as goal
 
 pub returns-in-Ends : goal.returns-in-Ends
 returns-in-Ends g c = tells c.in-Ends.status c.in-Ends.ensures (Keeps-refl _)
+
+pub returns-in-Writes : goal.returns-in-Writes
+returns-in-Writes g c =
+    let path = c.in-Writes.path in
+    let text = c.in-Writes.text in
+    let (judgement, asked, told, kept) =
+    file_to_write (g.D.Documents.gives c.args.documents.now) (map string_bytes c.args.words.now) _ _ _ path text c.run_words.ensures c.in-Writes.is in
+    writes (string_bytes path) judgement (string_bytes text) _ c.write_file.result asked told
+    (rw (c.deref.ensures, c.deref-in-Writes.ensures) at c.write_file.ensures) kept (Keeps-refl _)
 
 pub returns-in-Serves : goal.returns-in-Serves
 returns-in-Serves g c =

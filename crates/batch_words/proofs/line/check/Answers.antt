@@ -8,6 +8,7 @@ returns c =
     let cell = with_arg c.in_ok-arg.ensures c.word.ensures.rule c.word.ensures.local named in
     let recipes = with_arg c.in_ok-arg-2.ensures c.several.ensures.rule c.several.ensures.local cell in
     let dot = with_arg c.in_ok-arg-3.ensures c.flag.ensures.rule c.flag.ensures.local recipes in
-    IfOk-weaker c.arg-4.result _ _
-    (λ check adds. let quiet = with_arg adds c.quiet.ensures.rule c.quiet.ensures.local dot in
-    (quiet.app_is, quiet.no_globals)) c.arg-4.ensures
+    let write = with_arg c.in_ok-arg-4.ensures c.path.ensures.rule c.path.ensures.local dot in
+    IfOk-weaker c.arg-5.result _ _
+    (λ check adds. let quiet = with_arg adds c.quiet.ensures.rule c.quiet.ensures.local write in
+    (quiet.app_is, quiet.no_globals)) c.arg-5.ensures
