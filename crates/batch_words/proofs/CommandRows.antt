@@ -3,9 +3,9 @@ use Rattle.std.proofs.Common.{◌≡◌, ℕ, Bool, true, false, List, [], ◌�
 use Rattle.clap.specs.Faults.{fault_of}
 use Rattle.clap.specs.Simple.{subcommand_of}
 use Rattle.clap.specs.Walk.{Text, Row, first_of}
-use Rattle.clap.specs.declared.error.kind.ErrorKind.TheVariants.{DisplayHelp, DisplayVersion, InvalidSubcommand, MissingRequiredArgument, UnknownArgument, ValueValidation}
+use Rattle.clap.specs.declared.error.kind.ErrorKind.TheVariants.{ArgumentConflict, DisplayHelp, DisplayVersion, InvalidSubcommand, MissingRequiredArgument, UnknownArgument, ValueValidation}
 use Rattle.clap.proofs.OnLiterals.{clap_on_literals}
-use Rattle.batch_words.specs.CommandLine.{batches_of, is_given, program_app, ring_of, ticks_of, word_of, words_of}
+use Rattle.batch_words.specs.CommandLine.{batches_of, faults_of, is_given, program_app, ring_of, ticks_of, word_of, words_of}
 
 abbrev check_line : List Text
 check_line = codes "check" ∷ codes "c" ∷ codes "r" ∷ codes "s" ∷ []
@@ -105,6 +105,17 @@ no_comments_are_given = refl
 verify_has_no_comments : fault_of program_app (codes "verify" ∷ codes "--echo" ∷ codes "c" ∷ codes "k" ∷ []) ≡ UnknownArgument ∷ []
 unfolding clap_on_literals
 verify_has_no_comments = refl
+
+clash_line : List Text
+clash_line = codes "run" ∷ codes "--journal" ∷ codes "j" ∷ codes "--echo" ∷ codes "c" ∷ codes "k" ∷ []
+
+journal_clashes_with_echo : faults_of clash_line ≡ ArgumentConflict ∷ []
+unfolding clap_on_literals
+journal_clashes_with_echo = refl
+
+journal_alone_is_taken : faults_of journal_line ≡ []
+unfolding clap_on_literals
+journal_alone_is_taken = refl
 
 serve_is_unknown : fault_of program_app (codes "serve" ∷ []) ≡ UnknownArgument ∷ InvalidSubcommand ∷ []
 unfolding clap_on_literals
