@@ -16,7 +16,7 @@ use Rattle.batch_commands.proofs.Successes.{same_request}
 use Rattle.batch_commands.proofs.Warned.{verdict_more, warned_kept}
 use Rattle.batch_serve.specs.Serves as serving
 use Rattle.batch_program.specs.Programs.{CertificatesAreKept, IsProgramRun, tells, writes, serves, remarks, keeps, reads, draws, audits, plants}
-use Rattle.batch_program.specs.JournalRuns.{DiskKind}
+use Rattle.batch_program.specs.JournalRuns.{JournalFiles}
 use Rattle.batch_program.specs.RecordRuns.{Holds, output_of}
 use Rattle.batch_program.proofs.Served.{plants_no_file, serves_no_file, told_at_once}
 
@@ -76,13 +76,13 @@ no_journal journal cell certificate recipes path judgement is = cc
 no_audit : (source : Source) (beginning : Bool) (record_path path : Text) (judgement : Judgement) → audit beginning record_path source ≡ write path judgement → ⊥
 no_audit source beginning record_path path judgement is = cc
 
-kept_at : (gives : Gives) (holds : Holds) (disks : DiskKind) (words : List Text) (ends : serving.Ends) (errors : Stream) (path : Text) (judgement : Judgement) (status : ℕ)
-    → AskFor words (write path judgement) → IsProgramRun gives holds disks words ends errors status → status ≡ 0
+kept_at : (gives : Gives) (holds : Holds) (files : JournalFiles) (words : List Text) (ends : serving.Ends) (errors : Stream) (path : Text) (judgement : Judgement) (status : ℕ)
+    → AskFor words (write path judgement) → IsProgramRun gives holds files words ends errors status → status ≡ 0
     → (text : List ℕ) × IsVerdict gives (IsWarned (ask_quiet words) errors.before errors.after) judgement text × holds path (Some text)
     × IsUnwritten (output_of ends)
-kept_at gives holds disks words ends errors path judgement _ asked (tells status came _) is =
+kept_at gives holds files words ends errors path judgement _ asked (tells status came _) is =
     absurd (told_at_once gives words (output_of ends) errors (write path judgement) status asked came is)
-kept_at gives holds disks words ends errors path judgement status asked (writes own other text warned _ asked2 told (inl (kept, silent, _)) unwritten _) is =
+kept_at gives holds files words ends errors path judgement status asked (writes own other text warned _ asked2 told (inl (kept, silent, _)) unwritten _) is =
     let same = same_request words (write own other) (write path judgement) asked2 asked in
     let quiet = ask_quiet words in
     let more = verdict_more gives (IsWarned quiet errors.before warned) (IsWarned quiet errors.before errors.after) other text
@@ -92,23 +92,23 @@ kept_at gives holds disks words ends errors path judgement status asked (writes 
       subst (λ p. holds p (Some text)) (same_path own path other judgement same) kept,
       unwritten,
     )
-kept_at gives holds disks words ends errors path judgement status asked (writes _ _ _ _ _ _ _ (inr (inl fault)) _ _) is = absurd cc
-kept_at gives holds disks words ends errors path judgement status asked (writes _ _ _ _ _ _ _ (inr (inr memory)) _ _) is = absurd cc
-kept_at gives holds disks words ends errors path judgement _ asked (serves source _ _ asked2 _ _ _) is =
+kept_at gives holds files words ends errors path judgement status asked (writes _ _ _ _ _ _ _ (inr (inl fault)) _ _) is = absurd cc
+kept_at gives holds files words ends errors path judgement status asked (writes _ _ _ _ _ _ _ (inr (inr memory)) _ _) is = absurd cc
+kept_at gives holds files words ends errors path judgement _ asked (serves source _ _ asked2 _ _ _) is =
     absurd (serves_no_file source path judgement (same_request words (serve source) (write path judgement) asked2 asked))
-kept_at gives holds disks words ends errors path judgement _ asked (remarks source echo times _ _ asked2 _ _ _) is =
+kept_at gives holds files words ends errors path judgement _ asked (remarks source echo times _ _ asked2 _ _ _) is =
     absurd (no_comments source echo times path judgement (same_request words (remark source echo times) (write path judgement) asked2 asked))
-kept_at gives holds disks words ends errors path judgement _ asked (keeps journal cell certificate recipes _ _ _ asked2 _ _) is =
+kept_at gives holds files words ends errors path judgement _ asked (keeps journal cell certificate recipes _ _ _ asked2 _ _) is =
     absurd (no_journal journal cell certificate recipes path judgement (same_request words (keep journal cell certificate recipes) (write path judgement) asked2 asked))
-kept_at gives holds disks words ends errors path judgement _ asked (audits beginning record_path source _ _ asked2 _ _) is =
+kept_at gives holds files words ends errors path judgement _ asked (audits beginning record_path source _ _ asked2 _ _) is =
     absurd (no_audit source beginning record_path path judgement (same_request words (audit beginning record_path source) (write path judgement) asked2 asked))
-kept_at gives holds disks words ends errors path judgement _ asked (draws record_path _ asked2 _) is =
+kept_at gives holds files words ends errors path judgement _ asked (draws record_path _ asked2 _) is =
     absurd (draws_no_file record_path path judgement (same_request words (picture record_path) (write path judgement) asked2 asked))
-kept_at gives holds disks words ends errors path judgement _ asked (reads record_path _ asked2 _) is =
+kept_at gives holds files words ends errors path judgement _ asked (reads record_path _ asked2 _) is =
     absurd (reads_no_file record_path path judgement (same_request words (tell record_path) (write path judgement) asked2 asked))
-kept_at gives holds disks words ends errors path judgement _ asked (plants _ options _ _ asked2 _ _ _ _) is =
+kept_at gives holds files words ends errors path judgement _ asked (plants _ options _ _ asked2 _ _ _ _) is =
     absurd (plants_no_file options.batches options.ticks options.ring path judgement (same_request words _ (write path judgement) asked2 asked))
 
-pub certificates_are_kept : (gives : Gives) (holds : Holds) (disks : DiskKind) → CertificatesAreKept gives holds disks
-certificates_are_kept gives holds disks words ends errors path judgement asked came =
-    kept_at gives holds disks words ends errors path judgement 0 asked came refl
+pub certificates_are_kept : (gives : Gives) (holds : Holds) (files : JournalFiles) → CertificatesAreKept gives holds files
+certificates_are_kept gives holds files words ends errors path judgement asked came =
+    kept_at gives holds files words ends errors path judgement 0 asked came refl

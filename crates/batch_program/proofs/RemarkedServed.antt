@@ -18,7 +18,7 @@ use Rattle.batch_serve.specs.Serves as serving
 use Rattle.batch_serve.specs.Serves.{AnswersAll}
 use Rattle.batch_serve.specs.declared.fault.SetFault.{SetFault}
 use Rattle.batch_program.specs.Programs.{IsLeftTold, IsProgramRun, RemarkedServingIsSafe, tells, writes, serves, keeps, remarks, reads, audits, plants, draws}
-use Rattle.batch_program.specs.JournalRuns.{DiskKind}
+use Rattle.batch_program.specs.JournalRuns.{JournalFiles}
 use Rattle.batch_program.specs.RecordRuns.{Holds, output_of}
 use Rattle.batch_program.proofs.Served.{ran_to_the_end, served_kept, told_at_once}
 
@@ -108,30 +108,30 @@ no_plant source echo times batches ticks ring is = cc
 same_source : (a b : Source) (echo times e t : Bool) → remark a e t ≡ remark b echo times → a ≡ b
 same_source a b echo times e t is = cc
 
-safe_at : (gives : Gives) (holds : Holds) (disks : DiskKind) (words : List Text) (ends : serving.Ends) (errors : Stream) (source : Source) (echo times : Bool) (status : ℕ)
-    → AskFor words (remark source echo times) → IsProgramRun gives holds disks words ends errors status → status ≡ 0
+safe_at : (gives : Gives) (holds : Holds) (files : JournalFiles) (words : List Text) (ends : serving.Ends) (errors : Stream) (source : Source) (echo times : Bool) (status : ℕ)
+    → AskFor words (remark source echo times) → IsProgramRun gives holds files words ends errors status → status ≡ 0
     → (set : ClearedSet) × (left : ℕ) × (plain : Option (List ℕ)) × IsSetOf gives source set × IsRemarked ends.before ends.after plain
     × AnswersAll set left (record ends { after = plain }) × IsLeftTold (ask_quiet words) errors left
-safe_at gives holds disks words ends errors source echo times _ asked (tells status came _) is =
+safe_at gives holds files words ends errors source echo times _ asked (tells status came _) is =
     absurd (told_at_once gives words (output_of ends) errors (remark source echo times) status asked came is)
-safe_at gives holds disks words ends errors source echo times _ asked (writes path judgement _ _ _ asked2 _ _ _ _) is =
+safe_at gives holds files words ends errors source echo times _ asked (writes path judgement _ _ _ asked2 _ _ _ _) is =
     absurd (no_file source echo times path judgement (same_request words (write path judgement) (remark source echo times) asked2 asked))
-safe_at gives holds disks words ends errors source echo times _ asked (serves other _ _ asked2 _ _ _) is =
+safe_at gives holds files words ends errors source echo times _ asked (serves other _ _ asked2 _ _ _) is =
     absurd (no_serving source other echo times (same_request words (serve other) (remark source echo times) asked2 asked))
-safe_at gives holds disks words ends errors source echo times _ asked (remarks other e t set served asked2 is_set all told) is =
+safe_at gives holds files words ends errors source echo times _ asked (remarks other e t set served asked2 is_set all told) is =
     let same = same_source other source echo times e t (same_request words (remark other e t) (remark source echo times) asked2 asked) in
     let (left, answers, says) = ran_to_the_end set served (record ends { after = all.plain }) (ask_quiet words) errors all.serves told is in
     (set, left, all.plain, subst (λ s. IsSetOf gives s set) same is_set, all.remarked, answers, says)
-safe_at gives holds disks words ends errors source echo times _ asked (keeps path cell certificate recipes _ _ _ asked2 _ _) is =
+safe_at gives holds files words ends errors source echo times _ asked (keeps path cell certificate recipes _ _ _ asked2 _ _) is =
     absurd (no_journal source echo times path cell certificate recipes (same_request words (keep path cell certificate recipes) (remark source echo times) asked2 asked))
-safe_at gives holds disks words ends errors source echo times _ asked (audits beginning path other _ _ asked2 _ _) is =
+safe_at gives holds files words ends errors source echo times _ asked (audits beginning path other _ _ asked2 _ _) is =
     absurd (no_audit source other echo times beginning path (same_request words (audit beginning path other) (remark source echo times) asked2 asked))
-safe_at gives holds disks words ends errors source echo times _ asked (reads path _ asked2 _) is =
+safe_at gives holds files words ends errors source echo times _ asked (reads path _ asked2 _) is =
     absurd (no_record source echo times path (same_request words (tell path) (remark source echo times) asked2 asked))
-safe_at gives holds disks words ends errors source echo times _ asked (draws path _ asked2 _) is =
+safe_at gives holds files words ends errors source echo times _ asked (draws path _ asked2 _) is =
     absurd (no_picture source echo times path (same_request words (picture path) (remark source echo times) asked2 asked))
-safe_at gives holds disks words ends errors source echo times _ asked (plants _ options _ _ asked2 _ _ _ _) is =
+safe_at gives holds files words ends errors source echo times _ asked (plants _ options _ _ asked2 _ _ _ _) is =
     absurd (no_plant source echo times options.batches options.ticks options.ring (same_request words _ (remark source echo times) asked2 asked))
 
-pub remarked_serving_is_safe : (gives : Gives) (holds : Holds) (disks : DiskKind) → RemarkedServingIsSafe gives holds disks
-remarked_serving_is_safe gives holds disks words ends errors source echo times asked came = safe_at gives holds disks words ends errors source echo times 0 asked came refl
+pub remarked_serving_is_safe : (gives : Gives) (holds : Holds) (files : JournalFiles) → RemarkedServingIsSafe gives holds files
+remarked_serving_is_safe gives holds files words ends errors source echo times asked came = safe_at gives holds files words ends errors source echo times 0 asked came refl

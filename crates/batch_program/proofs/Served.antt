@@ -17,7 +17,7 @@ use Rattle.batch_commands.specs.Reading.{Gives}
 use Rattle.batch_commands.specs.Requests.{IsDemoSet, IsSetOf}
 use Rattle.batch_commands.specs.Running.{AskFor, IsAnnounced, IsDone, IsExplained, IsPrinted, IsRun, IsUnwritten, Stream, ask_quiet, fault_status, success_status, usage_status, memory_status}
 use Rattle.batch_commands.specs.Statuses.{IsSuccess}
-use Rattle.batch_commands.proofs.Successes.{done_keeping, done_serving, same_request, success_is_told}
+use Rattle.batch_commands.proofs.Successes.{done_keeping, done_serving, every_in_range, same_request, success_is_told}
 use Rattle.batch_commands.specs.Judging.{status_of}
 use Rattle.batch_commands.specs.Running as running
 use Rattle.batch_commands.specs.declared.course.Course.{Course}
@@ -40,7 +40,7 @@ use Rattle.batch_audit.specs.declared.finding.Finding.{Finding}
 use Rattle.batch_audit.specs.declared.finding.Finding.TheVariants.{Agrees, Differs, EndsBefore}
 use Rattle.batch_program.specs.AuditRuns as auditing
 use Rattle.batch_program.specs.AuditRuns.{IsAuditTold, finding_status, finding_text}
-use Rattle.batch_program.specs.JournalRuns.{DiskKind, IsJournalRefused, IsJournalRun, IsJournalTold, IsOverFile}
+use Rattle.batch_program.specs.JournalRuns.{DiskKind, IsJournalRefused, IsJournalRun, IsJournalTold, IsOverFile, JournalFiles}
 use Rattle.batch_program.specs.JournalRuns as journal
 use Rattle.batch_commands.specs.Digested.{AreDigested}
 use Rattle.batch_commands.specs.declared.digested.Digested.{Digested}
@@ -404,12 +404,12 @@ journal_told_kept disks set digits path start end unread left before mid after s
     journal.fails lines reached block is_block (kept_then_begun before mid after block kept begins) is
 
 -- serving over a journal, after the writer was left as it was
-pub journal_kept : (disks : DiskKind) (set : ClearedSet) (digits path : List ℕ) (unread left before mid after : Option (List ℕ)) (status : ℕ) → Keeps before mid
-    → IsJournalRun disks set digits path (record { unread = unread; left = left; before = mid; after = after }) status
-    → IsJournalRun disks set digits path (record { unread = unread; left = left; before = before; after = after }) status
-journal_kept disks set digits path unread left before mid after status kept (inl (start, end, opens, fresh, over)) =
-    inl (start, end, opens, fresh, record { any_moment = over.any_moment; told = journal_told_kept disks set digits path start end unread left before mid after status kept over.told })
-journal_kept disks set digits path unread left before mid after status kept (inr untold) = inr (untold_kept before mid after status kept untold)
+pub journal_kept : (files : JournalFiles) (set : ClearedSet) (digits path : List ℕ) (unread left before mid after : Option (List ℕ)) (status : ℕ) → Keeps before mid
+    → IsJournalRun files set digits path (record { unread = unread; left = left; before = mid; after = after }) status
+    → IsJournalRun files set digits path (record { unread = unread; left = left; before = before; after = after }) status
+journal_kept files set digits path unread left before mid after status kept (inl (start, end, opens, fresh, over)) =
+    inl (start, end, opens, fresh, record { any_moment = over.any_moment; told = journal_told_kept files.disks set digits path start end unread left before mid after status kept over.told })
+journal_kept files set digits path unread left before mid after status kept (inr untold) = inr (untold_kept before mid after status kept untold)
 
 -- Exit statuses
 
@@ -471,32 +471,32 @@ pub audits_no_journal : (beginning : Bool) (record_path : Text) (source : Source
     → audit beginning record_path source ≡ keep path cell certificate recipes → ⊥
 audits_no_journal beginning record_path source path cell certificate recipes is = cc
 
-safe_at : (gives : Gives) (holds : Holds) (disks : DiskKind) (words : List Text) (ends : serving.Ends) (errors : Stream) (source : Source) (status : ℕ)
-    → AskFor words (serve source) → IsProgramRun gives holds disks words ends errors status → status ≡ 0
+safe_at : (gives : Gives) (holds : Holds) (files : JournalFiles) (words : List Text) (ends : serving.Ends) (errors : Stream) (source : Source) (status : ℕ)
+    → AskFor words (serve source) → IsProgramRun gives holds files words ends errors status → status ≡ 0
     → (set : ClearedSet) × (left : ℕ) × IsSetOf gives source set × AnswersAll set left ends × IsLeftTold (ask_quiet words) errors left
-safe_at gives holds disks words ends errors source _ asked (tells status came _) is =
+safe_at gives holds files words ends errors source _ asked (tells status came _) is =
     absurd (told_at_once gives words (output_of ends) errors (serve source) status asked came is)
-safe_at gives holds disks words ends errors source _ asked (writes path judgement _ _ _ asked2 _ _ _ _) is =
+safe_at gives holds files words ends errors source _ asked (writes path judgement _ _ _ asked2 _ _ _ _) is =
     absurd (serves_no_file source path judgement (same_request words (serve source) (write path judgement) asked asked2))
-safe_at gives holds disks words ends errors source _ asked (serves other set served asked2 is_set all told) is =
+safe_at gives holds files words ends errors source _ asked (serves other set served asked2 is_set all told) is =
     let same = same_source other source (same_request words (serve other) (serve source) asked2 asked) in
     let (left, answers, says) = ran_to_the_end set served ends (ask_quiet words) errors all told is in
     (set, left, subst (λ s. IsSetOf gives s set) same is_set, answers, says)
-safe_at gives holds disks words ends errors source _ asked (keeps path cell certificate recipes _ _ _ asked2 _ _) is =
+safe_at gives holds files words ends errors source _ asked (keeps path cell certificate recipes _ _ _ asked2 _ _) is =
     absurd (serves_no_journal source path cell certificate recipes (same_request words (serve source) (keep path cell certificate recipes) asked asked2))
-safe_at gives holds disks words ends errors source _ asked (remarks other echo times _ _ asked2 _ _ _) is =
+safe_at gives holds files words ends errors source _ asked (remarks other echo times _ _ asked2 _ _ _) is =
     absurd (serves_no_comments source other echo times (same_request words (serve source) (remark other echo times) asked asked2))
-safe_at gives holds disks words ends errors source _ asked (reads path _ asked2 _) is =
+safe_at gives holds files words ends errors source _ asked (reads path _ asked2 _) is =
     absurd (serves_no_record source path (same_request words (serve source) (tell path) asked asked2))
-safe_at gives holds disks words ends errors source _ asked (draws path _ asked2 _) is =
+safe_at gives holds files words ends errors source _ asked (draws path _ asked2 _) is =
     absurd (serves_no_picture source path (same_request words (serve source) (picture path) asked asked2))
-safe_at gives holds disks words ends errors source _ asked (audits beginning path other _ _ asked2 _ _) is =
+safe_at gives holds files words ends errors source _ asked (audits beginning path other _ _ asked2 _ _) is =
     absurd (serves_no_audit source other beginning path (same_request words (serve source) (audit beginning path other) asked asked2))
-safe_at gives holds disks words ends errors source _ asked (plants _ options _ _ asked2 _ _ _ _) is =
+safe_at gives holds files words ends errors source _ asked (plants _ options _ _ asked2 _ _ _ _) is =
     absurd (serves_no_plant source options.batches options.ticks options.ring (same_request words (serve source) _ asked asked2))
 
-pub serving_is_safe : (gives : Gives) (holds : Holds) (disks : DiskKind) → ServingIsSafe gives holds disks
-serving_is_safe gives holds disks words ends errors source asked came = safe_at gives holds disks words ends errors source 0 asked came refl
+pub serving_is_safe : (gives : Gives) (holds : Holds) (files : JournalFiles) → ServingIsSafe gives holds files
+serving_is_safe gives holds files words ends errors source asked came = safe_at gives holds files words ends errors source 0 asked came refl
 
 kind_in_range : (kind : RefusalKind) → status_of kind ≤ 4
 kind_in_range Fault = omega arith
@@ -509,6 +509,9 @@ printed_in_range output errors text wanted status within (inr fault) = rw fault 
 announced_in_range : (quiet : Bool) (output errors : Stream) (h : Halt) (status : ℕ) → IsAnnounced quiet output errors h status → status ≤ 4
 announced_in_range quiet output errors (halt.Refused refusal) status (inl (_, _, same)) = rw same (kind_in_range refusal.kind)
 announced_in_range quiet output errors (halt.Refused refusal) status (inr fault) = rw fault (omega arith)
+announced_in_range quiet output errors (halt.Every refusals) status (inl (_, _, same)) = rw same (every_in_range refusals.items)
+announced_in_range quiet output errors (halt.Every refusals) status (inr (inl fault)) = rw fault (omega arith)
+announced_in_range quiet output errors (halt.Every refusals) status (inr (inr (_, memory))) = rw memory (omega arith)
 announced_in_range quiet output errors (halt.Unread message) status (_, fault) = rw fault (omega arith)
 announced_in_range quiet output errors halt.Memory status (_, fault) = rw fault (omega arith)
 
@@ -613,27 +616,27 @@ journal_in_range disks set digits path start end ends status (journal.stops unto
 journal_in_range disks set digits path start end ends status (journal.serves _ _ _ _ _ _ _ behind) = ends_in_range status behind.ends
 journal_in_range disks set digits path start end ends status (journal.fails _ _ _ _ _ fault) = rw fault (omega arith)
 
-kept_in_range : (disks : DiskKind) (set : ClearedSet) (digits path : List ℕ) (ends : serving.Ends) (status : ℕ) → IsJournalRun disks set digits path ends status → status ≤ 4
-kept_in_range disks set digits path ends status (inl (start, end, _, _, over)) = journal_in_range disks set digits path start end ends status over.told
-kept_in_range disks set digits path ends status (inr untold) = untold_in_range (output_of ends) status untold
+kept_in_range : (files : JournalFiles) (set : ClearedSet) (digits path : List ℕ) (ends : serving.Ends) (status : ℕ) → IsJournalRun files set digits path ends status → status ≤ 4
+kept_in_range files set digits path ends status (inl (start, end, _, _, over)) = journal_in_range files.disks set digits path start end ends status over.told
+kept_in_range files set digits path ends status (inr untold) = untold_in_range (output_of ends) status untold
 
 written_in_range : (holds : Holds) (path text : List ℕ) (errors : Stream) (status : ℕ) → IsWritten holds path text errors status → status ≤ 4
 written_in_range holds path text errors status (inl (_, _, success)) = rw success (omega arith)
 written_in_range holds path text errors status (inr (inl fault)) = rw fault (omega arith)
 written_in_range holds path text errors status (inr (inr memory)) = rw memory (omega arith)
 
-pub run_in_range : (gives : Gives) (holds : Holds) (disks : DiskKind) (words : List Text) (ends : serving.Ends) (errors : Stream) (status : ℕ)
-    → IsProgramRun gives holds disks words ends errors status → status ≤ 4
-run_in_range gives holds disks words ends errors _ (tells status came _) = course_in_range gives words (output_of ends) errors (Ends status) status came refl
-run_in_range gives holds disks words ends errors status (writes path _ text warned _ _ _ written _ _) =
+pub run_in_range : (gives : Gives) (holds : Holds) (files : JournalFiles) (words : List Text) (ends : serving.Ends) (errors : Stream) (status : ℕ)
+    → IsProgramRun gives holds files words ends errors status → status ≤ 4
+run_in_range gives holds files words ends errors _ (tells status came _) = course_in_range gives words (output_of ends) errors (Ends status) status came refl
+run_in_range gives holds files words ends errors status (writes path _ text warned _ _ _ written _ _) =
     written_in_range holds path text (record { before = warned; after = errors.after }) status written
-run_in_range gives holds disks words ends errors _ (serves _ _ served _ _ _ _) = serving_in_range served
-run_in_range gives holds disks words ends errors _ (remarks _ _ _ _ served _ _ _ _) = serving_in_range served
-run_in_range gives holds disks words ends errors status (keeps path _ _ _ set digits _ _ _ ran) = kept_in_range disks set digits path ends status ran
-run_in_range gives holds disks words ends errors status (reads path _ _ told) = record_in_range holds path ends errors status told
-run_in_range gives holds disks words ends errors status (draws path _ _ told) = drawn_in_range holds path ends errors status told
-run_in_range gives holds disks words ends errors status (audits beginning path _ set _ _ _ told) = audit_in_range holds set beginning path ends errors status told
-run_in_range gives holds disks words ends errors status (plants _ options end _ _ _ _ told _) = plant_in_range (output_of ends) errors options.batches end status told
+run_in_range gives holds files words ends errors _ (serves _ _ served _ _ _ _) = serving_in_range served
+run_in_range gives holds files words ends errors _ (remarks _ _ _ _ served _ _ _ _) = serving_in_range served
+run_in_range gives holds files words ends errors status (keeps path _ _ _ set digits _ _ _ ran) = kept_in_range files set digits path ends status ran
+run_in_range gives holds files words ends errors status (reads path _ _ told) = record_in_range holds path ends errors status told
+run_in_range gives holds files words ends errors status (draws path _ _ told) = drawn_in_range holds path ends errors status told
+run_in_range gives holds files words ends errors status (audits beginning path _ set _ _ _ told) = audit_in_range holds set beginning path ends errors status told
+run_in_range gives holds files words ends errors status (plants _ options end _ _ _ _ told _) = plant_in_range (output_of ends) errors options.batches end status told
 
 -- What a plant tells
 
@@ -653,30 +656,30 @@ complete_at output errors set batches (Err plant_fault.Refused) status ran (_, m
 same_batches : (a b ticks more ring places : ℕ) → plant a ticks ring ≡ plant b more places → a ≡ b
 same_batches a b ticks more ring places is = cc
 
-told_plant : (gives : Gives) (holds : Holds) (disks : DiskKind) (words : List Text) (ends : serving.Ends) (errors : Stream) (batches ticks ring status : ℕ)
-    → AskFor words (plant batches ticks ring) → IsProgramRun gives holds disks words ends errors status → status ≡ 0
+told_plant : (gives : Gives) (holds : Holds) (files : JournalFiles) (words : List Text) (ends : serving.Ends) (errors : Stream) (batches ticks ring status : ℕ)
+    → AskFor words (plant batches ticks ring) → IsProgramRun gives holds files words ends errors status → status ≡ 0
     → (set : ClearedSet) × (handled : ℕ) × IsDemoSet set × HasRun set batches handled × Appends ends.before ends.after (plant_text batches handled)
-told_plant gives holds disks words ends errors batches ticks ring _ asked (tells status came _) is =
+told_plant gives holds files words ends errors batches ticks ring _ asked (tells status came _) is =
     absurd (told_at_once gives words (output_of ends) errors (plant batches ticks ring) status asked came is)
-told_plant gives holds disks words ends errors batches ticks ring _ asked (writes path judgement _ _ _ asked2 _ _ _ _) is =
+told_plant gives holds files words ends errors batches ticks ring _ asked (writes path judgement _ _ _ asked2 _ _ _ _) is =
     absurd (plants_no_file batches ticks ring path judgement (same_request words (plant batches ticks ring) (write path judgement) asked asked2))
-told_plant gives holds disks words ends errors batches ticks ring _ asked (serves source _ _ asked2 _ _ _) is =
+told_plant gives holds files words ends errors batches ticks ring _ asked (serves source _ _ asked2 _ _ _) is =
     absurd (serves_no_plant source batches ticks ring (same_request words (serve source) (plant batches ticks ring) asked2 asked))
-told_plant gives holds disks words ends errors batches ticks ring _ asked (keeps path cell certificate recipes _ _ _ asked2 _ _) is =
+told_plant gives holds files words ends errors batches ticks ring _ asked (keeps path cell certificate recipes _ _ _ asked2 _ _) is =
     absurd (plants_no_journal batches ticks ring path cell certificate recipes (same_request words (plant batches ticks ring) (keep path cell certificate recipes) asked asked2))
-told_plant gives holds disks words ends errors batches ticks ring _ asked (remarks source echo times _ _ asked2 _ _ _) is =
+told_plant gives holds files words ends errors batches ticks ring _ asked (remarks source echo times _ _ asked2 _ _ _) is =
     absurd (plants_no_comments batches ticks ring source echo times (same_request words (plant batches ticks ring) (remark source echo times) asked asked2))
-told_plant gives holds disks words ends errors batches ticks ring _ asked (reads path _ asked2 _) is =
+told_plant gives holds files words ends errors batches ticks ring _ asked (reads path _ asked2 _) is =
     absurd (plants_no_record batches ticks ring path (same_request words (plant batches ticks ring) (tell path) asked asked2))
-told_plant gives holds disks words ends errors batches ticks ring _ asked (draws path _ asked2 _) is =
+told_plant gives holds files words ends errors batches ticks ring _ asked (draws path _ asked2 _) is =
     absurd (plants_no_picture batches ticks ring path (same_request words (plant batches ticks ring) (picture path) asked asked2))
-told_plant gives holds disks words ends errors batches ticks ring _ asked (audits beginning path source _ _ asked2 _ _) is =
+told_plant gives holds files words ends errors batches ticks ring _ asked (audits beginning path source _ _ asked2 _ _) is =
     absurd (plants_no_audit batches ticks ring source beginning path (same_request words (plant batches ticks ring) (audit beginning path source) asked asked2))
-told_plant gives holds disks words ends errors batches ticks ring status asked (plants set options end _ asked2 demo ran told _) is =
+told_plant gives holds files words ends errors batches ticks ring status asked (plants set options end _ asked2 demo ran told _) is =
     let same = same_batches options.batches batches options.ticks ticks options.ring ring (same_request words _ (plant batches ticks ring) asked2 asked) in
     let (handled, came, appends) = complete_at (output_of ends) errors set options.batches end status ran told is in
     (set, handled, demo, subst (λ n. HasRun set n handled) same came, subst (λ n. Appends ends.before ends.after (plant_text n handled)) same appends)
 
-pub plants_are_complete : (gives : Gives) (holds : Holds) (disks : DiskKind) → PlantsAreComplete gives holds disks
-plants_are_complete gives holds disks words ends errors batches ticks ring asked came =
-    told_plant gives holds disks words ends errors batches ticks ring 0 asked came refl
+pub plants_are_complete : (gives : Gives) (holds : Holds) (files : JournalFiles) → PlantsAreComplete gives holds files
+plants_are_complete gives holds files words ends errors batches ticks ring asked came =
+    told_plant gives holds files words ends errors batches ticks ring 0 asked came refl

@@ -37,14 +37,17 @@ IsJournalRefused path fault output status =
 -- disks of one kind, and what is known of one that has behaved as a disk so far
 pub record DiskKind : Type 1 where
   pub File : Type 0
-  -- what is opened at a path
-  pub opens : List ℕ → File → Type 0
   pub is_disk : File → Type 0
   pub durable : File → List ℕ
   pub seen : File → List ℕ
   pub given : File → List ℕ
   pub moment : File → ℕ
   pub left_since : File → ℕ → Left → Type 0
+
+-- the disks that journals are on, and what is opened at a path
+pub record JournalFiles : Type 1 where
+  pub disks : DiskKind
+  pub opens : List ℕ → disks.File → Type 0
 
 -- behind the block: with status 0 all lines of the input are answered; and whatever came of it, a replay of what a crash leaves tells
 -- again what the journal's lines and this run told
@@ -76,8 +79,8 @@ pub record IsOverFile (disks : DiskKind) (set : ClearedSet) (digits path : List 
   pub told : IsJournalTold disks set digits path start end ends status
 
 -- the file at the path is opened, in which all that is read is durable; or it can't be opened
-abbrev pub IsJournalRun : DiskKind → ClearedSet → List ℕ → List ℕ → serving.Ends → ℕ → Type 0
-IsJournalRun disks set digits path ends status =
-    ((start : disks.File) × (end : disks.File) × disks.opens path start × (disks.is_disk start → disks.durable start ≡ disks.seen start)
-    × IsOverFile disks set digits path start end ends status)
+abbrev pub IsJournalRun : JournalFiles → ClearedSet → List ℕ → List ℕ → serving.Ends → ℕ → Type 0
+IsJournalRun files set digits path ends status =
+    ((start : files.disks.File) × (end : files.disks.File) × files.opens path start × (files.disks.is_disk start → files.disks.durable start ≡ files.disks.seen start)
+    × IsOverFile files.disks set digits path start end ends status)
     ⊎ IsUntold (output_of ends) status

@@ -1,5 +1,5 @@
 //! Serving over a journal.
-ghost use Rattle.std.specs.Prelude.{◌≡◌, ◌⊎◌, [], IsOk, ⊤};
+ghost use Rattle.std.specs.Prelude.{◌≡◌, ◌⊎◌, [], IsOk};
 ghost use Rattle.std.specs.Io.KnownBytes.{Keeps};
 ghost use Rattle.batch_engine.specs.View.{setup, plant_of};
 ghost use Rattle.batch_wire.specs.Written.{Writes};
@@ -42,14 +42,16 @@ pub fn keep_journal<J: Journals, R: Read, W: Write, E: Write>(
     errors: &mut E,
 ) -> (u8, Noted<W>)
     ensures { IsJournalRun (record {
-      File = J.File;
+      disks = record {
+        File = J.File;
+        is_disk = J.File.is_disk;
+        durable = J.File.durable;
+        seen = J.File.seen;
+        given = J.File.given;
+        moment = J.File.moment;
+        left_since = J.File.left_since;
+      };
       opens = J.opens journals.now;
-      is_disk = J.File.is_disk;
-      durable = J.File.durable;
-      seen = J.File.seen;
-      given = J.File.given;
-      moment = J.File.moment;
-      left_since = J.File.left_since;
     }) digested.set digested.documents.text path.now
         (record {
           unread = R.remaining input.old.stream;
@@ -85,7 +87,6 @@ fn serve_opened<D: Disk, K: Clock + Drop, R: Read, W: Write, E: Write>(
     requires fresh { D.is_disk disk → (D.durable disk ≡ D.seen disk) × (D.given disk ≡ []) }
     ensures { IsOverFile (record {
       File = D;
-      opens = λ _ _. ⊤;
       is_disk = D.is_disk;
       durable = D.durable;
       seen = D.seen;
@@ -122,7 +123,6 @@ fn serve_file<D: Disk, K: Clock + Drop, R: Read, W: Write, E: Write, C: Run>(
     requires input { C.input ≡ cleaned (R.remaining input.old.stream) }
     ensures { IsOverFile (record {
       File = D;
-      opens = λ _ _. ⊤;
       is_disk = D.is_disk;
       durable = D.durable;
       seen = D.seen;

@@ -10,14 +10,16 @@ use batch_commands::Documents;
 pub fn serving_is_safe<D: Documents + Records + Journals>(documents: &D)
     ensures { ServingIsSafe (D.gives documents.now) (D.holds documents.now)
         (record {
-          File = D.File;
+          disks = record {
+            File = D.File;
+            is_disk = D.File.is_disk;
+            durable = D.File.durable;
+            seen = D.File.seen;
+            given = D.File.given;
+            moment = D.File.moment;
+            left_since = D.File.left_since;
+          };
           opens = D.opens documents.now;
-          is_disk = D.File.is_disk;
-          durable = D.File.durable;
-          seen = D.File.seen;
-          given = D.File.given;
-          moment = D.File.moment;
-          left_since = D.File.left_since;
         }) }
 {
     let _documents = documents;
@@ -28,14 +30,16 @@ pub fn serving_is_safe<D: Documents + Records + Journals>(documents: &D)
 pub fn audits_are_true<D: Documents + Records + Journals>(documents: &D)
     ensures { AuditsAreTrue (D.gives documents.now) (D.holds documents.now)
         (record {
-          File = D.File;
+          disks = record {
+            File = D.File;
+            is_disk = D.File.is_disk;
+            durable = D.File.durable;
+            seen = D.File.seen;
+            given = D.File.given;
+            moment = D.File.moment;
+            left_since = D.File.left_since;
+          };
           opens = D.opens documents.now;
-          is_disk = D.File.is_disk;
-          durable = D.File.durable;
-          seen = D.File.seen;
-          given = D.File.given;
-          moment = D.File.moment;
-          left_since = D.File.left_since;
         }) }
 {
     let _documents = documents;
@@ -45,14 +49,16 @@ pub fn audits_are_true<D: Documents + Records + Journals>(documents: &D)
 pub fn remarked_serving_is_safe<D: Documents + Records + Journals>(documents: &D)
     ensures { RemarkedServingIsSafe (D.gives documents.now) (D.holds documents.now)
         (record {
-          File = D.File;
+          disks = record {
+            File = D.File;
+            is_disk = D.File.is_disk;
+            durable = D.File.durable;
+            seen = D.File.seen;
+            given = D.File.given;
+            moment = D.File.moment;
+            left_since = D.File.left_since;
+          };
           opens = D.opens documents.now;
-          is_disk = D.File.is_disk;
-          durable = D.File.durable;
-          seen = D.File.seen;
-          given = D.File.given;
-          moment = D.File.moment;
-          left_since = D.File.left_since;
         }) }
 {
     let _documents = documents;
@@ -63,14 +69,16 @@ pub fn remarked_serving_is_safe<D: Documents + Records + Journals>(documents: &D
 pub fn certificates_are_kept<D: Documents + Records + Journals>(documents: &D)
     ensures { CertificatesAreKept (D.gives documents.now) (D.holds documents.now)
         (record {
-          File = D.File;
+          disks = record {
+            File = D.File;
+            is_disk = D.File.is_disk;
+            durable = D.File.durable;
+            seen = D.File.seen;
+            given = D.File.given;
+            moment = D.File.moment;
+            left_since = D.File.left_since;
+          };
           opens = D.opens documents.now;
-          is_disk = D.File.is_disk;
-          durable = D.File.durable;
-          seen = D.File.seen;
-          given = D.File.given;
-          moment = D.File.moment;
-          left_since = D.File.left_since;
         }) }
 {
     let _documents = documents;
@@ -81,14 +89,16 @@ pub fn certificates_are_kept<D: Documents + Records + Journals>(documents: &D)
 pub fn plants_are_complete<D: Documents + Records + Journals>(documents: &D)
     ensures { PlantsAreComplete (D.gives documents.now) (D.holds documents.now)
         (record {
-          File = D.File;
+          disks = record {
+            File = D.File;
+            is_disk = D.File.is_disk;
+            durable = D.File.durable;
+            seen = D.File.seen;
+            given = D.File.given;
+            moment = D.File.moment;
+            left_since = D.File.left_since;
+          };
           opens = D.opens documents.now;
-          is_disk = D.File.is_disk;
-          durable = D.File.durable;
-          seen = D.File.seen;
-          given = D.File.given;
-          moment = D.File.moment;
-          left_since = D.File.left_since;
         }) }
 {
     let _documents = documents;

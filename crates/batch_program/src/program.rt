@@ -51,14 +51,16 @@ pub fn run_program<D: Documents + Records + Journals, P: PlantRunner, R: Read, W
 ) -> (u8, Noted<W>)
     ensures { IsProgramRun (D.gives documents.now) (D.holds documents.now)
         (record {
-          File = D.File;
+          disks = record {
+            File = D.File;
+            is_disk = D.File.is_disk;
+            durable = D.File.durable;
+            seen = D.File.seen;
+            given = D.File.given;
+            moment = D.File.moment;
+            left_since = D.File.left_since;
+          };
           opens = D.opens documents.now;
-          is_disk = D.File.is_disk;
-          durable = D.File.durable;
-          seen = D.File.seen;
-          given = D.File.given;
-          moment = D.File.moment;
-          left_since = D.File.left_since;
         })
         (map string_bytes words.now)
         (record {

@@ -3,9 +3,9 @@ use Rattle.std.proofs.Common.{◌≡◌, ℕ, Bool, true, false, List, [], ◌�
 use Rattle.clap.specs.Faults.{fault_of}
 use Rattle.clap.specs.Simple.{subcommand_of}
 use Rattle.clap.specs.Walk.{Text, Row, first_of}
-use Rattle.clap.specs.declared.error.kind.ErrorKind.TheVariants.{DisplayHelp, DisplayVersion, InvalidSubcommand, MissingRequiredArgument, UnknownArgument, ValueValidation}
+use Rattle.clap.specs.declared.error.kind.ErrorKind.TheVariants.{ArgumentConflict, DisplayHelp, DisplayVersion, InvalidSubcommand, MissingRequiredArgument, UnknownArgument, ValueValidation}
 use Rattle.clap.proofs.OnLiterals.{clap_on_literals}
-use Rattle.batch_words.specs.CommandLine.{batches_of, is_given, program_app, ring_of, ticks_of, word_of, words_of}
+use Rattle.batch_words.specs.CommandLine.{batches_of, faults_of, is_given, program_app, ring_of, ticks_of, word_of, words_of}
 
 abbrev check_line : List Text
 check_line = codes "check" ∷ codes "c" ∷ codes "r" ∷ codes "s" ∷ []
@@ -106,6 +106,17 @@ verify_has_no_comments : fault_of program_app (codes "verify" ∷ codes "--echo"
 unfolding clap_on_literals
 verify_has_no_comments = refl
 
+clash_line : List Text
+clash_line = codes "run" ∷ codes "--journal" ∷ codes "j" ∷ codes "--echo" ∷ codes "c" ∷ codes "k" ∷ []
+
+journal_clashes_with_echo : faults_of clash_line ≡ ArgumentConflict ∷ []
+unfolding clap_on_literals
+journal_clashes_with_echo = refl
+
+journal_alone_is_taken : faults_of journal_line ≡ []
+unfolding clap_on_literals
+journal_alone_is_taken = refl
+
 serve_is_unknown : fault_of program_app (codes "serve" ∷ []) ≡ UnknownArgument ∷ InvalidSubcommand ∷ []
 unfolding clap_on_literals
 serve_is_unknown = refl
@@ -140,6 +151,17 @@ flag_is_given = refl
 flag_is_taken : fault_of program_app quiet_line ≡ []
 unfolding clap_on_literals
 flag_is_taken = refl
+
+abbrev all_is_given : Option (Text × List Row) → Option Bool
+all_is_given = option_map (λ p. is_given (codes "all") p.1)
+
+all_is_read : all_is_given (subcommand_of program_app (codes "check" ∷ codes "c" ∷ codes "--all" ∷ [])) ≡ Some true
+unfolding clap_on_literals
+all_is_read = refl
+
+all_is_left_out : all_is_given (subcommand_of program_app check_line) ≡ Some false
+unfolding clap_on_literals
+all_is_left_out = refl
 
 -- the file that is to be written, beside the cell
 abbrev entered_file : Option (Text × List Row) → Option (Option Text × Text)

@@ -1,11 +1,11 @@
 -- What a parse that fails says of the words.
-use Rattle.std.proofs.Common.{◌≡◌, ◌≢◌, ◌⊎◌, ◌∙◌, Bool, false, Result, [], ◌∷◌, ap, inl, inr, subst, sym}
+use Rattle.std.proofs.Common.{◌≡◌, ◌≢◌, ◌⊎◌, ◌∙◌, Bool, true, false, Result, [], ◌∷◌, ap, inl, inr, refl, subst, sym}
 use Rattle.std.specs.Prelude.{IfErr}
 use Rattle.clap.specs.Kinds.{Kinds, HasKind, IsAmong, or_else}
 use Rattle.clap.specs.Values.{kind_of}
 use Rattle.clap.specs.declared.error.Error.{Error}
 use Rattle.clap.specs.declared.error.kind.ErrorKind.{ErrorKind}
-use Rattle.clap.specs.declared.error.kind.ErrorKind.TheVariants.{OutOfMemory}
+use Rattle.clap.specs.declared.error.kind.ErrorKind.TheVariants.{ArgumentConflict, OutOfMemory}
 use Rattle.batch_words.specs.CommandLine.{IsFaultOf, IsFaultOfKind, IsShown, clash_kinds}
 use Rattle.batch_words.specs.declared.command.CommandFault.{CommandFault}
 use Rattle.batch_words.specs.declared.command.CommandFault.TheVariants.{Help, Usage, Memory}
@@ -27,6 +27,13 @@ fault_from_kind kinds error (Usage text) among is = (kind_of error, kind_is_amon
 fault_from_kind kinds error Memory among is = tt
 
 -- What doesn't go together
+
+conflict_is_not_shown : IsShown ArgumentConflict → ⊥
+conflict_is_not_shown (inl help) = cc
+conflict_is_not_shown (inr version) = cc
+
+pub clash_is_told : (clash : Bool) → clash ≡ true → (kind : ErrorKind) × IsAmong kind (clash_kinds clash) × (IsShown kind → ⊥)
+clash_is_told clash is = rw is (ArgumentConflict, inl refl, conflict_is_not_shown)
 
 -- a fault that clap finds comes before what doesn't go together
 pub first_fault : (kinds more : Kinds) (fault : CommandFault) → IsFaultOf kinds fault → IsFaultOf (or_else kinds more) fault

@@ -1,5 +1,5 @@
 //! The words of the command line.
-ghost use Rattle.std.specs.Prelude.{◌≡◌, ◌≤◌, ◌⊎◌, IfOk, IfErr, MatchOption, Some, is_some, map, option_map, string_bytes, codes, []};
+ghost use Rattle.std.specs.Prelude.{◌≡◌, ◌≤◌, ◌⊎◌, IfOk, IfErr, MatchOption, Some, false, is_some, map, option_map, string_bytes, codes, []};
 ghost use Rattle.std.specs.Str.Parse.{digits_value, without_leading_plus};
 ghost use Rattle.clap.specs.Words.{FailsBy, IsUnsignedIn, fault_of, first_of, found_of, kind_of, rows_of, subcommand_of, subcommand_rows_of};
 ghost use Rattle.batch_words.specs.CommandLine.{AreWordsOf, HasOptionsOf, IsFaultOf, IsFaultOfKind, audited_by, certified_by, checked_by, is_given, named_by, number_given, program_app, request_of, word_of, words_of, shown_by, judged_by, judgement_of, clash_kinds, clashes, faults_of, rows_clash, run_by, serve_by, source_of};
@@ -148,10 +148,11 @@ fn check_judgement(alloc: Global, words: &ArgMatches<'_>) -> Result<Judgement, A
 {
     let cell = word(alloc, words, "CELL")?;
     let recipes = several(alloc, words, "RECIPE")?;
+    let all = flag(words, "all");
     Ok(if flag(words, "dot") {
-        Judgement::Draw { cell, recipes }
+        Judgement::Draw { all, cell, recipes }
     } else {
-        Judgement::Check { cell, recipes }
+        Judgement::Check { all, cell, recipes }
     })
 }
 
