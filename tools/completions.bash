@@ -6,7 +6,7 @@ _batchd() {
         return
     fi
     case ${COMP_WORDS[1]} in
-        check) options="--dot --write --quiet --help" ;;
+        check) options="--all --dot --write --quiet --help" ;;
         verify | show) options="--quiet --help" ;;
         audit) options="--beginning --quiet --help" ;;
         run) options="--journal --echo --times --quiet --help" ;;

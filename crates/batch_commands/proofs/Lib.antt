@@ -11,3 +11,5 @@ pub mod NodesTold
 pub mod Warned
 pub mod WarningLines
 pub mod OnCircles
+pub mod Looked
+pub mod RulesBroken

@@ -1,24 +1,26 @@
 -- What a run tells of the documents.
-use Rattle.std.proofs.Common.{◌≡◌, ◌⊎◌, ℕ, Bool, List, inl, inr, refl, sym, subst, ◌∙◌}
+use Rattle.std.proofs.Common.{arith, ◌≡◌, ◌⊎◌, ◌≤◌, ℕ, Bool, true, false, List, inl, inr, refl, sym, subst, ◌∙◌}
 use Rattle.std.specs.Io.KnownBytes.{Appends}
 use Rattle.clap.specs.Kinds.{IsAmong}
 use Rattle.clap.specs.Walk.{Text}
 use Rattle.clap.specs.declared.error.kind.ErrorKind.{ErrorKind}
 use Rattle.batch_words.specs.CommandLine.{Request, Source, demo, faults_of, keep, serve}
 use Rattle.batch_verify.specs.ClearedSet.{ClearedSet}
-use Rattle.batch_commands.specs.Judging.{status_of}
+use Rattle.batch_commands.specs.Judging.{is_for_memory, status_of}
 use Rattle.batch_commands.specs.Reading.{Gives}
 use Rattle.batch_commands.specs.Requests.{Halts, HaltsDemo, IsDemoSet, IsSetOf}
-use Rattle.batch_commands.specs.Running.{AskFor, IsAnnounced, IsDone, IsExplained, IsPrinted, IsRun, IsUnwritten, Stream, ask_quiet, memory_status, success_status, commands, serves, reads, audits, plants, halts, judges, explains, helps, misuses, starves, keeps, writes, remarks, draws}
+use Rattle.batch_commands.specs.Running.{AskFor, IsAnnounced, IsDone, IsExplained, IsPrinted, IsRun, IsUnwritten, Stream, ask_quiet, memory_status, success_status, commands, status_of_every, serves, reads, audits, plants, halts, judges, explains, helps, misuses, starves, keeps, writes, remarks, draws}
 use Rattle.batch_commands.specs.Saying.{IsWarned}
 use Rattle.batch_commands.specs.Statuses.{AreCodesTold, IsSuccess, NoCommandServes, ServesClearedSets, SuccessIsTold}
 use Rattle.batch_commands.proofs.Warned.{verdict_more, warned_kept}
 use Rattle.batch_commands.specs.declared.course.Course.{Course}
 use Rattle.batch_commands.specs.declared.course.Course.TheVariants.{Ends, Serves, Keeps}
-use Rattle.std.specs.Prelude.{String, string_bytes}
+use Rattle.std.specs.Prelude.{String, if◌then◌else◌, string_bytes}
+use Rattle.std.specs.List.{list_any}
 use Rattle.std.specs.Global.{Global}
 use Rattle.batch_commands.specs.Digested.{AreDigested}
 use Rattle.batch_commands.specs.declared.digested.Digested.{Digested}
+use Rattle.batch_commands.specs.declared.refusal.DocumentRefusal.{DocumentRefusal}
 use Rattle.batch_commands.specs.declared.refusal.Halt.{Halt}
 use Rattle.batch_commands.specs.declared.refusal.Halt.TheVariants as halt
 use Rattle.batch_commands.specs.declared.refusal.RefusalKind.{RefusalKind}
@@ -43,9 +45,26 @@ kind_fails : (kind : RefusalKind) → status_of kind ≡ 0 → ⊥
 kind_fails Fault is = cc
 kind_fails OutOfMemory is = cc
 
+either_fails : (wanting : Bool) → (if wanting then memory_status else status_of Fault) ≡ 0 → ⊥
+either_fails true is = cc
+either_fails false is = cc
+
+every_fails : (refusals : List DocumentRefusal) → status_of_every refusals ≡ 0 → ⊥
+every_fails refusals is = either_fails (list_any (λ r. is_for_memory r.kind) refusals) is
+
+either_in_range : (wanting : Bool) → (if wanting then memory_status else status_of Fault) ≤ 4
+either_in_range true = omega arith
+either_in_range false = omega arith
+
+pub every_in_range : (refusals : List DocumentRefusal) → status_of_every refusals ≤ 4
+every_in_range refusals = either_in_range (list_any (λ r. is_for_memory r.kind) refusals)
+
 no_success : (quiet : Bool) (output errors : Stream) (h : Halt) (status : ℕ) → IsAnnounced quiet output errors h status → status ≡ 0 → ⊥
 no_success quiet output errors (halt.Refused refusal) status (inl (_, _, same)) is = kind_fails refusal.kind (sym same ∙ is)
 no_success quiet output errors (halt.Refused refusal) status (inr fault) is = cc
+no_success quiet output errors (halt.Every refusals) status (inl (_, _, same)) is = every_fails refusals.items (sym same ∙ is)
+no_success quiet output errors (halt.Every refusals) status (inr (inl fault)) is = cc
+no_success quiet output errors (halt.Every refusals) status (inr (inr (_, memory))) is = cc
 no_success quiet output errors (halt.Unread message) status (_, fault) is = cc
 no_success quiet output errors halt.Memory status (_, fault) is = cc
 

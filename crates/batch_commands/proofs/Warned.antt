@@ -42,8 +42,8 @@ so_more gives these those cell paths is_so follows so = record {
 -- a verdict stays one where as much was said
 pub verdict_more : (gives : Gives) (these those : Warns) (judgement : Judgement) (text : List ℕ) → ((text : List ℕ) → these text → those text)
     → IsVerdict gives these judgement text → IsVerdict gives those judgement text
-verdict_more gives these those (check cell paths) text follows told = so_more gives these those cell paths _ follows told
-verdict_more gives these those (draw cell paths) text follows told = so_more gives these those cell paths _ follows told
+verdict_more gives these those (check all cell paths) text follows told = so_more gives these those cell paths _ follows told
+verdict_more gives these those (draw all cell paths) text follows told = so_more gives these those cell paths _ follows told
 verdict_more gives these those (show cell paths) text follows (told, said) = (told, follows _ said)
 verdict_more gives these those (verify cell certificate paths) text follows (is, (set, cleared, warned)) =
     (is, (set, cleared, follows _ warned))

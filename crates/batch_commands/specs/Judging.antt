@@ -1,5 +1,5 @@
 -- trusted: what verdicts say of the documents that they are on.
-use Rattle.std.specs.Prelude.{◌≡◌, ◌≢◌, ◌≤◌, ◌<◌, ℕ, List, true, length, string_bytes, IsSome, IsUtf8, ⊤}
+use Rattle.std.specs.Prelude.{◌≡◌, ◌≢◌, ◌≤◌, ◌<◌, ℕ, List, Bool, true, false, length, string_bytes, IsSome, IsUtf8, ⊤}
 use Rattle.toml.specs.Parse.{parse_document}
 use Rattle.batch_cell.specs.LookUps.{resources_of}
 use Rattle.batch_cell.specs.declared.cell.Cell.{Cell}
@@ -39,6 +39,10 @@ abbrev pub status_of : RefusalKind → ℕ
 status_of Fault = 1
 status_of OutOfMemory = 4
 
+abbrev pub is_for_memory : RefusalKind → Bool
+is_for_memory Fault = false
+is_for_memory OutOfMemory = true
+
 -- Documents
 
 abbrev pub document_kind : DocFault → RefusalKind
@@ -60,6 +64,7 @@ set_kind _ = Fault
 -- the program halts with the refusal of this text and kind, unless there was no memory for the text
 abbrev pub HaltsWith : List ℕ → RefusalKind → Halt → Type 0
 HaltsWith text kind (halt.Refused refusal) = (string_bytes refusal.text ≡ text) × (refusal.kind ≡ kind)
+HaltsWith text kind (halt.Every refusals) = ⊥
 HaltsWith text kind (halt.Unread message) = ⊥
 HaltsWith text kind halt.Memory = ⊤
 

@@ -6,6 +6,8 @@ pub mod Reading
 pub mod Digested
 pub mod Taking
 pub mod Halting
+pub mod Every
+pub mod Looking
 pub mod Running
 pub mod Statuses
 pub mod DemoDocuments

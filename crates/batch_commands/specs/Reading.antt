@@ -12,7 +12,7 @@ use Rattle.batch_commands.specs.Judging.{IsChecked, IsClearedBy}
 use Rattle.batch_commands.specs.VerdictTexts.{accepted_text}
 use Rattle.batch_commands.specs.WarningTexts.{warnings_text}
 use Rattle.batch_commands.specs.declared.refusal.Halt.{Halt}
-use Rattle.batch_commands.specs.declared.refusal.Halt.TheVariants.{Refused, Unread, Memory}
+use Rattle.batch_commands.specs.declared.refusal.Halt.TheVariants.{Refused, Every, Unread, Memory}
 
 -- what reading a path may give: these bytes, or at None that nothing can be read there
 abbrev pub Gives : Type 1
@@ -25,6 +25,7 @@ Warns = List ℕ → Type 0
 -- nothing was judged: nothing can be read at the path, or there was no memory
 abbrev pub IsUnread : Gives → List ℕ → Halt → Type 0
 IsUnread gives path (Refused refusal) = ⊥
+IsUnread gives path (Every refusals) = ⊥
 IsUnread gives path (Unread message) = gives path None
 IsUnread gives path Memory = ⊤
 

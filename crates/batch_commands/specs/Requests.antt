@@ -3,7 +3,8 @@ use Rattle.std.specs.Prelude.{◌≡◌, List, ℕ, [], ◌∷◌}
 use Rattle.batch_verify.specs.ClearedSet.{ClearedSet}
 use Rattle.batch_words.specs.CommandLine.{Judgement, check, draw, verify, Source, demo, documents, Request, judge, serve, tell, audit, plant, explain, show, keep, write, remark, picture}
 use Rattle.batch_commands.specs.DemoDocuments.{demo_text}
-use Rattle.batch_commands.specs.Halting.{HaltsCheck, HaltsClearing, HaltsDrawing, HaltsVerifying, HaltsAtDocuments}
+use Rattle.batch_commands.specs.Every.{HaltsChecking, HaltsDrawingOf}
+use Rattle.batch_commands.specs.Halting.{HaltsAtDocuments, HaltsClearing, HaltsVerifying}
 use Rattle.batch_commands.specs.Reading.{AreCleared, ChecksDocuments, DrawsDocuments, Gives, VerifiesDocuments, Warns, ShowsDocuments}
 use Rattle.batch_commands.specs.declared.demo.TheConstants.{CELL_PATH, CERTIFICATE_PATH, RECIPE_PATH}
 use Rattle.batch_commands.specs.declared.refusal.Halt.{Halt}
@@ -22,8 +23,8 @@ HaltsDemo h = HaltsClearing demo_gives CELL_PATH.now CERTIFICATE_PATH.now (RECIP
 
 -- what is printed where nothing is refused
 abbrev pub IsVerdict : Gives → Warns → Judgement → List ℕ → Type 0
-IsVerdict gives warns (check cell recipes) text = ChecksDocuments gives warns cell recipes text
-IsVerdict gives warns (draw cell recipes) text = DrawsDocuments gives warns cell recipes text
+IsVerdict gives warns (check all cell recipes) text = ChecksDocuments gives warns cell recipes text
+IsVerdict gives warns (draw all cell recipes) text = DrawsDocuments gives warns cell recipes text
 IsVerdict gives warns (verify cell certificate recipes) text = VerifiesDocuments gives warns cell certificate recipes text
 IsVerdict gives warns (show cell recipes) text = ShowsDocuments gives cell recipes text × warns []
 
@@ -35,8 +36,8 @@ IsSetOf gives (documents cell certificate recipes) set = AreCleared gives cell c
 -- why there is no verdict, no set to be served or audited over, or none whose plant is run
 
 abbrev pub HaltsJudgement : Gives → Warns → Judgement → Halt → Type 0
-HaltsJudgement gives warns (check cell recipes) h = HaltsCheck gives warns cell recipes h
-HaltsJudgement gives warns (draw cell recipes) h = HaltsDrawing gives warns cell recipes h
+HaltsJudgement gives warns (check all cell recipes) h = HaltsChecking all gives warns cell recipes h
+HaltsJudgement gives warns (draw all cell recipes) h = HaltsDrawingOf all gives warns cell recipes h
 HaltsJudgement gives warns (verify cell certificate recipes) h = HaltsVerifying gives warns cell certificate recipes h
 HaltsJudgement gives warns (show cell recipes) h = HaltsAtDocuments gives cell recipes h × warns []
 

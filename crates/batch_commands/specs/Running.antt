@@ -1,5 +1,6 @@
 -- trusted: what the program writes for its words, to which stream, and how it ends.
-use Rattle.std.specs.Prelude.{◌≡◌, ◌⊎◌, ℕ, Bool, List, [], Option, String, option_map, string_bytes}
+use Rattle.std.specs.Prelude.{◌≡◌, ◌⊎◌, ℕ, Bool, List, [], Option, String, if◌then◌else◌, option_map, string_bytes}
+use Rattle.std.specs.List.{flat_map, list_any}
 use Rattle.std.specs.Global.{Global}
 use Rattle.std.specs.Io.KnownBytes.{Appends, Keeps}
 use Rattle.clap.specs.Kinds.{IsAmong}
@@ -9,10 +10,10 @@ use Rattle.clap.specs.declared.error.kind.ErrorKind.{ErrorKind}
 use Rattle.batch_explain.specs.Explaining.{HaveNoCode, Tells}
 use Rattle.batch_words.specs.CommandLine.{IsShown, Judgement, Request, Source, asked_by, asks_quiet, audit, explain, judge, plant, program_app, serve, source_of, tell, keep, write, faults_of, remark, picture}
 use Rattle.batch_commands.specs.Digested.{AreDigested}
-use Rattle.batch_commands.specs.Judging.{status_of}
+use Rattle.batch_commands.specs.Judging.{is_for_memory, status_of}
 use Rattle.batch_commands.specs.Reading.{Gives}
 use Rattle.batch_commands.specs.Requests.{Halts, IsDemoSet, IsSetOf, IsVerdict}
-use Rattle.batch_commands.specs.Saying.{IsSaid, IsWarned}
+use Rattle.batch_commands.specs.Saying.{AreSaid, IsSaid, IsWarned}
 use Rattle.batch_verify.specs.ClearedSet.{ClearedSet}
 use Rattle.batch_words.specs.declared.command.AuditWords.{AuditWords}
 use Rattle.batch_words.specs.declared.comments.Comments.{Comments}
@@ -24,6 +25,7 @@ use Rattle.batch_commands.specs.declared.digested.Digested.{Digested}
 use Rattle.batch_commands.specs.declared.refusal.Halt.{Halt}
 use Rattle.batch_commands.specs.declared.refusal.Halt.TheVariants as halt
 use Rattle.batch_commands.specs.declared.refusal.DocumentRefusal.{DocumentRefusal}
+use Rattle.batch_commands.specs.declared.refusal.RefusalKind.TheVariants.{Fault}
 
 -- The exit statuses beside those of refusals
 
@@ -67,6 +69,18 @@ IsRefused quiet output errors refusal status =
     × (status ≡ status_of refusal.kind))
     ⊎ (status ≡ fault_status)
 
+-- the status of several refusals: that of want of memory, where one of them is for that
+abbrev pub status_of_every : List DocumentRefusal → ℕ
+status_of_every refusals = if list_any (λ r. is_for_memory r.kind) refusals then memory_status else status_of Fault
+
+-- they were written whole to the output, in their order, what they mean was said on the errors, and the program ends with their status;
+-- or it ends with the status of a fault, and then nothing is known of the streams; or memory was wanting
+abbrev pub AreRefused : Bool → Stream → Stream → List DocumentRefusal → ℕ → Type 0
+AreRefused quiet output errors refusals status =
+    (Appends output.before output.after (flat_map (λ r. string_bytes r.text) refusals) × AreSaid quiet refusals errors.before errors.after
+    × (status ≡ status_of_every refusals))
+    ⊎ (status ≡ fault_status) ⊎ (IsUnwritten output × (status ≡ memory_status))
+
 -- Commands
 
 -- the words ask for this, and have no fault
@@ -85,10 +99,11 @@ AskToShow words = (kind : ErrorKind) × IsAmong kind (faults_of words) × IsShow
 abbrev pub AreMisused : List Text → Type 0
 AreMisused words = (kind : ErrorKind) × IsAmong kind (faults_of words) × ¬ (IsShown kind)
 
--- a refusal is printed; a file that can't be read and want of memory leave the output as it was, and are told on the errors in
+-- a refusal is printed, or several are; a file that can't be read and want of memory leave the output as it was, and are told on the errors in
 -- a free text
 abbrev pub IsAnnounced : Bool → Stream → Stream → Halt → ℕ → Type 0
 IsAnnounced quiet output errors (halt.Refused refusal) status = IsRefused quiet output errors refusal status
+IsAnnounced quiet output errors (halt.Every refusals) status = AreRefused quiet output errors refusals.items status
 IsAnnounced quiet output errors (halt.Unread message) status = IsUnwritten output × (status ≡ fault_status)
 IsAnnounced quiet output errors halt.Memory status = IsUnwritten output × (status ≡ memory_status)
 

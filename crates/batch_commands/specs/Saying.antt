@@ -1,7 +1,9 @@
 -- trusted: what is said to a person beside a verdict.
 use Rattle.std.specs.Prelude.{◌≡◌, ◌++◌, ℕ, Bool, true, false, List, Option, codes, string_bytes}
 use Rattle.std.specs.Io.KnownBytes.{Appends, Keeps}
+use Rattle.std.specs.List.{flat_map}
 use Rattle.batch_sentences.specs.declared.sentence.Sentence.{Sentence}
+use Rattle.batch_commands.specs.declared.refusal.DocumentRefusal.{DocumentRefusal}
 
 -- the text in a line of its own, behind the program's name
 abbrev pub told_line : List ℕ → List ℕ
@@ -21,6 +23,11 @@ pub record WritesFront (before after : Option (List ℕ)) (text : List ℕ) : Ty
 abbrev pub IsSaid : Bool → Sentence → Option (List ℕ) → Option (List ℕ) → Type 0
 IsSaid true sentence before after = Keeps before after
 IsSaid false sentence before after = WritesFront before after (line_of sentence)
+
+-- the same of several refusals, a line each
+abbrev pub AreSaid : Bool → List DocumentRefusal → Option (List ℕ) → Option (List ℕ) → Type 0
+AreSaid true refusals before after = Keeps before after
+AreSaid false refusals before after = WritesFront before after (flat_map (λ r. line_of r.sentence) refusals)
 
 -- what is said of this text, the lines of warnings: nothing where the words ask for quiet
 abbrev pub IsWarned : Bool → Option (List ℕ) → Option (List ℕ) → List ℕ → Type 0

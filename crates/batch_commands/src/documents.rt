@@ -70,11 +70,11 @@ pub fn draw_documents<D: Documents, E: Write>(
 
 /// What the documents of a cell and of its recipes say.
 #[derive(Drop)]
-struct CellDocuments {
-    cell: Cell,
-    recipes: Vec<Recipe>,
+pub(crate) struct CellDocuments {
+    pub(crate) cell: Cell,
+    pub(crate) recipes: Vec<Recipe>,
     /// Where the acts of the recipes stand.
-    sources: Vec<Source>,
+    pub(crate) sources: Vec<Source>,
 }
 
 /// Reads the documents, and warns of them.
@@ -225,7 +225,7 @@ pub(crate) fn read_certificate<D: Documents>(
 }
 
 /// The recipe of the document at the path, whose source is put behind those of the recipes before it.
-fn read_recipe<D: Documents>(
+pub(crate) fn read_recipe<D: Documents>(
     alloc: Global,
     documents: &D,
     path: &str,

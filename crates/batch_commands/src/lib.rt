@@ -6,6 +6,7 @@ mod demo;
 mod digested;
 mod documents;
 mod drawing;
+mod every;
 mod files;
 mod judging;
 mod laws;
@@ -24,6 +25,7 @@ pub use documents::{
     Documents, check_documents, clear_documents, draw_documents, show_documents, verify_documents,
 };
 pub use drawing::draw_recipes;
+pub use every::{check_asked, draw_asked};
 pub use files::FilesOf;
 pub use judging::{
     MAX_CERTIFICATE_LEN, check_recipes, clear_recipes, judge_cell, judge_certificate, judge_recipe,

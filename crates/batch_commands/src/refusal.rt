@@ -1,6 +1,6 @@
 //! Refusals, and why a command ends without a verdict that accepts.
 ghost use Rattle.std.specs.Prelude.{◌≡◌};
-ghost use Rattle.batch_commands.specs.Judging.{status_of};
+ghost use Rattle.batch_commands.specs.Judging.{is_for_memory, status_of};
 ghost use Rattle.batch_commands.specs.declared.refusal.Halt.TheVariants.{Memory};
 
 use batch_sentences::Sentence;
@@ -25,6 +25,16 @@ impl RefusalKind {
             RefusalKind::OutOfMemory => 4,
         }
     }
+
+    /// Whether memory ran out.
+    pub(crate) fn is_for_memory(self) -> bool
+        ensures { result ≡ is_for_memory self }
+    {
+        match self {
+            RefusalKind::Fault => false,
+            RefusalKind::OutOfMemory => true,
+        }
+    }
 }
 
 /// What the program prints of what it refuses, and how it ends then.
@@ -43,6 +53,8 @@ pub struct DocumentRefusal {
 pub enum Halt {
     /// Something is refused, or there was no memory to judge it, which its refusal says.
     Refused(DocumentRefusal),
+    /// All of this is refused, in its order.
+    Every(Vec<DocumentRefusal>),
     /// A document can't be read, with a text for the user that goes to standard error.
     Unread(String),
     /// There was no memory to read the documents, or for the text of a verdict.

@@ -4,24 +4,24 @@ ghost use Rattle.batch_words.specs.CommandLine.{audit, judgement_of, keep, plant
 ghost use Rattle.std.specs.Io.KnownBytes.{Appends};
 ghost use Rattle.batch_commands.specs.Reading.{Gives};
 ghost use Rattle.batch_commands.specs.Requests.{HaltsDemo, HaltsJudgement, HaltsSource, IsDemoSet, IsSetOf, IsVerdict};
-ghost use Rattle.batch_commands.specs.Running.{IsAnnounced, IsDone, IsExplained, IsPrinted, IsRefused, IsRun, fault_status};
+ghost use Rattle.std.specs.List.{flat_map};
+ghost use Rattle.batch_commands.specs.Running.{AreRefused, IsAnnounced, IsDone, IsExplained, IsPrinted, IsRefused, IsRun, fault_status, status_of_every};
 ghost use Rattle.batch_commands.specs.Saying.{IsWarned};
 
 use crate::course::Course;
 use crate::demo::{CELL_PATH, CERTIFICATE_PATH, Demo, RECIPE_PATH};
 use crate::digested::clear_digested;
-use crate::documents::{
-    Documents, check_documents, clear_documents, draw_documents, show_documents, verify_documents,
-};
+use crate::documents::{Documents, clear_documents, show_documents, verify_documents};
+use crate::every::{check_asked, draw_asked};
 use crate::refusal::{DocumentRefusal, Halt};
-use crate::saying::say;
+use crate::saying::{say, say_every};
 use batch_explain::explain;
 use batch_verify::Cleared;
 use batch_words::{
     AuditWords, CommandFault, CommandWords, Comments, Judgement, PlantOptions, Source, Subcommand,
     parse,
 };
-use std::alloc::Global;
+use std::alloc::{AllocError, Global};
 use std::fmt::Display;
 use std::io;
 use std::io::Write;
@@ -29,6 +29,9 @@ use thiserror::Error;
 
 /// The exit status where what was asked for is printed.
 pub const SUCCESS: u8 = 0;
+
+/// The exit status where something is refused.
+const REFUSED: u8 = 1;
 
 /// The exit status where the words are no command.
 pub const USAGE: u8 = 2;
@@ -247,11 +250,11 @@ fn judge<D: Documents, E: Write>(
         (judgement_of judgement.now)) }
 {
     match judgement {
-        Judgement::Check { cell, recipes } => {
-            check_documents(alloc, documents, cell, recipes, quiet, errors)
+        Judgement::Check { all, cell, recipes } => {
+            check_asked(alloc, documents, *all, cell, recipes, quiet, errors)
         }
-        Judgement::Draw { cell, recipes } => {
-            draw_documents(alloc, documents, cell, recipes, quiet, errors)
+        Judgement::Draw { all, cell, recipes } => {
+            draw_asked(alloc, documents, *all, cell, recipes, quiet, errors)
         }
         Judgement::Verify {
             cell,
@@ -303,6 +306,7 @@ fn announce<O: Write, E: Write>(
 {
     match halt {
         Halt::Refused(refusal) => refuse(alloc, quiet, refusal, output, errors),
+        Halt::Every(refusals) => refuse_every(alloc, quiet, refusals, output, errors),
         Halt::Unread(text) => complain(errors, text.as_str(), FILE_FAULT),
         Halt::Memory => complain(errors, OUT_OF_MEMORY, NO_MEMORY),
     }
@@ -325,6 +329,51 @@ fn refuse<O: Write, E: Write>(
             refusal.kind.status()
         }
         Err(error) => unwritten(errors, error),
+    }
+}
+
+/// Prints the refusals, says what they mean, and gives their exit status, or that of a write that fails, or of want of memory.
+fn refuse_every<O: Write, E: Write>(
+    alloc: Global,
+    quiet: bool,
+    refusals: &[DocumentRefusal],
+    output: &mut O,
+    errors: &mut E,
+) -> u8
+    ensures { AreRefused quiet (record { before = O.contents output.old; after = O.contents output.new })
+        (record { before = E.contents errors.old; after = E.contents errors.new }) refusals.now result }
+{
+    let Ok(text) = refusals_text(alloc, refusals) else {
+        return complain(errors, OUT_OF_MEMORY, NO_MEMORY);
+    };
+    match write_out(output, text.as_bytes()) {
+        Ok(()) => {
+            say_every(alloc, quiet, refusals, errors);
+            status_of_every(refusals)
+        }
+        Err(error) => unwritten(errors, error),
+    }
+}
+
+/// The lines of the refusals.
+fn refusals_text(alloc: Global, refusals: &[DocumentRefusal]) -> Result<String, AllocError>
+    ensures { IfOk result (λ text. string_bytes text ≡ flat_map (λ r. string_bytes r.text) refusals.now) }
+{
+    let mut text = String::new(alloc);
+    for refusal in refusals {
+        text.push_str(&refusal.text)?;
+    }
+    Ok(text)
+}
+
+/// The exit status of the refusals.
+fn status_of_every(refusals: &[DocumentRefusal]) -> u8
+    ensures { result ≡ status_of_every refusals.now }
+{
+    if refusals.iter().any(|refusal| refusal.kind.is_for_memory()) {
+        NO_MEMORY
+    } else {
+        REFUSED
     }
 }
 

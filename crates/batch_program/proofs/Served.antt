@@ -17,7 +17,7 @@ use Rattle.batch_commands.specs.Reading.{Gives}
 use Rattle.batch_commands.specs.Requests.{IsDemoSet, IsSetOf}
 use Rattle.batch_commands.specs.Running.{AskFor, IsAnnounced, IsDone, IsExplained, IsPrinted, IsRun, IsUnwritten, Stream, ask_quiet, fault_status, success_status, usage_status, memory_status}
 use Rattle.batch_commands.specs.Statuses.{IsSuccess}
-use Rattle.batch_commands.proofs.Successes.{done_keeping, done_serving, same_request, success_is_told}
+use Rattle.batch_commands.proofs.Successes.{done_keeping, done_serving, every_in_range, same_request, success_is_told}
 use Rattle.batch_commands.specs.Judging.{status_of}
 use Rattle.batch_commands.specs.Running as running
 use Rattle.batch_commands.specs.declared.course.Course.{Course}
@@ -509,6 +509,9 @@ printed_in_range output errors text wanted status within (inr fault) = rw fault 
 announced_in_range : (quiet : Bool) (output errors : Stream) (h : Halt) (status : ℕ) → IsAnnounced quiet output errors h status → status ≤ 4
 announced_in_range quiet output errors (halt.Refused refusal) status (inl (_, _, same)) = rw same (kind_in_range refusal.kind)
 announced_in_range quiet output errors (halt.Refused refusal) status (inr fault) = rw fault (omega arith)
+announced_in_range quiet output errors (halt.Every refusals) status (inl (_, _, same)) = rw same (every_in_range refusals.items)
+announced_in_range quiet output errors (halt.Every refusals) status (inr (inl fault)) = rw fault (omega arith)
+announced_in_range quiet output errors (halt.Every refusals) status (inr (inr (_, memory))) = rw memory (omega arith)
 announced_in_range quiet output errors (halt.Unread message) status (_, fault) = rw fault (omega arith)
 announced_in_range quiet output errors halt.Memory status (_, fault) = rw fault (omega arith)
 

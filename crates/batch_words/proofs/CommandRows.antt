@@ -152,6 +152,17 @@ flag_is_taken : fault_of program_app quiet_line ≡ []
 unfolding clap_on_literals
 flag_is_taken = refl
 
+abbrev all_is_given : Option (Text × List Row) → Option Bool
+all_is_given = option_map (λ p. is_given (codes "all") p.1)
+
+all_is_read : all_is_given (subcommand_of program_app (codes "check" ∷ codes "c" ∷ codes "--all" ∷ [])) ≡ Some true
+unfolding clap_on_literals
+all_is_read = refl
+
+all_is_left_out : all_is_given (subcommand_of program_app check_line) ≡ Some false
+unfolding clap_on_literals
+all_is_left_out = refl
+
 -- the file that is to be written, beside the cell
 abbrev entered_file : Option (Text × List Row) → Option (Option Text × Text)
 entered_file = option_map (λ p. (first_of (codes "write") p.1, word_of (codes "CELL") p.1))

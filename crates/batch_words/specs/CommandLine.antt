@@ -1,4 +1,4 @@
--- trusted: the command line: `check [--write FILE] CELL RECIPE..`, `verify CELL CERT RECIPE..`, `show CELL RECIPE..`, `run [--journal FILE] [--echo] [--times] CELL CERT RECIPE..`, `status RECORD`, `draw RECORD`, `audit RECORD CELL CERT RECIPE..`, `plant`, `explain CODE..`, and no words at all.
+-- trusted: the command line: `check [--all] [--write FILE] CELL RECIPE..`, `verify CELL CERT RECIPE..`, `show CELL RECIPE..`, `run [--journal FILE] [--echo] [--times] CELL CERT RECIPE..`, `status RECORD`, `draw RECORD`, `audit RECORD CELL CERT RECIPE..`, `plant`, `explain CODE..`, and no words at all.
 use Rattle.std.specs.Prelude.{◌≡◌, ◌≢◌, ◌⊎◌, [], ◌∷◌, ℕ, Bool, List, Option, Some, None, map, option_map, codes, true, false, ◌&&◌, ◌||◌, is_some, unwrap_or, string_bytes, if◌then◌else◌, ⊤}
 use Rattle.std.specs.Str.{bytes_eq}
 use Rattle.std.specs.Str.Parse.{digits_value, without_leading_plus}
@@ -56,8 +56,9 @@ abbrev pub path_rule : Text → Rule
 path_rule name = record (new_rule name) { long = Some name; value_names = 1; action = Some Set }
 
 abbrev pub check_app : App
-check_app = with_rule (with_rule (with_rule (with_rule (with_rule (new_app (codes "check"))
-    (word_rule (codes "CELL"))) (several_rule (codes "RECIPE"))) (flag_rule (codes "dot"))) (path_rule (codes "write"))) (flag_rule (codes "quiet"))
+check_app = with_rule (with_rule (with_rule (with_rule (with_rule (with_rule (new_app (codes "check"))
+    (word_rule (codes "CELL"))) (several_rule (codes "RECIPE"))) (flag_rule (codes "dot"))) (path_rule (codes "write"))) (flag_rule (codes "all")))
+    (flag_rule (codes "quiet"))
 
 -- `verify`, and `run` without its options, by the name
 abbrev pub certified_app : Text → App
@@ -132,9 +133,10 @@ HasOptionsOf rows options = (options.batches ≡ batches_of rows) × (options.ti
 
 -- documents that are to be judged, by their paths
 pub data Judgement : Type 0 where
-  check : (cell : Text) (recipes : List Text) → Judgement
+  -- everything that is refused is to be told, or the first refusal alone
+  check : (all : Bool) (cell : Text) (recipes : List Text) → Judgement
   -- to draw what they ask for
-  draw : (cell : Text) (recipes : List Text) → Judgement
+  draw : (all : Bool) (cell : Text) (recipes : List Text) → Judgement
   verify : (cell certificate : Text) (recipes : List Text) → Judgement
   -- to show their nodes
   show : (cell : Text) (recipes : List Text) → Judgement
@@ -167,8 +169,8 @@ pub data Request : Type 0 where
 -- which judgement the words behind `check` ask for
 abbrev pub judged_by : List Row → Judgement
 judged_by rows =
-    if is_given (codes "dot") rows then draw (word_of (codes "CELL") rows) (words_of (codes "RECIPE") rows)
-    else check (word_of (codes "CELL") rows) (words_of (codes "RECIPE") rows)
+    if is_given (codes "dot") rows then draw (is_given (codes "all") rows) (word_of (codes "CELL") rows) (words_of (codes "RECIPE") rows)
+    else check (is_given (codes "all") rows) (word_of (codes "CELL") rows) (words_of (codes "RECIPE") rows)
 
 -- it is printed, or written into the file that they name
 abbrev pub written_by : Option Text → Judgement → Request
@@ -230,8 +232,8 @@ asks_quiet None = false
 asks_quiet (Some entered) = is_given (codes "quiet") entered.1
 
 abbrev pub judgement_of : judgements.Judgement → Judgement
-judgement_of (Check cell recipes) = check (string_bytes cell) (map string_bytes recipes.items)
-judgement_of (Draw cell recipes) = draw (string_bytes cell) (map string_bytes recipes.items)
+judgement_of (Check all cell recipes) = check all (string_bytes cell) (map string_bytes recipes.items)
+judgement_of (Draw all cell recipes) = draw all (string_bytes cell) (map string_bytes recipes.items)
 judgement_of (Verify cell certificate recipes) = verify (string_bytes cell) (string_bytes certificate) (map string_bytes recipes.items)
 judgement_of (Show cell recipes) = show (string_bytes cell) (map string_bytes recipes.items)
 

@@ -71,13 +71,15 @@ pub struct AuditWords {
 /// A judgement of documents, with their paths.
 #[derive(Debug, Drop)]
 pub enum Judgement {
-    /// To find a certificate for the recipes.
+    /// To find a certificate for the recipes. Everything that is refused is to be told, or the first refusal alone.
     Check {
+        all: bool,
         cell: String,
         recipes: Vec<String>,
     },
     /// To draw what the recipes ask for after what.
     Draw {
+        all: bool,
         cell: String,
         recipes: Vec<String>,
     },

@@ -38,6 +38,7 @@ const CHECK_HELP: &str = "\
 An example, in examples/paint_plant:
   batchd check cell.toml primer.toml rinse-mended.toml > certificate.new
   batchd check --write certificate.new cell.toml primer.toml rinse-mended.toml
+  batchd check --all cell.toml *.toml
   batchd check --dot cell.toml topcoat.toml rinse.toml | dot -Tsvg > circle.svg
 ";
 
@@ -147,6 +148,11 @@ fn check<'a>(alloc: Global) -> Result<Command<'a>, AllocError>
             alloc,
             "write",
             "Writes the certificate into this file in place of printing it; where there is none, the file stays as it was",
+        ))?
+        .arg(flag(
+            alloc,
+            "all",
+            "Tells every document that is refused, or else every recipe that breaks a rule, and not the first alone",
         ))?
         .arg(quiet(alloc))
 }

@@ -148,10 +148,11 @@ fn check_judgement(alloc: Global, words: &ArgMatches<'_>) -> Result<Judgement, A
 {
     let cell = word(alloc, words, "CELL")?;
     let recipes = several(alloc, words, "RECIPE")?;
+    let all = flag(words, "all");
     Ok(if flag(words, "dot") {
-        Judgement::Draw { cell, recipes }
+        Judgement::Draw { all, cell, recipes }
     } else {
-        Judgement::Check { cell, recipes }
+        Judgement::Check { all, cell, recipes }
     })
 }
 

@@ -4,18 +4,18 @@ use Rattle.batch_commands.proofs.running.judge.Goals as goal
 
 pub returns-in-Check-clause-verdict : goal.returns-in-Check-clause-verdict
 returns-in-Check-clause-verdict g c =
-    rw c.in-Check.is (rw (c.deref.ensures, c.deref-in-Check.ensures.value) at c.check_documents.ensures.verdict)
+    rw c.in-Check.is (rw (c.deref.ensures, c.deref-in-Check.ensures.value) at c.check_asked.ensures.verdict)
 
 pub returns-in-Check-clause-halted : goal.returns-in-Check-clause-halted
-returns-in-Check-clause-halted g c = rw c.in-Check.is (rw (c.deref.ensures, c.deref-in-Check.ensures.value) at c.check_documents.ensures.halted)
+returns-in-Check-clause-halted g c = rw c.in-Check.is (rw (c.deref.ensures, c.deref-in-Check.ensures.value) at c.check_asked.ensures.halted)
 
 pub returns-in-Draw-clause-verdict : goal.returns-in-Draw-clause-verdict
 returns-in-Draw-clause-verdict g c =
-    rw c.in-Draw.is (rw (c.deref-in-Draw.ensures, c.deref-in-Draw-2.ensures.value) at c.draw_documents.ensures.verdict)
+    rw c.in-Draw.is (rw (c.deref-in-Draw.ensures, c.deref-in-Draw-2.ensures.value) at c.draw_asked.ensures.verdict)
 
 pub returns-in-Draw-clause-halted : goal.returns-in-Draw-clause-halted
 returns-in-Draw-clause-halted g c =
-    rw c.in-Draw.is (rw (c.deref-in-Draw.ensures, c.deref-in-Draw-2.ensures.value) at c.draw_documents.ensures.halted)
+    rw c.in-Draw.is (rw (c.deref-in-Draw.ensures, c.deref-in-Draw-2.ensures.value) at c.draw_asked.ensures.halted)
 
 pub returns-in-Show-clause-verdict : goal.returns-in-Show-clause-verdict
 returns-in-Show-clause-verdict g c =
