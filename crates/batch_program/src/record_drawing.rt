@@ -63,30 +63,25 @@ pub fn draw_record_of<R: Read, W: Write, E: Write>(
         (record { before = E.contents errors.old; after = E.contents errors.new }) result }
 {
     match record_of(alloc, input) {
-        Ok(record) => draw_bytes(alloc, &record, output, errors),
+        Ok(bytes) => draw_bytes(alloc, &bytes, output, errors),
         Err(reason) => complain_unread(reason, errors),
     }
 }
 
 /// All bytes that the reader gives.
 fn record_of<R: Read>(alloc: Global, reader: &mut R) -> io::Result<Vec<u8>>
-    ensures { IfOk result (λ record. IfSome (R.remaining reader.old) (λ input. record.items ≡ input)) }
+    ensures { IfOk result (λ bytes. IfSome (R.remaining reader.old) (λ input. bytes.items ≡ input)) }
 {
-    let mut record = Vec::new(alloc);
-    reader.read_to_end(&mut record)?;
-    Ok(record)
+    let mut bytes = Vec::new(alloc);
+    reader.read_to_end(&mut bytes)?;
+    Ok(bytes)
 }
 
-fn draw_bytes<W: Write, E: Write>(
-    alloc: Global,
-    record: &[u8],
-    output: &mut W,
-    errors: &mut E,
-) -> u8
-    ensures { IsDrawn (Some record.now) (record { before = W.contents output.old; after = W.contents output.new })
+fn draw_bytes<W: Write, E: Write>(alloc: Global, bytes: &[u8], output: &mut W, errors: &mut E) -> u8
+    ensures { IsDrawn (Some bytes.now) (record { before = W.contents output.old; after = W.contents output.new })
         (record { before = E.contents errors.old; after = E.contents errors.new }) result }
 {
-    match picture_text(alloc, record) {
+    match picture_text(alloc, bytes) {
         Ok(text) => print(output, errors, &text, SUCCESS),
         Err(RecordFault::NoRecord(line)) => refuse_line(alloc, line, output, errors),
         Err(RecordFault::Memory) => complain(errors, OUT_OF_MEMORY, NO_MEMORY),
@@ -94,11 +89,11 @@ fn draw_bytes<W: Write, E: Write>(
 }
 
 /// The text of the record's picture.
-fn picture_text(alloc: Global, record: &[u8]) -> Result<String, RecordFault>
-    ensures told { IfOk result (λ text. IsRecord record.now × ((picture : Picture) × (string_bytes text ≡ picture_text picture))) }
-    ensures refused { IfErr result (λ fault. (number : ℕ) → fault ≡ NoRecord number → IsRefusedAt record.now number) }
+fn picture_text(alloc: Global, bytes: &[u8]) -> Result<String, RecordFault>
+    ensures told { IfOk result (λ text. IsRecord bytes.now × ((picture : Picture) × (string_bytes text ≡ picture_text picture))) }
+    ensures refused { IfErr result (λ fault. (number : ℕ) → fault ≡ NoRecord number → IsRefusedAt bytes.now number) }
 {
-    let picture = draw_record(alloc, record)?;
+    let picture = draw_record(alloc, bytes)?;
     Ok(picture.to_string(alloc)?)
 }
 

@@ -13,7 +13,9 @@ impl Lanes {
     pub fn take(&mut self, from: u64, to: u64) -> Result<usize, AllocError> {
         match self.first_free(from) {
             Some(number) => {
-                self.ends[number] = to;
+                if let Some(end) = self.ends.get_mut(number) {
+                    *end = to;
+                }
                 Ok(number)
             }
             None => {

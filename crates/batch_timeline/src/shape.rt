@@ -1,6 +1,6 @@
 //! What stands in a picture.
 ghost use Rattle.std.specs.Prelude.{◌≡◌, Some};
-ghost use Rattle.batch_timeline.specs.Pictures.{anchor_word, block_text, colour_text, grid_text, label_text, shape_text};
+ghost use Rattle.batch_timeline.specs.Pictures.{anchor_word, block_text, colour_text, does, grid_text, hatching, label_text, shape_text};
 
 use batch_text::Name;
 use std::fmt;
@@ -94,8 +94,7 @@ impl fmt::Display for Block {
     fn fmt<W: fmt::Write>(&self, f: &mut fmt::Formatter<W>) -> fmt::Result {
         let (left, top, width, batch) = (self.left, self.top, self.width, self.batch);
         let (resource, units, place) = (&self.resource, self.units, &self.place);
-        let does = if self.waits { "waits for" } else { "holds" };
-        let hatching = if self.waits { "url(#waits)" } else { "none" };
+        let (does, hatching) = (does(self.waits), hatching(self.waits));
         let colour = colour(batch % 8);
         write!(
             f,
@@ -110,6 +109,20 @@ impl fmt::Display for Block {
             "<rect x=\"{left}\" y=\"{top}\" width=\"{width}\" height=\"17\" fill=\"{hatching}\" stroke=\"#555555\"/></g>\n"
         )
     }
+}
+
+/// What a batch does of which it is known whether it waits.
+fn does(waits: bool) -> &'static str
+    ensures { result.now ≡ does waits }
+{
+    if waits { "waits for" } else { "holds" }
+}
+
+/// What stands over the colour of a bar.
+fn hatching(waits: bool) -> &'static str
+    ensures { result.now ≡ hatching waits }
+{
+    if waits { "url(#waits)" } else { "none" }
 }
 
 /// The colour of a batch, by what is left of its number.

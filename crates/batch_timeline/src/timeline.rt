@@ -133,8 +133,10 @@ impl Timeline {
     /// The units that take the roles of a batch, of which each is a name, `=` and the unit's name.
     fn note_roles(&mut self, alloc: Global, roles: Words<'_>) -> Result<(), AllocError> {
         for role in roles {
-            if let Some(at) = role.iter().position(|byte| *byte == b'=') {
-                self.note_unit(alloc, &role[at + 1..])?;
+            let mut parts = role.split(|byte| *byte == b'=');
+            parts.next();
+            if let Some(unit) = parts.next() {
+                self.note_unit(alloc, unit)?;
             }
         }
         Ok(())
