@@ -83,7 +83,8 @@ read_whole gives cell paths before c rs refusals (read, _) (here, looked, joined
     (read, all_read gives paths rs here looked (no_refusal before here (sym joined ∙ is)))
 
 not_none : (before here refusals : List DocumentRefusal) (refusal : DocumentRefusal) → before ≡ refusal ∷ [] → refusals ≡ before ++ here → refusals ≡ [] → ⊥
-not_none before here refusals refusal first joined is = cc
+not_none before here refusals refusal first joined is =
+    let grown : refusals ≡ refusal ∷ here = joined ∙ ap (λ xs. xs ++ here) first in cc
 
 -- what is refused is told
 pub all_refused : (gives : Gives) (cell : List ℕ) (paths : List (List ℕ)) (before : List DocumentRefusal) (c : Cell) (rs : List Recipe) (refusals : List DocumentRefusal)

@@ -1,7 +1,8 @@
 //! Running the program's commands.
 ghost use Rattle.std.specs.Prelude.{◌≡◌, IfErr, IfOk, OnOk, map, string_bytes};
-ghost use Rattle.batch_words.specs.CommandLine.{judgement_of, request_of, source_of};
+ghost use Rattle.batch_words.specs.CommandLine.{audit, judgement_of, keep, plant, remark, request_of, serve, source_of};
 ghost use Rattle.std.specs.Io.KnownBytes.{Appends};
+ghost use Rattle.batch_commands.specs.Reading.{Gives};
 ghost use Rattle.batch_commands.specs.Requests.{HaltsDemo, HaltsJudgement, HaltsSource, IsDemoSet, IsSetOf, IsVerdict};
 ghost use Rattle.std.specs.List.{flat_map};
 ghost use Rattle.batch_commands.specs.Running.{AreRefused, IsAnnounced, IsDone, IsExplained, IsPrinted, IsRefused, IsRun, fault_status, status_of_every};
@@ -16,7 +17,10 @@ use crate::refusal::{DocumentRefusal, Halt};
 use crate::saying::{say, say_every};
 use batch_explain::explain;
 use batch_verify::Cleared;
-use batch_words::{CommandFault, CommandWords, Judgement, Source, Subcommand, parse};
+use batch_words::{
+    AuditWords, CommandFault, CommandWords, Comments, Judgement, PlantOptions, Source, Subcommand,
+    parse,
+};
 use std::alloc::{AllocError, Global};
 use std::fmt::Display;
 use std::io;
@@ -98,42 +102,137 @@ fn run_command<D: Documents, O: Write, E: Write>(
                 Err(halt) => Course::Ends(announce(alloc, quiet, &halt, output, errors)),
             }
         }
-        Subcommand::Serve(source) => match clear_source(alloc, documents, &source) {
-            Ok(set) => Course::Serves { set, quiet },
-            Err(halt) => Course::Ends(announce(alloc, quiet, &halt, output, errors)),
-        },
-        Subcommand::Remark { source, comments } => match clear_source(alloc, documents, &source) {
-            Ok(set) => Course::Remarks {
-                set,
-                quiet,
-                comments,
-            },
-            Err(halt) => Course::Ends(announce(alloc, quiet, &halt, output, errors)),
-        },
+        Subcommand::Serve(source) => serve(alloc, quiet, &source, documents, output, errors),
+        Subcommand::Remark { source, comments } => {
+            remark(alloc, quiet, &source, comments, documents, output, errors)
+        }
         Subcommand::Keep {
             journal,
             cell,
             certificate,
             recipes,
-        } => match clear_digested(alloc, documents, &cell, &certificate, &recipes) {
-            Ok(digested) => Course::Keeps {
-                digested,
-                quiet,
-                path: journal,
-            },
-            Err(halt) => Course::Ends(announce(alloc, quiet, &halt, output, errors)),
-        },
+        } => keep(
+            alloc,
+            quiet,
+            journal,
+            &cell,
+            &certificate,
+            &recipes,
+            documents,
+            output,
+            errors,
+        ),
         Subcommand::Status { path } => Course::Reads { path },
         Subcommand::Picture { path } => Course::Draws { path },
-        Subcommand::Audit(audit) => match clear_source(alloc, documents, &audit.source) {
-            Ok(set) => Course::Audits { set, audit },
-            Err(halt) => Course::Ends(announce(alloc, quiet, &halt, output, errors)),
-        },
-        Subcommand::Plant(options) => match clear_demo(alloc) {
-            Ok(set) => Course::Plants { set, options },
-            Err(halt) => Course::Ends(announce(alloc, quiet, &halt, output, errors)),
-        },
+        Subcommand::Audit(words) => audit(alloc, quiet, words, documents, output, errors),
+        Subcommand::Plant(options) => plant(alloc, quiet, options, output, errors),
         Subcommand::Explain { texts } => { Course::Ends(tell_codes(alloc, &texts, output, errors)) }
+    }
+}
+
+/// Has the set of a source served.
+fn serve<D: Documents, O: Write, E: Write>(
+    alloc: Global,
+    quiet: bool,
+    source: &Source,
+    documents: &D,
+    output: &mut O,
+    errors: &mut E,
+) -> Course
+    ensures { IsDone (D.gives documents.now) (serve (source_of source.now)) quiet
+        (record { before = O.contents output.old; after = O.contents output.new })
+        (record { before = E.contents errors.old; after = E.contents errors.new }) result }
+{
+    match clear_source(alloc, documents, source) {
+        Ok(set) => Course::Serves { set, quiet },
+        Err(halt) => Course::Ends(announce(alloc, quiet, &halt, output, errors)),
+    }
+}
+
+/// Has a record audited over the set of the documents that the words name.
+fn audit<D: Documents, O: Write, E: Write>(
+    alloc: Global,
+    quiet: bool,
+    words: AuditWords,
+    documents: &D,
+    output: &mut O,
+    errors: &mut E,
+) -> Course
+    ensures { IsDone (D.gives documents.now) (audit words.beginning (string_bytes words.path) (source_of words.source)) quiet
+        (record { before = O.contents output.old; after = O.contents output.new })
+        (record { before = E.contents errors.old; after = E.contents errors.new }) result }
+{
+    match clear_source(alloc, documents, &words.source) {
+        Ok(set) => Course::Audits { set, audit: words },
+        Err(halt) => Course::Ends(announce(alloc, quiet, &halt, output, errors)),
+    }
+}
+
+/// Has the demo's plant run.
+fn plant<O: Write, E: Write>(
+    alloc: Global,
+    quiet: bool,
+    options: PlantOptions,
+    output: &mut O,
+    errors: &mut E,
+) -> Course
+    ensures { (gives : Gives) → IsDone gives (plant options.batches options.ticks options.ring) quiet
+        (record { before = O.contents output.old; after = O.contents output.new })
+        (record { before = E.contents errors.old; after = E.contents errors.new }) result }
+{
+    match clear_demo(alloc) {
+        Ok(set) => Course::Plants { set, options },
+        Err(halt) => Course::Ends(announce(alloc, quiet, &halt, output, errors)),
+    }
+}
+
+/// Has the set of a source served with comments in the record.
+fn remark<D: Documents, O: Write, E: Write>(
+    alloc: Global,
+    quiet: bool,
+    source: &Source,
+    comments: Comments,
+    documents: &D,
+    output: &mut O,
+    errors: &mut E,
+) -> Course
+    ensures { IsDone (D.gives documents.now) (remark (source_of source.now) comments.echo comments.times) quiet
+        (record { before = O.contents output.old; after = O.contents output.new })
+        (record { before = E.contents errors.old; after = E.contents errors.new }) result }
+{
+    match clear_source(alloc, documents, source) {
+        Ok(set) => Course::Remarks {
+            set,
+            quiet,
+            comments,
+        },
+        Err(halt) => Course::Ends(announce(alloc, quiet, &halt, output, errors)),
+    }
+}
+
+/// Has the set of documents served with a journal in the file at the path.
+fn keep<D: Documents, O: Write, E: Write>(
+    alloc: Global,
+    quiet: bool,
+    path: String,
+    cell: &str,
+    certificate: &str,
+    recipes: &[String],
+    documents: &D,
+    output: &mut O,
+    errors: &mut E,
+) -> Course
+    ensures { IsDone (D.gives documents.now) (keep (string_bytes path) cell.now certificate.now (map string_bytes recipes.now)) quiet
+        (record { before = O.contents output.old; after = O.contents output.new })
+        (record { before = E.contents errors.old; after = E.contents errors.new }) result }
+{
+    match clear_digested(alloc, documents, cell, certificate, recipes) {
+        Ok(digested) => Course::Keeps {
+            digested,
+            quiet,
+            path,
+        },
+        Err(halt) => Course::Ends(announce(alloc, quiet, &halt, output, errors)),
     }
 }
 

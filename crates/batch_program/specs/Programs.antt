@@ -1,5 +1,5 @@
 -- trusted: what comes of the program's words, input and documents.
-use Rattle.std.specs.Prelude.{◌≤◌, ◌++◌, ℕ, zero, suc, Bool, true, false, IfOk, IfSome, List, Option, Result, Ok, Err, codes, decimal, if◌then◌else◌, nat_eq, Some}
+use Rattle.std.specs.Prelude.{◌≡◌, ◌≤◌, ◌++◌, ℕ, zero, suc, Bool, true, false, IfOk, IfSome, List, Option, Result, Ok, Err, codes, decimal, if◌then◌else◌, nat_eq, Some}
 use Rattle.std.specs.Io.KnownBytes.{Appends, Keeps}
 use Rattle.std.specs.Process.{exit_status}
 use Rattle.std.specs.declared.process.ExitCode.{ExitCode}
@@ -51,6 +51,16 @@ abbrev pub IsLeftTold : Bool → Stream → ℕ → Type 0
 IsLeftTold true errors left = IsUnwritten errors
 IsLeftTold false errors zero = IsUnwritten errors
 IsLeftTold false errors (suc more) = WritesFront errors.before errors.after (left_text (suc more))
+
+-- the set is served, with this exit status, and it is told how many batches the input left unfinished
+abbrev pub IsServed : Bool → ClearedSet → serving.Ends → Stream → ℕ → Type 0
+IsServed quiet set ends errors status =
+    (served : Result ℕ SetFault) × Serves set MAX_READS served ends × IfOk served (IsLeftTold quiet errors) × (status ≡ status_of_serving served)
+
+-- the same with comments in the record
+abbrev pub IsServedRemarked : Bool → ClearedSet → serving.Ends → Stream → ℕ → Type 0
+IsServedRemarked quiet set ends errors status =
+    (served : Result ℕ SetFault) × ServesRemarked set MAX_READS served ends × IfOk served (IsLeftTold quiet errors) × (status ≡ status_of_serving served)
 
 -- what comes of the words, over the input and the output, with the exit status
 pub data IsProgramRun (gives : Gives) (holds : Holds) (files : JournalFiles) (words : List Text) (ends : serving.Ends) (errors : Stream) : ℕ → Type 0 where

@@ -1,6 +1,6 @@
 //! The program over any documents and streams.
 ghost use Rattle.std.specs.Prelude.{◌≡◌, IfOk, map, string_bytes};
-ghost use Rattle.batch_program.specs.Programs.{IsLeftTold, IsProgramRun, left_text, status_of_serving};
+ghost use Rattle.batch_program.specs.Programs.{IsLeftTold, IsProgramRun, IsServed, IsServedRemarked, left_text, status_of_serving};
 
 use crate::file_writing::write_file;
 use crate::journals::Journals;
@@ -15,6 +15,8 @@ use crate::records::Records;
 use crate::statuses::serving_status;
 use batch_commands::{Course, Documents, complain, run_words, tell};
 use batch_serve::{NoRemarks, Remarking, ServeFault, SetFault, serve_remarked, serve_set};
+use batch_verify::Cleared;
+use batch_words::Comments;
 use std::alloc::{AllocError, Global};
 use std::io;
 use std::io::{Read, Write};
@@ -76,21 +78,14 @@ pub fn run_program<D: Documents + Records + Journals, P: PlantRunner, R: Read, W
         Course::Writes { path, text } => {
             (write_file(alloc, &path, &text, documents, errors), output)
         }
-        Course::Serves { set, quiet } => {
-            let served = serve_set(alloc, set, input, &mut output, &mut NoRemarks, MAX_READS);
-            let reason = reason_of(served, input, &output);
-            (tell_served(alloc, quiet, served, reason, errors), output)
-        }
+        Course::Serves { set, quiet } => serve_plainly(alloc, set, quiet, input, output, errors),
         Course::Remarks {
             set,
             quiet,
             comments,
-        } => {
-            let remarking = Remarking::new(documents.clock(), comments.echo, comments.times);
-            let (served, output) = serve_remarked(alloc, set, input, output, remarking, MAX_READS);
-            let reason = reason_of(served, input, &output);
-            (tell_served(alloc, quiet, served, reason, errors), output)
-        }
+        } => serve_with_comments(
+            alloc, set, quiet, comments, documents, input, output, errors,
+        ),
         Course::Keeps {
             digested,
             quiet,
@@ -116,6 +111,55 @@ pub fn run_program<D: Documents + Records + Journals, P: PlantRunner, R: Read, W
             (status, output)
         }
     }
+}
+
+/// Serves event lines over the set, and gives the exit status.
+fn serve_plainly<R: Read, W: Write, E: Write>(
+    alloc: Global,
+    set: Cleared,
+    quiet: bool,
+    input: &mut Noted<R>,
+    mut output: Noted<W>,
+    errors: &mut E,
+) -> (u8, Noted<W>)
+    ensures { IsServed quiet set
+        (record {
+          unread = R.remaining input.old.stream;
+          left = R.remaining input.new.stream;
+          before = W.contents output.stream;
+          after = W.contents result.1.stream;
+        })
+        (record { before = E.contents errors.old; after = E.contents errors.new }) result.0 }
+{
+    let served = serve_set(alloc, set, input, &mut output, &mut NoRemarks, MAX_READS);
+    let reason = reason_of(served, input, &output);
+    (tell_served(alloc, quiet, served, reason, errors), output)
+}
+
+/// The same with comments in the record, in which the time of the journals' clock stands.
+fn serve_with_comments<J: Journals, R: Read, W: Write, E: Write>(
+    alloc: Global,
+    set: Cleared,
+    quiet: bool,
+    comments: Comments,
+    journals: &J,
+    input: &mut Noted<R>,
+    output: Noted<W>,
+    errors: &mut E,
+) -> (u8, Noted<W>)
+    ensures { IsServedRemarked quiet set
+        (record {
+          unread = R.remaining input.old.stream;
+          left = R.remaining input.new.stream;
+          before = W.contents output.stream;
+          after = W.contents result.1.stream;
+        })
+        (record { before = E.contents errors.old; after = E.contents errors.new }) result.0 }
+{
+    let remarking = Remarking::new(journals.clock(), comments.echo, comments.times);
+    let (served, output) = serve_remarked(alloc, set, input, output, remarking, MAX_READS);
+    let reason = reason_of(served, input, &output);
+    (tell_served(alloc, quiet, served, reason, errors), output)
 }
 
 /// The reason that the stream gave which stopped serving. A writer that takes nothing gives none.

@@ -63,7 +63,7 @@ pub fn draw_record_of<R: Read, W: Write, E: Write>(
         (record { before = E.contents errors.old; after = E.contents errors.new }) result }
 {
     match record_of(alloc, input) {
-        Ok(record) => draw_bytes(alloc, &record, output, errors),
+        Ok(bytes) => draw_bytes(alloc, &bytes, output, errors),
         Err(reason) => complain_unread(reason, errors),
     }
 }
@@ -72,17 +72,12 @@ pub fn draw_record_of<R: Read, W: Write, E: Write>(
 fn record_of<R: Read>(alloc: Global, reader: &mut R) -> io::Result<Vec<u8>>
     ensures { IfOk result (λ bytes. IfSome (R.remaining reader.old) (λ input. bytes.items ≡ input)) }
 {
-    let mut record = Vec::new(alloc);
-    reader.read_to_end(&mut record)?;
-    Ok(record)
+    let mut bytes = Vec::new(alloc);
+    reader.read_to_end(&mut bytes)?;
+    Ok(bytes)
 }
 
-fn draw_bytes<W: Write, E: Write>(
-    alloc: Global,
-    bytes: &[u8],
-    output: &mut W,
-    errors: &mut E,
-) -> u8
+fn draw_bytes<W: Write, E: Write>(alloc: Global, bytes: &[u8], output: &mut W, errors: &mut E) -> u8
     ensures { IsDrawn (Some bytes.now) (record { before = W.contents output.old; after = W.contents output.new })
         (record { before = E.contents errors.old; after = E.contents errors.new }) result }
 {

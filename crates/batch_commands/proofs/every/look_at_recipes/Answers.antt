@@ -12,8 +12,8 @@ loop-path-preserved g c =
     c.look_at_recipe.new.looked.recipes.items c.look_at_recipe.new.looked.refusals.items within c.path-item.is c.as_str.ensures.value c.loop-path.invariant
     c.in_ok-look_at_recipe.ensures.looked
 
-pub loop-path-start : goal.loop-path-start
-loop-path-start g c = looks_at_none (g.D.Documents.gives c.args.documents.now) c.args.refusals.items
+pub loop-path-init : goal.loop-path-init
+loop-path-init g c = looks_at_none (g.D.Documents.gives c.args.documents.now) c.args.refusals.items
 
 pub returns-in_err-look_at_recipe-clause-halted : goal.returns-in_err-look_at_recipe-clause-halted
 returns-in_err-look_at_recipe-clause-halted g c =

@@ -6,8 +6,7 @@ use Rattle.batch_commands.proofs.every.read_sound.Goals as goal
 
 pub returns-clause-read : goal.returns-clause-read
 returns-clause-read g c =
-    let (cell_read, recipes_read) = c.in_ok-read.ensures.read in
-    (
+    let (cell_read, recipes_read) = c.in_ok-read.ensures.read in (
       record { cell_read = cell_read; recipes_read = recipes_read; warned = rw c.deref.ensures.value at c.warn.ensures },
       rw c.deref-2.ensures.value at c.in_ok-keep_rules.ensures.kept,
     )

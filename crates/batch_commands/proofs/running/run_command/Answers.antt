@@ -1,7 +1,7 @@
 use Rattle.std.proofs.Common.{map, refl, string_bytes}
 use Rattle.std.proofs.KnownBytes.{Keeps-refl}
 use Rattle.batch_words.specs.CommandLine.{judgement_of, source_of}
-use Rattle.batch_commands.specs.Running.{audits, explains, halts, judges, plants, reads, serves, keeps, writes, remarks, draws}
+use Rattle.batch_commands.specs.Running.{explains, halts, judges, reads, writes, draws}
 use Rattle.batch_commands.proofs.Warned.{silent}
 use Rattle.batch_commands.proofs.running.run_command.Goals as goal
 
@@ -24,44 +24,16 @@ returns-in-Write g c =
     rw c.in-Write.is
     (halts c.in-Err-judge.halt _ _ (rw c.in-Write.judgement-is at c.in-Err-judge.ensures.halted) c.announce-in-Err-judge.ensures)
 
-pub returns-in-Ok-clear_source : goal.returns-in-Ok-clear_source
-returns-in-Ok-clear_source g c =
-    rw c.in-Serve.is
-    (serves (source_of c.in-Serve.source) c.in-Ok-clear_source.set refl (rw c.in-Serve.source-is at c.in-Ok-clear_source.ensures.set)
-    (Keeps-refl _) (Keeps-refl _))
-
 pub returns-in-Serve : goal.returns-in-Serve
-returns-in-Serve g c =
-    rw c.in-Serve.is
-    (halts c.in-Err-clear_source.halt _ _ (rw c.in-Serve.source-is at c.in-Err-clear_source.ensures.halted, silent _ _)
-    c.announce-in-Err-clear_source.ensures)
+returns-in-Serve g c = rw c.in-Serve.is (rw c.in-Serve.source-is at c.serve.ensures)
 
-pub returns-in-Ok-clear_digested : goal.returns-in-Ok-clear_digested
-returns-in-Ok-clear_digested g c =
-    rw c.in-Keep.is
-    (keeps (string_bytes c.in-Keep.cell) (string_bytes c.in-Keep.certificate) (map string_bytes c.in-Keep.recipes.items) c.in-Keep.journal
-    c.in-Ok-clear_digested.digested refl
-    (rw (c.deref-in-Keep.ensures, c.deref-in-Keep-2.ensures, c.deref-in-Keep-3.ensures.value, c.in-Keep.cell-is, c.in-Keep.certificate-is, c.in-Keep.recipes-is) at c.in-Ok-clear_digested.ensures.digested)
-    (Keeps-refl _) (Keeps-refl _))
+pub returns-in-Remark : goal.returns-in-Remark
+returns-in-Remark g c = rw c.in-Remark.is (rw c.in-Remark.source-is at c.remark.ensures)
 
 pub returns-in-Keep : goal.returns-in-Keep
 returns-in-Keep g c =
     rw c.in-Keep.is
-    (halts c.in-Err-clear_digested.halt _ _
-    (rw (c.deref-in-Keep.ensures, c.deref-in-Keep-2.ensures, c.deref-in-Keep-3.ensures.value, c.in-Keep.cell-is, c.in-Keep.certificate-is, c.in-Keep.recipes-is) at c.in-Err-clear_digested.ensures.halted, silent _ _)
-    c.announce-in-Err-clear_digested.ensures)
-
-pub returns-in-Ok-clear_source-2 : goal.returns-in-Ok-clear_source-2
-returns-in-Ok-clear_source-2 g c =
-    rw c.in-Remark.is
-    (remarks (source_of c.in-Remark.source) c.in-Ok-clear_source-2.set c.in-Remark.comments refl (rw c.in-Remark.source-is at c.in-Ok-clear_source-2.ensures.set)
-    (Keeps-refl _) (Keeps-refl _))
-
-pub returns-in-Remark : goal.returns-in-Remark
-returns-in-Remark g c =
-    rw c.in-Remark.is
-    (halts c.in-Err-clear_source-2.halt _ _ (rw c.in-Remark.source-is at c.in-Err-clear_source-2.ensures.halted, silent _ _)
-    c.announce-in-Err-clear_source-2.ensures)
+    (rw (c.deref-in-Keep.ensures, c.deref-in-Keep-2.ensures, c.deref-in-Keep-3.ensures.value, c.in-Keep.cell-is, c.in-Keep.certificate-is, c.in-Keep.recipes-is) at c.keep.ensures)
 
 pub returns-in-Status : goal.returns-in-Status
 returns-in-Status g c = rw c.in-Status.is (reads c.in-Status.path refl (Keeps-refl _) (Keeps-refl _))
@@ -69,25 +41,11 @@ returns-in-Status g c = rw c.in-Status.is (reads c.in-Status.path refl (Keeps-re
 pub returns-in-Picture : goal.returns-in-Picture
 returns-in-Picture g c = rw c.in-Picture.is (draws c.in-Picture.path refl (Keeps-refl _) (Keeps-refl _))
 
-pub returns-in-Ok-clear_source-3 : goal.returns-in-Ok-clear_source-3
-returns-in-Ok-clear_source-3 g c =
-    rw c.in-Audit.is
-    (audits c.in-Audit.audit c.in-Ok-clear_source-3.set refl (rw c.in-Audit.audit-is at c.in-Ok-clear_source-3.ensures.set) (Keeps-refl _) (Keeps-refl _))
-
 pub returns-in-Audit : goal.returns-in-Audit
-returns-in-Audit g c =
-    rw c.in-Audit.is
-    (halts c.in-Err-clear_source-3.halt _ _ (rw c.in-Audit.audit-is at c.in-Err-clear_source-3.ensures.halted, silent _ _)
-    c.announce-in-Err-clear_source-3.ensures)
-
-pub returns-in-Ok-clear_demo : goal.returns-in-Ok-clear_demo
-returns-in-Ok-clear_demo g c =
-    rw c.in-Plant.is (plants c.in-Ok-clear_demo.set c.in-Plant.options refl c.in-Ok-clear_demo.ensures.set (Keeps-refl _) (Keeps-refl _))
+returns-in-Audit g c = rw c.in-Audit.is c.audit.ensures
 
 pub returns-in-Plant : goal.returns-in-Plant
-returns-in-Plant g c =
-    rw c.in-Plant.is
-    (halts c.in-Err-clear_demo.halt _ _ (c.in-Err-clear_demo.ensures.halted, silent _ _) c.announce-in-Err-clear_demo.ensures)
+returns-in-Plant g c = rw c.in-Plant.is (c.plant.ensures _)
 
 pub returns : goal.returns
 returns g c =

@@ -25,13 +25,12 @@ pub returns-in-Serves : goal.returns-in-Serves
 returns-in-Serves g c =
     let set = c.in-Serves.set in
     let quiet = c.in-Serves.quiet in
-    let served = c.serve_set-served in
     let words = map string_bytes c.args.words.now in
+    let (served, all, left, status) = c.serve_plainly.ensures in
     let is = set_to_serve (g.D.Documents.gives c.args.documents.now) words _ _ _ set quiet c.run_words.ensures c.in-Serves.is in
-    let told = left_kept quiet _ _ _ served.result is.silent c.tell_served.ensures.told in
-    rw c.tell_served.ensures.status
-    (serves is.source set served.result is.asked is.is_set (served_kept set MAX_READS served.result _ _ _ _ _ is.unwritten served.ensures)
-    (rw is.hushed at told))
+    let told = left_kept quiet _ _ _ served is.silent left in
+    rw status
+    (serves is.source set served is.asked is.is_set (served_kept set MAX_READS served _ _ _ _ _ is.unwritten all) (rw is.hushed at told))
 
 pub returns-in-Keeps : goal.returns-in-Keeps
 returns-in-Keeps g c =
@@ -44,13 +43,13 @@ returns-in-Keeps g c =
 pub returns-in-Remarks : goal.returns-in-Remarks
 returns-in-Remarks g c =
     let course = c.in-Remarks in
-    let served = c.serve_remarked-served in
-    let (request, asked, is, hushed) = set_to_remark (g.D.Documents.gives c.args.documents.now) (map string_bytes c.args.words.now) _ _ _ course.set course.quiet course.comments c.run_words.ensures course.is in
-    let told = left_kept course.quiet _ _ _ served.result.0 is.silent c.tell_served-in-Remarks.ensures.told in
-    rw c.tell_served-in-Remarks.ensures.status
-    (remarks is.source course.comments.echo course.comments.times course.set served.result.0 (rw (← is.asked) asked) is.is_set
-    (remarked_kept course.set MAX_READS served.result.0 _ _ _ _ _ is.unwritten served.ensures)
-    (rw hushed at told))
+    let words = map string_bytes c.args.words.now in
+    let (served, all, left, status) = c.serve_with_comments.ensures in
+    let (request, asked, is, hushed) = set_to_remark (g.D.Documents.gives c.args.documents.now) words _ _ _ course.set course.quiet course.comments c.run_words.ensures course.is in
+    let told = left_kept course.quiet _ _ _ served is.silent left in
+    rw status
+    (remarks is.source course.comments.echo course.comments.times course.set served (rw (← is.asked) asked) is.is_set
+    (remarked_kept course.set MAX_READS served _ _ _ _ _ is.unwritten all) (rw hushed at told))
 
 pub returns-in-Reads : goal.returns-in-Reads
 returns-in-Reads g c =
