@@ -1,5 +1,5 @@
 -- Lines of a record, one after the other.
-use Rattle.std.proofs.Common.{◌≡◌, ℕ, ◌+◌, ◌-◌, ◌^◌, ◌<◌, List, [], ◌∷◌, ◌++◌, length, take, drop, min, Option, Some, None, true, false, Bool, refl, sym, ap, subst, ◌∙◌, append_assoc, append-nil, arith}
+use Rattle.std.proofs.Common.{◌≡◌, ℕ, ◌+◌, ◌-◌, ◌^◌, ◌<◌, List, [], ◌∷◌, ◌++◌, length, take, drop, min, Option, Some, None, true, false, Bool, refl, sym, ap, subst, ◌∙◌, append_assoc, append-nil, arith, option_map}
 use Rattle.std.proofs.lemmas.List.{drop_more, take-append-drop}
 use Rattle.batch_model.specs.Lists.{Each}
 use Rattle.batch_record.specs.Laws.{is_passed_over}
@@ -105,12 +105,16 @@ all-taken text rest number h none = record {
 
 -- What a line brings
 
+after-line : (stage : Stage) (line : List ℕ) (passed : Bool) → is_passed_over line ≡ passed
+    → stage_after stage line ≡ elim passed [ true ↦ Some (marked stage (mark_of line)) | false ↦ option_map (told stage) (out_of_line line) ]
+after-line stage line passed is = ap (λ (b : Bool). elim b [ true ↦ Some (marked stage (mark_of line)) | false ↦ option_map (told stage) (out_of_line line) ]) is
+
 pub passed-on : (line : List ℕ) → is_passed_over line ≡ true → (stage : Stage) → (next : Stage) × (stage_after stage line ≡ Some next)
-passed-on line is stage = (marked stage (mark_of line), rw is refl)
+passed-on line is stage = (marked stage (mark_of line), after-line stage line true is)
 
 pub told-on : (line : List ℕ) (out : Out) → is_passed_over line ≡ false → out_of_line line ≡ Some out
     → (stage : Stage) → (next : Stage) × (stage_after stage line ≡ Some next)
-told-on line out is tells stage = (told stage out, rw is (rw tells refl))
+told-on line out is tells stage = (told stage out, after-line stage line false is ∙ ap (option_map (told stage)) tells)
 
 pub refused-on : (line : List ℕ) → is_passed_over line ≡ false → out_of_line line ≡ None → (stage : Stage) → stage_after stage line ≡ None
-refused-on line is tells stage = rw is (rw tells refl)
+refused-on line is tells stage = after-line stage line false is ∙ ap (option_map (told stage)) tells

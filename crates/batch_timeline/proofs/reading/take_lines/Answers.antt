@@ -1,6 +1,7 @@
-use Rattle.std.proofs.Common.{sym, ◌∙◌}
+use Rattle.std.proofs.Common.{sym, subst, ◌∙◌, ◌+◌, List, ℕ}
 use Rattle.std.proofs.lemmas.Result.{err_from_is_err_and}
-use Rattle.batch_timeline.proofs.Lines.{all-taken, line-refused, line-taken, nothing-taken}
+use Rattle.std.proofs.lemmas.List.{take_rest}
+use Rattle.batch_timeline.proofs.Lines.{HasTaken, all-taken, line-refused, line-taken, nothing-taken}
 use Rattle.batch_timeline.proofs.reading.take_lines.Goals as goal
 
 pub loop-at-init : goal.loop-at-init
@@ -10,7 +11,8 @@ pub loop-at-preserved : goal.loop-at-preserved
 loop-at-preserved c =
     let so_far = c.loop-at.invariant in
     let (next, after) = c.in_ok-take_line.ensures so_far.stage in
-    line-taken _ _ _ _ c.in-Some.at so_far c.in-Some.ensures c.saturating_add-number.ensures next after
+    subst (λ (rest : List ℕ). HasTaken c.args.text.now rest c.saturating_add-number.result) (sym (take_rest c.loop-at.rest.now (c.in-Some.at + 1)))
+    (line-taken _ _ _ _ c.in-Some.at so_far c.in-Some.ensures c.saturating_add-number.ensures next after)
 
 pub returns-in_err-take_line : goal.returns-in_err-take_line
 returns-in_err-take_line c =
