@@ -38,18 +38,18 @@ impl From<AllocError> for RecordFault {
 /// `# at MILLISECONDS`, and where it has none the number of the line.
 ///
 /// A last line without its line feed is left out. What a recovery block lists stands from its end on, and nothing else does.
-pub fn draw_record(alloc: Global, record: &[u8]) -> Result<Picture, RecordFault>
-    ensures drawn { IfOk result (λ _. IsRecord record.now) }
-    ensures refused { IfErr result (λ fault. (number : ℕ) → fault ≡ faults.NoRecord number → IsRefusedAt record.now number) }
+pub fn draw_record(alloc: Global, text: &[u8]) -> Result<Picture, RecordFault>
+    ensures drawn { IfOk result (λ _. IsRecord text.now) }
+    ensures refused { IfErr result (λ fault. (number : ℕ) → fault ≡ faults.NoRecord number → IsRefusedAt text.now number) }
 {
-    let mut timeline = Timeline::new(alloc, first_time(record));
-    take_lines(alloc, &mut timeline, record)?;
+    let mut timeline = Timeline::new(alloc, first_time(text));
+    take_lines(alloc, &mut timeline, text)?;
     Ok(draw(alloc, &timeline)?)
 }
 
 /// The first time that a comment tells.
-fn first_time(record: &[u8]) -> Option<u64> {
-    let mut rest = record;
+fn first_time(text: &[u8]) -> Option<u64> {
+    let mut rest = text;
     while let Some(at) = line_feed(rest) {
         if let Some(Remark::At(time)) = read_remark(&rest[..at]) {
             return Some(time);
@@ -60,10 +60,10 @@ fn first_time(record: &[u8]) -> Option<u64> {
 }
 
 /// Takes each line that is whole.
-fn take_lines(alloc: Global, timeline: &mut Timeline, record: &[u8]) -> Result<(), RecordFault>
-    ensures { TakesLines record.now result }
+fn take_lines(alloc: Global, timeline: &mut Timeline, text: &[u8]) -> Result<(), RecordFault>
+    ensures { TakesLines text.now result }
 {
-    let mut rest = record;
+    let mut rest = text;
     let mut number: u64 = 0;
     while let Some(at) = line_feed(rest) {
         number = number.saturating_add(1);

@@ -3,7 +3,7 @@ use Rattle.batch_timeline.proofs.Lines.{HasTaken}
 use Rattle.batch_timeline.proofs.reading.take_lines.Given as goal
 
 abbrev pub invariant-loop-at : goal.invariant-loop-at
-invariant-loop-at l = HasTaken l.record l.rest l.number
+invariant-loop-at l = HasTaken l.text l.rest l.number
 
 abbrev pub decreases-loop-at : goal.decreases-loop-at
 decreases-loop-at l = length l.rest
