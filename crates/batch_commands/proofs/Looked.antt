@@ -1,15 +1,17 @@
 -- Looking at one document after the other.
 use Rattle.std.proofs.Common.{◌≡◌, ◌⊎◌, ℕ, ◌+◌, ◌<◌, ◌++◌, List, [], ◌∷◌, Option, Some, None, Result, Ok, Err, IfErr, inl, inr, length, map, take, get_or, suc, zero, refl, ap, sym, subst, arith, append_assoc, append-nil, ◌∙◌}
 use Rattle.std.proofs.lemmas.List.{map-append, take_more}
+use Rattle.std.specs.Prelude.{String}
+use Rattle.std.specs.Global.{Global}
 use Rattle.batch_cell.specs.declared.cell.Cell.{Cell}
 use Rattle.batch_recipe.specs.declared.recipe.Recipe.{Recipe}
 use Rattle.batch_commands.specs.Every.{AreLooked, AreRefusalsOf, AreRulesKept, HaltsAtAll, HaltsAtLook, HaltsLooking, IsOneUnread, RefusesRules}
-use Rattle.batch_commands.specs.Halting.{HaltsAtRecipe}
+use Rattle.batch_commands.specs.Halting.{HaltsAtCell, HaltsAtRecipe}
 use Rattle.batch_commands.specs.Looking.{AreAllRead, IsCellLooked, IsLooked, IsSoundlyRead, LooksOn}
 use Rattle.batch_commands.specs.Reading.{AreReadWarned, Gives, IsSoWarned, IsUnread, ReadsCell, ReadsRecipe, ReadsRecipes, Warns}
 use Rattle.batch_commands.specs.declared.refusal.DocumentRefusal.{DocumentRefusal}
 use Rattle.batch_commands.specs.declared.refusal.Halt.{Halt}
-use Rattle.batch_commands.specs.declared.refusal.Halt.TheVariants.{Refused, Every, Memory}
+use Rattle.batch_commands.specs.declared.refusal.Halt.TheVariants.{Refused, Every, Unread, Memory}
 
 -- where nothing is refused, all are read
 pub all_read : (gives : Gives) (paths : List (List ℕ)) (rs : List Recipe) (refusals : List DocumentRefusal)
@@ -56,6 +58,16 @@ looks_next gives text_of paths i path text before rs refusals recipes others wit
     let Whole : List (List ℕ) → Type 0 = λ ps. LooksOn gives ps before recipes others in
     let Named : List ℕ → Type 0 = λ t. IsLooked gives t rs refusals recipes others in
     subst Whole (sym whole) (looks_more gives (map text_of (take i paths)) (text_of path) before rs refusals recipes others looked (subst Named value here))
+
+-- a document that ends it, and isn't refused, can't be read
+
+pub cell_unread : (gives : Gives) (path : List ℕ) (message : String Global) → HaltsAtCell gives path (Unread message) → IsUnread gives path (Unread message)
+cell_unread gives path message (inl unread) = unread
+cell_unread gives path message (inr (bytes, given, refuses)) = absurd refuses.halts
+
+pub recipe_unread : (gives : Gives) (path : List ℕ) (message : String Global) → HaltsAtRecipe gives path (Unread message) → IsUnread gives path (Unread message)
+recipe_unread gives path message (inl unread) = unread
+recipe_unread gives path message (inr (bytes, given, refuses)) = absurd refuses.halts
 
 -- nothing is looked at
 pub looks_at_none : (gives : Gives) (before : List DocumentRefusal) → LooksOn gives [] before [] before

@@ -123,6 +123,7 @@ fn read_all<D: Documents>(
 }
 
 /// The cell of the document at the path. Where that is refused, its refusal is put behind the others.
+#[tactic(auto, using(crate::proofs::Looked::cell_unread))]
 fn look_at_cell<D: Documents>(
     alloc: Global,
     documents: &D,
@@ -175,6 +176,7 @@ fn look_at_recipes<D: Documents>(
 }
 
 /// Looks at one document more.
+#[tactic(auto, using(crate::proofs::Looked::recipe_unread))]
 fn look_at_recipe<D: Documents>(
     alloc: Global,
     documents: &D,
