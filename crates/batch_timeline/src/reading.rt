@@ -51,12 +51,21 @@ pub fn draw_record(alloc: Global, text: &[u8]) -> Result<Picture, RecordFault>
 fn first_time(text: &[u8]) -> Option<u64> {
     let mut rest = text;
     while let Some(at) = line_feed(rest) {
-        if let Some(Remark::At(time)) = read_remark(&rest[..at]) {
-            return Some(time);
-        }
+        let time = time_of(&rest[..at]);
         rest = &rest[at + 1..];
+        if time.is_some() {
+            return time;
+        }
     }
     None
+}
+
+/// The time that the line tells, where it is a comment on times.
+fn time_of(line: &[u8]) -> Option<u64> {
+    match read_remark(line) {
+        Some(Remark::At(time)) => Some(time),
+        _ => None,
+    }
 }
 
 /// Takes each line that is whole.
