@@ -27,6 +27,13 @@ use std::io::{Read, Write};
 use std::marker::Brand;
 use std::time::Clock;
 
+/// The path of the journal as messages name it, and whether they are of faults alone.
+#[derive(Clone, Copy)]
+struct Messages<'a> {
+    path: &'a str,
+    quiet: bool,
+}
+
 /// Serves event lines from the input over the set, with a journal of them in the file at the path, and gives the exit status.
 ///
 /// The lines that the journal has are served again first, without their answers being written, and the recovery block stands before all
@@ -63,8 +70,9 @@ pub fn keep_journal<J: Journals, R: Read, W: Write, E: Write>(
     match journals.open_journal(path) {
         Ok(disk) => {
             let clock = journals.clock();
+            let messages = Messages { path, quiet };
             let (status, _, output) = serve_opened(
-                alloc, digested, quiet, path, clock, disk, input, output, errors,
+                alloc, digested, messages, clock, disk, input, output, errors,
             );
             (status, output)
         }
@@ -76,8 +84,7 @@ pub fn keep_journal<J: Journals, R: Read, W: Write, E: Write>(
 fn serve_opened<D: Disk, K: Clock + Drop, R: Read, W: Write, E: Write>(
     alloc: Global,
     digested: Digested,
-    quiet: bool,
-    path: &str,
+    messages: Messages,
     clock: K,
     disk: D,
     input: &mut Noted<R>,
@@ -93,7 +100,7 @@ fn serve_opened<D: Disk, K: Clock + Drop, R: Read, W: Write, E: Write>(
       given = D.given;
       moment = D.moment;
       left_since = D.left_since;
-    }) digested.set digested.documents.text path.now disk result.1
+    }) digested.set digested.documents.text messages.entry.path.now disk result.1
         (record {
           unread = R.remaining input.old.stream;
           left = R.remaining input.new.stream;
@@ -102,15 +109,14 @@ fn serve_opened<D: Disk, K: Clock + Drop, R: Read, W: Write, E: Write>(
         }) result.0 }
 {
     serve_file::<D, K, R, W, E, Brand>(
-        alloc, digested, quiet, path, clock, disk, input, output, errors,
+        alloc, digested, messages, clock, disk, input, output, errors,
     )
 }
 
 fn serve_file<D: Disk, K: Clock + Drop, R: Read, W: Write, E: Write, C: Run>(
     alloc: Global,
     digested: Digested,
-    quiet: bool,
-    path: &str,
+    messages: Messages,
     clock: K,
     mut disk: D,
     input: &mut Noted<R>,
@@ -129,7 +135,7 @@ fn serve_file<D: Disk, K: Clock + Drop, R: Read, W: Write, E: Write, C: Run>(
       given = D.given;
       moment = D.moment;
       left_since = D.left_since;
-    }) digested.set digested.documents.text path.now disk result.1
+    }) digested.set digested.documents.text messages.entry.path.now disk result.1
         (record {
           unread = R.remaining input.old.stream;
           left = R.remaining input.new.stream;
@@ -139,7 +145,7 @@ fn serve_file<D: Disk, K: Clock + Drop, R: Read, W: Write, E: Write, C: Run>(
 {
     match start(alloc, digested.set, &mut disk, digested.documents) {
         Ok(started) => {
-            tell_cut(alloc, quiet, path, started.cut, errors);
+            tell_cut(alloc, messages.quiet, messages.path, started.cut, errors);
             let Started {
                 mut engine,
                 sum,
@@ -156,8 +162,7 @@ fn serve_file<D: Disk, K: Clock + Drop, R: Read, W: Write, E: Write, C: Run>(
                 alloc,
                 &mut engine,
                 &block,
-                quiet,
-                path,
+                messages,
                 journal,
                 input,
                 output,
@@ -165,7 +170,14 @@ fn serve_file<D: Disk, K: Clock + Drop, R: Read, W: Write, E: Write, C: Run>(
             )
         }
         Err(fault) => {
-            let status = refuse_start(alloc, quiet, path, fault, &mut output, errors);
+            let status = refuse_start(
+                alloc,
+                messages.quiet,
+                messages.path,
+                fault,
+                &mut output,
+                errors,
+            );
             (status, disk, output)
         }
     }
@@ -176,8 +188,7 @@ fn serve_behind<D: Disk, K: Clock + Drop, R: Read, W: Write, E: Write, C: Run>(
     alloc: Global,
     engine: &mut Engine,
     block: &[u8],
-    quiet: bool,
-    path: &str,
+    messages: Messages,
     journal: Journal<D, K>,
     input: &mut Noted<R>,
     mut output: Noted<W>,
@@ -205,8 +216,7 @@ fn serve_behind<D: Disk, K: Clock + Drop, R: Read, W: Write, E: Write, C: Run>(
     );
     let status = tell_end(
         alloc,
-        quiet,
-        path,
+        messages,
         served,
         engine.unfinished(),
         input,
@@ -219,8 +229,7 @@ fn serve_behind<D: Disk, K: Clock + Drop, R: Read, W: Write, E: Write, C: Run>(
 /// Tells how many batches the end of the input left unfinished, or why serving stopped, and gives the exit status.
 fn tell_end<R: Read, W: Write, E: Write>(
     alloc: Global,
-    quiet: bool,
-    path: &str,
+    messages: Messages,
     served: Result<(), KeepFault>,
     left: usize,
     input: &Noted<R>,
@@ -232,10 +241,10 @@ fn tell_end<R: Read, W: Write, E: Write>(
 {
     match served {
         Ok(()) => {
-            tell_left(alloc, quiet, left, errors);
+            tell_left(alloc, messages.quiet, left, errors);
             SUCCESS
         }
-        Err(fault) => complain_stopped(alloc, path, fault, input, output, errors),
+        Err(fault) => complain_stopped(alloc, messages.path, fault, input, output, errors),
     }
 }
 

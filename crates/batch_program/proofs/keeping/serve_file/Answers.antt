@@ -8,7 +8,7 @@ use Rattle.batch_program.proofs.keeping.serve_file.Goals as goal
 pub serve_behind-requires-clause-at_rest : goal.serve_behind-requires-clause-at_rest
 serve_behind-requires-clause-at_rest g c = λ d.
     let rests = c.in-Ok.ensures.at_rest d in
-    rw c.text.ensures.digits (kept_started _ _ rests.0 _ _ _ _ _ _ rests.1 rests.2 c.requires.base (c.start.ensures.given d) (c.requires.fresh (c.start.ensures.stays d)).1)
+    rw c.text.ensures.digits (kept_started _ _ rests.0 _ _ _ _ (g.D.Disk.seen c.args.disk) _ rests.1 rests.2 c.requires.base (c.start.ensures.given d) (c.requires.fresh (c.start.ensures.stays d)).1)
 
 pub serve_behind-requires-clause-whole : goal.serve_behind-requires-clause-whole
 serve_behind-requires-clause-whole g c = λ d. none_whole _ (c.start.ensures.given d ∙ (c.requires.fresh (c.start.ensures.stays d)).1)
@@ -24,7 +24,7 @@ pub returns-in-Err : goal.returns-in-Err
 returns-in-Err g c =
     record {
       any_moment = λ d. begun_before g.D.Disk.moment g.D.Disk.left_since _ _ _ _ _ _ _ (c.start.ensures.any_moment d) refl refl (c.requires.fresh (c.start.ensures.stays d)).1;
-      told = told_refused _ _ _ _ _ _ _ _ c.in-Err.fault (λ refusal is d. start_refused _ _ c.start.result c.in-Err.fault refusal c.in-Err.is is (c.start.ensures.refused d))
+      told = told_refused _ _ _ _ _ _ _ _ c.in-Err.fault (λ refusal is d. start_refused c.args.digested.documents.text (g.D.Disk.seen c.args.disk) c.start.result c.in-Err.fault refusal c.in-Err.is is (c.start.ensures.refused d))
           c.refuse_start-status.ensures;
     }
 

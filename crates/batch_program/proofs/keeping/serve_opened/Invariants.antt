@@ -9,6 +9,6 @@ ghosts-serve_file g a = record {
   documents = a.digested.documents.text;
   base = text_of (recovered a.digested.documents.text (g.D.Disk.seen a.disk));
   since = g.D.Disk.moment a.disk;
-  input = cleaned (g.R.Read.remaining a.input.stream);
+  input = cleaned (g.R.Read.remaining a.input.now.stream);
   was = ⊤;
 }
