@@ -106,7 +106,7 @@ verify_has_no_comments : fault_of program_app (codes "verify" ∷ codes "--echo"
 unfolding clap_on_literals
 verify_has_no_comments = refl
 
-clash_line : List Text
+abbrev clash_line : List Text
 clash_line = codes "run" ∷ codes "--journal" ∷ codes "j" ∷ codes "--echo" ∷ codes "c" ∷ codes "k" ∷ []
 
 journal_clashes_with_echo : faults_of clash_line ≡ ArgumentConflict ∷ []
