@@ -1,5 +1,5 @@
 -- trusted: comments of a record: which are written, and what is left of a text without them.
-use Rattle.std.specs.Prelude.{◌≡◌, ℕ, ◌+◌, ◌/◌, ◌%◌, Bool, true, false, ◌&&◌, List, [], ◌∷◌, ◌++◌, length, take, drop, flat_map, Option, Some, None, codes, decimal, nat_le, nat_lt, ◌==◌, if◌then◌else◌}
+use Rattle.std.specs.Prelude.{◌≡◌, ℕ, ◌+◌, ◌/◌, ◌%◌, Bool, true, false, ◌&&◌, List, [], ◌∷◌, ◌++◌, take, flat_map, Option, Some, codes, decimal, nat_le, nat_lt, ◌==◌, if◌then◌else◌}
 use Rattle.std.specs.Str.Lines.{strip_carriage_return}
 use Rattle.batch_serve.specs.declared.remarked.Spot.{Spot}
 use Rattle.batch_serve.specs.declared.remarked.Spot.TheVariants.{Start, Line, Comment}

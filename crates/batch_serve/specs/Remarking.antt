@@ -1,5 +1,5 @@
 -- trusted: where a writer of a record with comments has come to.
-use Rattle.std.specs.Prelude.{◌≡◌, ℕ, Bool, true, false, not, ◌==◌, List, [], ◌++◌, length, take, drop, Option, Some, None, option_map}
+use Rattle.std.specs.Prelude.{◌≡◌, ℕ, Bool, false, not, ◌==◌, List, [], ◌++◌, length, take, drop, Option, Some, None, option_map}
 use Rattle.std.specs.Io.KnownBytes.{Appends}
 use Rattle.batch_serve.specs.Comments.{kept_from, remark_text, spot_behind, without_comments}
 use Rattle.batch_serve.specs.declared.remarked.Spot.{Spot}

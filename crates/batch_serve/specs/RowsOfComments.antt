@@ -1,5 +1,5 @@
 -- worked rows: what is left of a text without its comments, and which comments are written.
-use Rattle.std.specs.Prelude.{◌≡◌, ℕ, List, [], ◌∷◌, ◌++◌, true, false, codes, replicate}
+use Rattle.std.specs.Prelude.{◌≡◌, [], ◌∷◌, ◌++◌, true, false, codes, replicate}
 use Rattle.batch_serve.specs.Comments.{echo_text, escaped, remark_text, without_comments}
 
 pub record CommentRows : Type 0 where
