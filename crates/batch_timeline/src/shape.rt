@@ -1,6 +1,6 @@
 //! What stands in a picture.
 ghost use Rattle.std.specs.Prelude.{◌≡◌, Some};
-ghost use Rattle.batch_timeline.specs.Pictures.{anchor_word, block_text, colour_text, does, grid_text, hatching, label_text, shape_text};
+ghost use Rattle.batch_timeline.specs.Pictures.{anchor_word, area_text, block_text, colour_text, does, frame_text, grid_text, hatching, label_text, shape_text, title_text};
 
 use batch_text::Name;
 use std::fmt;
@@ -92,18 +92,64 @@ impl fmt::Display for Block {
     ghost output = { λ block. Some (block_text block) };
 
     fn fmt<W: fmt::Write>(&self, f: &mut fmt::Formatter<W>) -> fmt::Result {
-        let (left, top, width, batch) = (self.left, self.top, self.width, self.batch);
-        let (resource, units, place) = (&self.resource, self.units, &self.place);
-        let (does, hatching) = (does(self.waits), hatching(self.waits));
-        let colour = colour(batch % 8);
+        let (title, area, frame) = (Title { of: self }, Area { of: self }, Frame { of: self });
+        write!(f, "{title}{area}{frame}")
+    }
+}
+
+/// What is said of a bar.
+#[derive(Clone, Copy)]
+struct Title<'a> {
+    of: &'a Block,
+}
+
+impl<'a> fmt::Display for Title<'a> {
+    ghost output = { λ title. Some (title_text title.of.now) };
+
+    fn fmt<W: fmt::Write>(&self, f: &mut fmt::Formatter<W>) -> fmt::Result {
+        let block = self.of;
+        let (batch, does, units) = (block.batch, does(block.waits), block.units);
+        let (resource, place) = (&block.resource, &block.place);
         write!(
             f,
             "<g><title>{batch} {does} {units} of {resource} at {place}</title>"
-        )?;
+        )
+    }
+}
+
+/// The colour of a bar.
+#[derive(Clone, Copy)]
+struct Area<'a> {
+    of: &'a Block,
+}
+
+impl<'a> fmt::Display for Area<'a> {
+    ghost output = { λ area. Some (area_text area.of.now) };
+
+    fn fmt<W: fmt::Write>(&self, f: &mut fmt::Formatter<W>) -> fmt::Result {
+        let block = self.of;
+        let (left, top, width) = (block.left, block.top, block.width);
+        let colour = colour(block.batch % 8);
         write!(
             f,
             "<rect x=\"{left}\" y=\"{top}\" width=\"{width}\" height=\"17\" fill=\"{colour}\"/>"
-        )?;
+        )
+    }
+}
+
+/// The frame of a bar, and what stands over its colour.
+#[derive(Clone, Copy)]
+struct Frame<'a> {
+    of: &'a Block,
+}
+
+impl<'a> fmt::Display for Frame<'a> {
+    ghost output = { λ frame. Some (frame_text frame.of.now) };
+
+    fn fmt<W: fmt::Write>(&self, f: &mut fmt::Formatter<W>) -> fmt::Result {
+        let block = self.of;
+        let (left, top, width) = (block.left, block.top, block.width);
+        let hatching = hatching(block.waits);
         write!(
             f,
             "<rect x=\"{left}\" y=\"{top}\" width=\"{width}\" height=\"17\" fill=\"{hatching}\" stroke=\"#555555\"/></g>\n"
