@@ -1,5 +1,6 @@
 -- One more recipe is looked at for rules.
-use Rattle.std.proofs.Common.{◌≡◌, ℕ, ◌+◌, ◌<◌, ◌++◌, List, [], ◌∷◌, length, take, get_or, suc, zero, refl, ap, sym, subst, arith, append_assoc, append-nil, ◌∙◌}
+use Rattle.std.specs.Prelude.{◌==◌}
+use Rattle.std.proofs.Common.{◌≡◌, ℕ, ◌+◌, ◌<◌, ◌++◌, Bool, true, false, List, [], ◌∷◌, length, take, get_or, suc, zero, refl, ap, sym, subst, arith, append_assoc, append-nil, ◌∙◌}
 use Rattle.std.proofs.lemmas.List.{take_more}
 use Rattle.batch_cell.specs.declared.cell.Cell.{Cell}
 use Rattle.batch_recipe.specs.declared.recipe.Recipe.{Recipe}
@@ -36,3 +37,14 @@ rules_next c rs recipes i r refusals here after within is seen broken grown =
     let Grown : List DocumentRefusal → Type 0 = λ xs. AreRulesRefused c rs 0 (take i recipes ++ r ∷ []) xs in
     let last : i ≡ 0 + length (take i recipes) = length_taken recipes i within in
     subst Whole (sym whole) (subst Grown (sym grown) (rules_more c rs 0 (take i recipes) refusals i r here last seen broken))
+
+-- whether something is told
+
+pub none_told : (refusals : List DocumentRefusal) → (length refusals == 0) ≡ true → refusals ≡ []
+none_told [] is = refl
+none_told (refusal ∷ refusals) is =
+    let never : false ≡ true = is in absurd (cc never)
+
+pub some_told : (refusals : List DocumentRefusal) → (length refusals == 0) ≡ false → ¬ (refusals ≡ [])
+some_told refusals is none =
+    let never : true ≡ false = subst (λ (xs : List DocumentRefusal). (length xs == 0) ≡ false) none is in cc never

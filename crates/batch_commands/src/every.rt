@@ -112,14 +112,17 @@ fn read_all<D: Documents>(
     let mut refusals = Vec::new(alloc);
     let cell = look_at_cell(alloc, documents, cell, &mut refusals)?;
     let looked = look_at_recipes(alloc, documents, recipes, refusals)?;
-    match cell {
-        Some(cell) if looked.refusals.is_empty() => Ok(CellDocuments {
-            cell,
-            recipes: looked.recipes,
-            sources: looked.sources,
-        }),
-        _ => Err(Halt::Every(looked.refusals)),
+    let Some(cell) = cell else {
+        return Err(Halt::Every(looked.refusals));
+    };
+    if !looked.refusals.is_empty() {
+        return Err(Halt::Every(looked.refusals));
     }
+    Ok(CellDocuments {
+        cell,
+        recipes: looked.recipes,
+        sources: looked.sources,
+    })
 }
 
 /// The cell of the document at the path. Where that is refused, its refusal is put behind the others.

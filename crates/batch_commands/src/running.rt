@@ -4,7 +4,8 @@ ghost use Rattle.batch_words.specs.CommandLine.{audit, judgement_of, keep, plant
 ghost use Rattle.std.specs.Io.KnownBytes.{Appends};
 ghost use Rattle.batch_commands.specs.Reading.{Gives};
 ghost use Rattle.batch_commands.specs.Requests.{HaltsDemo, HaltsJudgement, HaltsSource, IsDemoSet, IsSetOf, IsVerdict};
-ghost use Rattle.std.specs.List.{flat_map};
+ghost use Rattle.std.specs.List.{flat_map, list_any};
+ghost use Rattle.batch_commands.specs.Judging.{is_for_memory};
 ghost use Rattle.batch_commands.specs.Running.{AreRefused, IsAnnounced, IsDone, IsExplained, IsPrinted, IsRefused, IsRun, fault_status, status_of_every};
 ghost use Rattle.batch_commands.specs.Saying.{IsWarned};
 
@@ -370,11 +371,18 @@ fn refusals_text(alloc: Global, refusals: &[DocumentRefusal]) -> Result<String, 
 fn status_of_every(refusals: &[DocumentRefusal]) -> u8
     ensures { result ≡ status_of_every refusals.now }
 {
-    if refusals.iter().any(|refusal| refusal.kind.is_for_memory()) {
+    if is_one_for_memory(refusals) {
         NO_MEMORY
     } else {
         REFUSED
     }
+}
+
+/// Whether one of the refusals is for want of memory.
+fn is_one_for_memory(refusals: &[DocumentRefusal]) -> bool
+    ensures { result ≡ list_any (λ r. is_for_memory r.kind) refusals.now }
+{
+    refusals.iter().any(|refusal| refusal.kind.is_for_memory())
 }
 
 /// Prints what the first code in the texts means, or without texts what all codes mean.
