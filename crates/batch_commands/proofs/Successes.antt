@@ -4,7 +4,7 @@ use Rattle.std.specs.Io.KnownBytes.{Appends}
 use Rattle.clap.specs.Kinds.{IsAmong}
 use Rattle.clap.specs.Walk.{Text}
 use Rattle.clap.specs.declared.error.kind.ErrorKind.{ErrorKind}
-use Rattle.batch_words.specs.CommandLine.{Request, Source, demo, faults_of, keep, serve}
+use Rattle.batch_words.specs.CommandLine.{Request, Source, demo, faults_of, keep, plant, serve}
 use Rattle.batch_verify.specs.ClearedSet.{ClearedSet}
 use Rattle.batch_commands.specs.Judging.{is_for_memory, status_of}
 use Rattle.batch_commands.specs.Reading.{Gives}
@@ -170,6 +170,24 @@ done_keeping gives request quiet output errors digested hushed journal _ (draws 
 done_keeping gives request quiet output errors digested hushed journal _ (audits _ _ _ _ _ _) is = absurd cc
 done_keeping gives request quiet output errors digested hushed journal _ (plants _ _ _ _ _ _) is = absurd cc
 done_keeping gives request quiet output errors digested hushed journal _ (writes _ _ _ _ _ _) is = absurd cc
+
+-- what comes of the demo's plant is the same whatever documents say
+pub plant_done : (these those : Gives) (batches ticks ring : ℕ) (request : Request) (quiet : Bool) (output errors : Stream) (course : Course)
+    → request ≡ plant batches ticks ring → IsDone these request quiet output errors course → IsDone those request quiet output errors course
+plant_done these those batches ticks ring request quiet output errors _ is (plants set options asked is_set kept silent) = plants set options asked is_set kept silent
+plant_done these those batches ticks ring request quiet output errors _ is (halts h status warned halted told) =
+    let These : Request → Type 0 = λ r. Halts these (IsWarned quiet errors.before warned) r h in
+    let Those : Request → Type 0 = λ r. Halts those (IsWarned quiet errors.before warned) r h in
+    halts h status warned (subst Those (sym is) (subst These is halted)) told
+plant_done these those batches ticks ring request quiet output errors _ is (serves _ _ asked _ _ _) = absurd cc
+plant_done these those batches ticks ring request quiet output errors _ is (remarks _ _ _ asked _ _ _) = absurd cc
+plant_done these those batches ticks ring request quiet output errors _ is (keeps _ _ _ _ _ asked _ _ _) = absurd cc
+plant_done these those batches ticks ring request quiet output errors _ is (reads _ asked _ _) = absurd cc
+plant_done these those batches ticks ring request quiet output errors _ is (draws _ asked _ _) = absurd cc
+plant_done these those batches ticks ring request quiet output errors _ is (audits _ _ asked _ _ _) = absurd cc
+plant_done these those batches ticks ring request quiet output errors _ is (writes _ _ _ asked _ _) = absurd cc
+plant_done these those batches ticks ring request quiet output errors _ is (judges _ _ _ _ asked _ _) = absurd cc
+plant_done these those batches ticks ring request quiet output errors _ is (explains _ _ asked _) = absurd cc
 
 served_set : (gives : Gives) (words : List Text) (output errors : Stream) (request : Request) (set : ClearedSet) (quiet : Bool) (course : Course)
     → AskFor words request → IsRun gives words output errors course → course ≡ Serves set quiet

@@ -2,8 +2,7 @@
 ghost use Rattle.std.specs.Prelude.{◌≡◌, IfErr, IfOk, OnOk, map, string_bytes};
 ghost use Rattle.batch_words.specs.CommandLine.{audit, judgement_of, keep, plant, remark, request_of, serve, source_of};
 ghost use Rattle.std.specs.Io.KnownBytes.{Appends};
-ghost use Rattle.batch_commands.specs.Reading.{Gives};
-ghost use Rattle.batch_commands.specs.Requests.{HaltsDemo, HaltsJudgement, HaltsSource, IsDemoSet, IsSetOf, IsVerdict};
+ghost use Rattle.batch_commands.specs.Requests.{HaltsDemo, HaltsJudgement, HaltsSource, IsDemoSet, IsSetOf, IsVerdict, demo_gives};
 ghost use Rattle.std.specs.List.{flat_map, list_any};
 ghost use Rattle.batch_commands.specs.Judging.{is_for_memory};
 ghost use Rattle.batch_commands.specs.Running.{AreRefused, IsAnnounced, IsDone, IsExplained, IsPrinted, IsRefused, IsRun, fault_status, status_of_every};
@@ -177,7 +176,8 @@ fn plant<O: Write, E: Write>(
     output: &mut O,
     errors: &mut E,
 ) -> Course
-    ensures { (gives : Gives) → IsDone gives (plant options.batches options.ticks options.ring) quiet
+    // Of the demo's documents alone it speaks, and so whatever others say.
+    ensures { IsDone demo_gives (plant options.batches options.ticks options.ring) quiet
         (record { before = O.contents output.old; after = O.contents output.new })
         (record { before = E.contents errors.old; after = E.contents errors.new }) result }
 {

@@ -5,7 +5,7 @@ use Rattle.batch_commands.proofs.Warned.{silent}
 use Rattle.batch_commands.proofs.running.plant.Goals as goal
 
 pub returns-in-Ok : goal.returns-in-Ok
-returns-in-Ok g c gives = plants c.in-Ok.set c.args.options refl c.in-Ok.ensures.set (Keeps-refl _) (Keeps-refl _)
+returns-in-Ok g c = plants c.in-Ok.set c.args.options refl c.in-Ok.ensures.set (Keeps-refl _) (Keeps-refl _)
 
 pub returns-in-Err : goal.returns-in-Err
-returns-in-Err g c gives = halts c.in-Err.halt _ _ (c.in-Err.ensures.halted, silent _ _) c.announce.ensures
+returns-in-Err g c = halts c.in-Err.halt _ _ (c.in-Err.ensures.halted, silent _ _) c.announce.ensures
