@@ -1,5 +1,5 @@
 -- Lines of a record, one after the other.
-use Rattle.std.proofs.Common.{◌≡◌, ℕ, ◌+◌, ◌-◌, ◌^◌, ◌<◌, List, [], ◌∷◌, ◌++◌, length, take, drop, min, Option, Some, None, true, false, Bool, refl, sym, ap, subst, ◌∙◌, append_assoc, append-nil, arith, option_map}
+use Rattle.std.proofs.Common.{◌≡◌, ℕ, ◌+◌, ◌-◌, ◌^◌, List, [], ◌∷◌, ◌++◌, length, take, drop, min, Option, Some, None, true, false, Bool, refl, sym, ap, ◌∙◌, append_assoc, append-nil, arith, option_map}
 use Rattle.std.proofs.lemmas.List.{drop_more, take-append-drop}
 use Rattle.batch_model.specs.Lists.{Each}
 use Rattle.batch_record.specs.Laws.{is_passed_over}
