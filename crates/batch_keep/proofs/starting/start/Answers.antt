@@ -1,4 +1,3 @@
-use Rattle.std.proofs.Common.{◌≡◌}
 use Rattle.std.proofs.lemmas.Result.{err_from_is_err_and}
 use Rattle.batch_journal.specs.Journals.{recovered}
 use Rattle.batch_keep.proofs.StartWords.{block_as, same_lines}
