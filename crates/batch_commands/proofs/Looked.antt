@@ -137,7 +137,7 @@ pub judged_looking : {A : Type 0} (gives : Gives) (warns : Warns) (cell : List �
     → IfErr r (λ h. HaltsLooking gives warns cell paths (refuses h) h)
 judged_looking gives warns cell paths c rs refuses (Ok x) read k = tt
 judged_looking gives warns cell paths c rs refuses (Err h) (read, kept) k =
-    inr (record { equipment = c; recipes = rs; cell_read = read.cell_read; recipes_read = read.recipes_read; judged = (read.warned, kept, k) })
+    inr (record { equipment = c; recipes = rs; cell_read = read.cell_read; recipes_read = read.recipes_read; judged = (read.warned, (kept, k)) })
 
 -- rules are broken
 pub broken_at : (gives : Gives) (warns : Warns) (cell : List ℕ) (paths : List (List ℕ)) (c : Cell) (rs : List Recipe) (h : Halt)

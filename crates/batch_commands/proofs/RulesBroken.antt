@@ -1,6 +1,5 @@
 -- One more recipe is looked at for rules.
-use Rattle.std.specs.Prelude.{◌==◌}
-use Rattle.std.proofs.Common.{◌≡◌, ℕ, ◌+◌, ◌<◌, ◌++◌, Bool, true, false, List, [], ◌∷◌, length, take, get_or, suc, zero, refl, ap, sym, subst, arith, append_assoc, append-nil, ◌∙◌}
+use Rattle.std.proofs.Common.{◌≡◌, ℕ, ◌+◌, ◌<◌, ◌++◌, List, [], ◌∷◌, length, take, get_or, suc, zero, refl, ap, sym, subst, arith, append_assoc, append-nil, ◌∙◌}
 use Rattle.std.proofs.lemmas.List.{take_more}
 use Rattle.batch_cell.specs.declared.cell.Cell.{Cell}
 use Rattle.batch_recipe.specs.declared.recipe.Recipe.{Recipe}
@@ -10,7 +9,8 @@ use Rattle.batch_commands.specs.declared.refusal.DocumentRefusal.{DocumentRefusa
 length_taken : {X : Type 0} (xs : List X) (i : ℕ) → i < length xs → i ≡ 0 + length (take i xs)
 length_taken [] i within = absurd (omega (arith, within))
 length_taken (x ∷ xs) zero within = refl
-length_taken (x ∷ xs) (suc i) within = ap suc (length_taken xs i (omega (arith, within)))
+length_taken (x ∷ xs) (suc i) within =
+    let more = length_taken xs i (omega (arith, within)) in omega (arith, more)
 
 rules_more : (c : Cell) (rs : List Recipe) (number : ℕ) (seen : List Recipe) (refusals : List DocumentRefusal) (last : ℕ) (r : Recipe) (here : List DocumentRefusal)
     → last ≡ number + length seen → AreRulesRefused c rs number seen refusals → IsRuleRefused c rs last r here
@@ -37,14 +37,3 @@ rules_next c rs recipes i r refusals here after within is seen broken grown =
     let Grown : List DocumentRefusal → Type 0 = λ xs. AreRulesRefused c rs 0 (take i recipes ++ r ∷ []) xs in
     let last : i ≡ 0 + length (take i recipes) = length_taken recipes i within in
     subst Whole (sym whole) (subst Grown (sym grown) (rules_more c rs 0 (take i recipes) refusals i r here last seen broken))
-
--- whether something is told
-
-pub none_told : (refusals : List DocumentRefusal) → (length refusals == 0) ≡ true → refusals ≡ []
-none_told [] is = refl
-none_told (refusal ∷ refusals) is =
-    let never : false ≡ true = is in absurd (cc never)
-
-pub some_told : (refusals : List DocumentRefusal) → (length refusals == 0) ≡ false → ¬ (refusals ≡ [])
-some_told refusals is none =
-    let never : true ≡ false = subst (λ (xs : List DocumentRefusal). (length xs == 0) ≡ false) none is in cc never

@@ -1,9 +1,9 @@
-use Rattle.std.proofs.Common.{Option, [], inl, inr, map, string_bytes, subst, sym, ◌∙◌}
+use Rattle.std.proofs.Common.{◌≡◌, ◌<◌, ℕ, Option, [], ap, arith, inl, inr, length, map, rules, string_bytes, subst}
+use Rattle.std.proofs.lemmas.List.{nil_from_length}
 use Rattle.std.proofs.lemmas.Result.{err_from_is_err_and}
 use Rattle.batch_cell.specs.declared.cell.Cell.{Cell}
 use Rattle.batch_commands.specs.Looking.{IsCellLooked}
 use Rattle.batch_commands.proofs.Looked.{all_refused, cell_refused, read_whole}
-use Rattle.batch_commands.proofs.RulesBroken.{none_told, some_told}
 use Rattle.batch_commands.proofs.every.read_all.Goals as goal
 
 pub returns-clause-read : goal.returns-clause-read
@@ -13,8 +13,9 @@ returns-clause-read g c =
     let before = c.look_at_cell.new.refusals.items in
     let At : Option Cell → Type 0 = λ cell. IsCellLooked gives c.args.cell.now [] cell before in
     let cell = subst At c.in-Some.is (rw c.new-refusals.ensures.items at c.in_ok-cell.ensures.looked) in
+    let none : length looked.refusals.items ≡ 0 = search rules in
     read_whole gives c.args.cell.now (map string_bytes c.args.recipes.now) before c.in-Some.cell looked.recipes.items looked.refusals.items cell
-    c.in_ok-looked.ensures.looked (none_told looked.refusals.items (sym c.is_empty.ensures ∙ c.if-not-is_empty.false))
+    c.in_ok-looked.ensures.looked (nil_from_length looked.refusals.items none)
 
 pub returns-then-not-is_empty-clause-halted : goal.returns-then-not-is_empty-clause-halted
 returns-then-not-is_empty-clause-halted g c =
@@ -23,10 +24,11 @@ returns-then-not-is_empty-clause-halted g c =
     let before = c.look_at_cell.new.refusals.items in
     let At : Option Cell → Type 0 = λ cell. IsCellLooked gives c.args.cell.now [] cell before in
     let cell = subst At c.in-Some.is (rw c.new-refusals.ensures.items at c.in_ok-cell.ensures.looked) in
+    let some : 0 < length looked.refusals.items = search rules in
     inl (
       all_refused gives c.args.cell.now (map string_bytes c.args.recipes.now) before c.in-Some.cell looked.recipes.items looked.refusals.items cell
           c.in_ok-looked.ensures.looked,
-      some_told looked.refusals.items (sym c.is_empty.ensures ∙ c.if-not-is_empty.true),
+      λ none. omega (arith, ap length none, some),
     )
 
 pub returns-in_default-clause-halted : goal.returns-in_default-clause-halted

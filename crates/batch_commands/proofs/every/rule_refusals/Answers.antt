@@ -7,7 +7,7 @@ loop-number-preserved-in-Some c =
     let cell = c.args.cell.now in
     let recipes = c.args.recipes.now in
     let refusal = c.in_ok-refusal.refusal in
-    let first = rw c.in-Some.is at (c.in_ok-first_broken.ensures recipes) in
+    let first = rw c.in-Some.is at (c.in_ok-broken.ensures recipes) in
     rules_next cell recipes recipes c.loop-number.number c.index-recipes-number.result c.loop-number.refusals.items (refusal ∷ []) c.push.new.self.items
     c.loop-number-test.true c.index-recipes-number.is c.loop-number.invariant
     (inr (c.in-Some.broken, refusal, first, c.in_ok-refusal.ensures.text, c.in_ok-refusal.ensures.kind, refl)) c.in_ok-push.ensures.items
@@ -16,6 +16,6 @@ pub loop-number-preserved : goal.loop-number-preserved
 loop-number-preserved c =
     let cell = c.args.cell.now in
     let recipes = c.args.recipes.now in
-    let sound = rw c.in-None.is at (c.in_ok-first_broken.ensures recipes) in
+    let sound = rw c.in-None.is at (c.in_ok-broken.ensures recipes) in
     rules_next cell recipes recipes c.loop-number.number c.index-recipes-number.result c.loop-number.refusals.items [] c.loop-number.refusals.items
     c.loop-number-test.true c.index-recipes-number.is c.loop-number.invariant (inl (sound, refl)) (sym (append-nil c.loop-number.refusals.items))
