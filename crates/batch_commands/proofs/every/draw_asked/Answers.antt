@@ -16,10 +16,10 @@ returns-clause-verdict g c =
 pub returns-clause-halted : goal.returns-clause-halted
 returns-clause-halted g c =
     let read = c.in_ok-read.read in
-    judged_looking _ _ _ _ read.cell read.recipes.items (λ h c rs. RefusesDrawing c rs h) c.draw_recipes.result c.in_ok-read.ensures.read
-    (rw c.deref.ensures.value at c.draw_recipes.ensures.refused)
+    rw c.if-not-all.false (judged_looking _ _ _ _ read.cell read.recipes.items (λ h c rs. RefusesDrawing c rs h) c.draw_recipes.result c.in_ok-read.ensures.read
+    (rw c.deref.ensures.value at c.draw_recipes.ensures.refused))
 
 pub returns-in_err-read-clause-halted : goal.returns-in_err-read-clause-halted
 returns-in_err-read-clause-halted g c =
     let p = err_from_is_err_and c.from_residual.result c.from_residual.ensures.1 in
-    rw (p.1, p.2) (inl c.in_err-read.ensures.halted)
+    rw (p.1, p.2, c.if-not-all.false) (inl c.in_err-read.ensures.halted)

@@ -1,4 +1,4 @@
-use Rattle.std.proofs.Common.{◌<◌, List, ℕ, length, map, rules, string_bytes, subst}
+use Rattle.std.proofs.Common.{◌≡◌, ◌<◌, [], List, ℕ, length, map, rules, string_bytes, subst}
 use Rattle.std.proofs.lemmas.Result.{err_from_is_err_and}
 use Rattle.batch_commands.specs.Reading.{IsUnread}
 use Rattle.batch_commands.proofs.Looked.{looks_at_none, looks_next, unread_at}
@@ -13,7 +13,9 @@ loop-path-preserved g c =
     c.in_ok-look_at_recipe.ensures.looked
 
 pub loop-path-init : goal.loop-path-init
-loop-path-init g c = looks_at_none (g.D.Documents.gives c.args.documents.now) c.args.refusals.items
+loop-path-init g c =
+    let none : c.new.result.items ≡ [] = search rules in
+    rw none (looks_at_none (g.D.Documents.gives c.args.documents.now) c.args.refusals.items)
 
 pub returns-in_err-look_at_recipe-clause-halted : goal.returns-in_err-look_at_recipe-clause-halted
 returns-in_err-look_at_recipe-clause-halted g c =

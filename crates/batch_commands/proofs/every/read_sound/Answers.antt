@@ -1,5 +1,6 @@
 use Rattle.std.proofs.Common.{inl}
 use Rattle.std.proofs.lemmas.Result.{err_from_is_err_and}
+use Rattle.batch_commands.specs.Saying.{IsWarned}
 use Rattle.batch_commands.proofs.Looked.{broken_at}
 use Rattle.batch_commands.proofs.Warned.{silent}
 use Rattle.batch_commands.proofs.every.read_sound.Goals as goal
@@ -22,5 +23,5 @@ returns-in_err-keep_rules-clause-halted g c =
     let read = c.in_ok-read.read in
     let (cell_read, recipes_read) = c.in_ok-read.ensures.read in
     let warned = rw c.deref.ensures.value at c.warn.ensures in
-    rw (p.1, p.2) (broken_at _ _ _ _ read.cell read.recipes.items c.in_err-keep_rules.field-0.0
+    rw (p.1, p.2) (broken_at _ (IsWarned c.args.quiet (g.E.Write.contents c.args.errors.now) (g.E.Write.contents c.warn.new.errors)) _ _ read.cell read.recipes.items c.in_err-keep_rules.field-0.0
     (record { cell_read = cell_read; recipes_read = recipes_read; warned = warned }) (rw c.deref-2.ensures.value at c.in_err-keep_rules.ensures.broken))

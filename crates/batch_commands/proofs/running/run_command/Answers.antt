@@ -30,12 +30,12 @@ pub returns-in-Serve : goal.returns-in-Serve
 returns-in-Serve g c = rw c.in-Serve.is (rw c.in-Serve.source-is at c.serve.ensures)
 
 pub returns-in-Remark : goal.returns-in-Remark
-returns-in-Remark g c = rw c.in-Remark.is (rw c.in-Remark.source-is at c.remark.ensures)
+returns-in-Remark g c = rw c.in-Remark.is (rw (c.in-Remark.source-is, c.in-Remark.comments-is) at c.remark.ensures)
 
 pub returns-in-Keep : goal.returns-in-Keep
 returns-in-Keep g c =
     rw c.in-Keep.is
-    (rw (c.deref-in-Keep.ensures, c.deref-in-Keep-2.ensures, c.deref-in-Keep-3.ensures.value, c.in-Keep.cell-is, c.in-Keep.certificate-is, c.in-Keep.recipes-is) at c.keep.ensures)
+    (rw (c.deref-in-Keep.ensures, c.deref-in-Keep-2.ensures, c.deref-in-Keep-3.ensures.value, c.in-Keep.journal-is, c.in-Keep.cell-is, c.in-Keep.certificate-is, c.in-Keep.recipes-is) at c.keep.ensures)
 
 pub returns-in-Status : goal.returns-in-Status
 returns-in-Status g c = rw c.in-Status.is (reads c.in-Status.path refl (Keeps-refl _) (Keeps-refl _))
@@ -44,7 +44,7 @@ pub returns-in-Picture : goal.returns-in-Picture
 returns-in-Picture g c = rw c.in-Picture.is (draws c.in-Picture.path refl (Keeps-refl _) (Keeps-refl _))
 
 pub returns-in-Audit : goal.returns-in-Audit
-returns-in-Audit g c = rw c.in-Audit.is c.audit.ensures
+returns-in-Audit g c = rw c.in-Audit.is (rw c.in-Audit.words-is at c.audit.ensures)
 
 pub returns-in-Plant : goal.returns-in-Plant
 returns-in-Plant g c =
