@@ -2,21 +2,22 @@
 _batchd() {
     local word=${COMP_WORDS[COMP_CWORD]} before=${COMP_WORDS[COMP_CWORD - 1]} options
     if [ "$COMP_CWORD" -eq 1 ]; then
-        mapfile -t COMPREPLY < <(compgen -W "check verify run status plant explain help --help --version" -- "$word")
+        mapfile -t COMPREPLY < <(compgen -W "check verify show run status audit plant explain help --help --version" -- "$word")
         return
     fi
     case ${COMP_WORDS[1]} in
         check) options="--dot --quiet --help" ;;
-        verify | run) options="--quiet --help" ;;
+        verify | show | run) options="--quiet --help" ;;
+        audit) options="--beginning --quiet --help" ;;
         plant) options="--batches --ticks --ring --help" ;;
-        help) options="check verify run status plant explain" ;;
+        help) options="check verify show run status audit plant explain" ;;
         explain) options="--help $("${COMP_WORDS[0]}" explain 2>/dev/null | cut -d : -f 1)" ;;
         *) options="--help" ;;
     esac
     case $before in --batches | --ticks | --ring) return ;; esac
     if [[ $word == -* || ${COMP_WORDS[1]} =~ ^(plant|explain|help)$ ]]; then
         mapfile -t COMPREPLY < <(compgen -W "$options" -- "$word")
-    elif [ "${COMP_WORDS[1]}" = status ]; then
+    elif [[ ${COMP_WORDS[1]} =~ ^(status|audit)$ ]]; then
         mapfile -t COMPREPLY < <(compgen -f -- "$word")
     else
         mapfile -t COMPREPLY < <(compgen -f -X '!*.@(toml|txt)' -- "$word"; compgen -d -S / -- "$word")

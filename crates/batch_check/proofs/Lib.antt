@@ -21,3 +21,4 @@ pub mod Fewest
 pub mod Detours
 pub mod Tight
 pub mod Verdicts
+mod LeftOut

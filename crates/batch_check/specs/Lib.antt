@@ -14,3 +14,4 @@ pub mod Shortest
 pub mod TightRanks
 pub mod Checking
 pub mod Finding
+pub mod Mending

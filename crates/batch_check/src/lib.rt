@@ -12,6 +12,7 @@ mod fault;
 mod graph;
 mod joining;
 mod laws;
+mod mending;
 mod naming;
 mod path;
 mod raising;
@@ -30,3 +31,4 @@ pub use laws::{
     certificates_tell_ranks, circle_leaves_no_ranking, least_ranks_rise_along_paths,
     ranks_are_told_by_name, shortest_circles_take_no_detour, standing_circles_leave_no_clearance,
 };
+pub use mending::rise_without;

@@ -7,3 +7,6 @@ pub mod Outcomes
 pub mod Successes
 mod Fronts
 pub mod NodesTold
+pub mod Warned
+pub mod WarningLines
+pub mod OnCircles

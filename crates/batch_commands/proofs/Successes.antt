@@ -10,8 +10,10 @@ use Rattle.batch_verify.specs.ClearedSet.{ClearedSet}
 use Rattle.batch_commands.specs.Judging.{status_of}
 use Rattle.batch_commands.specs.Reading.{Gives}
 use Rattle.batch_commands.specs.Requests.{Halts, HaltsDemo, IsDemoSet, IsSetOf}
-use Rattle.batch_commands.specs.Running.{AskFor, IsAnnounced, IsDone, IsExplained, IsPrinted, IsRun, IsUnwritten, Stream, ask_quiet, memory_status, success_status, commands, serves, reads, plants, halts, judges, explains, helps, misuses, starves}
+use Rattle.batch_commands.specs.Running.{AskFor, IsAnnounced, IsDone, IsExplained, IsPrinted, IsRun, IsUnwritten, Stream, ask_quiet, memory_status, success_status, commands, serves, reads, audits, plants, halts, judges, explains, helps, misuses, starves}
+use Rattle.batch_commands.specs.Saying.{IsWarned}
 use Rattle.batch_commands.specs.Statuses.{AreCodesTold, IsSuccess, NoCommandServes, ServesClearedSets, SuccessIsTold}
+use Rattle.batch_commands.proofs.Warned.{verdict_more, warned_kept}
 use Rattle.batch_commands.specs.declared.course.Course.{Course}
 use Rattle.batch_commands.specs.declared.course.Course.TheVariants.{Ends, Serves}
 use Rattle.batch_commands.specs.declared.refusal.Halt.{Halt}
@@ -28,8 +30,8 @@ pub same_request : (words : List Text) (a b : Request) → AskFor words a → As
 same_request words a b one other = one.1 ∙ sym other.1
 
 printed_success : (output errors : Stream) (text : List ℕ) (status : ℕ) → IsPrinted output errors text success_status status → status ≡ 0
-    → Appends output.before output.after text
-printed_success output errors text status (inl (appends, _, _)) is = appends
+    → Appends output.before output.after text × IsUnwritten errors
+printed_success output errors text status (inl (appends, silent, _)) is = (appends, silent)
 printed_success output errors text status (inr fault) is = absurd cc
 
 -- what halts ends with another status
@@ -46,25 +48,33 @@ no_success quiet output errors halt.Memory status (_, fault) is = cc
 
 explained_success : (texts : List Text) (output errors : Stream) (status : ℕ) → IsExplained texts output errors status → status ≡ 0 → AreCodesTold texts output
 explained_success texts output errors status (inl (text, tells, printed)) is =
-    (text, tells, printed_success output errors text status printed is)
+    (text, tells, (printed_success output errors text status printed is).0)
 explained_success texts output errors status (inr (_, inl (_, usage))) is = absurd cc
 explained_success texts output errors status (inr (_, inr memory)) is = absurd cc
 
 done_success : (gives : Gives) (request : Request) (quiet : Bool) (output errors : Stream) (course : Course)
-    → IsDone gives request quiet output errors course → course ≡ Ends 0 → IsSuccess gives request output
-done_success gives request quiet output errors _ (judges judgement text status asked told printed) is =
-    rw asked (text, printed_success output errors text status printed cc, told)
+    → IsDone gives request quiet output errors course → course ≡ Ends 0 → IsSuccess gives quiet request output errors
+done_success gives request quiet output errors _ (judges judgement text status warned asked told printed) is =
+    let (appends, silent) = printed_success output (record { before = warned; after = errors.after }) text status printed cc in
+    rw asked (
+      text,
+      appends,
+      verdict_more gives (IsWarned quiet errors.before warned) (IsWarned quiet errors.before errors.after) judgement text
+          (λ lines. warned_kept quiet errors.before warned errors.after lines silent) told,
+    )
 done_success gives request quiet output errors _ (explains texts status asked told) is =
     rw asked (explained_success texts output errors status told cc)
-done_success gives request quiet output errors _ (halts h status _ told) is = absurd (no_success quiet output errors h status told cc)
+done_success gives request quiet output errors _ (halts h status warned _ told) is =
+    absurd (no_success quiet output (record { before = warned; after = errors.after }) h status told cc)
 done_success gives request quiet output errors _ (serves _ _ _ _ _ _) is = absurd cc
 done_success gives request quiet output errors _ (reads _ _ _ _) is = absurd cc
+done_success gives request quiet output errors _ (audits _ _ _ _ _ _) is = absurd cc
 done_success gives request quiet output errors _ (plants _ _ _ _ _ _) is = absurd cc
 
 told_success : (gives : Gives) (words : List Text) (output errors : Stream) (request : Request) (course : Course)
-    → AskFor words request → IsRun gives words output errors course → course ≡ Ends 0 → IsSuccess gives request output
+    → AskFor words request → IsRun gives words output errors course → course ≡ Ends 0 → IsSuccess gives (ask_quiet words) request output errors
 told_success gives words output errors request _ asked (commands other course asked2 came) is =
-    subst (λ r. IsSuccess gives r output) (same_request words other request asked2 asked) (done_success gives other (ask_quiet words) output errors course came is)
+    subst (λ r. IsSuccess gives (ask_quiet words) r output errors) (same_request words other request asked2 asked) (done_success gives other (ask_quiet words) output errors course came is)
 told_success gives words output errors request _ asked (helps text status (kind, among, _) _) is = absurd (no_fault words request kind asked among)
 told_success gives words output errors request _ asked (misuses _ _) is = absurd cc
 told_success gives words output errors request _ asked (starves _) is = absurd cc
@@ -86,10 +96,11 @@ pub done_serving : (gives : Gives) (request : Request) (quiet : Bool) (output er
 done_serving gives request quiet output errors set hushed _ (serves source set2 asked served kept silent) is =
     let same : set2 ≡ set = cc in
     (record { source = source; asked = asked; is_set = rw (← same) served; unwritten = kept; silent = silent }, cc)
-done_serving gives request quiet output errors set hushed _ (judges _ _ _ _ _ _) is = absurd cc
+done_serving gives request quiet output errors set hushed _ (judges _ _ _ _ _ _ _) is = absurd cc
 done_serving gives request quiet output errors set hushed _ (explains _ _ _ _) is = absurd cc
-done_serving gives request quiet output errors set hushed _ (halts _ _ _ _) is = absurd cc
+done_serving gives request quiet output errors set hushed _ (halts _ _ _ _ _) is = absurd cc
 done_serving gives request quiet output errors set hushed _ (reads _ _ _ _) is = absurd cc
+done_serving gives request quiet output errors set hushed _ (audits _ _ _ _ _ _) is = absurd cc
 done_serving gives request quiet output errors set hushed _ (plants _ _ _ _ _ _) is = absurd cc
 
 served_set : (gives : Gives) (words : List Text) (output errors : Stream) (request : Request) (set : ClearedSet) (quiet : Bool) (course : Course)
@@ -111,10 +122,12 @@ demo_done : (gives : Gives) (request : Request) (quiet : Bool) (output errors : 
 demo_done gives request quiet output errors _ demo_asked (serves source set asked served _ _) =
     let same : source ≡ demo = cc in
     inl (set, subst (λ s. IsSetOf gives s set) same served, refl)
-demo_done gives request quiet output errors _ demo_asked (halts h status halted _) = inr (inl (h, subst (λ r. Halts gives r h) demo_asked halted))
-demo_done gives request quiet output errors _ demo_asked (judges _ _ _ asked _ _) = absurd cc
+demo_done gives request quiet output errors _ demo_asked (halts h status warned halted _) =
+    inr (inl (h, (subst (λ r. Halts gives (IsWarned quiet errors.before warned) r h) demo_asked halted).0))
+demo_done gives request quiet output errors _ demo_asked (judges _ _ _ _ asked _ _) = absurd cc
 demo_done gives request quiet output errors _ demo_asked (explains _ _ asked _) = absurd cc
 demo_done gives request quiet output errors _ demo_asked (reads _ asked _ _) = absurd cc
+demo_done gives request quiet output errors _ demo_asked (audits _ _ asked _ _ _) = absurd cc
 demo_done gives request quiet output errors _ demo_asked (plants _ _ asked _ _ _) = absurd cc
 
 pub no_command_serves : (gives : Gives) → NoCommandServes gives

@@ -5,7 +5,8 @@ use Rattle.batch_recipe.specs.declared.recipe.Recipe.{Recipe}
 use Rattle.batch_verify.specs.CertificateText.{Rank}
 use Rattle.batch_commands.specs.Drawing.{RefusesDrawing}
 use Rattle.batch_commands.specs.Judging.{RefusesCell, RefusesCertificate, RefusesCheck, RefusesRecipe, RefusesSet}
-use Rattle.batch_commands.specs.Reading.{AreRead, Gives, IsSoOf, IsUnread, ReadsCell, ReadsCertificate, ReadsRecipe}
+use Rattle.batch_commands.specs.Reading.{AreRead, Gives, IsSoWarned, IsUnread, ReadsCell, ReadsCertificate, ReadsRecipe, Warns}
+use Rattle.batch_commands.specs.WarningTexts.{warnings_text}
 use Rattle.batch_commands.specs.declared.refusal.Halt.{Halt}
 use Rattle.batch_commands.specs.declared.refusal.Halt.TheVariants.{Memory}
 
@@ -29,13 +30,17 @@ HaltsAtRecipes gives (path ∷ paths) h = HaltsAtRecipe gives path h ⊎ ((r : R
 abbrev pub HaltsAtDocuments : Gives → List ℕ → List (List ℕ) → Halt → Type 0
 HaltsAtDocuments gives cell recipes h = HaltsAtCell gives cell h ⊎ ((c : Cell) × ReadsCell gives cell c × HaltsAtRecipes gives recipes h)
 
--- one of them does, or all are read and the recipes can't be cleared
-abbrev pub HaltsCheck : Gives → List ℕ → List (List ℕ) → Halt → Type 0
-HaltsCheck gives cell recipes h = HaltsAtDocuments gives cell recipes h ⊎ IsSoOf gives cell recipes (λ c rs. RefusesCheck c rs h)
+-- one of them does, with no word of warning, or all are read, it is warned, and this is so of them
+abbrev pub HaltsOver : Gives → Warns → List ℕ → List (List ℕ) → (Cell → List Recipe → Type 0) → Halt → Type 0
+HaltsOver gives warns cell recipes is_so h = (HaltsAtDocuments gives cell recipes h × warns []) ⊎ IsSoWarned gives warns cell recipes is_so
+
+-- the recipes can't be cleared
+abbrev pub HaltsCheck : Gives → Warns → List ℕ → List (List ℕ) → Halt → Type 0
+HaltsCheck gives warns cell recipes h = HaltsOver gives warns cell recipes (λ c rs. RefusesCheck c rs h) h
 
 -- the same with a drawing
-abbrev pub HaltsDrawing : Gives → List ℕ → List (List ℕ) → Halt → Type 0
-HaltsDrawing gives cell recipes h = HaltsAtDocuments gives cell recipes h ⊎ IsSoOf gives cell recipes (λ c rs. RefusesDrawing c rs h)
+abbrev pub HaltsDrawing : Gives → Warns → List ℕ → List (List ℕ) → Halt → Type 0
+HaltsDrawing gives warns cell recipes h = HaltsOver gives warns cell recipes (λ c rs. RefusesDrawing c rs h) h
 
 -- the first document of a set that can't be read or is refused
 abbrev pub HaltsReading : Gives → List ℕ → List ℕ → List (List ℕ) → Halt → Type 0
@@ -49,3 +54,10 @@ abbrev pub HaltsClearing : Gives → List ℕ → List ℕ → List (List ℕ) �
 HaltsClearing gives cell certificate paths h =
     HaltsReading gives cell certificate paths h
     ⊎ ((c : Cell) × (ranks : List Rank) × (rs : List Recipe) × AreRead gives cell certificate paths c ranks rs × RefusesSet c rs ranks h)
+
+-- the same of `verify`, which warns of documents that are all read
+abbrev pub HaltsVerifying : Gives → Warns → List ℕ → List ℕ → List (List ℕ) → Halt → Type 0
+HaltsVerifying gives warns cell certificate paths h =
+    (HaltsReading gives cell certificate paths h × warns [])
+    ⊎ ((c : Cell) × (ranks : List Rank) × (rs : List Recipe) × AreRead gives cell certificate paths c ranks rs
+    × warns (warnings_text cell c paths rs) × RefusesSet c rs ranks h)

@@ -1,4 +1,5 @@
 pub mod VerdictTexts
+pub mod WarningTexts
 pub mod Judging
 pub mod Bytes
 pub mod Reading
@@ -10,3 +11,4 @@ pub mod Requests
 pub mod GraphTexts
 pub mod Drawing
 pub mod Saying
+pub mod Reached

@@ -4,17 +4,23 @@ use Rattle.batch_cell.specs.declared.cell.Cell.{Cell}
 use Rattle.batch_recipe.specs.declared.recipe.Recipe.{Recipe}
 use Rattle.batch_reader.specs.CellDocument.{IsCellDocument}
 use Rattle.batch_reader.specs.RecipeDocument.{IsRecipeDocument}
+use Rattle.batch_outline.specs.Showing.{shown}
 use Rattle.batch_verify.specs.CertificateText.{Rank, IsCertificateText}
 use Rattle.batch_verify.specs.ClearedSet.{ClearedSet}
 use Rattle.batch_commands.specs.Drawing.{IsDrawn}
 use Rattle.batch_commands.specs.Judging.{IsChecked, IsClearedBy}
 use Rattle.batch_commands.specs.VerdictTexts.{accepted_text}
+use Rattle.batch_commands.specs.WarningTexts.{warnings_text}
 use Rattle.batch_commands.specs.declared.refusal.Halt.{Halt}
 use Rattle.batch_commands.specs.declared.refusal.Halt.TheVariants.{Refused, Unread, Memory}
 
 -- what reading a path may give: these bytes, or at None that nothing can be read there
 abbrev pub Gives : Type 1
 Gives = List ℕ → Option (List ℕ) → Type 0
+
+-- what was said of a text of warnings
+abbrev pub Warns : Type 1
+Warns = List ℕ → Type 0
 
 -- nothing was judged: nothing can be read at the path, or there was no memory
 abbrev pub IsUnread : Gives → List ℕ → Halt → Type 0
@@ -45,13 +51,27 @@ pub record IsSoOf (gives : Gives) (cell : List ℕ) (paths : List (List ℕ)) (i
   pub recipes_read : ReadsRecipes gives paths recipes
   pub judged : is_so equipment recipes
 
+-- they are this cell and these recipes, and it was warned of what of them can hardly be meant so
+pub record AreReadWarned (gives : Gives) (warns : Warns) (cell : List ℕ) (paths : List (List ℕ)) (equipment : Cell) (recipes : List Recipe) : Type 0 where
+  pub cell_read : ReadsCell gives cell equipment
+  pub recipes_read : ReadsRecipes gives paths recipes
+  pub warned : warns (warnings_text cell equipment paths recipes)
+
+-- it is so of them, and it was warned of what of them can hardly be meant so
+abbrev pub IsSoWarned : Gives → Warns → List ℕ → List (List ℕ) → (Cell → List Recipe → Type 0) → Type 0
+IsSoWarned gives warns cell paths is_so = IsSoOf gives cell paths (λ c rs. warns (warnings_text cell c paths rs) × is_so c rs)
+
 -- what `check` prints of the documents at these paths
-abbrev pub ChecksDocuments : Gives → List ℕ → List (List ℕ) → List ℕ → Type 0
-ChecksDocuments gives cell paths text = IsSoOf gives cell paths (λ c rs. IsChecked c rs text)
+abbrev pub ChecksDocuments : Gives → Warns → List ℕ → List (List ℕ) → List ℕ → Type 0
+ChecksDocuments gives warns cell paths text = IsSoWarned gives warns cell paths (λ c rs. IsChecked c rs text)
 
 -- what `check --dot` prints of them
-abbrev pub DrawsDocuments : Gives → List ℕ → List (List ℕ) → List ℕ → Type 0
-DrawsDocuments gives cell paths text = IsSoOf gives cell paths (λ c rs. IsDrawn c rs text)
+abbrev pub DrawsDocuments : Gives → Warns → List ℕ → List (List ℕ) → List ℕ → Type 0
+DrawsDocuments gives warns cell paths text = IsSoWarned gives warns cell paths (λ c rs. IsDrawn c rs text)
+
+-- what `show` prints of them: the nodes of the recipes' expanded trees, whether they can be cleared or not
+abbrev pub ShowsDocuments : Gives → List ℕ → List (List ℕ) → List ℕ → Type 0
+ShowsDocuments gives cell paths text = IsSoOf gives cell paths (λ c rs. text ≡ shown rs)
 
 -- the documents at these paths are the cell, a certificate of these ranks, and the recipes
 pub record AreRead (gives : Gives) (cell certificate : List ℕ) (paths : List (List ℕ)) (equipment : Cell) (ranks : List Rank) (recipes : List Recipe) : Type 0 where
@@ -65,6 +85,8 @@ pub record AreCleared (gives : Gives) (cell certificate : List ℕ) (paths : Lis
   pub read : AreRead gives cell certificate paths set.cell ranks set.recipes
   pub cleared : IsClearedBy set.cell set.recipes ranks
 
--- what `verify` prints of them: it accepts the set that they make
-abbrev pub VerifiesDocuments : Gives → List ℕ → List ℕ → List (List ℕ) → List ℕ → Type 0
-VerifiesDocuments gives cell certificate paths text = (text ≡ accepted_text) × ((set : ClearedSet) × AreCleared gives cell certificate paths set)
+-- what `verify` prints of them: it accepts the set that they make, once it has warned of it
+abbrev pub VerifiesDocuments : Gives → Warns → List ℕ → List ℕ → List (List ℕ) → List ℕ → Type 0
+VerifiesDocuments gives warns cell certificate paths text =
+    (text ≡ accepted_text)
+    × ((set : ClearedSet) × AreCleared gives cell certificate paths set × warns (warnings_text cell set.cell paths set.recipes))

@@ -3,9 +3,12 @@ use Rattle.std.specs.Prelude.{◌≡◌, ◌++◌, ℕ, Bool, true, false, List,
 use Rattle.std.specs.Io.KnownBytes.{Appends, Keeps}
 use Rattle.batch_sentences.specs.declared.sentence.Sentence.{Sentence}
 
--- the sentence in a line of its own, behind the program's name
+-- the text in a line of its own, behind the program's name
+abbrev pub told_line : List ℕ → List ℕ
+told_line text = codes "batchd: " ++ (text ++ codes "\n")
+
 abbrev pub line_of : Sentence → List ℕ
-line_of sentence = codes "batchd: " ++ (string_bytes sentence.text ++ codes "\n")
+line_of sentence = told_line (string_bytes sentence.text)
 
 -- the text was written, or a front of it, where the rest can't be written
 pub record WritesFront (before after : Option (List ℕ)) (text : List ℕ) : Type 0 where
@@ -18,3 +21,8 @@ pub record WritesFront (before after : Option (List ℕ)) (text : List ℕ) : Ty
 abbrev pub IsSaid : Bool → Sentence → Option (List ℕ) → Option (List ℕ) → Type 0
 IsSaid true sentence before after = Keeps before after
 IsSaid false sentence before after = WritesFront before after (line_of sentence)
+
+-- what is said of this text, the lines of warnings: nothing where the words ask for quiet
+abbrev pub IsWarned : Bool → Option (List ℕ) → Option (List ℕ) → List ℕ → Type 0
+IsWarned true before after text = Keeps before after
+IsWarned false before after text = WritesFront before after text

@@ -3,10 +3,11 @@ use Rattle.std.specs.Prelude.{◌≡◌, ◌⊎◌, ℕ, Bool, List}
 use Rattle.std.specs.Io.KnownBytes.{Appends}
 use Rattle.clap.specs.Walk.{Text}
 use Rattle.batch_verify.specs.ClearedSet.{ClearedSet}
-use Rattle.batch_words.specs.CommandLine.{Request, Source, demo, explain, judge, plant, serve, tell}
+use Rattle.batch_words.specs.CommandLine.{Request, Source, audit, demo, explain, judge, plant, serve, tell}
 use Rattle.batch_commands.specs.Reading.{Gives}
 use Rattle.batch_commands.specs.Requests.{HaltsDemo, IsDemoSet, IsSetOf, IsVerdict}
 use Rattle.batch_commands.specs.Running.{AskFor, IsRun, Stream, ask_quiet, memory_status}
+use Rattle.batch_commands.specs.Saying.{IsWarned}
 use Rattle.batch_explain.specs.Explaining.{Tells}
 use Rattle.batch_commands.specs.declared.course.Course.{Course}
 use Rattle.batch_commands.specs.declared.course.Course.TheVariants.{Ends, Serves}
@@ -16,20 +17,23 @@ use Rattle.batch_commands.specs.declared.refusal.Halt.{Halt}
 abbrev pub AreCodesTold : List Text → Stream → Type 0
 AreCodesTold texts output = (text : List ℕ) × Tells texts text × Appends output.before output.after text
 
--- `check` wrote the certificate with the least ranks, or the drawing of recipes that can be cleared; `verify` wrote that it accepts
--- the set of the documents, which their certificate clears. Nothing else ends so before it has served
-abbrev pub IsSuccess : Gives → Request → Stream → Type 0
-IsSuccess gives (judge judgement) output = (text : List ℕ) × Appends output.before output.after text × IsVerdict gives judgement text
-IsSuccess gives (serve source) output = ⊥
-IsSuccess gives (tell path) output = ⊥
-IsSuccess gives (plant batches ticks ring) output = ⊥
-IsSuccess gives (explain texts) output = AreCodesTold texts output
+-- `check` wrote the certificate with the least ranks, or the drawing of recipes that can be cleared; `show` wrote the recipes' nodes; `verify` wrote that it accepts
+-- the set of the documents, which their certificate clears; on the errors both wrote their warnings alone. Nothing else ends so
+-- before it has served
+abbrev pub IsSuccess : Gives → Bool → Request → Stream → Stream → Type 0
+IsSuccess gives quiet (judge judgement) output errors =
+    (text : List ℕ) × Appends output.before output.after text × IsVerdict gives (IsWarned quiet errors.before errors.after) judgement text
+IsSuccess gives quiet (audit beginning path source) output errors = ⊥
+IsSuccess gives quiet (serve source) output errors = ⊥
+IsSuccess gives quiet (tell path) output errors = ⊥
+IsSuccess gives quiet (plant batches ticks ring) output errors = ⊥
+IsSuccess gives quiet (explain texts) output errors = AreCodesTold texts output
 
 -- a command that ends with status 0 was a success
 abbrev pub SuccessIsTold : Gives → Type 0
 SuccessIsTold gives =
     (words : List Text) (output errors : Stream) (request : Request)
-    → AskFor words request → IsRun gives words output errors (Ends 0) → IsSuccess gives request output
+    → AskFor words request → IsRun gives words output errors (Ends 0) → IsSuccess gives (ask_quiet words) request output errors
 
 -- a set is served only where the words ask for it, and it is that of the documents, cleared by their certificate
 abbrev pub ServesClearedSets : Gives → Type 0

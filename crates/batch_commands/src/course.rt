@@ -1,6 +1,6 @@
 //! What the words of the program come to.
 use batch_verify::Cleared;
-use batch_words::PlantOptions;
+use batch_words::{AuditWords, PlantOptions};
 
 /// What the words of the program come to.
 #[derive(Drop)]
@@ -11,6 +11,8 @@ pub enum Course {
     Serves { set: Cleared, quiet: bool },
     /// The program is to tell what a record says: the one at this path, or the one on its input.
     Reads { path: Option<String> },
+    /// The program is to compare the record that the words name with what event lines come to over this set.
+    Audits { set: Cleared, audit: AuditWords },
     /// The program is to run the plant of this set, which is that of the demo.
     Plants { set: Cleared, options: PlantOptions },
 }

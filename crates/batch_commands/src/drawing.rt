@@ -7,14 +7,22 @@ ghost use Rattle.batch_commands.specs.Drawing.{IsDrawingOf, IsDrawn, IsFaultDraw
 
 use crate::judging::fault_halt;
 use crate::refusal::Halt;
+use crate::rings::red_edges;
 use crate::texts::{fault_text, graph_text};
 use batch_cell::Cell;
 use batch_check::{CheckFault, Edge, check, graph_of};
 use batch_recipe::Recipe;
+use batch_sentences::Source;
 use std::alloc::{AllocError, Global};
 
-/// What `check --dot` prints of the recipes: in place of a certificate, or of a circle, the graph of the edges, for Graphviz.
-pub fn draw_recipes(alloc: Global, cell: &Cell, recipes: &[Recipe]) -> Result<String, Halt>
+/// What `check --dot` prints of the recipes: in place of a certificate, or of a circle, the graph of the edges, for Graphviz. Of
+/// the sources only the sentence of a refusal speaks.
+pub fn draw_recipes(
+    alloc: Global,
+    cell: &Cell,
+    recipes: &[Recipe],
+    sources: &[Source],
+) -> Result<String, Halt>
     ensures drawn { IfOk result (λ text. IsDrawn cell.now recipes.now (string_bytes text)) }
     ensures refused { IfErr result (RefusesDrawing cell.now recipes.now) }
 {
@@ -22,7 +30,7 @@ pub fn draw_recipes(alloc: Global, cell: &Cell, recipes: &[Recipe]) -> Result<St
         Ok(_) => Ok(drawing(alloc, cell, recipes, &[])?),
         Err(fault) => {
             let text = fault_drawing(alloc, cell, recipes, &fault)?;
-            Err(fault_halt(alloc, cell, recipes, Ok(text), &fault))
+            Err(fault_halt(alloc, cell, recipes, sources, Ok(text), &fault))
         }
     }
 }
@@ -45,7 +53,8 @@ fn fault_drawing(
     }
 }
 
-/// The graph of the recipes with the circle marked in it, which is one that stands in them, or has no edge.
+/// The graph of the recipes, in which each edge that is on a circle is red. The circle that is told is one that stands in them, or
+/// has no edge.
 fn drawing(
     alloc: Global,
     cell: &Cell,
@@ -56,7 +65,10 @@ fn drawing(
     ensures { IfOk result (λ text. IsDrawingOf cell.now recipes.now circle.now (string_bytes text)) }
 {
     match graph_of(alloc, cell, recipes, circle) {
-        Ok(edges) => graph_text(alloc, cell, recipes, &edges, circle),
+        Ok(edges) => {
+            let red = red_edges(alloc, cell.resources(), &edges, circle)?;
+            graph_text(alloc, cell, recipes, &edges, &red)
+        }
         // `check` found the recipes to be a set, so that memory alone can be wanting.
         Err(_) => Err(AllocError),
     }

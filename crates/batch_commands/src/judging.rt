@@ -15,7 +15,8 @@ use batch_check::{CheckFault, check};
 use batch_reader::{DocFault, read_cell, read_recipe};
 use batch_recipe::Recipe;
 use batch_sentences::{
-    Asked, Sentence, certificate_sentence, document_sentence, fault_sentence, refusal_sentence,
+    Asked, Sentence, Source, certificate_sentence, document_sentence, fault_sentence,
+    refusal_sentence,
 };
 use batch_verify::{
     CertFault, Certificate, Cleared, Rejected, SetRefusal, read_certificate, verify,
@@ -111,8 +112,14 @@ fn certificate_halt(alloc: Global, path: &str, bytes: &[u8], fault: CertFault) -
     refused(text, kind, sentence)
 }
 
-/// What `check` prints of the recipes: their least ranks, or why there are none.
-pub fn check_recipes(alloc: Global, cell: &Cell, recipes: &[Recipe]) -> Result<String, Halt>
+/// What `check` prints of the recipes: their least ranks, or why there are none. Of the sources only the sentence of a refusal
+/// speaks.
+pub fn check_recipes(
+    alloc: Global,
+    cell: &Cell,
+    recipes: &[Recipe],
+    sources: &[Source],
+) -> Result<String, Halt>
     ensures checked { IfOk result (λ text. IsChecked cell.now recipes.now (string_bytes text)) }
     ensures refused { IfErr result (RefusesCheck cell.now recipes.now) }
 {
@@ -120,7 +127,7 @@ pub fn check_recipes(alloc: Global, cell: &Cell, recipes: &[Recipe]) -> Result<S
         Ok(certificate) => Ok(certificate_text(alloc, &certificate)?),
         Err(fault) => {
             let text = fault_text(alloc, cell, recipes, &fault);
-            Err(fault_halt(alloc, cell, recipes, text, &fault))
+            Err(fault_halt(alloc, cell, recipes, sources, text, &fault))
         }
     }
 }
@@ -130,6 +137,7 @@ pub(crate) fn fault_halt(
     alloc: Global,
     cell: &Cell,
     recipes: &[Recipe],
+    sources: &[Source],
     text: Result<String, AllocError>,
     fault: &CheckFault,
 ) -> Halt
@@ -139,7 +147,7 @@ pub(crate) fn fault_halt(
         CheckFault::Memory => RefusalKind::OutOfMemory,
         _ => RefusalKind::Fault,
     };
-    let sentence = fault_sentence(alloc, cell, recipes, fault);
+    let sentence = fault_sentence(alloc, cell, recipes, sources, fault);
     refused(text, kind, sentence)
 }
 
@@ -151,6 +159,7 @@ pub fn clear_recipes(
     alloc: Global,
     cell: Cell,
     recipes: Vec<Recipe>,
+    sources: &[Source],
     certificate: &Certificate,
 ) -> Result<Cleared, Halt>
     ensures set { IfOk result (λ cleared. (cleared.cell ≡ cell) × (cleared.recipes ≡ recipes.items)) }
@@ -159,18 +168,23 @@ pub fn clear_recipes(
 {
     match verify(alloc, cell, recipes, certificate) {
         Ok(cleared) => Ok(cleared),
-        Err(rejected) => Err(set_halt(alloc, certificate, &rejected)),
+        Err(rejected) => Err(set_halt(alloc, sources, certificate, &rejected)),
     }
 }
 
-fn set_halt(alloc: Global, certificate: &Certificate, rejected: &Rejected) -> Halt
+fn set_halt(
+    alloc: Global,
+    sources: &[Source],
+    certificate: &Certificate,
+    rejected: &Rejected,
+) -> Halt
     ensures { HaltsWith (refusal_text rejected.now.cell rejected.now.recipes.items certificate.now.ranks.items rejected.now.fault)
         (set_kind rejected.now.fault) result }
 {
     let kind = set_kind(rejected.fault);
     let (cell, recipes) = (&rejected.cell, &rejected.recipes);
     let text = refusal_text(alloc, cell, recipes, certificate, rejected.fault);
-    let sentence = refusal_sentence(alloc, cell, recipes, certificate, rejected.fault);
+    let sentence = refusal_sentence(alloc, cell, recipes, sources, certificate, rejected.fault);
     refused(text, kind, sentence)
 }
 

@@ -11,13 +11,15 @@ mod laws;
 mod limits;
 mod reading;
 mod refusal;
+mod rings;
 mod running;
 mod saying;
 mod texts;
+mod warnings;
 
 pub use course::Course;
 pub use documents::{
-    Documents, check_documents, clear_documents, draw_documents, verify_documents,
+    Documents, check_documents, clear_documents, draw_documents, show_documents, verify_documents,
 };
 pub use drawing::draw_recipes;
 pub use files::FilesOf;

@@ -4,11 +4,12 @@ ghost use Rattle.batch_words.specs.CommandLine.{judgement_of, request_of, source
 ghost use Rattle.std.specs.Io.KnownBytes.{Appends};
 ghost use Rattle.batch_commands.specs.Requests.{HaltsDemo, HaltsJudgement, HaltsSource, IsDemoSet, IsSetOf, IsVerdict};
 ghost use Rattle.batch_commands.specs.Running.{IsAnnounced, IsDone, IsExplained, IsPrinted, IsRefused, IsRun, fault_status};
+ghost use Rattle.batch_commands.specs.Saying.{IsWarned};
 
 use crate::course::Course;
 use crate::demo::{CELL_PATH, CERTIFICATE_PATH, Demo, RECIPE_PATH};
 use crate::documents::{
-    Documents, check_documents, clear_documents, draw_documents, verify_documents,
+    Documents, check_documents, clear_documents, draw_documents, show_documents, verify_documents,
 };
 use crate::refusal::{DocumentRefusal, Halt};
 use crate::saying::say;
@@ -45,8 +46,8 @@ const UNKNOWN_CODE: &str =
 #[error("the output can't be written: {0}")]
 struct FailedWrite(io::Error);
 
-/// Does what the words ask for: judges documents and tells the verdict, clears the set that is to be served, or names the record
-/// that is to be read.
+/// Does what the words ask for: judges documents and tells the verdict, clears the set that is to be served or over which a record is
+/// to be audited, or names the record that is to be read.
 ///
 /// Verdicts, explanations and help go to the output, and all else to the errors: what a refusal means, in one line, unless the
 /// words ask for quiet, and what failed, in a free text. Where that can't be written the exit status is the same. Without words
@@ -83,7 +84,7 @@ fn run_command<D: Documents, O: Write, E: Write>(
 {
     let quiet = words.quiet;
     match words.command {
-        Subcommand::Judge(judgement) => match judge(alloc, documents, &judgement) {
+        Subcommand::Judge(judgement) => match judge(alloc, documents, &judgement, quiet, errors) {
             Ok(text) => Course::Ends(print(output, errors, &text, SUCCESS)),
             Err(halt) => Course::Ends(announce(alloc, quiet, &halt, output, errors)),
         },
@@ -92,6 +93,10 @@ fn run_command<D: Documents, O: Write, E: Write>(
             Err(halt) => Course::Ends(announce(alloc, quiet, &halt, output, errors)),
         },
         Subcommand::Status { path } => Course::Reads { path },
+        Subcommand::Audit(audit) => match clear_source(alloc, documents, &audit.source) {
+            Ok(set) => Course::Audits { set, audit },
+            Err(halt) => Course::Ends(announce(alloc, quiet, &halt, output, errors)),
+        },
         Subcommand::Plant(options) => match clear_demo(alloc) {
             Ok(set) => Course::Plants { set, options },
             Err(halt) => Course::Ends(announce(alloc, quiet, &halt, output, errors)),
@@ -100,23 +105,36 @@ fn run_command<D: Documents, O: Write, E: Write>(
     }
 }
 
-/// What a judgement prints.
-fn judge<D: Documents>(alloc: Global, documents: &D, judgement: &Judgement) -> Result<String, Halt>
-    ensures verdict { IfOk result (λ text. IsVerdict (D.gives documents.now) (judgement_of judgement.now) (string_bytes text)) }
-    ensures halted { IfErr result (HaltsJudgement (D.gives documents.now) (judgement_of judgement.now)) }
+/// What a judgement prints. It warns of its documents unless quiet is asked for.
+fn judge<D: Documents, E: Write>(
+    alloc: Global,
+    documents: &D,
+    judgement: &Judgement,
+    quiet: bool,
+    errors: &mut E,
+) -> Result<String, Halt>
+    ensures verdict { IfOk result (λ text. IsVerdict (D.gives documents.now) (IsWarned quiet (E.contents errors.old) (E.contents errors.new))
+        (judgement_of judgement.now) (string_bytes text)) }
+    ensures halted { IfErr result (HaltsJudgement (D.gives documents.now) (IsWarned quiet (E.contents errors.old) (E.contents errors.new))
+        (judgement_of judgement.now)) }
 {
     match judgement {
-        Judgement::Check { cell, recipes } => check_documents(alloc, documents, cell, recipes),
-        Judgement::Draw { cell, recipes } => draw_documents(alloc, documents, cell, recipes),
+        Judgement::Check { cell, recipes } => {
+            check_documents(alloc, documents, cell, recipes, quiet, errors)
+        }
+        Judgement::Draw { cell, recipes } => {
+            draw_documents(alloc, documents, cell, recipes, quiet, errors)
+        }
         Judgement::Verify {
             cell,
             certificate,
             recipes,
-        } => verify_documents(alloc, documents, cell, certificate, recipes),
+        } => verify_documents(alloc, documents, cell, certificate, recipes, quiet, errors),
+        Judgement::Show { cell, recipes } => show_documents(alloc, documents, cell, recipes),
     }
 }
 
-/// The set that is to be served.
+/// The set that is to be served, or over which a record is to be audited.
 fn clear_source<D: Documents>(
     alloc: Global,
     documents: &D,

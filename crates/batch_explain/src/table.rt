@@ -5,7 +5,7 @@ ghost use Rattle.batch_explain.specs.Explaining.{refusal_codes};
 use crate::explanation::Explanation;
 
 /// The explanations of all codes of refusals, in order of letter and number.
-pub fn explanations() -> [Explanation; 46]
+pub fn explanations() -> [Explanation; 48]
     ensures { map (λ explanation. explanation.code.now) result ≡ refusal_codes }
 {
     // By a reference, so that the proof holds one place and not each of its texts.
@@ -13,7 +13,17 @@ pub fn explanations() -> [Explanation; 46]
     *table
 }
 
-static EXPLANATIONS: [Explanation; 46] = [
+static EXPLANATIONS: [Explanation; 48] = [
+    Explanation {
+        code: "A1",
+        meaning: "the line with this number is the first of the record that differs from what the lines that were sent come to",
+        remedy: "look at that line, which may have been left out, doubled, moved or changed; or give the lines, the documents and the certificate of this record",
+    },
+    Explanation {
+        code: "A2",
+        meaning: "the record ends before the line with this number, or in the midst of it",
+        remedy: "give the record whole; `batchd audit --beginning` accepts one that ends so",
+    },
     Explanation {
         code: "C1",
         meaning: "the recipes can bring batches into a circle of waiting",

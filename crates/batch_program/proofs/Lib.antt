@@ -1,3 +1,4 @@
 pub mod Served
 pub mod Plants
+pub mod RecordsAudited
 pub mod RecordsTold

@@ -10,7 +10,8 @@ use Rattle.batch_engine.specs.View.{setup}
 use Rattle.batch_wire.specs.Transcript.{lines_of, whole_lines}
 use Rattle.batch_wire.specs.Written.{AppendsBeginning}
 use Rattle.batch_serve.specs.Safe.{BeginsSafely, WritesSafely, WritesWholeSafely}
-use Rattle.batch_words.specs.CommandLine.{Request, Source, plant, serve, tell}
+use Rattle.batch_words.specs.CommandLine.{Request, Source, audit, plant, serve, source_of, tell}
+use Rattle.batch_words.specs.declared.command.AuditWords.{AuditWords}
 use Rattle.batch_words.specs.declared.plant_options.PlantOptions.{PlantOptions}
 use Rattle.batch_commands.specs.Reading.{Gives}
 use Rattle.batch_commands.specs.Requests.{IsDemoSet, IsSetOf}
@@ -32,9 +33,13 @@ use Rattle.batch_serve.specs.declared.fault.ServeFault.TheVariants.{Read, Write,
 use Rattle.batch_serve.specs.declared.fault.SetFault.{SetFault}
 use Rattle.batch_serve.specs.declared.fault.SetFault.TheVariants.{Memory, Stopped}
 use Rattle.batch_program.specs.declared.program.TheConstants.{MAX_READS}
-use Rattle.batch_program.specs.Programs.{IsLeftTold, IsProgramRun, PlantsAreComplete, ServingIsSafe, tells, serves, reads, plants, status_of_serving}
+use Rattle.batch_program.specs.Programs.{IsLeftTold, IsProgramRun, PlantsAreComplete, ServingIsSafe, tells, serves, reads, audits, plants, status_of_serving}
 use Rattle.batch_plant.specs.declared.plant_fault.PlantFault.{PlantFault}
 use Rattle.batch_plant.specs.declared.plant_fault.PlantFault.TheVariants as plant_fault
+use Rattle.batch_audit.specs.declared.finding.Finding.{Finding}
+use Rattle.batch_audit.specs.declared.finding.Finding.TheVariants.{Agrees, Differs, EndsBefore}
+use Rattle.batch_program.specs.AuditRuns as auditing
+use Rattle.batch_program.specs.AuditRuns.{IsAuditTold, finding_status, finding_text}
 use Rattle.batch_program.specs.PlantRuns.{HasRun, IsPlantTold, plant_text, refused_status}
 use Rattle.batch_program.specs.RecordRuns.{Holds, IsRecordTold, IsStatusTold, IsUntold, prints, refuses, stops, no_record_text, output_of}
 
@@ -146,8 +151,9 @@ done_to_plant gives request quiet output errors _ set options (running.plants ot
     (subst (λ (o : PlantOptions). request ≡ plant o.batches o.ticks o.ring) chosen asked, subst IsDemoSet same cleared, kept, silent)
 done_to_plant gives request quiet output errors _ set options (running.serves _ _ _ _ _ _) is = absurd cc
 done_to_plant gives request quiet output errors _ set options (running.reads _ _ _ _) is = absurd cc
-done_to_plant gives request quiet output errors _ set options (running.halts _ _ _ _) is = absurd cc
-done_to_plant gives request quiet output errors _ set options (running.judges _ _ _ _ _ _) is = absurd cc
+done_to_plant gives request quiet output errors _ set options (running.audits _ _ _ _ _ _) is = absurd cc
+done_to_plant gives request quiet output errors _ set options (running.halts _ _ _ _ _) is = absurd cc
+done_to_plant gives request quiet output errors _ set options (running.judges _ _ _ _ _ _ _) is = absurd cc
 done_to_plant gives request quiet output errors _ set options (running.explains _ _ _ _) is = absurd cc
 
 -- the plant that is to be run is the demo's, with the options that the words have, and nothing was written
@@ -195,8 +201,9 @@ done_to_read gives request quiet output errors _ path (running.reads other asked
     (subst (λ (p : Option (String Global)). request ≡ tell (option_map string_bytes p)) same asked, kept, silent)
 done_to_read gives request quiet output errors _ path (running.serves _ _ _ _ _ _) is = absurd cc
 done_to_read gives request quiet output errors _ path (running.plants _ _ _ _ _ _) is = absurd cc
-done_to_read gives request quiet output errors _ path (running.halts _ _ _ _) is = absurd cc
-done_to_read gives request quiet output errors _ path (running.judges _ _ _ _ _ _) is = absurd cc
+done_to_read gives request quiet output errors _ path (running.audits _ _ _ _ _ _) is = absurd cc
+done_to_read gives request quiet output errors _ path (running.halts _ _ _ _ _) is = absurd cc
+done_to_read gives request quiet output errors _ path (running.judges _ _ _ _ _ _ _) is = absurd cc
 done_to_read gives request quiet output errors _ path (running.explains _ _ _ _) is = absurd cc
 
 -- the record that is to be read is the one that the words name, and nothing was written
@@ -232,6 +239,48 @@ record_kept holds (Some path) unread left before mid after quiet still loud stat
 record_kept holds (Some path) unread left before mid after quiet still loud status kept silent (same, inr (untouched, is)) =
     (same, inr (kept_then_kept before mid after kept untouched, is))
 
+-- Audits
+
+-- what is to be audited is the record that the words name, over the set of the documents that they name, and nothing was written
+pub record IsToAudit (gives : Gives) (words : List Text) (output errors : Stream) (set : ClearedSet) (own : AuditWords) : Type 0 where
+  pub asked : AskFor words (audit own.beginning (string_bytes own.path) (source_of own.source))
+  pub is_set : IsSetOf gives (source_of own.source) set
+  pub unwritten : Keeps output.before output.after
+  pub silent : Keeps errors.before errors.after
+
+done_to_audit : (gives : Gives) (words : List Text) (request : Request) (quiet : Bool) (output errors : Stream) (course : Course) (set : ClearedSet) (own : AuditWords)
+    → AskFor words request → IsDone gives request quiet output errors course → course ≡ course_of.Audits set own → IsToAudit gives words output errors set own
+done_to_audit gives words request quiet output errors _ set own asked (running.audits other cleared is_asked is_set kept silent) is =
+    let same : cleared ≡ set = cc in
+    let chosen : other ≡ own = cc in
+    subst (IsToAudit gives words output errors set) chosen
+    (record { asked = subst (AskFor words) is_asked asked; is_set = subst (IsSetOf gives (source_of other.source)) same is_set; unwritten = kept; silent = silent })
+done_to_audit gives words request quiet output errors _ set own asked (running.serves _ _ _ _ _ _) is = absurd cc
+done_to_audit gives words request quiet output errors _ set own asked (running.reads _ _ _ _) is = absurd cc
+done_to_audit gives words request quiet output errors _ set own asked (running.plants _ _ _ _ _ _) is = absurd cc
+done_to_audit gives words request quiet output errors _ set own asked (running.halts _ _ _ _ _) is = absurd cc
+done_to_audit gives words request quiet output errors _ set own asked (running.judges _ _ _ _ _ _ _) is = absurd cc
+done_to_audit gives words request quiet output errors _ set own asked (running.explains _ _ _ _) is = absurd cc
+
+pub set_to_audit : (gives : Gives) (words : List Text) (output errors : Stream) (course : Course) (set : ClearedSet) (own : AuditWords)
+    → IsRun gives words output errors course → course ≡ course_of.Audits set own → IsToAudit gives words output errors set own
+set_to_audit gives words output errors _ set own (running.commands request course asked came) is =
+    done_to_audit gives words request (ask_quiet words) output errors course set own asked came is
+set_to_audit gives words output errors _ set own (running.helps _ _ _ _) is = absurd cc
+set_to_audit gives words output errors _ set own (running.misuses _ _) is = absurd cc
+set_to_audit gives words output errors _ set own (running.starves _) is = absurd cc
+
+-- telling what is found of a record, after the streams were left as they were
+pub audit_kept : (holds : Holds) (set : ClearedSet) (beginning : Bool) (path : Text) (unread left before mid after quiet still loud : Option (List ℕ)) (status : ℕ)
+    → Keeps before mid → Keeps quiet still
+    → IsAuditTold holds set beginning path (record { unread = unread; left = left; before = mid; after = after }) (record { before = still; after = loud }) status
+    → IsAuditTold holds set beginning path (record { unread = unread; left = left; before = before; after = after }) (record { before = quiet; after = loud }) status
+audit_kept holds set beginning path unread left before mid after quiet still loud status kept silent (auditing.finds given finding held found printed) =
+    auditing.finds given finding held found
+    (printed_kept before mid after quiet still loud (finding_text beginning finding) (finding_status beginning finding) status kept silent printed)
+audit_kept holds set beginning path unread left before mid after quiet still loud status kept silent (auditing.stops (untouched, is)) =
+    auditing.stops (kept_then_kept before mid after kept untouched, is)
+
 -- Exit statuses
 
 ran_to_the_end : (set : ClearedSet) (served : Result ℕ SetFault) (ends : serving.Ends) (quiet : Bool) (errors : Stream) → Serves set MAX_READS served ends
@@ -241,8 +290,8 @@ ran_to_the_end set (Err Memory) ends quiet errors all told is = absurd cc
 ran_to_the_end set (Err (Stopped fault)) ends quiet errors all told is = absurd cc
 
 -- a run that ends with status 0 before it has served was no run to serve, and none of a plant
-told_at_once : (gives : Gives) (words : List Text) (output errors : Stream) (request : Request) (status : ℕ)
-    → AskFor words request → IsRun gives words output errors (Ends status) → status ≡ 0 → IsSuccess gives request output
+pub told_at_once : (gives : Gives) (words : List Text) (output errors : Stream) (request : Request) (status : ℕ)
+    → AskFor words request → IsRun gives words output errors (Ends status) → status ≡ 0 → IsSuccess gives (ask_quiet words) request output errors
 told_at_once gives words output errors request status asked came is =
     success_is_told gives words output errors request asked (subst (λ k. IsRun gives words output errors (Ends k)) is came)
 
@@ -254,6 +303,12 @@ serves_no_record source path is = cc
 
 plants_no_record : (batches ticks ring : ℕ) (path : Option Text) → plant batches ticks ring ≡ tell path → ⊥
 plants_no_record batches ticks ring path is = cc
+
+pub serves_no_audit : (source other : Source) (beginning : Bool) (path : Text) → serve source ≡ audit beginning path other → ⊥
+serves_no_audit source other beginning path is = cc
+
+pub plants_no_audit : (batches ticks ring : ℕ) (source : Source) (beginning : Bool) (path : Text) → plant batches ticks ring ≡ audit beginning path source → ⊥
+plants_no_audit batches ticks ring source beginning path is = cc
 
 serves_no_plant : (source : Source) (batches ticks ring : ℕ) → serve source ≡ plant batches ticks ring → ⊥
 serves_no_plant source batches ticks ring is = cc
@@ -269,6 +324,8 @@ safe_at gives holds words ends errors source _ asked (serves other set served as
     (set, left, subst (λ s. IsSetOf gives s set) same is_set, answers, says)
 safe_at gives holds words ends errors source _ asked (reads path _ asked2 _) is =
     absurd (serves_no_record source path (same_request words (serve source) (tell path) asked asked2))
+safe_at gives holds words ends errors source _ asked (audits beginning path other _ _ asked2 _ _) is =
+    absurd (serves_no_audit source other beginning path (same_request words (serve source) (audit beginning path other) asked asked2))
 safe_at gives holds words ends errors source _ asked (plants _ options _ _ asked2 _ _ _ _) is =
     absurd (serves_no_plant source options.batches options.ticks options.ring (same_request words (serve source) _ asked asked2))
 
@@ -298,11 +355,14 @@ done_in_range : (gives : Gives) (request : Request) (quiet : Bool) (output error
     → IsDone gives request quiet output errors course → course ≡ Ends status → status ≤ 4
 done_in_range gives request quiet output errors _ status (running.serves _ _ _ _ _ _) is = absurd cc
 done_in_range gives request quiet output errors _ status (running.reads _ _ _ _) is = absurd cc
+done_in_range gives request quiet output errors _ status (running.audits _ _ _ _ _ _) is = absurd cc
 done_in_range gives request quiet output errors _ status (running.plants _ _ _ _ _ _) is = absurd cc
-done_in_range gives request quiet output errors _ status (running.halts h told _ at) is =
-    let same : told ≡ status = cc in rw (← same) (announced_in_range quiet output errors h told at)
-done_in_range gives request quiet output errors _ status (running.judges _ text told _ _ at) is =
-    let same : told ≡ status = cc in rw (← same) (printed_in_range output errors text success_status told (omega arith) at)
+done_in_range gives request quiet output errors _ status (running.halts h told warned _ at) is =
+    let same : told ≡ status = cc in
+    rw (← same) (announced_in_range quiet output (record { before = warned; after = errors.after }) h told at)
+done_in_range gives request quiet output errors _ status (running.judges _ text told warned _ _ at) is =
+    let same : told ≡ status = cc in
+    rw (← same) (printed_in_range output (record { before = warned; after = errors.after }) text success_status told (omega arith) at)
 done_in_range gives request quiet output errors _ status (running.explains texts told _ at) is =
     let same : told ≡ status = cc in rw (← same) (explained_in_range texts output errors told at)
 
@@ -344,11 +404,24 @@ record_in_range holds None ends errors status told = status_in_range ends.unread
 record_in_range holds (Some path) ends errors status (_, inl (unread, _, told)) = status_in_range unread (output_of ends) errors status told
 record_in_range holds (Some path) ends errors status (_, inr untold) = untold_in_range (output_of ends) status untold
 
+finding_in_range : (beginning : Bool) (finding : Finding) → finding_status beginning finding ≤ 4
+finding_in_range beginning Agrees = omega arith
+finding_in_range beginning (Differs line) = omega arith
+finding_in_range true (EndsBefore line) = omega arith
+finding_in_range false (EndsBefore line) = omega arith
+
+audit_in_range : (holds : Holds) (set : ClearedSet) (beginning : Bool) (path : Text) (ends : serving.Ends) (errors : Stream) (status : ℕ)
+    → IsAuditTold holds set beginning path ends errors status → status ≤ 4
+audit_in_range holds set beginning path ends errors status (auditing.finds given finding _ _ printed) =
+    printed_in_range (output_of ends) errors _ (finding_status beginning finding) status (finding_in_range beginning finding) printed
+audit_in_range holds set beginning path ends errors status (auditing.stops untold) = untold_in_range (output_of ends) status untold
+
 pub run_in_range : (gives : Gives) (holds : Holds) (words : List Text) (ends : serving.Ends) (errors : Stream) (status : ℕ)
     → IsProgramRun gives holds words ends errors status → status ≤ 4
 run_in_range gives holds words ends errors _ (tells status came _) = course_in_range gives words (output_of ends) errors (Ends status) status came refl
 run_in_range gives holds words ends errors _ (serves _ _ served _ _ _ _) = serving_in_range served
 run_in_range gives holds words ends errors status (reads path _ _ told) = record_in_range holds path ends errors status told
+run_in_range gives holds words ends errors status (audits beginning path _ set _ _ _ told) = audit_in_range holds set beginning path ends errors status told
 run_in_range gives holds words ends errors status (plants _ options end _ _ _ _ told _) = plant_in_range (output_of ends) errors options.batches end status told
 
 -- What a plant tells
@@ -378,6 +451,8 @@ told_plant gives holds words ends errors batches ticks ring _ asked (serves sour
     absurd (serves_no_plant source batches ticks ring (same_request words (serve source) (plant batches ticks ring) asked2 asked))
 told_plant gives holds words ends errors batches ticks ring _ asked (reads path _ asked2 _) is =
     absurd (plants_no_record batches ticks ring path (same_request words (plant batches ticks ring) (tell path) asked asked2))
+told_plant gives holds words ends errors batches ticks ring _ asked (audits beginning path source _ _ asked2 _ _) is =
+    absurd (plants_no_audit batches ticks ring source beginning path (same_request words (plant batches ticks ring) (audit beginning path source) asked asked2))
 told_plant gives holds words ends errors batches ticks ring status asked (plants set options end _ asked2 demo ran told _) is =
     let same = same_batches options.batches batches options.ticks ticks options.ring ring (same_request words _ (plant batches ticks ring) asked2 asked) in
     let (handled, came, appends) = complete_at (output_of ends) errors set options.batches end status ran told is in

@@ -1,4 +1,6 @@
+pub mod AuditRuns
 pub mod PlantRuns
 pub mod PlantWork
 pub mod Programs
 pub mod RecordRuns
+pub mod Telling

@@ -1,22 +1,25 @@
 -- trusted: what comes of the program's words, input and documents.
-use Rattle.std.specs.Prelude.{◌≤◌, ◌++◌, ℕ, zero, suc, Bool, true, false, IfOk, List, Option, Result, Ok, Err, codes, decimal, if◌then◌else◌, nat_eq}
+use Rattle.std.specs.Prelude.{◌≤◌, ◌++◌, ℕ, zero, suc, Bool, true, false, IfOk, IfSome, List, Option, Result, Ok, Err, codes, decimal, if◌then◌else◌, nat_eq}
 use Rattle.std.specs.Io.KnownBytes.{Appends, Keeps}
 use Rattle.std.specs.Process.{exit_status}
 use Rattle.std.specs.declared.process.ExitCode.{ExitCode}
 use Rattle.clap.specs.Walk.{Text}
 use Rattle.batch_verify.specs.ClearedSet.{ClearedSet}
-use Rattle.batch_words.specs.CommandLine.{Source, plant, serve, tell}
+use Rattle.batch_wire.specs.Transcript.{lines_of}
+use Rattle.batch_words.specs.CommandLine.{Source, audit, plant, serve, tell}
 use Rattle.batch_words.specs.declared.plant_options.PlantOptions.{PlantOptions}
 use Rattle.batch_commands.specs.Reading.{Gives}
 use Rattle.batch_commands.specs.Requests.{IsDemoSet, IsSetOf}
 use Rattle.batch_commands.specs.Running.{AskFor, IsRun, IsUnwritten, Stream, ask_quiet, fault_status, memory_status}
 use Rattle.batch_commands.specs.Saying.{WritesFront}
+use Rattle.batch_commands.specs.VerdictTexts.{accepted_text}
 use Rattle.batch_commands.specs.declared.course.Course.TheVariants.{Ends}
 use Rattle.batch_serve.specs.Serves as serving
 use Rattle.batch_serve.specs.Serves.{AnswersAll, Serves}
 use Rattle.batch_serve.specs.declared.fault.SetFault.{SetFault}
 use Rattle.batch_serve.specs.declared.fault.SetFault.TheVariants.{Memory, Stopped}
 use Rattle.batch_plant.specs.declared.plant_fault.PlantFault.{PlantFault}
+use Rattle.batch_program.specs.AuditRuns.{IsAccepted, IsAuditTold}
 use Rattle.batch_program.specs.PlantRuns.{HasRun, IsPlantTold, plant_text}
 use Rattle.batch_program.specs.RecordRuns.{Holds, IsRecordTold, output_of}
 use Rattle.batch_program.specs.declared.program.TheConstants.{MAX_READS}
@@ -55,6 +58,10 @@ pub data IsProgramRun (gives : Gives) (holds : Holds) (words : List Text) (ends 
   -- what the record that the words name tells is printed, or what the input tells
   reads : (path : Option Text) (status : ℕ)
       → AskFor words (tell path) → IsRecordTold holds path ends errors status → IsProgramRun gives holds words ends errors status
+  -- what is found of the record that the words name, against the lines of the input over the set that they name, is printed
+  audits : (beginning : Bool) (path : Text) (source : Source) (set : ClearedSet) (status : ℕ)
+      → AskFor words (audit beginning path source) → IsSetOf gives source set → IsAuditTold holds set beginning path ends errors status
+      → IsProgramRun gives holds words ends errors status
   -- the plant of the demo is run with the options that the words have, its end is told, and the input isn't read
   plants : (set : ClearedSet) (options : PlantOptions) (end : Result ℕ PlantFault) (status : ℕ)
       → AskFor words (plant options.batches options.ticks options.ring) → IsDemoSet set
@@ -71,6 +78,15 @@ ServingIsSafe gives holds =
     (words : List Text) (ends : serving.Ends) (errors : Stream) (source : Source)
     → AskFor words (serve source) → IsProgramRun gives holds words ends errors 0
     → (set : ClearedSet) × (left : ℕ) × IsSetOf gives source set × AnswersAll set left ends × IsLeftTold (ask_quiet words) errors left
+
+-- a run of `audit` that ends with status 0 has written `accepted`, and what the record at its path holds is the record of the lines of
+-- the input, or begins it where that is accepted, over the set of its documents, cleared by their certificate
+abbrev pub AuditsAreTrue : Gives → Holds → Type 0
+AuditsAreTrue gives holds =
+    (words : List Text) (ends : serving.Ends) (errors : Stream) (beginning : Bool) (path : Text) (source : Source)
+    → AskFor words (audit beginning path source) → IsProgramRun gives holds words ends errors 0
+    → (set : ClearedSet) × (given : Option (List ℕ)) × IsSetOf gives source set × holds path given × Appends ends.before ends.after accepted_text
+    × IfSome given (λ text. IfSome ends.unread (λ input. IsAccepted set beginning (lines_of input) text))
 
 -- a run of `plant` that ends with status 0 has written its three lines, and a record over the demo's set, of so many events as the
 -- third line says, leads to where the batches that were asked for are complete

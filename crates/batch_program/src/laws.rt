@@ -1,5 +1,5 @@
 //! Laws over runs of the program.
-ghost use Rattle.batch_program.specs.Programs.{PlantsAreComplete, ServingIsSafe};
+ghost use Rattle.batch_program.specs.Programs.{AuditsAreTrue, PlantsAreComplete, ServingIsSafe};
 
 use crate::records::Records;
 use batch_commands::Documents;
@@ -8,6 +8,14 @@ use batch_commands::Documents;
 /// of the input were answered, and what was written is the text of a safe record.
 pub fn serving_is_safe<D: Documents + Records>(documents: &D)
     ensures { ServingIsSafe (D.gives documents.now) (D.holds documents.now) }
+{
+    let _documents = documents;
+}
+
+/// What the exit status 0 of a run of `audit` tells: `accepted` was written, and the record is that of the lines of the input, or
+/// begins it where that is accepted, over the set of the documents, cleared by their certificate.
+pub fn audits_are_true<D: Documents + Records>(documents: &D)
+    ensures { AuditsAreTrue (D.gives documents.now) (D.holds documents.now) }
 {
     let _documents = documents;
 }

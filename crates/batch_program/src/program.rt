@@ -5,6 +5,7 @@ ghost use Rattle.batch_program.specs.Programs.{IsLeftTold, IsProgramRun, left_te
 use crate::noted::Noted;
 use crate::plant::report_of_plant;
 use crate::plant_runner::PlantRunner;
+use crate::record_audit::audit_record;
 use crate::record_status::tell_record;
 use crate::records::Records;
 use crate::statuses::serving_status;
@@ -27,9 +28,9 @@ struct Stop {
 }
 
 /// Does what the words ask for, and gives the exit status: judges documents, serves event lines from the input over the set
-/// that they name, tells what a record says, or has the demo's plant run.
+/// that they name, tells what a record says or whether it is that of the lines that were sent, or has the demo's plant run.
 ///
-/// Verdicts, help, the record, what one tells and the lines of a plant go to the output, and all else, in a free text, to the errors. Refused
+/// Verdicts, help, the record, what one tells, what is found of one and the lines of a plant go to the output, and all else, in a free text, to the errors. Refused
 /// events are part of the record and don't change the status. Where the input ends while batches are neither complete, stopped
 /// nor aborted, one line on the errors says how many, unless quiet is asked for; where none is, nothing is written there.
 pub fn run_program<D: Documents + Records, P: PlantRunner, R: Read, W: Write, E: Write>(
@@ -58,6 +59,9 @@ pub fn run_program<D: Documents + Records, P: PlantRunner, R: Read, W: Write, E:
             tell_served(alloc, quiet, served, reason, errors)
         }
         Course::Reads { path } => tell_record(alloc, path, documents, input, output, errors),
+        Course::Audits { set, audit } => {
+            audit_record(alloc, set, &audit, documents, input, output, errors)
+        }
         Course::Plants { set, options } => {
             let end = plants.run_plant(alloc, set, options);
             report_of_plant(alloc, options.batches, &end, output, errors)

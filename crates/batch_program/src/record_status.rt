@@ -123,7 +123,12 @@ fn complain_unread<E: Write>(fault: StatusFault, reason: Option<io::Error>, erro
 }
 
 /// Tells why the record at the path can't be opened.
-fn complain_unopened<E: Write>(alloc: Global, path: &str, reason: io::Error, errors: &mut E) -> u8
+pub(crate) fn complain_unopened<E: Write>(
+    alloc: Global,
+    path: &str,
+    reason: io::Error,
+    errors: &mut E,
+) -> u8
     ensures { (result ≡ fault_status) ⊎ (result ≡ memory_status) }
 {
     match shown(alloc, path) {

@@ -1,3 +1,5 @@
 mod ShownLines
 mod Growing
+pub mod Said
 pub mod ActNames
+mod ToldCircles

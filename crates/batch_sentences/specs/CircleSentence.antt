@@ -1,5 +1,5 @@
 -- surface: what a circle means, in words.
-use Rattle.std.specs.Prelude.{◌≡◌, ℕ, List, [], ◌++◌, codes, slice_get, unwrap_or, option_map, Some, None, ⊤}
+use Rattle.std.specs.Prelude.{◌≡◌, ℕ, List, [], ◌++◌, codes, map, slice_get, unwrap_or, option_map, Some, None, ⊤}
 use Rattle.std.specs.List.{flat_map}
 use Rattle.batch_cell.specs.LookUps.{resources_of}
 use Rattle.batch_cell.specs.declared.cell.Cell.{Cell}
@@ -23,16 +23,36 @@ name_at r node = elim (slice_get (procedure_acts r.acts) node) [ None ↦ [] | S
 abbrev pub act_name : List Recipe → ℕ → ℕ → List ℕ
 act_name recipes recipe node = unwrap_or (option_map (λ r. name_at r node) (slice_get recipes recipe)) []
 
+-- an edge, and what is said beside it: which act holds the one resource, and where both acts stand
+pub record ToldEdge : Type 0 where
+  pub edge : Edge
+  pub holder : List ℕ
+  pub asker : List ℕ
+
 -- a batch of the edge's recipe holds the one resource and asks for the other, in the act at the edge's node
-abbrev pub edge_words : Cell → List Recipe → Edge → List ℕ
-edge_words cell recipes e =
-    codes "; " ++ (recipe_name recipes e.recipe ++ (codes " holds " ++ (resource_name cell e.earlier
-    ++ (codes " and asks for " ++ (resource_name cell e.later ++ (codes " in " ++ act_name recipes e.recipe e.node))))))
+abbrev pub edge_words : Cell → List Recipe → ToldEdge → List ℕ
+edge_words cell recipes told =
+    codes "; " ++ (recipe_name recipes told.edge.recipe ++ (codes " holds " ++ (resource_name cell told.edge.earlier
+    ++ (told.holder ++ (codes " and asks for " ++ (resource_name cell told.edge.later
+    ++ (codes " in " ++ (act_name recipes told.edge.recipe told.edge.node ++ told.asker))))))))
 
-abbrev pub circle_words : Cell → List Recipe → List Edge → List ℕ
-circle_words cell recipes edges = codes "batches can wait in a circle" ++ flat_map (edge_words cell recipes) edges
+-- the words on one edge
+pub record IsEdgeTold (cell : Cell) (recipes : List Recipe) (edge : Edge) (text : List ℕ) : Type 0 where
+  pub told : ToldEdge
+  pub of : told.edge ≡ edge
+  pub words : text ≡ edge_words cell recipes told
 
--- the sentence on a circle says it edge by edge
+abbrev pub circle_words : Cell → List Recipe → List ToldEdge → List ℕ
+circle_words cell recipes told = codes "batches can wait in a circle" ++ flat_map (edge_words cell recipes) told
+
+-- the words on a circle: each of its edges, in order
+pub record IsCircleTold (cell : Cell) (recipes : List Recipe) (edges : List Edge) (text : List ℕ) : Type 0 where
+  pub told : List ToldEdge
+  pub each : map (λ (t : ToldEdge). t.edge) told ≡ edges
+  pub words : text ≡ circle_words cell recipes told
+
+-- the sentence on a circle says it edge by edge, and then what may be done
 abbrev pub SaysCircle : Cell → List Recipe → CheckFault → List ℕ → Type 0
-SaysCircle cell recipes (Circle edges) text = text ≡ shown (circle_words cell recipes edges.items)
+SaysCircle cell recipes (Circle edges) text =
+    (words : List ℕ) × (more : List ℕ) × IsCircleTold cell recipes edges.items words × (text ≡ shown (words ++ more))
 SaysCircle cell recipes fault text = ⊤

@@ -1,4 +1,5 @@
 //! What is wrong with the chart of a table.
+use crate::hints::hint_said;
 use batch_grammar::{ChartFault, read_chart};
 use batch_reader::TableKind;
 use batch_recipe::{MAX_TURNS, MAX_VALUE};
@@ -15,23 +16,30 @@ pub(crate) fn no_chart_said(
 ) -> Result<String, AllocError> {
     let place = place_said(alloc, text, line, chart, byte)?;
     let rest = rest_said(alloc, chart, byte)?;
-    let hint = hint_at(chart, byte, kind);
+    let hint = hint_said(alloc, chart, byte, kind)?;
     format!(in alloc; "`chart` is no chart from byte {byte} on{place}{rest}{hint}")
 }
 
 /// Which number of the chart is out of its limits, where the text is a chart but for that.
-pub(crate) fn number_said(alloc: Global, chart: &str) -> Result<Option<String>, AllocError> {
+pub(crate) fn number_said(
+    alloc: Global,
+    text: &str,
+    line: Option<usize>,
+    chart: &str,
+) -> Result<Option<String>, AllocError> {
     let Err(ChartFault::OutOfRange(byte)) = read_chart(alloc, chart.as_bytes()) else {
         return Ok(None);
     };
     let number = number_at(chart, byte);
+    let place = place_said(alloc, text, line, chart, byte)?;
+    let end = if place.is_empty() { "" } else { "," };
     let said = if is_behind(chart, byte, '(') {
         format!(in alloc;
-            "a loop has 1 to {MAX_TURNS} turns, and `{number}` at byte {byte} of `chart` is none of these"
+            "a loop has 1 to {MAX_TURNS} turns, and `{number}` at byte {byte} of `chart`{place}{end} is none of these"
         )
     } else {
         format!(in alloc;
-            "a number of a condition is at most {MAX_VALUE}, and `{number}` at byte {byte} of `chart` is above it"
+            "a number of a condition is at most {MAX_VALUE}, and `{number}` at byte {byte} of `chart`{place}{end} is above it"
         )
     };
     Ok(Some(said?))
@@ -70,9 +78,13 @@ fn place_said(
     }
 }
 
-/// The line and the column at which the byte of the chart stands, which is looked for from this line on.
+/// The line and the column at which the byte of the chart stands, which is looked for behind the sign `=` of this line.
 fn place_of(text: &str, from: usize, chart: &str, byte: usize) -> Option<(usize, usize)> {
-    let begin = offset_of(text, from);
+    if chart.is_empty() {
+        return None;
+    }
+    let line = offset_of(text, from);
+    let begin = line.checked_add(text.get(line..)?.find('=')?)?;
     let found = text.get(begin..)?.find(chart)?;
     let end = begin.checked_add(found)?.checked_add(byte)?;
     let mut line: usize = 1;
@@ -126,31 +138,4 @@ fn front_of(text: &str) -> &str {
         None => text,
     };
     line.get(..20).unwrap_or(line)
-}
-
-/// What the author may have meant who wrote what stands at the byte.
-fn hint_at(chart: &str, byte: usize, kind: TableKind) -> &'static str {
-    let rest = chart.get(byte..).unwrap_or("");
-    let front = chart.get(..byte).unwrap_or("");
-    if kind == TableKind::UnitProcedure && front.trim_end().ends_with("par") {
-        return "; the chart of a unit procedure has no `par`";
-    }
-    if rest.starts_with('#') || rest.starts_with('/') {
-        return "; a chart has no comments";
-    }
-    if rest.starts_with(is_comparing) {
-        return "; values compare by <, <=, =, /=, >= and >";
-    }
-    if rest.starts_with('.') {
-        return "; numbers are whole";
-    }
-    if rest.starts_with('-') {
-        return "; what comes one after the other stands in seq(..)";
-    }
-    ""
-}
-
-/// Whether operators of some language have this letter.
-fn is_comparing(letter: char) -> bool {
-    letter == '=' || letter == '<' || letter == '>' || letter == '!'
 }

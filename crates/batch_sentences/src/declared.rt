@@ -1,32 +1,48 @@
 //! What a document declares.
+use crate::hints::is_of_words;
+use crate::keys::word_of;
 use batch_grammar::is_chart_word;
-use batch_reader::TableKind;
+use batch_reader::{Spot, TableKind};
 use batch_text::is_name;
 use std::alloc::{AllocError, Global};
 use toml::{Table, Value};
 
-/// The words of the tables whose names a document declares.
-const DECLARING: [&str; 9] = [
-    "unit",
-    "module",
-    "shared",
+/// The words of the tables whose names a recipe declares.
+const DECLARING: [&str; 7] = [
     "input",
     "parameter",
     "output",
     "role",
     "unit_procedure",
     "operation",
+    "phase",
 ];
 
 const VALUES: [&str; 3] = ["input", "parameter", "output"];
 
-/// How many tables of the document's kinds have this name.
-pub(crate) fn times_declared(document: &Table, name: &str) -> usize {
-    let mut times: usize = 0;
+/// The word of the first tables of a recipe of which one has this name.
+pub(crate) fn word_declaring(document: &Table, name: &str) -> Option<&'static str> {
     for word in DECLARING {
-        times = times.saturating_add(times_among(document, word, name));
+        if times_among(document, word, name) > 0 {
+            return Some(word);
+        }
     }
-    times.saturating_add(times_among(document, "phase", name))
+    None
+}
+
+/// The first table of these kinds with this name.
+pub(crate) fn first_named(document: &Table, kinds: &[TableKind], name: &str) -> Option<Spot> {
+    for kind in kinds {
+        let word = word_of(*kind).unwrap_or("");
+        if let Some(tables) = document.get(word).and_then(Value::as_array) {
+            for (entry, table) in tables.iter().enumerate() {
+                if table.get("name").and_then(Value::as_str) == Some(name) {
+                    return Some(Spot { kind: *kind, entry });
+                }
+            }
+        }
+    }
+    None
 }
 
 /// How many tables of the word have this name.
@@ -120,37 +136,35 @@ fn times_listed(table: &Table, key: &str, name: &str) -> usize {
     times
 }
 
-/// The first phase of the module that several modules of this unit offer.
-pub(crate) fn offered_by_several<'a>(
-    document: &Table,
+/// The first phase of the module that an earlier module of this unit offers, and the name of that module.
+pub(crate) fn offered_before<'a>(
+    document: &'a Table,
     unit: &str,
     module: &'a Table,
-) -> Option<&'a str> {
+) -> Option<(&'a str, &'a str)> {
     for value in module.get("phases")?.as_array()? {
         if let Some(phase) = value.as_str() {
-            if offers_of(document, unit, phase) > 1 {
-                return Some(phase);
+            if let Some(other) = module_offering(document, unit, phase) {
+                if Some(other) != module.get("name").and_then(Value::as_str) {
+                    return Some((phase, other));
+                }
             }
         }
     }
     None
 }
 
-/// How many modules of the unit offer the phase.
-fn offers_of(document: &Table, unit: &str, phase: &str) -> usize {
-    let Some(modules) = document.get("module").and_then(Value::as_array) else {
-        return 0;
-    };
-    let mut offers: usize = 0;
-    for module in modules {
+/// The name of the first module of the unit that offers the phase.
+fn module_offering<'a>(document: &'a Table, unit: &str, phase: &str) -> Option<&'a str> {
+    for module in document.get("module")?.as_array()? {
         if let Some(module) = module.as_table() {
             let is_own = module.get("unit").and_then(Value::as_str) == Some(unit);
             if is_own && times_listed(module, "phases", phase) > 0 {
-                offers = offers.saturating_add(1);
+                return module.get("name").and_then(Value::as_str);
             }
         }
     }
-    offers
+    None
 }
 
 /// The word of the tables that the labels of a chart of this kind name. Tables without a chart have none.
@@ -163,12 +177,20 @@ pub(crate) fn word_below(kind: TableKind) -> Option<&'static str> {
     }
 }
 
-/// The first word of the table's chart, or of its values, that is neither declared in the table's level nor a value.
-pub(crate) fn undeclared_word<'a>(
+/// A name that a chart, or a list of values, has.
+#[derive(Clone, Copy)]
+pub(crate) struct Reference<'a> {
+    pub(crate) name: &'a str,
+    /// Whether it is to name a value, as in a condition, and not an act.
+    pub(crate) is_value: bool,
+}
+
+/// The first name of the table's chart, or of its values, that isn't declared as what it is to name.
+pub(crate) fn undeclared_name<'a>(
     document: &Table,
     table: &'a Table,
     kind: TableKind,
-) -> Option<&'a str> {
+) -> Option<Reference<'a>> {
     match word_below(kind) {
         Some(below) => undeclared_part(document, table, below),
         None => undeclared_value(document, table),
@@ -176,40 +198,63 @@ pub(crate) fn undeclared_word<'a>(
 }
 
 /// The first of the table's values that isn't declared.
-fn undeclared_value<'a>(document: &Table, table: &'a Table) -> Option<&'a str> {
+fn undeclared_value<'a>(document: &Table, table: &'a Table) -> Option<Reference<'a>> {
     let values = table.get("values")?.as_array()?;
     for value in values {
         if let Some(name) = value.as_str() {
-            if !is_value(document, name) {
-                return Some(name);
+            let is_value = true;
+            if !is_declared(document, "", Reference { name, is_value }) {
+                return Some(Reference { name, is_value });
             }
         }
     }
     None
 }
 
-/// The first word of the table's chart that names neither a table of the word below nor a value.
-fn undeclared_part<'a>(document: &Table, table: &'a Table, below: &str) -> Option<&'a str> {
+/// The first name of the table's chart that is no value in a condition, or else names no table of the word below.
+fn undeclared_part<'a>(document: &Table, table: &'a Table, below: &str) -> Option<Reference<'a>> {
     let chart = table.get("chart")?.as_str()?;
-    for word in chart.split(is_between_names) {
-        if is_reference(word)
-            && times_among(document, below, word) == 0
-            && !is_value(document, word)
-        {
-            return Some(word);
+    let mut rest = chart;
+    for _ in 0..chart.len() {
+        let begin = rest.find(is_of_words)?;
+        let front = rest.get(..begin)?;
+        let tail = rest.get(begin..)?;
+        let name = tail.trim_start_matches(is_of_words);
+        let word = tail.get(..tail.len().checked_sub(name.len())?)?;
+        let reference = Reference {
+            name: word,
+            is_value: is_compared(front, name),
+        };
+        if is_reference(word) && !is_declared(document, below, reference) {
+            return Some(reference);
         }
+        rest = name;
     }
     None
 }
 
-/// Whether no name has this letter.
-fn is_between_names(letter: char) -> bool {
-    !(letter.is_ascii_alphanumeric() || letter == '_' || letter == '-')
+/// Whether an operator ends what stands before a word of a chart, or begins what stands behind it.
+fn is_compared(before: &str, behind: &str) -> bool {
+    before.trim_end().ends_with(is_operator) || behind.trim_start().starts_with(is_operator)
+}
+
+/// Whether operators of charts have this letter.
+fn is_operator(letter: char) -> bool {
+    letter == '<' || letter == '>' || letter == '=' || letter == '/'
 }
 
 /// Whether the word of a chart is a name.
 fn is_reference(word: &str) -> bool {
     is_name(word.as_bytes()) && !is_chart_word(word.as_bytes())
+}
+
+/// Whether the document declares the name as what it is to name: a value, or a table of the word below.
+fn is_declared(document: &Table, below: &str, reference: Reference<'_>) -> bool {
+    if reference.is_value {
+        is_value(document, reference.name)
+    } else {
+        times_among(document, below, reference.name) > 0
+    }
 }
 
 fn is_value(document: &Table, name: &str) -> bool {

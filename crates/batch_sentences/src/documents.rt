@@ -1,7 +1,7 @@
 //! What is wrong with a document.
 use crate::entries::{tables_of, wrong_at};
-use crate::keys::word_of;
-use crate::lines::line_of;
+use crate::keys::{is_word_of_several, word_of};
+use crate::lines::{header_in, line_of};
 use crate::sentence::Sentence;
 use batch_reader::{DocFault, EntryFault, MAX_DOCUMENT_LEN, Spot};
 use std::alloc::{AllocError, Global};
@@ -60,13 +60,35 @@ fn toml_said(alloc: Global, bytes: &[u8]) -> Result<String, AllocError> {
     }
     match toml::table_from_slice(alloc, bytes) {
         Ok(_) => String::from_str(alloc, "it is no TOML"),
-        Err(error) => error_said(alloc, &error),
+        Err(error) => error_said(alloc, bytes, &error),
     }
 }
 
-fn error_said(alloc: Global, error: &Error) -> Result<String, AllocError> {
+fn error_said(alloc: Global, bytes: &[u8], error: &Error) -> Result<String, AllocError> {
     let told = format!(in alloc; "{error}")?;
-    lines_said(alloc, told.as_str())
+    let said = lines_said(alloc, told.as_str())?;
+    let text = std::str::from_utf8(bytes).unwrap_or("");
+    match single_header(text) {
+        Some(word) if told.contains("duplicate key") => format!(in alloc;
+            "{said}; the header is [[{word}]], since a document may have several of these tables"
+        ),
+        _ => Ok(said),
+    }
+}
+
+/// The word of the first header with single brackets that is to have double ones.
+fn single_header(text: &str) -> Option<&str> {
+    for line in text.lines() {
+        let line = line.trim();
+        if !line.starts_with("[[") {
+            if let Some(word) = header_in(line) {
+                if is_word_of_several(word) {
+                    return Some(word);
+                }
+            }
+        }
+    }
+    None
 }
 
 /// What TOML tells, in one line.
@@ -130,7 +152,7 @@ fn wrong_said(
 }
 
 /// The table at the spot, counted from 1.
-fn table_said(alloc: Global, spot: Spot) -> Result<String, AllocError> {
+pub(crate) fn table_said(alloc: Global, spot: Spot) -> Result<String, AllocError> {
     match word_of(spot.kind) {
         None => String::from_str(alloc, "at the top"),
         Some("procedure") => String::from_str(alloc, "[procedure]"),

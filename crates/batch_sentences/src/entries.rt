@@ -1,7 +1,7 @@
 //! What is wrong with a table of a document.
 use crate::charts::{no_chart_said, number_said};
-use crate::fits::{Fit, shape_said, suit};
-use crate::keys::{Key, keys_of, most_of, word_of};
+use crate::fits::{Fit, given_said, shape_said, suit};
+use crate::keys::{Key, keys_of, kind_said, kinds_beside, most_of, word_of};
 use crate::lines::line_of;
 use crate::names_declared::{duplicate, undeclared};
 use crate::near::meant_said;
@@ -72,13 +72,21 @@ pub(crate) fn wrong_at<'a>(
         EntryFault::WrongKind => wrong_kind(alloc, keys, document, table, spot.kind),
         EntryFault::UnknownKey => unknown(alloc, keys, table, spot.kind),
         EntryFault::Undeclared => undeclared(alloc, document, table, spot.kind),
-        EntryFault::Duplicate => duplicate(alloc, document, table),
-        EntryFault::OutOfLimit => out_of_limit(alloc, keys, table, spot),
+        EntryFault::Duplicate => duplicate(alloc, text, document, table, spot),
+        EntryFault::OutOfLimit => {
+            let line = chart_line(text, document, spot);
+            out_of_limit(alloc, keys, text, line, table, spot)
+        }
         EntryFault::Chart(byte) => {
-            let line = line_of(text, spot, tables_of(document, spot.kind), "chart");
+            let line = chart_line(text, document, spot);
             no_chart(alloc, text, line, table, byte, spot.kind)
         }
     }
+}
+
+/// The line of the chart of the table at the spot.
+fn chart_line(text: &str, document: &Table, spot: Spot) -> Option<usize> {
+    line_of(text, spot, tables_of(document, spot.kind), "chart")
 }
 
 /// That the document has no table of this kind.
@@ -128,9 +136,12 @@ fn unknown<'a>(
         Some(name) => {
             let known = names_said(alloc, keys)?;
             let meant = meant_key(alloc, keys, name)?;
+            let others = others_said(alloc, kind, name)?;
             Wrong::with(
                 name,
-                format!(in alloc; "the key `{name}` is unknown here; known are {known}{meant}"),
+                format!(in alloc;
+                    "the key `{name}` is unknown here; known are {known}{others}{meant}"
+                ),
             )
         }
         // Some keys of these two kinds suit one another badly.
@@ -152,6 +163,23 @@ fn meant_key(alloc: Global, keys: &[Key], written: &str) -> Result<String, Alloc
         names.push(key.0)?;
     }
     meant_said(alloc, written, &names)
+}
+
+/// Which other tables of such a document have the key, if any.
+fn others_said(alloc: Global, kind: TableKind, name: &str) -> Result<String, AllocError> {
+    let mut said = String::new(alloc);
+    for other in kinds_beside(kind) {
+        if is_known(keys_of(*other), name) {
+            let table = kind_said(alloc, *other)?;
+            said.push_str(if said.is_empty() {
+                "; it is a key of "
+            } else {
+                ", "
+            })?;
+            said.push_str(table.as_str())?;
+        }
+    }
+    Ok(said)
 }
 
 /// The first key of the table that isn't one of these.
@@ -196,7 +224,7 @@ fn wrong_kind(
         return Wrong::with("", Ok(said));
     }
     if let Some(key) = first_unfit(keys, table, Fit::WrongKind) {
-        return unfit(alloc, key, "has to be");
+        return unfit(alloc, key, "has to be", table);
     }
     if let Some(need) = unreadable_need(table) {
         return Wrong::with(
@@ -209,7 +237,7 @@ fn wrong_kind(
     match name_of(table) {
         Some(name) if is_chart_word(name.as_bytes()) => Wrong::with(
             "name",
-            format!(in alloc; "the name `{name}` is a word of charts"),
+            format!(in alloc; "the name `{name}` is a word of charts, which names nothing else"),
         ),
         _ => Wrong::told(alloc, "", "a value is of another kind than its key has"),
     }
@@ -241,19 +269,33 @@ fn misheaded(
 }
 
 /// That the value of the key is to be another.
-fn unfit(alloc: Global, key: &Key, front: &str) -> Result<Wrong<'static>, AllocError> {
+fn unfit(
+    alloc: Global,
+    key: &Key,
+    front: &str,
+    table: &Table,
+) -> Result<Wrong<'static>, AllocError> {
     let shape = shape_said(alloc, key.2)?;
-    Wrong::with(key.0, format!(in alloc; "`{}` {front} {shape}", key.0))
+    let given = match table.get(key.0) {
+        Some(value) => given_said(alloc, key.2, value)?,
+        None => String::new(alloc),
+    };
+    Wrong::with(
+        key.0,
+        format!(in alloc; "`{}` {front} {shape}{given}", key.0),
+    )
 }
 
 fn out_of_limit(
     alloc: Global,
     keys: &[Key],
+    text: &str,
+    line: Option<usize>,
     table: &Table,
     spot: Spot,
 ) -> Result<Wrong<'static>, AllocError> {
     if let Some(key) = first_unfit(keys, table, Fit::OutOfLimit) {
-        return unfit(alloc, key, "is out of its limits: it has to be");
+        return unfit(alloc, key, "is out of its limits: it has to be", table);
     }
     let most = most_of(spot.kind);
     if spot.entry == most {
@@ -274,14 +316,19 @@ fn out_of_limit(
         (Some(least), Some(greatest)) if least > greatest => {
             Wrong::told(alloc, "min", "`min` is above `max`")
         }
-        _ => chart_out_of_limit(alloc, table),
+        _ => chart_out_of_limit(alloc, text, line, table),
     }
 }
 
 /// That a number of the table's chart is out of its limits, or that the acts are too many.
-fn chart_out_of_limit(alloc: Global, table: &Table) -> Result<Wrong<'static>, AllocError> {
+fn chart_out_of_limit(
+    alloc: Global,
+    text: &str,
+    line: Option<usize>,
+    table: &Table,
+) -> Result<Wrong<'static>, AllocError> {
     if let Some(chart) = chart_of(table) {
-        if let Some(said) = number_said(alloc, chart)? {
+        if let Some(said) = number_said(alloc, text, line, chart)? {
             return Wrong::with("chart", Ok(said));
         }
     }

@@ -103,3 +103,33 @@ pub(crate) fn shape_said(alloc: Global, shape: Shape) -> Result<String, AllocErr
         Shape::Tables => String::from_str(alloc, "tables"),
     }
 }
+
+/// What is wrong with the value that stands where one of this shape is to be, if that can be told.
+pub(crate) fn given_said(alloc: Global, shape: Shape, value: &Value) -> Result<String, AllocError> {
+    match (shape, value) {
+        (Shape::Name, Value::String(text)) => format!(in alloc; ", and `{text}` is none"),
+        (Shape::Names(_, _), Value::Array(items)) => item_said(alloc, items),
+        (Shape::Number(_, _), Value::Float(_)) => {
+            String::from_str(
+                alloc,
+                "; numbers are whole, so that 4.5 is written as 45 tenths",
+            )
+        }
+        (Shape::Number(_, _), Value::String(_)) => {
+            String::from_str(alloc, "; a number stands without quotes")
+        }
+        _ => Ok(String::new(alloc)),
+    }
+}
+
+/// The first text of the list that is no name.
+fn item_said(alloc: Global, items: &[Value]) -> Result<String, AllocError> {
+    for item in items {
+        if let Some(text) = item.as_str() {
+            if !is_name(text.as_bytes()) {
+                return format!(in alloc; ", and `{text}` is no name");
+            }
+        }
+    }
+    Ok(String::new(alloc))
+}

@@ -2,6 +2,7 @@
 use batch_cell::{MAX_MODULES, MAX_SHARED, MAX_UNITS};
 use batch_reader::{MAX_CHART_LEN, TableKind};
 use batch_recipe::{MAX_ACTS, MAX_ENTRIES, MAX_ROLES};
+use std::alloc::{AllocError, Global};
 
 /// What a key's value is to be.
 #[derive(Clone, Copy)]
@@ -131,6 +132,73 @@ pub(crate) fn word_of(kind: TableKind) -> Option<&'static str> {
         TableKind::UnitProcedure => Some("unit_procedure"),
         TableKind::Operation => Some("operation"),
         TableKind::Phase => Some("phase"),
+    }
+}
+
+const OF_CELLS: [TableKind; 4] = [
+    TableKind::Cell,
+    TableKind::Unit,
+    TableKind::Module,
+    TableKind::Shared,
+];
+
+const OF_RECIPES: [TableKind; 9] = [
+    TableKind::Recipe,
+    TableKind::Input,
+    TableKind::Parameter,
+    TableKind::Output,
+    TableKind::Role,
+    TableKind::Procedure,
+    TableKind::UnitProcedure,
+    TableKind::Operation,
+    TableKind::Phase,
+];
+
+/// Whether a document may have several tables of this word.
+pub(crate) fn is_word_of_several(word: &str) -> bool {
+    has_word(&OF_CELLS, word) || has_word(&OF_RECIPES, word)
+}
+
+/// Whether one of these kinds, and not that of procedures, has the word.
+fn has_word(kinds: &[TableKind], word: &str) -> bool {
+    for kind in kinds {
+        if *kind != TableKind::Procedure && word_of(*kind) == Some(word) {
+            return true;
+        }
+    }
+    false
+}
+
+/// The kinds of tables that documents with a table of this kind have.
+pub(crate) fn kinds_beside(kind: TableKind) -> &'static [TableKind] {
+    match kind {
+        TableKind::Cell | TableKind::Unit | TableKind::Module | TableKind::Shared => &OF_CELLS,
+        _ => &OF_RECIPES,
+    }
+}
+
+/// The kinds of tables whose names differ from those of this kind, in the order in which they are read.
+pub(crate) fn namesakes_of(kind: &TableKind) -> &[TableKind] {
+    match kind {
+        TableKind::Cell | TableKind::Unit | TableKind::Module | TableKind::Shared => &OF_CELLS,
+        TableKind::Input | TableKind::Parameter | TableKind::Output => &VALUES,
+        _ => std::slice::from_ref(kind),
+    }
+}
+
+/// The kinds of tables that declare values.
+pub(crate) const VALUES: [TableKind; 3] = [
+    TableKind::Input,
+    TableKind::Parameter,
+    TableKind::Output,
+];
+
+/// The header of tables of this kind; the top has none.
+pub(crate) fn kind_said(alloc: Global, kind: TableKind) -> Result<String, AllocError> {
+    match word_of(kind) {
+        None => String::from_str(alloc, "the top"),
+        Some("procedure") => String::from_str(alloc, "[procedure]"),
+        Some(word) => format!(in alloc; "[[{word}]]"),
     }
 }
 

@@ -49,7 +49,7 @@ fn headers_in(text: &str, word: Option<&str>) -> usize {
 }
 
 /// The word of the header that stands in the line, with single brackets or double ones.
-fn header_in(line: &str) -> Option<&str> {
+pub(crate) fn header_in(line: &str) -> Option<&str> {
     let rest = line.strip_prefix("[")?;
     let rest = rest.strip_prefix("[").unwrap_or(rest);
     let (name, _) = rest.split_once(']')?;

@@ -1,11 +1,14 @@
 //! What is wrong with the names that a table declares or uses.
 use crate::declared::{
-    listed_twice, names_among, offered_by_several, times_among, times_declared, undeclared_report,
-    undeclared_role, undeclared_word, value_names, word_below,
+    Reference, first_named, listed_twice, names_among, offered_before, times_among,
+    undeclared_name, undeclared_report, undeclared_role, value_names, word_below, word_declaring,
 };
-use crate::entries::{Wrong, name_of};
-use crate::near::meant_said;
-use batch_reader::TableKind;
+use crate::documents::table_said;
+use crate::entries::{Wrong, name_of, tables_of};
+use crate::keys::namesakes_of;
+use crate::lines::line_of;
+use crate::near::meant_or_known;
+use batch_reader::{Spot, TableKind};
 use std::alloc::{AllocError, Global};
 use toml::{Table, Value};
 
@@ -24,8 +27,8 @@ pub(crate) fn undeclared(
         TableKind::Phase => "values",
         _ => "chart",
     };
-    if let Some(word) = undeclared_word(document, table, kind) {
-        return Wrong::with(key, word_said(alloc, document, kind, word));
+    if let Some(reference) = undeclared_name(document, table, kind) {
+        return Wrong::with(key, reference_said(alloc, document, kind, reference));
     }
     if let Some(name) = undeclared_report(document, table) {
         return Wrong::with("reports", undeclared_said(alloc, document, "output", name));
@@ -36,68 +39,100 @@ pub(crate) fn undeclared(
     }
 }
 
-/// That no table of the word has the name.
+/// That no table of the word has the name, and which tables have it, or what may have been meant.
 fn undeclared_said(
     alloc: Global,
     document: &Table,
     word: &str,
     name: &str,
 ) -> Result<String, AllocError> {
+    if let Some(other) = word_declaring(document, name) {
+        return format!(in alloc; "no [[{word}]] is named `{name}`, which is a [[{other}]]");
+    }
     let names = names_among(alloc, document, word)?;
-    let meant = meant_said(alloc, name, &names)?;
+    let meant = meant_or_known(alloc, name, &names)?;
     format!(in alloc; "no [[{word}]] is named `{name}`{meant}")
 }
 
-/// That the word of a chart, or of values, is declared nowhere, or as an act of another level than the chart's labels.
-fn word_said(
+/// That the name of a chart, or of a list of values, is declared nowhere, or as something else.
+fn reference_said(
     alloc: Global,
     document: &Table,
     kind: TableKind,
-    word: &str,
+    reference: Reference<'_>,
 ) -> Result<String, AllocError> {
-    let mut names = value_names(alloc, document)?;
-    if let Some(below) = word_below(kind) {
-        for level in ["unit_procedure", "operation", "phase"] {
-            if times_among(document, level, word) > 0 {
-                return format!(in alloc;
-                    "`{word}` is a [[{level}]], and a label of this chart names a [[{below}]]"
-                );
-            }
-        }
-        for name in names_among(alloc, document, below)? {
-            names.push(name)?;
-        }
+    let name = reference.name;
+    if let Some(word) = word_declaring(document, name) {
+        return match word_below(kind) {
+            Some(below) if !reference.is_value => format!(in alloc;
+                "`{name}` is a [[{word}]], and a label of this chart names a [[{below}]]"
+            ),
+            Some(_) => format!(in alloc;
+                "`{name}` is a [[{word}]], and a condition compares values: an [[input]], a [[parameter]] or an [[output]]"
+            ),
+            None => format!(in alloc;
+                "`{name}` is a [[{word}]], and `values` are of the kinds [[input]], [[parameter]] and [[output]]"
+            ),
+        };
     }
-    let meant = meant_said(alloc, word, &names)?;
-    format!(in alloc; "`{word}` is declared nowhere{meant}")
+    let names = match word_below(kind) {
+        Some(below) if !reference.is_value => names_among(alloc, document, below)?,
+        _ => value_names(alloc, document)?,
+    };
+    let meant = meant_or_known(alloc, name, &names)?;
+    format!(in alloc; "`{name}` is declared nowhere{meant}")
 }
 
 /// Which name of the table stands twice.
 pub(crate) fn duplicate(
     alloc: Global,
+    text: &str,
     document: &Table,
     table: &Table,
+    spot: Spot,
 ) -> Result<Wrong<'static>, AllocError> {
     if let Some(name) = listed_twice(table, "reports") {
         return Wrong::with("reports", format!(in alloc; "`{name}` stands twice"));
     }
     if let Some(name) = name_of(table) {
-        if times_declared(document, name) > 1 {
-            return Wrong::with(
-                "name",
-                format!(in alloc; "the name `{name}` is declared twice"),
-            );
+        if let Some(first) = first_named(document, namesakes_of(&spot.kind), name) {
+            if first != spot {
+                return Wrong::with("name", namesake_said(alloc, text, document, name, first));
+            }
         }
     }
     Wrong::with("phases", offered_said(alloc, document, table))
 }
 
+/// That the table at the spot has the name already.
+fn namesake_said(
+    alloc: Global,
+    text: &str,
+    document: &Table,
+    name: &str,
+    first: Spot,
+) -> Result<String, AllocError> {
+    let table = table_said(alloc, first)?;
+    match line_of(text, first, tables_of(document, first.kind), "name") {
+        Some(line) => format!(in alloc;
+            "the name `{name}` is declared twice: it is that of {table}, in line {line}"
+        ),
+        None => format!(in alloc; "the name `{name}` is declared twice: it is that of {table}"),
+    }
+}
+
 /// Which phase of the module its unit offers twice.
 fn offered_said(alloc: Global, document: &Table, module: &Table) -> Result<String, AllocError> {
     let unit = module.get("unit").and_then(Value::as_str).unwrap_or("");
-    let phase = match listed_twice(module, "phases") {
-        Some(phase) => phase,
-        None => offered_by_several(document, unit, module).unwrap_or(""),
-    };
-    format!(in alloc; "the phase `{phase}` is offered twice by the unit `{unit}`")
+    if let Some(phase) = listed_twice(module, "phases") {
+        return format!(in alloc;
+            "the phase `{phase}` is offered twice by the unit `{unit}`: it stands twice in this module"
+        );
+    }
+    match offered_before(document, unit, module) {
+        Some((phase, other)) => format!(in alloc;
+            "the phase `{phase}` is offered twice by the unit `{unit}`: its module `{other}` has it already"
+        ),
+        None => String::from_str(alloc, "a name stands twice"),
+    }
 }

@@ -6,6 +6,9 @@ use strsim::osa_distance;
 /// How many letters of a written name stand behind one that may be wrong.
 const LETTERS_A_MISTAKE: usize = 3;
 
+/// How many names are told at most.
+const MOST_TOLD: usize = 16;
+
 /// A question for the name that was nearly written, or nothing where none is near.
 pub(crate) fn meant_said(
     alloc: Global,
@@ -18,8 +21,39 @@ pub(crate) fn meant_said(
     }
 }
 
+/// A question for the name that was nearly written, or the names that there are where none is near.
+pub(crate) fn meant_or_known(
+    alloc: Global,
+    written: &str,
+    names: &[&str],
+) -> Result<String, AllocError> {
+    match nearest(alloc, written, names)? {
+        Some(name) => format!(in alloc; "; did you mean `{name}`?"),
+        None => known_said(alloc, names),
+    }
+}
+
+/// The names that there are, or the first of many.
+fn known_said(alloc: Global, names: &[&str]) -> Result<String, AllocError> {
+    if names.is_empty() {
+        return String::from_str(alloc, "; none is known");
+    }
+    let mut said = String::from_str(alloc, "; known are ")?;
+    for (number, name) in names.iter().enumerate() {
+        if number == MOST_TOLD {
+            said.push_str(" and more")?;
+            break;
+        }
+        if number > 0 {
+            said.push_str(", ")?;
+        }
+        said.push_str(name)?;
+    }
+    Ok(said)
+}
+
 /// The name that is the written one but for the case of its letters, or the first of those that fewest letters part from it, where
-/// they are few.
+/// they are few, or the only one that begins with the written one, or begins it.
 fn nearest<'a>(
     alloc: Global,
     written: &str,
@@ -37,7 +71,24 @@ fn nearest<'a>(
             found = Some(*name);
         }
     }
-    Ok(found)
+    Ok(match found {
+        Some(name) => Some(name),
+        None => only_beginning(written, names),
+    })
+}
+
+/// The only one of the names that begins with the written one, or begins it.
+fn only_beginning<'a>(written: &str, names: &[&'a str]) -> Option<&'a str> {
+    let mut found = None;
+    for name in names {
+        if name.starts_with(written) || written.starts_with(*name) {
+            if found.is_some() {
+                return None;
+            }
+            found = Some(*name);
+        }
+    }
+    found
 }
 
 /// The names of the cell's resources.

@@ -1,22 +1,16 @@
 //! What is wrong at a node of a recipe.
 use crate::names::resource_name;
-use crate::near::{meant_said, resource_names};
+use crate::near::{meant_or_known, meant_said, resource_names};
 use crate::ranks::rank_said;
 use crate::roles::{class_of, unit_among, unit_without};
+use crate::ways::way_to;
 use batch_cell::Cell;
-use batch_recipe::{Act, MAX_NODES, Recipe, UnitChoice, Work, act_at, node_at, place_at};
-use batch_text::{Name, Place};
+use batch_recipe::{Act, Recipe, UnitChoice, Work, act_at, node_count};
+use batch_text::Name;
 use batch_verify::{Broken, Certificate, Rule};
 use std::alloc::{AllocError, Global};
 
-/// The acts on the way to a node, the node's own last, and the place of the node.
-#[derive(Drop)]
-struct Way<'a> {
-    acts: Vec<&'a Act>,
-    place: String,
-}
-
-/// Which rule is broken at the node, by what.
+/// Which rule is broken at the node of the recipe with this number, by what.
 pub(crate) fn broken_said(
     alloc: Global,
     cell: &Cell,
@@ -29,15 +23,7 @@ pub(crate) fn broken_said(
     let place = way.place.as_str();
     match way.acts.last() {
         Some(act) => {
-            let said = rule_said(
-                alloc,
-                cell,
-                recipe,
-                certificate,
-                broken.rule,
-                &way.acts,
-                act,
-            );
+            let said = rule_said(alloc, cell, recipe, certificate, broken, &way.acts, act);
             node_said(alloc, name, &act.name, place, said)
         }
         None => format!(in alloc; "{name} breaks a rule at {place}"),
@@ -62,49 +48,17 @@ fn rule_said(
     cell: &Cell,
     recipe: &Recipe,
     certificate: Option<&Certificate>,
-    rule: Rule,
+    broken: Broken,
     acts: &[&Act],
     act: &Act,
 ) -> Result<String, AllocError> {
-    match rule {
+    match broken.rule {
         Rule::UnknownResource => unknown_said(alloc, cell, recipe, act),
         Rule::ShareAboveCapacity => share_said(alloc, cell, act),
         Rule::PhaseNotOffered => phase_said(alloc, cell, recipe, acts, act),
-        Rule::SamePhaseInParallel => {
-            String::from_str(alloc, "two branches of this `par` run the same phase")
-        }
+        Rule::SamePhaseInParallel => parallel_said(alloc, recipe, broken.node),
         Rule::LoopWithoutPhase => String::from_str(alloc, "a turn of this `loop` may run no phase"),
         Rule::RankNotRising => rank_said(alloc, cell, recipe, certificate, acts),
-    }
-}
-
-/// Follows the place of the node down from the root.
-fn way_to<'a>(alloc: Global, recipe: &'a Recipe, node: u16) -> Result<Way<'a>, AllocError> {
-    let mut acts = Vec::new(alloc);
-    let mut place = String::new(alloc);
-    for depth in 0..MAX_NODES {
-        let Some(number) = place_at(recipe, node, depth) else {
-            break;
-        };
-        if depth > 0 {
-            place.push_str(".")?;
-        }
-        write!(place, "{number}")?;
-        if let Some(act) = act_of(alloc, recipe, place.as_str()) {
-            acts.push(act)?;
-        }
-    }
-    Ok(Way { acts, place })
-}
-
-/// The act at the place, where an act stands there.
-fn act_of<'a>(alloc: Global, recipe: &'a Recipe, place: &str) -> Option<&'a Act> {
-    let Ok(place) = Place::read(alloc, place.as_bytes()) else {
-        return None;
-    };
-    match node_at(recipe, &place) {
-        Some(node) => act_at(recipe, node),
-        None => None,
     }
 }
 
@@ -117,15 +71,16 @@ fn unknown_said(
     match &act.unit {
         Some(UnitChoice::Unit(unit)) => {
             if cell.unit_of(unit).is_none() {
-                let meant = meant_unit(alloc, cell, unit)?;
+                let meant = meant_unit(alloc, cell, recipe, unit)?;
                 return format!(in alloc; "{unit} is no unit of the cell {}{meant}", cell.name);
             }
         }
         Some(UnitChoice::Role(role)) => {
             if let Some(class) = class_of(recipe, role) {
                 if cell.candidates(class) == 0 {
+                    let meant = meant_class(alloc, cell, class)?;
                     return format!(in alloc;
-                        "its role {role} needs a unit of class {class}, and the cell {} has none",
+                        "its role {role} needs a unit of class {class}, and the cell {} has none{meant}",
                         cell.name
                     );
                 }
@@ -133,24 +88,84 @@ fn unknown_said(
         }
         None => {}
     }
-    need_said(alloc, cell, act)
+    need_said(alloc, cell, recipe, act)
 }
 
 /// The unit that may have been meant.
-fn meant_unit(alloc: Global, cell: &Cell, written: &Name) -> Result<String, AllocError> {
+fn meant_unit(
+    alloc: Global,
+    cell: &Cell,
+    recipe: &Recipe,
+    written: &Name,
+) -> Result<String, AllocError> {
+    if class_of(recipe, written).is_some() {
+        return format!(in alloc; "; {written} is a role, which stands under the key `role`");
+    }
+    if cell.candidates(written) > 0 {
+        return format!(in alloc;
+            "; {written} is a class: a [[role]] of it stands for one of its units, and the key `role` names that"
+        );
+    }
     let mut names = Vec::new(alloc);
     for unit in &cell.units {
         names.push(unit.name.text())?;
     }
-    meant_said(alloc, written.text(), &names)
+    meant_or_known(alloc, written.text(), &names)
+}
+
+/// The class that may have been meant.
+fn meant_class(alloc: Global, cell: &Cell, written: &Name) -> Result<String, AllocError> {
+    if cell.unit_of(written).is_some() {
+        return format!(in alloc;
+            "; {written} is a unit, and the key `class` names the class of units"
+        );
+    }
+    let mut names = Vec::new(alloc);
+    for unit in &cell.units {
+        if let Some(class) = &unit.class {
+            if !names.contains(&class.text()) {
+                names.push(class.text())?;
+            }
+        }
+    }
+    meant_or_known(alloc, written.text(), &names)
+}
+
+/// The resource that may have been meant.
+fn meant_resource(
+    alloc: Global,
+    cell: &Cell,
+    recipe: &Recipe,
+    written: &Name,
+) -> Result<String, AllocError> {
+    if class_of(recipe, written).is_some() {
+        return format!(in alloc;
+            "; {written} is a role, and needs are of units by their own names"
+        );
+    }
+    if cell.candidates(written) > 0 {
+        return format!(in alloc;
+            "; {written} is a class, and needs are of units by their own names"
+        );
+    }
+    for module in &cell.modules {
+        if module.name == *written {
+            if let Some(unit) = &module.unit {
+                return format!(in alloc;
+                    "; {written} is a module of the unit {unit}, which is what can be needed"
+                );
+            }
+        }
+    }
+    let names = resource_names(alloc, cell)?;
+    meant_or_known(alloc, written.text(), &names)
 }
 
 /// The first need of the act that is no resource.
-fn need_said(alloc: Global, cell: &Cell, act: &Act) -> Result<String, AllocError> {
+fn need_said(alloc: Global, cell: &Cell, recipe: &Recipe, act: &Act) -> Result<String, AllocError> {
     for need in &act.needs {
         if cell.resource_of(&need.resource).is_none() {
-            let names = resource_names(alloc, cell)?;
-            let meant = meant_said(alloc, need.resource.text(), &names)?;
+            let meant = meant_resource(alloc, cell, recipe, &need.resource)?;
             return format!(in alloc;
                 "its need {} is no resource of the cell {}{meant}",
                 need.resource, cell.name
@@ -188,7 +203,7 @@ fn phase_said(
     match unit_among(acts) {
         Some(UnitChoice::Unit(unit)) => {
             let offered = match cell.unit_of(unit) {
-                Some(number) => offered_said(alloc, cell, number)?,
+                Some(number) => offered_said(alloc, cell, number, phase)?,
                 None => String::new(alloc),
             };
             format!(in alloc; "the unit {unit} doesn't offer the phase {phase}{offered}")
@@ -209,7 +224,7 @@ fn role_said(
     match unit_without(cell, recipe, role, phase) {
         Some(unit) => {
             let name = resource_name(cell, unit);
-            let offered = offered_said(alloc, cell, unit)?;
+            let offered = offered_said(alloc, cell, unit, phase)?;
             format!(in alloc;
                 "the unit {name}, which may take the role {role}, doesn't offer the phase {phase}{offered}"
             )
@@ -218,9 +233,10 @@ fn role_said(
     }
 }
 
-/// The phases that the unit with this number offers.
-fn offered_said(alloc: Global, cell: &Cell, unit: u16) -> Result<String, AllocError> {
+/// The phases that the unit with this number offers, and which of them may have been meant by this one.
+fn offered_said(alloc: Global, cell: &Cell, unit: u16, phase: &Name) -> Result<String, AllocError> {
     let mut said = String::new(alloc);
+    let mut names = Vec::new(alloc);
     if unit >= cell.units() {
         return Ok(said);
     }
@@ -230,9 +246,67 @@ fn offered_said(alloc: Global, cell: &Cell, unit: u16) -> Result<String, AllocEr
         };
         said.push_str(if number == 0 { "; it offers " } else { ", " })?;
         said.push_str(phase.text())?;
+        names.push(phase.text())?;
     }
     if said.is_empty() {
         return String::from_str(alloc, "; it offers none, since no module of it has phases");
     }
+    let meant = meant_said(alloc, phase.text(), &names)?;
+    said.push_str(meant.as_str())?;
     Ok(said)
+}
+
+/// Which phase two branches of the `par` at the node run.
+fn parallel_said(alloc: Global, recipe: &Recipe, node: u16) -> Result<String, AllocError> {
+    match shared_phase(alloc, recipe, node)? {
+        Some((phase, first, second)) => format!(in alloc;
+            "two branches of this `par` run the same phase, {phase}: number {first} and number {second}"
+        ),
+        None => String::from_str(alloc, "two branches of this `par` run the same phase"),
+    }
+}
+
+/// The first phase that a branch of the `par` at the node runs after another branch, and the numbers of the two, from 1.
+fn shared_phase<'a>(
+    alloc: Global,
+    recipe: &'a Recipe,
+    node: u16,
+) -> Result<Option<(&'a Name, u16, u16)>, AllocError> {
+    let mut run: Vec<(&'a Name, u16)> = Vec::new(alloc);
+    let mut branch: u16 = 0;
+    for at in 0..node_count(recipe) {
+        let Some(entry) = recipe.outline.entries.get(usize::from(at)) else {
+            break;
+        };
+        if at > node && entry.parent == node {
+            branch = entry.child.saturating_add(1);
+        }
+        if branch > 0 && is_below(recipe, node, at) {
+            if let Some(phase) = phase_of(recipe, at) {
+                for (other, first) in &run {
+                    if **other == *phase && *first != branch {
+                        return Ok(Some((phase, *first, branch)));
+                    }
+                }
+                run.push((phase, branch))?;
+            }
+        }
+    }
+    Ok(None)
+}
+
+/// Whether the node stands below the other one.
+fn is_below(recipe: &Recipe, above: u16, node: u16) -> bool {
+    match recipe.outline.entries.get(usize::from(above)) {
+        Some(entry) => above < node && node < entry.end,
+        None => false,
+    }
+}
+
+/// The phase that the node runs, where it is a phase step.
+fn phase_of(recipe: &Recipe, node: u16) -> Option<&Name> {
+    match &act_at(recipe, node)?.work {
+        Work::Runs { phase, .. } => Some(phase),
+        Work::Follows(_) => None,
+    }
 }

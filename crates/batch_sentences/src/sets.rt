@@ -1,10 +1,12 @@
 //! What is wrong with a set of recipes.
-ghost use Rattle.std.specs.Prelude.{◌≡◌, IfOk, string_bytes};
-ghost use Rattle.batch_sentences.specs.CircleSentence.{SaysCircle, circle_words, edge_words};
+ghost use Rattle.std.specs.Prelude.{◌≡◌, ◌++◌, ℕ, List, IfOk, string_bytes};
+ghost use Rattle.batch_sentences.specs.CircleSentence.{IsCircleTold, IsEdgeTold, SaysCircle};
 
+use crate::circles::{advice_said, asker_said, holder_said};
 use crate::names::{act_name, recipe_name, resource_name};
 use crate::nodes::broken_said;
 use crate::sentence::Sentence;
+use crate::sources::{Source, origin_said};
 use batch_cell::Cell;
 use batch_check::{CheckFault, Edge};
 use batch_model::MAX_RECIPES;
@@ -14,11 +16,13 @@ use std::alloc::{AllocError, Global};
 
 const NO_MEMORY: &str = "there is no memory to judge the recipes";
 
-/// What the refusal of the recipes by the certificate means.
+/// What the refusal of the recipes by the certificate means. Sources are those of the recipes, in order; of one that is left out no
+/// file is told.
 pub fn refusal_sentence(
     alloc: Global,
     cell: &Cell,
     recipes: &[Recipe],
+    sources: &[Source],
     certificate: &Certificate,
     refusal: SetRefusal,
 ) -> Result<Sentence, AllocError> {
@@ -27,10 +31,18 @@ pub fn refusal_sentence(
         SetRefusal::RankedTwice(entry) => ranked_twice_said(alloc, certificate, entry),
         SetRefusal::UnknownEntry(entry) => unknown_entry_said(alloc, cell, certificate, entry),
         SetRefusal::Recipe { recipe, broken } => {
-            recipe_said(alloc, cell, recipes, recipe, Some(certificate), broken)
+            recipe_said(
+                alloc,
+                cell,
+                recipes,
+                sources,
+                recipe,
+                Some(certificate),
+                broken,
+            )
         }
         SetRefusal::Memory => String::from_str(alloc, NO_MEMORY),
-        SetRefusal::Recipes => no_set_said(alloc, recipes),
+        SetRefusal::Recipes => no_set_said(alloc, recipes, sources),
     };
     Sentence::of(alloc, said?.as_str())
 }
@@ -70,26 +82,34 @@ fn recipe_said(
     alloc: Global,
     cell: &Cell,
     recipes: &[Recipe],
-    recipe: u16,
+    sources: &[Source],
+    number: u16,
     certificate: Option<&Certificate>,
     broken: Broken,
 ) -> Result<String, AllocError> {
-    match recipes.get(usize::from(recipe)) {
-        Some(recipe) => broken_said(alloc, cell, recipe, certificate, broken),
-        None => Ok(String::new(alloc)),
-    }
+    let Some(recipe) = recipes.get(usize::from(number)) else {
+        return Ok(String::new(alloc));
+    };
+    let origin = origin_said(alloc, sources, number, recipe, broken.node)?;
+    let said = broken_said(alloc, cell, recipe, certificate, broken)?;
+    format!(in alloc; "{origin}{said}")
 }
 
 /// Which two of the recipes have one name, or that there are too many.
-fn no_set_said(alloc: Global, recipes: &[Recipe]) -> Result<String, AllocError> {
+fn no_set_said(
+    alloc: Global,
+    recipes: &[Recipe],
+    sources: &[Source],
+) -> Result<String, AllocError> {
     for (first, recipe) in recipes.iter().enumerate() {
         let name = &recipe.acts.procedure.name;
         for (later, other) in recipes.iter().enumerate() {
             if first < later && other.acts.procedure.name == *name {
+                let files = files_said(alloc, sources, first, later)?;
                 let first = first.saturating_add(1);
                 let later = later.saturating_add(1);
                 return format!(in alloc;
-                    "the recipes number {first} and {later} are both named {name}"
+                    "the recipes number {first} and {later}{files} are both named {name}"
                 );
             }
         }
@@ -97,37 +117,72 @@ fn no_set_said(alloc: Global, recipes: &[Recipe]) -> Result<String, AllocError> 
     format!(in alloc; "there are more than {MAX_RECIPES} recipes")
 }
 
-/// What it means that the recipes have no certificate.
+/// The files of these two recipes, where they are known.
+fn files_said(
+    alloc: Global,
+    sources: &[Source],
+    first: usize,
+    later: usize,
+) -> Result<String, AllocError> {
+    match (sources.get(first), sources.get(later)) {
+        (Some(first), Some(later)) => {
+            let (first, later) = (first.path(), later.path());
+            format!(in alloc; ", {first} and {later},")
+        }
+        _ => Ok(String::new(alloc)),
+    }
+}
+
+/// What it means that the recipes have no certificate. Sources are as in [`refusal_sentence`].
 pub fn fault_sentence(
     alloc: Global,
     cell: &Cell,
     recipes: &[Recipe],
+    sources: &[Source],
     fault: &CheckFault,
 ) -> Result<Sentence, AllocError>
     ensures { IfOk result (λ sentence. SaysCircle cell.now recipes.now fault.now (string_bytes sentence.text)) }
 {
     let said = match fault {
         CheckFault::Recipe { recipe, broken } => {
-            recipe_said(alloc, cell, recipes, *recipe, None, *broken)
+            recipe_said(alloc, cell, recipes, sources, *recipe, None, *broken)
         }
-        CheckFault::Recipes => no_set_said(alloc, recipes),
-        CheckFault::Circle(edges) => circle_said(alloc, cell, recipes, edges),
+        CheckFault::Recipes => no_set_said(alloc, recipes, sources),
+        CheckFault::Circle(edges) => mended_said(alloc, cell, recipes, sources, edges),
         CheckFault::Memory => String::from_str(alloc, NO_MEMORY),
     };
     Sentence::of(alloc, said?.as_str())
+}
+
+/// The circle, and what may be done.
+fn mended_said(
+    alloc: Global,
+    cell: &Cell,
+    recipes: &[Recipe],
+    sources: &[Source],
+    edges: &[Edge],
+) -> Result<String, AllocError>
+    ensures { IfOk result (λ said. (words : List ℕ) × (more : List ℕ)
+        × IsCircleTold cell.now recipes.now edges.now words × (string_bytes said ≡ words ++ more)) }
+{
+    let mut said = circle_said(alloc, cell, recipes, sources, edges)?;
+    let more = advice_said(alloc, cell, recipes, edges)?;
+    said.push_str(&more)?;
+    Ok(said)
 }
 
 fn circle_said(
     alloc: Global,
     cell: &Cell,
     recipes: &[Recipe],
+    sources: &[Source],
     edges: &[Edge],
 ) -> Result<String, AllocError>
-    ensures { IfOk result (λ said. string_bytes said ≡ circle_words cell.now recipes.now edges.now) }
+    ensures { IfOk result (λ said. IsCircleTold cell.now recipes.now edges.now (string_bytes said)) }
 {
     let mut said = String::from_str(alloc, "batches can wait in a circle")?;
     for edge in edges {
-        let words = edge_said(alloc, cell, recipes, *edge)?;
+        let words = edge_said(alloc, cell, recipes, sources, *edge)?;
         said.push_str(&words)?;
     }
     Ok(said)
@@ -137,15 +192,18 @@ fn edge_said(
     alloc: Global,
     cell: &Cell,
     recipes: &[Recipe],
+    sources: &[Source],
     edge: Edge,
 ) -> Result<String, AllocError>
-    ensures { IfOk result (λ said. string_bytes said ≡ edge_words cell.now recipes.now edge) }
+    ensures { IfOk result (λ said. IsEdgeTold cell.now recipes.now edge (string_bytes said)) }
 {
     let name = recipe_name(recipes, edge.recipe);
     let earlier = resource_name(cell, edge.earlier);
     let later = resource_name(cell, edge.later);
     let act = act_name(recipes, edge.recipe, edge.node);
-    format!(in alloc; "; {name} holds {earlier} and asks for {later} in {act}")
+    let holder = holder_said(alloc, cell, recipes, sources, edge)?;
+    let asker = asker_said(alloc, cell, recipes, sources, edge)?;
+    format!(in alloc; "; {name} holds {earlier}{holder} and asks for {later} in {act}{asker}")
 }
 
 fn entry_name(certificate: &Certificate, entry: usize) -> &str {

@@ -20,7 +20,7 @@ whole_lines [] is = inl refl
 whole_lines (b ∷ []) is = inr ([], ap (λ x. x ∷ []) (eqb-true b 10 is))
 whole_lines (b ∷ c ∷ text) is = whole_behind b (c ∷ text) (whole_lines (c ∷ text) is) (λ none. absurd (cc none))
 
-whole_both : (a b : List ℕ) → is_whole a ≡ true → is_whole b ≡ true → is_whole (a ++ b) ≡ true
+pub whole_both : (a b : List ℕ) → is_whole a ≡ true → is_whole b ≡ true → is_whole (a ++ b) ≡ true
 whole_both [] b is others = others
 whole_both (x ∷ []) [] is others = is
 whole_both (x ∷ []) (y ∷ b) is others = others

@@ -110,6 +110,10 @@ no_text_is_taken : fault_of program_app (codes "explain" ∷ []) ≡ []
 unfolding clap_on_literals
 no_text_is_taken = refl
 
+show_entered : entered_words (subcommand_of program_app (codes "show" ∷ codes "c" ∷ codes "r" ∷ [])) ≡ Some (codes "show", codes "c", [], codes "r" ∷ [])
+unfolding clap_on_literals
+show_entered = refl
+
 -- a record
 
 -- the path of the record that was entered, where there is one
@@ -127,6 +131,31 @@ no_path_is_read = refl
 no_path_is_taken : fault_of program_app (codes "status" ∷ []) ≡ []
 unfolding clap_on_literals
 no_path_is_taken = refl
+
+-- an audit
+
+abbrev audit_line : List Text
+audit_line = codes "audit" ∷ codes "--beginning" ∷ codes "d" ∷ codes "c" ∷ codes "k" ∷ codes "r" ∷ []
+
+-- whether a beginning is accepted, and the record, of the command that was entered
+abbrev entered_record : Option (Text × List Row) → Option (Bool × Text)
+entered_record = option_map (λ p. (is_given (codes "beginning") p.1, word_of (codes "RECORD") p.1))
+
+record_is_read : entered_record (subcommand_of program_app audit_line) ≡ Some (true, codes "d")
+unfolding clap_on_literals
+record_is_read = refl
+
+audit_entered : entered_words (subcommand_of program_app audit_line) ≡ Some (codes "audit", codes "c", codes "k", codes "r" ∷ [])
+unfolding clap_on_literals
+audit_entered = refl
+
+audit_taken : fault_of program_app audit_line ≡ []
+unfolding clap_on_literals
+audit_taken = refl
+
+record_is_missing : fault_of program_app (codes "audit" ∷ codes "c" ∷ codes "k" ∷ []) ≡ MissingRequiredArgument ∷ []
+unfolding clap_on_literals
+record_is_missing = refl
 
 -- clap answers at `help`, and by which of the two kinds isn't said
 help_enters_nothing : fault_of program_app (codes "help" ∷ codes "check" ∷ []) ≡ DisplayHelp ∷ InvalidSubcommand ∷ []

@@ -1,4 +1,4 @@
--- trusted: the command line: `check CELL RECIPE..`, `verify CELL CERT RECIPE..`, `run CELL CERT RECIPE..`, `status RECORD`, `plant`, `explain CODE..`, and no words at all.
+-- trusted: the command line: `check CELL RECIPE..`, `verify CELL CERT RECIPE..`, `show CELL RECIPE..`, `run CELL CERT RECIPE..`, `status RECORD`, `audit RECORD CELL CERT RECIPE..`, `plant`, `explain CODE..`, and no words at all.
 use Rattle.std.specs.Prelude.{◌≡◌, ◌≢◌, ◌⊎◌, [], ℕ, Bool, List, Option, Some, None, map, option_map, codes, true, false, unwrap_or, string_bytes, if◌then◌else◌, ⊤}
 use Rattle.std.specs.Str.{bytes_eq}
 use Rattle.std.specs.Str.Parse.{digits_value, without_leading_plus}
@@ -12,9 +12,9 @@ use Rattle.clap.specs.declared.builder.value_parser.ValueParser.TheVariants.{Uns
 use Rattle.clap.specs.declared.error.kind.ErrorKind.{ErrorKind}
 use Rattle.clap.specs.declared.error.kind.ErrorKind.TheVariants.{DisplayHelp, DisplayVersion, OutOfMemory}
 use Rattle.batch_words.specs.declared.command.Subcommand.{Subcommand}
-use Rattle.batch_words.specs.declared.command.Subcommand.TheVariants.{Judge, Serve, Status, Plant, Explain}
+use Rattle.batch_words.specs.declared.command.Subcommand.TheVariants.{Judge, Serve, Status, Audit, Plant, Explain}
 use Rattle.batch_words.specs.declared.command.Judgement as judgements
-use Rattle.batch_words.specs.declared.command.Judgement.TheVariants.{Check, Draw, Verify}
+use Rattle.batch_words.specs.declared.command.Judgement.TheVariants.{Check, Draw, Verify, Show}
 use Rattle.batch_words.specs.declared.command.Source as sources
 use Rattle.batch_words.specs.declared.command.Source.TheVariants.{Demo, Documents}
 use Rattle.batch_words.specs.declared.command.CommandWords.{CommandWords}
@@ -59,8 +59,17 @@ abbrev pub certified_app : Text → App
 certified_app name = with_rule (with_rule (with_rule (with_rule (new_app name)
     (word_rule (codes "CELL"))) (word_rule (codes "CERT"))) (several_rule (codes "RECIPE"))) (flag_rule (codes "quiet"))
 
+abbrev pub show_app : App
+show_app = with_rule (with_rule (with_rule (new_app (codes "show"))
+    (word_rule (codes "CELL"))) (several_rule (codes "RECIPE"))) (flag_rule (codes "quiet"))
+
 abbrev pub status_app : App
 status_app = with_rule (new_app (codes "status")) (optional_rule (codes "RECORD"))
+
+abbrev pub audit_app : App
+audit_app = with_rule (with_rule (with_rule (with_rule (with_rule (with_rule (new_app (codes "audit"))
+    (word_rule (codes "RECORD"))) (word_rule (codes "CELL"))) (word_rule (codes "CERT"))) (several_rule (codes "RECIPE")))
+    (flag_rule (codes "beginning"))) (flag_rule (codes "quiet"))
 
 abbrev pub plant_app : App
 plant_app = with_rule (with_rule (with_rule (new_app (codes "plant"))
@@ -75,8 +84,9 @@ bare_app = on_top (λ s. record s { has_version = true; no_binary_name = true })
 -- the whole command line
 abbrev pub program_app : App
 program_app =
-    with_subcommand (with_subcommand (with_subcommand (with_subcommand (with_subcommand (with_subcommand bare_app
-    check_app.top) (certified_app (codes "verify")).top) (certified_app (codes "run")).top) status_app.top) plant_app.top) explain_app.top
+    with_subcommand (with_subcommand (with_subcommand (with_subcommand (with_subcommand (with_subcommand (with_subcommand (with_subcommand bare_app
+    check_app.top) (certified_app (codes "verify")).top) show_app.top) (certified_app (codes "run")).top) status_app.top) audit_app.top) plant_app.top)
+    explain_app.top
 
 -- the word that was given for an argument
 abbrev pub word_of : Text → List Row → Text
@@ -115,6 +125,8 @@ pub data Judgement : Type 0 where
   -- to draw what they ask for
   draw : (cell : Text) (recipes : List Text) → Judgement
   verify : (cell certificate : Text) (recipes : List Text) → Judgement
+  -- to show their nodes
+  show : (cell : Text) (recipes : List Text) → Judgement
 
 -- whose set is to be served: the demo's, or that of the documents at these paths
 pub data Source : Type 0 where
@@ -126,6 +138,8 @@ pub data Request : Type 0 where
   serve : Source → Request
   -- to tell what the record at this path says, or the one on standard input
   tell : (path : Option Text) → Request
+  -- to compare the record at this path with what event lines come to over a set; a record that only begins it may be accepted
+  audit : (beginning : Bool) (path : Text) (source : Source) → Request
   -- to run the demo's plant for so many batches, with phases of so many ticks and rings of so many places
   plant : (batches ticks ring : ℕ) → Request
   -- to say what the first code in these texts means, or where there are none what all codes mean
@@ -137,6 +151,10 @@ checked_by rows =
     if is_given (codes "dot") rows then judge (draw (word_of (codes "CELL") rows) (words_of (codes "RECIPE") rows))
     else judge (check (word_of (codes "CELL") rows) (words_of (codes "RECIPE") rows))
 
+-- what the words behind `show` ask for
+abbrev pub shown_by : List Row → Request
+shown_by rows = judge (show (word_of (codes "CELL") rows) (words_of (codes "RECIPE") rows))
+
 -- what the words behind `verify` or `run` ask for
 abbrev pub certified_by : Text → List Row → Request
 certified_by name rows =
@@ -144,13 +162,21 @@ certified_by name rows =
     then judge (verify (word_of (codes "CELL") rows) (word_of (codes "CERT") rows) (words_of (codes "RECIPE") rows))
     else serve (documents (word_of (codes "CELL") rows) (word_of (codes "CERT") rows) (words_of (codes "RECIPE") rows))
 
+-- what the words behind `audit` ask for
+abbrev pub audited_by : List Row → Request
+audited_by rows =
+    audit (is_given (codes "beginning") rows) (word_of (codes "RECORD") rows)
+    (documents (word_of (codes "CELL") rows) (word_of (codes "CERT") rows) (words_of (codes "RECIPE") rows))
+
 -- what is asked for by the word that was entered and the words behind it; `program_app` enters no other word, and at `help` clap answers
 abbrev pub named_by : Text → List Row → Request
 named_by name rows =
     if bytes_eq name (codes "explain") then explain (words_of (codes "CODE") rows)
     else (if bytes_eq name (codes "plant") then plant (batches_of rows) (ticks_of rows) (ring_of rows)
     else (if bytes_eq name (codes "status") then tell (first_of (codes "RECORD") rows)
-    else (if bytes_eq name (codes "check") then checked_by rows else certified_by name rows)))
+    else (if bytes_eq name (codes "audit") then audited_by rows
+    else (if bytes_eq name (codes "check") then checked_by rows
+    else (if bytes_eq name (codes "show") then shown_by rows else certified_by name rows)))))
 
 -- what is asked for, whether or not a command was entered
 abbrev pub asked_by : Option (Text × List Row) → Request
@@ -166,6 +192,7 @@ abbrev pub judgement_of : judgements.Judgement → Judgement
 judgement_of (Check cell recipes) = check (string_bytes cell) (map string_bytes recipes.items)
 judgement_of (Draw cell recipes) = draw (string_bytes cell) (map string_bytes recipes.items)
 judgement_of (Verify cell certificate recipes) = verify (string_bytes cell) (string_bytes certificate) (map string_bytes recipes.items)
+judgement_of (Show cell recipes) = show (string_bytes cell) (map string_bytes recipes.items)
 
 abbrev pub source_of : sources.Source → Source
 source_of Demo = demo
@@ -175,6 +202,7 @@ abbrev pub request_of : Subcommand → Request
 request_of (Judge judgement) = judge (judgement_of judgement)
 request_of (Serve source) = serve (source_of source)
 request_of (Status path) = tell (option_map string_bytes path)
+request_of (Audit words) = audit words.beginning (string_bytes words.path) (source_of words.source)
 request_of (Plant options) = plant options.batches options.ticks options.ring
 request_of (Explain texts) = explain (map string_bytes texts.items)
 

@@ -6,7 +6,7 @@ mod line;
 mod plant_options;
 mod words;
 
-pub use command::{CommandFault, CommandWords, Judgement, Source, Subcommand};
+pub use command::{AuditWords, CommandFault, CommandWords, Judgement, Source, Subcommand};
 pub use line::VERSION;
 pub use plant_options::PlantOptions;
 pub use words::parse;

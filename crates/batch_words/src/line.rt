@@ -3,7 +3,7 @@ ghost use Rattle.std.specs.Prelude.{◌≡◌, IfOk, IsOkAnd, codes, false};
 ghost use Rattle.clap.specs.Words.{app_of, rule_of};
 ghost use Rattle.clap.specs.Words.{AddsSubcommand};
 ghost use Rattle.clap.specs.declared.builder.command.Command.TheViews.{out-Command};
-ghost use Rattle.batch_words.specs.CommandLine.{bare_app, certified_app, check_app, explain_app, flag_rule, number_rule, optional_rule, plant_app, program_app, several_rule, status_app, word_rule};
+ghost use Rattle.batch_words.specs.CommandLine.{audit_app, bare_app, certified_app, check_app, explain_app, flag_rule, number_rule, optional_rule, plant_app, program_app, several_rule, status_app, word_rule, show_app};
 
 use clap::builder::ValueParser;
 use clap::{Arg, ArgAction, Command};
@@ -45,6 +45,11 @@ An example, in examples/paint_plant:
   batchd verify cell.toml certificate.txt primer.toml rinse-mended.toml
 ";
 
+const SHOW_HELP: &str = "\
+An example, in examples/paint_plant:
+  batchd show cell.toml primer.toml
+";
+
 const RUN_HELP: &str = "\
 An example, in examples/paint_plant; type the lines below it:
   batchd run cell.toml certificate.txt primer.toml rinse-mended.toml
@@ -56,6 +61,12 @@ An example, in examples/paint_plant; type the lines below it:
 const STATUS_HELP: &str = "\
 An example, of a server whose record is written to day.record:
   batchd status day.record
+";
+
+const AUDIT_HELP: &str = "\
+An example, of a server whose input was kept in day.lines, and its record in day.record:
+  batchd audit day.record cell.toml certificate.txt primer.toml < day.lines
+  batchd audit --beginning day.record cell.toml certificate.txt primer.toml < day.lines
 ";
 
 const PLANT_HELP: &str = "\
@@ -76,9 +87,11 @@ pub(crate) fn program<'a>(alloc: Global) -> Result<Command<'a>, AllocError>
 {
     let checking = with_command(bare(alloc)?, check(alloc))?;
     let verifying = with_command(checking, verify(alloc))?;
-    let running = with_command(verifying, run(alloc))?;
+    let showing = with_command(verifying, show(alloc))?;
+    let running = with_command(showing, run(alloc))?;
     let telling = with_command(running, status(alloc))?;
-    let planting = with_command(telling, plant(alloc))?;
+    let auditing = with_command(telling, audit(alloc))?;
+    let planting = with_command(auditing, plant(alloc))?;
     with_command(planting, explain(alloc))
 }
 
@@ -127,6 +140,17 @@ fn verify<'a>(alloc: Global) -> Result<Command<'a>, AllocError>
     certified(alloc, "verify", about, VERIFY_HELP)
 }
 
+fn show<'a>(alloc: Global) -> Result<Command<'a>, AllocError>
+    ensures { IfOk result (λ show. (app_of show ≡ show_app) × ((out-Command show).has_globals ≡ false)) }
+{
+    Command::new(alloc, "show")
+        .about("Prints the nodes of the recipes, each with its place, as records name it")
+        .after_help(SHOW_HELP)
+        .arg(word(alloc, "CELL", "The cell document"))?
+        .arg(several(alloc, "RECIPE", "The master recipes"))?
+        .arg(quiet(alloc))
+}
+
 fn run<'a>(alloc: Global) -> Result<Command<'a>, AllocError>
     ensures { IfOk result (λ run. (app_of run ≡ certified_app (codes "run")) × ((out-Command run).has_globals ≡ false)) }
 {
@@ -164,6 +188,24 @@ fn status<'a>(alloc: Global) -> Result<Command<'a>, AllocError>
             "RECORD",
             "The record, which may still be written [default: standard input]",
         ))
+}
+
+fn audit<'a>(alloc: Global) -> Result<Command<'a>, AllocError>
+    ensures { IfOk result (λ audit. (app_of audit ≡ audit_app) × ((out-Command audit).has_globals ≡ false)) }
+{
+    Command::new(alloc, "audit")
+        .about("Compares a record with what event lines from standard input come to")
+        .after_help(AUDIT_HELP)
+        .arg(word(alloc, "RECORD", "The record"))?
+        .arg(word(alloc, "CELL", "The cell document"))?
+        .arg(word(alloc, "CERT", "The certificate"))?
+        .arg(several(alloc, "RECIPE", "The master recipes"))?
+        .arg(flag(
+            alloc,
+            "beginning",
+            "Accepts a record that ends too soon, or in the midst of a line",
+        ))?
+        .arg(quiet(alloc))
 }
 
 fn plant<'a>(alloc: Global) -> Result<Command<'a>, AllocError>

@@ -1,16 +1,17 @@
 use Rattle.std.proofs.Common.{map, refl, string_bytes}
 use Rattle.std.proofs.KnownBytes.{Keeps-refl}
 use Rattle.batch_words.specs.CommandLine.{judgement_of, source_of}
-use Rattle.batch_commands.specs.Running.{explains, halts, judges, plants, reads, serves}
+use Rattle.batch_commands.specs.Running.{audits, explains, halts, judges, plants, reads, serves}
+use Rattle.batch_commands.proofs.Warned.{silent}
 use Rattle.batch_commands.proofs.running.run_command.Goals as goal
 
 pub returns-in-Ok : goal.returns-in-Ok
 returns-in-Ok g c =
     rw c.in-Judge.is
-    (judges (judgement_of c.in-Judge.judgement) _ _ refl (rw c.in-Judge.judgement-is at c.in-Ok.ensures.verdict) (rw c.deref.ensures at c.print.ensures))
+    (judges (judgement_of c.in-Judge.judgement) _ _ _ refl (rw c.in-Judge.judgement-is at c.in-Ok.ensures.verdict) (rw c.deref.ensures at c.print.ensures))
 
 pub returns-in-Judge : goal.returns-in-Judge
-returns-in-Judge g c = rw c.in-Judge.is (halts c.in-Err.halt _ (rw c.in-Judge.judgement-is at c.in-Err.ensures.halted) c.announce.ensures)
+returns-in-Judge g c = rw c.in-Judge.is (halts c.in-Err.halt _ _ (rw c.in-Judge.judgement-is at c.in-Err.ensures.halted) c.announce.ensures)
 
 pub returns-in-Ok-clear_source : goal.returns-in-Ok-clear_source
 returns-in-Ok-clear_source g c =
@@ -21,10 +22,22 @@ returns-in-Ok-clear_source g c =
 pub returns-in-Serve : goal.returns-in-Serve
 returns-in-Serve g c =
     rw c.in-Serve.is
-    (halts c.in-Err-clear_source.halt _ (rw c.in-Serve.source-is at c.in-Err-clear_source.ensures.halted) c.announce-in-Err-clear_source.ensures)
+    (halts c.in-Err-clear_source.halt _ _ (rw c.in-Serve.source-is at c.in-Err-clear_source.ensures.halted, silent _ _)
+    c.announce-in-Err-clear_source.ensures)
 
 pub returns-in-Status : goal.returns-in-Status
 returns-in-Status g c = rw c.in-Status.is (reads c.in-Status.path refl (Keeps-refl _) (Keeps-refl _))
+
+pub returns-in-Ok-clear_source-2 : goal.returns-in-Ok-clear_source-2
+returns-in-Ok-clear_source-2 g c =
+    rw c.in-Audit.is
+    (audits c.in-Audit.audit c.in-Ok-clear_source-2.set refl (rw c.in-Audit.audit-is at c.in-Ok-clear_source-2.ensures.set) (Keeps-refl _) (Keeps-refl _))
+
+pub returns-in-Audit : goal.returns-in-Audit
+returns-in-Audit g c =
+    rw c.in-Audit.is
+    (halts c.in-Err-clear_source-2.halt _ _ (rw c.in-Audit.audit-is at c.in-Err-clear_source-2.ensures.halted, silent _ _)
+    c.announce-in-Err-clear_source-2.ensures)
 
 pub returns-in-Ok-clear_demo : goal.returns-in-Ok-clear_demo
 returns-in-Ok-clear_demo g c =
@@ -32,7 +45,8 @@ returns-in-Ok-clear_demo g c =
 
 pub returns-in-Plant : goal.returns-in-Plant
 returns-in-Plant g c =
-    rw c.in-Plant.is (halts c.in-Err-clear_demo.halt _ c.in-Err-clear_demo.ensures.halted c.announce-in-Err-clear_demo.ensures)
+    rw c.in-Plant.is
+    (halts c.in-Err-clear_demo.halt _ _ (c.in-Err-clear_demo.ensures.halted, silent _ _) c.announce-in-Err-clear_demo.ensures)
 
 pub returns : goal.returns
 returns g c =

@@ -1,9 +1,10 @@
 use Rattle.std.proofs.Common.{map, option_map, string_bytes}
 use Rattle.std.proofs.KnownBytes.{Keeps-refl}
-use Rattle.batch_program.specs.Programs.{tells, serves, reads, plants}
+use Rattle.batch_words.specs.CommandLine.{source_of}
+use Rattle.batch_program.specs.Programs.{tells, serves, reads, audits, plants}
 use Rattle.batch_program.specs.declared.program.TheConstants.{MAX_READS}
 use Rattle.batch_program.proofs.Plants.{has_run}
-use Rattle.batch_program.proofs.Served.{left_kept, plant_to_run, record_kept, record_to_read, served_kept, set_to_serve, told_kept}
+use Rattle.batch_program.proofs.Served.{audit_kept, left_kept, plant_to_run, record_kept, record_to_read, served_kept, set_to_audit, set_to_serve, told_kept}
 use Rattle.batch_program.proofs.program.run_program.Goals as goal
 
 pub returns-in-Ends : goal.returns-in-Ends
@@ -27,6 +28,15 @@ returns-in-Reads g c =
     let (asked, kept, silent) = record_to_read (g.D.Documents.gives c.args.documents.now) (map string_bytes c.args.words.now) _ _ _ path c.run_words.ensures c.in-Reads.is in
     reads (option_map string_bytes path) c.tell_record.result asked
     (record_kept (g.D.Records.holds c.args.documents.now) (option_map string_bytes path) _ _ _ _ _ _ _ _ _ kept silent c.tell_record.ensures)
+
+pub returns-in-Audits : goal.returns-in-Audits
+returns-in-Audits g c =
+    let course = c.in-Audits in
+    let own = course.audit in
+    let is = set_to_audit (g.D.Documents.gives c.args.documents.now) (map string_bytes c.args.words.now) _ _ _ course.set own c.run_words.ensures course.is in
+    audits own.beginning (string_bytes own.path) (source_of own.source) course.set c.audit_record.result is.asked is.is_set
+    (audit_kept (g.D.Records.holds c.args.documents.now) course.set own.beginning (string_bytes own.path) _ _ _ _ _ _ _ _ _ is.unwritten is.silent
+    c.audit_record.ensures)
 
 pub returns-in-Plants : goal.returns-in-Plants
 returns-in-Plants g c =

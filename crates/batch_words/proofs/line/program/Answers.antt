@@ -1,6 +1,6 @@
 use Rattle.std.proofs.Common.{codes}
 use Rattle.std.proofs.lemmas.Result.{IfOk-weaker}
-use Rattle.batch_words.specs.CommandLine.{certified_app, check_app, explain_app, plant_app, status_app}
+use Rattle.batch_words.specs.CommandLine.{audit_app, certified_app, check_app, explain_app, plant_app, status_app, show_app}
 use Rattle.batch_words.proofs.Arguments.{with_command}
 use Rattle.batch_words.proofs.line.program.Goals as goal
 
@@ -12,13 +12,17 @@ returns c =
     let verifying =
     with_command c.in_ok-checking.checking c.in_ok-verifying.verifying (certified_app (codes "verify")) c.verify.result
     c.in_ok-verifying.ensures c.verify.ensures checking in
+    let showing =
+    with_command c.in_ok-verifying.verifying c.in_ok-showing.showing show_app c.show.result c.in_ok-showing.ensures c.show.ensures verifying in
     let running =
-    with_command c.in_ok-verifying.verifying c.in_ok-running.running (certified_app (codes "run")) c.run.result
-    c.in_ok-running.ensures c.run.ensures verifying in
+    with_command c.in_ok-showing.showing c.in_ok-running.running (certified_app (codes "run")) c.run.result
+    c.in_ok-running.ensures c.run.ensures showing in
     let telling =
     with_command c.in_ok-running.running c.in_ok-telling.telling status_app c.status.result c.in_ok-telling.ensures c.status.ensures running in
+    let auditing =
+    with_command c.in_ok-telling.telling c.in_ok-auditing.auditing audit_app c.audit.result c.in_ok-auditing.ensures c.audit.ensures telling in
     let planting =
-    with_command c.in_ok-telling.telling c.in_ok-planting.planting plant_app c.plant.result c.in_ok-planting.ensures c.plant.ensures telling in
-    IfOk-weaker c.with_command-6.result _ _
+    with_command c.in_ok-auditing.auditing c.in_ok-planting.planting plant_app c.plant.result c.in_ok-planting.ensures c.plant.ensures auditing in
+    IfOk-weaker c.with_command-8.result _ _
     (λ program adds. with_command c.in_ok-planting.planting program explain_app c.explain.result adds c.explain.ensures planting)
-    c.with_command-6.ensures
+    c.with_command-8.ensures

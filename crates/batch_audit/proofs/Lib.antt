@@ -1,0 +1,2 @@
+pub mod ComparingLemmas
+pub mod Audited

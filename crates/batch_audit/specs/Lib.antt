@@ -1,0 +1,3 @@
+pub mod Audits
+pub mod Comparing
+pub mod RowsOfAudits

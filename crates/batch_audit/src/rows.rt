@@ -1,0 +1,7 @@
+//! Worked rows of the definitions. Nothing runs here: the contracts are the rows.
+ghost use Rattle.batch_audit.specs.RowsOfAudits.{AuditRows};
+
+/// What the lines of a record tell, and where its whole lines end.
+pub fn audit_rows()
+    ensures { AuditRows }
+{}

@@ -1,0 +1,74 @@
+-- What is left of the orders without one of them.
+use Rattle.std.proofs.Common.{◌≡◌, ℕ, ◌<◌, List, [], ◌∷◌, ◌++◌, true, false, inl, inr, All, Contains, get_or, zero, suc, sym, subst, ◌∙◌, arith}
+use Rattle.std.proofs.lemmas.Bool.{false≢true}
+use Rattle.std.proofs.lemmas.List.Elements.{All-append, All-contains, All-weaker, All-get_or, Contains-append_left, Contains-append_right, Contains-append_cases, Contains-get_or}
+use Rattle.batch_cell.specs.declared.cell.Cell.{Cell}
+use Rattle.batch_recipe.specs.declared.recipe.Recipe.{Recipe}
+use Rattle.batch_check.specs.declared.edge.Edge.{Edge}
+use Rattle.batch_check.specs.declared.edge_set.EdgeSet.{EdgeSet}
+use Rattle.batch_check.specs.Collecting.{HasAllPairs}
+use Rattle.batch_check.specs.LeastRanking.{HasEndsBelow, IsEdgeCircle, IsLeastRanking}
+use Rattle.batch_check.specs.Mending.{AreOthers, RiseWithout, is_same_order}
+use Rattle.batch_check.proofs.Orders.{circle_rules_out}
+use Rattle.batch_check.proofs.Rising.{edge_of}
+
+-- The loop
+
+All-single : {X : Type 0} (P : X → Type 0) (x : X) → P x → All P (x ∷ [])
+All-single P x h zero d within = h
+All-single P x h (suc k) d within = absurd (omega (arith, within))
+
+pub others_none : (edge : Edge) → AreOthers [] edge []
+others_none edge = record { among = λ k d within. absurd (omega (arith, within)); differ = λ k d within. absurd (omega (arith, within)); whole = λ other stands new. stands }
+
+module _ (edges : List Edge) (edge e : Edge) (others : List Edge) (h : AreOthers edges edge others) where
+  pub others_same : is_same_order edge e ≡ true → AreOthers (edges ++ e ∷ []) edge others
+  others_same same = record {
+    among = All-weaker (Contains edges) (Contains (edges ++ e ∷ [])) (λ x stands. Contains-append_left edges (e ∷ []) x stands) others h.among;
+    differ = h.differ;
+    whole = λ other stands new. elim (Contains-append_cases edges (e ∷ []) other stands) [
+      | inl before ↦ h.whole other before new
+      | inr last ↦ let is : is_same_order edge other ≡ true = All-contains (λ x. is_same_order edge x ≡ true) (e ∷ []) other (All-single (λ x. is_same_order edge x ≡ true) e same) last in absurd (false≢true (sym new ∙ is))
+    ];
+  }
+
+  pub others_new : is_same_order edge e ≡ false → AreOthers (edges ++ e ∷ []) edge (others ++ e ∷ [])
+  others_new new = record {
+    among =
+        All-append (Contains (edges ++ e ∷ [])) others (e ∷ [])
+        (All-weaker (Contains edges) (Contains (edges ++ e ∷ [])) (λ x stands. Contains-append_left edges (e ∷ []) x stands) others h.among)
+        (All-single (Contains (edges ++ e ∷ [])) e (Contains-append_right edges (e ∷ []) e (Contains-get_or (e ∷ []) 0 e (omega arith))));
+    differ = All-append (λ other. is_same_order edge other ≡ false) others (e ∷ []) h.differ (All-single (λ other. is_same_order edge other ≡ false) e new);
+    whole = λ other stands differs. elim (Contains-append_cases edges (e ∷ []) other stands) [
+      | inl before ↦ Contains-append_left others (e ∷ []) other (h.whole other before differs)
+      | inr last ↦ Contains-append_right others (e ∷ []) other last
+    ];
+  }
+
+-- The answer
+
+module _ (cell : Cell) (recipes : List Recipe) (old set : EdgeSet) (pairs : HasAllPairs cell recipes old set) (edge : Edge) (others : List Edge)
+    (are : AreOthers set.edges.items edge others) where
+  pub others_within : (count : ℕ) → HasEndsBelow count set.edges.items → HasEndsBelow count others
+  others_within count within =
+      let P : Edge → Type 0 = λ e. (e.earlier < count) × (e.later < count) in
+      All-weaker (Contains set.edges.items) P (λ e stands. All-contains P set.edges.items e within stands) others are.among
+
+  pub ranks_rise : (count : ℕ) (ranks : List ℕ) → IsLeastRanking count others ranks → RiseWithout cell recipes edge (λ k. get_or ranks k 0)
+  ranks_rise count ranks least other stands differs =
+      let e = edge_of set.edges.items other.earlier other.later (pairs.whole other stands) in
+      let new : is_same_order edge e.edge ≡ false = rw (e.from, e.into) differs in
+      let rises : get_or ranks e.edge.earlier 0 < get_or ranks e.edge.later 0 =
+      All-contains (λ (f : Edge). get_or ranks f.earlier 0 < get_or ranks f.later 0) others e.edge least.ranking.rising (are.whole e.edge e.stands new) in
+      subst (λ n. get_or ranks n 0 < get_or ranks other.later 0) e.from (subst (λ n. get_or ranks e.edge.earlier 0 < get_or ranks n 0) e.into rises)
+
+  pub circle_stays_in : (circle : List Edge) (rank : ℕ → ℕ) → IsEdgeCircle others circle → RiseWithout cell recipes edge rank → ⊥
+  circle_stays_in circle rank c rise =
+      circle_rules_out 0 others circle rank c
+      (record {
+        positive = λ resource below. absurd (omega (arith, below));
+        rising = λ k d within.
+            let e = get_or others k d in
+            rise e (pairs.standing e (All-get_or (Contains set.edges.items) others k d within are.among))
+            (All-get_or (λ (other : Edge). is_same_order edge other ≡ false) others k d within are.differ);
+      })

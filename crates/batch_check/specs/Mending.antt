@@ -1,0 +1,21 @@
+-- surface: what would be left of the recipes' orders without one of them.
+use Rattle.std.specs.Prelude.{◌≡◌, ℕ, ◌<◌, List, Bool, ◌&&◌, nat_eq, false}
+use Rattle.std.specs.List.{All, Contains}
+use Rattle.batch_cell.specs.declared.cell.Cell.{Cell}
+use Rattle.batch_recipe.specs.declared.recipe.Recipe.{Recipe}
+use Rattle.batch_check.specs.Edges.{Stands}
+use Rattle.batch_check.specs.declared.edge.Edge.{Edge}
+
+-- the edges lead from the same resource to the same
+abbrev pub is_same_order : Edge → Edge → Bool
+is_same_order edge other = nat_eq other.earlier edge.earlier && nat_eq other.later edge.later
+
+-- ranks that rise along each edge that stands in the recipes, but for those of this edge's order
+abbrev pub RiseWithout : Cell → List Recipe → Edge → (ℕ → ℕ) → Type 0
+RiseWithout cell recipes edge rank = (other : Edge) → Stands cell recipes other → is_same_order edge other ≡ false → rank other.earlier < rank other.later
+
+-- what is left of the edges without those of this edge's order
+pub record AreOthers (edges : List Edge) (edge : Edge) (others : List Edge) : Type 0 where
+  pub among : All (Contains edges) others
+  pub differ : All (λ other. is_same_order edge other ≡ false) others
+  pub whole : (other : Edge) → Contains edges other → is_same_order edge other ≡ false → Contains others other

@@ -1,0 +1,3 @@
+pub mod Placed
+pub mod Walked
+pub mod Branching

@@ -1,0 +1,75 @@
+-- Where lines come to stand.
+use Rattle.std.proofs.Common.{◌≡◌, ◌<◌, ◌-◌, ℕ, ◌+◌, List, [], ◌∷◌, ◌++◌, length, map, take, get_or, nat_eq, Bool, true, false, Option, Some, None, codes, decimal, ap, sym, ◌∙◌, refl, arith, append_assoc, length-append}
+use Rattle.std.specs.List.{flat_map}
+use Rattle.std.proofs.lemmas.List.{flat_map_more, length-map, take_more}
+use Rattle.std.proofs.lemmas.List.Folds.{flat_map-map}
+use Rattle.std.proofs.Math.Seq.{take-append_seam}
+use Rattle.batch_recipe.specs.Conditions.{Name}
+use Rattle.batch_recipe.specs.Expanding.{asked_by, unit_chosen, unit_with}
+use Rattle.batch_recipe.specs.Needs.{resources_of}
+use Rattle.batch_recipe.specs.Nodes.{node, needs_of, child}
+use Rattle.batch_recipe.specs.Texts.{place_text}
+use Rattle.batch_recipe.specs.Tree.{Place, Tree}
+use Rattle.batch_recipe.specs.declared.act.Act.{Act}
+use Rattle.batch_recipe.specs.declared.act.UnitChoice.{UnitChoice}
+use Rattle.batch_recipe.specs.declared.need.Need.{Need}
+use Rattle.batch_outline.specs.Along.{Seat, asked_text, asked_unit, held_text, seat_below}
+use Rattle.batch_outline.specs.Showing.{Branch, asked_above, branch_text, itself, kind_at, kind_below, listed, need_text, spaced}
+
+pub child_text : (p : Place) (i : ℕ) → 0 < length p → place_text (child p i) ≡ place_text p ++ (codes "." ++ decimal i)
+child_text [] i long = absurd (omega (arith, long))
+child_text (n ∷ []) i long = refl
+child_text (n ∷ m ∷ p) i long =
+    ap (λ t. decimal n ++ (codes "." ++ t)) (child_text (m ∷ p) i (omega arith))
+    ∙ sym (append_assoc (decimal n) (codes "." ++ place_text (m ∷ p)) (codes "." ++ decimal i))
+
+pub child_long : (p : Place) (i : ℕ) → 0 < length p → 1 < length (child p i)
+child_long p i long = omega (arith, long, length-append p (i ∷ []))
+
+-- the seat of a node
+abbrev pub seat_at : Place → List Name → Branch → Seat
+seat_at p above b = record { place = place_text p; held = flat_map spaced above; branch = branch_text b }
+
+pub seat_of_child : (p : Place) (i : ℕ) (above : List Name) (b : Branch) → 0 < length p
+    → seat_at (child p i) above b ≡ seat_below (place_text p) (flat_map spaced above) i (branch_text b)
+seat_of_child p i above b long = ap {A = List ℕ} (λ t. record { place = t; held = flat_map spaced above; branch = branch_text b }) (child_text p i long)
+
+pub above_node : (p : Place) (above : List Name) (t : Tree) → asked_above (node p above t) ≡ above
+above_node p above t =
+    let own = needs_of t in
+    let size : length (above ++ resources_of own) - length own ≡ length above =
+    omega (arith, length-append above (resources_of own), length-map own (λ (n : Need). n.resource)) in
+    ap (λ k. take k (above ++ resources_of own)) size ∙ take-append_seam above (resources_of own)
+
+pub held_listed : (names : List Name) → listed (codes "holds") names ≡ held_text (flat_map spaced names)
+held_listed [] = refl
+held_listed (name ∷ names) = refl
+
+pub kind_far : (p : Place) (a : Act) → 1 < length p → kind_at p a ≡ kind_below a.unit a.work
+kind_far [] a long = absurd (omega (arith, long))
+kind_far (n ∷ []) a long = absurd (omega (arith, long))
+kind_far (n ∷ m ∷ p) a long = refl
+
+-- what an act asks for, each behind a space
+pub asked_is : (a : Act) → flat_map spaced (resources_of (asked_by (unit_with itself a.unit) a.needs.items)) ≡ asked_text a
+asked_is a = go a.unit
+  where
+    go : (unit : Option UnitChoice) → flat_map spaced (resources_of (asked_by (unit_with itself unit) a.needs.items)) ≡ asked_unit unit ++ flat_map (λ (need : Need). spaced need.resource) a.needs.items
+    go None = flat_map-map spaced (λ (need : Need). need.resource) a.needs.items
+    go (Some own) = ap (λ t. spaced (unit_chosen itself own) ++ t) (flat_map-map spaced (λ (need : Need). need.resource) a.needs.items)
+
+pub needs_listed : (what : List ℕ) (need : Need) (needs : List Need)
+    → listed what (map need_text (need ∷ needs)) ≡ spaced what ++ flat_map (λ (n : Need). spaced (need_text n)) (need ∷ needs)
+needs_listed what need needs = ap (λ t. spaced what ++ (spaced (need_text need) ++ t)) (flat_map-map spaced need_text needs)
+
+pub needs_written : (what : List ℕ) (needs : List Need) (empty : Bool) → empty ≡ false → empty ≡ nat_eq (length needs) 0
+    → listed what (map need_text needs) ≡ spaced what ++ flat_map (λ (n : Need). spaced (need_text n)) needs
+needs_written what [] empty some is = let bad : true ≡ false = sym is ∙ some in absurd cc
+needs_written what (need ∷ needs) empty some is = needs_listed what need needs
+
+-- a text of elements grows by an element at a time
+pub texts_more : {X : Type 0} (text : X → List ℕ) (head : List ℕ) (xs : List X) (i : ℕ) (x d : X) → i < length xs → x ≡ get_or xs i d
+    → (head ++ flat_map text (take i xs)) ++ text x ≡ head ++ flat_map text (take (i + 1) xs)
+texts_more text head xs i x d within is =
+    flat_map_more text head (take i xs) x
+    ∙ ap (λ ys. head ++ flat_map text ys) (ap (λ y. take i xs ++ y ∷ []) is ∙ sym (take_more xs i d within))

@@ -1,0 +1,3 @@
+pub mod Showing
+pub mod Along
+pub mod RowsOfShowing

@@ -1,0 +1,14 @@
+//! Lines of nodes, worked out. The function is empty: its contract is the lines.
+ghost use Rattle.batch_outline.specs.RowsOfShowing.{BranchesOfSelection, FirstLine, HeldAbove, KindsBelow, LoopLine, OneUnit, OwnNeedIsNotHeld, RoleTakesItself, TwoUnits};
+
+pub fn shown_lines()
+    ensures two_units { TwoUnits }
+    ensures one_unit { OneUnit }
+    ensures branches { BranchesOfSelection }
+    ensures loop_line { LoopLine }
+    ensures first_line { FirstLine }
+    ensures held_above { HeldAbove }
+    ensures own_need { OwnNeedIsNotHeld }
+    ensures kinds { KindsBelow }
+    ensures roles { RoleTakesItself }
+{}

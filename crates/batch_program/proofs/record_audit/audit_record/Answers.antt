@@ -1,0 +1,7 @@
+use Rattle.std.proofs.KnownBytes.{Keeps-refl}
+use Rattle.batch_program.specs.AuditRuns.{stops}
+use Rattle.batch_program.proofs.RecordsAudited.{told_at}
+use Rattle.batch_program.proofs.record_audit.audit_record.Goals as goal
+
+pub returns-in-Ok : goal.returns-in-Ok
+returns-in-Ok g c = told_at _ _ _ _ c.in-Ok.text.items _ _ _ (rw c.deref.ensures at c.in-Ok.ensures) (rw c.deref-in-Ok.ensures.value at c.tell_audit.ensures)

@@ -1,0 +1,186 @@
+//! What is said beside a circle: which acts hold and ask, where they stand, and what clears the set.
+use crate::names::{act_name, recipe_name, resource_name};
+use crate::roles::class_of;
+use crate::sources::Source;
+use crate::ways::{Way, way_to};
+use batch_cell::Cell;
+use batch_check::{Edge, rise_without};
+use batch_recipe::{Act, Recipe, UnitChoice};
+use batch_text::Name;
+use std::alloc::{AllocError, Global};
+
+/// Of circles with more edges it isn't told what clears the set.
+const MOST_LOOKED_AT: usize = 16;
+
+/// Which act above the edge's holds what is held, and where its table stands.
+pub(crate) fn holder_said(
+    alloc: Global,
+    cell: &Cell,
+    recipes: &[Recipe],
+    sources: &[Source],
+    edge: Edge,
+) -> Result<String, AllocError> {
+    let Some(recipe) = recipes.get(usize::from(edge.recipe)) else {
+        return Ok(String::new(alloc));
+    };
+    let way = way_to(alloc, recipe, edge.node)?;
+    let held = resource_name(cell, edge.earlier);
+    match holder_on(cell, recipe, &way, held) {
+        Some((act, node)) if node != edge.node => {
+            let place = file_said(alloc, recipe, sources, edge.recipe, node, true)?;
+            format!(in alloc; " in {}{place}", act.name)
+        }
+        _ => Ok(String::new(alloc)),
+    }
+}
+
+/// Where the table of the act stands that asks, with its file where no act above it holds what is held.
+pub(crate) fn asker_said(
+    alloc: Global,
+    cell: &Cell,
+    recipes: &[Recipe],
+    sources: &[Source],
+    edge: Edge,
+) -> Result<String, AllocError> {
+    let Some(recipe) = recipes.get(usize::from(edge.recipe)) else {
+        return Ok(String::new(alloc));
+    };
+    let way = way_to(alloc, recipe, edge.node)?;
+    let held = resource_name(cell, edge.earlier);
+    let has_file = match holder_on(cell, recipe, &way, held) {
+        Some((_, node)) => node == edge.node,
+        None => true,
+    };
+    file_said(alloc, recipe, sources, edge.recipe, edge.node, has_file)
+}
+
+/// The first act on the way that asks for the resource of this name, and the number of its node.
+fn holder_on<'a>(
+    cell: &Cell,
+    recipe: &Recipe,
+    way: &Way<'a>,
+    resource: &str,
+) -> Option<(&'a Act, u16)> {
+    for (act, node) in way.acts.iter().zip(&way.nodes) {
+        if asks_for(cell, recipe, act, resource) {
+            return Some((*act, *node));
+        }
+    }
+    None
+}
+
+/// Whether the act asks for the resource of this name, where some unit takes its role.
+fn asks_for(cell: &Cell, recipe: &Recipe, act: &Act, resource: &str) -> bool {
+    for need in &act.needs {
+        if need.resource.text() == resource {
+            return true;
+        }
+    }
+    match &act.unit {
+        Some(UnitChoice::Unit(unit)) => unit.text() == resource,
+        Some(UnitChoice::Role(role)) => may_take(cell, recipe, role, resource),
+        None => false,
+    }
+}
+
+/// Whether the unit of this name may take the role.
+fn may_take(cell: &Cell, recipe: &Recipe, role: &Name, unit: &str) -> bool {
+    let Some(class) = class_of(recipe, role) else {
+        return false;
+    };
+    for own in &cell.units {
+        if own.name.text() == unit {
+            return own.is_of_class(class);
+        }
+    }
+    false
+}
+
+/// The line of the table of the act at the node, and the file where that is asked for, as far as they are known.
+fn file_said(
+    alloc: Global,
+    recipe: &Recipe,
+    sources: &[Source],
+    number: u16,
+    node: u16,
+    has_file: bool,
+) -> Result<String, AllocError> {
+    let Some(source) = sources.get(usize::from(number)) else {
+        return Ok(String::new(alloc));
+    };
+    let path = source.path();
+    match source.line_of(recipe, node) {
+        Some(line) if has_file => format!(in alloc; " ({path}, line {line})"),
+        Some(line) => format!(in alloc; " (line {line})"),
+        None if has_file => format!(in alloc; " ({path})"),
+        None => Ok(String::new(alloc)),
+    }
+}
+
+/// What may be done about the circle: for which of its orders the set would be cleared, were it not for that one.
+pub(crate) fn advice_said(
+    alloc: Global,
+    cell: &Cell,
+    recipes: &[Recipe],
+    edges: &[Edge],
+) -> Result<String, AllocError> {
+    match edges.first() {
+        Some(edge) if edge.earlier == edge.later => String::from_str(
+            alloc,
+            "; what is held can't be asked for again, and one need of it is enough",
+        ),
+        _ => mending_said(alloc, cell, recipes, edges),
+    }
+}
+
+fn mending_said(
+    alloc: Global,
+    cell: &Cell,
+    recipes: &[Recipe],
+    edges: &[Edge],
+) -> Result<String, AllocError> {
+    let mut said = String::new(alloc);
+    let mut clearing: usize = 0;
+    if edges.len() > MOST_LOOKED_AT {
+        return Ok(said);
+    }
+    for edge in edges {
+        if clears_without(alloc, cell, recipes, *edge)? {
+            clearing = clearing.saturating_add(1);
+            said.push_str(if clearing == 1 {
+                "; the set would be cleared without the order of "
+            } else {
+                ", or without that of "
+            })?;
+            said.push_str(recipe_name(recipes, edge.recipe))?;
+            said.push_str(" in ")?;
+            said.push_str(act_name(recipes, edge.recipe, edge.node))?;
+        }
+    }
+    if clearing == edges.len() {
+        return String::from_str(
+            alloc,
+            "; without any one of these orders the set would be cleared",
+        );
+    }
+    if clearing == 0 {
+        return String::from_str(
+            alloc,
+            "; there are other circles too, so that more than one order has to change",
+        );
+    }
+    Ok(said)
+}
+
+/// Whether the set would be cleared, were it not for the edge's order of its two resources.
+fn clears_without(
+    alloc: Global,
+    cell: &Cell,
+    recipes: &[Recipe],
+    edge: Edge,
+) -> Result<bool, AllocError> {
+    match rise_without(alloc, cell, recipes, edge) {
+        Ok(rise) => Ok(rise),
+        Err(_) => Err(AllocError),
+    }
+}

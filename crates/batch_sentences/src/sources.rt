@@ -1,0 +1,104 @@
+//! Where the acts of recipes stand.
+use crate::lines::header_in;
+use crate::showing::shown;
+use batch_recipe::{Kind, LabelTable, MAX_NODES, Recipe};
+use std::alloc::{AllocError, Global};
+
+/// The document of a recipe: its path, and in which lines the tables of its acts begin.
+#[derive(Debug, Drop)]
+pub struct Source {
+    /// The path, with its control characters told by escapes.
+    path: String,
+    procedures: Vec<usize>,
+    unit_procedures: Vec<usize>,
+    operations: Vec<usize>,
+    phases: Vec<usize>,
+}
+
+impl Source {
+    /// The source of the document at the path, of which only the lines of headers are kept.
+    pub fn of(alloc: Global, path: &str, document: &[u8]) -> Result<Source, AllocError> {
+        let mut source = Source {
+            path: shown(alloc, path)?,
+            procedures: Vec::new(alloc),
+            unit_procedures: Vec::new(alloc),
+            operations: Vec::new(alloc),
+            phases: Vec::new(alloc),
+        };
+        let text = std::str::from_utf8(document).unwrap_or("");
+        for (number, line) in text.lines().enumerate() {
+            source.note(number.saturating_add(1), line)?;
+        }
+        Ok(source)
+    }
+
+    /// Keeps the number of the line, where it is the header of an act's table.
+    fn note(&mut self, number: usize, line: &str) -> Result<(), AllocError> {
+        let lines = match header_in(line.trim()) {
+            Some("procedure") => &mut self.procedures,
+            Some("unit_procedure") => &mut self.unit_procedures,
+            Some("operation") => &mut self.operations,
+            Some("phase") => &mut self.phases,
+            _ => return Ok(()),
+        };
+        lines.push(number)?;
+        Ok(())
+    }
+
+    pub(crate) fn path(&self) -> &str {
+        self.path.as_str()
+    }
+
+    /// The line of the table of the act that the node is of, where the document has as many headers as such tables.
+    pub(crate) fn line_of(&self, recipe: &Recipe, node: u16) -> Option<usize> {
+        let mut at = node;
+        for _ in 0..MAX_NODES {
+            let entry = recipe.outline.entries.get(usize::from(at))?;
+            match entry.kind {
+                Kind::Procedure => return line_among(&self.procedures, 0, 1),
+                Kind::Act(table, number) => {
+                    let tables = recipe.acts.table(table).len();
+                    return line_among(self.lines_of(table), number, tables);
+                }
+                Kind::Skip | Kind::Seq | Kind::Par | Kind::Sel | Kind::Loop(_) => at = entry.parent,
+            }
+        }
+        None
+    }
+
+    fn lines_of(&self, table: LabelTable) -> &[usize] {
+        match table {
+            LabelTable::UnitProcedures => &self.unit_procedures,
+            LabelTable::Operations => &self.operations,
+            LabelTable::Phases => &self.phases,
+        }
+    }
+}
+
+/// The line with this number, where there are so many lines.
+fn line_among(lines: &[usize], number: usize, tables: usize) -> Option<usize> {
+    if lines.len() == tables {
+        lines.get(number).copied()
+    } else {
+        None
+    }
+}
+
+/// The file of the recipe with this number and the line of the act at its node, as far as they are known, and a mark before what
+/// is said of them.
+pub(crate) fn origin_said(
+    alloc: Global,
+    sources: &[Source],
+    number: u16,
+    recipe: &Recipe,
+    node: u16,
+) -> Result<String, AllocError> {
+    let Some(source) = sources.get(usize::from(number)) else {
+        return Ok(String::new(alloc));
+    };
+    let path = source.path();
+    match source.line_of(recipe, node) {
+        Some(line) => format!(in alloc; "{path}: line {line}, "),
+        None => format!(in alloc; "{path}: "),
+    }
+}

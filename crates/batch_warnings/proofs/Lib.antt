@@ -1,0 +1,3 @@
+pub mod Branches
+pub mod Numbers
+pub mod Ranges

@@ -1,0 +1,13 @@
+use Rattle.std.proofs.Common.{arith, ◌≡◌, ◌++◌, ◌∷◌, [], not, if◌then◌else◌, ap, sym, ◌∙◌}
+use Rattle.batch_recipe.specs.Procedure.{table_at}
+use Rattle.batch_warnings.specs.Warnings.{is_named}
+use Rattle.batch_warnings.specs.declared.warning.RecipeWarning.TheVariants.{UnnamedAct}
+use Rattle.batch_warnings.proofs.Numbers.{numbers_on}
+use Rattle.batch_warnings.proofs.recipes.add_unnamed.Goals as goal
+
+pub loop-number-preserved : goal.loop-number-preserved
+loop-number-preserved c =
+    c.in_ok-warnings.ensures
+    ∙ ap (λ all. all ++ (if not c.is_named-is_told.result then UnnamedAct c.args.table c.loop-number.number ∷ [] else [])) c.loop-number.invariant
+    ∙ rw c.is_named-is_told.ensures
+    (sym (numbers_on (λ a. not (is_named c.args.acts.now c.args.table a)) (UnnamedAct c.args.table) c.args.warnings.items c.table-act-items.result.now c.loop-number.number c.act-item.result c.loop-number-test.true c.act-item.is))

@@ -1,0 +1,12 @@
+//! Parts of a cell and of its recipes that are taken though they can hardly be meant so.
+#![tactic(auto)]
+
+mod adding;
+mod cells;
+mod mentions;
+mod recipes;
+mod warning;
+
+pub use cells::units_without_modules;
+pub use recipes::recipe_warnings;
+pub use warning::{QuantityTable, RecipeWarning};

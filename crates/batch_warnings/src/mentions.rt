@@ -1,0 +1,115 @@
+//! What charts name.
+ghost use Rattle.std.specs.Prelude.{◌≡◌, ◌||◌};
+ghost use Rattle.std.specs.List.{list_any};
+ghost use Rattle.batch_recipe.specs.Diagram.{diagram_of};
+ghost use Rattle.batch_warnings.specs.Warnings.{act_compares, act_has_label, compares, condition_names, has_label};
+
+use batch_recipe::{Act, Chart, Cond, Term, Work};
+use batch_text::Name;
+
+/// Whether the act follows a chart with this label.
+pub(crate) fn act_has_label(act: &Act, name: &Name) -> bool
+    ensures { result ≡ act_has_label name.now act.now }
+{
+    match &act.work {
+        Work::Follows(chart) => has_label(chart, name),
+        Work::Runs { .. } => false,
+    }
+}
+
+/// Whether the act follows a chart with a condition that compares the value of this name.
+pub(crate) fn act_compares(act: &Act, name: &Name) -> bool
+    ensures { result ≡ act_compares name.now act.now }
+{
+    match &act.work {
+        Work::Follows(chart) => compares(chart, name),
+        Work::Runs { .. } => false,
+    }
+}
+
+#[cycle(labels)]
+fn has_label(chart: &Chart, name: &Name) -> bool
+    ensures { result ≡ has_label name.now (diagram_of chart.now) }
+{
+    match chart {
+        Chart::Label(label) => *name == *label,
+        Chart::Skip => false,
+        Chart::Seq(parts) => have_label(parts, name),
+        Chart::Par(branches) => have_label(branches, name),
+        Chart::Sel(choices, last) => choices_have_label(choices, name) || has_label(last, name),
+        Chart::Loop(_, turn) => has_label(&turn.1, name),
+    }
+}
+
+#[cycle(labels)]
+fn have_label(charts: &[Chart], name: &Name) -> bool
+    ensures { result ≡ list_any (λ chart. has_label name.now (diagram_of chart)) charts.now }
+{
+    for chart in charts {
+        if has_label(chart, name) {
+            return true;
+        }
+    }
+    false
+}
+
+#[cycle(labels)]
+fn choices_have_label(choices: &[(Cond, Chart)], name: &Name) -> bool
+    ensures { result ≡ list_any (λ choice. has_label name.now (diagram_of choice.1)) choices.now }
+{
+    for choice in choices {
+        if has_label(&choice.1, name) {
+            return true;
+        }
+    }
+    false
+}
+
+#[cycle(values)]
+fn compares(chart: &Chart, name: &Name) -> bool
+    ensures { result ≡ compares name.now (diagram_of chart.now) }
+{
+    match chart {
+        Chart::Label(_) => false,
+        Chart::Skip => false,
+        Chart::Seq(parts) => any_compares(parts, name),
+        Chart::Par(branches) => any_compares(branches, name),
+        Chart::Sel(choices, last) => any_choice_compares(choices, name) || compares(last, name),
+        Chart::Loop(_, turn) => is_compared(&turn.0, name) || compares(&turn.1, name),
+    }
+}
+
+#[cycle(values)]
+fn any_compares(charts: &[Chart], name: &Name) -> bool
+    ensures { result ≡ list_any (λ chart. compares name.now (diagram_of chart)) charts.now }
+{
+    for chart in charts {
+        if compares(chart, name) {
+            return true;
+        }
+    }
+    false
+}
+
+#[cycle(values)]
+fn any_choice_compares(choices: &[(Cond, Chart)], name: &Name) -> bool
+    ensures { result ≡ list_any (λ choice. condition_names name.now choice.0 || compares name.now (diagram_of choice.1)) choices.now }
+{
+    for choice in choices {
+        if is_compared(&choice.0, name) || compares(&choice.1, name) {
+            return true;
+        }
+    }
+    false
+}
+
+/// Whether the condition compares the value of this name.
+fn is_compared(condition: &Cond, name: &Name) -> bool
+    ensures { result ≡ condition_names name.now condition.now }
+{
+    *name == condition.name
+        || match &condition.term {
+            Term::Named(other) => *name == *other,
+            Term::Number(_) => false,
+        }
+}
