@@ -70,6 +70,7 @@ below-all (p ∷ held) count within q e = go (eqb_tells q p.to) (below-all held 
 
 -- so there is room for it
 pub room-for : (count : ℕ) (held : List Passed) (room : ℕ) → AreHeld count held room → (to : ℕ) → to < count → is_early held to ≡ false → length held < room
+unfolding IsDistinct
 room-for count held room h to lt e =
     let more : List Passed = record { to = to; node = 0; need = 0 } ∷ held in
     let few : length (map (λ (p : Passed). p.to) more) ≤ count =
@@ -78,6 +79,7 @@ room-for count held room h to lt e =
     omega (arith, few, length-map more (λ (p : Passed). p.to), h.enough)
 
 pub held-kept : (count : ℕ) (held : List Passed) (room : ℕ) (m : Move) → AreHeld count held room → PassesWithin count m → AreHeld count (held_after held m) room
+unfolding IsDistinct
 held-kept count held room (move.Pass k to i) h lt = go (is_early held to) refl
   where
     go : (b : Bool) → is_early held to ≡ b → AreHeld count (elim b as (λ _. List Passed) [ true ↦ held | false ↦ record { to = to; node = k; need = i } ∷ held ]) room

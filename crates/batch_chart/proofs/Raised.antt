@@ -340,8 +340,8 @@ module _ (ns : List Entry) (doc : Recipe) (t : Tree) (laid : IsLaid ns doc t) wh
   early-told (p ∷ held) within k lt =
       ap₂ (λ a b. a || b) (same-number k p.to (omega (arith, lt, laid.count)) (within p (inl refl))) (early-told held (λ q i. within q (inr i)) k lt)
 
-  pub still-held : (held : List Passed) (rest : Rest) (zs : List Stage) → ((p : Passed) → Has held p → not (is_reached rest (place_at t p.to)) ≡ not (is_ready (stage_at zs p.to)))
-      → filter (λ x. not (is_reached rest x.place)) (in_advance t held) ≡ in_advance t (filter (λ p. not (is_ready (stage_at zs p.to))) held)
-  still-held held rest zs h =
-      filter-map (λ (x : InAdvance). not (is_reached rest x.place)) (λ (p : Passed). record { place = place_at t p.to; unit = need_at t p.node p.need }) held
-      ∙ ap (in_advance t) (filter-alike (λ p. not (is_reached rest (place_at t p.to))) (λ p. not (is_ready (stage_at zs p.to))) held h)
+  pub still-held : (held : List Passed) (r : Rest) (zs : List Stage) → ((p : Passed) → Has held p → not (is_reached r (place_at t p.to)) ≡ not (is_ready (stage_at zs p.to)))
+      → filter (λ x. not (is_reached r x.place)) (in_advance t held) ≡ in_advance t (filter (λ p. not (is_ready (stage_at zs p.to))) held)
+  still-held held r zs h =
+      filter-map (λ (x : InAdvance). not (is_reached r x.place)) (λ (p : Passed). record { place = place_at t p.to; unit = need_at t p.node p.need }) held
+      ∙ ap (in_advance t) (filter-alike (λ p. not (is_reached r (place_at t p.to))) (λ p. not (is_ready (stage_at zs p.to))) held h)

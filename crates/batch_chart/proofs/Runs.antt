@@ -9,6 +9,7 @@ use Rattle.batch_recipe.specs.declared.entry.Entry.{Entry}
 use Rattle.batch_recipe.specs.declared.recipe.Recipe.{Recipe}
 use Rattle.batch_chart.specs.declared.running.Running.{Running}
 use Rattle.batch_chart.specs.declared.stage.Stage.{Stage}
+use Rattle.std.specs.List.{IsDistinct}
 use Rattle.batch_recipe.specs.Conditions.{ValueList}
 use Rattle.batch_model.specs.Rest.{Rest, withdrawn}
 use Rattle.batch_model.specs.Plant.{InAdvance}
@@ -122,6 +123,7 @@ held-nodes ns (p ∷ held) within (suc j) lt = held-nodes ns held (λ q i. withi
 
 -- nothing is held in advance
 nothing-held : (count : ℕ) (held : List Passed) (room : ℕ) → held ≡ [] → count ≤ room → AreHeld count held room
+unfolding IsDistinct
 nothing-held count held room e le = subst (λ l. AreHeld count l room) (sym e) (record { within = λ p i. absurd i; apart = tt; enough = le })
 
 -- it runs, where its stages live and its signs go by them

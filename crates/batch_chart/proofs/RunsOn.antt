@@ -48,20 +48,21 @@ eqb-itself : (k : ℕ) → nat_eq k k ≡ true
 eqb-itself k = elim (eqb_tells k k) [ inl q ↦ q.0 | inr q ↦ absurd (q.1 refl) ]
 
 -- what is left of what is held is held as before
-all-left : {P : ℕ → Type 0} (f : Passed → Bool) (held : List Passed) → AllByRecursion P (map (λ (p : Passed). p.to) held) → AllByRecursion P (map (λ (p : Passed). p.to) (filter f held))
-all-left f [] h = tt
-all-left {P = P} f (p ∷ held) h = go (f p) (all-left f held h.1)
+all-left : (P : ℕ → Type 0) (f : Passed → Bool) (held : List Passed) → AllByRecursion P (map (λ (p : Passed). p.to) held) → AllByRecursion P (map (λ (p : Passed). p.to) (filter f held))
+all-left P f [] h = tt
+all-left P f (p ∷ held) h = go (f p) (all-left P f held h.1)
   where
     go : (t : Bool) → AllByRecursion P (map (λ (p : Passed). p.to) (filter f held)) → AllByRecursion P (map (λ (p : Passed). p.to) (cond t (p ∷ filter f held) (filter f held)))
     go true m = (h.0, m)
     go false m = m
 
 apart-left : (f : Passed → Bool) (held : List Passed) → IsDistinct nat_eq (map (λ (p : Passed). p.to) held) → IsDistinct nat_eq (map (λ (p : Passed). p.to) (filter f held))
+unfolding IsDistinct
 apart-left f [] h = tt
 apart-left f (p ∷ held) h = go (f p) (apart-left f held h.1)
   where
     go : (t : Bool) → IsDistinct nat_eq (map (λ (p : Passed). p.to) (filter f held)) → IsDistinct nat_eq (map (λ (p : Passed). p.to) (cond t (p ∷ filter f held) (filter f held)))
-    go true m = (all-left f held h.0, m)
+    go true m = (all-left _ f held h.0, m)
     go false m = m
 
 held-left : (count : ℕ) (held : List Passed) (room : ℕ) (f : Passed → Bool) → AreHeld count held room → AreHeld count (filter f held) room
@@ -122,8 +123,7 @@ module _ (chart : Recipe) (t : Tree) (laid : IsChartOf t chart) where
     passing-is (move.Ask k i) can a = is
 
   waiting-after : (m : Move) (b : Batch) → AreWaiting b.in_advance b.rest → Awaits t b.rest b.in_advance m → AreWaiting (passing (move_of t b m) b).in_advance b.rest
-  waiting-after (move.Pass k to i) b w a held (inl e) = subst (λ x. is_reached b.rest x.place ≡ false) e a.0
-  waiting-after (move.Pass k to i) b w a held (inr h) = w held h
+  waiting-after (move.Pass k to i) b w a = λ held h. elim h [ inl e ↦ subst (λ x. is_reached b.rest x.place ≡ false) e a.0 | inr i ↦ w held i ]
   waiting-after (move.Send k c) b w a = w
   waiting-after (move.State x) b w a = w
   waiting-after (move.Release k i) b w a = w

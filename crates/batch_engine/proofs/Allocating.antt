@@ -18,6 +18,7 @@ use Rattle.batch_engine.specs.Kept.{IsOfCell}
 use Rattle.batch_engine.proofs.BatchPlaces.{chosen-true, chosen-false}
 use Rattle.batch_engine.proofs.Making.{same-number, same-named, name-yes, name-no, without-head, without-claim}
 use Rattle.batch_engine.proofs.Finding.{named}
+use Rattle.batch_engine.proofs.Passing.{freed, taken_up}
 
 Has-shared : (share : Claim → Share) (xs : List Claim) (x : Claim) → Has xs x → Has (map share xs) (share x)
 Has-shared share [] x h = absurd h
@@ -26,7 +27,7 @@ Has-shared share (y ∷ xs) x (inr h) = inr (Has-shared share xs x h)
 
 -- shares when one of them, or none, has passed to another act
 abbrev passed_on : BatchAct → Share → Bool → List Share → List Share
-passed_on a new t hs = elim t [ true ↦ elim t [ true ↦ without a hs | false ↦ hs ] ++ new ∷ [] | false ↦ elim t [ true ↦ without a hs | false ↦ hs ] ]
+passed_on a new t hs = taken_up new t (freed a t hs)
 
 both-chosen : (a : BatchAct) (new : Share) (t : Bool) → t ≡ true → (hs : List Share) → passed_on a new t hs ≡ without a hs ++ new ∷ []
 both-chosen a new true g hs = refl
@@ -206,18 +207,15 @@ module _ (v : EngineView) (cell : IsOfCell v.cleared v.allocation) (q : ℕ) (ne
 pub units-found : (share : Claim → Share) (n node : ℕ) (a : BatchAct) (xs : List Claim) (x : Claim) → IsOnce (map share xs) → ((y : Claim) → is_claim n node y ≡ is_same_act (share y).act a) → Has xs x → (share x).act ≡ a
     → units_of n node xs ≡ x.units
 units-found share n node a [] x once same h e = absurd h
-units-found share n node a (y ∷ xs) x once same h e = go (is_claim n node y) refl h
+units-found share n node a (y ∷ xs) x once same h e = go (units-found share n node a xs x once.1 same) (is_claim n node y) refl h
   where
-    later : Has xs x → units_of n node xs ≡ x.units
-    later m = units-found share n node a xs x once.1 same m e
-
-    go : (t : Bool) → is_claim n node y ≡ t → Has (y ∷ xs) x → (let units : ℕ = elim (cond t (Some y) (find (is_claim n node) xs)) [ None ↦ 0 | Some c ↦ c.units ] in units) ≡ x.units
-    go true f (inl g) = ap (λ (z : Claim). z.units) g
-    go true f (inr m) = absurd (once.0 (share x) (Has-shared share xs x m) (e ∙ sym (same_act (share y).act a (sym (same y) ∙ f))))
-    go false f (inl g) =
+    go : (Has xs x → (share x).act ≡ a → units_of n node xs ≡ x.units) → (t : Bool) → is_claim n node y ≡ t → Has (y ∷ xs) x → (let units : ℕ = elim (cond t (Some y) (find (is_claim n node) xs)) [ None ↦ 0 | Some c ↦ c.units ] in units) ≡ x.units
+    go later true f (inl g) = ap (λ (z : Claim). z.units) g
+    go later true f (inr m) = absurd (once.0 (share x) (Has-shared share xs x m) (e ∙ sym (same_act (share y).act a (sym (same y) ∙ f))))
+    go later false f (inl g) =
         absurd (let is : is_same_act (share x).act a ≡ true = subst (λ (z : BatchAct). is_same_act (share x).act z ≡ true) e (act_self (share x).act) in
         let off : ◌≡◌ {A = Bool} true false = sym is ∙ sym (same x) ∙ ap (is_claim n node) (sym g) ∙ f in cc)
-    go false f (inr m) = later m
+    go later false f (inr m) = later m e
 
 -- whom the arbiter would serve is first in the line
 pub first-of-line : (capacity : ℕ) (shares line : List Claim) (n node : ℕ) → option_map batch_node (next_in capacity shares line) ≡ Some (n, node)

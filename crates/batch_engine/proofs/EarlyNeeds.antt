@@ -186,7 +186,8 @@ mutual
 
 -- what an act in line holds and asks for
 taken-one : (k : ℕ) (xs : List Need) (p : Place) → length (take k xs) + weights (awaited_at p (slice_get xs k)) ≤ length xs
-taken-one k [] p = omega arith
+taken-one zero [] p = omega arith
+taken-one (suc k) [] p = omega arith
 taken-one zero (x ∷ xs) p = omega arith
 taken-one (suc k) (x ∷ xs) p = omega (arith, taken-one k xs p)
 

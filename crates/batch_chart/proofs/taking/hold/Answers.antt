@@ -11,8 +11,8 @@ push_front_reserved-requires c =
 pub returns-then-not-is_held-clause-items : goal.returns-then-not-is_held-clause-items
 returns-then-not-is_held-clause-items c = rw c.in-Pass.is (c.push_front_reserved.ensures.items ∙ held-new c.args.held.now.items c.in-Pass.node c.in-Pass.to c.in-Pass.need (sym c.if-not-is_held.ensures))
 
-pub returns-in-Pass-clause-items : goal.returns-in-Pass-clause-items
-returns-in-Pass-clause-items c = rw c.in-Pass.is (held-again c.args.held.now.items c.in-Pass.node c.in-Pass.to c.in-Pass.need (sym c.if-not-is_held.ensures))
+pub returns-else-not-is_held-clause-items : goal.returns-else-not-is_held-clause-items
+returns-else-not-is_held-clause-items c = rw c.in-Pass.is (held-again c.args.held.now.items c.in-Pass.node c.in-Pass.to c.in-Pass.need (sym c.if-not-is_held.ensures))
 
 pub returns-in_default-clause-items : goal.returns-in_default-clause-items
 returns-in_default-clause-items c = held-other _ _ c.in_default.not-Pass
