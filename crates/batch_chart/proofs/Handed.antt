@@ -1,8 +1,8 @@
 -- To which node an act passes on a need.
-use Rattle.std.proofs.Common.{◌≡◌, ◌<◌, ◌≤◌, ℕ, zero, suc, ◌+◌, List, [], ◌∷◌, length, Bool, true, false, Some, None, nat_eq, cond, arith, refl, sym, ◌∙◌, subst, ap, ap₂}
+use Rattle.std.proofs.Common.{◌≡◌, ◌<◌, ℕ, zero, suc, ◌+◌, List, [], ◌∷◌, length, Bool, true, false, Some, None, nat_eq, cond, arith, refl, sym, ◌∙◌, ap}
 use Rattle.std.specs.Prelude.{Option, IfSome, IsNone, find, slice_get, option_map, option_and_then}
 use Rattle.std.proofs.lemmas.Bool.Decides.{nat_tests}
-use Rattle.batch_recipe.specs.ActsAtNodes.{IsNoAct, IsNodeOf, procedure_acts}
+use Rattle.batch_recipe.specs.ActsAtNodes.{IsNoAct, procedure_acts}
 use Rattle.batch_recipe.specs.Conditions.{Name}
 use Rattle.batch_recipe.specs.Expanding.{Binding, unbound, reserves_from, unit_count}
 use Rattle.batch_recipe.specs.Followers.{IsFollowerAt, follower_of}
@@ -15,9 +15,8 @@ use Rattle.batch_recipe.specs.declared.act.Act.{Act}
 use Rattle.batch_recipe.specs.declared.recipe.Recipe.{Recipe}
 use Rattle.batch_recipe.proofs.Followers.{act_of_node}
 use Rattle.batch_recipe.proofs.Order.{counted_nodes}
-use Rattle.batch_recipe.proofs.Linking.{as_many_entries}
 use Rattle.batch_model.specs.Moves.{reserved_place}
-use Rattle.batch_chart.specs.NodesOf.{node_at, place_at, step_at, step_of, no_step}
+use Rattle.batch_chart.specs.NodesOf.{node_at, place_at, step_at, step_of}
 use Rattle.batch_chart.specs.Passing.{PassesTo}
 use Rattle.batch_chart.proofs.Laid.{is_chart}
 use Rattle.batch_chart.proofs.NodesStand.{get-or}

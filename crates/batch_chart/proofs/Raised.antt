@@ -1,23 +1,23 @@
 -- What remains of a batch's recipe after a move, where it holds something in advance.
-use Rattle.std.proofs.Common.{◌≡◌, ◌≢◌, ◌⊎◌, inl, inr, ◌<◌, ◌≤◌, ℕ, zero, suc, ◌+◌, List, [], ◌∷◌, length, take, map, filter, cond, Bool, true, false, ◌&&◌, ◌||◌, Some, None, nat_eq, arith, refl, sym, ◌∙◌, subst, ap, ap₂}
+use Rattle.std.proofs.Common.{◌≡◌, inl, inr, ◌<◌, ℕ, zero, suc, ◌+◌, List, [], ◌∷◌, length, take, map, filter, cond, Bool, true, false, ◌||◌, nat_eq, arith, refl, sym, ◌∙◌, subst, ap, ap₂}
 use Rattle.std.specs.Prelude.{not, ⊤}
 use Rattle.std.specs.List.{list_any}
 use Rattle.std.proofs.lemmas.Bool.{cases_lt}
-use Rattle.std.proofs.lemmas.Bool.Decides.{eqb_tells, nat_tests}
+use Rattle.std.proofs.lemmas.Bool.Decides.{eqb_tells}
 use Rattle.std.proofs.lemmas.List.{get_or_past}
 use Rattle.batch_recipe.specs.Conditions.{ValueList}
 use Rattle.batch_recipe.specs.Nodes.{node_count}
-use Rattle.batch_recipe.specs.Tree.{Place, Step, Task, runs, follows, Tree, act, is_before}
+use Rattle.batch_recipe.specs.Tree.{Place, Step, Task, runs, follows, Tree}
 use Rattle.batch_recipe.specs.declared.entry.Entry.{Entry}
 use Rattle.batch_recipe.specs.declared.recipe.Recipe.{Recipe}
 use Rattle.batch_model.specs.Lists.{Has}
 use Rattle.batch_model.specs.Moves as machine
 use Rattle.batch_model.specs.Moves.{act_after, sent, released, ended, asked, granted, begun, batch_after, passing}
 use Rattle.batch_model.specs.Plant.{Batch, InAdvance, is_reached, with_rest}
-use Rattle.batch_model.specs.Rest.{same_place, Moment, Rest, ready, asking, open_act, live, freeing, in_seq, in_par, in_loop, done, Rests, no_rests, rest, acts, place_of}
+use Rattle.batch_model.specs.Rest.{same_place, Rest, ready, asking, open_act, live, freeing, in_seq, in_par, in_loop, done, Rests, no_rests, rest, acts, place_of}
 use Rattle.batch_machine.proofs.Changing.{to_same_place, same_test}
 use Rattle.batch_laws.proofs.Entries.{Has-filter}
-use Rattle.batch_laws.proofs.Raising.{at_moment, Nowhere, lifted, lifted_each, lifted-none, raised, places, IsSteady, IsTidy, IsFresh, moved-raised, reached-raised, reached-at, not_reached, fresh-where-none}
+use Rattle.batch_laws.proofs.Raising.{at_moment, Nowhere, lifted, lifted_each, lifted-none, raised, places, IsSteady, IsTidy, IsFresh, moved-raised, reached-raised, reached-at, not_reached}
 use Rattle.batch_laws.proofs.Steady.{stays-steady, stays-tidy, sent-stays, released-stays, ended-stays, asked-stays, granted-stays, begun-steady, begun-tidy}
 use Rattle.batch_chart.specs.Early.{is_early, is_ready, in_advance, taken_by, taken_by_each, is_of, IsTakenBy}
 use Rattle.batch_chart.specs.declared.passed.Passed.{Passed}
@@ -29,7 +29,7 @@ use Rattle.batch_chart.specs.declared.sign.TheConstants.{IS_ACT}
 use Rattle.batch_chart.specs.declared.stage.Stage.{Stage}
 use Rattle.batch_chart.specs.declared.stage.Stage.TheVariants as stage
 use Rattle.batch_chart.specs.Neat.{AreNeat, IsNeat, step_shows}
-use Rattle.batch_chart.specs.Noting.{AreNoted, ready_signs}
+use Rattle.batch_chart.specs.Noting.{AreNoted}
 use Rattle.batch_chart.specs.Numbered.{numbered}
 use Rattle.batch_chart.specs.Outlined.{Stands}
 use Rattle.batch_signs.specs.Signs.{shows, sign_at}

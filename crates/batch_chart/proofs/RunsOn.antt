@@ -1,5 +1,5 @@
 -- A running chart goes on as its batch does, with what that holds in advance.
-use Rattle.std.proofs.Common.{◌≡◌, ◌≢◌, ◌⊎◌, inl, inr, ◌<◌, ◌≤◌, ℕ, ◌+◌, List, [], ◌∷◌, length, filter, cond, Bool, true, false, ◌||◌, Some, None, nat_eq, arith, refl, sym, ◌∙◌, subst, ap, ap₂}
+use Rattle.std.proofs.Common.{◌≡◌, ◌⊎◌, inl, inr, ◌<◌, ℕ, List, [], ◌∷◌, length, filter, cond, Bool, true, false, Some, nat_eq, arith, refl, sym, ◌∙◌, subst, ap}
 use Rattle.std.specs.Prelude.{not, map}
 use Rattle.std.proofs.lemmas.Bool.Decides.{eqb_tells}
 use Rattle.batch_laws.proofs.Entries.{Has-filter}
@@ -10,7 +10,7 @@ use Rattle.batch_matrix.specs.declared.state.State.{State}
 use Rattle.batch_matrix.specs.Matrix.{after_report}
 use Rattle.batch_recipe.specs.Conditions.{ValueList}
 use Rattle.batch_recipe.specs.Nodes.{node_count}
-use Rattle.batch_recipe.specs.Tree.{Place, Tree}
+use Rattle.batch_recipe.specs.Tree.{Tree}
 use Rattle.batch_recipe.specs.declared.entry.Entry.{Entry}
 use Rattle.batch_recipe.specs.declared.recipe.Recipe.{Recipe}
 use Rattle.batch_model.specs.Events.{phase_after}
@@ -18,20 +18,20 @@ use Rattle.batch_model.specs.Lists.{Has}
 use Rattle.batch_model.specs.Moves as machine
 use Rattle.batch_model.specs.Moves.{act_after, batch_after, granted, passing, place_of_move}
 use Rattle.batch_model.specs.Plant.{Batch, InAdvance, is_reached, in_act, moment_of, with_rest}
-use Rattle.batch_model.specs.Rest.{same_place, Rest, acts, advance, changed_at, place_of}
+use Rattle.batch_model.specs.Rest.{Rest, acts, advance, changed_at, place_of}
 use Rattle.batch_laws.proofs.Raising.{at_moment, Nowhere, raised, IsFresh, moved-raised, not_reached, reached-at, fresh-where-none}
 use Rattle.batch_laws.proofs.Steady.{stays-steady, stays-tidy, granted-stays, phase_after-stays}
-use Rattle.batch_chart.specs.ByValues.{bare, advance_by}
-use Rattle.batch_chart.specs.Charts.{Awaits, IsChartOf, IsRunningOf, RunsAs, remains}
+use Rattle.batch_chart.specs.ByValues.{advance_by}
+use Rattle.batch_chart.specs.Charts.{Awaits, IsChartOf, IsRunningOf, RunsAs}
 use Rattle.batch_chart.specs.Early.{AreHeld, held_after, in_advance, is_early, is_ready, still_held, IsTakenBy, IsMovedOn, IsReportedOn}
 use Rattle.batch_chart.specs.declared.passed.Passed.{Passed}
 use Rattle.std.specs.VecDeque.{deque_capacity}
-use Rattle.std.specs.List.{IsDistinct, AllByRecursion, list_any}
+use Rattle.std.specs.List.{IsDistinct, AllByRecursion}
 use Rattle.batch_chart.specs.Meaning.{meaning}
 use Rattle.batch_chart.specs.Neat.{AreNeat}
 use Rattle.batch_chart.specs.NodesOf.{need_at, place_at}
 use Rattle.batch_chart.specs.Stages.{stage_at}
-use Rattle.batch_chart.specs.Running.{Allows, IsLaid, IsAlive, IsLiveIn, rest_after, IsChangedOnly}
+use Rattle.batch_chart.specs.Running.{Allows, IsAlive, IsLiveIn, rest_after, IsChangedOnly}
 use Rattle.batch_chart.specs.Seen.{move_of}
 use Rattle.batch_chart.specs.Upkeep.{IsKeptUp}
 use Rattle.batch_chart.specs.declared.chart_move.Move.{Move}

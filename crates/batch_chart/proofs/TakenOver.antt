@@ -1,9 +1,8 @@
 -- Ready acts take over what is held for them in advance.
-use Rattle.std.proofs.Common.{◌≡◌, ◌≢◌, ◌⊎◌, inl, inr, ◌<◌, ◌≤◌, ℕ, zero, suc, ◌+◌, List, [], ◌∷◌, length, take, Bool, true, false, ◌&&◌, ◌||◌, Some, None, nat_eq, nat_lt, arith, refl, sym, ◌∙◌, subst, ap, ap₂}
+use Rattle.std.proofs.Common.{◌≡◌, ◌≢◌, ◌⊎◌, inl, inr, ◌<◌, ◌≤◌, ℕ, zero, suc, ◌+◌, List, [], ◌∷◌, length, take, Bool, true, false, ◌||◌, nat_eq, nat_lt, arith, refl, sym, ◌∙◌, subst, ap, ap₂}
 use Rattle.std.proofs.lemmas.Bool.Decides.{eqb_tells, nat_tests}
 use Rattle.std.specs.Prelude.{slice_set, slice_index_or}
 use Rattle.std.proofs.Math.Dec.{eqb}
-use Rattle.batch_recipe.specs.Nodes.{node_count}
 use Rattle.batch_recipe.specs.Tree.{Place, Step, Task, runs, follows, Tree, act, skip, seq, par, sel, loop}
 use Rattle.batch_recipe.specs.declared.entry.Entry.{Entry}
 use Rattle.batch_recipe.specs.declared.recipe.Recipe.{Recipe}
@@ -11,7 +10,6 @@ use Rattle.batch_model.specs.Lists.{Has}
 use Rattle.batch_model.specs.Rest.{same_place, Rest, ready, asking, open_act, live, freeing, in_seq, in_par, in_loop, done, Rests, no_rests, rest, acts, acts_of_each, changed_at, changed_in_each, is_done, place_of}
 use Rattle.batch_model.proofs.Members.{Has-left, Has-right}
 use Rattle.batch_machine.proofs.Changing.{to_same_place}
-use Rattle.batch_machine.proofs.Keeping.{RemainsAs}
 use Rattle.batch_chart.specs.declared.node.Kind.{Kind}
 use Rattle.batch_chart.specs.declared.stage.Stage.{Stage}
 use Rattle.batch_chart.specs.declared.stage.Stage.TheVariants.{Ready}
@@ -24,7 +22,7 @@ use Rattle.batch_chart.specs.Noting.{HasCome}
 use Rattle.batch_chart.specs.Outlined.{kind_at, is_act_kind, Stands}
 use Rattle.batch_chart.specs.Running.{IsLaid, IsAlive, IsChangedOnly, SomeLives}
 use Rattle.batch_chart.specs.Stages.{stage_at, is_finished, is_begun, turns_of}
-use Rattle.batch_chart.specs.Told.{TellsWhetherOver, AreTold}
+use Rattle.batch_chart.specs.Told.{TellsWhetherOver}
 use Rattle.batch_chart.specs.Upkeep.{IsKeptUp}
 use Rattle.batch_chart.proofs.Agreeing.{stage-set_same, stage-set_other}
 use Rattle.batch_chart.proofs.Choosing.{chosen-false}

@@ -1,5 +1,5 @@
 -- surface: which tree a batch of a recipe follows, and to which nodes the acts of a recipe pass on what they reserve.
-use Rattle.std.specs.Prelude.{◌≡◌, ◌<◌, ℕ, length, Option, option_map}
+use Rattle.std.specs.Prelude.{◌≡◌, ◌<◌, ℕ, Option, option_map}
 use Rattle.batch_recipe.specs.Expanding.{Binding}
 use Rattle.batch_recipe.specs.Procedure.{bound_tree}
 use Rattle.batch_recipe.specs.Tree.{Tree}

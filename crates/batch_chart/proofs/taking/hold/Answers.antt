@@ -1,4 +1,4 @@
-use Rattle.std.proofs.Common.{◌∙◌, ap, arith, sym, refl}
+use Rattle.std.proofs.Common.{◌∙◌, arith, sym}
 use Rattle.batch_chart.proofs.MovedOn.{held-new, held-again, held-other, room-for}
 use Rattle.batch_chart.proofs.taking.hold.Goals as goal
 

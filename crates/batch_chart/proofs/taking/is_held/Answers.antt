@@ -1,6 +1,4 @@
-use Rattle.std.proofs.Common.{◌<◌, length, arith, inl, inr, sym, ◌∙◌, ap, nat_eq}
-use Rattle.std.proofs.lemmas.Bool.Decides.{eqb_tells}
-use Rattle.batch_chart.specs.Early.{to_at}
+use Rattle.std.proofs.Common.{◌<◌, length, arith, sym, ◌∙◌}
 use Rattle.batch_chart.proofs.TakenOver.{at-early, early-none, none-more, read-at}
 use Rattle.batch_chart.proofs.taking.is_held.Goals as goal
 

@@ -1,5 +1,4 @@
-use Rattle.std.proofs.Common.{◌<◌, ◌∙◌, length, arith, subst, sym}
-use Rattle.batch_chart.specs.Early.{IsTakenAt, to_at}
+use Rattle.std.proofs.Common.{◌<◌, ◌∙◌, length, arith, sym}
 use Rattle.batch_chart.proofs.TakenOver.{taken-first, taken-next, taken-end, as-many-stages, read-at}
 use Rattle.batch_chart.proofs.taking.take_over.Goals as goal
 
