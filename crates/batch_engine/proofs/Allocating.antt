@@ -18,7 +18,7 @@ use Rattle.batch_engine.specs.Kept.{IsOfCell}
 use Rattle.batch_engine.proofs.BatchPlaces.{chosen-true, chosen-false}
 use Rattle.batch_engine.proofs.Making.{same-number, same-named, name-yes, name-no, without-head, without-claim}
 use Rattle.batch_engine.proofs.Finding.{named}
-use Rattle.batch_engine.proofs.Passing.{freed, taken_up}
+use Rattle.batch_engine.proofs.Passing.{laid_down, taken_up}
 
 Has-shared : (share : Claim → Share) (xs : List Claim) (x : Claim) → Has xs x → Has (map share xs) (share x)
 Has-shared share [] x h = absurd h
@@ -27,7 +27,7 @@ Has-shared share (y ∷ xs) x (inr h) = inr (Has-shared share xs x h)
 
 -- shares when one of them, or none, has passed to another act
 abbrev passed_on : BatchAct → Share → Bool → List Share → List Share
-passed_on a new t hs = taken_up new t (freed a t hs)
+passed_on a new t hs = taken_up new t (laid_down a t hs)
 
 both-chosen : (a : BatchAct) (new : Share) (t : Bool) → t ≡ true → (hs : List Share) → passed_on a new t hs ≡ without a hs ++ new ∷ []
 both-chosen a new true g hs = refl

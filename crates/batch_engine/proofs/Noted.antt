@@ -34,7 +34,7 @@ use Rattle.batch_laws.proofs.Units.{performed-phase, unit-held}
 use Rattle.batch_engine.specs.Marked.{AreNotedBy}
 use Rattle.batch_engine.specs.Marking.{noted, noted_for}
 use Rattle.batch_engine.proofs.Frames.{IsEven}
-use Rattle.batch_engine.proofs.Passing.{freed, pass-even, pass-told, taken_up}
+use Rattle.batch_engine.proofs.Passing.{laid_down, pass-even, pass-told, taken_up}
 
 -- Lists
 
@@ -258,7 +258,7 @@ module _ (c : Setup) (rank : Ranking) (down : AreClearedDown c rank) (events : L
           ∙ ap (λ (z : Share). Some z.act.0) g
 
       go : (t : Bool) → same_name name r.resource ≡ t
-          → Has (taken_up new t (freed (n, p) t (holders_told outs name))) a
+          → Has (taken_up new t (laid_down (n, p) t (holders_told outs name))) a
           → slice_get hs q ≡ Some a.act.0
       go false f i = before a i units
       go true f i =

@@ -41,8 +41,8 @@ IsPassedBy b a (pass n p to r) = (s : Step) × (l : ℕ) × (a ≡ freeing s (su
 IsPassedBy b a _ = ⊤
 
 -- shares where one leaves or joins, or neither
-abbrev pub freed : BatchAct → Bool → List Share → List Share
-freed a t hs = elim t [ true ↦ without a hs | false ↦ hs ]
+abbrev pub laid_down : BatchAct → Bool → List Share → List Share
+laid_down a t hs = elim t [ true ↦ without a hs | false ↦ hs ]
 
 abbrev pub taken_up : Share → Bool → List Share → List Share
 taken_up new t hs = elim t [ true ↦ hs ++ new ∷ [] | false ↦ hs ]
@@ -277,7 +277,7 @@ module _ (d : Setup) (rank : Ranking) (outs : List Out) (s : Plant) (sd : IsStan
       new : Share
       new = record { act = (n, to); units = r.units }
 
-      go : (t : Bool) → same_name q r.resource ≡ t → units_in (taken_up new t (freed (n, p) t (holders_told outs q))) ≡ units_in (holders_told outs q)
+      go : (t : Bool) → same_name q r.resource ≡ t → units_in (taken_up new t (laid_down (n, p) t (holders_told outs q))) ≡ units_in (holders_told outs q)
       go false e = refl
       go true e =
           let has : Has (holders_told outs q) old = subst (λ z. Has (holders_told outs z) old) (sym (name_same q r.resource e)) (pass-told n p to r h) in

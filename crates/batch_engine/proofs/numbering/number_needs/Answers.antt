@@ -7,8 +7,8 @@ use Rattle.batch_engine.specs.Numbered.{AreReservedNeeds, IsUnitNeed, named_need
 use Rattle.batch_engine.specs.declared.numbers.NeedNumber.{NeedNumber}
 use Rattle.batch_engine.proofs.numbering.number_needs.Goals as goal
 
-pub number_unit-unit-requires : goal.number_unit-unit-requires
-number_unit-unit-requires c = omega (arith, c.args.recipe.now.few_roles, ap (λ xs. length xs) c.deref.ensures.value)
+pub number_unit-requires : goal.number_unit-requires
+number_unit-requires c = omega (arith, c.args.recipe.now.few_roles, ap (λ xs. length xs) c.deref.ensures.value)
 
 pub returns : goal.returns
 returns c =

@@ -1,4 +1,4 @@
-use Rattle.std.proofs.Common.{◌≡◌, ◌∙◌, ◌++◌, [], ◌∷◌, List, Some, ap, arith, append-nil, append_assoc, length, refl, subst, sym, take}
+use Rattle.std.proofs.Common.{◌≡◌, ◌∙◌, ◌++◌, [], ◌∷◌, List, Some, map, ap, arith, append-nil, append_assoc, length, refl, subst, sym, take, take_all}
 use Rattle.std.specs.Prelude.{slice_get}
 use Rattle.std.proofs.lemmas.Option.{slice_get_read}
 use Rattle.batch_recipe.specs.Conditions.{Name}
@@ -33,4 +33,10 @@ loop-name-preserved c =
     )
 
 pub returns : goal.returns
-returns c = c.loop-name.invariant
+returns c =
+    let r = c.args.recipe.now in
+    let before = c.loop-name.invariant in (
+      before.0,
+      subst (λ (ns : List Name). AreReservedNeeds c.args.cell.now (roles_of r) r.acts ns before.0) (take_all c.loop-name.name-index c.args.names.now (omega (arith, c.loop-name-test.false))) before.1,
+      before.2,
+    )
