@@ -1,5 +1,5 @@
 -- What a batch holds in advance, and what its acts hold and ask for, is no more than its tree needs.
-use Rattle.std.proofs.Common.{◌≡◌, ◌⊎◌, ◌≤◌, ◌<◌, ◌+◌, refl, sym, ◌∙◌, ap, subst, ℕ, zero, suc, List, [], ◌∷◌, ◌++◌, Option, Some, None, inl, inr, ⊎_elim, arith, length, map, take, slice_get, true}
+use Rattle.std.proofs.Common.{◌≡◌, ◌⊎◌, ◌≤◌, ◌<◌, ◌+◌, refl, sym, ◌∙◌, ap, subst, ℕ, zero, suc, List, [], ◌∷◌, ◌++◌, Some, inl, inr, ⊎_elim, arith, length, map, take, slice_get, true}
 use Rattle.std.specs.Prelude.{sum_by}
 use Rattle.std.proofs.lemmas.List.Sums.{sum_by-append, sum_by-cons}
 use Rattle.batch_recipe.specs.declared.need.Need.{Need}
@@ -7,7 +7,7 @@ use Rattle.batch_recipe.specs.Following.{Follower, enter, firsts, firsts_of_each
 use Rattle.batch_recipe.specs.Levels.{Level, is_procedure, in_procedure, in_unit_procedure, in_operation, below}
 use Rattle.batch_recipe.specs.Tree.{Place, Step, Task, runs, follows, Tree, act, skip, seq, par, sel, loop, Trees, no_trees, tree, Choices, otherwise, choice, is_before}
 use Rattle.batch_model.specs.ActStates.{steps, steps_below, steps_of_each, steps_of_choices}
-use Rattle.batch_model.specs.Lists.{Has, Each}
+use Rattle.batch_model.specs.Lists.{Has}
 use Rattle.batch_model.specs.Placed.{IsPlaced, Rises}
 use Rattle.batch_model.specs.Plant.{InAdvance}
 use Rattle.batch_model.specs.Rest.{Rest, ready, asking, open_act, live, freeing, in_seq, in_par, in_loop, done, Rests, no_rests, rest, acts, acts_of_each, place_of}
@@ -233,7 +233,7 @@ acts-once : (xs : List Rest) → Rises xs → Once (map act_step xs)
 acts-once [] h = tt
 acts-once (x ∷ xs) h = (
   λ m. (let a = mapped-act xs (act_step x) m in
-  before-differ (place_of x) (place_of a.0) (Each-Has (λ y. is_before (place_of x) (place_of y) ≡ true) xs a.0 h.0 a.1) (sym (act-place x) ∙ ap (λ (s : Step). s.place) (sym a.2) ∙ act-place a.0)),
+      before-differ (place_of x) (place_of a.0) (Each-Has (λ y. is_before (place_of x) (place_of y) ≡ true) xs a.0 h.0 a.1) (sym (act-place x) ∙ ap (λ (s : Step). s.place) (sym a.2) ∙ act-place a.0)),
   acts-once xs h.1,
 )
 

@@ -8,7 +8,7 @@ use Rattle.batch_matrix.specs.Matrix.{accepts}
 use Rattle.batch_recipe.specs.Conditions.{Name, same_name}
 use Rattle.batch_recipe.specs.declared.need.Need.{Need}
 use Rattle.batch_recipe.specs.Following.{follower}
-use Rattle.batch_recipe.specs.Tree.{Place, Reserve, Step, Task, Tree, runs, follows}
+use Rattle.batch_recipe.specs.Tree.{Place, Reserve, Step, Task, runs, follows}
 use Rattle.batch_model.specs.ActStates.{steps}
 use Rattle.batch_model.specs.Cleared.{Ranking}
 use Rattle.batch_model.specs.Lists.{Has, Each}

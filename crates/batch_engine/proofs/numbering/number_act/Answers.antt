@@ -1,4 +1,4 @@
-use Rattle.std.proofs.Common.{◌≡◌, ◌<◌, refl, ◌∙◌, ap, subst, arith, List, length, map, [], ◌∷◌, Some, None}
+use Rattle.std.proofs.Common.{◌≡◌, ◌<◌, refl, ◌∙◌, ap, arith, length, [], ◌∷◌, Some, None}
 use Rattle.std.specs.Prelude.{slice_get, option_copied}
 use Rattle.batch_recipe.specs.ActsAtNodes.{procedure_acts}
 use Rattle.batch_recipe.specs.Procedure.{bound_tree, procedure_nodes, procedure_tree}

@@ -1,4 +1,4 @@
-use Rattle.std.proofs.Common.{◌≡◌, ◌∙◌, ◌++◌, List, ap, arith, length, map, subst}
+use Rattle.std.proofs.Common.{◌∙◌, ◌++◌, List, ap, arith, length, map, subst}
 use Rattle.batch_recipe.specs.declared.need.Need.{Need}
 use Rattle.batch_recipe.specs.declared.role.Role.{Role}
 use Rattle.batch_recipe.specs.Conditions.{Name}
