@@ -2,8 +2,8 @@
 ghost use Rattle.std.specs.Prelude.{◌≡◌, ◌≤◌, Some, ◌∷◌, [], ◌++◌, IfSome, map, codes, decimal, drop, length};
 ghost use Rattle.std.specs.List.{zip};
 ghost use Rattle.batch_recipe.specs.Texts.{line_text, place_text};
-ghost use Rattle.batch_engine.specs.Names.{handed_at, name_at, phase_name, place_at, recipe_name, resource_name, roles_of, roles_told};
-ghost use Rattle.batch_engine.specs.Surface.{need_of, out_of, reply_of, move_of, refusal_of};
+ghost use Rattle.batch_engine.specs.Names.{handed_at, name_at, need_of, phase_name, place_at, recipe_name, resource_name, roles_of, roles_told};
+ghost use Rattle.batch_engine.specs.Surface.{out_of, reply_of, move_of, refusal_of};
 ghost use Rattle.batch_engine.specs.declared.line.Line.TheVariants as lines;
 ghost use Rattle.batch_engine.specs.declared.reply.Reply.TheVariants as replies;
 ghost use Rattle.batch_verify.specs.ClearedSet.{ClearedSet};
