@@ -1,5 +1,5 @@
 -- What a crash leaves isn't damage.
-use Rattle.std.proofs.Common.{◌≡◌, ◌⊎◌, ℕ, zero, suc, ◌+◌, ◌-◌, ◌≤◌, ◌<◌, Bool, true, false, ◌==◌, if◌then◌else◌, List, [], ◌∷◌, ◌++◌, length, take, drop, take-append-drop, Some, None, codes, nat_eq, refl, sym, ◌∙◌, ap, subst, arith, append_assoc, inl, inr}
+use Rattle.std.proofs.Common.{◌≡◌, ◌⊎◌, ℕ, ◌+◌, ◌-◌, ◌≤◌, ◌<◌, true, false, ◌==◌, if◌then◌else◌, List, [], ◌∷◌, ◌++◌, length, take, drop, take-append-drop, Some, None, codes, refl, sym, ◌∙◌, ap, subst, arith, append_assoc, inl, inr}
 use Rattle.std.proofs.lemmas.Bool.{cases_lt}
 use Rattle.std.proofs.lemmas.Bool.Decides.{Decides-eqb}
 use Rattle.std.proofs.lemmas.Slice.Eq.{starts_is}
@@ -242,7 +242,7 @@ closes_first f sum last begun (line ∷ lines) more (l ∷ front) closing rest i
 
 module _ (documents synced sum tail : List ℕ) (line : ℕ) (journal : IsJournal documents synced sum) (damaged : IsDamaged documents (synced ++ tail) line) where
   -- a synced group isn't the damaged one
-  within : damaged.end < length synced → ⊥
+  pub within : damaged.end < length synced → ⊥
   within lt =
       let end = damaged.end in
       let front = take end synced in
@@ -264,7 +264,7 @@ module _ (documents synced sum tail : List ℕ) (line : ℕ) (journal : IsJourna
       not_both _ found.1 (damaged.wrong found.0)
 
   -- and no second line closes a group behind them
-  behind_them : length synced ≤ damaged.end → 1 < closings (raw_lines tail)
+  pub behind_them : length synced ≤ damaged.end → 1 < closings (raw_lines tail)
   behind_them le =
       let k = damaged.end - length synced in
       let size : damaged.end ≡ length synced + k = omega (arith, le) in

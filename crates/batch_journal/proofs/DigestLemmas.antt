@@ -1,5 +1,5 @@
 -- Digests of documents.
-use Rattle.std.proofs.Common.{◌≡◌, ℕ, zero, suc, ◌+◌, ◌<◌, List, [], ◌∷◌, ◌++◌, length, decimal, slice_index, ◌==◌, false, refl, sym, ◌∙◌, ap, arith, append_assoc, codes}
+use Rattle.std.proofs.Common.{◌≡◌, ℕ, suc, List, [], ◌∷◌, ◌++◌, length, decimal, sym, ◌∙◌, ap, arith, append_assoc, codes}
 use Rattle.std.proofs.lemmas.List.{append-nil}
 use Rattle.batch_journal.specs.Digests.{IsPlain, counted}
 use Rattle.batch_journal.specs.Lines.{IsLine}

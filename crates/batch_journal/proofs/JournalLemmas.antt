@@ -1,11 +1,11 @@
 -- Texts of groups behind a header.
-use Rattle.std.proofs.Common.{◌≡◌, ◌⊎◌, ℕ, zero, suc, ◌+◌, ◌-◌, ◌≤◌, ◌<◌, Bool, true, false, ◌==◌, List, [], ◌∷◌, ◌++◌, length, length-append, take, drop, take-append-drop, Some, refl, sym, ◌∙◌, ap, subst, arith, append_assoc, inl, inr}
-use Rattle.std.proofs.lemmas.List.{append-nil, take_at, drop_at, drop-append-le, drop-take, length-drop}
+use Rattle.std.proofs.Common.{◌≡◌, ◌⊎◌, ℕ, true, false, List, [], ◌∷◌, ◌++◌, length, length-append, Some, refl, sym, ◌∙◌, ap, subst, arith, append_assoc, inl, inr}
+use Rattle.std.proofs.lemmas.List.{drop-append-le}
 use Rattle.batch_journal.specs.Lines.{IsLine, AreLines, text_of, until_zero, whole_from, whole_lines}
 use Rattle.batch_journal.specs.Groups.{Format, taken, last_sum, AreOthers}
 use Rattle.batch_journal.specs.Journals.{journal_format, next_sum, header, groups_in, lines_taken, recovered, IsClosed, IsJournal}
 use Rattle.batch_journal.proofs.LineLemmas.{no_zero, until_zero_behind, until_zero_all, reads_lines, reads_all, text_both, lines_both, are_whole_lines}
-use Rattle.batch_journal.proofs.GroupLemmas.{go_on, is_taken, none_taken_first, bool_cases}
+use Rattle.batch_journal.proofs.GroupLemmas.{go_on, is_taken, bool_cases}
 
 -- behind lines others are read as by themselves
 pub lines_behind : (lines : List (List ℕ)) (tail : List ℕ) → AreLines lines → whole_lines (text_of lines ++ tail) ≡ lines ++ whole_lines tail

@@ -14,3 +14,5 @@ mod WritingLemmas
 pub mod ReaderLemmas
 mod DamageLemmas
 mod DigestLemmas
+mod TakenLemmas
+mod RecoveryRowsHold

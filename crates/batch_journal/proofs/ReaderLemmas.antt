@@ -1,16 +1,16 @@
 -- A reader that journals: what stays so at each of its steps.
-use Rattle.std.proofs.Common.{◌≡◌, ◌⊎◌, ◌^◌, ℕ, zero, suc, ◌+◌, ◌-◌, ◌≤◌, ◌<◌, length-append, List, [], ◌∷◌, ◌++◌, length, take, drop, take-append-drop, Option, Some, None, refl, sym, ◌∙◌, ap, subst, arith, append_assoc, inl, inr, ⊎_elim, Bool, ◌≢◌, min, true, false, ◌==◌}
+use Rattle.std.proofs.Common.{◌≡◌, ◌^◌, ℕ, zero, suc, ◌+◌, ◌-◌, ◌≤◌, ◌<◌, length-append, List, [], ◌∷◌, ◌++◌, length, take, drop, take-append-drop, Option, Some, None, refl, sym, ◌∙◌, ap, subst, arith, append_assoc, ⊎_elim, Bool, ◌≢◌, min, true, false}
 use Rattle.std.proofs.lemmas.List.{append-nil, take_at, length-drop, length-take, length-take-le}
 use Rattle.std.specs.Io.KnownBytes.{prepend_known, Keeps, Consumes}
 use lib.Seq.{take-add}
-use Rattle.batch_journal.specs.Lines.{AreLines, IsLine, text_of, whole_lines}
+use Rattle.batch_journal.specs.Lines.{IsLine, text_of, whole_lines}
 use Rattle.batch_journal.specs.Disks.{Left, Begins, MayLeave, Elapses, LeavesOnly}
 use Rattle.batch_journal.specs.Readers.{IsKept, StartsText, Recalls, HasRecalled, IsAccounted, LinesBegin}
 use Rattle.batch_journal.specs.Groups.{AreOthers, taken}
 use Rattle.batch_journal.specs.Recovery.{KeepsLines}
 use Rattle.batch_journal.specs.Journals.{journal_format, next_sum, recovered, IsJournal}
-use Rattle.batch_journal.specs.Writing.{closing_line, group_text, MayKeep}
-use Rattle.batch_journal.proofs.LineLemmas.{reads_all, text_both, lines_both, are_whole_lines, whole_text, whole_both}
+use Rattle.batch_journal.specs.Writing.{closing_line, group_text}
+use Rattle.batch_journal.proofs.LineLemmas.{text_both, are_whole_lines, whole_text}
 use Rattle.batch_journal.proofs.SumLemmas.{closing_is_line, closing_is_own, closing_closes}
 use Rattle.batch_journal.proofs.JournalLemmas.{recovered_behind, journal_with, recovered_with, are_recovered, lines_of_text, lines_behind}
 

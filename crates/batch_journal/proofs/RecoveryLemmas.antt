@@ -1,14 +1,13 @@
 -- Recovery: files whose lines stay the same, whatever a crash makes of their ends.
-use Rattle.std.proofs.Common.{rules, ◌≡◌, ◌≢◌, ◌⊎◌, ℕ, zero, suc, ◌+◌, ◌-◌, ◌≤◌, ◌<◌, Bool, true, false, ◌==◌, List, [], ◌∷◌, ◌++◌, length, length-append, take, drop, take-append-drop, filter, slice_index, get_or, Option, Some, None, codes, nat_eq, refl, sym, ◌∙◌, ap, subst, arith, append_assoc, inl, inr}
-use Rattle.std.proofs.lemmas.List.{append-nil, take_at, drop_at, take_all, drop-drop, length-drop, length-take-le}
-use Rattle.std.proofs.Math.Seq.{take-append-add}
+use Rattle.std.proofs.Common.{◌≡◌, ◌⊎◌, ℕ, zero, suc, ◌+◌, ◌-◌, ◌≤◌, ◌<◌, Bool, true, false, ◌==◌, List, [], ◌∷◌, ◌++◌, length, length-append, take, drop, take-append-drop, slice_index, codes, nat_eq, refl, sym, ◌∙◌, ap, subst, arith, append_assoc, inl, inr}
+use Rattle.std.proofs.lemmas.List.{append-nil, take_at, drop_at, drop-drop, length-drop}
 use lib.Seq.{take-add}
 use Rattle.std.specs.List.{starts_with}
 use Rattle.batch_journal.specs.Disks.{IsPart, Left, Begins, MayLeave, MayCut, Elapses, LeavesOnly}
 use Rattle.batch_journal.specs.Lines.{AreLines, until_zero, whole_from, whole_lines}
 use Rattle.batch_journal.specs.Groups.{taken, is_left}
 use Rattle.batch_journal.specs.Journals.{journal_format, header, groups_in, recovered, IsClosed, IsJournal}
-use Rattle.batch_journal.specs.Recovery.{IsTakenTo, KeepsLines, StandsTo, IsDamaged, ClosesTwice, closing_count, raw_lines}
+use Rattle.batch_journal.specs.Recovery.{IsTakenTo, IsUnbegun, KeepsLines, StandsTo, IsDamaged, ClosesTwice, closing_count, raw_lines}
 use Rattle.batch_journal.proofs.CrashLemmas.{leaves_all}
 use Rattle.batch_journal.proofs.MomentLemmas.{started, goes_on}
 use Rattle.std.proofs.lemmas.Bool.{cases_lt}
@@ -77,7 +76,7 @@ module _ (documents : List ℕ) where
 
 -- A header that is begun
 
-part_length : (part whole : List ℕ) → IsPart part whole → length part ≤ length whole
+pub part_length : (part whole : List ℕ) → IsPart part whole → length part ≤ length whole
 part_length [] whole is = omega arith
 part_length (b ∷ part) [] is = absurd is
 part_length (b ∷ part) (x ∷ whole) is = omega (arith, part_length part whole is.1)
@@ -104,9 +103,6 @@ header_journal documents =
 pub header_lines : (documents : List ℕ) → recovered documents (header documents) ≡ []
 header_lines documents = none_behind documents (header documents) (omega arith)
 
-pub short_lines : (documents file : List ℕ) (n : ℕ) → length file ≤ n → n ≡ length (header documents) → recovered documents file ≡ []
-short_lines documents file n le is = none_behind documents file (omega (arith, le, is))
-
 no_feed_on : (begun : List ℕ) (b : ℕ) (text : List ℕ) → ((b == 0) ≡ true) ⊎ ((b == 0) ≡ false) → ((b == 10) ≡ true) ⊎ ((b == 10) ≡ false) → ((b == 10) ≡ true → ⊥)
     → whole_from (begun ++ b ∷ []) (until_zero text) ≡ [] → whole_from begun (until_zero (b ∷ text)) ≡ []
 no_feed_on begun b text (inl is_zero) feed none below = rw is_zero refl
@@ -114,7 +110,7 @@ no_feed_on begun b text (inr not_zero) (inl feed) none below = absurd (none feed
 no_feed_on begun b text (inr not_zero) (inr other) none below = rw (not_zero, other) below
 
 -- no line ends behind there either
-no_feed_behind : (n : ℕ) (text : List ℕ) → ((k : ℕ) → k < length text → (slice_index text k == 10) ≡ true → ⊥)
+pub no_feed_behind : (n : ℕ) (text : List ℕ) → ((k : ℕ) → k < length text → (slice_index text k == 10) ≡ true → ⊥)
     → (k : ℕ) → k < length (drop n text) → (slice_index (drop n text) k == 10) ≡ true → ⊥
 no_feed_behind zero text none = none
 no_feed_behind (suc n) [] none = λ k lt is. absurd (omega (arith, lt))
@@ -127,10 +123,15 @@ no_feed_lines begun (b ∷ text) none =
     no_feed_on begun b text (bool_cases (b == 0)) (bool_cases (b == 10)) (λ is. none 0 (omega arith) is)
     (no_feed_lines (begun ++ b ∷ []) text (λ k lt is. none (suc k) (omega (arith, lt)) is))
 
-pub no_feed : (documents file : List ℕ) → ((k : ℕ) → k < length file → (slice_index file k == 10) ≡ true → ⊥) → recovered documents file ≡ []
+no_feed : (documents file : List ℕ) → ((k : ℕ) → k < length file → (slice_index file k == 10) ≡ true → ⊥) → recovered documents file ≡ []
 no_feed documents file none =
     let n = length (header documents) in
     ap (taken journal_format documents []) (no_feed_lines [] (drop n file) (no_feed_behind n file none))
+
+-- a file in which no journal was begun has none
+pub unbegun_lines : (documents file : List ℕ) → IsUnbegun documents file → recovered documents file ≡ []
+unbegun_lines documents file (inl none) = no_feed documents file none
+unbegun_lines documents file (inr part) = none_behind documents file (part_length file (header documents) part)
 
 -- Files that are cut
 

@@ -1,13 +1,13 @@
 -- How far the groups of a text are taken, line by line.
-use Rattle.std.proofs.Common.{rules, ◌≡◌, ◌≢◌, ◌⊎◌, ℕ, zero, suc, ◌+◌, ◌-◌, ◌≤◌, ◌<◌, Bool, true, false, ◌==◌, ◌||◌, List, [], ◌∷◌, ◌++◌, length, length-append, take, drop, take-append-drop, slice_range, slice_index, get_or, refl, sym, ◌∙◌, ap, subst, arith, append_assoc, inl, inr}
-use Rattle.std.proofs.lemmas.List.{append-nil, take_at, drop_at, drop_more, take_all, drop-append-le, take-append-le, drop-take, length-drop, length-take-le}
+use Rattle.std.proofs.Common.{rules, ◌≡◌, ◌≢◌, ℕ, zero, suc, ◌+◌, ◌-◌, ◌≤◌, ◌<◌, true, false, ◌==◌, ◌||◌, List, [], ◌∷◌, ◌++◌, length, length-append, take, drop, take-append-drop, slice_range, slice_index, get_or, refl, sym, ◌∙◌, ap, subst, arith, append_assoc}
+use Rattle.std.proofs.lemmas.List.{append-nil, take_at, drop_more, take_all, drop-append-le, take-append-le, drop-take, length-drop, length-take-le}
 use lib.Seq.{take-add}
-use Rattle.batch_journal.specs.Lines.{IsLine, AreLines, text_of, until_zero, whole_lines}
+use Rattle.batch_journal.specs.Lines.{IsLine, AreLines, text_of, whole_lines}
 use Rattle.batch_journal.specs.Ends.{EndsLine}
 use Rattle.batch_journal.specs.Groups.{is_left, AreOthers}
 use Rattle.batch_journal.specs.Journals.{journal_format, next_sum, IsClosed}
 use Rattle.batch_journal.proofs.GroupLemmas.{left_on, wrong_sum}
-use Rattle.batch_journal.proofs.LineLemmas.{text_both, lines_both}
+use Rattle.batch_journal.proofs.LineLemmas.{text_both}
 use Rattle.batch_journal.proofs.JournalLemmas.{lines_behind, closed_with}
 use Rattle.batch_journal.proofs.WholeEnd.{nothing_behind, at_zero}
 

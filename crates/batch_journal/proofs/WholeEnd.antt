@@ -1,5 +1,5 @@
 -- Where the whole lines end.
-use Rattle.std.proofs.Common.{rules, ◌≡◌, ◌⊎◌, ℕ, ◌+◌, ◌-◌, ◌≤◌, zero, suc, take-append-drop, List, [], ◌∷◌, ◌++◌, length, take, drop, get_or, ◌<◌, ◌≢◌, refl, sym, ◌∙◌, ap, subst, arith, append_assoc, inl, inr, true, false, Bool, ◌==◌, length-append}
+use Rattle.std.proofs.Common.{rules, ◌≡◌, ◌⊎◌, ℕ, ◌+◌, ◌-◌, ◌≤◌, zero, suc, take-append-drop, List, [], ◌∷◌, ◌++◌, length, take, drop, get_or, ◌<◌, ◌≢◌, refl, sym, ◌∙◌, ap, subst, arith, append_assoc, inl, inr, true, false, ◌==◌, length-append}
 use Rattle.std.proofs.lemmas.List.{append-nil, take_at, drop_at, drop_more, at_drop_all}
 use Rattle.std.proofs.Math.Seq.{take-append-add}
 use Rattle.batch_journal.specs.Lines.{IsLine, AreLines, text_of, until_zero, whole_from, whole_lines}

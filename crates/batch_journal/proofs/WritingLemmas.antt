@@ -1,10 +1,9 @@
 -- A group as it is written.
-use Rattle.std.proofs.Common.{◌≡◌, ℕ, List, [], ◌∷◌, ◌++◌, length, take, drop, Bool, true, false, ◌==◌, ◌&&◌, nat_eq, ◌^◌, ◌<◌, decimal, sym, refl, ◌∙◌, ap, subst, append_assoc, rules}
+use Rattle.std.proofs.Common.{◌≡◌, ℕ, List, [], ◌∷◌, ◌++◌, length, drop, Bool, true, ◌&&◌, nat_eq, sym, refl, ◌∙◌, ap, append_assoc}
 use Rattle.batch_journal.specs.Disks.{Left, MayLeave}
-use Rattle.batch_journal.specs.Lines.{IsLine}
 use Rattle.std.specs.List.{starts_with}
-use Rattle.batch_journal.specs.Journals.{closing_start, is_time, journal_format}
-use Rattle.batch_journal.specs.Writing.{closing_line, group_text, MayKeep}
+use Rattle.batch_journal.specs.Journals.{closing_start, is_time}
+use Rattle.batch_journal.specs.Writing.{MayKeep}
 use Rattle.batch_journal.proofs.CrashLemmas.{as_of}
 
 pub keeps_so : (durable seen given d g : List ℕ) (left : Left) → d ≡ durable → g ≡ given → MayLeave d seen g left → MayKeep durable given left

@@ -10,3 +10,4 @@ pub mod Writing
 pub mod Recovery
 pub mod Readers
 pub mod Folders
+pub mod RowsOfRecovery

@@ -1,5 +1,5 @@
 -- trusted: what recovery finds in a file, and why it refuses one.
-use Rattle.std.specs.Prelude.{◌≡◌, ℕ, ◌+◌, ◌≤◌, ◌<◌, List, [], ◌∷◌, ◌++◌, length, take, drop, filter, ⊤, false, true, codes, nat_eq, slice_index, ◌==◌}
+use Rattle.std.specs.Prelude.{◌≡◌, ◌⊎◌, ℕ, ◌+◌, ◌≤◌, ◌<◌, Bool, ◌||◌, List, [], ◌∷◌, ◌++◌, length, take, drop, filter, ⊤, false, true, codes, nat_eq, slice_index, ◌==◌}
 use Rattle.std.specs.List.{starts_with}
 use Rattle.batch_journal.specs.Disks.{IsPart, Left, Begins}
 use Rattle.batch_journal.specs.Lines.{IsLine, AreLines, text_of, whole_from, whole_lines}
@@ -66,12 +66,39 @@ WholeLinesAreLines = (text : List ℕ) → AreLines (whole_lines text)
 abbrev pub RecoveredAreLines : Type 0
 RecoveredAreLines = (documents file : List ℕ) → AreLines (recovered documents file)
 
+-- no line ends in the text
+abbrev pub HasNoFeed : List ℕ → Type 0
+HasNoFeed text = (k : ℕ) → k < length text → (slice_index text k == 10) ≡ true → ⊥
+
+-- a byte that a crash may have left for this one
+abbrev pub is_like : ℕ × ℕ → Bool
+is_like pair = (pair.0 == 0) || (pair.0 == pair.1)
+
+-- no journal was begun in the file, or a crash left a part of its header
+abbrev pub IsUnbegun : List ℕ → List ℕ → Type 0
+IsUnbegun documents file = HasNoFeed file ⊎ IsPart file (header documents)
+
+-- a start takes the file: it is a journal of these documents up to some end, or none was begun in it
+abbrev pub IsRecoverable : List ℕ → List ℕ → Type 0
+IsRecoverable documents file = ((end : ℕ) × (sum : List ℕ) × StandsTo documents file end sum) ⊎ IsUnbegun documents file
+
 -- why a file is refused
 abbrev pub IsRefusedFor : List ℕ → List ℕ → RecoveryFault → Type 0
 IsRefusedFor documents file (Disk fault) = ⊤
-IsRefusedFor documents file NoJournal = starts_with nat_eq file (codes "# batchd journal 1 ") ≡ false
-IsRefusedFor documents file OtherDocuments = (starts_with nat_eq file (codes "# batchd journal 1 ") ≡ true) × (starts_with nat_eq file (header documents) ≡ false)
+IsRefusedFor documents file NoJournal = (starts_with nat_eq file (codes "# batchd journal 1 ") ≡ false) × (IsUnbegun documents file → ⊥)
+IsRefusedFor documents file OtherDocuments =
+    (starts_with nat_eq file (codes "# batchd journal 1 ") ≡ true) × (starts_with nat_eq file (header documents) ≡ false) × (IsUnbegun documents file → ⊥)
 IsRefusedFor documents file (Damaged line) = IsDamaged documents file line
+
+abbrev pub IsOfDisk : RecoveryFault → Type 0
+IsOfDisk (Disk fault) = ⊤
+IsOfDisk NoJournal = ⊥
+IsOfDisk OtherDocuments = ⊥
+IsOfDisk (Damaged line) = ⊥
+
+-- no file that is refused for its bytes is one that a start takes
+abbrev pub RefusedIsNotTaken : Type 0
+RefusedIsNotTaken = (documents file : List ℕ) (fault : RecoveryFault) → IsRefusedFor documents file fault → IsRecoverable documents file → IsOfDisk fault
 
 -- the text is all of the file, synced, and a journal
 pub record AreRests (documents text sum durable seen : List ℕ) : Type 0 where
@@ -83,7 +110,3 @@ pub record AreRests (documents text sum durable seen : List ℕ) : Type 0 where
 pub record KeepsLines (documents file given : List ℕ) (left : Left) : Type 0 where
   pub lines : recovered documents left.file ≡ recovered documents file
   pub output : Begins left.given given
-
--- no line ends in the text
-abbrev pub HasNoFeed : List ℕ → Type 0
-HasNoFeed text = (k : ℕ) → k < length text → (slice_index text k == 10) ≡ true → ⊥

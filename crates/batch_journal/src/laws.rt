@@ -1,7 +1,8 @@
 //! Laws of groups and lines. Nothing runs here: the contracts are the laws.
 ghost use Rattle.batch_journal.specs.Groups.{GroupsGoOn, GroupIsTaken, TornIsLeft};
 ghost use Rattle.batch_journal.specs.Readers.{LinesBegin};
-ghost use Rattle.batch_journal.specs.Recovery.{CrashIsNoDamage, RecoveredAreLines, WholeLinesAreLines};
+ghost use Rattle.batch_journal.specs.RowsOfRecovery.{RecoveryRows};
+ghost use Rattle.batch_journal.specs.Recovery.{CrashIsNoDamage, RecoveredAreLines, RefusedIsNotTaken, WholeLinesAreLines};
 
 /// Behind groups that are taken others are taken as by themselves, whatever the sums are.
 pub fn groups_go_on()
@@ -28,8 +29,18 @@ pub fn crash_is_no_damage()
     ensures { CrashIsNoDamage }
 {}
 
+/// No file that is refused for its bytes is one that a start takes.
+pub fn refused_is_not_taken()
+    ensures { RefusedIsNotTaken }
+{}
+
 /// Whole lines, and what recovery gives, are lines: none has a line feed or a zero byte.
 pub fn recovered_are_lines()
     ensures whole { WholeLinesAreLines }
     ensures recovered { RecoveredAreLines }
+{}
+
+/// Files that a start takes, and files that it doesn't.
+pub fn recovery_rows()
+    ensures { RecoveryRows }
 {}

@@ -1,9 +1,9 @@
 //! Recovery: the groups of a journal whose end a crash may have torn.
-ghost use Rattle.std.specs.Prelude.{◌≡◌, ◌⊎◌, ◌≤◌, [], None, false, length, IfOk, IfErr, IsTrue, IfSome, MatchOption, nat_eq};
-ghost use Rattle.std.specs.List.{starts_with};
-ghost use Rattle.batch_journal.specs.Disks.{LeavesOnly};
+ghost use Rattle.std.specs.Prelude.{◌≡◌, ◌⊎◌, ◌≤◌, [], None, false, length, IfOk, IfErr, IsTrue, IsFalse, IfSome, MatchOption, nat_eq};
+ghost use Rattle.std.specs.List.{list_all, starts_with, zip};
+ghost use Rattle.batch_journal.specs.Disks.{IsPart, LeavesOnly};
 ghost use Rattle.batch_journal.specs.Journals.{IsJournal, header, recovered, sum_text};
-ghost use Rattle.batch_journal.specs.Recovery.{HasNoFeed, IsRefusedFor, KeepsLines, IsTakenTo, StandsTo, AreRests, ClosesTwice, closing_count, raw_lines};
+ghost use Rattle.batch_journal.specs.Recovery.{HasNoFeed, IsRecoverable, IsRefusedFor, IsUnbegun, is_like, KeepsLines, IsTakenTo, StandsTo, AreRests, ClosesTwice, closing_count, raw_lines};
 
 use crate::disk::{Disk, DiskError};
 use crate::group::{closes, is_closing};
@@ -71,6 +71,7 @@ pub fn recover<D: Disk>(
 ) -> Result<Recovered, RecoveryFault>
     // After a restart, what is read is what is on the disk.
     requires { D.is_disk disk.old → D.durable disk.old ≡ D.seen disk.old }
+    ensures taken { D.is_disk disk.new → IfOk result (λ _. IsRecoverable documents.now (D.seen disk.old)) }
     ensures lines { D.is_disk disk.new → IfOk result (λ r. recovered documents.now r.text.items ≡ recovered documents.now (D.seen disk.old)) }
     ensures journal { IfOk result (λ r. IsJournal documents.now r.text.items (sum_text r.sum)) }
     ensures at_rest { D.is_disk disk.new → IfOk result (λ r. AreRests documents.now r.text.items (sum_text r.sum) (D.durable disk.new) (D.seen disk.new)) }
@@ -121,7 +122,7 @@ fn begin<D: Disk>(
     documents: &[u8; 64],
 ) -> Result<Recovered, RecoveryFault>
     requires synced { D.is_disk disk.old → (D.durable disk.old ≡ D.seen disk.old) × (D.seen disk.old ≡ text.items) }
-    requires unbegun { recovered documents.now text.items ≡ [] }
+    requires unbegun { IsUnbegun documents.now text.items }
     ensures lines { D.is_disk disk.new → IfOk result (λ r. recovered documents.now r.text.items ≡ recovered documents.now (D.seen disk.old)) }
     ensures journal { IfOk result (λ r. IsJournal documents.now r.text.items (sum_text r.sum)) }
     ensures at_rest { D.is_disk disk.new → IfOk result (λ r. AreRests documents.now r.text.items (sum_text r.sum) (D.durable disk.new) (D.seen disk.new)) }
@@ -148,7 +149,7 @@ fn begin<D: Disk>(
 
 /// How far a file is a journal of these documents; None where no group of it was ever synced.
 fn standing_of(bytes: &[u8], documents: &[u8; 64]) -> Result<Option<Taken>, RecoveryFault>
-    ensures ok { IfOk result (λ found. MatchOption found (recovered documents.now bytes.now ≡ []) (λ taken. StandsTo documents.now bytes.now taken.end (sum_text taken.sum))) }
+    ensures ok { IfOk result (λ found. MatchOption found (IsUnbegun documents.now bytes.now) (λ taken. StandsTo documents.now bytes.now taken.end (sum_text taken.sum))) }
     ensures refused { IfErr result (IsRefusedFor documents.now bytes.now) }
 {
     let header = header_text(documents);
@@ -169,7 +170,7 @@ fn standing_of(bytes: &[u8], documents: &[u8; 64]) -> Result<Option<Taken>, Reco
 /// A file without the header: None where it is to be begun anew, or why it is refused.
 fn unlike(bytes: &[u8], documents: &[u8; 64]) -> Result<Option<Taken>, RecoveryFault>
     requires { starts_with nat_eq bytes.now (header documents.now) ≡ false }
-    ensures ok { IfOk result (λ found. (found ≡ None) × (recovered documents.now bytes.now ≡ [])) }
+    ensures ok { IfOk result (λ found. (found ≡ None) × IsUnbegun documents.now bytes.now) }
     ensures refused { IfErr result (IsRefusedFor documents.now bytes.now) }
 {
     if is_unbegun(bytes, &header_text(documents)) {
@@ -183,16 +184,20 @@ fn unlike(bytes: &[u8], documents: &[u8; 64]) -> Result<Option<Taken>, RecoveryF
 
 /// Whether no line ends in the file, or it is what a crash may leave of a header: no longer, and each byte is the header's or zero.
 fn is_unbegun(bytes: &[u8], header: &[u8; 84]) -> bool
-    ensures { IsTrue result → HasNoFeed bytes.now ⊎ (length bytes.now ≤ 84) }
+    ensures yes { IsTrue result → HasNoFeed bytes.now ⊎ IsPart bytes.now header.now }
+    ensures no { IsFalse result → HasNoFeed bytes.now ⊎ IsPart bytes.now header.now → ⊥ }
 {
-    if memchr(b'\n', bytes).is_none() {
-        return true;
-    }
-    bytes.len() <= header.len()
-        && bytes
-            .iter()
-            .zip(header)
-            .all(|(byte, wanted)| *byte == 0 || byte == wanted)
+    memchr(b'\n', bytes).is_none() || (bytes.len() <= header.len() && is_like(bytes, header))
+}
+
+/// Whether each byte that both have at one place is the header's or zero.
+fn is_like(bytes: &[u8], header: &[u8; 84]) -> bool
+    ensures { result ≡ list_all is_like (zip bytes.now header.now) }
+{
+    bytes
+        .iter()
+        .zip(header)
+        .all(|(byte, wanted)| *byte == 0 || byte == wanted)
 }
 
 /// Takes the groups behind a header, as long as their sums are right.

@@ -1,4 +1,4 @@
-use Rattle.std.proofs.Common.{rules, ◌≡◌, ◌++◌, ◌∷◌, [], List, ℕ, length, length-append, sym, ◌∙◌, ap, arith}
+use Rattle.std.proofs.Common.{rules, ◌≡◌, ◌++◌, ◌∷◌, [], length, length-append, ◌∙◌, ap, arith}
 use Rattle.batch_journal.specs.Journals.{closing_mark, closing_start, is_time}
 use Rattle.batch_journal.proofs.TakeLemmas.{to_end}
 use Rattle.batch_journal.proofs.WritingLemmas.{closes_so}

@@ -1,8 +1,5 @@
-use Rattle.std.proofs.Common.{◌≡◌, ◌≤◌, take, refl, sym, ◌∙◌, ap, subst}
-use Rattle.batch_journal.specs.Disks.{Left, MayLeave, MayCut}
-use Rattle.batch_journal.specs.Journals.{recovered, sum_text}
-use Rattle.batch_journal.proofs.CrashLemmas.{leaves_all}
-use Rattle.batch_journal.proofs.MomentLemmas.{started, goes_on}
+use Rattle.std.proofs.Common.{sym, ◌∙◌, ap}
+use Rattle.batch_journal.specs.Journals.{recovered}
 use Rattle.batch_journal.proofs.RecoveryLemmas.{cut_moments, lines_to}
 use Rattle.batch_journal.proofs.recovery.cut_behind.Goals as goal
 

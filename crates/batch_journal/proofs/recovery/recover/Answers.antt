@@ -1,6 +1,6 @@
-use Rattle.std.proofs.Common.{◌≡◌, refl, sym, ◌∙◌, ap, subst}
+use Rattle.std.proofs.Common.{subst}
 use Rattle.batch_journal.specs.Disks.{Left, MayLeave}
-use Rattle.batch_journal.specs.Recovery.{KeepsLines}
+use Rattle.batch_journal.specs.Recovery.{IsUnbegun, KeepsLines}
 use Rattle.batch_journal.proofs.RecoveryLemmas.{keeps_all, keeps_same}
 use Rattle.batch_journal.proofs.MomentLemmas.{started, goes_on, then_run}
 use Rattle.batch_journal.proofs.recovery.recover.Goals as goal
@@ -48,3 +48,8 @@ returns-in-None-clause-any_moment g c = λ d2.
     let here : (left : Left) → MayLeave (D.durable old) (D.seen old) (D.given old) left → P left = λ left may. keeps_all documents _ _ _ left (c.requires d) may in
     let one = goes_on D.moment D.left_since old old c.read.new.self P _ (started D.moment D.left_since old P (λ left since. here left (g.met.D.Disk.only_now old left d since))) (c.read.ensures.time d1) here in
     then_run D.moment D.left_since old c.read.new.self c.begin.new.disk P _ one (c.begin.ensures.any_moment d2) (λ left so. keeps_same documents _ _ _ _ left (c.read.ensures.others d1).1 (c.read.ensures.others d1).2 so)
+
+pub begin-requires-clause-unbegun : goal.begin-requires-clause-unbegun
+begin-requires-clause-unbegun g c =
+    let found : IsUnbegun c.args.documents.now c.deref.result.now = let ok = c.in_ok-taken.ensures.ok in rw c.in-None.is at ok in
+    subst (IsUnbegun c.args.documents.now) c.deref.ensures.value found

@@ -1,4 +1,4 @@
-use Rattle.std.proofs.Common.{rules, ◌≡◌, ◌+◌, ◌≤◌, ◌++◌, List, ℕ, take, length, drop, refl, sym, ◌∙◌, ap, subst, arith}
+use Rattle.std.proofs.Common.{rules, ◌≡◌, ◌+◌, ◌≤◌, length, drop, subst, arith}
 use Rattle.batch_journal.specs.Journals.{header, sum_text}
 use Rattle.batch_journal.specs.Recovery.{IsTakenTo, ClosesTwice, closing_count, raw_lines}
 use Rattle.batch_journal.proofs.TakeLemmas.{to_end}

@@ -1,4 +1,4 @@
-use Rattle.std.proofs.Common.{rules, ◌≡◌, ◌++◌, decimal, length, ap, subst}
+use Rattle.std.proofs.Common.{rules, ◌≡◌, ◌++◌, decimal, length, subst}
 use Rattle.sha2.specs.Hashers.{Holds256}
 use Rattle.batch_journal.specs.Digests.{counted}
 use Rattle.batch_journal.proofs.DigestLemmas.{counted_more}

@@ -1,6 +1,4 @@
-use Rattle.std.proofs.Common.{rules, ◌≡◌, ◌≤◌, ℕ, List, ◌++◌, length, take, refl, sym, ◌∙◌, ap, subst, arith}
-use Rattle.batch_journal.specs.Lines.{whole_lines, text_of}
-use Rattle.batch_journal.specs.Windows.{items}
+use Rattle.std.proofs.Common.{rules, ◌≡◌, ◌≤◌, ℕ, List, ◌++◌, length, refl, sym, ◌∙◌, ap, subst, arith}
 use Rattle.batch_journal.proofs.ReaderLemmas.{none_of, kept_ready, keeps_more, accounted_keeps, recalled_on, recalls_kept, group_kept, whole_as}
 use Rattle.batch_journal.proofs.reader.JournalReader.fill.Goals as goal
 

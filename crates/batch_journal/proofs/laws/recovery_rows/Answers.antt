@@ -1,0 +1,5 @@
+use Rattle.batch_journal.proofs.RecoveryRowsHold.{rows}
+use Rattle.batch_journal.proofs.laws.recovery_rows.Goals as goal
+
+pub returns : goal.returns
+returns c = rows
