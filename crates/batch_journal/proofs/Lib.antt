@@ -14,5 +14,5 @@ mod WritingLemmas
 pub mod ReaderLemmas
 mod DamageLemmas
 mod DigestLemmas
-mod TakenLemmas
+pub mod TakenLemmas
 mod RecoveryRowsHold

@@ -8,7 +8,7 @@ use Rattle.std.proofs.lemmas.Bool.{cases_lt}
 use Rattle.std.proofs.lemmas.Bool.Decides.{Decides-eqb}
 use Rattle.std.proofs.lemmas.Slice.Eq.{starts_is}
 use Rattle.batch_journal.specs.Journals.{header, groups_in, IsJournal}
-use Rattle.batch_journal.specs.Recovery.{StandsTo, IsDamaged, IsUnbegun, HasNoFeed, RefusedIsNotTaken, is_like, raw_lines}
+use Rattle.batch_journal.specs.Recovery.{StandsTo, IsDamaged, IsUnbegun, HasNoFeed, TakenIsNotRefused, is_like, raw_lines}
 use Rattle.batch_journal.specs.Lines.{whole_from}
 use Rattle.batch_journal.specs.declared.recovery.RecoveryFault.TheVariants.{Disk, NoJournal, OtherDocuments, Damaged}
 use Rattle.batch_journal.proofs.DamageLemmas.{within, behind_them}
@@ -96,15 +96,15 @@ pub some_feed : (bytes : List ℕ) (found : Option ℕ) → IsFirstByte (is_byte
 some_feed bytes None first not none = absurd (cc not)
 some_feed bytes (Some k) first not none = none k first.0.high first.1
 
-pub not_taken : RefusedIsNotTaken
-not_taken documents file (Disk fault) refused taken = tt
-not_taken documents file NoJournal refused (inl (end, sum, stands)) =
+pub not_refused : TakenIsNotRefused
+not_refused documents file taken (Disk fault) refused = tt
+not_refused documents file (inl (end, sum, stands)) NoJournal refused =
     let format = codes "# batchd journal 1 " in
     let rest = groups_in documents (take end file) ++ drop end file in
     not_both _ (starts file format ((documents ++ 10 ∷ []) ++ rest) (begins_of documents file sum end stands.journal ∙ append_assoc format (documents ++ 10 ∷ []) rest)) refused.0
-not_taken documents file NoJournal refused (inr unbegun) = refused.1 unbegun
-not_taken documents file OtherDocuments refused (inl (end, sum, stands)) =
+not_refused documents file (inr unbegun) NoJournal refused = refused.1 unbegun
+not_refused documents file (inl (end, sum, stands)) OtherDocuments refused =
     not_both _ (starts file (header documents) (groups_in documents (take end file) ++ drop end file) (begins_of documents file sum end stands.journal)) refused.1
-not_taken documents file OtherDocuments refused (inr unbegun) = refused.2 unbegun
-not_taken documents file (Damaged line) damaged (inl (end, sum, stands)) = stands_whole documents file sum end line stands damaged
-not_taken documents file (Damaged line) damaged (inr unbegun) = unbegun_whole documents file line damaged unbegun
+not_refused documents file (inr unbegun) OtherDocuments refused = refused.2 unbegun
+not_refused documents file (inl (end, sum, stands)) (Damaged line) damaged = stands_whole documents file sum end line stands damaged
+not_refused documents file (inr unbegun) (Damaged line) damaged = unbegun_whole documents file line damaged unbegun

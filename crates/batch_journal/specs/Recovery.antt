@@ -96,9 +96,13 @@ IsOfDisk NoJournal = ⊥
 IsOfDisk OtherDocuments = ⊥
 IsOfDisk (Damaged line) = ⊥
 
--- no file that is refused for its bytes is one that a start takes
-abbrev pub RefusedIsNotTaken : Type 0
-RefusedIsNotTaken = (documents file : List ℕ) (fault : RecoveryFault) → IsRefusedFor documents file fault → IsRecoverable documents file → IsOfDisk fault
+-- nothing in the file is a reason to refuse it
+abbrev pub HasNoFault : List ℕ → List ℕ → Type 0
+HasNoFault documents file = (fault : RecoveryFault) → IsRefusedFor documents file fault → IsOfDisk fault
+
+-- no file that a start takes has a reason to be refused
+abbrev pub TakenIsNotRefused : Type 0
+TakenIsNotRefused = (documents file : List ℕ) → IsRecoverable documents file → HasNoFault documents file
 
 -- the text is all of the file, synced, and a journal
 pub record AreRests (documents text sum durable seen : List ℕ) : Type 0 where

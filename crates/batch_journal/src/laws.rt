@@ -2,7 +2,7 @@
 ghost use Rattle.batch_journal.specs.Groups.{GroupsGoOn, GroupIsTaken, TornIsLeft};
 ghost use Rattle.batch_journal.specs.Readers.{LinesBegin};
 ghost use Rattle.batch_journal.specs.RowsOfRecovery.{RecoveryRows};
-ghost use Rattle.batch_journal.specs.Recovery.{CrashIsNoDamage, RecoveredAreLines, RefusedIsNotTaken, WholeLinesAreLines};
+ghost use Rattle.batch_journal.specs.Recovery.{CrashIsNoDamage, RecoveredAreLines, TakenIsNotRefused, WholeLinesAreLines};
 
 /// Behind groups that are taken others are taken as by themselves, whatever the sums are.
 pub fn groups_go_on()
@@ -29,9 +29,9 @@ pub fn crash_is_no_damage()
     ensures { CrashIsNoDamage }
 {}
 
-/// No file that is refused for its bytes is one that a start takes.
-pub fn refused_is_not_taken()
-    ensures { RefusedIsNotTaken }
+/// No file that a start takes has a reason to be refused.
+pub fn taken_is_not_refused()
+    ensures { TakenIsNotRefused }
 {}
 
 /// Whole lines, and what recovery gives, are lines: none has a line feed or a zero byte.

@@ -18,7 +18,7 @@ pub use disk::{Disk, DiskError};
 pub use file_disk::FileDisk;
 pub use laws::{
     crash_is_no_damage, group_is_taken, groups_go_on, lines_begin, recovered_are_lines,
-    recovery_rows, refused_is_not_taken, torn_is_left,
+    recovery_rows, taken_is_not_refused, torn_is_left,
 };
 pub use memory::{Memory, Past};
 pub use reader::{JournalReader, Run};

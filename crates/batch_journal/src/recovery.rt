@@ -72,6 +72,8 @@ pub fn recover<D: Disk>(
     // After a restart, what is read is what is on the disk.
     requires { D.is_disk disk.old → D.durable disk.old ≡ D.seen disk.old }
     ensures taken { D.is_disk disk.new → IfOk result (λ _. IsRecoverable documents.now (D.seen disk.old)) }
+    // Another file stays as it is.
+    ensures untouched { D.is_disk disk.new → IsRecoverable documents.now (D.seen disk.old) ⊎ (D.seen disk.new ≡ D.seen disk.old) }
     ensures lines { D.is_disk disk.new → IfOk result (λ r. recovered documents.now r.text.items ≡ recovered documents.now (D.seen disk.old)) }
     ensures journal { IfOk result (λ r. IsJournal documents.now r.text.items (sum_text r.sum)) }
     ensures at_rest { D.is_disk disk.new → IfOk result (λ r. AreRests documents.now r.text.items (sum_text r.sum) (D.durable disk.new) (D.seen disk.new)) }

@@ -1,10 +1,10 @@
 //! Starting over a journal.
-ghost use Rattle.std.specs.Prelude.{◌≡◌, List, ℕ, IfErr, IfOk};
+ghost use Rattle.std.specs.Prelude.{◌≡◌, ◌⊎◌, List, ℕ, IfErr, IfOk};
 ghost use Rattle.batch_model.specs.Plant.{opening};
 ghost use Rattle.batch_engine.specs.View.{setup, plant_of};
 ghost use Rattle.batch_journal.specs.Disks.{LeavesOnly};
 ghost use Rattle.batch_journal.specs.Journals.{recovered, sum_text};
-ghost use Rattle.batch_journal.specs.Recovery.{AreRests, KeepsLines};
+ghost use Rattle.batch_journal.specs.Recovery.{AreRests, IsRecoverable, KeepsLines};
 ghost use Rattle.batch_keep.specs.Blocks.{IsBlockOf};
 ghost use Rattle.batch_keep.specs.Starts.{IsStartRefused};
 
@@ -75,6 +75,9 @@ pub fn start<D: Disk>(
 ) -> Result<Started, StartFault>
     // After a restart, what is read is what is on the disk.
     requires { D.is_disk disk.old → D.durable disk.old ≡ D.seen disk.old }
+    ensures taken { D.is_disk disk.new → IfOk result (λ _. IsRecoverable documents.text (D.seen disk.old)) }
+    // Another file stays as it is.
+    ensures untouched { D.is_disk disk.new → IsRecoverable documents.text (D.seen disk.old) ⊎ (D.seen disk.new ≡ D.seen disk.old) }
     // The block tells of the lines that the journal had, and the engine stands where they led it.
     ensures block { IfOk result (λ started. (lines : List (List ℕ)) × IsBlockOf (setup set) opening lines (plant_of started.engine) started.block.items
         × (D.is_disk disk.new → lines ≡ recovered documents.text (D.seen disk.old))) }

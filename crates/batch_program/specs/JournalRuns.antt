@@ -12,7 +12,7 @@ use Rattle.batch_journal.specs.Disks.{Left}
 use Rattle.batch_journal.specs.Journals.{recovered}
 use Rattle.batch_journal.specs.Lines.{text_of}
 use Rattle.batch_journal.specs.Readers.{HasRecalled}
-use Rattle.batch_journal.specs.Recovery.{IsRefusedFor}
+use Rattle.batch_journal.specs.Recovery.{HasNoFault, IsRefusedFor}
 use Rattle.batch_journal.specs.declared.recovery.RecoveryFault.{RecoveryFault}
 use Rattle.batch_journal.specs.declared.recovery.RecoveryFault.TheVariants.{Disk, NoJournal, OtherDocuments, Damaged}
 use Rattle.batch_keep.specs.Blocks.{IsBlockOf}
@@ -62,13 +62,13 @@ pub data IsJournalTold (disks : DiskKind) (set : ClearedSet) (digits path : List
   refuses : (fault : RecoveryFault) → (disks.is_disk end → IsRefusedFor digits (disks.seen start) fault) → IsJournalRefused path fault (output_of ends) status
       → IsJournalTold disks set digits path start end ends status
   stops : IsUntold (output_of ends) status → IsJournalTold disks set digits path start end ends status
-  -- the recovery block of the lines that the file had, and what is told behind it
+  -- the recovery block of the lines that the file had, which there is no reason to refuse, and what is told behind it
   serves : (lines : List (List ℕ)) (plant : Plant) (block : List ℕ) (middle : Option (List ℕ))
-      → (disks.is_disk end → lines ≡ recovered digits (disks.seen start)) → IsBlockOf (setup set) opening lines plant block
-      → Appends ends.before middle block → IsServedBehind disks set digits plant start end ends.unread middle ends.after status
+      → (disks.is_disk end → HasNoFault digits (disks.seen start) × (lines ≡ recovered digits (disks.seen start)))
+      → IsBlockOf (setup set) opening lines plant block → Appends ends.before middle block → IsServedBehind disks set digits plant start end ends.unread middle ends.after status
       → IsJournalTold disks set digits path start end ends status
   -- the block can't be written whole
-  fails : (lines : List (List ℕ)) (plant : Plant) (block : List ℕ) → IsBlockOf (setup set) opening lines plant block
+  fails : (lines : List (List ℕ)) (plant : Plant) (block : List ℕ) → (disks.is_disk end → HasNoFault digits (disks.seen start)) → IsBlockOf (setup set) opening lines plant block
       → AppendsBeginning ends.before ends.after block → status ≡ fault_status → IsJournalTold disks set digits path start end ends status
 
 -- the file as it was opened and as it was left; at each moment between them a crash leaves the lines that it had, and all behind them
@@ -76,6 +76,8 @@ pub data IsJournalTold (disks : DiskKind) (set : ClearedSet) (digits path : List
 pub record IsOverFile (disks : DiskKind) (set : ClearedSet) (digits path : List ℕ) (start end : disks.File) (ends : serving.Ends) (status : ℕ) : Type 0 where
   pub any_moment : disks.is_disk end
       → HasRecalled digits (text_of (recovered digits (disks.seen start))) (disks.moment start) (disks.moment end) (disks.left_since end)
+  -- a file that there is a reason to refuse stays as it was
+  pub untouched : disks.is_disk end → HasNoFault digits (disks.seen start) ⊎ (disks.seen end ≡ disks.seen start)
   pub told : IsJournalTold disks set digits path start end ends status
 
 -- the file at the path is opened, in which all that is read is durable; or it can't be opened

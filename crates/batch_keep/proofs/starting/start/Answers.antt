@@ -24,3 +24,6 @@ pub returns-in_err-recovered-clause-refused : goal.returns-in_err-recovered-clau
 returns-in_err-recovered-clause-refused g c = λ d.
     let p = err_from_is_err_and c.from_residual.result c.from_residual.ensures.1 in
     rw (p.1, p.2) (rw c.text-digits.ensures.digits at (c.in_err-recovered.ensures.refused d))
+
+pub returns-clause-taken : goal.returns-clause-taken
+returns-clause-taken g c = λ d. rw c.text-digits.ensures.digits at (c.in_ok-recovered.ensures.taken d)
