@@ -76,6 +76,10 @@ start_refused documents file r fault refusal is recovery refused =
 
 -- Refusals
 
+pub untouched_of : (documents file now : List ℕ) → IsRecoverable documents file ⊎ (now ≡ file) → HasNoFault documents file ⊎ (now ≡ file)
+untouched_of documents file now (inl taken) = inl (not_refused documents file taken)
+untouched_of documents file now (inr same) = inr same
+
 pub journal_refused : (path : List ℕ) (fault : RecoveryFault) (output errors : Stream) (text : List ℕ) (status : ℕ) → text ≡ journal_text path fault
     → IsPrinted output errors text refused_status status → IsJournalRefused path fault output status
 journal_refused path fault output errors text status is (inl (appends, _, refused)) = inl (subst (Appends output.before output.after) is appends, refused)
@@ -118,11 +122,11 @@ module _ (disks : DiskKind) (set : ClearedSet) (digits path : List ℕ) (start e
   told_refused fault refused (inl (refusal, is, told)) = refuses refusal (refused refusal is) told
   told_refused fault refused (inr untold) = stops untold
 
-  pub told_behind : (lines : List (List ℕ)) (plant : Plant) (block base : List ℕ) → (disks.is_disk end → lines ≡ recovered digits (disks.seen start))
+  pub told_behind : (lines : List (List ℕ)) (plant : Plant) (block base : List ℕ) → (disks.is_disk end → HasNoFault digits (disks.seen start)) → (disks.is_disk end → lines ≡ recovered digits (disks.seen start))
       → IsBlockOf (setup set) opening lines plant block → base ≡ text_of (recovered digits (disks.seen start))
       → IsToldBehind (setup set) plant digits base (disks.is_disk end) (disks.durable end) (disks.seen end) (disks.given end) block ends.unread ends.before ends.after status
       → IsJournalTold disks set digits path start end ends status
-  told_behind lines plant block base are is_block base_is (inl (middle, appends, told)) =
-      serves lines plant block middle are is_block appends
+  told_behind lines plant block base taken are is_block base_is (inl (middle, appends, told)) =
+      serves lines plant block middle (λ d. (taken d, are d)) is_block appends
       (record { answers = told.answers; never_lost = λ d. told.never_lost d (disks.seen start) base_is; ends = told.ends })
-  told_behind lines plant block base are is_block base_is (inr (begins, is)) = fails lines plant block is_block begins is
+  told_behind lines plant block base taken are is_block base_is (inr (begins, is)) = fails lines plant block taken is_block begins is

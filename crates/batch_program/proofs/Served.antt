@@ -400,8 +400,8 @@ journal_told_kept disks set digits path start end unread left before mid after s
     journal.stops (untold_kept before mid after status kept untold)
 journal_told_kept disks set digits path start end unread left before mid after status kept (journal.serves lines reached block middle are is_block appends behind) =
     journal.serves lines reached block middle are is_block (kept_then_appended before mid middle block kept appends) behind
-journal_told_kept disks set digits path start end unread left before mid after status kept (journal.fails lines reached block is_block begins is) =
-    journal.fails lines reached block is_block (kept_then_begun before mid after block kept begins) is
+journal_told_kept disks set digits path start end unread left before mid after status kept (journal.fails lines reached block taken is_block begins is) =
+    journal.fails lines reached block taken is_block (kept_then_begun before mid after block kept begins) is
 
 -- serving over a journal, after the writer was left as it was
 pub journal_kept : (files : JournalFiles) (set : ClearedSet) (digits path : List ℕ) (unread left before mid after : Option (List ℕ)) (status : ℕ) → Keeps before mid
@@ -614,7 +614,7 @@ journal_in_range : (disks : DiskKind) (set : ClearedSet) (digits path : List ℕ
 journal_in_range disks set digits path start end ends status (journal.refuses fault _ told) = refusal_in_range path fault (output_of ends) status told
 journal_in_range disks set digits path start end ends status (journal.stops untold) = untold_in_range (output_of ends) status untold
 journal_in_range disks set digits path start end ends status (journal.serves _ _ _ _ _ _ _ behind) = ends_in_range status behind.ends
-journal_in_range disks set digits path start end ends status (journal.fails _ _ _ _ _ fault) = rw fault (omega arith)
+journal_in_range disks set digits path start end ends status (journal.fails _ _ _ _ _ _ fault) = rw fault (omega arith)
 
 kept_in_range : (files : JournalFiles) (set : ClearedSet) (digits path : List ℕ) (ends : serving.Ends) (status : ℕ) → IsJournalRun files set digits path ends status → status ≤ 4
 kept_in_range files set digits path ends status (inl (start, end, _, _, over)) = journal_in_range files.disks set digits path start end ends status over.told
