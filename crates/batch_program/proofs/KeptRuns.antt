@@ -12,7 +12,8 @@ use Rattle.batch_serve.specs.CleanLines.{CleanLinesServeAlike, clean_lines}
 use Rattle.batch_journal.specs.Journals.{IsJournal, recovered}
 use Rattle.batch_journal.specs.Lines.{text_of, whole_lines}
 use Rattle.batch_journal.specs.Readers.{IsAccounted, IsKept, IsWhole}
-use Rattle.batch_journal.specs.Recovery.{AreRests, IsRefusedFor}
+use Rattle.batch_journal.specs.Recovery.{AreRests, HasNoFault, IsRecoverable, IsRefusedFor}
+use Rattle.batch_journal.proofs.TakenLemmas.{not_refused}
 use Rattle.batch_journal.specs.declared.recovery.RecoveryFault.{RecoveryFault}
 use Rattle.batch_keep.specs.Starts.{IsStartRefused}
 use Rattle.batch_keep.specs.declared.starting.StartFault.{StartFault}

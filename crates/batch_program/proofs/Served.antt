@@ -408,7 +408,7 @@ pub journal_kept : (files : JournalFiles) (set : ClearedSet) (digits path : List
     → IsJournalRun files set digits path (record { unread = unread; left = left; before = mid; after = after }) status
     → IsJournalRun files set digits path (record { unread = unread; left = left; before = before; after = after }) status
 journal_kept files set digits path unread left before mid after status kept (inl (start, end, opens, fresh, over)) =
-    inl (start, end, opens, fresh, record { any_moment = over.any_moment; told = journal_told_kept files.disks set digits path start end unread left before mid after status kept over.told })
+    inl (start, end, opens, fresh, record { any_moment = over.any_moment; untouched = over.untouched; told = journal_told_kept files.disks set digits path start end unread left before mid after status kept over.told })
 journal_kept files set digits path unread left before mid after status kept (inr untold) = inr (untold_kept before mid after status kept untold)
 
 -- Exit statuses

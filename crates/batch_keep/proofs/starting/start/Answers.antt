@@ -27,3 +27,20 @@ returns-in_err-recovered-clause-refused g c = λ d.
 
 pub returns-clause-taken : goal.returns-clause-taken
 returns-clause-taken g c = λ d. rw c.text-digits.ensures.digits at (c.in_ok-recovered.ensures.taken d)
+
+pub returns-in_err-recovered-clause-untouched : goal.returns-in_err-recovered-clause-untouched
+returns-in_err-recovered-clause-untouched g c = λ d. rw c.text-digits.ensures.digits at (c.recover.ensures.untouched d)
+
+pub returns-in_default-clause-untouched : goal.returns-in_default-clause-untouched
+returns-in_default-clause-untouched g c = λ d. rw c.text-digits.ensures.digits at (c.recover.ensures.untouched d)
+
+pub returns-in_err-block-clause-untouched : goal.returns-in_err-block-clause-untouched
+returns-in_err-block-clause-untouched g c = λ d. rw c.text-digits.ensures.digits at (c.recover.ensures.untouched d)
+
+pub returns-clause-untouched : goal.returns-clause-untouched
+returns-clause-untouched g c = λ d. rw c.text-digits.ensures.digits at (c.recover.ensures.untouched d)
+
+pub returns-in_err-block-clause-refused : goal.returns-in_err-block-clause-refused
+returns-in_err-block-clause-refused g c = λ d.
+    let p = err_from_is_err_and c.from_residual-in_err-block.result c.from_residual-in_err-block.ensures.1 in
+    rw (p.1, p.2) tt
