@@ -12,9 +12,11 @@ use Rattle.batch_serve.specs.CleanLines.{CleanLinesServeAlike, clean_lines}
 use Rattle.batch_journal.specs.Journals.{IsJournal, recovered}
 use Rattle.batch_journal.specs.Lines.{text_of, whole_lines}
 use Rattle.batch_journal.specs.Readers.{IsAccounted, IsKept, IsWhole}
-use Rattle.batch_journal.specs.Recovery.{AreRests, HasNoFault, IsRecoverable, IsRefusedFor}
+use Rattle.batch_journal.specs.Recovery.{AreRests, HasNoFault, IsOfDisk, IsRecoverable, IsRefusedFor}
 use Rattle.batch_journal.proofs.TakenLemmas.{not_refused}
 use Rattle.batch_journal.specs.declared.recovery.RecoveryFault.{RecoveryFault}
+use Rattle.batch_journal.specs.declared.recovery.RecoveryFault.TheVariants.{Disk, NoJournal, OtherDocuments, Damaged}
+use mathlib.Core.HLevel.{Unit-prop, Π_prop, ⊥_prop}
 use Rattle.batch_keep.specs.Starts.{IsStartRefused}
 use Rattle.batch_keep.specs.declared.starting.StartFault.{StartFault}
 use Rattle.batch_keep.specs.declared.starting.StartFault.TheVariants.{Recovery}
@@ -76,6 +78,15 @@ start_refused documents file r fault refusal is recovery refused =
     subst (λ f. IsStartRefused documents file f) recovery (subst (λ (x : Result _ StartFault). IfErr x (IsStartRefused documents file)) is refused)
 
 -- Refusals
+
+of_disk_prop : (fault : RecoveryFault) → IsProp (IsOfDisk fault)
+of_disk_prop (Disk fault) = Unit-prop
+of_disk_prop NoJournal = ⊥_prop
+of_disk_prop OtherDocuments = ⊥_prop
+of_disk_prop (Damaged line) = ⊥_prop
+
+pub no_fault_prop : (documents file : List ℕ) → IsProp (HasNoFault documents file)
+no_fault_prop documents file = Π_prop λ fault. Π_prop λ refused. of_disk_prop fault
 
 pub untouched_of : (documents file now : List ℕ) → IsRecoverable documents file ⊎ (now ≡ file) → HasNoFault documents file ⊎ (now ≡ file)
 untouched_of documents file now (inl taken) = inl (not_refused documents file taken)

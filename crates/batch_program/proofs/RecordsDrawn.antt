@@ -21,7 +21,7 @@ drawn_of_input (Some input) bytes output errors status same drawn = subst (λ b.
 -- the text of a picture is printed
 pub picture_is_printed : (bytes text : List ℕ) (output errors : Stream) (status : ℕ) → IsRecord bytes × ((picture : Picture) × (text ≡ picture_text picture))
     → IsPrinted output errors text success_status status → IsDrawn (Some bytes) output errors status
-picture_is_printed bytes text output errors status (is_record, picture, same) printed =
+picture_is_printed bytes text output errors status (is_record, (picture, same)) printed =
     pictures picture is_record (subst (λ t. IsPrinted output errors t success_status status) same printed)
 
 -- a line that is none of a record is told, or there was no memory for its refusal

@@ -74,8 +74,8 @@ kept_then_kept (Some xs) (Some ys) (Some zs) kept more = more ∙ kept
 
 written_kept : (c : Setup) (lines : List (List ℕ)) (before mid after : Option (List ℕ)) → Keeps before mid
     → WritesSafely c lines mid after → WritesSafely c lines before after
-written_kept c lines before mid after kept writes =
-    record { said = writes.said; new = writes.new; transcript = writes.transcript; appends = kept_then_appended before mid after writes.said.text kept writes.appends }
+written_kept c lines before mid after kept written =
+    record { said = written.said; new = written.new; transcript = written.transcript; appends = kept_then_appended before mid after written.said.text kept written.appends }
 
 begun_kept : (c : Setup) (lines : List (List ℕ)) (before mid after : Option (List ℕ)) → Keeps before mid
     → BeginsSafely c lines mid after → BeginsSafely c lines before after
@@ -84,9 +84,9 @@ begun_kept c lines before mid after kept begins =
 
 all_kept : (set : ClearedSet) (n : ℕ) (unread before mid after : Option (List ℕ)) → Keeps before mid
     → IfSome unread (λ input. WritesTo set n (lines_of input) mid after) → IfSome unread (λ input. WritesTo set n (lines_of input) before after)
-all_kept set n None before mid after kept writes = tt
-all_kept set n (Some input) before mid after kept (writes, count) = (
-  record { said = writes.said; new = writes.new; transcript = writes.transcript; appends = kept_then_appended before mid after writes.said.text kept writes.appends },
+all_kept set n None before mid after kept all = tt
+all_kept set n (Some input) before mid after kept (written, count) = (
+  record { said = written.said; new = written.new; transcript = written.transcript; appends = kept_then_appended before mid after written.said.text kept written.appends },
   count,
 )
 
@@ -98,8 +98,8 @@ first_kept c (Some input) before mid after kept (n, begins) = (n, begun_kept c (
 
 whole_kept : (c : Setup) (unread left before mid after : Option (List ℕ)) → Keeps before mid
     → WritesWholeSafely c unread left mid after → WritesWholeSafely c unread left before after
-whole_kept c unread left before mid after kept writes =
-    record { read = writes.read; consumes = writes.consumes; writes = written_kept c (whole_lines writes.read) before mid after kept writes.writes }
+whole_kept c unread left before mid after kept whole =
+    record { read = whole.read; consumes = whole.consumes; writes = written_kept c (whole_lines whole.read) before mid after kept whole.writes }
 
 -- serving, after the writer was left as it was
 pub served_kept : (set : ClearedSet) (n : ℕ) (served : Result ℕ SetFault) (unread left before mid after : Option (List ℕ)) → Keeps before mid

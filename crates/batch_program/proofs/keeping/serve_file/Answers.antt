@@ -2,7 +2,7 @@ use Rattle.std.proofs.Common.{◌≡◌, inl, sym, ◌∙◌, refl}
 use Rattle.std.proofs.Math.Logic.{∥∥₁_elim}
 use Rattle.std.proofs.Props.{props}
 use Rattle.batch_journal.proofs.ReaderLemmas.{begun_before}
-use Rattle.batch_program.proofs.KeptRuns.{kept_started, moments_as, none_accounted, none_whole, start_refused, told_as, told_behind, told_refused, untouched_of}
+use Rattle.batch_program.proofs.KeptRuns.{kept_started, moments_as, no_fault_prop, none_accounted, none_whole, start_refused, told_as, told_behind, told_refused, untouched_of}
 use Rattle.batch_journal.specs.Recovery.{HasNoFault}
 use Rattle.batch_journal.proofs.TakenLemmas.{not_refused}
 use Rattle.batch_program.proofs.keeping.serve_file.Goals as goal
@@ -35,7 +35,7 @@ pub returns-in-Ok : goal.returns-in-Ok
 returns-in-Ok g c =
     let block = c.in-Ok.ensures.block in
     let taken : g.D.Disk.is_disk c.serve_behind.result.1 → HasNoFault c.args.digested.documents.text (g.D.Disk.seen c.args.disk) =
-    λ d. ∥∥₁_elim (c.serve_behind.ensures.stays d) (search props) (λ was. not_refused _ _ (c.in-Ok.ensures.taken was)) in
+    λ d. ∥∥₁_elim (c.serve_behind.ensures.stays d) (no_fault_prop c.args.digested.documents.text (g.D.Disk.seen c.args.disk)) (λ was. not_refused c.args.digested.documents.text (g.D.Disk.seen c.args.disk) (c.in-Ok.ensures.taken was)) in
     record {
       untouched = λ d. inl (taken d);
       any_moment = λ d. moments_as c.text.ensures.digits c.requires.base c.requires.since (c.serve_behind.ensures.any_moment d);

@@ -2,7 +2,7 @@ use Rattle.std.proofs.Common.{sym, ◌∙◌}
 use Rattle.std.proofs.lemmas.Result.{err_from_is_err_and}
 use Rattle.batch_program.proofs.record_drawing.picture_text.Goals as goal
 
-pub returns-in_err-draw_record-clause-refused : goal.returns-in_err-draw_record-clause-refused
-returns-in_err-draw_record-clause-refused c =
+pub returns-in_err-picture-clause-refused : goal.returns-in_err-picture-clause-refused
+returns-in_err-picture-clause-refused c =
     let p = err_from_is_err_and c.from_residual.result c.from_residual.ensures.1 in
-    rw (p.1) (λ number e. c.in_err-draw_record.ensures.refused number (sym p.2 ∙ e))
+    rw (p.1) (λ number e. c.in_err-picture.ensures.refused number (sym p.2 ∙ e))
