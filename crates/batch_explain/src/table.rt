@@ -27,7 +27,7 @@ static EXPLANATIONS: [Explanation; 51] = [
     Explanation {
         code: "C1",
         meaning: "the recipes can bring batches into a circle of waiting",
-        remedy: "change the recipe of one of the edges so that it asks for the two resources in the order of the others, or asks for the later one no more while it holds the earlier one",
+        remedy: "change the recipe of one of the edges, best of one without which the set would be cleared, as the words on the circle tell: let it ask for the two resources the other way round, or no more for the later one while it holds the earlier one",
     },
     Explanation {
         code: "D1",

@@ -38,7 +38,7 @@ const CHECK_HELP: &str = "\
 An example, in examples/paint_plant:
   batchd check cell.toml primer.toml rinse-mended.toml > certificate.new
   batchd check --write certificate.new cell.toml primer.toml rinse-mended.toml
-  batchd check --all cell.toml *.toml
+  batchd check --all cell.toml primer.toml rinse.toml topcoat.toml
   batchd check --dot cell.toml topcoat.toml rinse.toml | dot -Tsvg > circle.svg
 ";
 
@@ -142,12 +142,12 @@ fn check<'a>(alloc: Global) -> Result<Command<'a>, AllocError>
         .arg(flag(
             alloc,
             "dot",
-            "Draws what is asked for after what, for Graphviz, a circle in red",
+            "Draws what is asked for after what, for Graphviz, what lies on a circle in red",
         ))?
         .arg(path(
             alloc,
             "write",
-            "Writes the certificate into this file in place of printing it; where there is none, the file stays as it was",
+            "Writes the certificate, or with --dot the drawing, into this file in place of printing it; where there is none, the file stays as it was",
         ))?
         .arg(flag(
             alloc,
