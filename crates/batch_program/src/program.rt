@@ -76,7 +76,10 @@ pub fn run_program<D: Documents + Records + Journals, P: PlantRunner, R: Read, W
     match run_words(alloc, words, documents, &mut output, errors) {
         Course::Ends(status) => (status, output),
         Course::Writes { path, text } => {
-            (write_file(alloc, &path, &text, documents, errors), output)
+            (
+                write_file(alloc, words, &path, &text, documents, errors),
+                output,
+            )
         }
         Course::Serves { set, quiet } => serve_plainly(alloc, set, quiet, input, output, errors),
         Course::Remarks {

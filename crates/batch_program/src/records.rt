@@ -4,7 +4,7 @@ ghost use Rattle.std.specs.Prelude.{ℕ, List, Option, Some, IfOk, OnOk, ⊤};
 use batch_commands::FilesOf;
 use std::alloc::Global;
 use std::fs::OpenFile;
-use std::io::{Read, Write};
+use std::io::{ErrorKind, Read, Write};
 use std::rt::Files;
 use std::{fs, io};
 
@@ -34,14 +34,26 @@ impl<R: Files> Records for FilesOf<'_, R> {
         fs::open(self.0, path)
     }
 
-    /// The bytes are written to `PATH.new`, which takes the path's name once they are synced.
+    /// The bytes are written to `PATH.new`, which takes the path's name once they are synced. A link, a device or a pipe at the path isn't
+    /// replaced: `AlreadyExists`.
     fn replace(&self, alloc: Global, path: &str, bytes: &[u8]) -> io::Result<()> {
+        check_replaceable(self.0, path)?;
         let draft = format!(in alloc; "{path}.new")?;
         let replaced = replace_by(self.0, draft.as_str(), path, bytes);
         if replaced.is_err() {
             let _ = fs::remove_file(self.0, draft.as_str());
         }
         replaced
+    }
+}
+
+/// Fails where something stands at the path that is neither a regular file nor a folder, over which a rename fails by itself.
+fn check_replaceable<R: Files>(rt: &R, path: &str) -> io::Result<()> {
+    match fs::symlink_metadata(rt, path) {
+        Ok(found) if found.is_file() || found.is_dir() => Ok(()),
+        Ok(_) => Err(io::Error::from(ErrorKind::AlreadyExists)),
+        Err(reason) if reason.kind() == ErrorKind::NotFound => Ok(()),
+        Err(reason) => Err(reason),
     }
 }
 
