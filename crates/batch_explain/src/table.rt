@@ -5,7 +5,7 @@ ghost use Rattle.batch_explain.specs.Explaining.{refusal_codes};
 use crate::explanation::Explanation;
 
 /// The explanations of all codes of refusals, in order of letter and number.
-pub fn explanations() -> [Explanation; 48]
+pub fn explanations() -> [Explanation; 49]
     ensures { map (λ explanation. explanation.code.now) result ≡ refusal_codes }
 {
     // By a reference, so that the proof holds one place and not each of its texts.
@@ -13,7 +13,7 @@ pub fn explanations() -> [Explanation; 48]
     *table
 }
 
-static EXPLANATIONS: [Explanation; 48] = [
+static EXPLANATIONS: [Explanation; 49] = [
     Explanation {
         code: "A1",
         meaning: "the line with this number is the first of the record that differs from what the lines that were sent come to",
@@ -223,6 +223,11 @@ static EXPLANATIONS: [Explanation; 48] = [
         code: "V10",
         meaning: "two recipes have one name, or there are more than 256",
         remedy: "name each recipe once, with its own name",
+    },
+    Explanation {
+        code: "V11",
+        meaning: "a unit procedure that a step reserves doesn't follow it",
+        remedy: "reserve the unit procedure that is next once the step has ended, with no `sel`, `skip`, end of a branch of a `par` or turn of a `loop` between",
     },
     Explanation {
         code: "W1",

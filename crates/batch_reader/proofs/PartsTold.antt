@@ -115,10 +115,34 @@ pub report_fault : (p : Parts) (kind : TableKind) (entry : ℕ) (wrong : EntryFa
 report_fault p kind entry MissingKey h = h
 report_fault p kind entry WrongKind h = h
 report_fault p kind entry UnknownKey h = h
-report_fault p kind entry Undeclared h = inr (inr h)
-report_fault p kind entry Duplicate h = inr (inr (inr h))
+report_fault p kind entry Undeclared h = inr (inr (inl h))
+report_fault p kind entry Duplicate h = inr (inr (inr (inl h)))
 report_fault p kind entry OutOfLimit h = absurd h
 report_fault p kind entry (Chart offset) h = h
+
+pub reserve_fault : (p : Parts) (kind : TableKind) (entry : ℕ) (wrong : EntryFault) → HasReserveFault p.acts kind entry wrong → IsPartFault p kind entry wrong
+reserve_fault p kind entry Undeclared h = inr (inr (inr h))
+reserve_fault p kind entry Duplicate h = inr (inr (inr (inr h)))
+reserve_fault p table_kind.UnitProcedure entry MissingKey h = absurd h
+reserve_fault p table_kind.UnitProcedure entry WrongKind h = absurd h
+reserve_fault p table_kind.UnitProcedure entry UnknownKey h = absurd h
+reserve_fault p table_kind.UnitProcedure entry OutOfLimit h = absurd h
+reserve_fault p table_kind.UnitProcedure entry (Chart offset) h = absurd h
+reserve_fault p table_kind.Operation entry MissingKey h = absurd h
+reserve_fault p table_kind.Operation entry WrongKind h = absurd h
+reserve_fault p table_kind.Operation entry UnknownKey h = absurd h
+reserve_fault p table_kind.Operation entry OutOfLimit h = absurd h
+reserve_fault p table_kind.Operation entry (Chart offset) h = absurd h
+reserve_fault p table_kind.Phase entry MissingKey h = absurd h
+reserve_fault p table_kind.Phase entry WrongKind h = absurd h
+reserve_fault p table_kind.Phase entry UnknownKey h = absurd h
+reserve_fault p table_kind.Phase entry OutOfLimit h = absurd h
+reserve_fault p table_kind.Phase entry (Chart offset) h = absurd h
+reserve_fault p _ entry MissingKey h = absurd h
+reserve_fault p _ entry WrongKind h = absurd h
+reserve_fault p _ entry UnknownKey h = absurd h
+reserve_fault p _ entry OutOfLimit h = absurd h
+reserve_fault p _ entry (Chart offset) h = absurd h
 
 -- the expanded tree is too large
 pub large_told : (p : Parts) (fault : OutlineFault) → (IsErrOf {T = Recipe} (Err fault) outline.TooMany → MAX_NODES < length (procedure_nodes p.acts))

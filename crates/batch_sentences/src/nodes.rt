@@ -5,7 +5,7 @@ use crate::ranks::rank_said;
 use crate::roles::{class_of, unit_among, unit_without};
 use crate::ways::way_to;
 use batch_cell::Cell;
-use batch_recipe::{Act, Recipe, UnitChoice, Work, act_at, node_count};
+use batch_recipe::{Act, Recipe, UnitChoice, Work, act_at, follows, node_count};
 use batch_text::Name;
 use batch_verify::{Broken, Certificate, Rule};
 use std::alloc::{AllocError, Global};
@@ -58,6 +58,7 @@ fn rule_said(
         Rule::PhaseNotOffered => phase_said(alloc, cell, recipe, acts, act),
         Rule::SamePhaseInParallel => parallel_said(alloc, recipe, broken.node),
         Rule::LoopWithoutPhase => String::from_str(alloc, "a turn of this `loop` may run no phase"),
+        Rule::ReserveDoesNotFollow => reserve_said(alloc, recipe, broken.node, act),
         Rule::RankNotRising => rank_said(alloc, cell, recipe, certificate, acts),
     }
 }
@@ -188,6 +189,21 @@ fn share_said(alloc: Global, cell: &Cell, act: &Act) -> Result<String, AllocErro
         }
     }
     String::from_str(alloc, "it asks for more units than a resource has")
+}
+
+/// The first unit procedure that the act reserves and that doesn't follow it.
+fn reserve_said(
+    alloc: Global,
+    recipe: &Recipe,
+    node: u16,
+    act: &Act,
+) -> Result<String, AllocError> {
+    for i in 0..act.reserves.len() {
+        if follows(recipe, node, i).is_none() {
+            return format!(in alloc; "it reserves {}, which doesn't follow it", act.reserves[i]);
+        }
+    }
+    String::from_str(alloc, "it reserves a unit procedure that doesn't follow it")
 }
 
 fn phase_said(

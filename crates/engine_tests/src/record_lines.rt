@@ -82,6 +82,17 @@ fn outs_without_a_line(rt: HostRuntime) -> Result<(), Fail> {
             0,
         ),
         (
+            Out::Move(Line::Pass {
+                batch: 7,
+                recipe: 0,
+                node: 3,
+                to: 1,
+                resource: 2,
+                units: 1,
+            }),
+            0,
+        ),
+        (
             Out::Move(Line::Send {
                 batch: 1,
                 recipe: 2,
@@ -101,6 +112,7 @@ fn outs_without_a_line(rt: HostRuntime) -> Result<(), Fail> {
 Ok("refused E11\n")
 Ok("created 5  7\n")
 Ok("grant 1000000000000 0.0.0.0 HDR*1000\n")
+Ok("pass 7 0.0.0.0 0.0 HDR\n")
 Ok("send 1    stop\n")
 "#,
     )
