@@ -7,8 +7,9 @@ _batchd() {
     fi
     case ${COMP_WORDS[1]} in
         check) options="--dot --quiet --help" ;;
-        verify | show | run) options="--quiet --help" ;;
+        verify | show) options="--quiet --help" ;;
         audit) options="--beginning --quiet --help" ;;
+        run) options="--journal --quiet --help" ;;
         plant) options="--batches --ticks --ring --help" ;;
         help) options="check verify show run status audit plant explain" ;;
         explain) options="--help $("${COMP_WORDS[0]}" explain 2>/dev/null | cut -d : -f 1)" ;;
@@ -17,7 +18,7 @@ _batchd() {
     case $before in --batches | --ticks | --ring) return ;; esac
     if [[ $word == -* || ${COMP_WORDS[1]} =~ ^(plant|explain|help)$ ]]; then
         mapfile -t COMPREPLY < <(compgen -W "$options" -- "$word")
-    elif [[ ${COMP_WORDS[1]} =~ ^(status|audit)$ ]]; then
+    elif [[ ${COMP_WORDS[1]} =~ ^(status|audit)$ ]] || [ "$before" = --journal ]; then
         mapfile -t COMPREPLY < <(compgen -f -- "$word")
     else
         mapfile -t COMPREPLY < <(compgen -f -X '!*.@(toml|txt)' -- "$word"; compgen -d -S / -- "$word")

@@ -1,4 +1,4 @@
--- surface: nodes that hold their units in advance, and acts that take these over once they are reached.
+-- trusted: nodes that hold their units in advance, and acts that take these over once they are reached.
 use Rattle.std.specs.Prelude.{◌≡◌, ◌⊎◌, ◌<◌, ℕ, ◌≤◌, List, ◌∷◌, take, map, filter, length, Bool, true, false, not, nat_eq, nat_lt, slice_index_or, ⊤}
 use Rattle.std.specs.List.{list_any, IsDistinct}
 use Rattle.batch_matrix.specs.declared.report.Report.{Report}

@@ -1,6 +1,7 @@
 pub mod BytesRead
 pub mod Grown
 pub mod RecipesRead
+pub mod TextsRead
 pub mod Halted
 pub mod CertificatesAreRead
 pub mod Outcomes

@@ -5,17 +5,21 @@ use Rattle.clap.specs.Kinds.{IsAmong}
 use Rattle.clap.specs.Walk.{Text}
 use Rattle.clap.specs.declared.error.kind.ErrorKind.{ErrorKind}
 use Rattle.clap.specs.Words.{fault_of}
-use Rattle.batch_words.specs.CommandLine.{Request, Source, demo, program_app, serve}
+use Rattle.batch_words.specs.CommandLine.{Request, Source, demo, keep, program_app, serve}
 use Rattle.batch_verify.specs.ClearedSet.{ClearedSet}
 use Rattle.batch_commands.specs.Judging.{status_of}
 use Rattle.batch_commands.specs.Reading.{Gives}
 use Rattle.batch_commands.specs.Requests.{Halts, HaltsDemo, IsDemoSet, IsSetOf}
-use Rattle.batch_commands.specs.Running.{AskFor, IsAnnounced, IsDone, IsExplained, IsPrinted, IsRun, IsUnwritten, Stream, ask_quiet, memory_status, success_status, commands, serves, reads, audits, plants, halts, judges, explains, helps, misuses, starves}
+use Rattle.batch_commands.specs.Running.{AskFor, IsAnnounced, IsDone, IsExplained, IsPrinted, IsRun, IsUnwritten, Stream, ask_quiet, memory_status, success_status, commands, serves, reads, audits, plants, halts, judges, explains, helps, misuses, starves, keeps}
 use Rattle.batch_commands.specs.Saying.{IsWarned}
 use Rattle.batch_commands.specs.Statuses.{AreCodesTold, IsSuccess, NoCommandServes, ServesClearedSets, SuccessIsTold}
 use Rattle.batch_commands.proofs.Warned.{verdict_more, warned_kept}
 use Rattle.batch_commands.specs.declared.course.Course.{Course}
-use Rattle.batch_commands.specs.declared.course.Course.TheVariants.{Ends, Serves}
+use Rattle.batch_commands.specs.declared.course.Course.TheVariants.{Ends, Serves, Keeps}
+use Rattle.std.specs.Prelude.{String, string_bytes}
+use Rattle.std.specs.Global.{Global}
+use Rattle.batch_commands.specs.Digested.{AreDigested}
+use Rattle.batch_commands.specs.declared.digested.Digested.{Digested}
 use Rattle.batch_commands.specs.declared.refusal.Halt.{Halt}
 use Rattle.batch_commands.specs.declared.refusal.Halt.TheVariants as halt
 use Rattle.batch_commands.specs.declared.refusal.RefusalKind.{RefusalKind}
@@ -67,6 +71,7 @@ done_success gives request quiet output errors _ (explains texts status asked to
 done_success gives request quiet output errors _ (halts h status warned _ told) is =
     absurd (no_success quiet output (record { before = warned; after = errors.after }) h status told cc)
 done_success gives request quiet output errors _ (serves _ _ _ _ _ _) is = absurd cc
+done_success gives request quiet output errors _ (keeps _ _ _ _ _ _ _ _ _) is = absurd cc
 done_success gives request quiet output errors _ (reads _ _ _ _) is = absurd cc
 done_success gives request quiet output errors _ (audits _ _ _ _ _ _) is = absurd cc
 done_success gives request quiet output errors _ (plants _ _ _ _ _ _) is = absurd cc
@@ -99,9 +104,45 @@ done_serving gives request quiet output errors set hushed _ (serves source set2 
 done_serving gives request quiet output errors set hushed _ (judges _ _ _ _ _ _ _) is = absurd cc
 done_serving gives request quiet output errors set hushed _ (explains _ _ _ _) is = absurd cc
 done_serving gives request quiet output errors set hushed _ (halts _ _ _ _ _) is = absurd cc
+done_serving gives request quiet output errors set hushed _ (keeps _ _ _ _ _ _ _ _ _) is = absurd cc
 done_serving gives request quiet output errors set hushed _ (reads _ _ _ _) is = absurd cc
 done_serving gives request quiet output errors set hushed _ (audits _ _ _ _ _ _) is = absurd cc
 done_serving gives request quiet output errors set hushed _ (plants _ _ _ _ _ _) is = absurd cc
+
+-- what was to be served with a journal, with nothing written before
+pub record IsKeeping (gives : Gives) (request : Request) (digested : Digested) (journal : String Global) (output errors : Stream) : Type 0 where
+  pub cell : Text
+  pub certificate : Text
+  pub recipes : List Text
+  pub asked : request ≡ keep (string_bytes journal) cell certificate recipes
+  pub is_set : AreDigested gives cell certificate recipes digested.set digested.documents.text
+  pub unwritten : IsUnwritten output
+  pub silent : IsUnwritten errors
+
+pub done_keeping : (gives : Gives) (request : Request) (quiet : Bool) (output errors : Stream) (digested : Digested) (hushed : Bool) (journal : String Global) (course : Course)
+    → IsDone gives request quiet output errors course → course ≡ Keeps digested hushed journal
+    → IsKeeping gives request digested journal output errors × (hushed ≡ quiet)
+done_keeping gives request quiet output errors digested hushed journal _ (keeps cell certificate recipes other own asked is_set kept silent) is =
+    let same : own ≡ digested = cc in
+    let named : other ≡ journal = cc in (
+      record {
+        cell = cell;
+        certificate = certificate;
+        recipes = recipes;
+        asked = subst (λ (path : String Global). request ≡ keep (string_bytes path) cell certificate recipes) named asked;
+        is_set = subst (λ (d : Digested). AreDigested gives cell certificate recipes d.set d.documents.text) same is_set;
+        unwritten = kept;
+        silent = silent;
+      },
+      cc,
+    )
+done_keeping gives request quiet output errors digested hushed journal _ (serves _ _ _ _ _ _) is = absurd cc
+done_keeping gives request quiet output errors digested hushed journal _ (judges _ _ _ _ _ _ _) is = absurd cc
+done_keeping gives request quiet output errors digested hushed journal _ (explains _ _ _ _) is = absurd cc
+done_keeping gives request quiet output errors digested hushed journal _ (halts _ _ _ _ _) is = absurd cc
+done_keeping gives request quiet output errors digested hushed journal _ (reads _ _ _ _) is = absurd cc
+done_keeping gives request quiet output errors digested hushed journal _ (audits _ _ _ _ _ _) is = absurd cc
+done_keeping gives request quiet output errors digested hushed journal _ (plants _ _ _ _ _ _) is = absurd cc
 
 served_set : (gives : Gives) (words : List Text) (output errors : Stream) (request : Request) (set : ClearedSet) (quiet : Bool) (course : Course)
     → AskFor words request → IsRun gives words output errors course → course ≡ Serves set quiet
@@ -126,6 +167,7 @@ demo_done gives request quiet output errors _ demo_asked (halts h status warned 
     inr (inl (h, (subst (λ r. Halts gives (IsWarned quiet errors.before warned) r h) demo_asked halted).0))
 demo_done gives request quiet output errors _ demo_asked (judges _ _ _ _ asked _ _) = absurd cc
 demo_done gives request quiet output errors _ demo_asked (explains _ _ asked _) = absurd cc
+demo_done gives request quiet output errors _ demo_asked (keeps _ _ _ _ _ asked _ _ _) = absurd cc
 demo_done gives request quiet output errors _ demo_asked (reads _ asked _ _) = absurd cc
 demo_done gives request quiet output errors _ demo_asked (audits _ _ asked _ _ _) = absurd cc
 demo_done gives request quiet output errors _ demo_asked (plants _ _ asked _ _ _) = absurd cc

@@ -3,6 +3,8 @@ pub mod WarningTexts
 pub mod Judging
 pub mod Bytes
 pub mod Reading
+pub mod Digested
+pub mod Taking
 pub mod Halting
 pub mod Running
 pub mod Statuses

@@ -1,7 +1,7 @@
 -- trusted: what comes of a request: what is printed, the set that is to be served, or why there is none.
 use Rattle.std.specs.Prelude.{◌≡◌, List, ℕ, [], ◌∷◌}
 use Rattle.batch_verify.specs.ClearedSet.{ClearedSet}
-use Rattle.batch_words.specs.CommandLine.{Judgement, check, draw, verify, Source, demo, documents, Request, judge, serve, tell, audit, plant, explain, show}
+use Rattle.batch_words.specs.CommandLine.{Judgement, check, draw, verify, Source, demo, documents, Request, judge, serve, tell, audit, plant, explain, show, keep}
 use Rattle.batch_commands.specs.DemoDocuments.{demo_text}
 use Rattle.batch_commands.specs.Halting.{HaltsCheck, HaltsClearing, HaltsDrawing, HaltsVerifying, HaltsAtDocuments}
 use Rattle.batch_commands.specs.Reading.{AreCleared, ChecksDocuments, DrawsDocuments, Gives, VerifiesDocuments, Warns, ShowsDocuments}
@@ -47,6 +47,7 @@ HaltsSource gives (documents cell certificate recipes) h = HaltsClearing gives c
 -- of documents that are only judged it is warned
 abbrev pub Halts : Gives → Warns → Request → Halt → Type 0
 Halts gives warns (judge judgement) h = HaltsJudgement gives warns judgement h
+Halts gives warns (keep journal cell certificate recipes) h = HaltsClearing gives cell certificate recipes h × warns []
 Halts gives warns (serve source) h = HaltsSource gives source h × warns []
 Halts gives warns (audit beginning path source) h = HaltsSource gives source h × warns []
 Halts gives warns (tell path) h = ⊥

@@ -7,7 +7,8 @@ use Rattle.clap.specs.Walk.{Text}
 use Rattle.clap.specs.Words.{fault_of, subcommand_of}
 use Rattle.clap.specs.declared.error.kind.ErrorKind.{ErrorKind}
 use Rattle.batch_explain.specs.Explaining.{HaveNoCode, Tells}
-use Rattle.batch_words.specs.CommandLine.{IsShown, Judgement, Request, Source, asked_by, asks_quiet, audit, explain, judge, plant, program_app, serve, source_of, tell}
+use Rattle.batch_words.specs.CommandLine.{IsShown, Judgement, Request, Source, asked_by, asks_quiet, audit, explain, judge, plant, program_app, serve, source_of, tell, keep}
+use Rattle.batch_commands.specs.Digested.{AreDigested}
 use Rattle.batch_commands.specs.Judging.{status_of}
 use Rattle.batch_commands.specs.Reading.{Gives}
 use Rattle.batch_commands.specs.Requests.{Halts, IsDemoSet, IsSetOf, IsVerdict}
@@ -17,6 +18,8 @@ use Rattle.batch_words.specs.declared.command.AuditWords.{AuditWords}
 use Rattle.batch_words.specs.declared.plant_options.PlantOptions.{PlantOptions}
 use Rattle.batch_commands.specs.declared.course.Course.{Course}
 use Rattle.batch_commands.specs.declared.course.Course.TheVariants.{Ends, Serves, Reads, Audits, Plants}
+use Rattle.batch_commands.specs.declared.course.Course.TheVariants as courses
+use Rattle.batch_commands.specs.declared.digested.Digested.{Digested}
 use Rattle.batch_commands.specs.declared.refusal.Halt.{Halt}
 use Rattle.batch_commands.specs.declared.refusal.Halt.TheVariants as halt
 use Rattle.batch_commands.specs.declared.refusal.DocumentRefusal.{DocumentRefusal}
@@ -96,7 +99,7 @@ IsExplained texts output errors status =
 
 -- Runs
 
--- what comes of a request: the exit status, or the set that the program is to serve, quietly or not, or whose plant it is to run, or
+-- what comes of a request: the exit status, or the set that the program is to serve, quietly or not, with a journal or without one, or whose plant it is to run, or
 -- the record that it is to read, or to audit over a set
 pub data IsDone (gives : Gives) (request : Request) (quiet : Bool) (output errors : Stream) : Course → Type 0 where
   -- what the errors hold once it is warned is what they hold before the verdict is printed
@@ -107,6 +110,10 @@ pub data IsDone (gives : Gives) (request : Request) (quiet : Bool) (output error
   serves : (source : Source) (set : ClearedSet)
       → request ≡ serve source → IsSetOf gives source set → IsUnwritten output → IsUnwritten errors
       → IsDone gives request quiet output errors (Serves set quiet)
+  -- with a journal at this path, which names the set by the digits of its documents
+  keeps : (cell certificate : Text) (recipes : List Text) (journal : String Global) (digested : Digested)
+      → request ≡ keep (string_bytes journal) cell certificate recipes → AreDigested gives cell certificate recipes digested.set digested.documents.text
+      → IsUnwritten output → IsUnwritten errors → IsDone gives request quiet output errors (courses.Keeps digested quiet journal)
   reads : (path : Option (String Global))
       → request ≡ tell (option_map string_bytes path) → IsUnwritten output → IsUnwritten errors
       → IsDone gives request quiet output errors (Reads path)

@@ -3,7 +3,7 @@ use Rattle.std.specs.Prelude.{◌≡◌, ◌⊎◌, ℕ, Bool, List}
 use Rattle.std.specs.Io.KnownBytes.{Appends}
 use Rattle.clap.specs.Walk.{Text}
 use Rattle.batch_verify.specs.ClearedSet.{ClearedSet}
-use Rattle.batch_words.specs.CommandLine.{Request, Source, audit, demo, explain, judge, plant, serve, tell}
+use Rattle.batch_words.specs.CommandLine.{Request, Source, audit, demo, explain, judge, plant, serve, tell, keep}
 use Rattle.batch_commands.specs.Reading.{Gives}
 use Rattle.batch_commands.specs.Requests.{HaltsDemo, IsDemoSet, IsSetOf, IsVerdict}
 use Rattle.batch_commands.specs.Running.{AskFor, IsRun, Stream, ask_quiet, memory_status}
@@ -23,6 +23,7 @@ AreCodesTold texts output = (text : List ℕ) × Tells texts text × Appends out
 abbrev pub IsSuccess : Gives → Bool → Request → Stream → Stream → Type 0
 IsSuccess gives quiet (judge judgement) output errors =
     (text : List ℕ) × Appends output.before output.after text × IsVerdict gives (IsWarned quiet errors.before errors.after) judgement text
+IsSuccess gives quiet (keep journal cell certificate recipes) output errors = ⊥
 IsSuccess gives quiet (audit beginning path source) output errors = ⊥
 IsSuccess gives quiet (serve source) output errors = ⊥
 IsSuccess gives quiet (tell path) output errors = ⊥

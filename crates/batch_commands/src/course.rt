@@ -1,4 +1,5 @@
 //! What the words of the program come to.
+use crate::digested::Digested;
 use batch_verify::Cleared;
 use batch_words::{AuditWords, PlantOptions};
 
@@ -8,11 +9,28 @@ pub enum Course {
     /// All is said, and the program ends with this exit status.
     Ends(u8),
     /// The program is to serve event lines over this set, and to say nothing beside the record where quiet is asked for.
-    Serves { set: Cleared, quiet: bool },
+    Serves {
+        set: Cleared,
+        quiet: bool,
+    },
+    /// The same over a set whose documents have these digits, with a journal in the file at this path.
+    Keeps {
+        digested: Digested,
+        quiet: bool,
+        path: String,
+    },
     /// The program is to tell what a record says: the one at this path, or the one on its input.
-    Reads { path: Option<String> },
+    Reads {
+        path: Option<String>,
+    },
     /// The program is to compare the record that the words name with what event lines come to over this set.
-    Audits { set: Cleared, audit: AuditWords },
+    Audits {
+        set: Cleared,
+        audit: AuditWords,
+    },
     /// The program is to run the plant of this set, which is that of the demo.
-    Plants { set: Cleared, options: PlantOptions },
+    Plants {
+        set: Cleared,
+        options: PlantOptions,
+    },
 }

@@ -212,7 +212,7 @@ pub(crate) fn read_cell<D: Documents>(
     judge_cell(alloc, path, &bytes)
 }
 
-fn read_certificate<D: Documents>(
+pub(crate) fn read_certificate<D: Documents>(
     alloc: Global,
     documents: &D,
     path: &str,

@@ -3,6 +3,7 @@
 
 mod course;
 mod demo;
+mod digested;
 mod documents;
 mod drawing;
 mod files;
@@ -18,6 +19,7 @@ mod texts;
 mod warnings;
 
 pub use course::Course;
+pub use digested::{Digested, clear_digested};
 pub use documents::{
     Documents, check_documents, clear_documents, draw_documents, show_documents, verify_documents,
 };

@@ -8,6 +8,7 @@ ghost use Rattle.batch_commands.specs.Saying.{IsWarned};
 
 use crate::course::Course;
 use crate::demo::{CELL_PATH, CERTIFICATE_PATH, Demo, RECIPE_PATH};
+use crate::digested::clear_digested;
 use crate::documents::{
     Documents, check_documents, clear_documents, draw_documents, show_documents, verify_documents,
 };
@@ -90,6 +91,19 @@ fn run_command<D: Documents, O: Write, E: Write>(
         },
         Subcommand::Serve(source) => match clear_source(alloc, documents, &source) {
             Ok(set) => Course::Serves { set, quiet },
+            Err(halt) => Course::Ends(announce(alloc, quiet, &halt, output, errors)),
+        },
+        Subcommand::Keep {
+            journal,
+            cell,
+            certificate,
+            recipes,
+        } => match clear_digested(alloc, documents, &cell, &certificate, &recipes) {
+            Ok(digested) => Course::Keeps {
+                digested,
+                quiet,
+                path: journal,
+            },
             Err(halt) => Course::Ends(announce(alloc, quiet, &halt, output, errors)),
         },
         Subcommand::Status { path } => Course::Reads { path },

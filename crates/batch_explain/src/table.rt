@@ -5,7 +5,7 @@ ghost use Rattle.batch_explain.specs.Explaining.{refusal_codes};
 use crate::explanation::Explanation;
 
 /// The explanations of all codes of refusals, in order of letter and number.
-pub fn explanations() -> [Explanation; 49]
+pub fn explanations() -> [Explanation; 52]
     ensures { map (λ explanation. explanation.code.now) result ≡ refusal_codes }
 {
     // By a reference, so that the proof holds one place and not each of its texts.
@@ -13,7 +13,7 @@ pub fn explanations() -> [Explanation; 49]
     *table
 }
 
-static EXPLANATIONS: [Explanation; 49] = [
+static EXPLANATIONS: [Explanation; 52] = [
     Explanation {
         code: "A1",
         meaning: "the line with this number is the first of the record that differs from what the lines that were sent come to",
@@ -148,6 +148,21 @@ static EXPLANATIONS: [Explanation; 49] = [
         code: "F2",
         meaning: "the value of that name would be outside its range",
         remedy: "create the batch in a size that keeps the value between its `min` and `max`",
+    },
+    Explanation {
+        code: "J1",
+        meaning: "the file is no journal",
+        remedy: "name the journal of this plant, or a file that isn't there yet; the file that was named stays as it is",
+    },
+    Explanation {
+        code: "J2",
+        meaning: "it is a journal of other documents",
+        remedy: "start with the cell and the recipes that the journal was begun with, byte for byte and in their order; for other ones, once no batch exists, name a new file",
+    },
+    Explanation {
+        code: "J3",
+        meaning: "the group that this line (from 1) closes is damaged",
+        remedy: "put a copy that has all its groups in its place; an older copy leads to another plant than the one that was told",
     },
     Explanation {
         code: "K1",

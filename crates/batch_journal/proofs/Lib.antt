@@ -11,5 +11,6 @@ mod RecoveryLemmas
 mod ClosingLemmas
 mod SumLemmas
 mod WritingLemmas
-mod ReaderLemmas
+pub mod ReaderLemmas
 mod DamageLemmas
+mod DigestLemmas

@@ -4,9 +4,10 @@ use Rattle.std.proofs.lemmas.List.{append-nil, take_at, length-drop, length-take
 use Rattle.std.specs.Io.KnownBytes.{prepend_known, Keeps, Consumes}
 use lib.Seq.{take-add}
 use Rattle.batch_journal.specs.Lines.{AreLines, IsLine, text_of, whole_lines}
-use Rattle.batch_journal.specs.Disks.{Left, MayLeave, Elapses}
+use Rattle.batch_journal.specs.Disks.{Left, Begins, MayLeave, Elapses, LeavesOnly}
 use Rattle.batch_journal.specs.Readers.{IsKept, StartsText, Recalls, HasRecalled, IsAccounted, LinesBegin}
 use Rattle.batch_journal.specs.Groups.{AreOthers, taken}
+use Rattle.batch_journal.specs.Recovery.{KeepsLines}
 use Rattle.batch_journal.specs.Journals.{journal_format, next_sum, recovered, IsJournal}
 use Rattle.batch_journal.specs.Writing.{closing_line, group_text, MayKeep}
 use Rattle.batch_journal.proofs.LineLemmas.{reads_all, text_both, lines_both, are_whole_lines, whole_text, whole_both}
@@ -183,10 +184,31 @@ no_room items put buf count ready some least is_put none room =
     let short : length put ≤ count = omega (arith, ap length is_put, length-take count items) in
     omega (arith, some, least, none, short, room, length-append put (drop count buf), length-drop count buf)
 
--- at the beginning
-pub began_now : (documents base : List ℕ) (since moment : ℕ) (left_since : ℕ → Left → Type 0) → since ≡ moment
-    → ((left : Left) → left_since moment left → Recalls documents base left) → HasRecalled documents base since moment left_since
-began_now documents base since moment left_since now each = record { later = omega (arith, now); each = λ left had. each left (subst (λ t. left_since t left) now had) }
+-- Beginnings
+
+-- at this moment
+pub begun_now : (documents base durable seen given sum : List ℕ) (moment : ℕ) (left_since : ℕ → Left → Type 0) → IsKept documents base durable seen given [] sum
+    → ((left : Left) → left_since moment left → MayLeave durable seen given left) → HasRecalled documents base moment moment left_since
+begun_now documents base durable seen given sum moment left_since kept now =
+    record { later = omega arith; each = λ left had. recalls_kept documents base durable seen given [] sum seen left kept (now left had) }
+
+none_begun : (front given : List ℕ) → Begins front given → given ≡ [] → front ≡ []
+none_begun [] given begins none = refl
+none_begun (x ∷ front) given begins none = let e : x ∷ (front ++ begins.rest) ≡ [] = sym begins.splits ∙ none in absurd (cc e)
+
+starts_all : (base given text : List ℕ) → given ≡ [] → text ≡ base → StartsText (base ++ given) text
+starts_all base given text none is = starts (base ++ given) text [] (is ∙ sym (append-nil base) ∙ sym (append-nil (base ++ [])) ∙ ap (λ l. (base ++ l) ++ []) (sym none))
+
+-- before recovery, in which a crash left the lines that the file had, and nothing was given
+pub begun_before : {E : Type 0} (moment_of : E → ℕ) (left_of : E → ℕ → Left → Type 0) (old new : E) (documents file given base : List ℕ) (since : ℕ)
+    → LeavesOnly moment_of left_of old new (KeepsLines documents file given) → since ≡ moment_of old → base ≡ text_of (recovered documents file) → given ≡ []
+    → HasRecalled documents base since (moment_of new) (left_of new)
+begun_before moment_of left_of old new documents file given base since leaves is base_is none = record {
+  later = omega (arith, is, leaves.later);
+  each = λ left had.
+      let keeps = leaves.each left (subst (λ t. left_of new t left) is had) in
+      starts_all base left.given (text_of (recovered documents left.file)) (none_begun left.given given keeps.output none) (ap text_of keeps.lines ∙ sym base_is);
+}
 
 prepend_none : (known : Option (List ℕ)) → prepend_known [] known ≡ known
 prepend_none None = refl

@@ -4,11 +4,11 @@ use Rattle.std.proofs.lemmas.List.{append-nil, take_at, drop_at, take_all, drop-
 use Rattle.std.proofs.Math.Seq.{take-append-add}
 use lib.Seq.{take-add}
 use Rattle.std.specs.List.{starts_with}
-use Rattle.batch_journal.specs.Disks.{IsPart, Left, MayLeave, MayCut, Elapses, LeavesOnly}
+use Rattle.batch_journal.specs.Disks.{IsPart, Left, Begins, MayLeave, MayCut, Elapses, LeavesOnly}
 use Rattle.batch_journal.specs.Lines.{AreLines, until_zero, whole_from, whole_lines}
 use Rattle.batch_journal.specs.Groups.{taken, is_left}
 use Rattle.batch_journal.specs.Journals.{journal_format, header, groups_in, recovered, IsClosed, IsJournal}
-use Rattle.batch_journal.specs.Recovery.{IsTakenTo, StandsTo, IsDamaged, ClosesTwice, closing_count, raw_lines}
+use Rattle.batch_journal.specs.Recovery.{IsTakenTo, KeepsLines, StandsTo, IsDamaged, ClosesTwice, closing_count, raw_lines}
 use Rattle.batch_journal.proofs.CrashLemmas.{leaves_all}
 use Rattle.batch_journal.proofs.MomentLemmas.{started, goes_on}
 use Rattle.std.proofs.lemmas.Bool.{cases_lt}
@@ -191,20 +191,26 @@ module _ (documents file sum : List ℕ) (n end : ℕ) (is : n ≡ length (heade
 
 -- Moments
 
+pub keeps_all : (documents durable seen given : List ℕ) (left : Left) → durable ≡ seen → MayLeave durable seen given left → KeepsLines documents seen given left
+keeps_all documents durable seen given left synced may =
+    record { lines = ap (recovered documents) (leaves_all durable seen given left synced may); output = may.output }
+
+pub keeps_same : (documents file given now now_given : List ℕ) (left : Left) → now ≡ file → now_given ≡ given → KeepsLines documents now now_given left → KeepsLines documents file given left
+keeps_same documents file given now now_given left is given_is so =
+    record { lines = so.lines ∙ ap (recovered documents) is; output = subst (Begins left.given) given_is so.output }
+
 module _ {D : Type 0} (moment : D → ℕ) (left_since : D → ℕ → Left → Type 0) (old new : D) (documents durable seen given text sum : List ℕ) (end : ℕ)
     (synced : durable ≡ seen) (seen_is : seen ≡ text) where
-  abbrev Same : Left → Type 0
-  Same left = recovered documents left.file ≡ recovered documents seen
-
-  at_rest : (left : Left) → MayLeave durable seen given left → Same left
-  at_rest left may = ap (recovered documents) (leaves_all durable seen given left synced may)
-
   pub cut_moments : StandsTo documents text end sum → {is_disk : Type 0} → ((left : Left) → is_disk → left_since old (moment old) left → MayLeave durable seen given left) → is_disk
       → Elapses (moment old) (moment new) (left_since old) (left_since new) (MayCut end seen given)
-      → LeavesOnly moment left_since old new (λ left. recovered documents left.file ≡ recovered documents seen)
+      → LeavesOnly moment left_since old new (KeepsLines documents seen given)
   cut_moments stands only is time =
-      goes_on moment left_since old old new Same _ (started moment left_since old Same (λ left since. at_rest left (only left is since))) time
-      (λ left may. ap (recovered documents) (may.leaves ∙ ap (take may.kept) seen_is) ∙ cut_lines documents text sum end stands may.kept may.least ∙ ap (recovered documents) (sym seen_is))
+      let P : Left → Type 0 = KeepsLines documents seen given in
+      goes_on moment left_since old old new P _ (started moment left_since old P (λ left since. keeps_all documents durable seen given left synced (only left is since))) time
+      (λ left may. record {
+        lines = ap (recovered documents) (may.leaves ∙ ap (take may.kept) seen_is) ∙ cut_lines documents text sum end stands may.kept may.least ∙ ap (recovered documents) (sym seen_is);
+        output = may.output;
+      })
 
 -- The header
 
@@ -226,13 +232,15 @@ at_most_one n not = elim (cases_lt 1 n) [ inl lt ↦ absurd (not lt) | inr le �
 -- A journal that is begun anew
 
 module _ (documents seen : List ℕ) (none : recovered documents seen ≡ []) where
-  pub left_none : (left : Left) → recovered documents left.file ≡ [] → recovered documents left.file ≡ recovered documents seen
+  left_none : (left : Left) → recovered documents left.file ≡ [] → recovered documents left.file ≡ recovered documents seen
   left_none left is = is ∙ sym none
 
-  pub left_cut : (given : List ℕ) (left : Left) → MayCut 0 seen given left → recovered documents left.file ≡ recovered documents seen
-  left_cut given left may = left_none left (ap (recovered documents) may.leaves ∙ none_in_front documents seen may.kept none)
+  pub left_cut : (given : List ℕ) (left : Left) → MayCut 0 seen given left → KeepsLines documents seen given left
+  left_cut given left may = record { lines = left_none left (ap (recovered documents) may.leaves ∙ none_in_front documents seen may.kept none); output = may.output }
 
-  pub left_header : (durable before now text given : List ℕ) (left : Left) → durable ≡ take 0 seen → before ≡ take 0 seen → text ≡ header documents → now ≡ before ++ text
-      → MayLeave durable now given left → recovered documents left.file ≡ recovered documents seen
-  left_header durable before now text given left is_durable is_before is_text is_now may =
-      left_none left (header_left documents durable now given left (is_durable ∙ take_none seen) (is_now ∙ ap (λ l. l ++ text) (is_before ∙ take_none seen) ∙ is_text) may)
+  pub left_header : (durable before now text given had : List ℕ) (left : Left) → durable ≡ take 0 seen → before ≡ take 0 seen → text ≡ header documents → now ≡ before ++ text
+      → given ≡ had → MayLeave durable now given left → KeepsLines documents seen had left
+  left_header durable before now text given had left is_durable is_before is_text is_now is_given may = record {
+    lines = left_none left (header_left documents durable now given left (is_durable ∙ take_none seen) (is_now ∙ ap (λ l. l ++ text) (is_before ∙ take_none seen) ∙ is_text) may);
+    output = subst (Begins left.given) is_given may.output;
+  }

@@ -25,7 +25,7 @@ line_front zero (x ∷ a) is = tt
 line_front (suc n) [] is = tt
 line_front (suc n) (x ∷ a) is = (is.0, is.1, line_front n a is.2)
 
-line_byte : (a : List ℕ) (k : ℕ) → IsLine a → k < length a → ((slice_index a k == 0) ≡ false) × ((slice_index a k == 10) ≡ false)
+pub line_byte : (a : List ℕ) (k : ℕ) → IsLine a → k < length a → ((slice_index a k == 0) ≡ false) × ((slice_index a k == 10) ≡ false)
 line_byte [] k is lt = absurd (omega (arith, lt))
 line_byte (x ∷ a) zero is lt = (is.0, is.1)
 line_byte (x ∷ a) (suc k) is lt = line_byte a k is.2 (omega (arith, lt))

@@ -1,4 +1,4 @@
--- surface: what calls of a disk do to its file, and what a crash at any moment may leave of it.
+-- trusted: what calls of a disk do to its file, and what a crash at any moment may leave of it.
 use Rattle.std.specs.Prelude.{◌≡◌, ◌⊎◌, ℕ, ◌≤◌, List, [], ◌∷◌, ◌++◌, ⊤, take}
 
 -- a part of these bytes: no longer, and each byte is theirs or zero

@@ -1,4 +1,4 @@
--- surface: groups of lines, each with a closing line, whatever the sums are.
+-- trusted: groups of lines, each with a closing line, whatever the sums are.
 use Rattle.std.specs.Prelude.{◌≡◌, ℕ, Bool, true, false, List, [], ◌∷◌, ◌++◌, Option, Some, None, ⊤, if◌then◌else◌, not}
 
 -- the sum of a group by the sum before it; which lines close a group at all; and which of them close one with this sum

@@ -1,4 +1,4 @@
--- surface: the text of a journal: a header, and groups of lines with sums.
+-- trusted: the text of a journal: a header, and groups of lines with sums.
 use Rattle.std.specs.Prelude.{◌≡◌, ℕ, Bool, List, [], ◌∷◌, ◌++◌, length, take, drop, Some, codes, nat_eq, nat_lt, nat_le, ◌&&◌}
 use Rattle.std.specs.Char.{is_ascii_digit}
 use Rattle.std.specs.List.{starts_with, list_all}

@@ -5,6 +5,7 @@ pub mod Past
 pub mod Windows
 pub mod Groups
 pub mod Journals
+pub mod Digests
 pub mod Writing
 pub mod Recovery
 pub mod Readers

@@ -1,4 +1,4 @@
--- surface: the whole lines of a text whose end a crash may have torn.
+-- trusted: the whole lines of a text whose end a crash may have torn.
 use Rattle.std.specs.Prelude.{◌≡◌, ℕ, List, [], ◌∷◌, ◌++◌, ⊤, if◌then◌else◌, ◌==◌, false}
 
 -- a line's bytes: no zero and no line feed

@@ -1,4 +1,4 @@
--- surface: what a reader keeps whose lines are journalled before it gives them. Each is a fact with one proof at most, so that a struct can keep it.
+-- trusted: what a reader keeps whose lines are journalled before it gives them. Each is a fact with one proof at most, so that a struct can keep it.
 use Rattle.std.specs.Prelude.{◌≡◌, ℕ, ◌≤◌, List, ◌++◌, length, take, Option, Some}
 use Rattle.std.specs.Io.KnownBytes.{prepend_known}
 use Rattle.batch_journal.specs.Lines.{AreLines, text_of, whole_lines}

@@ -1,7 +1,7 @@
--- surface: what recovery finds in a file, and why it refuses one.
+-- trusted: what recovery finds in a file, and why it refuses one.
 use Rattle.std.specs.Prelude.{◌≡◌, ℕ, ◌+◌, ◌≤◌, ◌<◌, List, [], ◌∷◌, ◌++◌, length, take, drop, filter, ⊤, false, true, codes, nat_eq, slice_index, ◌==◌}
 use Rattle.std.specs.List.{starts_with}
-use Rattle.batch_journal.specs.Disks.{IsPart}
+use Rattle.batch_journal.specs.Disks.{IsPart, Left, Begins}
 use Rattle.batch_journal.specs.Lines.{IsLine, AreLines, text_of, whole_from, whole_lines}
 use Rattle.batch_journal.specs.Groups.{taken, is_left, AreOthers}
 use Rattle.batch_journal.specs.Journals.{header, journal_format, recovered, IsClosed, IsJournal}
@@ -78,6 +78,11 @@ pub record AreRests (documents text sum durable seen : List ℕ) : Type 0 where
   pub journal : IsJournal documents text sum
   pub seen_is : seen ≡ text
   pub synced : durable ≡ seen
+
+-- what a crash left has the lines that the file had, and no more was given
+pub record KeepsLines (documents file given : List ℕ) (left : Left) : Type 0 where
+  pub lines : recovered documents left.file ≡ recovered documents file
+  pub output : Begins left.given given
 
 -- no line ends in the text
 abbrev pub HasNoFeed : List ℕ → Type 0

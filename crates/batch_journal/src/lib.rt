@@ -1,6 +1,7 @@
 //! A journal of lines: whatever was given on is in it, whole, after a crash at any moment.
 #![tactic(auto)]
 
+mod digest;
 mod disk;
 mod file_disk;
 mod group;
@@ -12,6 +13,7 @@ mod recovery;
 mod sum;
 mod window;
 
+pub use digest::{Digits, DocumentsDigest};
 pub use disk::{Disk, DiskError};
 pub use file_disk::FileDisk;
 pub use laws::{

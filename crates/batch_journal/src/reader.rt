@@ -22,14 +22,17 @@ pub trait Run {
     /// The digits of its documents.
     ghost documents: { List ℕ };
 
-    /// The text of the lines that the journal had when it began.
+    /// The text of the lines that the journal had then.
     ghost base: { List ℕ };
 
-    /// The moment of that.
+    /// A moment from which on a crash left these lines.
     ghost since: { ℕ };
 
     /// The bytes of the input, where they are known.
     ghost input: { Option (List ℕ) };
+
+    /// What the disk that it began over had been, as that it had behaved as one.
+    ghost was: { Type 0 };
 }
 
 /// Gives the bytes of an input, whole lines alone, once they are in the journal and synced: one read of the input is one group.
@@ -53,6 +56,7 @@ pub struct JournalReader<R: Read, D: Disk, K: Clock, C: Run> {
     ghost whole: { D.is_disk disk → IsWhole (D.given disk) },
     ghost recalled: { D.is_disk disk → HasRecalled C.documents C.base C.since (D.moment disk) (D.left_since disk) },
     ghost accounted: { D.is_disk disk → IsAccounted C.input (D.given disk) (prepend_known (items window) (R.remaining inner)) },
+    ghost stays: { D.is_disk disk → ∥ C.was ∥₁ },
 }
 
 impl<R: Read, D: Disk, K: Clock, C: Run> JournalReader<R, D, K, C> {
@@ -60,8 +64,9 @@ impl<R: Read, D: Disk, K: Clock, C: Run> JournalReader<R, D, K, C> {
     pub fn new(inner: R, disk: D, clock: K, sum: Sum) -> JournalReader<R, D, K, C>
         requires at_rest { D.is_disk disk → IsKept C.documents C.base (D.durable disk) (D.seen disk) (D.given disk) [] (sum_text sum) }
         requires whole { D.is_disk disk → IsWhole (D.given disk) }
-        requires began { D.is_disk disk → C.since ≡ D.moment disk }
+        requires recalled { D.is_disk disk → HasRecalled C.documents C.base C.since (D.moment disk) (D.left_since disk) }
         requires input { D.is_disk disk → IsAccounted C.input (D.given disk) (R.remaining inner) }
+        requires was { D.is_disk disk → C.was }
         ensures remaining { prepend_known (items result.window) (R.remaining result.inner) ≡ prepend_known [] (R.remaining inner) }
         ensures disk { result.disk ≡ disk }
     {
@@ -87,6 +92,7 @@ impl<R: Read, D: Disk, K: Clock, C: Run> JournalReader<R, D, K, C> {
         ensures lines { D.is_disk result → AreLines (whole_lines (D.given result)) }
         ensures recalled { D.is_disk result → HasRecalled C.documents C.base C.since (D.moment result) (D.left_since result) }
         ensures accounted { D.is_disk result → IsAccounted C.input (D.given result) (prepend_known (items self.window) (R.remaining self.inner)) }
+        ensures stays { D.is_disk result → ∥ C.was ∥₁ }
     {
         self.disk
     }
@@ -182,7 +188,7 @@ fn milliseconds_of<K: Clock>(clock: &K) -> u64 {
 }
 
 impl Run for Brand {
-    ghost use Rattle.std.specs.Prelude.{[], None};
+    ghost use Rattle.std.specs.Prelude.{[], None, ⊤};
 
     ghost documents = { [] };
 
@@ -191,4 +197,6 @@ impl Run for Brand {
     ghost since = { 0 };
 
     ghost input = { None };
+
+    ghost was = { ⊤ };
 }

@@ -2,8 +2,8 @@
 ghost use Rattle.std.specs.Prelude.{◌≡◌, ◌⊎◌, ◌≤◌, [], None, false, length, IfOk, IfErr, IsTrue, IfSome, MatchOption, nat_eq};
 ghost use Rattle.std.specs.List.{starts_with};
 ghost use Rattle.batch_journal.specs.Disks.{LeavesOnly};
-ghost use Rattle.batch_journal.specs.Journals.{header, recovered, sum_text};
-ghost use Rattle.batch_journal.specs.Recovery.{HasNoFeed, IsRefusedFor, IsTakenTo, StandsTo, AreRests, ClosesTwice, closing_count, raw_lines};
+ghost use Rattle.batch_journal.specs.Journals.{IsJournal, header, recovered, sum_text};
+ghost use Rattle.batch_journal.specs.Recovery.{HasNoFeed, IsRefusedFor, KeepsLines, IsTakenTo, StandsTo, AreRests, ClosesTwice, closing_count, raw_lines};
 
 use crate::disk::{Disk, DiskError};
 use crate::group::{closes, is_closing};
@@ -72,11 +72,13 @@ pub fn recover<D: Disk>(
     // After a restart, what is read is what is on the disk.
     requires { D.is_disk disk.old → D.durable disk.old ≡ D.seen disk.old }
     ensures lines { D.is_disk disk.new → IfOk result (λ r. recovered documents.now r.text.items ≡ recovered documents.now (D.seen disk.old)) }
+    ensures journal { IfOk result (λ r. IsJournal documents.now r.text.items (sum_text r.sum)) }
     ensures at_rest { D.is_disk disk.new → IfOk result (λ r. AreRests documents.now r.text.items (sum_text r.sum) (D.durable disk.new) (D.seen disk.new)) }
     ensures given { D.is_disk disk.new → D.given disk.new ≡ D.given disk.old }
+    ensures stays { D.is_disk disk.new → D.is_disk disk.old }
     ensures refused { D.is_disk disk.new → IfErr result (IsRefusedFor documents.now (D.seen disk.old)) }
-    // A crash at any moment leaves the same lines.
-    ensures any_moment { D.is_disk disk.new → LeavesOnly D.moment D.left_since disk.old disk.new (λ left. recovered documents.now left.file ≡ recovered documents.now (D.seen disk.old)) }
+    // A crash at any moment leaves the same lines, and nothing was given meanwhile.
+    ensures any_moment { D.is_disk disk.new → LeavesOnly D.moment D.left_since disk.old disk.new (KeepsLines documents.now (D.seen disk.old) (D.given disk.old)) }
 {
     let text = disk.read(alloc)?;
     match standing_of(&text, documents)? {
@@ -95,11 +97,12 @@ fn cut_behind<D: Disk>(
     requires synced { D.is_disk disk.old → (D.durable disk.old ≡ D.seen disk.old) × (D.seen disk.old ≡ text.items) }
     requires stands { StandsTo documents.now text.items taken.end (sum_text taken.sum) }
     ensures lines { D.is_disk disk.new → IfOk result (λ r. recovered documents.now r.text.items ≡ recovered documents.now (D.seen disk.old)) }
+    ensures journal { IfOk result (λ r. IsJournal documents.now r.text.items (sum_text r.sum)) }
     ensures at_rest { D.is_disk disk.new → IfOk result (λ r. AreRests documents.now r.text.items (sum_text r.sum) (D.durable disk.new) (D.seen disk.new)) }
     ensures given { D.is_disk disk.new → D.given disk.new ≡ D.given disk.old }
     ensures stays { D.is_disk disk.new → D.is_disk disk.old }
     ensures refused { D.is_disk disk.new → IfErr result (IsRefusedFor documents.now (D.seen disk.old)) }
-    ensures any_moment { D.is_disk disk.new → LeavesOnly D.moment D.left_since disk.old disk.new (λ left. recovered documents.now left.file ≡ recovered documents.now (D.seen disk.old)) }
+    ensures any_moment { D.is_disk disk.new → LeavesOnly D.moment D.left_since disk.old disk.new (KeepsLines documents.now (D.seen disk.old) (D.given disk.old)) }
 {
     let cut = text.len() - taken.end;
     disk.cut(taken.end)?;
@@ -120,11 +123,12 @@ fn begin<D: Disk>(
     requires synced { D.is_disk disk.old → (D.durable disk.old ≡ D.seen disk.old) × (D.seen disk.old ≡ text.items) }
     requires unbegun { recovered documents.now text.items ≡ [] }
     ensures lines { D.is_disk disk.new → IfOk result (λ r. recovered documents.now r.text.items ≡ recovered documents.now (D.seen disk.old)) }
+    ensures journal { IfOk result (λ r. IsJournal documents.now r.text.items (sum_text r.sum)) }
     ensures at_rest { D.is_disk disk.new → IfOk result (λ r. AreRests documents.now r.text.items (sum_text r.sum) (D.durable disk.new) (D.seen disk.new)) }
     ensures given { D.is_disk disk.new → D.given disk.new ≡ D.given disk.old }
     ensures stays { D.is_disk disk.new → D.is_disk disk.old }
     ensures refused { D.is_disk disk.new → IfErr result (IsRefusedFor documents.now (D.seen disk.old)) }
-    ensures any_moment { D.is_disk disk.new → LeavesOnly D.moment D.left_since disk.old disk.new (λ left. recovered documents.now left.file ≡ recovered documents.now (D.seen disk.old)) }
+    ensures any_moment { D.is_disk disk.new → LeavesOnly D.moment D.left_since disk.old disk.new (KeepsLines documents.now (D.seen disk.old) (D.given disk.old)) }
 {
     let cut = text.len();
     let header = header_text(documents);

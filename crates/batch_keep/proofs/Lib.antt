@@ -3,3 +3,5 @@ mod Again
 mod Comments
 mod Counting
 mod Blocks
+pub mod Beginning
+mod StartWords

@@ -1,4 +1,4 @@
--- surface: the block that stands before all that is told after a start over a journal.
+-- trusted: the block that stands before all that is told after a start over a journal.
 use Rattle.std.specs.Prelude.{◌≡◌, ℕ, List, ◌++◌, length, codes, decimal}
 use Rattle.batch_model.specs.Plant.{Setup, Plant}
 use Rattle.batch_model.specs.Runs.{Leads}

@@ -1,4 +1,4 @@
--- surface: what was told by a run over a journal, and that a replay of whatever a crash leaves tells it again.
+-- trusted: what was told by a run over a journal, and that a replay of whatever a crash leaves tells it again.
 use Rattle.std.specs.Prelude.{◌≡◌, ℕ, ◌≤◌, List, [], ◌++◌, length, take, Option, Some}
 use Rattle.batch_model.specs.Plant.{Setup, Plant}
 use Rattle.batch_wire.specs.Transcript.{Exchange, Transcript}

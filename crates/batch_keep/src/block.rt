@@ -51,7 +51,8 @@ pub fn recovery_block(
 ) -> Result<Vec<u8>, BlockFault>
     requires journal { (sum : List ℕ) × IsJournal documents.now text.now sum }
     requires digits { IsLine documents.now }
-    ensures { IfOk result (λ block. IsBlockOf (setup engine.old.cleared) (plant_of engine.old) (recovered documents.now text.now) (plant_of engine.new) block.items) }
+    ensures cleared { engine.new.cleared ≡ engine.old.cleared }
+    ensures block { IfOk result (λ block. IsBlockOf (setup engine.old.cleared) (plant_of engine.old) (recovered documents.now text.now) (plant_of engine.new) block.items) }
 {
     let count = line_count(text, documents);
     let record = replayed(alloc, engine, text, documents)?;
@@ -90,7 +91,8 @@ fn replayed(
 ) -> Result<Vec<u8>, BlockFault>
     requires journal { (sum : List ℕ) × IsJournal documents.now text.now sum }
     requires digits { IsLine documents.now }
-    ensures { IfOk result (λ record_bytes. IsReplayed (setup engine.old.cleared) (plant_of engine.old) (recovered documents.now text.now) (plant_of engine.new) record_bytes.items) }
+    ensures cleared { engine.new.cleared ≡ engine.old.cleared }
+    ensures replayed { IfOk result (λ record_bytes. IsReplayed (setup engine.old.cleared) (plant_of engine.old) (recovered documents.now text.now) (plant_of engine.new) record_bytes.items) }
 {
     let mut record = Vec::new(alloc);
     match replay(alloc, engine, text, documents, &mut record) {

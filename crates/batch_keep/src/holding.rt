@@ -1,16 +1,16 @@
 //! Serving over a journal, where want of memory ends the run before it is told.
-ghost use Rattle.std.specs.Prelude.{◌≡◌, List, ℕ, Some, IfSome, IsFalse, IsOk, IsTrue, OnOk};
+ghost use Rattle.std.specs.Prelude.{◌≡◌, List, ℕ, [], Some, IfSome, IsFalse, IsOk, IsTrue, OnOk};
 ghost use Rattle.batch_engine.specs.View.{setup, plant_of};
 ghost use Rattle.batch_journal.specs.Journals.{recovered, sum_text};
 ghost use Rattle.batch_journal.specs.Lines.{text_of};
-ghost use Rattle.batch_journal.specs.Readers.{HasRecalled};
+ghost use Rattle.batch_journal.specs.Readers.{IsKept, IsWhole, HasRecalled, IsAccounted};
 ghost use Rattle.batch_wire.specs.Transcript.{lines_of};
 ghost use Rattle.batch_wire.specs.WrittenTranscript.{WritesTranscript};
 ghost use Rattle.batch_keep.specs.Told.{IsAtRest, IsNeverLost};
 
-use crate::serving::{Journal, serve_journalled};
+use crate::serving::{Journal, serve_at};
 use batch_engine::Engine;
-use batch_journal::Disk;
+use batch_journal::{Disk, Run};
 use batch_serve::{Held, ServeFault, Start, transcripts_are_whole};
 use std::alloc::Global;
 use std::io;
@@ -58,10 +58,11 @@ pub fn serve_holding<R: Read + Drop, D: Disk, K: Clock + Drop, W: Write>(
     ensures never_lost { D.is_disk result.1 → (all : List ℕ) → R.remaining input ≡ Some all → IsNeverLost (setup engine.old.cleared) (plant_of engine.old) journal.documents (D.seen journal.disk)
         (D.durable result.1) (D.seen result.1) (D.given result.1) (W.contents writer) (W.contents result.2) }
 {
-    serve_holding_at::<R, D, K, W, Brand>(alloc, engine, input, journal, writer, max_reads)
+    serve_started::<R, D, K, W, Brand>(alloc, engine, input, journal, writer, max_reads)
 }
 
-fn serve_holding_at<R: Read + Drop, D: Disk, K: Clock + Drop, W: Write, C: Start>(
+/// The same, of a run that began at an earlier moment: whoever calls it says from which one on a crash left the journal's lines.
+pub fn serve_started<R: Read + Drop, D: Disk, K: Clock + Drop, W: Write, C: Run>(
     alloc: Global,
     engine: &mut Engine,
     input: R,
@@ -69,18 +70,50 @@ fn serve_holding_at<R: Read + Drop, D: Disk, K: Clock + Drop, W: Write, C: Start
     writer: W,
     max_reads: u64,
 ) -> (Result<(), KeepFault>, D, W)
-    requires at_rest { D.is_disk journal.disk → IsAtRest journal.documents (D.durable journal.disk) (D.seen journal.disk) (D.given journal.disk) (sum_text journal.sum) }
-    requires first { C.contents ≡ W.contents writer }
-    ensures any_moment { D.is_disk result.1 → HasRecalled journal.documents (text_of (recovered journal.documents (D.seen journal.disk))) (D.moment journal.disk) (D.moment result.1) (D.left_since result.1) }
+    requires at_rest { D.is_disk journal.disk → IsKept C.documents C.base (D.durable journal.disk) (D.seen journal.disk) (D.given journal.disk) [] (sum_text journal.sum) }
+    requires whole { D.is_disk journal.disk → IsWhole (D.given journal.disk) }
+    requires recalled { D.is_disk journal.disk → HasRecalled C.documents C.base C.since (D.moment journal.disk) (D.left_since journal.disk) }
+    requires accounted { D.is_disk journal.disk → IsAccounted C.input (D.given journal.disk) (R.remaining input) }
+    requires was { D.is_disk journal.disk → C.was }
+    // A crash since that moment leaves the lines from before, and all that the machine had been given by then.
+    ensures any_moment { D.is_disk result.1 → HasRecalled C.documents C.base C.since (D.moment result.1) (D.left_since result.1) }
+    ensures stays { D.is_disk result.1 → ∥ C.was ∥₁ }
     ensures cleared { engine.new.cleared ≡ engine.old.cleared }
     ensures served { OnOk result.0 (IfSome (R.remaining input) (λ all.
-        WritesTranscript (setup engine.old.cleared) (plant_of engine.old) (lines_of all) (plant_of engine.new) C.contents (W.contents result.2))) }
-    ensures never_lost { D.is_disk result.1 → (all : List ℕ) → R.remaining input ≡ Some all → IsNeverLost (setup engine.old.cleared) (plant_of engine.old) journal.documents (D.seen journal.disk)
-        (D.durable result.1) (D.seen result.1) (D.given result.1) C.contents (W.contents result.2) }
+        WritesTranscript (setup engine.old.cleared) (plant_of engine.old) (lines_of all) (plant_of engine.new) (W.contents writer) (W.contents result.2))) }
+    ensures never_lost { D.is_disk result.1 → C.input ≡ R.remaining input → (all start : List ℕ) → C.input ≡ Some all → C.base ≡ text_of (recovered C.documents start)
+        → IsNeverLost (setup engine.old.cleared) (plant_of engine.old) C.documents start (D.durable result.1) (D.seen result.1) (D.given result.1) (W.contents writer) (W.contents result.2) }
+{
+    serve_holding_at::<R, D, K, W, C, Brand>(alloc, engine, input, journal, writer, max_reads)
+}
+
+fn serve_holding_at<R: Read + Drop, D: Disk, K: Clock + Drop, W: Write, C: Run, S: Start>(
+    alloc: Global,
+    engine: &mut Engine,
+    input: R,
+    journal: Journal<D, K>,
+    writer: W,
+    max_reads: u64,
+) -> (Result<(), KeepFault>, D, W)
+    requires at_rest { D.is_disk journal.disk → IsKept C.documents C.base (D.durable journal.disk) (D.seen journal.disk) (D.given journal.disk) [] (sum_text journal.sum) }
+    requires whole { D.is_disk journal.disk → IsWhole (D.given journal.disk) }
+    requires recalled { D.is_disk journal.disk → HasRecalled C.documents C.base C.since (D.moment journal.disk) (D.left_since journal.disk) }
+    requires accounted { D.is_disk journal.disk → IsAccounted C.input (D.given journal.disk) (R.remaining input) }
+    requires was { D.is_disk journal.disk → C.was }
+    requires first { S.contents ≡ W.contents writer }
+    ensures any_moment { D.is_disk result.1 → HasRecalled C.documents C.base C.since (D.moment result.1) (D.left_since result.1) }
+    ensures stays { D.is_disk result.1 → ∥ C.was ∥₁ }
+    ensures cleared { engine.new.cleared ≡ engine.old.cleared }
+    ensures served { OnOk result.0 (IfSome (R.remaining input) (λ all.
+        WritesTranscript (setup engine.old.cleared) (plant_of engine.old) (lines_of all) (plant_of engine.new) S.contents (W.contents result.2))) }
+    ensures never_lost { D.is_disk result.1 → C.input ≡ R.remaining input → (all start : List ℕ) → C.input ≡ Some all → C.base ≡ text_of (recovered C.documents start)
+        → IsNeverLost (setup engine.old.cleared) (plant_of engine.old) C.documents start (D.durable result.1) (D.seen result.1) (D.given result.1) S.contents (W.contents result.2) }
 {
     transcripts_are_whole();
-    let mut held: Held<W, C> = Held::new(alloc, writer);
-    let (served, disk) = serve_journalled(alloc, engine, input, journal, &mut held, max_reads);
+    let mut held: Held<W, S> = Held::new(alloc, writer);
+    let (served, disk) = serve_at::<R, D, K, Held<W, S>, C>(
+        alloc, engine, input, journal, &mut held, max_reads,
+    );
     match served {
         Ok(()) => {
             // All was handed on already, and is told; here that is seen.

@@ -5,8 +5,10 @@ mod block;
 mod holding;
 mod replaying;
 mod serving;
+mod starting;
 
 pub use block::{BlockFault, block_rows, recovery_block};
-pub use holding::{KeepFault, serve_holding};
+pub use holding::{KeepFault, serve_holding, serve_started};
 pub use replaying::replay;
 pub use serving::{Journal, serve_in_memory, serve_journalled};
+pub use starting::{StartFault, Started, start};

@@ -1,5 +1,5 @@
 //! Serving the lines of a journal again.
-ghost use Rattle.std.specs.Prelude.{List, ℕ, OnOk};
+ghost use Rattle.std.specs.Prelude.{◌≡◌, List, ℕ, OnOk};
 ghost use Rattle.batch_engine.specs.View.{setup, plant_of};
 ghost use Rattle.batch_journal.specs.Journals.{IsJournal, recovered};
 ghost use Rattle.batch_journal.specs.Lines.{IsLine};
@@ -25,7 +25,8 @@ pub fn replay<W: Write>(
 ) -> Result<(), ServeFault>
     requires journal { (sum : List ℕ) × IsJournal documents.now text.now sum }
     requires digits { IsLine documents.now }
-    ensures { OnOk result (WritesTranscript (setup engine.old.cleared) (plant_of engine.old) (recovered documents.now text.now) (plant_of engine.new) (W.contents writer.old) (W.contents writer.new)) }
+    ensures cleared { engine.new.cleared ≡ engine.old.cleared }
+    ensures served { OnOk result (WritesTranscript (setup engine.old.cleared) (plant_of engine.old) (recovered documents.now text.now) (plant_of engine.new) (W.contents writer.old) (W.contents writer.new)) }
 {
     recovered_are_lines();
     serve(alloc, engine, &mut text, writer, u64::MAX)

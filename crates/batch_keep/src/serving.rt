@@ -76,7 +76,7 @@ pub fn serve_in_memory<K: Clock + Drop>(
     serve_journalled(alloc, engine, input, journal, writer, max_reads)
 }
 
-fn serve_at<R: Read + Drop, D: Disk, K: Clock + Drop, W: Write, C: Run>(
+pub(crate) fn serve_at<R: Read + Drop, D: Disk, K: Clock + Drop, W: Write, C: Run>(
     alloc: Global,
     engine: &mut Engine,
     input: R,
@@ -86,9 +86,11 @@ fn serve_at<R: Read + Drop, D: Disk, K: Clock + Drop, W: Write, C: Run>(
 ) -> (Result<(), ServeFault>, D)
     requires at_rest { D.is_disk journal.disk → IsKept C.documents C.base (D.durable journal.disk) (D.seen journal.disk) (D.given journal.disk) [] (sum_text journal.sum) }
     requires whole { D.is_disk journal.disk → IsWhole (D.given journal.disk) }
-    requires began { D.is_disk journal.disk → C.since ≡ D.moment journal.disk }
+    requires recalled { D.is_disk journal.disk → HasRecalled C.documents C.base C.since (D.moment journal.disk) (D.left_since journal.disk) }
     requires input { D.is_disk journal.disk → IsAccounted C.input (D.given journal.disk) (R.remaining input) }
+    requires was { D.is_disk journal.disk → C.was }
     ensures any_moment { D.is_disk result.1 → HasRecalled C.documents C.base C.since (D.moment result.1) (D.left_since result.1) }
+    ensures stays { D.is_disk result.1 → ∥ C.was ∥₁ }
     ensures cleared { engine.new.cleared ≡ engine.old.cleared }
     ensures served { OnOk result.0 (IfSome (R.remaining input) (λ all.
         WritesTranscript (setup engine.old.cleared) (plant_of engine.old) (lines_of all) (plant_of engine.new) (W.contents writer.old) (W.contents writer.new))) }

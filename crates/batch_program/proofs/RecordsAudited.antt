@@ -5,7 +5,7 @@ use Rattle.std.specs.Io.KnownBytes.{Appends}
 use Rattle.clap.specs.Walk.{Text}
 use Rattle.batch_verify.specs.ClearedSet.{ClearedSet}
 use Rattle.batch_wire.specs.Transcript.{lines_of}
-use Rattle.batch_words.specs.CommandLine.{Source, audit, serve, tell}
+use Rattle.batch_words.specs.CommandLine.{Source, audit, keep, serve, tell}
 use Rattle.batch_audit.specs.Audits as findings
 use Rattle.batch_audit.specs.Audits.{Finds, told_text}
 use Rattle.batch_audit.specs.declared.finding.Finding.{Finding}
@@ -17,10 +17,11 @@ use Rattle.batch_commands.specs.VerdictTexts.{accepted_text}
 use Rattle.batch_commands.proofs.Successes.{same_request}
 use Rattle.batch_serve.specs.Serves as serving
 use Rattle.batch_program.specs.AuditRuns.{IsAccepted, IsAuditTold, finding_status, finding_text, finds, stops}
-use Rattle.batch_program.specs.Programs.{AuditsAreTrue, IsProgramRun, tells, serves, reads, audits, plants}
+use Rattle.batch_program.specs.JournalRuns.{JournalFiles}
+use Rattle.batch_program.specs.Programs.{AuditsAreTrue, IsProgramRun, tells, serves, keeps, reads, audits, plants}
 use Rattle.batch_program.specs.RecordRuns.{Holds, IsUntold, output_of}
 use Rattle.batch_program.specs.Telling.{IsFindingTold}
-use Rattle.batch_program.proofs.Served.{plants_no_audit, serves_no_audit, told_at_once}
+use Rattle.batch_program.proofs.Served.{audits_no_journal, plants_no_audit, serves_no_audit, told_at_once}
 
 -- what was read
 
@@ -114,18 +115,20 @@ same_documents a b one other x y is = cc
 audits_no_record : (source : Source) (beginning : Bool) (path : Text) (other : Option Text) → audit beginning path source ≡ tell other → ⊥
 audits_no_record source beginning path other is = cc
 
-true_at : (gives : Gives) (holds : Holds) (words : List Text) (ends : serving.Ends) (errors : Stream) (beginning : Bool) (path : Text) (source : Source) (status : ℕ)
-    → AskFor words (audit beginning path source) → IsProgramRun gives holds words ends errors status → status ≡ 0
+true_at : (gives : Gives) (holds : Holds) (files : JournalFiles) (words : List Text) (ends : serving.Ends) (errors : Stream) (beginning : Bool) (path : Text) (source : Source) (status : ℕ)
+    → AskFor words (audit beginning path source) → IsProgramRun gives holds files words ends errors status → status ≡ 0
     → (set : ClearedSet) × IsSetOf gives source set × IsFound holds set beginning path ends
-true_at gives holds words ends errors beginning path source _ asked (tells status came _) is =
+true_at gives holds files words ends errors beginning path source _ asked (tells status came _) is =
     absurd (told_at_once gives words (output_of ends) errors (audit beginning path source) status asked came is)
-true_at gives holds words ends errors beginning path source _ asked (serves other _ _ asked2 _ _ _) is =
+true_at gives holds files words ends errors beginning path source _ asked (serves other _ _ asked2 _ _ _) is =
     absurd (serves_no_audit other source beginning path (same_request words (serve other) (audit beginning path source) asked2 asked))
-true_at gives holds words ends errors beginning path source _ asked (reads other _ asked2 _) is =
+true_at gives holds files words ends errors beginning path source _ asked (keeps other cell certificate recipes _ _ _ asked2 _ _) is =
+    absurd (audits_no_journal beginning path source other cell certificate recipes (same_request words (audit beginning path source) (keep other cell certificate recipes) asked asked2))
+true_at gives holds files words ends errors beginning path source _ asked (reads other _ asked2 _) is =
     absurd (audits_no_record source beginning path other (same_request words (audit beginning path source) (tell other) asked asked2))
-true_at gives holds words ends errors beginning path source _ asked (plants _ options _ _ asked2 _ _ _ _) is =
+true_at gives holds files words ends errors beginning path source _ asked (plants _ options _ _ asked2 _ _ _ _) is =
     absurd (plants_no_audit options.batches options.ticks options.ring source beginning path (same_request words _ (audit beginning path source) asked2 asked))
-true_at gives holds words ends errors beginning path source _ asked (audits wide other from set status asked2 is_set told) is =
+true_at gives holds files words ends errors beginning path source _ asked (audits wide other from set status asked2 is_set told) is =
     let same = same_request words (audit wide other from) (audit beginning path source) asked2 asked in (
       set,
       subst (λ s. IsSetOf gives s set) (same_documents wide beginning other path from source same) is_set,
@@ -134,7 +137,7 @@ true_at gives holds words ends errors beginning path source _ asked (audits wide
           (is_found holds set wide other ends errors status told is)),
     )
 
-pub audits_are_true : (gives : Gives) (holds : Holds) → AuditsAreTrue gives holds
-audits_are_true gives holds words ends errors beginning path source asked came =
-    let (set, is_set, found) = true_at gives holds words ends errors beginning path source 0 asked came refl in
+pub audits_are_true : (gives : Gives) (holds : Holds) (files : JournalFiles) → AuditsAreTrue gives holds files
+audits_are_true gives holds files words ends errors beginning path source asked came =
+    let (set, is_set, found) = true_at gives holds files words ends errors beginning path source 0 asked came refl in
     (set, found.given, is_set, found.held, found.written, found.accepted)

@@ -1,5 +1,5 @@
 -- What a run that serves tells, and one that runs a plant.
-use Rattle.std.proofs.Common.{◌≡◌, ℕ, zero, suc, ◌≤◌, Bool, true, false, List, Option, Some, None, Result, Ok, Err, IfOk, inl, inr, refl, subst, arith, ◌∙◌}
+use Rattle.std.proofs.Common.{◌≡◌, ◌⊎◌, ℕ, zero, suc, ◌≤◌, Bool, true, false, List, Option, Some, None, Result, Ok, Err, IfOk, inl, inr, refl, subst, arith, ◌∙◌}
 use Rattle.std.specs.Prelude.{IfSome, String, option_map, string_bytes, take}
 use Rattle.std.specs.Global.{Global}
 use Rattle.std.specs.Io.KnownBytes.{Appends, Keeps}
@@ -10,14 +10,14 @@ use Rattle.batch_engine.specs.View.{setup}
 use Rattle.batch_wire.specs.Transcript.{lines_of, whole_lines}
 use Rattle.batch_wire.specs.Written.{AppendsBeginning}
 use Rattle.batch_serve.specs.Safe.{BeginsSafely, WritesSafely, WritesWholeSafely}
-use Rattle.batch_words.specs.CommandLine.{Request, Source, audit, plant, serve, source_of, tell}
+use Rattle.batch_words.specs.CommandLine.{Request, Source, audit, plant, serve, source_of, tell, keep}
 use Rattle.batch_words.specs.declared.command.AuditWords.{AuditWords}
 use Rattle.batch_words.specs.declared.plant_options.PlantOptions.{PlantOptions}
 use Rattle.batch_commands.specs.Reading.{Gives}
 use Rattle.batch_commands.specs.Requests.{IsDemoSet, IsSetOf}
-use Rattle.batch_commands.specs.Running.{AskFor, IsAnnounced, IsDone, IsExplained, IsPrinted, IsRun, IsUnwritten, Stream, ask_quiet, success_status, usage_status, memory_status}
+use Rattle.batch_commands.specs.Running.{AskFor, IsAnnounced, IsDone, IsExplained, IsPrinted, IsRun, IsUnwritten, Stream, ask_quiet, fault_status, success_status, usage_status, memory_status}
 use Rattle.batch_commands.specs.Statuses.{IsSuccess}
-use Rattle.batch_commands.proofs.Successes.{done_serving, same_request, success_is_told}
+use Rattle.batch_commands.proofs.Successes.{done_keeping, done_serving, same_request, success_is_told}
 use Rattle.batch_commands.specs.Judging.{status_of}
 use Rattle.batch_commands.specs.Running as running
 use Rattle.batch_commands.specs.declared.course.Course.{Course}
@@ -33,13 +33,18 @@ use Rattle.batch_serve.specs.declared.fault.ServeFault.TheVariants.{Read, Write,
 use Rattle.batch_serve.specs.declared.fault.SetFault.{SetFault}
 use Rattle.batch_serve.specs.declared.fault.SetFault.TheVariants.{Memory, Stopped}
 use Rattle.batch_program.specs.declared.program.TheConstants.{MAX_READS}
-use Rattle.batch_program.specs.Programs.{IsLeftTold, IsProgramRun, PlantsAreComplete, ServingIsSafe, tells, serves, reads, audits, plants, status_of_serving}
+use Rattle.batch_program.specs.Programs.{IsLeftTold, IsProgramRun, PlantsAreComplete, ServingIsSafe, tells, serves, reads, audits, plants, status_of_serving, keeps}
 use Rattle.batch_plant.specs.declared.plant_fault.PlantFault.{PlantFault}
 use Rattle.batch_plant.specs.declared.plant_fault.PlantFault.TheVariants as plant_fault
 use Rattle.batch_audit.specs.declared.finding.Finding.{Finding}
 use Rattle.batch_audit.specs.declared.finding.Finding.TheVariants.{Agrees, Differs, EndsBefore}
 use Rattle.batch_program.specs.AuditRuns as auditing
 use Rattle.batch_program.specs.AuditRuns.{IsAuditTold, finding_status, finding_text}
+use Rattle.batch_program.specs.JournalRuns.{DiskKind, IsJournalRefused, IsJournalRun, IsJournalTold, IsOverFile, JournalFiles}
+use Rattle.batch_program.specs.JournalRuns as journal
+use Rattle.batch_commands.specs.Digested.{AreDigested}
+use Rattle.batch_commands.specs.declared.digested.Digested.{Digested}
+use Rattle.batch_journal.specs.declared.recovery.RecoveryFault.{RecoveryFault}
 use Rattle.batch_program.specs.PlantRuns.{HasRun, IsPlantTold, plant_text, refused_status}
 use Rattle.batch_program.specs.RecordRuns.{Holds, IsRecordTold, IsStatusTold, IsUntold, prints, refuses, stops, no_record_text, output_of}
 
@@ -150,6 +155,7 @@ done_to_plant gives request quiet output errors _ set options (running.plants ot
     let chosen : own ≡ options = cc in
     (subst (λ (o : PlantOptions). request ≡ plant o.batches o.ticks o.ring) chosen asked, subst IsDemoSet same cleared, kept, silent)
 done_to_plant gives request quiet output errors _ set options (running.serves _ _ _ _ _ _) is = absurd cc
+done_to_plant gives request quiet output errors _ set options (running.keeps _ _ _ _ _ _ _ _ _) is = absurd cc
 done_to_plant gives request quiet output errors _ set options (running.reads _ _ _ _) is = absurd cc
 done_to_plant gives request quiet output errors _ set options (running.audits _ _ _ _ _ _) is = absurd cc
 done_to_plant gives request quiet output errors _ set options (running.halts _ _ _ _ _) is = absurd cc
@@ -200,6 +206,7 @@ done_to_read gives request quiet output errors _ path (running.reads other asked
     let same : other ≡ path = cc in
     (subst (λ (p : Option (String Global)). request ≡ tell (option_map string_bytes p)) same asked, kept, silent)
 done_to_read gives request quiet output errors _ path (running.serves _ _ _ _ _ _) is = absurd cc
+done_to_read gives request quiet output errors _ path (running.keeps _ _ _ _ _ _ _ _ _) is = absurd cc
 done_to_read gives request quiet output errors _ path (running.plants _ _ _ _ _ _) is = absurd cc
 done_to_read gives request quiet output errors _ path (running.audits _ _ _ _ _ _) is = absurd cc
 done_to_read gives request quiet output errors _ path (running.halts _ _ _ _ _) is = absurd cc
@@ -256,6 +263,7 @@ done_to_audit gives words request quiet output errors _ set own asked (running.a
     subst (IsToAudit gives words output errors set) chosen
     (record { asked = subst (AskFor words) is_asked asked; is_set = subst (IsSetOf gives (source_of other.source)) same is_set; unwritten = kept; silent = silent })
 done_to_audit gives words request quiet output errors _ set own asked (running.serves _ _ _ _ _ _) is = absurd cc
+done_to_audit gives words request quiet output errors _ set own asked (running.keeps _ _ _ _ _ _ _ _ _) is = absurd cc
 done_to_audit gives words request quiet output errors _ set own asked (running.reads _ _ _ _) is = absurd cc
 done_to_audit gives words request quiet output errors _ set own asked (running.plants _ _ _ _ _ _) is = absurd cc
 done_to_audit gives words request quiet output errors _ set own asked (running.halts _ _ _ _ _) is = absurd cc
@@ -280,6 +288,63 @@ audit_kept holds set beginning path unread left before mid after quiet still lou
     (printed_kept before mid after quiet still loud (finding_text beginning finding) (finding_status beginning finding) status kept silent printed)
 audit_kept holds set beginning path unread left before mid after quiet still loud status kept silent (auditing.stops (untouched, is)) =
     auditing.stops (kept_then_kept before mid after kept untouched, is)
+
+-- A journal
+
+-- what is to be served over a journal is the set of the documents that the words name, and nothing was written
+pub record IsToKeep (gives : Gives) (words : List Text) (output errors : Stream) (digested : Digested) (path : String Global) : Type 0 where
+  pub cell : Text
+  pub certificate : Text
+  pub recipes : List Text
+  pub asked : AskFor words (keep (string_bytes path) cell certificate recipes)
+  pub is_set : AreDigested gives cell certificate recipes digested.set digested.documents.text
+  pub unwritten : Keeps output.before output.after
+
+pub set_to_keep : (gives : Gives) (words : List Text) (output errors : Stream) (course : Course) (digested : Digested) (quiet : Bool) (path : String Global)
+    → IsRun gives words output errors course → course ≡ course_of.Keeps digested quiet path → IsToKeep gives words output errors digested path
+set_to_keep gives words output errors _ digested quiet path (running.commands request course asked came) is =
+    let (keeping, _) = done_keeping gives request (ask_quiet words) output errors digested quiet path course came is in
+    record {
+      cell = keeping.cell;
+      certificate = keeping.certificate;
+      recipes = keeping.recipes;
+      asked = rw (← keeping.asked) asked;
+      is_set = keeping.is_set;
+      unwritten = keeping.unwritten;
+    }
+set_to_keep gives words output errors _ digested quiet path (running.helps _ _ _ _) is = absurd cc
+set_to_keep gives words output errors _ digested quiet path (running.misuses _ _) is = absurd cc
+set_to_keep gives words output errors _ digested quiet path (running.starves _) is = absurd cc
+
+untold_kept : (before mid after : Option (List ℕ)) (status : ℕ) → Keeps before mid → IsUntold (record { before = mid; after = after }) status
+    → IsUntold (record { before = before; after = after }) status
+untold_kept before mid after status kept (untouched, is) = (kept_then_kept before mid after kept untouched, is)
+
+refusal_kept : (path : List ℕ) (fault : RecoveryFault) (before mid after : Option (List ℕ)) (status : ℕ) → Keeps before mid
+    → IsJournalRefused path fault (record { before = mid; after = after }) status → IsJournalRefused path fault (record { before = before; after = after }) status
+refusal_kept path fault before mid after status kept (inl (appends, is)) = inl (kept_then_appended before mid after _ kept appends, is)
+refusal_kept path fault before mid after status kept (inr (inl is)) = inr (inl is)
+refusal_kept path fault before mid after status kept (inr (inr (untouched, is))) = inr (inr (kept_then_kept before mid after kept untouched, is))
+
+journal_told_kept : (disks : DiskKind) (set : ClearedSet) (digits path : List ℕ) (start end : disks.File) (unread left before mid after : Option (List ℕ)) (status : ℕ) → Keeps before mid
+    → IsJournalTold disks set digits path start end (record { unread = unread; left = left; before = mid; after = after }) status
+    → IsJournalTold disks set digits path start end (record { unread = unread; left = left; before = before; after = after }) status
+journal_told_kept disks set digits path start end unread left before mid after status kept (journal.refuses fault refused told) =
+    journal.refuses fault refused (refusal_kept path fault before mid after status kept told)
+journal_told_kept disks set digits path start end unread left before mid after status kept (journal.stops untold) =
+    journal.stops (untold_kept before mid after status kept untold)
+journal_told_kept disks set digits path start end unread left before mid after status kept (journal.serves lines reached block middle are is_block appends behind) =
+    journal.serves lines reached block middle are is_block (kept_then_appended before mid middle block kept appends) behind
+journal_told_kept disks set digits path start end unread left before mid after status kept (journal.fails lines reached block is_block begins is) =
+    journal.fails lines reached block is_block (kept_then_begun before mid after block kept begins) is
+
+-- serving over a journal, after the writer was left as it was
+pub journal_kept : (files : JournalFiles) (set : ClearedSet) (digits path : List ℕ) (unread left before mid after : Option (List ℕ)) (status : ℕ) → Keeps before mid
+    → IsJournalRun files set digits path (record { unread = unread; left = left; before = mid; after = after }) status
+    → IsJournalRun files set digits path (record { unread = unread; left = left; before = before; after = after }) status
+journal_kept files set digits path unread left before mid after status kept (inl (start, end, opens, fresh, over)) =
+    inl (start, end, opens, fresh, record { any_moment = over.any_moment; told = journal_told_kept files.disks set digits path start end unread left before mid after status kept over.told })
+journal_kept files set digits path unread left before mid after status kept (inr untold) = inr (untold_kept before mid after status kept untold)
 
 -- Exit statuses
 
@@ -313,24 +378,36 @@ plants_no_audit batches ticks ring source beginning path is = cc
 serves_no_plant : (source : Source) (batches ticks ring : ℕ) → serve source ≡ plant batches ticks ring → ⊥
 serves_no_plant source batches ticks ring is = cc
 
-safe_at : (gives : Gives) (holds : Holds) (words : List Text) (ends : serving.Ends) (errors : Stream) (source : Source) (status : ℕ)
-    → AskFor words (serve source) → IsProgramRun gives holds words ends errors status → status ≡ 0
+serves_no_journal : (source : Source) (path cell certificate : Text) (recipes : List Text) → serve source ≡ keep path cell certificate recipes → ⊥
+serves_no_journal source path cell certificate recipes is = cc
+
+plants_no_journal : (batches ticks ring : ℕ) (path cell certificate : Text) (recipes : List Text) → plant batches ticks ring ≡ keep path cell certificate recipes → ⊥
+plants_no_journal batches ticks ring path cell certificate recipes is = cc
+
+pub audits_no_journal : (beginning : Bool) (record_path : Text) (source : Source) (path cell certificate : Text) (recipes : List Text)
+    → audit beginning record_path source ≡ keep path cell certificate recipes → ⊥
+audits_no_journal beginning record_path source path cell certificate recipes is = cc
+
+safe_at : (gives : Gives) (holds : Holds) (files : JournalFiles) (words : List Text) (ends : serving.Ends) (errors : Stream) (source : Source) (status : ℕ)
+    → AskFor words (serve source) → IsProgramRun gives holds files words ends errors status → status ≡ 0
     → (set : ClearedSet) × (left : ℕ) × IsSetOf gives source set × AnswersAll set left ends × IsLeftTold (ask_quiet words) errors left
-safe_at gives holds words ends errors source _ asked (tells status came _) is =
+safe_at gives holds files words ends errors source _ asked (tells status came _) is =
     absurd (told_at_once gives words (output_of ends) errors (serve source) status asked came is)
-safe_at gives holds words ends errors source _ asked (serves other set served asked2 is_set all told) is =
+safe_at gives holds files words ends errors source _ asked (serves other set served asked2 is_set all told) is =
     let same = same_source other source (same_request words (serve other) (serve source) asked2 asked) in
     let (left, answers, says) = ran_to_the_end set served ends (ask_quiet words) errors all told is in
     (set, left, subst (λ s. IsSetOf gives s set) same is_set, answers, says)
-safe_at gives holds words ends errors source _ asked (reads path _ asked2 _) is =
+safe_at gives holds files words ends errors source _ asked (keeps path cell certificate recipes _ _ _ asked2 _ _) is =
+    absurd (serves_no_journal source path cell certificate recipes (same_request words (serve source) (keep path cell certificate recipes) asked asked2))
+safe_at gives holds files words ends errors source _ asked (reads path _ asked2 _) is =
     absurd (serves_no_record source path (same_request words (serve source) (tell path) asked asked2))
-safe_at gives holds words ends errors source _ asked (audits beginning path other _ _ asked2 _ _) is =
+safe_at gives holds files words ends errors source _ asked (audits beginning path other _ _ asked2 _ _) is =
     absurd (serves_no_audit source other beginning path (same_request words (serve source) (audit beginning path other) asked asked2))
-safe_at gives holds words ends errors source _ asked (plants _ options _ _ asked2 _ _ _ _) is =
+safe_at gives holds files words ends errors source _ asked (plants _ options _ _ asked2 _ _ _ _) is =
     absurd (serves_no_plant source options.batches options.ticks options.ring (same_request words (serve source) _ asked asked2))
 
-pub serving_is_safe : (gives : Gives) (holds : Holds) → ServingIsSafe gives holds
-serving_is_safe gives holds words ends errors source asked came = safe_at gives holds words ends errors source 0 asked came refl
+pub serving_is_safe : (gives : Gives) (holds : Holds) (files : JournalFiles) → ServingIsSafe gives holds files
+serving_is_safe gives holds files words ends errors source asked came = safe_at gives holds files words ends errors source 0 asked came refl
 
 kind_in_range : (kind : RefusalKind) → status_of kind ≤ 4
 kind_in_range Fault = omega arith
@@ -354,6 +431,7 @@ explained_in_range texts output errors status (inr (_, inr memory)) = rw memory 
 done_in_range : (gives : Gives) (request : Request) (quiet : Bool) (output errors : Stream) (course : Course) (status : ℕ)
     → IsDone gives request quiet output errors course → course ≡ Ends status → status ≤ 4
 done_in_range gives request quiet output errors _ status (running.serves _ _ _ _ _ _) is = absurd cc
+done_in_range gives request quiet output errors _ status (running.keeps _ _ _ _ _ _ _ _ _) is = absurd cc
 done_in_range gives request quiet output errors _ status (running.reads _ _ _ _) is = absurd cc
 done_in_range gives request quiet output errors _ status (running.audits _ _ _ _ _ _) is = absurd cc
 done_in_range gives request quiet output errors _ status (running.plants _ _ _ _ _ _) is = absurd cc
@@ -416,13 +494,35 @@ audit_in_range holds set beginning path ends errors status (auditing.finds given
     printed_in_range (output_of ends) errors _ (finding_status beginning finding) status (finding_in_range beginning finding) printed
 audit_in_range holds set beginning path ends errors status (auditing.stops untold) = untold_in_range (output_of ends) status untold
 
-pub run_in_range : (gives : Gives) (holds : Holds) (words : List Text) (ends : serving.Ends) (errors : Stream) (status : ℕ)
-    → IsProgramRun gives holds words ends errors status → status ≤ 4
-run_in_range gives holds words ends errors _ (tells status came _) = course_in_range gives words (output_of ends) errors (Ends status) status came refl
-run_in_range gives holds words ends errors _ (serves _ _ served _ _ _ _) = serving_in_range served
-run_in_range gives holds words ends errors status (reads path _ _ told) = record_in_range holds path ends errors status told
-run_in_range gives holds words ends errors status (audits beginning path _ set _ _ _ told) = audit_in_range holds set beginning path ends errors status told
-run_in_range gives holds words ends errors status (plants _ options end _ _ _ _ told _) = plant_in_range (output_of ends) errors options.batches end status told
+refusal_in_range : (path : List ℕ) (fault : RecoveryFault) (output : Stream) (status : ℕ) → IsJournalRefused path fault output status → status ≤ 4
+refusal_in_range path fault output status (inl (_, refused)) = rw refused (omega arith)
+refusal_in_range path fault output status (inr (inl fails)) = rw fails (omega arith)
+refusal_in_range path fault output status (inr (inr (_, memory))) = rw memory (omega arith)
+
+ends_in_range : (status : ℕ) → (status ≡ success_status) ⊎ (status ≡ fault_status) ⊎ (status ≡ memory_status) → status ≤ 4
+ends_in_range status (inl well) = rw well (omega arith)
+ends_in_range status (inr (inl fails)) = rw fails (omega arith)
+ends_in_range status (inr (inr memory)) = rw memory (omega arith)
+
+journal_in_range : (disks : DiskKind) (set : ClearedSet) (digits path : List ℕ) (start end : disks.File) (ends : serving.Ends) (status : ℕ)
+    → IsJournalTold disks set digits path start end ends status → status ≤ 4
+journal_in_range disks set digits path start end ends status (journal.refuses fault _ told) = refusal_in_range path fault (output_of ends) status told
+journal_in_range disks set digits path start end ends status (journal.stops untold) = untold_in_range (output_of ends) status untold
+journal_in_range disks set digits path start end ends status (journal.serves _ _ _ _ _ _ _ behind) = ends_in_range status behind.ends
+journal_in_range disks set digits path start end ends status (journal.fails _ _ _ _ _ fault) = rw fault (omega arith)
+
+kept_in_range : (files : JournalFiles) (set : ClearedSet) (digits path : List ℕ) (ends : serving.Ends) (status : ℕ) → IsJournalRun files set digits path ends status → status ≤ 4
+kept_in_range files set digits path ends status (inl (start, end, _, _, over)) = journal_in_range files.disks set digits path start end ends status over.told
+kept_in_range files set digits path ends status (inr untold) = untold_in_range (output_of ends) status untold
+
+pub run_in_range : (gives : Gives) (holds : Holds) (files : JournalFiles) (words : List Text) (ends : serving.Ends) (errors : Stream) (status : ℕ)
+    → IsProgramRun gives holds files words ends errors status → status ≤ 4
+run_in_range gives holds files words ends errors _ (tells status came _) = course_in_range gives words (output_of ends) errors (Ends status) status came refl
+run_in_range gives holds files words ends errors _ (serves _ _ served _ _ _ _) = serving_in_range served
+run_in_range gives holds files words ends errors status (keeps path _ _ _ set digits _ _ _ ran) = kept_in_range files set digits path ends status ran
+run_in_range gives holds files words ends errors status (reads path _ _ told) = record_in_range holds path ends errors status told
+run_in_range gives holds files words ends errors status (audits beginning path _ set _ _ _ told) = audit_in_range holds set beginning path ends errors status told
+run_in_range gives holds files words ends errors status (plants _ options end _ _ _ _ told _) = plant_in_range (output_of ends) errors options.batches end status told
 
 -- What a plant tells
 
@@ -442,22 +542,24 @@ complete_at output errors set batches (Err plant_fault.Refused) status ran (_, m
 same_batches : (a b ticks more ring places : ℕ) → plant a ticks ring ≡ plant b more places → a ≡ b
 same_batches a b ticks more ring places is = cc
 
-told_plant : (gives : Gives) (holds : Holds) (words : List Text) (ends : serving.Ends) (errors : Stream) (batches ticks ring status : ℕ)
-    → AskFor words (plant batches ticks ring) → IsProgramRun gives holds words ends errors status → status ≡ 0
+told_plant : (gives : Gives) (holds : Holds) (files : JournalFiles) (words : List Text) (ends : serving.Ends) (errors : Stream) (batches ticks ring status : ℕ)
+    → AskFor words (plant batches ticks ring) → IsProgramRun gives holds files words ends errors status → status ≡ 0
     → (set : ClearedSet) × (handled : ℕ) × IsDemoSet set × HasRun set batches handled × Appends ends.before ends.after (plant_text batches handled)
-told_plant gives holds words ends errors batches ticks ring _ asked (tells status came _) is =
+told_plant gives holds files words ends errors batches ticks ring _ asked (tells status came _) is =
     absurd (told_at_once gives words (output_of ends) errors (plant batches ticks ring) status asked came is)
-told_plant gives holds words ends errors batches ticks ring _ asked (serves source _ _ asked2 _ _ _) is =
+told_plant gives holds files words ends errors batches ticks ring _ asked (serves source _ _ asked2 _ _ _) is =
     absurd (serves_no_plant source batches ticks ring (same_request words (serve source) (plant batches ticks ring) asked2 asked))
-told_plant gives holds words ends errors batches ticks ring _ asked (reads path _ asked2 _) is =
+told_plant gives holds files words ends errors batches ticks ring _ asked (keeps path cell certificate recipes _ _ _ asked2 _ _) is =
+    absurd (plants_no_journal batches ticks ring path cell certificate recipes (same_request words (plant batches ticks ring) (keep path cell certificate recipes) asked asked2))
+told_plant gives holds files words ends errors batches ticks ring _ asked (reads path _ asked2 _) is =
     absurd (plants_no_record batches ticks ring path (same_request words (plant batches ticks ring) (tell path) asked asked2))
-told_plant gives holds words ends errors batches ticks ring _ asked (audits beginning path source _ _ asked2 _ _) is =
+told_plant gives holds files words ends errors batches ticks ring _ asked (audits beginning path source _ _ asked2 _ _) is =
     absurd (plants_no_audit batches ticks ring source beginning path (same_request words (plant batches ticks ring) (audit beginning path source) asked asked2))
-told_plant gives holds words ends errors batches ticks ring status asked (plants set options end _ asked2 demo ran told _) is =
+told_plant gives holds files words ends errors batches ticks ring status asked (plants set options end _ asked2 demo ran told _) is =
     let same = same_batches options.batches batches options.ticks ticks options.ring ring (same_request words _ (plant batches ticks ring) asked2 asked) in
     let (handled, came, appends) = complete_at (output_of ends) errors set options.batches end status ran told is in
     (set, handled, demo, subst (λ n. HasRun set n handled) same came, subst (λ n. Appends ends.before ends.after (plant_text n handled)) same appends)
 
-pub plants_are_complete : (gives : Gives) (holds : Holds) → PlantsAreComplete gives holds
-plants_are_complete gives holds words ends errors batches ticks ring asked came =
-    told_plant gives holds words ends errors batches ticks ring 0 asked came refl
+pub plants_are_complete : (gives : Gives) (holds : Holds) (files : JournalFiles) → PlantsAreComplete gives holds files
+plants_are_complete gives holds files words ends errors batches ticks ring asked came =
+    told_plant gives holds files words ends errors batches ticks ring 0 asked came refl

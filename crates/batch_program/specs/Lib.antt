@@ -1,4 +1,6 @@
 pub mod AuditRuns
+pub mod JournalRuns
+pub mod Keeping
 pub mod PlantRuns
 pub mod PlantWork
 pub mod Programs

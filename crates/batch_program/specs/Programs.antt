@@ -6,8 +6,9 @@ use Rattle.std.specs.declared.process.ExitCode.{ExitCode}
 use Rattle.clap.specs.Walk.{Text}
 use Rattle.batch_verify.specs.ClearedSet.{ClearedSet}
 use Rattle.batch_wire.specs.Transcript.{lines_of}
-use Rattle.batch_words.specs.CommandLine.{Source, audit, plant, serve, tell}
+use Rattle.batch_words.specs.CommandLine.{Source, audit, keep, plant, serve, tell}
 use Rattle.batch_words.specs.declared.plant_options.PlantOptions.{PlantOptions}
+use Rattle.batch_commands.specs.Digested.{AreDigested}
 use Rattle.batch_commands.specs.Reading.{Gives}
 use Rattle.batch_commands.specs.Requests.{IsDemoSet, IsSetOf}
 use Rattle.batch_commands.specs.Running.{AskFor, IsRun, IsUnwritten, Stream, ask_quiet, fault_status, memory_status}
@@ -20,6 +21,7 @@ use Rattle.batch_serve.specs.declared.fault.SetFault.{SetFault}
 use Rattle.batch_serve.specs.declared.fault.SetFault.TheVariants.{Memory, Stopped}
 use Rattle.batch_plant.specs.declared.plant_fault.PlantFault.{PlantFault}
 use Rattle.batch_program.specs.AuditRuns.{IsAccepted, IsAuditTold}
+use Rattle.batch_program.specs.JournalRuns.{JournalFiles, IsJournalRun}
 use Rattle.batch_program.specs.PlantRuns.{HasRun, IsPlantTold, plant_text}
 use Rattle.batch_program.specs.RecordRuns.{Holds, IsRecordTold, output_of}
 use Rattle.batch_program.specs.declared.program.TheConstants.{MAX_READS}
@@ -47,51 +49,55 @@ IsLeftTold false errors zero = IsUnwritten errors
 IsLeftTold false errors (suc more) = WritesFront errors.before errors.after (left_text (suc more))
 
 -- what comes of the words, over the input and the output, with the exit status
-pub data IsProgramRun (gives : Gives) (holds : Holds) (words : List Text) (ends : serving.Ends) (errors : Stream) : ℕ → Type 0 where
+pub data IsProgramRun (gives : Gives) (holds : Holds) (files : JournalFiles) (words : List Text) (ends : serving.Ends) (errors : Stream) : ℕ → Type 0 where
   -- a verdict, help or a fault is told, and the input isn't read
   tells : (status : ℕ) → IsRun gives words (output_of ends) errors (Ends status) → Keeps ends.unread ends.left
-      → IsProgramRun gives holds words ends errors status
+      → IsProgramRun gives holds files words ends errors status
   -- the set that the words name is served, by the engine that is made from it
   serves : (source : Source) (set : ClearedSet) (served : Result ℕ SetFault)
       → AskFor words (serve source) → IsSetOf gives source set → Serves set MAX_READS served ends
-      → IfOk served (IsLeftTold (ask_quiet words) errors) → IsProgramRun gives holds words ends errors (status_of_serving served)
+      → IfOk served (IsLeftTold (ask_quiet words) errors) → IsProgramRun gives holds files words ends errors (status_of_serving served)
+  -- it is served over the journal that they name
+  keeps : (journal cell certificate : Text) (recipes : List Text) (set : ClearedSet) (digits : List ℕ) (status : ℕ)
+      → AskFor words (keep journal cell certificate recipes) → AreDigested gives cell certificate recipes set digits
+      → IsJournalRun files set digits journal ends status → IsProgramRun gives holds files words ends errors status
   -- what the record that the words name tells is printed, or what the input tells
   reads : (path : Option Text) (status : ℕ)
-      → AskFor words (tell path) → IsRecordTold holds path ends errors status → IsProgramRun gives holds words ends errors status
+      → AskFor words (tell path) → IsRecordTold holds path ends errors status → IsProgramRun gives holds files words ends errors status
   -- what is found of the record that the words name, against the lines of the input over the set that they name, is printed
   audits : (beginning : Bool) (path : Text) (source : Source) (set : ClearedSet) (status : ℕ)
       → AskFor words (audit beginning path source) → IsSetOf gives source set → IsAuditTold holds set beginning path ends errors status
-      → IsProgramRun gives holds words ends errors status
+      → IsProgramRun gives holds files words ends errors status
   -- the plant of the demo is run with the options that the words have, its end is told, and the input isn't read
   plants : (set : ClearedSet) (options : PlantOptions) (end : Result ℕ PlantFault) (status : ℕ)
       → AskFor words (plant options.batches options.ticks options.ring) → IsDemoSet set
       → IfOk end (HasRun set options.batches) → IsPlantTold (output_of ends) errors options.batches end status → Keeps ends.unread ends.left
-      → IsProgramRun gives holds words ends errors status
+      → IsProgramRun gives holds files words ends errors status
 
 -- Laws
 
 -- a run that was to serve and ends with status 0 has answered all lines of its input, by the engine of the set that its documents
 -- make, cleared by their certificate; AnswersAll says that what it wrote is a safe record. On the errors it has written nothing but
 -- how many batches the input left unfinished
-abbrev pub ServingIsSafe : Gives → Holds → Type 0
-ServingIsSafe gives holds =
+abbrev pub ServingIsSafe : Gives → Holds → JournalFiles → Type 0
+ServingIsSafe gives holds files =
     (words : List Text) (ends : serving.Ends) (errors : Stream) (source : Source)
-    → AskFor words (serve source) → IsProgramRun gives holds words ends errors 0
+    → AskFor words (serve source) → IsProgramRun gives holds files words ends errors 0
     → (set : ClearedSet) × (left : ℕ) × IsSetOf gives source set × AnswersAll set left ends × IsLeftTold (ask_quiet words) errors left
 
 -- a run of `audit` that ends with status 0 has written `accepted`, and what the record at its path holds is the record of the lines of
 -- the input, or begins it where that is accepted, over the set of its documents, cleared by their certificate
-abbrev pub AuditsAreTrue : Gives → Holds → Type 0
-AuditsAreTrue gives holds =
+abbrev pub AuditsAreTrue : Gives → Holds → JournalFiles → Type 0
+AuditsAreTrue gives holds files =
     (words : List Text) (ends : serving.Ends) (errors : Stream) (beginning : Bool) (path : Text) (source : Source)
-    → AskFor words (audit beginning path source) → IsProgramRun gives holds words ends errors 0
+    → AskFor words (audit beginning path source) → IsProgramRun gives holds files words ends errors 0
     → (set : ClearedSet) × (given : Option (List ℕ)) × IsSetOf gives source set × holds path given × Appends ends.before ends.after accepted_text
     × IfSome given (λ text. IfSome ends.unread (λ input. IsAccepted set beginning (lines_of input) text))
 
 -- a run of `plant` that ends with status 0 has written its three lines, and a record over the demo's set, of so many events as the
 -- third line says, leads to where the batches that were asked for are complete
-abbrev pub PlantsAreComplete : Gives → Holds → Type 0
-PlantsAreComplete gives holds =
+abbrev pub PlantsAreComplete : Gives → Holds → JournalFiles → Type 0
+PlantsAreComplete gives holds files =
     (words : List Text) (ends : serving.Ends) (errors : Stream) (batches ticks ring : ℕ)
-    → AskFor words (plant batches ticks ring) → IsProgramRun gives holds words ends errors 0
+    → AskFor words (plant batches ticks ring) → IsProgramRun gives holds files words ends errors 0
     → (set : ClearedSet) × (handled : ℕ) × IsDemoSet set × HasRun set batches handled × Appends ends.before ends.after (plant_text batches handled)

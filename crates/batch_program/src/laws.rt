@@ -1,29 +1,66 @@
 //! Laws over runs of the program.
 ghost use Rattle.batch_program.specs.Programs.{AuditsAreTrue, PlantsAreComplete, ServingIsSafe};
 
+use crate::journals::Journals;
 use crate::records::Records;
 use batch_commands::Documents;
 
 /// What the exit status 0 of a run that serves tells: the set is that of the documents, cleared by their certificate, all lines
 /// of the input were answered, and what was written is the text of a safe record.
-pub fn serving_is_safe<D: Documents + Records>(documents: &D)
-    ensures { ServingIsSafe (D.gives documents.now) (D.holds documents.now) }
+pub fn serving_is_safe<D: Documents + Records + Journals>(documents: &D)
+    ensures { ServingIsSafe (D.gives documents.now) (D.holds documents.now)
+        (record {
+          disks = record {
+            File = D.File;
+            is_disk = D.File.is_disk;
+            durable = D.File.durable;
+            seen = D.File.seen;
+            given = D.File.given;
+            moment = D.File.moment;
+            left_since = D.File.left_since;
+          };
+          opens = D.opens documents.now;
+        }) }
 {
     let _documents = documents;
 }
 
 /// What the exit status 0 of a run of `audit` tells: `accepted` was written, and the record is that of the lines of the input, or
 /// begins it where that is accepted, over the set of the documents, cleared by their certificate.
-pub fn audits_are_true<D: Documents + Records>(documents: &D)
-    ensures { AuditsAreTrue (D.gives documents.now) (D.holds documents.now) }
+pub fn audits_are_true<D: Documents + Records + Journals>(documents: &D)
+    ensures { AuditsAreTrue (D.gives documents.now) (D.holds documents.now)
+        (record {
+          disks = record {
+            File = D.File;
+            is_disk = D.File.is_disk;
+            durable = D.File.durable;
+            seen = D.File.seen;
+            given = D.File.given;
+            moment = D.File.moment;
+            left_since = D.File.left_since;
+          };
+          opens = D.opens documents.now;
+        }) }
 {
     let _documents = documents;
 }
 
 /// What the exit status 0 of a run of `plant` tells: the three lines were written, and a record over the demo's set, of so many
 /// events as the third line says, leads to where the batches are complete that were asked for.
-pub fn plants_are_complete<D: Documents + Records>(documents: &D)
-    ensures { PlantsAreComplete (D.gives documents.now) (D.holds documents.now) }
+pub fn plants_are_complete<D: Documents + Records + Journals>(documents: &D)
+    ensures { PlantsAreComplete (D.gives documents.now) (D.holds documents.now)
+        (record {
+          disks = record {
+            File = D.File;
+            is_disk = D.File.is_disk;
+            durable = D.File.durable;
+            seen = D.File.seen;
+            given = D.File.given;
+            moment = D.File.moment;
+            left_since = D.File.left_since;
+          };
+          opens = D.opens documents.now;
+        }) }
 {
     let _documents = documents;
 }

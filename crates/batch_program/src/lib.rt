@@ -1,6 +1,9 @@
 //! The program: what its words ask for, over files and streams. `main` of the program and of every stored run calls it.
 #![tactic(auto)]
 
+mod journal_faults;
+mod journals;
+mod keeping;
 mod laws;
 mod limits;
 mod noted;
@@ -16,6 +19,8 @@ mod statuses;
 mod steady_units;
 mod threads;
 
+pub use journals::Journals;
+pub use keeping::keep_journal;
 pub use laws::{audits_are_true, plants_are_complete, serving_is_safe};
 pub use limits::{read_limit_is_fixed, turn_limit_is_fixed};
 pub use noted::Noted;

@@ -39,8 +39,7 @@ pub fn run_on_files<T: Threads>(rt: &HostRuntime, threads: &T, words: &[String])
     let Ok(output) = BufWriter::with_capacity(alloc, OUTPUT_ROOM, io::writer(rt)) else {
         return complain(&mut errors, OUT_OF_MEMORY, NO_MEMORY);
     };
-    let mut output = Noted::new(output);
-    run_program(
+    let (status, _) = run_program(
         alloc,
         words,
         &FilesOf(rt),
@@ -49,9 +48,10 @@ pub fn run_on_files<T: Threads>(rt: &HostRuntime, threads: &T, words: &[String])
             clock: *rt,
         },
         &mut input,
-        &mut output,
+        Noted::new(output),
         &mut errors,
-    )
+    );
+    status
 }
 
 /// The words after the program's name.

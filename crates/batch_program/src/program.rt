@@ -2,6 +2,8 @@
 ghost use Rattle.std.specs.Prelude.{◌≡◌, IfOk, map, string_bytes};
 ghost use Rattle.batch_program.specs.Programs.{IsLeftTold, IsProgramRun, left_text, status_of_serving};
 
+use crate::journals::Journals;
+use crate::keeping::keep_journal;
 use crate::noted::Noted;
 use crate::plant::report_of_plant;
 use crate::plant_runner::PlantRunner;
@@ -28,43 +30,68 @@ struct Stop {
 }
 
 /// Does what the words ask for, and gives the exit status: judges documents, serves event lines from the input over the set
-/// that they name, tells what a record says or whether it is that of the lines that were sent, or has the demo's plant run.
+/// that they name, with a journal or without one, tells what a record says or whether it is that of the lines that were sent, or has the demo's plant run.
 ///
 /// Verdicts, help, the record, what one tells, what is found of one and the lines of a plant go to the output, and all else, in a free text, to the errors. Refused
 /// events are part of the record and don't change the status. Where the input ends while batches are neither complete, stopped
 /// nor aborted, one line on the errors says how many, unless quiet is asked for; where none is, nothing is written there.
-pub fn run_program<D: Documents + Records, P: PlantRunner, R: Read, W: Write, E: Write>(
+pub fn run_program<D: Documents + Records + Journals, P: PlantRunner, R: Read, W: Write, E: Write>(
     alloc: Global,
     words: &[String],
     documents: &D,
     plants: &P,
     input: &mut Noted<R>,
-    output: &mut Noted<W>,
+    mut output: Noted<W>,
     errors: &mut E,
-) -> u8
-    ensures { IsProgramRun (D.gives documents.now) (D.holds documents.now) (map string_bytes words.now)
+) -> (u8, Noted<W>)
+    ensures { IsProgramRun (D.gives documents.now) (D.holds documents.now)
+        (record {
+          disks = record {
+            File = D.File;
+            is_disk = D.File.is_disk;
+            durable = D.File.durable;
+            seen = D.File.seen;
+            given = D.File.given;
+            moment = D.File.moment;
+            left_since = D.File.left_since;
+          };
+          opens = D.opens documents.now;
+        })
+        (map string_bytes words.now)
         (record {
           unread = R.remaining input.old.stream;
           left = R.remaining input.new.stream;
-          before = W.contents output.old.stream;
-          after = W.contents output.new.stream;
+          before = W.contents output.stream;
+          after = W.contents result.1.stream;
         })
-        (record { before = E.contents errors.old; after = E.contents errors.new }) result }
+        (record { before = E.contents errors.old; after = E.contents errors.new }) result.0 }
 {
-    match run_words(alloc, words, documents, output, errors) {
-        Course::Ends(status) => status,
+    match run_words(alloc, words, documents, &mut output, errors) {
+        Course::Ends(status) => (status, output),
         Course::Serves { set, quiet } => {
-            let served = serve_set(alloc, set, input, output, MAX_READS);
-            let reason = reason_of(served, input, output);
-            tell_served(alloc, quiet, served, reason, errors)
+            let served = serve_set(alloc, set, input, &mut output, MAX_READS);
+            let reason = reason_of(served, input, &output);
+            (tell_served(alloc, quiet, served, reason, errors), output)
         }
-        Course::Reads { path } => tell_record(alloc, path, documents, input, output, errors),
+        Course::Keeps {
+            digested,
+            quiet,
+            path,
+        } => keep_journal(
+            alloc, digested, quiet, &path, documents, input, output, errors,
+        ),
+        Course::Reads { path } => {
+            let status = tell_record(alloc, path, documents, input, &mut output, errors);
+            (status, output)
+        }
         Course::Audits { set, audit } => {
-            audit_record(alloc, set, &audit, documents, input, output, errors)
+            let status = audit_record(alloc, set, &audit, documents, input, &mut output, errors);
+            (status, output)
         }
         Course::Plants { set, options } => {
             let end = plants.run_plant(alloc, set, options);
-            report_of_plant(alloc, options.batches, &end, output, errors)
+            let status = report_of_plant(alloc, options.batches, &end, &mut output, errors);
+            (status, output)
         }
     }
 }
@@ -103,7 +130,7 @@ fn tell_served<E: Write>(
 }
 
 /// Tells how many batches are neither complete, stopped nor aborted, where there are any and quiet isn't asked for.
-fn tell_left<E: Write>(alloc: Global, quiet: bool, left: usize, errors: &mut E)
+pub(crate) fn tell_left<E: Write>(alloc: Global, quiet: bool, left: usize, errors: &mut E)
     ensures { IsLeftTold quiet (record { before = E.contents errors.old; after = E.contents errors.new }) left }
 {
     if quiet || left == 0 {

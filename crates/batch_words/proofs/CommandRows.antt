@@ -52,6 +52,31 @@ run_taken : fault_of program_app run_line ≡ []
 unfolding clap_on_literals
 run_taken = refl
 
+-- a journal
+
+abbrev journal_line : List Text
+journal_line = codes "run" ∷ codes "--journal" ∷ codes "j" ∷ codes "c" ∷ codes "k" ∷ codes "r" ∷ []
+
+-- what was asked for, and the journal of the command that was entered, where there is one
+abbrev entered_journal : Option (Text × List Row) → Option (Text × Option Text × List Text)
+entered_journal = option_map (λ p. (p.0, first_of (codes "journal") p.1, words_of (codes "RECIPE") p.1))
+
+journal_is_read : entered_journal (subcommand_of program_app journal_line) ≡ Some (codes "run", Some (codes "j"), codes "r" ∷ [])
+unfolding clap_on_literals
+journal_is_read = refl
+
+journal_is_taken : fault_of program_app journal_line ≡ []
+unfolding clap_on_literals
+journal_is_taken = refl
+
+no_journal_is_read : entered_journal (subcommand_of program_app run_line) ≡ Some (codes "run", None, codes "r" ∷ [])
+unfolding clap_on_literals
+no_journal_is_read = refl
+
+verify_has_no_journal : fault_of program_app (codes "verify" ∷ codes "--journal" ∷ codes "j" ∷ codes "c" ∷ codes "k" ∷ []) ≡ UnknownArgument ∷ []
+unfolding clap_on_literals
+verify_has_no_journal = refl
+
 serve_is_unknown : fault_of program_app (codes "serve" ∷ []) ≡ UnknownArgument ∷ InvalidSubcommand ∷ []
 unfolding clap_on_literals
 serve_is_unknown = refl

@@ -1,4 +1,4 @@
--- trusted: the command line: `check CELL RECIPE..`, `verify CELL CERT RECIPE..`, `show CELL RECIPE..`, `run CELL CERT RECIPE..`, `status RECORD`, `audit RECORD CELL CERT RECIPE..`, `plant`, `explain CODE..`, and no words at all.
+-- trusted: the command line: `check CELL RECIPE..`, `verify CELL CERT RECIPE..`, `show CELL RECIPE..`, `run [--journal FILE] CELL CERT RECIPE..`, `status RECORD`, `audit RECORD CELL CERT RECIPE..`, `plant`, `explain CODE..`, and no words at all.
 use Rattle.std.specs.Prelude.{◌≡◌, ◌≢◌, ◌⊎◌, [], ℕ, Bool, List, Option, Some, None, map, option_map, codes, true, false, unwrap_or, string_bytes, if◌then◌else◌, ⊤}
 use Rattle.std.specs.Str.{bytes_eq}
 use Rattle.std.specs.Str.Parse.{digits_value, without_leading_plus}
@@ -12,7 +12,7 @@ use Rattle.clap.specs.declared.builder.value_parser.ValueParser.TheVariants.{Uns
 use Rattle.clap.specs.declared.error.kind.ErrorKind.{ErrorKind}
 use Rattle.clap.specs.declared.error.kind.ErrorKind.TheVariants.{DisplayHelp, DisplayVersion, OutOfMemory}
 use Rattle.batch_words.specs.declared.command.Subcommand.{Subcommand}
-use Rattle.batch_words.specs.declared.command.Subcommand.TheVariants.{Judge, Serve, Status, Audit, Plant, Explain}
+use Rattle.batch_words.specs.declared.command.Subcommand.TheVariants.{Judge, Serve, Status, Audit, Plant, Explain, Keep}
 use Rattle.batch_words.specs.declared.command.Judgement as judgements
 use Rattle.batch_words.specs.declared.command.Judgement.TheVariants.{Check, Draw, Verify, Show}
 use Rattle.batch_words.specs.declared.command.Source as sources
@@ -50,11 +50,15 @@ number_rule name least most = record (new_rule name) {
   parser = Some (Unsigned least most);
 }
 
+-- an option that takes a path, as `--journal FILE`
+abbrev pub path_rule : Text → Rule
+path_rule name = record (new_rule name) { long = Some name; value_names = 1; action = Some Set }
+
 abbrev pub check_app : App
 check_app = with_rule (with_rule (with_rule (with_rule (new_app (codes "check"))
     (word_rule (codes "CELL"))) (several_rule (codes "RECIPE"))) (flag_rule (codes "dot"))) (flag_rule (codes "quiet"))
 
--- `verify` and `run`, by the name
+-- `verify`, and `run` without its option, by the name
 abbrev pub certified_app : Text → App
 certified_app name = with_rule (with_rule (with_rule (with_rule (new_app name)
     (word_rule (codes "CELL"))) (word_rule (codes "CERT"))) (several_rule (codes "RECIPE"))) (flag_rule (codes "quiet"))
@@ -62,6 +66,9 @@ certified_app name = with_rule (with_rule (with_rule (with_rule (new_app name)
 abbrev pub show_app : App
 show_app = with_rule (with_rule (with_rule (new_app (codes "show"))
     (word_rule (codes "CELL"))) (several_rule (codes "RECIPE"))) (flag_rule (codes "quiet"))
+
+abbrev pub run_app : App
+run_app = with_rule (certified_app (codes "run")) (path_rule (codes "journal"))
 
 abbrev pub status_app : App
 status_app = with_rule (new_app (codes "status")) (optional_rule (codes "RECORD"))
@@ -85,7 +92,7 @@ bare_app = on_top (λ s. record s { has_version = true; no_binary_name = true })
 abbrev pub program_app : App
 program_app =
     with_subcommand (with_subcommand (with_subcommand (with_subcommand (with_subcommand (with_subcommand (with_subcommand (with_subcommand bare_app
-    check_app.top) (certified_app (codes "verify")).top) show_app.top) (certified_app (codes "run")).top) status_app.top) audit_app.top) plant_app.top)
+    check_app.top) (certified_app (codes "verify")).top) show_app.top) run_app.top) status_app.top) audit_app.top) plant_app.top)
     explain_app.top
 
 -- the word that was given for an argument
@@ -136,6 +143,8 @@ pub data Source : Type 0 where
 pub data Request : Type 0 where
   judge : Judgement → Request
   serve : Source → Request
+  -- to serve that of the documents at these paths, with a journal in the file at the first one
+  keep : (journal cell certificate : Text) (recipes : List Text) → Request
   -- to tell what the record at this path says, or the one on standard input
   tell : (path : Option Text) → Request
   -- to compare the record at this path with what event lines come to over a set; a record that only begins it may be accepted
@@ -155,12 +164,17 @@ checked_by rows =
 abbrev pub shown_by : List Row → Request
 shown_by rows = judge (show (word_of (codes "CELL") rows) (words_of (codes "RECIPE") rows))
 
+-- with a journal where one is named
+abbrev pub run_by : Option Text → List Row → Request
+run_by None rows = serve (documents (word_of (codes "CELL") rows) (word_of (codes "CERT") rows) (words_of (codes "RECIPE") rows))
+run_by (Some journal) rows = keep journal (word_of (codes "CELL") rows) (word_of (codes "CERT") rows) (words_of (codes "RECIPE") rows)
+
 -- what the words behind `verify` or `run` ask for
 abbrev pub certified_by : Text → List Row → Request
 certified_by name rows =
     if bytes_eq name (codes "verify")
     then judge (verify (word_of (codes "CELL") rows) (word_of (codes "CERT") rows) (words_of (codes "RECIPE") rows))
-    else serve (documents (word_of (codes "CELL") rows) (word_of (codes "CERT") rows) (words_of (codes "RECIPE") rows))
+    else run_by (first_of (codes "journal") rows) rows
 
 -- what the words behind `audit` ask for
 abbrev pub audited_by : List Row → Request
@@ -201,6 +215,7 @@ source_of (Documents cell certificate recipes) = documents (string_bytes cell) (
 abbrev pub request_of : Subcommand → Request
 request_of (Judge judgement) = judge (judgement_of judgement)
 request_of (Serve source) = serve (source_of source)
+request_of (Keep journal cell certificate recipes) = keep (string_bytes journal) (string_bytes cell) (string_bytes certificate) (map string_bytes recipes.items)
 request_of (Status path) = tell (option_map string_bytes path)
 request_of (Audit words) = audit words.beginning (string_bytes words.path) (source_of words.source)
 request_of (Plant options) = plant options.batches options.ticks options.ring

@@ -21,14 +21,25 @@ pub enum Subcommand {
     Judge(Judgement),
     /// To serve event lines from standard input over a set.
     Serve(Source),
+    /// To serve them over the set of the documents at these paths, with a journal of them in the file at the first one.
+    Keep {
+        journal: String,
+        cell: String,
+        certificate: String,
+        recipes: Vec<String>,
+    },
     /// To tell what a record says: the one at this path, or the one on standard input.
-    Status { path: Option<String> },
+    Status {
+        path: Option<String>,
+    },
     /// To compare a record with what event lines from standard input come to over a set.
     Audit(AuditWords),
     /// To run the demo's plant: its hub in the thread that calls, its console and its link to the units in threads of their own.
     Plant(PlantOptions),
     /// To say what the first code in these texts means, or where there are none what all codes mean.
-    Explain { texts: Vec<String> },
+    Explain {
+        texts: Vec<String>,
+    },
 }
 
 /// An audit.

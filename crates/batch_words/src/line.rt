@@ -3,7 +3,7 @@ ghost use Rattle.std.specs.Prelude.{◌≡◌, IfOk, IsOkAnd, codes, false};
 ghost use Rattle.clap.specs.Words.{app_of, rule_of};
 ghost use Rattle.clap.specs.Words.{AddsSubcommand};
 ghost use Rattle.clap.specs.declared.builder.command.Command.TheViews.{out-Command};
-ghost use Rattle.batch_words.specs.CommandLine.{audit_app, bare_app, certified_app, check_app, explain_app, flag_rule, number_rule, optional_rule, plant_app, program_app, several_rule, status_app, word_rule, show_app};
+ghost use Rattle.batch_words.specs.CommandLine.{audit_app, bare_app, certified_app, check_app, explain_app, flag_rule, number_rule, optional_rule, plant_app, program_app, several_rule, status_app, word_rule, show_app, path_rule, run_app};
 
 use clap::builder::ValueParser;
 use clap::{Arg, ArgAction, Command};
@@ -56,6 +56,9 @@ An example, in examples/paint_plant; type the lines below it:
   create PRIMER 1000
   start 1
   report MIXER1 CHARGE done
+
+The same with a journal, from which the next start brings the plant back:
+  batchd run --journal day.journal cell.toml certificate.txt primer.toml rinse-mended.toml
 ";
 
 const STATUS_HELP: &str = "\
@@ -152,11 +155,15 @@ fn show<'a>(alloc: Global) -> Result<Command<'a>, AllocError>
 }
 
 fn run<'a>(alloc: Global) -> Result<Command<'a>, AllocError>
-    ensures { IfOk result (λ run. (app_of run ≡ certified_app (codes "run")) × ((out-Command run).has_globals ≡ false)) }
+    ensures { IfOk result (λ run. (app_of run ≡ run_app) × ((out-Command run).has_globals ≡ false)) }
 {
     let about =
         "Serves event lines from standard input over the recipes that the certificate clears";
-    certified(alloc, "run", about, RUN_HELP)
+    certified(alloc, "run", about, RUN_HELP)?.arg(path(
+        alloc,
+        "journal",
+        "Writes each event line to this file before it is answered, and begins where the file ends",
+    ))
 }
 
 /// A command over a cell, a certificate and recipes.
@@ -293,6 +300,18 @@ fn number<'a>(alloc: Global, name: &'a str, least: u64, most: u64, help: &'a str
         .value_name("N")
         .action(ArgAction::Set)
         .value_parser(ValueParser::unsigned(least, most))
+        .help(help)
+}
+
+/// An option that takes a path.
+fn path<'a>(alloc: Global, name: &'a str, help: &'a str) -> Arg<'a>
+    ensures rule { rule_of result ≡ path_rule name.entry.now }
+    ensures local { result.global ≡ false }
+{
+    Arg::new(alloc, name)
+        .long(name)
+        .value_name("FILE")
+        .action(ArgAction::Set)
         .help(help)
 }
 

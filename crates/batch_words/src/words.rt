@@ -121,18 +121,25 @@ fn certified_command(
     let cell = word(alloc, words, "CELL")?;
     let certificate = word(alloc, words, "CERT")?;
     let recipes = several(alloc, words, "RECIPE")?;
-    Ok(if name == "verify" {
-        Subcommand::Judge(Judgement::Verify {
+    if name == "verify" {
+        return Ok(Subcommand::Judge(Judgement::Verify {
             cell,
             certificate,
             recipes,
-        })
-    } else {
-        Subcommand::Serve(Source::Documents {
+        }));
+    }
+    Ok(match optional(alloc, words, "journal")? {
+        Some(journal) => Subcommand::Keep {
+            journal,
             cell,
             certificate,
             recipes,
-        })
+        },
+        None => Subcommand::Serve(Source::Documents {
+            cell,
+            certificate,
+            recipes,
+        }),
     })
 }
 

@@ -20,6 +20,8 @@ mod faults;
 #[cfg(test)]
 mod journalled;
 #[cfg(test)]
+mod kept;
+#[cfg(test)]
 mod record_lines;
 #[cfg(test)]
 mod records;

@@ -1,7 +1,7 @@
 use Rattle.std.proofs.Common.{map, refl, string_bytes}
 use Rattle.std.proofs.KnownBytes.{Keeps-refl}
 use Rattle.batch_words.specs.CommandLine.{judgement_of, source_of}
-use Rattle.batch_commands.specs.Running.{audits, explains, halts, judges, plants, reads, serves}
+use Rattle.batch_commands.specs.Running.{audits, explains, halts, judges, plants, reads, serves, keeps}
 use Rattle.batch_commands.proofs.Warned.{silent}
 use Rattle.batch_commands.proofs.running.run_command.Goals as goal
 
@@ -24,6 +24,21 @@ returns-in-Serve g c =
     rw c.in-Serve.is
     (halts c.in-Err-clear_source.halt _ _ (rw c.in-Serve.source-is at c.in-Err-clear_source.ensures.halted, silent _ _)
     c.announce-in-Err-clear_source.ensures)
+
+pub returns-in-Ok-clear_digested : goal.returns-in-Ok-clear_digested
+returns-in-Ok-clear_digested g c =
+    rw c.in-Keep.is
+    (keeps (string_bytes c.in-Keep.cell) (string_bytes c.in-Keep.certificate) (map string_bytes c.in-Keep.recipes.items) c.in-Keep.journal
+    c.in-Ok-clear_digested.digested refl
+    (rw (c.deref-in-Keep.ensures, c.deref-in-Keep-2.ensures, c.deref-in-Keep-3.ensures.value, c.in-Keep.cell-is, c.in-Keep.certificate-is, c.in-Keep.recipes-is) at c.in-Ok-clear_digested.ensures.digested)
+    (Keeps-refl _) (Keeps-refl _))
+
+pub returns-in-Keep : goal.returns-in-Keep
+returns-in-Keep g c =
+    rw c.in-Keep.is
+    (halts c.in-Err-clear_digested.halt _ _
+    (rw (c.deref-in-Keep.ensures, c.deref-in-Keep-2.ensures, c.deref-in-Keep-3.ensures.value, c.in-Keep.cell-is, c.in-Keep.certificate-is, c.in-Keep.recipes-is) at c.in-Err-clear_digested.ensures.halted, silent _ _)
+    c.announce-in-Err-clear_digested.ensures)
 
 pub returns-in-Status : goal.returns-in-Status
 returns-in-Status g c = rw c.in-Status.is (reads c.in-Status.path refl (Keeps-refl _) (Keeps-refl _))

@@ -1,9 +1,9 @@
 use Rattle.std.proofs.Common.{◌≡◌, take, refl, sym, ◌∙◌, ap, subst}
 use Rattle.batch_journal.specs.Disks.{Left}
 use Rattle.batch_journal.specs.Journals.{recovered}
-use Rattle.batch_journal.proofs.CrashLemmas.{leaves_all}
+use Rattle.batch_journal.specs.Recovery.{KeepsLines}
 use Rattle.batch_journal.proofs.MomentLemmas.{started, goes_on}
-use Rattle.batch_journal.proofs.RecoveryLemmas.{left_cut, left_header}
+use Rattle.batch_journal.proofs.RecoveryLemmas.{keeps_all, left_cut, left_header}
 use Rattle.batch_journal.proofs.recovery.begin.Goals as goal
 
 pub returns-then-is_err-clause-any_moment : goal.returns-then-is_err-clause-any_moment
@@ -11,18 +11,18 @@ returns-then-is_err-clause-any_moment g c = λ d.
     let D = g.D.Disk in
     let old = c.args.disk.now in
     let documents = c.args.documents.now in
-    let P : Left → Type 0 = λ left. recovered documents left.file ≡ recovered documents (D.seen old) in
-    started D.moment D.left_since old P (λ left since. ap (recovered documents) (leaves_all _ _ _ left (c.requires.synced d).0 (g.met.D.Disk.only_now old left d since)))
+    let P : Left → Type 0 = KeepsLines documents (D.seen old) (D.given old) in
+    started D.moment D.left_since old P (λ left since. keeps_all documents _ _ _ left (c.requires.synced d).0 (g.met.D.Disk.only_now old left d since))
 
 pub returns-in_err-cut-clause-any_moment : goal.returns-in_err-cut-clause-any_moment
 returns-in_err-cut-clause-any_moment g c = λ d1.
     let D = g.D.Disk in
     let old = c.args.disk.now in
     let documents = c.args.documents.now in
-    let P : Left → Type 0 = λ left. recovered documents left.file ≡ recovered documents (D.seen old) in
+    let P : Left → Type 0 = KeepsLines documents (D.seen old) (D.given old) in
     let d = c.cut.ensures.stays d1 in
     let none = ap (recovered documents) (c.requires.synced d).1 ∙ c.requires.unbegun in
-    let start = started D.moment D.left_since old P (λ left since. ap (recovered documents) (leaves_all _ _ _ left (c.requires.synced d).0 (g.met.D.Disk.only_now old left d since))) in
+    let start = started D.moment D.left_since old P (λ left since. keeps_all documents _ _ _ left (c.requires.synced d).0 (g.met.D.Disk.only_now old left d since)) in
     goes_on D.moment D.left_since old old c.cut.new.self P _ start (c.cut.ensures.time d1) (λ left may. left_cut documents (D.seen old) none _ left may)
 
 pub returns-in_err-append-clause-any_moment : goal.returns-in_err-append-clause-any_moment
@@ -30,48 +30,50 @@ returns-in_err-append-clause-any_moment g c = λ d2.
     let D = g.D.Disk in
     let old = c.args.disk.now in
     let documents = c.args.documents.now in
-    let P : Left → Type 0 = λ left. recovered documents left.file ≡ recovered documents (D.seen old) in
+    let P : Left → Type 0 = KeepsLines documents (D.seen old) (D.given old) in
     let d1 = c.append.ensures.stays d2 in
     let d = c.cut.ensures.stays d1 in
     let none = ap (recovered documents) (c.requires.synced d).1 ∙ c.requires.unbegun in
-    let start = started D.moment D.left_since old P (λ left since. ap (recovered documents) (leaves_all _ _ _ left (c.requires.synced d).0 (g.met.D.Disk.only_now old left d since))) in
+    let start = started D.moment D.left_since old P (λ left since. keeps_all documents _ _ _ left (c.requires.synced d).0 (g.met.D.Disk.only_now old left d since)) in
     let one = goes_on D.moment D.left_since old old c.cut.new.self P _ start (c.cut.ensures.time d1) (λ left may. left_cut documents (D.seen old) none _ left may) in
     let cut = c.in_ok-cut.ensures.cut d1 in
     goes_on D.moment D.left_since old c.cut.new.self c.append.new.self P _ one (c.append.ensures.time d2)
-    (λ left may. left_header documents (D.seen old) none _ _ _ _ _ left cut.1 cut.0 c.header_text-header.ensures refl may)
+    (λ left may. left_header documents (D.seen old) none _ _ _ _ _ _ left cut.1 cut.0 c.header_text-header.ensures refl (c.cut.ensures.given d1) may)
 
 pub returns-in_err-sync-clause-any_moment : goal.returns-in_err-sync-clause-any_moment
 returns-in_err-sync-clause-any_moment g c = λ d3.
     let D = g.D.Disk in
     let old = c.args.disk.now in
     let documents = c.args.documents.now in
-    let P : Left → Type 0 = λ left. recovered documents left.file ≡ recovered documents (D.seen old) in
+    let P : Left → Type 0 = KeepsLines documents (D.seen old) (D.given old) in
     let d2 = c.sync.ensures.stays d3 in
     let d1 = c.append.ensures.stays d2 in
     let d = c.cut.ensures.stays d1 in
     let none = ap (recovered documents) (c.requires.synced d).1 ∙ c.requires.unbegun in
-    let start = started D.moment D.left_since old P (λ left since. ap (recovered documents) (leaves_all _ _ _ left (c.requires.synced d).0 (g.met.D.Disk.only_now old left d since))) in
+    let start = started D.moment D.left_since old P (λ left since. keeps_all documents _ _ _ left (c.requires.synced d).0 (g.met.D.Disk.only_now old left d since)) in
     let one = goes_on D.moment D.left_since old old c.cut.new.self P _ start (c.cut.ensures.time d1) (λ left may. left_cut documents (D.seen old) none _ left may) in
     let cut = c.in_ok-cut.ensures.cut d1 in
     let two = goes_on D.moment D.left_since old c.cut.new.self c.append.new.self P _ one (c.append.ensures.time d2)
-    (λ left may. left_header documents (D.seen old) none _ _ _ _ _ left cut.1 cut.0 c.header_text-header.ensures refl may) in
+    (λ left may. left_header documents (D.seen old) none _ _ _ _ _ _ left cut.1 cut.0 c.header_text-header.ensures refl (c.cut.ensures.given d1) may) in
     goes_on D.moment D.left_since old c.append.new.self c.sync.new.self P _ two (c.sync.ensures.time d3)
-    (λ left may. left_header documents (D.seen old) none _ _ _ _ _ left ((c.in_ok-append.ensures.others d2).0 ∙ cut.1) cut.0 c.header_text-header.ensures (c.in_ok-append.ensures.written d2) may)
+    (λ left may. left_header documents (D.seen old) none _ _ _ _ _ _ left ((c.in_ok-append.ensures.others d2).0 ∙ cut.1) cut.0 c.header_text-header.ensures (c.in_ok-append.ensures.written d2)
+    (c.append.ensures.given d2 ∙ c.cut.ensures.given d1) may)
 
 pub returns-clause-any_moment : goal.returns-clause-any_moment
 returns-clause-any_moment g c = λ d3.
     let D = g.D.Disk in
     let old = c.args.disk.now in
     let documents = c.args.documents.now in
-    let P : Left → Type 0 = λ left. recovered documents left.file ≡ recovered documents (D.seen old) in
+    let P : Left → Type 0 = KeepsLines documents (D.seen old) (D.given old) in
     let d2 = c.sync.ensures.stays d3 in
     let d1 = c.append.ensures.stays d2 in
     let d = c.cut.ensures.stays d1 in
     let none = ap (recovered documents) (c.requires.synced d).1 ∙ c.requires.unbegun in
-    let start = started D.moment D.left_since old P (λ left since. ap (recovered documents) (leaves_all _ _ _ left (c.requires.synced d).0 (g.met.D.Disk.only_now old left d since))) in
+    let start = started D.moment D.left_since old P (λ left since. keeps_all documents _ _ _ left (c.requires.synced d).0 (g.met.D.Disk.only_now old left d since)) in
     let one = goes_on D.moment D.left_since old old c.cut.new.self P _ start (c.cut.ensures.time d1) (λ left may. left_cut documents (D.seen old) none _ left may) in
     let cut = c.in_ok-cut.ensures.cut d1 in
     let two = goes_on D.moment D.left_since old c.cut.new.self c.append.new.self P _ one (c.append.ensures.time d2)
-    (λ left may. left_header documents (D.seen old) none _ _ _ _ _ left cut.1 cut.0 c.header_text-header.ensures refl may) in
+    (λ left may. left_header documents (D.seen old) none _ _ _ _ _ _ left cut.1 cut.0 c.header_text-header.ensures refl (c.cut.ensures.given d1) may) in
     goes_on D.moment D.left_since old c.append.new.self c.sync.new.self P _ two (c.sync.ensures.time d3)
-    (λ left may. left_header documents (D.seen old) none _ _ _ _ _ left ((c.in_ok-append.ensures.others d2).0 ∙ cut.1) cut.0 c.header_text-header.ensures (c.in_ok-append.ensures.written d2) may)
+    (λ left may. left_header documents (D.seen old) none _ _ _ _ _ _ left ((c.in_ok-append.ensures.others d2).0 ∙ cut.1) cut.0 c.header_text-header.ensures (c.in_ok-append.ensures.written d2)
+    (c.append.ensures.given d2 ∙ c.cut.ensures.given d1) may)

@@ -1,7 +1,7 @@
 use Rattle.std.proofs.Common.{◌≡◌, refl, sym, ◌∙◌, ap, subst}
 use Rattle.batch_journal.specs.Disks.{Left, MayLeave}
-use Rattle.batch_journal.specs.Journals.{recovered}
-use Rattle.batch_journal.proofs.CrashLemmas.{leaves_all}
+use Rattle.batch_journal.specs.Recovery.{KeepsLines}
+use Rattle.batch_journal.proofs.RecoveryLemmas.{keeps_all, keeps_same}
 use Rattle.batch_journal.proofs.MomentLemmas.{started, goes_on, then_run}
 use Rattle.batch_journal.proofs.recovery.recover.Goals as goal
 
@@ -11,8 +11,8 @@ returns-in_err-text-clause-any_moment g c = λ d1.
     let D = g.D.Disk in
     let old = c.args.disk.now in
     let documents = c.args.documents.now in
-    let P : Left → Type 0 = λ left. recovered documents left.file ≡ recovered documents (D.seen old) in
-    let here : (left : Left) → MayLeave (D.durable old) (D.seen old) (D.given old) left → P left = λ left may. ap (recovered documents) (leaves_all _ _ _ left (c.requires d) may) in
+    let P : Left → Type 0 = KeepsLines documents (D.seen old) (D.given old) in
+    let here : (left : Left) → MayLeave (D.durable old) (D.seen old) (D.given old) left → P left = λ left may. keeps_all documents _ _ _ left (c.requires d) may in
     goes_on D.moment D.left_since old old c.read.new.self P _ (started D.moment D.left_since old P (λ left since. here left (g.met.D.Disk.only_now old left d since))) (c.read.ensures.time d1) here
 
 pub returns-in_err-taken-clause-any_moment : goal.returns-in_err-taken-clause-any_moment
@@ -21,8 +21,8 @@ returns-in_err-taken-clause-any_moment g c = λ d1.
     let D = g.D.Disk in
     let old = c.args.disk.now in
     let documents = c.args.documents.now in
-    let P : Left → Type 0 = λ left. recovered documents left.file ≡ recovered documents (D.seen old) in
-    let here : (left : Left) → MayLeave (D.durable old) (D.seen old) (D.given old) left → P left = λ left may. ap (recovered documents) (leaves_all _ _ _ left (c.requires d) may) in
+    let P : Left → Type 0 = KeepsLines documents (D.seen old) (D.given old) in
+    let here : (left : Left) → MayLeave (D.durable old) (D.seen old) (D.given old) left → P left = λ left may. keeps_all documents _ _ _ left (c.requires d) may in
     goes_on D.moment D.left_since old old c.read.new.self P _ (started D.moment D.left_since old P (λ left since. here left (g.met.D.Disk.only_now old left d since))) (c.read.ensures.time d1) here
 
 pub returns-in-Some-clause-any_moment : goal.returns-in-Some-clause-any_moment
@@ -32,10 +32,10 @@ returns-in-Some-clause-any_moment g c = λ d2.
     let D = g.D.Disk in
     let old = c.args.disk.now in
     let documents = c.args.documents.now in
-    let P : Left → Type 0 = λ left. recovered documents left.file ≡ recovered documents (D.seen old) in
-    let here : (left : Left) → MayLeave (D.durable old) (D.seen old) (D.given old) left → P left = λ left may. ap (recovered documents) (leaves_all _ _ _ left (c.requires d) may) in
+    let P : Left → Type 0 = KeepsLines documents (D.seen old) (D.given old) in
+    let here : (left : Left) → MayLeave (D.durable old) (D.seen old) (D.given old) left → P left = λ left may. keeps_all documents _ _ _ left (c.requires d) may in
     let one = goes_on D.moment D.left_since old old c.read.new.self P _ (started D.moment D.left_since old P (λ left since. here left (g.met.D.Disk.only_now old left d since))) (c.read.ensures.time d1) here in
-    then_run D.moment D.left_since old c.read.new.self c.cut_behind.new.disk P _ one (c.cut_behind.ensures.any_moment d2) (λ left so. so ∙ ap (recovered documents) (c.read.ensures.others d1).1)
+    then_run D.moment D.left_since old c.read.new.self c.cut_behind.new.disk P _ one (c.cut_behind.ensures.any_moment d2) (λ left so. keeps_same documents _ _ _ _ left (c.read.ensures.others d1).1 (c.read.ensures.others d1).2 so)
 
 pub returns-in-None-clause-any_moment : goal.returns-in-None-clause-any_moment
 returns-in-None-clause-any_moment g c = λ d2.
@@ -44,7 +44,7 @@ returns-in-None-clause-any_moment g c = λ d2.
     let D = g.D.Disk in
     let old = c.args.disk.now in
     let documents = c.args.documents.now in
-    let P : Left → Type 0 = λ left. recovered documents left.file ≡ recovered documents (D.seen old) in
-    let here : (left : Left) → MayLeave (D.durable old) (D.seen old) (D.given old) left → P left = λ left may. ap (recovered documents) (leaves_all _ _ _ left (c.requires d) may) in
+    let P : Left → Type 0 = KeepsLines documents (D.seen old) (D.given old) in
+    let here : (left : Left) → MayLeave (D.durable old) (D.seen old) (D.given old) left → P left = λ left may. keeps_all documents _ _ _ left (c.requires d) may in
     let one = goes_on D.moment D.left_since old old c.read.new.self P _ (started D.moment D.left_since old P (λ left since. here left (g.met.D.Disk.only_now old left d since))) (c.read.ensures.time d1) here in
-    then_run D.moment D.left_since old c.read.new.self c.begin.new.disk P _ one (c.begin.ensures.any_moment d2) (λ left so. so ∙ ap (recovered documents) (c.read.ensures.others d1).1)
+    then_run D.moment D.left_since old c.read.new.self c.begin.new.disk P _ one (c.begin.ensures.any_moment d2) (λ left so. keeps_same documents _ _ _ _ left (c.read.ensures.others d1).1 (c.read.ensures.others d1).2 so)

@@ -1,4 +1,13 @@
+use Rattle.std.specs.Prelude.{⊤}
+use Rattle.batch_journal.specs.Journals.{recovered}
+use Rattle.batch_journal.specs.Lines.{text_of}
 use Rattle.batch_keep.proofs.holding.serve_holding.Given as goal
 
-abbrev pub ghosts-serve_holding_at : goal.ghosts-serve_holding_at
-ghosts-serve_holding_at g a = record { contents = g.W.Write.contents a.writer }
+abbrev pub ghosts-serve_started : goal.ghosts-serve_started
+ghosts-serve_started g a = record {
+  documents = a.journal.documents;
+  base = text_of (recovered a.journal.documents (g.D.Disk.seen a.journal.disk));
+  since = g.D.Disk.moment a.journal.disk;
+  input = g.R.Read.remaining a.input;
+  was = ⊤;
+}

@@ -6,21 +6,21 @@ use Rattle.batch_keep.proofs.Telling.{ok_is, on_told, tells_known_transcript}
 use Rattle.batch_keep.proofs.holding.serve_holding_at.Goals as goal
 
 pub returns-in-Ok-clause-never_lost : goal.returns-in-Ok-clause-never_lost
-returns-in-Ok-clause-never_lost g c = λ d all known.
-    let disk = c.serve_journalled-served.result.1 in
-    never_lost (setup c.args.engine.now.cleared) (plant_of c.args.engine.now) c.args.journal.documents (g.D.Disk.seen c.args.journal.disk) (g.D.Disk.durable disk) (g.D.Disk.seen disk)
-    (g.D.Disk.given disk) g.C.Start.contents _ _ _
-    (c.new-held.ensures ∙ ap (λ (known_first : Option (List ℕ)). append_known known_first []) (sym c.requires.first)) c.finish-told.ensures.clear (c.serve_journalled-served.ensures.again d all known)
+returns-in-Ok-clause-never_lost g c = λ d known all start is base.
+    let disk = c.serve_at-served.result.1 in
+    never_lost (setup c.args.engine.now.cleared) (plant_of c.args.engine.now) g.C.Run.documents start (g.D.Disk.durable disk) (g.D.Disk.seen disk)
+    (g.D.Disk.given disk) g.S.Start.contents _ _ _
+    (c.new-held.ensures ∙ ap (λ (known_first : Option (List ℕ)). append_known known_first []) (sym c.requires.first)) c.finish-told.ensures.clear (c.serve_at-served.ensures.again d known all start is base)
 
 pub returns-in-Ok-clause-served : goal.returns-in-Ok-clause-served
 returns-in-Ok-clause-served g c =
     on_told c.told_outcome.result c.finish-told.result.0 _ _ c.told_outcome.ensures c.finish-told.ensures.all (λ tells.
-    tells_known_transcript (setup c.args.engine.now.cleared) (plant_of c.args.engine.now) _ _ g.C.Start.contents _ _ _ c.transcripts_are_whole.ensures
-    (c.new-held.ensures ∙ ap (λ (known_first : Option (List ℕ)). append_known known_first []) (sym c.requires.first)) tells (ok_is c.serve_journalled-served.result.0 _ _ c.in-Ok.is c.serve_journalled-served.ensures.served))
+    tells_known_transcript (setup c.args.engine.now.cleared) (plant_of c.args.engine.now) _ _ g.S.Start.contents _ _ _ c.transcripts_are_whole.ensures
+    (c.new-held.ensures ∙ ap (λ (known_first : Option (List ℕ)). append_known known_first []) (sym c.requires.first)) tells (ok_is c.serve_at-served.result.0 _ _ c.in-Ok.is c.serve_at-served.ensures.served))
 
 pub returns-in-Err-clause-never_lost : goal.returns-in-Err-clause-never_lost
-returns-in-Err-clause-never_lost g c = λ d all known.
-    let disk = c.serve_journalled-served.result.1 in
-    never_lost (setup c.args.engine.now.cleared) (plant_of c.args.engine.now) c.args.journal.documents (g.D.Disk.seen c.args.journal.disk) (g.D.Disk.durable disk) (g.D.Disk.seen disk)
-    (g.D.Disk.given disk) g.C.Start.contents _ _ _
-    (c.new-held.ensures ∙ ap (λ (known_first : Option (List ℕ)). append_known known_first []) (sym c.requires.first)) c.into_inner.ensures (c.serve_journalled-served.ensures.again d all known)
+returns-in-Err-clause-never_lost g c = λ d known all start is base.
+    let disk = c.serve_at-served.result.1 in
+    never_lost (setup c.args.engine.now.cleared) (plant_of c.args.engine.now) g.C.Run.documents start (g.D.Disk.durable disk) (g.D.Disk.seen disk)
+    (g.D.Disk.given disk) g.S.Start.contents _ _ _
+    (c.new-held.ensures ∙ ap (λ (known_first : Option (List ℕ)). append_known known_first []) (sym c.requires.first)) c.into_inner.ensures (c.serve_at-served.ensures.again d known all start is base)

@@ -8,8 +8,8 @@ on_ok : {A E : Type 0} (r : Result A E) (P Q : Type 0) → (P → Q) → OnOk r 
 on_ok (Ok x) P Q f p = f p
 on_ok (Err e) P Q f p = tt
 
-pub returns : goal.returns
-returns g c =
+pub returns-clause-served : goal.returns-clause-served
+returns-clause-served g c =
     let text = c.args.text.now in
     let documents = c.args.documents.now in
     let size : length documents ≡ 64 = omega arith in

@@ -1,3 +1,4 @@
+use Rattle.std.specs.Prelude.{⊤}
 use Rattle.batch_journal.specs.Journals.{recovered}
 use Rattle.batch_journal.specs.Lines.{text_of}
 use Rattle.batch_keep.proofs.serving.serve_journalled.Given as goal
@@ -8,4 +9,5 @@ ghosts-serve_at g a = record {
   base = text_of (recovered a.journal.documents (g.D.Disk.seen a.journal.disk));
   since = g.D.Disk.moment a.journal.disk;
   input = g.R.Read.remaining a.input;
+  was = ⊤;
 }

@@ -1,10 +1,10 @@
 use Rattle.std.proofs.Common.{map, option_map, string_bytes}
 use Rattle.std.proofs.KnownBytes.{Keeps-refl}
 use Rattle.batch_words.specs.CommandLine.{source_of}
-use Rattle.batch_program.specs.Programs.{tells, serves, reads, audits, plants}
+use Rattle.batch_program.specs.Programs.{tells, serves, keeps, reads, audits, plants}
 use Rattle.batch_program.specs.declared.program.TheConstants.{MAX_READS}
 use Rattle.batch_program.proofs.Plants.{has_run}
-use Rattle.batch_program.proofs.Served.{audit_kept, left_kept, plant_to_run, record_kept, record_to_read, served_kept, set_to_audit, set_to_serve, told_kept}
+use Rattle.batch_program.proofs.Served.{audit_kept, left_kept, plant_to_run, record_kept, record_to_read, served_kept, set_to_audit, set_to_serve, told_kept, journal_kept, set_to_keep}
 use Rattle.batch_program.proofs.program.run_program.Goals as goal
 
 pub returns-in-Ends : goal.returns-in-Ends
@@ -22,21 +22,29 @@ returns-in-Serves g c =
     (serves is.source set served.result is.asked is.is_set (served_kept set MAX_READS served.result _ _ _ _ _ is.unwritten served.ensures)
     (rw is.hushed at told))
 
+pub returns-in-Keeps : goal.returns-in-Keeps
+returns-in-Keeps g c =
+    let digested = c.in-Keeps.digested in
+    let is = set_to_keep (g.D.Documents.gives c.args.documents.now) (map string_bytes c.args.words.now) _ _ _ digested c.in-Keeps.quiet c.in-Keeps.path
+    c.run_words.ensures c.in-Keeps.is in
+    keeps (string_bytes c.in-Keeps.path) is.cell is.certificate is.recipes digested.set digested.documents.text c.keep_journal.result.0 is.asked is.is_set
+    (journal_kept (record { disks = _; opens = g.D.Journals.opens c.args.documents.now }) digested.set digested.documents.text (string_bytes c.in-Keeps.path) _ _ _ _ _ _ is.unwritten (rw c.deref.ensures at c.keep_journal.ensures))
+
 pub returns-in-Reads : goal.returns-in-Reads
 returns-in-Reads g c =
     let path = c.in-Reads.path in
     let (asked, kept, silent) = record_to_read (g.D.Documents.gives c.args.documents.now) (map string_bytes c.args.words.now) _ _ _ path c.run_words.ensures c.in-Reads.is in
-    reads (option_map string_bytes path) c.tell_record.result asked
-    (record_kept (g.D.Records.holds c.args.documents.now) (option_map string_bytes path) _ _ _ _ _ _ _ _ _ kept silent c.tell_record.ensures)
+    reads (option_map string_bytes path) c.tell_record-status.result asked
+    (record_kept (g.D.Records.holds c.args.documents.now) (option_map string_bytes path) _ _ _ _ _ _ _ _ _ kept silent c.tell_record-status.ensures)
 
 pub returns-in-Audits : goal.returns-in-Audits
 returns-in-Audits g c =
     let course = c.in-Audits in
     let own = course.audit in
     let is = set_to_audit (g.D.Documents.gives c.args.documents.now) (map string_bytes c.args.words.now) _ _ _ course.set own c.run_words.ensures course.is in
-    audits own.beginning (string_bytes own.path) (source_of own.source) course.set c.audit_record.result is.asked is.is_set
+    audits own.beginning (string_bytes own.path) (source_of own.source) course.set c.audit_record-status.result is.asked is.is_set
     (audit_kept (g.D.Records.holds c.args.documents.now) course.set own.beginning (string_bytes own.path) _ _ _ _ _ _ _ _ _ is.unwritten is.silent
-    c.audit_record.ensures)
+    c.audit_record-status.ensures)
 
 pub returns-in-Plants : goal.returns-in-Plants
 returns-in-Plants g c =
@@ -45,5 +53,5 @@ returns-in-Plants g c =
     let (asked, cleared, kept, silent) =
     plant_to_run (g.D.Documents.gives c.args.documents.now) (map string_bytes c.args.words.now) _ _ _ course.set course.options
     c.run_words.ensures course.is in
-    plants course.set course.options end.result c.report_of_plant.result asked cleared (has_run course.set course.options end.result end.ensures)
-    (told_kept _ _ _ _ _ _ course.options.batches end.result _ kept silent c.report_of_plant.ensures) (Keeps-refl _)
+    plants course.set course.options end.result c.report_of_plant-status.result asked cleared (has_run course.set course.options end.result end.ensures)
+    (told_kept _ _ _ _ _ _ course.options.batches end.result _ kept silent c.report_of_plant-status.ensures) (Keeps-refl _)

@@ -1,6 +1,6 @@
 use Rattle.std.proofs.Common.{codes}
 use Rattle.std.proofs.lemmas.Result.{IfOk-weaker}
-use Rattle.batch_words.specs.CommandLine.{audit_app, certified_app, check_app, explain_app, plant_app, status_app, show_app}
+use Rattle.batch_words.specs.CommandLine.{audit_app, certified_app, check_app, explain_app, plant_app, status_app, show_app, run_app}
 use Rattle.batch_words.proofs.Arguments.{with_command}
 use Rattle.batch_words.proofs.line.program.Goals as goal
 
@@ -15,7 +15,7 @@ returns c =
     let showing =
     with_command c.in_ok-verifying.verifying c.in_ok-showing.showing show_app c.show.result c.in_ok-showing.ensures c.show.ensures verifying in
     let running =
-    with_command c.in_ok-showing.showing c.in_ok-running.running (certified_app (codes "run")) c.run.result
+    with_command c.in_ok-showing.showing c.in_ok-running.running run_app c.run.result
     c.in_ok-running.ensures c.run.ensures showing in
     let telling =
     with_command c.in_ok-running.running c.in_ok-telling.telling status_app c.status.result c.in_ok-telling.ensures c.status.ensures running in

@@ -16,6 +16,7 @@ invariant_of-self-then-end-eq0 g c =
       whole = now.whole;
       recalled = now.recalled;
       accounted = λ d. accounted_keeps _ _ _ _ _ refl (keeps_more _ _ _ _ _ (ok.2 ∙ ap (λ l. l ++ ok.0) c.move_to_front.ensures.items) ok.3) (now.accounted d);
+      stays = now.stays;
     }
 
 pub invariant_of-self-in-Break-branch-2 : goal.invariant_of-self-in-Break-branch-2
@@ -32,6 +33,7 @@ invariant_of-self-in-Break-branch-2 g c =
           recalled_on g.C.Run.documents g.C.Run.base _ _ _ _ _ _ (now.recalled d0) (c.write_group.ensures.time d)
           (λ left may. recalls_kept _ _ _ _ _ _ _ _ left (now.kept d0 c.if-self.false) may.1);
       accounted = λ d. accounted_keeps _ _ _ _ _ (c.write_group.ensures.given d) (keeps_more _ _ _ _ _ (ok.2 ∙ ap (λ l. l ++ ok.0) c.move_to_front.ensures.items) ok.3) (now.accounted (c.write_group.ensures.stays d));
+      stays = λ d. now.stays (c.write_group.ensures.stays d);
     }
 
 pub invariant_of-self-2 : goal.invariant_of-self-2
@@ -55,4 +57,5 @@ invariant_of-self-2 g c =
           recalled_on g.C.Run.documents g.C.Run.base _ _ _ _ _ _ (now.recalled d0) (c.write_group.ensures.time d)
           (λ left may. recalls_kept _ _ _ _ _ _ _ _ left (now.kept d0 c.if-self.false) may.1);
       accounted = λ d. accounted_keeps _ _ _ _ _ (c.write_group.ensures.given d) (keeps_more _ _ _ _ _ (ok.2 ∙ ap (λ l. l ++ ok.0) c.move_to_front.ensures.items) ok.3) (now.accounted (c.write_group.ensures.stays d));
+      stays = λ d. now.stays (c.write_group.ensures.stays d);
     }

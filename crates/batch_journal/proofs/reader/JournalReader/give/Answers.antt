@@ -23,6 +23,7 @@ invariant_of-self-in-Break-1 g c =
           recalled_on g.C.Run.documents g.C.Run.base _ _ _ _ _ _ (now.recalled d0) (c.give.ensures.time d)
           (λ left may. recalls_given _ _ _ _ _ _ _ _ _ left within (now.kept d0 some) (as_of left refl refl (ap (λ l. g.D.Disk.given now.disk ++ take count l) c.as_slice-bytes.ensures.value) may));
       accounted = λ d. accounted_keeps _ _ _ _ _ (c.in_err-give.ensures.not_given d) (keeps_itself _) (now.accounted (c.give.ensures.stays d));
+      stays = λ d. now.stays (c.give.ensures.stays d);
     }
 
 pub invariant_of-self-2 : goal.invariant_of-self-2
@@ -52,6 +53,7 @@ invariant_of-self-2 g c =
       accounted = λ d. let d0 = c.give.ensures.stays d in
           let given_is = c.in_ok-give.ensures.given d ∙ ap (λ l. g.D.Disk.given now.disk ++ take count l) c.as_slice-bytes.ensures.value in
           accounted_as _ _ _ _ _ left_is (accounted_gives _ _ _ (items now.window) count _ given_is (now.accounted d0));
+      stays = λ d. now.stays (c.give.ensures.stays d);
     }
 
 pub returns-clause-bytes : goal.returns-clause-bytes

@@ -1,0 +1,22 @@
+-- The beginning of a run over a journal.
+use Rattle.std.proofs.Common.{◌≡◌, ℕ, List, [], ◌++◌, sym, ◌∙◌, ap}
+use Rattle.std.proofs.lemmas.List.{append-nil}
+use Rattle.batch_journal.specs.Disks.{Left, MayLeave}
+use Rattle.batch_journal.specs.Journals.{recovered}
+use Rattle.batch_journal.specs.Lines.{text_of}
+use Rattle.batch_journal.specs.Readers.{IsKept, HasRecalled}
+use Rattle.batch_journal.proofs.ReaderLemmas.{begun_now}
+use Rattle.batch_keep.specs.Told.{IsAtRest}
+
+pub kept_here : (documents durable seen given sum : List ℕ) → IsAtRest documents durable seen given sum → IsKept documents (text_of (recovered documents seen)) durable seen given [] sum
+kept_here documents durable seen given sum rest = record {
+  journal = rest.journal;
+  synced = rest.synced;
+  holds = sym (append-nil (text_of (recovered documents seen))) ∙ ap (λ l. text_of (recovered documents seen) ++ (l ++ [])) (sym rest.none);
+}
+
+-- from this moment on
+pub recalled_here : (documents durable seen given sum : List ℕ) (moment : ℕ) (left_since : ℕ → Left → Type 0) → IsAtRest documents durable seen given sum
+    → ((left : Left) → left_since moment left → MayLeave durable seen given left) → HasRecalled documents (text_of (recovered documents seen)) moment moment left_since
+recalled_here documents durable seen given sum moment left_since rest now =
+    begun_now documents (text_of (recovered documents seen)) durable seen given sum moment left_since (kept_here documents durable seen given sum rest) now

@@ -1,0 +1,102 @@
+//! Starting over a journal.
+ghost use Rattle.std.specs.Prelude.{◌≡◌, List, ℕ, IfErr, IfOk};
+ghost use Rattle.batch_model.specs.Plant.{opening};
+ghost use Rattle.batch_engine.specs.View.{setup, plant_of};
+ghost use Rattle.batch_journal.specs.Disks.{LeavesOnly};
+ghost use Rattle.batch_journal.specs.Journals.{recovered, sum_text};
+ghost use Rattle.batch_journal.specs.Recovery.{AreRests, KeepsLines};
+ghost use Rattle.batch_keep.specs.Blocks.{IsBlockOf};
+ghost use Rattle.batch_keep.specs.Starts.{IsStartRefused};
+
+use crate::block::{BlockFault, recovery_block};
+use batch_engine::Engine;
+use batch_journal::{Digits, Disk, RecoveryFault, Sum, recover};
+use batch_verify::Cleared;
+use std::alloc::Global;
+use thiserror::Error;
+
+/// Why there is no start over a journal.
+#[derive(Clone, Copy, Debug, PartialEq, Eq, Error)]
+pub enum StartFault {
+    /// The journal wasn't recovered.
+    #[error("{0}")]
+    Recovery(RecoveryFault),
+    /// There was no memory for the engine.
+    #[error("out of memory")]
+    Memory,
+    /// The journal's lines couldn't be served again.
+    #[error("{0}")]
+    Block(BlockFault),
+}
+
+impl From<RecoveryFault> for StartFault {
+    ghost use Rattle.batch_keep.specs.declared.starting.StartFault.TheVariants as faults;
+
+    ghost from_gives = { λ refusal fault. fault ≡ faults.Recovery refusal };
+
+    fn from(fault: RecoveryFault) -> StartFault {
+        StartFault::Recovery(fault)
+    }
+}
+
+impl From<BlockFault> for StartFault {
+    ghost use Rattle.batch_keep.specs.declared.starting.StartFault.TheVariants as faults;
+
+    ghost from_gives = { λ block fault. fault ≡ faults.Block block };
+
+    fn from(fault: BlockFault) -> StartFault {
+        StartFault::Block(fault)
+    }
+}
+
+/// A plant that stands where the lines of its journal led it.
+#[derive(Drop)]
+pub struct Started {
+    /// The engine, which was given these lines again.
+    pub engine: Engine,
+    /// The sum of the journal's last group.
+    pub sum: Sum,
+    /// The recovery block, which stands before all that is told.
+    pub block: Vec<u8>,
+    /// How many bytes were cut off behind the last group.
+    pub cut: usize,
+}
+
+/// Recovers the journal of a set whose documents have these digits, makes the set's engine and serves the journal's lines again.
+///
+/// # Errors
+///
+/// Those of `recover` and `recovery_block`; `Memory` where there is none for the engine.
+pub fn start<D: Disk>(
+    alloc: Global,
+    set: Cleared,
+    disk: &mut D,
+    documents: Digits,
+) -> Result<Started, StartFault>
+    // After a restart, what is read is what is on the disk.
+    requires { D.is_disk disk.old → D.durable disk.old ≡ D.seen disk.old }
+    // The block tells of the lines that the journal had, and the engine stands where they led it.
+    ensures block { IfOk result (λ started. (lines : List (List ℕ)) × IsBlockOf (setup set) opening lines (plant_of started.engine) started.block.items
+        × (D.is_disk disk.new → lines ≡ recovered documents.text (D.seen disk.old))) }
+    ensures cleared { IfOk result (λ started. started.engine.cleared ≡ set) }
+    ensures at_rest { D.is_disk disk.new → IfOk result (λ started. (text : List ℕ) × AreRests documents.text text (sum_text started.sum) (D.durable disk.new) (D.seen disk.new)
+        × (recovered documents.text text ≡ recovered documents.text (D.seen disk.old))) }
+    ensures given { D.is_disk disk.new → D.given disk.new ≡ D.given disk.old }
+    ensures stays { D.is_disk disk.new → D.is_disk disk.old }
+    ensures refused { D.is_disk disk.new → IfErr result (IsStartRefused documents.text (D.seen disk.old)) }
+    // A crash at any moment leaves the same lines, and nothing was given meanwhile.
+    ensures any_moment { D.is_disk disk.new → LeavesOnly D.moment D.left_since disk.old disk.new (KeepsLines documents.text (D.seen disk.old) (D.given disk.old)) }
+{
+    let digits = documents.text();
+    let recovered = recover(alloc, disk, &digits)?;
+    let Ok(mut engine) = Engine::new(alloc, set) else {
+        return Err(StartFault::Memory);
+    };
+    let block = recovery_block(alloc, &mut engine, &recovered.text, &digits)?;
+    Ok(Started {
+        engine,
+        sum: recovered.sum,
+        block,
+        cut: recovered.cut,
+    })
+}

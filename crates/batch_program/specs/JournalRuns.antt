@@ -1,0 +1,86 @@
+-- trusted: what comes of a run over a journal, and what is printed of a file that is refused.
+use Rattle.std.specs.Prelude.{◌≡◌, ◌⊎◌, ◌++◌, ℕ, List, Option, IfSome, codes, decimal}
+use Rattle.std.specs.Io.KnownBytes.{Appends}
+use Rattle.batch_model.specs.Plant.{Plant, opening}
+use Rattle.batch_verify.specs.ClearedSet.{ClearedSet}
+use Rattle.batch_engine.specs.View.{setup}
+use Rattle.batch_wire.specs.Transcript.{lines_of}
+use Rattle.batch_wire.specs.Written.{AppendsBeginning}
+use Rattle.batch_wire.specs.WrittenTranscript.{WritesTranscript}
+use Rattle.batch_serve.specs.Serves as serving
+use Rattle.batch_journal.specs.Disks.{Left}
+use Rattle.batch_journal.specs.Journals.{recovered}
+use Rattle.batch_journal.specs.Lines.{text_of}
+use Rattle.batch_journal.specs.Readers.{HasRecalled}
+use Rattle.batch_journal.specs.Recovery.{IsRefusedFor}
+use Rattle.batch_journal.specs.declared.recovery.RecoveryFault.{RecoveryFault}
+use Rattle.batch_journal.specs.declared.recovery.RecoveryFault.TheVariants.{Disk, NoJournal, OtherDocuments, Damaged}
+use Rattle.batch_keep.specs.Blocks.{IsBlockOf}
+use Rattle.batch_keep.specs.Told.{IsNeverLost}
+use Rattle.batch_sentences.specs.Shown.{shown}
+use Rattle.batch_commands.specs.Running.{IsUnwritten, Stream, fault_status, memory_status, success_status}
+use Rattle.batch_program.specs.PlantRuns.{refused_status}
+use Rattle.batch_program.specs.RecordRuns.{IsUntold, output_of}
+
+-- the refusal of a file, with its path as it is shown
+abbrev pub journal_text : List ℕ → RecoveryFault → List ℕ
+journal_text path (Disk fault) = codes "refused J1 " ++ (shown path ++ codes "\n")
+journal_text path NoJournal = codes "refused J1 " ++ (shown path ++ codes "\n")
+journal_text path OtherDocuments = codes "refused J2 " ++ (shown path ++ codes "\n")
+journal_text path (Damaged line) = codes "refused J3 " ++ (shown path ++ (codes " " ++ (decimal line ++ codes "\n")))
+
+-- it is printed, or can't be, or there is no memory for it
+abbrev pub IsJournalRefused : List ℕ → RecoveryFault → Stream → ℕ → Type 0
+IsJournalRefused path fault output status =
+    (Appends output.before output.after (journal_text path fault) × (status ≡ refused_status)) ⊎ (status ≡ fault_status) ⊎ (IsUnwritten output × (status ≡ memory_status))
+
+-- disks of one kind, and what is known of one that has behaved as a disk so far
+pub record DiskKind : Type 1 where
+  pub File : Type 0
+  pub is_disk : File → Type 0
+  pub durable : File → List ℕ
+  pub seen : File → List ℕ
+  pub given : File → List ℕ
+  pub moment : File → ℕ
+  pub left_since : File → ℕ → Left → Type 0
+
+-- the disks that journals are on, and what is opened at a path
+pub record JournalFiles : Type 1 where
+  pub disks : DiskKind
+  pub opens : List ℕ → disks.File → Type 0
+
+-- behind the block: with status 0 all lines of the input are answered; and whatever came of it, a replay of what a crash leaves tells
+-- again what the journal's lines and this run told
+pub record IsServedBehind (disks : DiskKind) (set : ClearedSet) (digits : List ℕ) (plant : Plant) (start end : disks.File) (unread middle after : Option (List ℕ)) (status : ℕ) : Type 0 where
+  pub answers : status ≡ success_status → IfSome unread (λ input. (new : Plant) × WritesTranscript (setup set) plant (lines_of input) new middle after)
+  pub never_lost : disks.is_disk end → IfSome unread (λ input.
+      IsNeverLost (setup set) plant digits (disks.seen start) (disks.durable end) (disks.seen end) (disks.given end) middle after)
+  pub ends : (status ≡ success_status) ⊎ (status ≡ fault_status) ⊎ (status ≡ memory_status)
+
+-- what is told over the file that was opened
+pub data IsJournalTold (disks : DiskKind) (set : ClearedSet) (digits path : List ℕ) (start end : disks.File) (ends : serving.Ends) (status : ℕ) : Type 0 where
+  refuses : (fault : RecoveryFault) → (disks.is_disk end → IsRefusedFor digits (disks.seen start) fault) → IsJournalRefused path fault (output_of ends) status
+      → IsJournalTold disks set digits path start end ends status
+  stops : IsUntold (output_of ends) status → IsJournalTold disks set digits path start end ends status
+  -- the recovery block of the lines that the file had, and what is told behind it
+  serves : (lines : List (List ℕ)) (plant : Plant) (block : List ℕ) (middle : Option (List ℕ))
+      → (disks.is_disk end → lines ≡ recovered digits (disks.seen start)) → IsBlockOf (setup set) opening lines plant block
+      → Appends ends.before middle block → IsServedBehind disks set digits plant start end ends.unread middle ends.after status
+      → IsJournalTold disks set digits path start end ends status
+  -- the block can't be written whole
+  fails : (lines : List (List ℕ)) (plant : Plant) (block : List ℕ) → IsBlockOf (setup set) opening lines plant block
+      → AppendsBeginning ends.before ends.after block → status ≡ fault_status → IsJournalTold disks set digits path start end ends status
+
+-- the file as it was opened and as it was left; at each moment between them a crash leaves the lines that it had, and all behind them
+-- that the machine was given by then
+pub record IsOverFile (disks : DiskKind) (set : ClearedSet) (digits path : List ℕ) (start end : disks.File) (ends : serving.Ends) (status : ℕ) : Type 0 where
+  pub any_moment : disks.is_disk end
+      → HasRecalled digits (text_of (recovered digits (disks.seen start))) (disks.moment start) (disks.moment end) (disks.left_since end)
+  pub told : IsJournalTold disks set digits path start end ends status
+
+-- the file at the path is opened, in which all that is read is durable; or it can't be opened
+abbrev pub IsJournalRun : JournalFiles → ClearedSet → List ℕ → List ℕ → serving.Ends → ℕ → Type 0
+IsJournalRun files set digits path ends status =
+    ((start : files.disks.File) × (end : files.disks.File) × files.opens path start × (files.disks.is_disk start → files.disks.durable start ≡ files.disks.seen start)
+    × IsOverFile files.disks set digits path start end ends status)
+    ⊎ IsUntold (output_of ends) status

@@ -1,0 +1,269 @@
+//! Serving over a journal.
+ghost use Rattle.std.specs.Prelude.{◌≡◌, ◌⊎◌, [], IsOk};
+ghost use Rattle.std.specs.Io.KnownBytes.{Keeps};
+ghost use Rattle.batch_engine.specs.View.{setup, plant_of};
+ghost use Rattle.batch_wire.specs.Written.{Writes};
+ghost use Rattle.batch_journal.specs.Journals.{recovered, sum_text};
+ghost use Rattle.batch_journal.specs.Lines.{text_of};
+ghost use Rattle.batch_journal.specs.Readers.{HasRecalled, IsAccounted, IsKept, IsWhole};
+ghost use Rattle.batch_commands.specs.Running.{fault_status, memory_status, success_status};
+ghost use Rattle.batch_program.specs.JournalRuns.{IsJournalRun, IsOverFile};
+ghost use Rattle.batch_program.specs.Keeping.{IsToldBehind, cleaned};
+
+use crate::journal_faults::{
+    complain_block, complain_stopped, complain_unopened, refuse_start, tell_cut,
+};
+use crate::journals::Journals;
+use crate::noted::Noted;
+use crate::program::{MAX_READS, tell_left};
+use batch_commands::{Digested, SUCCESS};
+use batch_engine::Engine;
+use batch_journal::{Disk, Run};
+use batch_keep::{Journal, KeepFault, Started, serve_started, start};
+use batch_serve::{CleanReader, clean_lines_serve_alike};
+use batch_wire::{WriteFault, write_all};
+use std::alloc::Global;
+use std::io::{Read, Write};
+use std::marker::Brand;
+use std::time::Clock;
+
+/// The path of the journal as messages name it, and whether they are of faults alone.
+#[derive(Clone, Copy)]
+struct Messages<'a> {
+    path: &'a str,
+    quiet: bool,
+}
+
+/// Serves event lines from the input over the set, with a journal of them in the file at the path, and gives the exit status.
+///
+/// The lines that the journal has are served again first, without their answers being written, and the recovery block stands before all
+/// else on the output. A file that is no journal, or one of other documents, or damaged, is refused by a line on the output.
+pub fn keep_journal<J: Journals, R: Read, W: Write, E: Write>(
+    alloc: Global,
+    digested: Digested,
+    quiet: bool,
+    path: &str,
+    journals: &J,
+    input: &mut Noted<R>,
+    output: Noted<W>,
+    errors: &mut E,
+) -> (u8, Noted<W>)
+    ensures { IsJournalRun (record {
+      disks = record {
+        File = J.File;
+        is_disk = J.File.is_disk;
+        durable = J.File.durable;
+        seen = J.File.seen;
+        given = J.File.given;
+        moment = J.File.moment;
+        left_since = J.File.left_since;
+      };
+      opens = J.opens journals.now;
+    }) digested.set digested.documents.text path.now
+        (record {
+          unread = R.remaining input.old.stream;
+          left = R.remaining input.new.stream;
+          before = W.contents output.stream;
+          after = W.contents result.1.stream;
+        }) result.0 }
+{
+    match journals.open_journal(path) {
+        Ok(disk) => {
+            let clock = journals.clock();
+            let messages = Messages { path, quiet };
+            let (status, _, output) = serve_opened(
+                alloc, digested, messages, clock, disk, input, output, errors,
+            );
+            (status, output)
+        }
+        Err(reason) => (complain_unopened(alloc, path, reason, errors), output),
+    }
+}
+
+/// The same over the file that was opened, which is given back.
+fn serve_opened<D: Disk, K: Clock + Drop, R: Read, W: Write, E: Write>(
+    alloc: Global,
+    digested: Digested,
+    messages: Messages,
+    clock: K,
+    disk: D,
+    input: &mut Noted<R>,
+    output: Noted<W>,
+    errors: &mut E,
+) -> (u8, D, Noted<W>)
+    requires fresh { D.is_disk disk → (D.durable disk ≡ D.seen disk) × (D.given disk ≡ []) }
+    ensures { IsOverFile (record {
+      File = D;
+      is_disk = D.is_disk;
+      durable = D.durable;
+      seen = D.seen;
+      given = D.given;
+      moment = D.moment;
+      left_since = D.left_since;
+    }) digested.set digested.documents.text messages.entry.path.now disk result.1
+        (record {
+          unread = R.remaining input.old.stream;
+          left = R.remaining input.new.stream;
+          before = W.contents output.stream;
+          after = W.contents result.2.stream;
+        }) result.0 }
+{
+    serve_file::<D, K, R, W, E, Brand>(
+        alloc, digested, messages, clock, disk, input, output, errors,
+    )
+}
+
+fn serve_file<D: Disk, K: Clock + Drop, R: Read, W: Write, E: Write, C: Run>(
+    alloc: Global,
+    digested: Digested,
+    messages: Messages,
+    clock: K,
+    mut disk: D,
+    input: &mut Noted<R>,
+    mut output: Noted<W>,
+    errors: &mut E,
+) -> (u8, D, Noted<W>)
+    requires fresh { D.is_disk disk → (D.durable disk ≡ D.seen disk) × (D.given disk ≡ []) }
+    requires base { C.base ≡ text_of (recovered digested.documents.text (D.seen disk)) }
+    requires since { C.since ≡ D.moment disk }
+    requires input { C.input ≡ cleaned (R.remaining input.old.stream) }
+    ensures { IsOverFile (record {
+      File = D;
+      is_disk = D.is_disk;
+      durable = D.durable;
+      seen = D.seen;
+      given = D.given;
+      moment = D.moment;
+      left_since = D.left_since;
+    }) digested.set digested.documents.text messages.entry.path.now disk result.1
+        (record {
+          unread = R.remaining input.old.stream;
+          left = R.remaining input.new.stream;
+          before = W.contents output.stream;
+          after = W.contents result.2.stream;
+        }) result.0 }
+{
+    match start(alloc, digested.set, &mut disk, digested.documents) {
+        Ok(started) => {
+            tell_cut(alloc, messages.quiet, messages.path, started.cut, errors);
+            let Started {
+                mut engine,
+                sum,
+                block,
+                ..
+            } = started;
+            let journal = Journal {
+                disk,
+                clock,
+                sum,
+                documents: digested.documents.text(),
+            };
+            serve_behind::<D, K, R, W, E, Brand>(
+                alloc,
+                &mut engine,
+                &block,
+                messages,
+                journal,
+                input,
+                output,
+                errors,
+            )
+        }
+        Err(fault) => {
+            let status = refuse_start(
+                alloc,
+                messages.quiet,
+                messages.path,
+                fault,
+                &mut output,
+                errors,
+            );
+            (status, disk, output)
+        }
+    }
+}
+
+/// Writes the recovery block, and serves the input behind it.
+fn serve_behind<D: Disk, K: Clock + Drop, R: Read, W: Write, E: Write, C: Run>(
+    alloc: Global,
+    engine: &mut Engine,
+    block: &[u8],
+    messages: Messages,
+    journal: Journal<D, K>,
+    input: &mut Noted<R>,
+    mut output: Noted<W>,
+    errors: &mut E,
+) -> (u8, D, Noted<W>)
+    requires at_rest { D.is_disk journal.disk → IsKept C.documents C.base (D.durable journal.disk) (D.seen journal.disk) (D.given journal.disk) [] (sum_text journal.sum) }
+    requires whole { D.is_disk journal.disk → IsWhole (D.given journal.disk) }
+    requires recalled { D.is_disk journal.disk → HasRecalled C.documents C.base C.since (D.moment journal.disk) (D.left_since journal.disk) }
+    requires accounted { D.is_disk journal.disk → IsAccounted C.input (D.given journal.disk) (cleaned (R.remaining input.old.stream)) }
+    requires input { C.input ≡ cleaned (R.remaining input.old.stream) }
+    requires was { D.is_disk journal.disk → C.was }
+    ensures any_moment { D.is_disk result.1 → HasRecalled C.documents C.base C.since (D.moment result.1) (D.left_since result.1) }
+    ensures stays { D.is_disk result.1 → ∥ C.was ∥₁ }
+    ensures told { IsToldBehind (setup engine.old.cleared) (plant_of engine.old) C.documents C.base (D.is_disk result.1)
+        (D.durable result.1) (D.seen result.1) (D.given result.1) block.now (R.remaining input.old.stream) (W.contents output.stream) (W.contents result.2.stream) result.0 }
+{
+    clean_lines_serve_alike();
+    if let Err(_) = write_block(&mut output, block) {
+        let status = complain_block(output.failure(), errors);
+        return (status, journal.disk, output);
+    }
+    let reader = CleanReader::new(&mut *input);
+    let (served, disk, output) = serve_started::<CleanReader<&mut Noted<R>>, D, K, Noted<W>, C>(
+        alloc, engine, reader, journal, output, MAX_READS,
+    );
+    let status = tell_end(
+        alloc,
+        messages,
+        served,
+        engine.unfinished(),
+        input,
+        &output,
+        errors,
+    );
+    (status, disk, output)
+}
+
+/// Tells how many batches the end of the input left unfinished, or why serving stopped, and gives the exit status.
+fn tell_end<R: Read, W: Write, E: Write>(
+    alloc: Global,
+    messages: Messages,
+    served: Result<(), KeepFault>,
+    left: usize,
+    input: &Noted<R>,
+    output: &Noted<W>,
+    errors: &mut E,
+) -> u8
+    ensures well { result ≡ success_status → IsOk served }
+    ensures ends { (result ≡ success_status) ⊎ (result ≡ fault_status) ⊎ (result ≡ memory_status) }
+{
+    match served {
+        Ok(()) => {
+            tell_left(alloc, messages.quiet, left, errors);
+            SUCCESS
+        }
+        Err(fault) => complain_stopped(alloc, messages.path, fault, input, output, errors),
+    }
+}
+
+/// Writes the block, as far as the output takes it, and hands it on.
+fn write_block<W: Write>(output: &mut W, block: &[u8]) -> Result<(), WriteFault>
+    ensures { Writes (W.contents output.old) (W.contents output.new) result block.now }
+{
+    match write_all(output, block) {
+        Ok(()) => flush(output),
+        Err(fault) => Err(fault),
+    }
+}
+
+/// Hands on what is written.
+fn flush<W: Write>(output: &mut W) -> Result<(), WriteFault>
+    ensures { Keeps (W.contents output.old) (W.contents output.new) }
+{
+    match output.flush() {
+        Ok(()) => Ok(()),
+        Err(_) => Err(WriteFault),
+    }
+}

@@ -1,0 +1,166 @@
+//! Serving over a journal that lies in memory.
+use crate::documents::{A, CELL1};
+use crate::records::engine_of;
+use crate::serving::{INPUT, MANY_READS, RECORD};
+use batch_journal::{Disk, DiskError, recover};
+use batch_keep::{Journal, KeepFault, serve_holding, serve_journalled};
+use batch_serve::ServeFault;
+use std::alloc::Global;
+use std::io;
+use std::process::Abort;
+use std::test::Fail;
+use std::time::{Clock, Duration};
+
+/// The digits that stand for the documents.
+const DOCUMENTS: [u8; 64] = [b'0'; 64];
+
+/// The journal of the input, in one group.
+const FILE: &[u8] =
+    b"# batchd journal 1 0000000000000000000000000000000000000000000000000000000000000000
+create A 1000
+start 1
+report R1 ADD done
+# sum db57e689b0f06c84 7
+";
+
+/// A file of which nothing is promised. It syncs so many times.
+#[derive(Drop)]
+struct Pages {
+    bytes: Vec<u8>,
+    syncs: u32,
+}
+
+impl Disk for Pages {
+    ghost use Rattle.std.specs.Prelude.{[]};
+
+    ghost is_disk = { λ _. ⊥ };
+
+    ghost durable = { λ _. [] };
+
+    ghost seen = { λ _. [] };
+
+    ghost given = { λ _. [] };
+
+    ghost moment = { λ _. 0 };
+
+    ghost left_since = { λ _ _ _. ⊥ };
+
+    ghost counts_now = { λ _ _ _ is _ _. absurd is };
+
+    ghost only_now = { λ _ _ is _. absurd is };
+
+    fn read(&mut self, alloc: Global) -> Result<Vec<u8>, DiskError> {
+        self.bytes.to_vec(alloc).map_err(|_| DiskError::Memory)
+    }
+
+    fn cut(&mut self, len: usize) -> Result<(), DiskError> {
+        self.bytes.truncate(len);
+        Ok(())
+    }
+
+    fn append(&mut self, bytes: &[u8]) -> Result<(), DiskError> {
+        self.bytes
+            .extend_from_slice(bytes)
+            .map_err(|_| DiskError::Memory)
+    }
+
+    fn sync(&mut self) -> Result<(), DiskError> {
+        if self.syncs == 0 {
+            return Err(DiskError::File);
+        }
+        self.syncs -= 1;
+        Ok(())
+    }
+
+    fn give(&mut self, _bytes: &[u8]) -> Result<(), DiskError> {
+        Ok(())
+    }
+}
+
+/// A clock that stands.
+#[derive(Clone, Copy, Drop)]
+struct Seven;
+
+impl Clock for Seven {
+    fn monotonic(&self) -> io::Result<Duration> {
+        Ok(Duration::from_millis(7))
+    }
+
+    fn since_1970(&self) -> io::Result<Duration> {
+        Ok(Duration::from_millis(7))
+    }
+}
+
+/// A journal that is begun, in a file that syncs so many times.
+fn begun(alloc: Global, syncs: u32) -> Result<Journal<Pages, Seven>, Fail> {
+    let mut disk = Pages {
+        bytes: Vec::new(alloc),
+        syncs,
+    };
+    let recovered = recover(alloc, &mut disk, &DOCUMENTS)?;
+    Ok(Journal {
+        disk,
+        clock: Seven,
+        sum: recovered.sum,
+        documents: DOCUMENTS,
+    })
+}
+
+/// How serving the input ends where answers are held back, what the file has then, and what is told.
+fn held(alloc: Global, syncs: u32) -> Result<(Result<(), KeepFault>, Vec<u8>, Vec<u8>), Fail> {
+    let mut engine = engine_of(alloc, CELL1, &[A])?;
+    let journal = begun(alloc, syncs)?;
+    let (ending, disk, told) = serve_holding(
+        alloc,
+        &mut engine,
+        INPUT,
+        journal,
+        Vec::new(alloc),
+        MANY_READS,
+    );
+    Ok((ending, disk.bytes, told))
+}
+
+fn assert_held(
+    rt: &impl Abort,
+    outcome: Result<(Result<(), KeepFault>, Vec<u8>, Vec<u8>), Fail>,
+    ending: Result<(), KeepFault>,
+    told: &[u8],
+) -> Result<(), Fail> {
+    let (ended, file, record) = outcome?;
+    assert_eq!(rt; ended, ending);
+    assert!(rt; file.as_slice() == FILE);
+    assert!(rt; record.as_slice() == told);
+    Ok(())
+}
+
+#[test]
+fn held_over_a_journal(rt: HostRuntime) -> Result<(), Fail> {
+    assert_held(&rt, held(rt.alloc(), 2), Ok(()), RECORD)
+}
+
+#[test]
+fn sync_fails(rt: HostRuntime) -> Result<(), Fail> {
+    assert_held(
+        &rt,
+        held(rt.alloc(), 1),
+        Err(KeepFault::Serve(ServeFault::Read)),
+        b"",
+    )
+}
+
+/// What is told of the input over a journal.
+fn journalled(alloc: Global) -> Result<Vec<u8>, Fail> {
+    let mut engine = engine_of(alloc, CELL1, &[A])?;
+    let journal = begun(alloc, 2)?;
+    let mut told = Vec::new(alloc);
+    let (ending, _) = serve_journalled(alloc, &mut engine, INPUT, journal, &mut told, MANY_READS);
+    ending?;
+    Ok(told)
+}
+
+#[test]
+fn served_over_a_journal(rt: HostRuntime) -> Result<(), Fail> {
+    assert!(&rt; journalled(rt.alloc())?.as_slice() == RECORD);
+    Ok(())
+}
