@@ -51,12 +51,12 @@ static EXPLANATIONS: [Explanation; 52] = [
     },
     Explanation {
         code: "D5",
-        meaning: "a label, a unit, a role, a value or an output is named that the document doesn't declare",
+        meaning: "a label, a unit, a role, a value, an output or a unit procedure is named that the document doesn't declare",
         remedy: "declare it, or name what is declared; capitals count",
     },
     Explanation {
         code: "D6",
-        meaning: "a name is declared twice, a phase is offered twice by one unit, or a phase reports an output twice",
+        meaning: "a name is declared twice, a phase is offered twice by one unit, a phase reports an output twice, or an act reserves a unit procedure twice",
         remedy: "give one of the two another name",
     },
     Explanation {

@@ -2,7 +2,7 @@
 ghost use Rattle.std.specs.Prelude.{◌≡◌, ◌≢◌, ◌&&◌, true, IfErr, OnOk};
 ghost use Rattle.std.specs.List.{list_all};
 ghost use Rattle.batch_recipe.specs.WellFormed.{act_names, are_reserves, is_among, reserve_well, reserves_among, reserves_none, reserves_once};
-ghost use Rattle.batch_reader.specs.Faults.{IsAmong, IsToldIn, Tells, is_of_recipe};
+ghost use Rattle.batch_reader.specs.Faults.{IsAmong, IsToldIn, Tells, TellsIn, is_of_recipe};
 ghost use Rattle.batch_reader.specs.PartFaults.{FailsFirst, HasReserveFault, IsReserveFaultOf};
 ghost use Rattle.batch_reader.specs.declared.fault.EntryFault.{EntryFault};
 ghost use Rattle.batch_reader.specs.declared.fault.Spot.{Spot};
@@ -32,8 +32,7 @@ pub(crate) fn check_reserves(acts: &Acts) -> Result<(), TableFault>
 fn check_table(units: &[Act], table: &[Act], kind: TableKind) -> Result<(), TableFault>
     ensures ok { OnOk result (reserve_well (act_names units.now) table.now ≡ true) }
     ensures refused { IfErr result (λ fault. reserve_well (act_names units.now) table.now ≢ true) }
-    ensures told { IfErr result (λ fault. (fault ≢ TableFault.Memory) × ((spot : Spot) (wrong : EntryFault) → fault ≡ TableFault.Entry spot wrong → spot.kind ≡ kind)) }
-    ensures stands { IfErr result (Tells (λ spot. IsReserveFaultOf (act_names units.now) table.now spot.entry)) }
+    ensures told { IfErr result (TellsIn kind (IsReserveFaultOf (act_names units.now) table.now)) }
 {
     check_once(table, kind)?;
     check_declared(units, table, kind)
