@@ -1,7 +1,7 @@
 //! What is wrong with the names that a table declares or uses.
 use crate::declared::{
     Reference, first_named, listed_twice, names_among, offered_before, times_among,
-    undeclared_name, undeclared_report, undeclared_role, value_names, word_below, word_declaring,
+    undeclared_listed, undeclared_name, undeclared_role, value_names, word_below, word_declaring,
 };
 use crate::documents::table_said;
 use crate::entries::{Wrong, name_of, tables_of};
@@ -30,11 +30,17 @@ pub(crate) fn undeclared(
     if let Some(reference) = undeclared_name(document, table, kind) {
         return Wrong::with(key, reference_said(alloc, document, kind, reference));
     }
-    if let Some(name) = undeclared_report(document, table) {
+    if let Some(name) = undeclared_listed(document, table, "reports", "output") {
         return Wrong::with("reports", undeclared_said(alloc, document, "output", name));
     }
-    match undeclared_role(document, table) {
-        Some(role) => Wrong::with("role", undeclared_said(alloc, document, "role", role)),
+    if let Some(role) = undeclared_role(document, table) {
+        return Wrong::with("role", undeclared_said(alloc, document, "role", role));
+    }
+    match undeclared_listed(document, table, "reserves", "unit_procedure") {
+        Some(name) => Wrong::with(
+            "reserves",
+            undeclared_said(alloc, document, "unit_procedure", name),
+        ),
         None => Wrong::told(alloc, key, "a label or a name is declared nowhere"),
     }
 }
@@ -100,6 +106,9 @@ pub(crate) fn duplicate(
                 return Wrong::with("name", namesake_said(alloc, text, document, name, first));
             }
         }
+    }
+    if let Some(name) = listed_twice(table, "reserves") {
+        return Wrong::with("reserves", format!(in alloc; "`{name}` stands twice"));
     }
     Wrong::with("phases", offered_said(alloc, document, table))
 }
