@@ -34,7 +34,7 @@ pub(crate) fn undeclared(
         return Wrong::with("reports", undeclared_said(alloc, document, "output", name));
     }
     match undeclared_role(document, table) {
-        Some(role) => Wrong::with("role", undeclared_said(alloc, document, "role", role)),
+        Some(role) => Wrong::with("role", role_said(alloc, document, role)),
         None => Wrong::told(alloc, key, "a label or a name is declared nowhere"),
     }
 }
@@ -52,6 +52,12 @@ fn undeclared_said(
     let names = names_among(alloc, document, word)?;
     let meant = meant_or_known(alloc, name, &names)?;
     format!(in alloc; "no [[{word}]] is named `{name}`{meant}")
+}
+
+/// That no role has the name, and where a unit is named.
+fn role_said(alloc: Global, document: &Table, role: &str) -> Result<String, AllocError> {
+    let said = undeclared_said(alloc, document, "role", role)?;
+    format!(in alloc; "{said}; a unit of the cell is named by the key `unit`")
 }
 
 /// That the name of a chart, or of a list of values, is declared nowhere, or as something else.
@@ -92,7 +98,7 @@ pub(crate) fn duplicate(
     spot: Spot,
 ) -> Result<Wrong<'static>, AllocError> {
     if let Some(name) = listed_twice(table, "reports") {
-        return Wrong::with("reports", format!(in alloc; "`{name}` stands twice"));
+        return Wrong::with("reports", format!(in alloc; "`{name}` stands twice in `reports`"));
     }
     if let Some(name) = name_of(table) {
         if let Some(first) = first_named(document, namesakes_of(&spot.kind), name) {

@@ -57,7 +57,10 @@ fn rule_said(
         Rule::ShareAboveCapacity => share_said(alloc, cell, act),
         Rule::PhaseNotOffered => phase_said(alloc, cell, recipe, acts, act),
         Rule::SamePhaseInParallel => parallel_said(alloc, recipe, broken.node),
-        Rule::LoopWithoutPhase => String::from_str(alloc, "a turn of this `loop` may run no phase"),
+        Rule::LoopWithoutPhase => String::from_str(
+            alloc,
+            "a turn of this `loop` may run no phase; every way through its chart runs one, as by a phase in place of `skip`",
+        ),
         Rule::RankNotRising => rank_said(alloc, cell, recipe, certificate, acts),
     }
 }
@@ -260,7 +263,7 @@ fn offered_said(alloc: Global, cell: &Cell, unit: u16, phase: &Name) -> Result<S
 fn parallel_said(alloc: Global, recipe: &Recipe, node: u16) -> Result<String, AllocError> {
     match shared_phase(alloc, recipe, node)? {
         Some((phase, first, second)) => format!(in alloc;
-            "two branches of this `par` run the same phase, {phase}: number {first} and number {second}"
+            "two branches of this `par` run the same phase, {phase}: number {first} and number {second}; what runs one after the other stands in seq(..)"
         ),
         None => String::from_str(alloc, "two branches of this `par` run the same phase"),
     }
