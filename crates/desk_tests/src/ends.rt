@@ -54,29 +54,6 @@ batch 1: Some(Running)
     )
 }
 
-/// A port isn't sealed before it is closed, also where all that it is due is in its ring.
-#[test]
-fn open_port_is_not_sealed(rt: HostRuntime) -> Result<(), Fail> {
-    assert_told(
-        &rt,
-        rt.alloc(),
-        A,
-        &[console(8)],
-        "send 0 create A 1000
-send 0 start 1
-turn 0
-turn 0
-waiting 0
-seal 0
-",
-        "turn: Ok(Handled)
-turn: Ok(Handled)
-waiting: Some(0)
-seal: Err(NotSealable)
-",
-    )
-}
-
 /// A port isn't closed while an event of its desk remains. The other port goes on.
 #[test]
 fn events_remain(rt: HostRuntime) -> Result<(), Fail> {

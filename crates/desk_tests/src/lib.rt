@@ -33,8 +33,6 @@ mod script;
 #[cfg(test)]
 mod seats;
 #[cfg(test)]
-mod silent;
-#[cfg(test)]
 mod stage;
 #[cfg(test)]
 mod threads;

@@ -2,9 +2,7 @@
 use crate::expected::assert_text;
 use crate::gates::{Meeting, Open};
 use crate::plants::{run, steady_units};
-use crate::silent::Silent;
 use batch_plant::PlantGates;
-use batch_sim::Simulator;
 use std::alloc::Global;
 use std::sync::Arc;
 use std::sync::atomic::{AtomicU64, Ordering};
@@ -18,24 +16,6 @@ fn open_gates() -> PlantGates<Open, Open, Open> {
         console: Open,
         link: Open,
     }
-}
-
-fn silent_units(alloc: Global) -> Result<Simulator<Silent>, Fail> {
-    let mut drivers = Vec::new(alloc);
-    drivers.push(Silent)?;
-    drivers.push(Silent)?;
-    Ok(Simulator::new(drivers))
-}
-
-#[test]
-fn silent_units_let_the_turns_run_out(rt: HostRuntime) -> Result<(), Fail> {
-    let alloc = rt.alloc();
-    let units = silent_units(alloc)?;
-    assert_text(
-        &rt,
-        run(&rt, alloc, units, 1000, 1, 10_000, open_gates()),
-        "the turns ran out",
-    )
 }
 
 /// No batch has the size 0. So the first create is refused, and the plant ends by that, while the turns of hub and link are left.

@@ -1,5 +1,6 @@
 //! Drivers of two kinds, in boxes at one simulator.
 use crate::drivers::{Answer, Scripted};
+use crate::expected::assert_text;
 use crate::simulator::answers;
 use batch_matrix::Report;
 use batch_sim::{AnyDriver, Simulator, SteadyUnit};
@@ -28,8 +29,7 @@ fn told_by_two(alloc: Global, script: &str) -> Result<String, Fail> {
 
 /// That what the two units tell of the script is the text expected.
 fn assert_two(rt: &impl Abort, alloc: Global, script: &str, expected: &str) -> Result<(), Fail> {
-    assert_eq!(rt; told_by_two(alloc, script)?.as_str(), expected);
-    Ok(())
+    assert_text(rt, told_by_two(alloc, script), expected)
 }
 
 #[test]

@@ -1,6 +1,7 @@
 //! Scripts of the demo cell: event lines and rounds of driving, whose answers are one text.
 use crate::documents::{A, CELL1};
 use crate::drivers::{Answer, Scripted};
+use crate::expected::assert_text;
 use crate::simulator::steady;
 use crate::stage::Stage;
 use batch_sim::{SteadyUnit, UnitDriver};
@@ -11,10 +12,15 @@ use std::test::Fail;
 /// A batch begins, whose one phase runs on R1.
 pub(crate) const START: &str = "create A 1000\nstart 1";
 
+/// The demo cell with these units, and an engine in which nothing has happened.
+fn stage_of<D: UnitDriver>(alloc: Global, units: Vec<D>) -> Result<Stage<D>, Fail> {
+    Stage::new(alloc, CELL1, &[A], units)
+}
+
 /// The demo cell's units, whose phases run two ticks, and an engine in which nothing has happened.
 pub(crate) fn steady_stage(alloc: Global) -> Result<Stage<SteadyUnit>, Fail> {
     let units = steady(alloc, &[3, 3], 2)?;
-    Stage::new(alloc, CELL1, &[A], units)
+    stage_of(alloc, units)
 }
 
 /// What is told of the script once a phase of R1 runs.
@@ -27,10 +33,16 @@ fn told_after_start<D: UnitDriver>(
     stage.told(alloc, script)
 }
 
+/// What is told of the script by these units, once a phase of R1 runs.
+fn told_by<D: UnitDriver>(alloc: Global, units: Vec<D>, script: &str) -> Result<String, Fail> {
+    let mut stage = stage_of(alloc, units)?;
+    told_after_start(alloc, &mut stage, script)
+}
+
 /// What is told of the script where the units work steadily, and a phase of R1 runs.
 fn steady_told(alloc: Global, script: &str) -> Result<String, Fail> {
-    let mut stage = steady_stage(alloc)?;
-    told_after_start(alloc, &mut stage, script)
+    let units = steady(alloc, &[3, 3], 2)?;
+    told_by(alloc, units, script)
 }
 
 /// That what is told of the script where the units work steadily is the text expected.
@@ -40,8 +52,7 @@ pub(crate) fn assert_steady(
     script: &str,
     expected: &str,
 ) -> Result<(), Fail> {
-    assert_eq!(rt; steady_told(alloc, script)?.as_str(), expected);
-    Ok(())
+    assert_text(rt, steady_told(alloc, script), expected)
 }
 
 /// A unit for each list of answers.
@@ -60,8 +71,7 @@ fn scripted_told(
     script: &str,
 ) -> Result<String, Fail> {
     let units = scripted(alloc, answers)?;
-    let mut stage = Stage::new(alloc, CELL1, &[A], units)?;
-    told_after_start(alloc, &mut stage, script)
+    told_by(alloc, units, script)
 }
 
 /// That what is told of the script where the units answer so is the text expected.
@@ -72,6 +82,5 @@ pub(crate) fn assert_scripted(
     script: &str,
     expected: &str,
 ) -> Result<(), Fail> {
-    assert_eq!(rt; scripted_told(alloc, answers, script)?.as_str(), expected);
-    Ok(())
+    assert_text(rt, scripted_told(alloc, answers, script), expected)
 }

@@ -1,13 +1,7 @@
-//! Serving: readers that fail, are interrupted or don't end, writers that fail, and one input after another.
-use crate::documents::{A, CELL1};
+//! Serving: readers that fail, are interrupted or don't end, and writers that fail.
 use crate::ends::{Failure, OneByOne};
-use crate::records::engine_of;
 use crate::serving::{INPUT, MANY_READS, RECORD, answered, assert_outcome, run, run_into};
-use batch_engine::Engine;
-use batch_serve::{
-    NoRemarks, ServeFault, SetFault, serve, transcripts_are_safe, transcripts_leave_nobody_in_vain,
-    transcripts_settle,
-};
+use batch_serve::{ServeFault, SetFault};
 use std::alloc::Global;
 use std::io::ErrorKind;
 use std::process::Abort;
@@ -119,47 +113,5 @@ fn first_wrong_flush(alloc: Global) -> Result<Option<usize>, Fail> {
 #[test]
 fn writer_keeps_back_at_each_call(rt: HostRuntime) -> Result<(), Fail> {
     assert_eq!(rt; first_wrong_flush(rt.alloc())?, None);
-    Ok(())
-}
-
-/// Serves the input, and tells whether no move is possible then.
-fn is_settled_after(
-    alloc: Global,
-    engine: &mut Engine,
-    input: &[u8],
-    record: &mut Vec<u8>,
-) -> Result<bool, Fail> {
-    let mut input = input;
-    serve(
-        alloc,
-        engine,
-        &mut input,
-        record,
-        &mut NoRemarks,
-        MANY_READS,
-    )?;
-    Ok(engine.settled())
-}
-
-/// Whether the record of two inputs, one after the other, is that of one, and each leaves no move.
-fn serves_two(alloc: Global, engine: &mut Engine) -> Result<bool, Fail> {
-    transcripts_settle();
-    transcripts_are_safe(engine.cleared());
-    transcripts_leave_nobody_in_vain(engine.cleared());
-    let mut record = Vec::new(alloc);
-    let first = is_settled_after(alloc, engine, b"create A 1000\nstart 1\n", &mut record)?;
-    let second = is_settled_after(alloc, engine, b"report R1 ADD done\n", &mut record)?;
-    Ok(first && second && record.as_slice() == RECORD)
-}
-
-fn engine_serves_two(alloc: Global) -> Result<bool, Fail> {
-    let mut engine = engine_of(alloc, CELL1, &[A])?;
-    serves_two(alloc, &mut engine)
-}
-
-/// An engine that has served one input goes on with the next.
-#[test]
-fn one_input_after_another(rt: HostRuntime) -> Result<(), Fail> {
-    assert!(rt; engine_serves_two(rt.alloc())?);
     Ok(())
 }

@@ -16,13 +16,11 @@ mod driving;
 #[cfg(test)]
 mod ends;
 #[cfg(test)]
+mod expected;
+#[cfg(test)]
 mod faults;
 #[cfg(test)]
-mod journalled;
-#[cfg(test)]
 mod kept;
-#[cfg(test)]
-mod record_lines;
 #[cfg(test)]
 mod records;
 #[cfg(test)]
@@ -39,7 +37,5 @@ mod simulator;
 mod stage;
 #[cfg(test)]
 mod steady;
-#[cfg(test)]
-mod told;
 #[cfg(test)]
 mod writers;

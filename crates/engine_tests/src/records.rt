@@ -4,7 +4,6 @@ use batch_check::check;
 use batch_engine::{Engine, Event, Out};
 use batch_reader::{read_cell, read_recipe};
 use batch_recipe::Recipe;
-use batch_serve::{NoRemarks, serve};
 use batch_verify::{Cleared, verify};
 use batch_wire::{read_event, write_out};
 use std::alloc::Global;
@@ -13,10 +12,7 @@ use std::test::Fail;
 /// More moves than any event of these runs brings.
 const MAX_MOVES: usize = 100_000;
 
-/// More calls of a reader than a line of these runs takes.
-const MAX_READS: u64 = 10;
-
-pub(crate) fn cell_of(alloc: Global, document: &str) -> Result<Cell, Fail> {
+fn cell_of(alloc: Global, document: &str) -> Result<Cell, Fail> {
     Ok(read_cell(alloc, document.as_bytes())?)
 }
 
@@ -32,12 +28,16 @@ fn recipes_of(alloc: Global, documents: &[&str]) -> Result<Vec<Recipe>, Fail> {
     Ok(recipes)
 }
 
+fn cleared_by_check(alloc: Global, cell: Cell, recipes: Vec<Recipe>) -> Result<Cleared, Fail> {
+    let certificate = check(alloc, &cell, &recipes)?;
+    verify(alloc, cell, recipes, &certificate).map_err(|_| Fail::from("not cleared"))
+}
+
 /// The recipes, cleared for the cell by the certificate that `check` gives.
 pub(crate) fn cleared_of(alloc: Global, cell: &str, recipes: &[&str]) -> Result<Cleared, Fail> {
     let cell = cell_of(alloc, cell)?;
     let recipes = recipes_of(alloc, recipes)?;
-    let certificate = check(alloc, &cell, &recipes)?;
-    verify(alloc, cell, recipes, &certificate).map_err(|_| Fail::from("not cleared"))
+    cleared_by_check(alloc, cell, recipes)
 }
 
 /// An engine in which nothing has happened.
@@ -80,21 +80,6 @@ pub(crate) fn take(
 
 fn text_of(record: Vec<u8>) -> Result<String, Fail> {
     Ok(String::from_utf8(record)?)
-}
-
-/// What is served for the line: the record of its event, and of the moves that follow.
-pub(crate) fn record(alloc: Global, engine: &mut Engine, line: &str) -> Result<String, Fail> {
-    let mut record = Vec::new(alloc);
-    let mut bytes = line.as_bytes();
-    serve(
-        alloc,
-        engine,
-        &mut bytes,
-        &mut record,
-        &mut NoRemarks,
-        MAX_READS,
-    )?;
-    text_of(record)
 }
 
 /// The record of the event of the line, of whose moves none is made.

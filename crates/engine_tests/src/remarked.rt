@@ -78,13 +78,3 @@ fn each_read_has_its_time(rt: HostRuntime) -> Result<(), Fail> {
         b"# at 1790000000123\n# > create A 1000\ncreated 1 A 1000\n# at 1790000000123\n# > fly\nrefused W1\n",
     )
 }
-
-/// Without either no comment is written.
-#[test]
-fn no_comment_is_asked_for(rt: HostRuntime) -> Result<(), Fail> {
-    assert_record(
-        &rt,
-        record_of(rt.alloc(), INPUT, false, false),
-        b"created 1 A 1000\nrefused W1\n",
-    )
-}

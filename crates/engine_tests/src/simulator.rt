@@ -1,4 +1,5 @@
 //! Scripts of a simulator: an order or a tick a line, whose answers are one text.
+use crate::expected::assert_text;
 use batch_matrix::{Command, Report};
 use batch_sim::{Order, Simulator, SteadyUnit, UnitDriver};
 use std::alloc::{AllocError, Global};
@@ -96,6 +97,5 @@ pub(crate) fn assert_units(
     script: &str,
     expected: &str,
 ) -> Result<(), Fail> {
-    assert_eq!(rt; told(alloc, phases, ticks, script)?.as_str(), expected);
-    Ok(())
+    assert_text(rt, told(alloc, phases, ticks, script), expected)
 }

@@ -1,7 +1,9 @@
 //! Driving to a writer that fails.
 use crate::driven::{START, steady_stage};
 use crate::ends::{Failure, Narrow};
+use crate::stage::Stage;
 use batch_drive::DriveFault;
+use batch_sim::SteadyUnit;
 use std::alloc::Global;
 use std::test::Fail;
 
@@ -14,11 +16,20 @@ end 1 0
 state 1 complete
 ";
 
-/// How so many rounds of a started batch end over this writer.
-fn ended(alloc: Global, writer: &mut Narrow, rounds: u64) -> Result<Result<(), DriveFault>, Fail> {
-    let mut stage = steady_stage(alloc)?;
+/// How so many rounds of a batch that is started here end over this writer.
+fn driven(
+    alloc: Global,
+    stage: &mut Stage<SteadyUnit>,
+    writer: &mut Narrow,
+    rounds: u64,
+) -> Result<Result<(), DriveFault>, Fail> {
     let _ = stage.told(alloc, START)?;
     Ok(stage.drive_into(alloc, writer, rounds))
+}
+
+fn ended(alloc: Global, writer: &mut Narrow, rounds: u64) -> Result<Result<(), DriveFault>, Fail> {
+    let mut stage = steady_stage(alloc)?;
+    driven(alloc, &mut stage, writer, rounds)
 }
 
 /// Whether so many rounds end so over this writer, which has then taken these bytes.
